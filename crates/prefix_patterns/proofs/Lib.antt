@@ -1,0 +1,4 @@
+pub mod DecimalValues
+pub mod Numbers
+pub mod Rows
+pub mod Tokens

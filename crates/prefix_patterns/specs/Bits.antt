@@ -1,0 +1,29 @@
+-- Addresses and prefixes as lists of bits.
+use Rattle.std.specs.Prelude.{◌≡◌, ℕ, zero, suc, ◌+◌, ◌-◌, ◌*◌, ◌/◌, ◌%◌, ◌^◌, ◌==◌, ◌≤◌, if◌then◌else◌, Bool, List, [], ◌∷◌, length, take}
+
+-- the count lowest binary digits of a number, the highest of them first
+unfoldable pub bits : ℕ → ℕ → List Bool
+bits zero n = []
+bits (suc count) n = (n / 2 ^ count % 2 == 1) ∷ bits count n
+
+-- the number that binary digits stand for, the highest of them first
+unfoldable pub number : List Bool → ℕ
+number [] = 0
+number (digit ∷ digits) = (if digit then 2 ^ length digits else 0) + number digits
+
+-- an address is its 32 bits
+abbrev pub address_bits : ℕ → List Bool
+address_bits address = bits 32 address
+
+-- a prefix is the first bits of an address
+abbrev pub prefix_bits : ℕ → ℕ → List Bool
+prefix_bits address len = take len (address_bits address)
+
+-- the first address that begins with the bits: zeros follow them
+abbrev pub address_of : List Bool → ℕ
+address_of bits = number bits * 2 ^ (32 - length bits)
+
+-- an address that is the first of the prefix of a length: no bit past the length is set
+pub record HasNoBitPast (len address : ℕ) : Type 0 where
+  pub limit : len ≤ 32
+  pub clear : address_of (prefix_bits address len) ≡ address

@@ -1,0 +1,46 @@
+-- Reading a token from the left: what a text writes, or nothing.
+use Rattle.std.specs.Prelude.{ℕ, ◌+◌, ◌*◌, ◌^◌, ◌==◌, ◌&&◌, if◌then◌else◌, nat_le, Bool, false, List, [], ◌∷◌, take, drop, position, Option, Some, None}
+use Rattle.std.specs.Option.{option_map}
+use Rattle.std.specs.Str.{all_ascii_digits}
+use Rattle.prefix_patterns.specs.Bits.{prefix_bits}
+use Rattle.prefix_patterns.specs.Number.{decimal_value}
+use Rattle.prefix_patterns.specs.Token.{dot, slash}
+
+-- a reading, and another that goes on with its value
+infixl 10 ◌>>=◌
+abbrev pub ◌>>=◌ : {A B : Type 0} → Option A → (A → Option B) → Option B
+None >>= next = None
+(Some value) >>= next = next value
+
+-- the text is one or more ASCII digits
+abbrev pub is_digits : List ℕ → Bool
+is_digits [] = false
+is_digits (byte ∷ bytes) = all_ascii_digits (byte ∷ bytes)
+
+-- the number of at most a limit that the text writes
+unfoldable pub number_in : ℕ → List ℕ → Option ℕ
+number_in most text = if is_digits text && nat_le (decimal_value text) most then Some (decimal_value text) else None
+
+-- the bytes before the first separator, and the bytes after it
+unfoldable pub parts_at : ℕ → List ℕ → Option (List ℕ × List ℕ)
+parts_at separator text = option_map (λ at. (take at text, drop (at + 1) text)) (position (λ byte. byte == separator) text)
+
+-- the address that the text writes
+unfoldable pub address_in : List ℕ → Option ℕ
+address_in text = do
+  one ← parts_at dot text
+  two ← parts_at dot one.1
+  three ← parts_at dot two.1
+  first ← number_in 255 one.0
+  second ← number_in 255 two.0
+  third ← number_in 255 three.0
+  fourth ← number_in 255 three.1
+  Some (first * 2 ^ 24 + second * 2 ^ 16 + third * 2 ^ 8 + fourth)
+
+-- the prefix that the text writes, as its bits
+unfoldable pub prefix_in : List ℕ → Option (List Bool)
+prefix_in text = do
+  parts ← parts_at slash text
+  address ← address_in parts.0
+  len ← number_in 32 parts.1
+  Some (prefix_bits address len)

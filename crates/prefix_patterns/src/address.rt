@@ -1,0 +1,3 @@
+/// An IPv4 address: its 32 bits as a number, the first group in the highest byte.
+#[derive(Clone, Copy, Debug, PartialEq, Eq)]
+pub struct Ip(pub u32);

@@ -1,0 +1,36 @@
+ghost use Rattle.std.specs.Char.{IsAsciiDigit};
+ghost use Rattle.std.specs.Option.{SomeIff};
+ghost use Rattle.std.specs.Prelude.{◌≡◌, ◌+◌, ◌-◌, ◌*◌, ◌≤◌};
+ghost use Rattle.prefix_patterns.specs.Number.{IsNumber, decimal_value};
+ghost use Rattle.prefix_patterns.specs.Reading.{number_in};
+
+/// Reads a number of at most `most` from a text that is ASCII digits and nothing else.
+///
+/// Any count of digits will do, zeros in front too. None for the empty text, for any other byte and for a larger number.
+pub fn read_number(text: &[u8], most: u32) -> Option<u32>
+    ensures cases { SomeIff result (IsNumber most text.now) (decimal_value text.now) }
+    ensures exact { result ≡ number_in most text.now }
+{
+    if text.is_empty() {
+        return None;
+    }
+    let mut value = 0;
+    for byte in text {
+        value = with_digit(value, *byte, most)?;
+    }
+    Some(value)
+}
+
+/// The number with one more digit at its end, if the byte is a digit and the number is then at most `most`.
+fn with_digit(value: u32, byte: u8, most: u32) -> Option<u32>
+    ensures { SomeIff result (IsAsciiDigit byte × (value * 10 + (byte - 48) ≤ most)) (value * 10 + (byte - 48)) }
+{
+    if !byte.is_ascii_digit() {
+        return None;
+    }
+    let longer = u64::from(value) * 10 + u64::from(byte - b'0');
+    if longer > u64::from(most) {
+        return None;
+    }
+    Some(longer as u32)
+}

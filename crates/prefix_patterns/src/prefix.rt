@@ -1,0 +1,90 @@
+ghost use Rattle.std.proofs.lemmas.Cmp.{lists_equiv};
+ghost use Rattle.std.specs.Bool.{beq};
+ghost use Rattle.std.specs.Cmp.{bool_eq_equiv, partial_equiv_from_equiv};
+ghost use Rattle.std.specs.Cmp.Lexicographic.{pointwise};
+ghost use Rattle.std.specs.Prelude.{◌≡◌, ◌≤◌, length};
+ghost use Rattle.std.specs.Option.{SomeIff};
+ghost use Rattle.prefix_patterns.specs.Bits.{prefix_bits, address_of};
+
+use crate::address::Ip;
+use std::marker::Model;
+
+/// An IPv4 prefix: the addresses that begin with its bits, of which there are 0 to 32.
+///
+/// A contract sees a prefix as the list of its bits, the first bit first.
+#[derive(Clone, Copy, Debug)]
+pub struct Prefix {
+    address: u32,
+    len: u8,
+}
+
+impl Model for Prefix {
+    ghost use Rattle.std.specs.Prelude.{List, Bool, length};
+    ghost use Rattle.prefix_patterns.specs.Bits.{prefix_bits, address_of, HasNoBitPast};
+    ghost use Rattle.prefix_patterns.specs.BitLists.{fields_again};
+
+    ghost Value = { List Bool };
+
+    ghost view = { λ p. prefix_bits p.address p.len };
+
+    ghost invariant = { λ p. HasNoBitPast p.len p.address };
+
+    ghost inverse = { λ bits. record { address = address_of bits; len = length bits } };
+
+    ghost inverse_ok = { λ p clear. fields_again p clear };
+}
+
+impl Prefix {
+    /// The prefix of the first `len` bits of an address, whose other bits are left out.
+    /// None exactly where `len` is above 32.
+    pub fn new(ip: Ip, len: u8) -> Option<Prefix>
+        ensures { SomeIff result (len ≤ 32) (prefix_bits ip.0 len) }
+    {
+        if len > 32 {
+            return None;
+        }
+        Some(Prefix::masked(ip, len))
+    }
+
+    /// The prefix of the first `len` bits of an address, whose other bits are left out.
+    pub(crate) fn masked(ip: Ip, len: u8) -> Prefix
+        requires { len ≤ 32 }
+        ensures { result ≡ prefix_bits ip.0 len }
+    {
+        let host_bits = 32 - len;
+        let network = u64::from(ip.0) >> host_bits << host_bits;
+        Prefix {
+            address: network as u32,
+            len,
+        }
+    }
+
+    /// The prefix's first address: its bits, and zeros after them.
+    pub fn address(&self) -> Ip
+        ensures { result.0 ≡ address_of self.now }
+    {
+        Ip(self.address)
+    }
+
+    /// The number of the prefix's bits.
+    pub fn len(&self) -> u8
+        ensures bits { result ≡ length self.now }
+        ensures limit { result ≤ 32 }
+    {
+        self.len
+    }
+}
+
+impl PartialEq for Prefix {
+    ghost eq = { pointwise beq };
+
+    ghost laws = { partial_equiv_from_equiv (lists_equiv bool_eq_equiv) };
+
+    fn eq(&self, other: &Prefix) -> bool {
+        self.address == other.address && self.len == other.len
+    }
+}
+
+impl Eq for Prefix {
+    ghost laws = { lists_equiv bool_eq_equiv };
+}

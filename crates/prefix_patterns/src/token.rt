@@ -1,0 +1,63 @@
+ghost use Rattle.std.specs.Prelude.{◌≡◌, ◌==◌, ◌<◌, Bool, List, IfSome, length, position};
+ghost use Rattle.std.specs.Option.{option_map};
+ghost use Rattle.prefix_patterns.specs.Reading.{number_in, parts_at, address_in, prefix_in};
+ghost use Rattle.prefix_patterns.specs.Token.{IsPrefix};
+
+use crate::address::Ip;
+use crate::number::read_number;
+use crate::prefix::Prefix;
+
+/// Reads a text that is one prefix token and nothing else, as `10.0.0.0/8`. The bits past the length are left out.
+#[tactic(auto, unfolding(crate::specs::Reading::prefix_in))]
+pub fn read_prefix(text: &[u8]) -> Option<Prefix>
+    // What is read is written there.
+    ensures found { IfSome result (λ prefix. IsPrefix text.now prefix) }
+    // A text that writes a prefix is read as that one.
+    ensures only { (bits : List Bool) → IsPrefix text.now bits → result ≡ Some bits }
+    ensures exact { result ≡ prefix_in text.now }
+{
+    let (address, len) = cut(text, b'/')?;
+    let ip = read_ip(address)?;
+    let len = read_number(len, 32)?;
+    Some(Prefix::masked(ip, len as u8))
+}
+
+/// Reads a text that is one address token and nothing else, as `10.0.0.1`.
+#[tactic(auto, unfolding(crate::specs::Reading::address_in))]
+fn read_ip(text: &[u8]) -> Option<Ip>
+    ensures { address_in text.now ≡ option_map (λ ip. ip.0) result }
+{
+    let (first, rest) = cut(text, b'.')?;
+    let (second, rest) = cut(rest, b'.')?;
+    let (third, fourth) = cut(rest, b'.')?;
+    let first = read_group(first)?;
+    let second = read_group(second)?;
+    let third = read_group(third)?;
+    let fourth = read_group(fourth)?;
+    Some(Ip(u32::from_be_bytes([first, second, third, fourth])))
+}
+
+/// Reads one group of an address.
+fn read_group(text: &[u8]) -> Option<u8>
+    ensures { number_in 255 text.now ≡ result }
+{
+    let value = read_number(text, 255)?;
+    Some(value as u8)
+}
+
+/// The bytes before the first separator and the bytes after it.
+#[tactic(auto, using(std::proofs::lemmas::List::take_rest), unfolding(crate::specs::Reading::parts_at))]
+fn cut(text: &[u8], separator: u8) -> Option<(&[u8], &[u8])>
+    ensures { parts_at separator text.now ≡ option_map (λ parts. (parts.0.now, parts.1.now)) result }
+{
+    let at = find(text, separator)?;
+    Some((&text[..at], &text[at + 1..]))
+}
+
+/// The index of the first byte that is `wanted`.
+fn find(text: &[u8], wanted: u8) -> Option<usize>
+    ensures at { result ≡ position (λ byte. byte == wanted) text.now }
+    ensures within { IfSome result (λ at. at < length text.now) }
+{
+    text.iter().position(|byte| *byte == wanted)
+}
