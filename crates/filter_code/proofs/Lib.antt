@@ -1,0 +1,3 @@
+pub mod Metrics
+pub mod Rows
+pub mod Runs

@@ -1,0 +1,68 @@
+-- Worked rows: the definitions compute the outcomes that are wanted of them.
+use Rattle.std.proofs.Common.{◌≡◌, ℕ, List, [], ◌∷◌, ◌++◌, replicate, refl}
+use Rattle.filter_code.specs.declared.instruction.Instr.{Instr}
+use Rattle.filter_code.specs.declared.instruction.Instr.TheVariants as instr
+use Rattle.filter_code.specs.declared.outcome.FaultKind.TheVariants as fault
+use Rattle.filter_code.specs.declared.outcome.Outcome.{Outcome}
+use Rattle.filter_code.specs.declared.outcome.Outcome.TheVariants as outcome
+use Rattle.filter_code.specs.Announcement.{Announcement}
+use Rattle.filter_code.specs.Machine.{after, outcome_of}
+use Rattle.filter_code.specs.Program.{Program}
+
+-- the outcome of instructions on a metric, in a network of 8
+abbrev outcome_on : List Instr → ℕ → Outcome
+outcome_on instrs metric =
+    let program : Program = record { instrs = instrs } in
+    let route : Announcement = record { net = []; metric = metric; size = 8 } in
+    outcome_of program route
+
+-- a raised metric is clipped at the size
+pub raised : outcome_on (instr.Metric ∷ (instr.Int 2 ∷ (instr.Add ∷ (instr.Received ∷ (instr.Max ∷ (instr.SetMetric ∷ (instr.Accept ∷ (instr.Reject ∷ [])))))))) 7 ≡ outcome.Accept 8
+unfolding after
+raised = refl
+
+-- the metric received is the least
+pub kept : outcome_on (instr.Int 1 ∷ (instr.Received ∷ (instr.Max ∷ (instr.SetMetric ∷ (instr.Accept ∷ (instr.Reject ∷ [])))))) 5 ≡ outcome.Accept 5
+unfolding after
+kept = refl
+
+-- a sum wraps, and so would lower the metric
+abbrev wrapping : List Instr
+wrapping = instr.Metric ∷ (instr.Int 4294967295 ∷ (instr.Add ∷ (instr.SetMetric ∷ (instr.Accept ∷ []))))
+
+pub wrapped : outcome_on wrapping 3 ≡ outcome.Fault fault.LowerMetric 3
+unfolding after
+wrapped = refl
+
+pub not_wrapped : outcome_on wrapping 0 ≡ outcome.Accept 8
+unfolding after
+not_wrapped = refl
+
+-- the maximum brings a sum that wraps back to the metric received
+pub brought_back : outcome_on (instr.Metric ∷ (instr.Int 4294967295 ∷ (instr.Add ∷ (instr.Received ∷ (instr.Max ∷ (instr.SetMetric ∷ (instr.Accept ∷ (instr.Reject ∷ [])))))))) 3 ≡ outcome.Accept 3
+unfolding after
+brought_back = refl
+
+-- code without instructions
+pub empty : outcome_on [] 3 ≡ outcome.Fault fault.OutsideCode 0
+unfolding after
+empty = refl
+
+-- thirty-three values are too many
+pub too_many : outcome_on (replicate 33 instr.Metric ++ instr.Accept ∷ []) 3 ≡ outcome.Fault fault.FullStack 32
+unfolding after
+too_many = refl
+
+-- thirty-two are not
+pub enough : outcome_on (replicate 32 instr.Metric ++ instr.Accept ∷ []) 3 ≡ outcome.Accept 3
+unfolding after
+enough = refl
+
+-- one operand for two, and none for one
+pub one_for_two : outcome_on (instr.Metric ∷ (instr.Add ∷ (instr.Accept ∷ []))) 3 ≡ outcome.Fault fault.MissingOperand 1
+unfolding after
+one_for_two = refl
+
+pub rejected : outcome_on (instr.Reject ∷ (instr.Accept ∷ [])) 3 ≡ outcome.Reject
+unfolding after
+rejected = refl

@@ -1,0 +1,8 @@
+pub mod Announcement
+pub mod Instruction
+pub mod Machine
+pub mod Outcomes
+pub mod Program
+pub mod Stops
+pub mod Table
+pub mod Values

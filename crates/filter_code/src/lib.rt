@@ -1,0 +1,21 @@
+//! Filter code: its instructions, and the checked machine that takes a route through it.
+#![tactic(auto)]
+
+mod code;
+mod instruction;
+mod limits;
+mod machine;
+mod outcome;
+mod route;
+mod stack;
+#[cfg(test)]
+mod tests;
+mod value;
+
+pub use code::Code;
+pub use instruction::Instr;
+pub use limits::{INSTRUCTION_LIMIT, LARGEST_SIZE, SMALLEST_SIZE, STACK_LIMIT};
+pub use machine::run_checked;
+pub use outcome::{FaultKind, Outcome};
+pub use route::Route;
+pub use value::{Kind, Value};

@@ -1,0 +1,48 @@
+ghost use Rattle.std.specs.Prelude.{◌≡◌};
+ghost use Rattle.filter_code.specs.Values.{kind_of};
+
+use prefix_patterns::{Ip, Prefix};
+
+/// The kind of a value.
+#[derive(Clone, Copy, Debug, PartialEq, Eq)]
+pub enum Kind {
+    Int,
+    Bool,
+    Ip,
+    Prefix,
+}
+
+/// A value of the machine.
+#[derive(Clone, Copy, Debug, PartialEq, Eq)]
+pub enum Value {
+    Int(u32),
+    Bool(bool),
+    Addr(Ip),
+    Net(Prefix),
+}
+
+impl Value {
+    /// The kind of the value.
+    pub fn kind(self) -> Kind
+        ensures { result ≡ kind_of self }
+    {
+        match self {
+            Value::Int(_) => Kind::Int,
+            Value::Bool(_) => Kind::Bool,
+            Value::Addr(_) => Kind::Ip,
+            Value::Net(_) => Kind::Prefix,
+        }
+    }
+}
+
+impl Default for Value {
+    ghost use Rattle.std.specs.Prelude.{◌≡◌};
+    ghost use Rattle.filter_code.specs.declared.value.Value.TheVariants as value;
+
+    ghost is_default = { λ v. v ≡ value.Int 0 };
+
+    /// An int of 0, which stands in the unused places of a stack.
+    fn default() -> Value {
+        Value::Int(0)
+    }
+}
