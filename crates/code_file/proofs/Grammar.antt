@@ -1,0 +1,113 @@
+-- Reading is the grammar: a code is what is spelled so, and a fault is the one that the bytes have.
+use Rattle.std.proofs.Common.{◌≡◌, ℕ, ◌+◌, List, ◌∷◌, ◌++◌, length, Result, Ok, Err, sym, ap, subst, ◌∙◌, arith, inl, inr, ◌↔◌}
+use Rattle.filter_code.specs.Program.{Program}
+use Rattle.code_file.specs.declared.fault.FileFault.{FileFault}
+use Rattle.code_file.specs.declared.fault.FileFault.TheVariants as fault
+use Rattle.code_file.specs.Fields.{fault_of}
+use Rattle.code_file.specs.Spelling.{Field, bytes_of, fields, spelling, IsProgram}
+use Rattle.code_file.specs.Fault.{IsReadUpTo, IsFault}
+use Rattle.code_file.specs.Fields.{IsBytes}
+use Rattle.code_file.specs.Reading.{Rest, a_file, read, whole, file_of}
+use Rattle.code_file.proofs.Formats.{Follows, rest_at, from_start, read_again, whole_again, whole_short, whole_bad, whole_long, AreNotAll, whole_found, Stopped, whole_refused}
+use Rattle.code_file.proofs.Files.{put_file, take_file}
+
+-- the file of a code is read
+pub file_of_spelling : (code : Program) → IsProgram code → file_of (spelling code) ≡ Ok code
+unfolding file_of
+file_of_spelling code h = whole_again a_file (fields code) code (put_file code h)
+
+-- what was read is the file of the code
+pub spelling_of_file : (bytes : List ℕ) (code : Program) → IsBytes bytes → file_of bytes ≡ Ok code → IsProgram code × (bytes ≡ spelling code)
+unfolding file_of
+spelling_of_file bytes code h e =
+    let all = whole_found a_file bytes code h e in
+    let is = take_file all.fields code all.fields_are_bytes all.follows in
+    (is.1, all.parts ∙ ap bytes_of is.0)
+
+-- where a code begins with some fields, these and the others follow the format
+follows_up_to : (bytes : List ℕ) (front : List Field) (next : Field) (rest : List ℕ) (up_to : IsReadUpTo bytes front next rest) → Follows a_file (front ++ next ∷ up_to.others) up_to.code
+follows_up_to bytes front next rest up_to = subst (λ (fs : List Field). Follows a_file fs up_to.code) up_to.in_order (put_file up_to.code up_to.is_program)
+
+-- the fault of bytes is met
+pub file_of_fault : (bytes : List ℕ) (found : FileFault) → IsFault bytes found → file_of bytes ≡ Err found
+unfolding file_of
+file_of_fault bytes found (inl short) =
+    let up_to = short.up_to in
+    let met = whole_short a_file short.front short.next up_to.others up_to.code short.rest (follows_up_to bytes short.front short.next short.rest up_to) short.short in
+    ap (λ (b : List ℕ). whole (read a_file (from_start b))) up_to.parts ∙ met ∙ ap (λ (b : List ℕ). Err (fault.EndsEarly (length b))) (sym up_to.parts) ∙ ap (λ (f : FileFault). Err f) (sym short.fault)
+file_of_fault bytes found (inr (inl bad)) =
+    let up_to = bad.up_to in
+    let met = whole_bad a_file bad.front bad.next up_to.others up_to.code bad.rest (follows_up_to bytes bad.front bad.next bad.rest up_to) bad.whole bad.bad in
+    ap (λ (b : List ℕ). whole (read a_file (from_start b))) up_to.parts ∙ met ∙ ap (λ (f : FileFault). Err f) (sym bad.fault)
+file_of_fault bytes found (inr (inr long)) =
+    let met = whole_long a_file (fields long.code) long.code long.next long.others (put_file long.code long.is_program) in
+    ap (λ (b : List ℕ). whole (read a_file (from_start b))) long.parts ∙ met ∙ ap (λ (f : FileFault). Err f) (sym long.fault)
+
+-- the fault that is met is that of the bytes
+stopped_is_fault : (bytes : List ℕ) (found : FileFault) → Stopped a_file (from_start bytes) found → IsFault bytes found
+stopped_is_fault bytes found stopped =
+    let is = take_file (stopped.front ++ stopped.next ∷ stopped.others) stopped.made stopped.fields_are_bytes stopped.follows in
+    let up_to : IsReadUpTo bytes stopped.front stopped.next stopped.tail = record { code = stopped.made; is_program = is.1; others = stopped.others; in_order = sym is.0; parts = stopped.parts } in
+    let end : 0 + length bytes ≡ length bytes = omega arith in
+    let place : 0 + length (bytes_of stopped.front) ≡ length (bytes_of stopped.front) = omega arith in
+    elim stopped.why [
+      | inl short ↦ inl (record { front = stopped.front; next = stopped.next; rest = stopped.tail; up_to = up_to; short = short.0; fault = short.1 ∙ ap (λ (n : ℕ). fault.EndsEarly n) end })
+      | inr bad ↦ inr (inl (record { front = stopped.front; next = stopped.next; rest = stopped.tail; up_to = up_to; whole = bad.0; bad = bad.1; fault = bad.2 ∙ ap (fault_of stopped.next.kind) place }))
+    ]
+
+long_is_fault : (bytes : List ℕ) (found : FileFault) → AreNotAll a_file bytes found → IsFault bytes found
+long_is_fault bytes found long =
+    let is = take_file long.fields long.made long.fields_are_bytes long.follows in
+    inr (inr (record {
+      code = long.made;
+      is_program = is.1;
+      next = long.next;
+      others = long.others;
+      parts = long.parts ∙ ap (λ (fs : List Field). bytes_of fs ++ long.next ∷ long.others) is.0;
+      fault = long.is ∙ ap (λ (fs : List Field). fault.BytesAfterEnd (length (bytes_of fs))) is.0;
+    }))
+
+pub fault_of_file : (bytes : List ℕ) (found : FileFault) → IsBytes bytes → file_of bytes ≡ Err found → IsFault bytes found
+unfolding file_of
+fault_of_file bytes found h e =
+    elim (whole_refused a_file bytes found h e) [
+      | inl stopped ↦ stopped_is_fault bytes found stopped
+      | inr long ↦ long_is_fault bytes found long
+    ]
+
+-- ---- laws of the grammar
+
+pub one_fault : (bytes : List ℕ) (a b : FileFault) → IsFault bytes a → IsFault bytes b → a ≡ b
+one_fault bytes a b p q =
+    let met = file_of_fault bytes a p in
+    let also = file_of_fault bytes b q in
+    cc
+
+pub no_fault : (code : Program) (found : FileFault) → IsProgram code → IsFault (spelling code) found → ⊥
+no_fault code found h p =
+    let read = file_of_spelling code h in
+    let met = file_of_fault (spelling code) found p in
+    cc
+
+abbrev pair : {A B : Type 0} → A → B → A × B
+pair x t = (x, t)
+
+-- what is left and what was made are those of one file
+same_found : {A B : Type 0} (r : Result (A × B) FileFault) (x y : A) (t u : B) → r ≡ Ok (x, t) → r ≡ Ok (y, u) → (x ≡ y) × (t ≡ u)
+same_found {A} {B} r x y t u p q =
+    let both : pair x t ≡ pair y u = cc in
+    (ap (λ (p : A × B). p.0) both, ap (λ (p : A × B). p.1) both)
+
+-- no file begins another, and each is that of one code
+pub one_file : (a b : Program) (x y : List ℕ) → IsProgram a → IsProgram b → spelling a ++ x ≡ spelling b ++ y → (a ≡ b) × (x ≡ y)
+one_file a b x y p q e =
+    let left = read_again a_file (fields a) a 0 x (put_file a p) in
+    let right = ap (λ (bytes : List ℕ). read a_file (from_start bytes)) e ∙ read_again a_file (fields b) b 0 y (put_file b q) in
+    let same = same_found (read a_file (from_start (spelling a ++ x))) a b (rest_at (0 + length (spelling a)) x) (rest_at (0 + length (spelling b)) y) left right in
+    (same.0, ap (λ (r : Rest). r.bytes) same.1)
+
+pub exact_code : (bytes : List ℕ) (code : Program) → IsBytes bytes → (file_of bytes ≡ Ok code) ↔ (IsProgram code × (bytes ≡ spelling code))
+exact_code bytes code h = (spelling_of_file bytes code h, λ is. ap file_of is.1 ∙ file_of_spelling code is.0)
+
+pub exact_fault : (bytes : List ℕ) (found : FileFault) → IsBytes bytes → (file_of bytes ≡ Err found) ↔ IsFault bytes found
+exact_fault bytes found h = (fault_of_file bytes found h, file_of_fault bytes found)

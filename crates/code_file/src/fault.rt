@@ -1,0 +1,85 @@
+//! Why bytes are no code file.
+
+ghost use Rattle.std.specs.Prelude.{◌≡◌};
+ghost use Rattle.code_file.specs.declared.fault.FileFault.TheVariants.{OutOfMemory};
+
+use std::alloc::{AllocError, AllocFailed};
+use thiserror::Error;
+
+/// The first fault of a file, from the left.
+///
+/// A place is a number of bytes, those that stand before it.
+#[derive(Clone, Copy, Debug, PartialEq, Eq, Error)]
+pub enum FileFault {
+    /// C1: the byte at this place differs from that of the mark `NCF1`.
+    #[error("the byte at {0} differs from the mark NCF1, with which a code file begins")]
+    OtherMark(usize),
+    /// C2: the file ends at this place, before a field is whole.
+    #[error("the file ends at {0}, before a field is whole")]
+    EndsEarly(usize),
+    /// C3: the byte at this place has to be an opcode, and stands for no instruction.
+    #[error("the byte at {0} stands for no instruction")]
+    UnknownOpcode(usize),
+    /// C4: the operand or pattern that begins at this place is out of its range.
+    #[error("the operand or pattern at {0} is out of its range")]
+    BadOperand(usize),
+    /// C5: the number that begins at this place is over its limit.
+    #[error("the number at {0} is over its limit")]
+    OverLimit(usize),
+    /// C6: the code has ended before this place, and more bytes follow.
+    #[error("the code ends before {0}, and more bytes follow")]
+    BytesAfterEnd(usize),
+    /// C7: the memory for the code was refused.
+    #[error("out of memory")]
+    OutOfMemory,
+}
+
+impl FileFault {
+    ghost use Rattle.code_file.specs.Codes.{fault_code, fault_place};
+
+    /// The fault's code, `C1` to `C7`.
+    pub fn code(self) -> &'static str
+        ensures { result.now ≡ fault_code self }
+    {
+        match self {
+            FileFault::OtherMark(_) => "C1",
+            FileFault::EndsEarly(_) => "C2",
+            FileFault::UnknownOpcode(_) => "C3",
+            FileFault::BadOperand(_) => "C4",
+            FileFault::OverLimit(_) => "C5",
+            FileFault::BytesAfterEnd(_) => "C6",
+            FileFault::OutOfMemory => "C7",
+        }
+    }
+
+    /// The fault's place, and 0 for want of memory, which has none.
+    pub fn at(self) -> usize
+        ensures { result ≡ fault_place self }
+    {
+        match self {
+            FileFault::OtherMark(at)
+            | FileFault::EndsEarly(at)
+            | FileFault::UnknownOpcode(at)
+            | FileFault::BadOperand(at)
+            | FileFault::OverLimit(at)
+            | FileFault::BytesAfterEnd(at) => at,
+            FileFault::OutOfMemory => 0,
+        }
+    }
+}
+
+impl From<AllocError> for FileFault {
+    ghost from_gives = { λ _ e. e ≡ OutOfMemory };
+
+    fn from(_e: AllocError) -> FileFault {
+        FileFault::OutOfMemory
+    }
+}
+
+impl<T: Drop> From<AllocFailed<T>> for FileFault {
+    ghost from_gives = { λ _ e. e ≡ OutOfMemory };
+
+    fn from(_e: AllocFailed<T>) -> FileFault {
+        FileFault::OutOfMemory
+    }
+}
