@@ -1,0 +1,7 @@
+pub mod WordLemmas
+pub mod StreamLemmas
+pub mod LineLemmas
+pub mod RunLemmas
+pub mod EngineLemmas
+pub mod WholeLemmas
+pub mod Rows

@@ -1,0 +1,6 @@
+pub mod Lines
+pub mod Words
+pub mod Answers
+pub mod Runs
+pub mod Steps
+pub mod Faults

@@ -1,0 +1,59 @@
+// What a service answers to a line.
+ghost use Rattle.std.specs.Prelude.{◌≡◌, ℕ, List, ◌++◌, IfOk, OnOk, OnErr, decimal};
+ghost use Rattle.std.specs.Io.{StartsWith};
+ghost use Rattle.line_protocol.specs.Answers.{Answer, refusal};
+
+use itoa::Buffer;
+use std::alloc::{AllocError, Global};
+
+/// What the answer to a line means for the stream.
+#[derive(Clone, Copy, Debug, PartialEq, Eq)]
+pub enum Reply {
+    /// The line was answered.
+    Answered,
+    /// The line was refused.
+    Refused,
+    /// The line was refused, and nothing behind it is read.
+    Ended,
+}
+
+/// What answers the lines of a stream.
+pub trait Service {
+    // That the service may give this answer to the line of this number, and what is left of it then.
+    ghost answers: { Self → ℕ → List ℕ → Answer → Self → Type 0 };
+
+    /// Answers one line, that of this number, by text behind what `out` holds. After an error what
+    /// was put there is dropped.
+    fn answer(
+        &mut self,
+        alloc: Global,
+        number: u32,
+        line: &[u8],
+        out: &mut Vec<u8>,
+    ) -> Result<Reply, AllocError>
+        ensures ok { IfOk result (λ reply. (text : List ℕ) × (out.new.items ≡ out.old.items ++ text)
+            × answers self.old number line.now (record { text = text; reply = reply }) self.new) }
+        ensures err { OnErr result (StartsWith out.new.items out.old.items) };
+}
+
+/// Puts a number in decimal digits behind what `out` holds.
+pub fn push_decimal(out: &mut Vec<u8>, n: u64) -> Result<(), AllocError>
+    ensures ok { OnOk result (out.new.items ≡ out.old.items ++ decimal n) }
+    ensures err { OnErr result (out.new.items ≡ out.old.items) }
+{
+    let mut digits = Buffer::new();
+    out.extend_from_slice(digits.format(n).as_bytes())
+}
+
+/// Puts the line `refused CODE PLACE` behind what `out` holds.
+pub fn push_refusal(out: &mut Vec<u8>, code: &str, at: u64) -> Result<(), AllocError>
+    ensures ok { OnOk result (out.new.items ≡ out.old.items ++ refusal code.now at) }
+    ensures err { OnErr result (StartsWith out.new.items out.old.items) }
+{
+    out.extend_from_slice(b"refused ")?;
+    out.extend_from_slice(code.as_bytes())?;
+    out.push(b' ')?;
+    push_decimal(out, at)?;
+    out.push(b'\n')?;
+    Ok(())
+}

@@ -1,0 +1,29 @@
+//! Lines in, answers out: the protocol that each of this project's line engines speaks.
+//!
+//! A line ends with a line feed, and one carriage return directly before that is no part of it. A
+//! last line that no line feed ends counts too, and a carriage return at its end is a part of it.
+//! Lines are numbered from 1. Empty lines and lines that begin with `#` are counted and skipped.
+//! `answer_lines` reads in blocks, has a `Service` answer each other line, and writes the answers.
+//! These rules are this project's own choice.
+#![tactic(auto)]
+
+mod answers;
+mod engine;
+mod faults;
+mod streams;
+#[cfg(test)]
+mod tests;
+mod words;
+
+pub use answers::{Reply, Service, push_decimal, push_refusal};
+pub use engine::answer_lines;
+pub use faults::StreamFault;
+pub use streams::write_text;
+pub use words::{next_word, trim_blanks};
+
+/// A line of more bytes than this is refused by the services, its line feed and the carriage
+/// return before that not counted.
+pub const LINE_LIMIT: usize = 1_048_576;
+
+/// An input of more bytes than this ends with `StreamFault::TooLong`.
+pub const INPUT_LIMIT: usize = 16_777_216;
