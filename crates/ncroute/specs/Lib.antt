@@ -1,0 +1,4 @@
+pub mod Faults
+pub mod RouteLine
+pub mod Eval
+pub mod Evaluation

@@ -1,0 +1,47 @@
+//! `ncroute`: takes routes through the code of route filters.
+#![tactic(auto)]
+
+mod code_line;
+mod code_line_fault;
+mod eval;
+mod fault;
+mod line_fault;
+mod route_line;
+#[cfg(test)]
+mod tests;
+mod words;
+
+use eval::eval_lines;
+use fault::ProgramFault;
+use std::io;
+use std::process::ExitCode;
+use words::Request;
+
+/// A number of a line is at most this.
+pub const NUMBER_LIMIT: u32 = 65_535;
+
+/// The exit status where a line was refused or a fault ended the run.
+const REFUSED: u8 = 1;
+
+fn main(rt: HostRuntime) -> ExitCode {
+    match run(&rt) {
+        Ok(status) => ExitCode::from(status),
+        Err(fault) => {
+            let code = fault.code();
+            // Where standard error takes no text either, the status alone tells of the fault.
+            let _ = eprintln!(rt; "ncroute: {code}");
+            ExitCode::from(REFUSED)
+        }
+    }
+}
+
+/// Does what the words ask for, and gives the exit status.
+fn run(rt: &HostRuntime) -> Result<u8, ProgramFault> {
+    match words::read(rt)? {
+        Request::Shown(status) => Ok(status),
+        Request::Eval => {
+            let refused = eval_lines(rt.alloc(), &mut rt.stdin(), &mut io::writer(rt))?;
+            Ok(if refused == 0 { 0 } else { REFUSED })
+        }
+    }
+}
