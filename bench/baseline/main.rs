@@ -1,0 +1,112 @@
+//! The plain program that `ncroute eval` is compared with: the same work, without proofs.
+//!
+//! Standard input is a code file in hexadecimal on the first line that is not skipped, and then lines
+//! `NET METRIC SIZE`. Each gives one line: `accept D`, `reject`, `fault K AT` or `refused CODE LINE`.
+
+mod code;
+mod lines;
+mod machine;
+mod route;
+
+use std::io;
+use std::process::ExitCode;
+
+use code::{decode_hexadecimal, read_code, Code};
+use lines::{answer_lines, push_decimal, push_refusal, trim_blanks, words, Reply, Service, LINE_LIMIT};
+use machine::{run, Outcome, Stack};
+use route::{read_prefix, read_route};
+
+/// Answers route lines with the code of the file line, once that was read.
+struct Eval {
+    code: Option<Code>,
+    stack: Stack,
+}
+
+/// The code of the file line, or the code and the place of its refusal.
+fn read_file_line(number: u32, line: &[u8]) -> Result<Code, (&'static str, u32)> {
+    if line.len() > LINE_LIMIT {
+        return Err(("O7", number));
+    }
+    let bytes = decode_hexadecimal(trim_blanks(line)).ok_or(("O3", number))?;
+    read_code(&bytes).map_err(|fault| (fault.code, fault.at as u32))
+}
+
+/// Why a line that spells no route is refused: its length first, the number of words, then the words from the left.
+fn refusal(line: &[u8]) -> &'static str {
+    if line.len() > LINE_LIMIT {
+        return "O7";
+    }
+    match words(line) {
+        None => "O1",
+        Some([net, _, _]) if read_prefix(net).is_none() => "O8",
+        Some(_) => "O2",
+    }
+}
+
+fn push_outcome(out: &mut Vec<u8>, outcome: Outcome) {
+    match outcome {
+        Outcome::Accepted(metric) => {
+            out.extend_from_slice(b"accept ");
+            push_decimal(out, metric);
+        }
+        Outcome::Rejected => out.extend_from_slice(b"reject"),
+        Outcome::Faulted(kind, place) => {
+            out.extend_from_slice(b"fault ");
+            out.extend_from_slice(kind.code().as_bytes());
+            out.push(b' ');
+            push_decimal(out, place as u32);
+        }
+    }
+    out.push(b'\n');
+}
+
+impl Service for Eval {
+    fn answer(&mut self, number: u32, line: &[u8], out: &mut Vec<u8>) -> Reply {
+        let Some(code) = &self.code else {
+            return match read_file_line(number, line) {
+                Ok(code) => {
+                    self.code = Some(code);
+                    Reply::Answered
+                }
+                Err((code, at)) => {
+                    push_refusal(out, code, at);
+                    Reply::Ended
+                }
+            };
+        };
+        match read_route(line) {
+            Some(route) if line.len() <= LINE_LIMIT => {
+                push_outcome(out, run(&mut self.stack, code, &route));
+                Reply::Answered
+            }
+            _ => {
+                push_refusal(out, refusal(line), number);
+                Reply::Refused
+            }
+        }
+    }
+
+    fn finish(&mut self, out: &mut Vec<u8>) -> Reply {
+        if self.code.is_some() {
+            return Reply::Answered;
+        }
+        push_refusal(out, "O1", 0);
+        Reply::Refused
+    }
+}
+
+fn main() -> ExitCode {
+    if !std::env::args().skip(1).eq(["eval"]) {
+        eprintln!("usage: baseline eval");
+        return ExitCode::from(2);
+    }
+    let mut eval = Eval { code: None, stack: Stack::new() };
+    match answer_lines(&mut io::stdin().lock(), &mut io::stdout().lock(), &mut eval) {
+        Ok(0) => ExitCode::SUCCESS,
+        Ok(_) => ExitCode::FAILURE,
+        Err(fault) => {
+            eprintln!("baseline: {}", fault.code());
+            ExitCode::FAILURE
+        }
+    }
+}
