@@ -12,7 +12,7 @@ use Rattle.prefix_patterns.specs.Reading.{is_digits, number_in}
 digit_decides : (byte : ℕ) → Decides (is_ascii_digit byte) (IsAsciiDigit byte)
 digit_decides byte = (λ yes. let parts = and_parts _ _ yes in (leb-true _ _ parts.0, leb-true _ _ parts.1), λ digit. and_from _ _ (le-leb _ _ digit.0) (le-leb _ _ digit.1))
 
-digits_decide : (text : List ℕ) → Decides (all_ascii_digits text) (All IsAsciiDigit text)
+pub digits_decide : (text : List ℕ) → Decides (all_ascii_digits text) (All IsAsciiDigit text)
 digits_decide = Decides-by_and is_ascii_digit IsAsciiDigit all_ascii_digits digit_decides refl (λ _ _. refl)
 
 -- the test of digits

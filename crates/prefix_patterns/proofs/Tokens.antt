@@ -1,6 +1,7 @@
 -- What reading finds is written in the text, and what is written there is found.
 use Rattle.std.proofs.Common.{◌≡◌, ◌≢◌, ℕ, ◌+◌, ◌*◌, ◌^◌, ◌<◌, ◌==◌, Bool, true, List, [], ◌∷◌, ◌++◌, length, take, drop, get_or, position, nat_lt, Option, Some, None, All, refl, sym, ◌∙◌, ap, arith, lit<, length-append}
 use Rattle.std.specs.Char.{IsAsciiDigit}
+use Rattle.std.specs.Int.{w32, from_be_bytes}
 use Rattle.std.specs.List.{position_or_len, join_with_byte}
 use Rattle.std.specs.Option.{option_map}
 use Rattle.std.proofs.lemmas.Bool.{eqb-true, eq-eqb, ne_eqb, lt-ltb}
@@ -10,7 +11,7 @@ use Rattle.std.proofs.lemmas.List.Quantifiers.{position-Some}
 use Rattle.prefix_patterns.proofs.Numbers.{number_in-some, number_in-found}
 use Rattle.prefix_patterns.specs.Bits.{prefix_bits}
 use Rattle.prefix_patterns.specs.Number.{IsDigits, IsNumber}
-use Rattle.prefix_patterns.specs.Reading.{◌>>=◌, parts_at, address_in, prefix_in}
+use Rattle.prefix_patterns.specs.Reading.{◌>>=◌, parts_at, groups_in, address_in, prefix_in}
 use Rattle.prefix_patterns.specs.Token.{dot, slash, IsAddress, IsPrefix}
 
 -- a reading that goes on found a value, and went on with it
@@ -62,9 +63,11 @@ four_joined : (text rest last a b c d : List ℕ) → text ≡ a ++ dot ∷ rest
 four_joined text rest last a b c d e f g = e ∙ ap (λ r. a ++ dot ∷ r) (f ∙ ap (λ r. b ++ dot ∷ r) g)
 
 pub address_in-found : (text : List ℕ) (address : ℕ) → address_in text ≡ Some address → IsAddress text address
-unfolding address_in
+unfolding address_in groups_in
 address_in-found text address e =
-    bind_some _ _ _ e (λ one at_one e.
+    bind_some _ _ _ e (λ (groups : List ℕ) (at_groups : groups_in text ≡ Some groups) (e : Some (from_be_bytes w32 groups) ≡ Some address).
+    let last : from_be_bytes w32 groups ≡ address = cc in
+    bind_some _ _ _ at_groups (λ one at_one e.
     bind_some _ _ _ e (λ two at_two e.
     bind_some _ _ _ e (λ three at_three e.
     bind_some _ _ _ e (λ first is_first e.
@@ -75,7 +78,8 @@ address_in-found text address e =
     let b = number_in-found 255 two.0 second is_second in
     let c = number_in-found 255 three.0 third is_third in
     let d = number_in-found 255 three.1 fourth is_fourth in
-    let last : first * 2 ^ 24 + second * 2 ^ 16 + third * 2 ^ 8 + fourth ≡ address = cc in
+    let bytes : first ∷ second ∷ third ∷ fourth ∷ [] ≡ groups = cc in
+    let whole : first * 2 ^ 24 + second * 2 ^ 16 + third * 2 ^ 8 + fourth ≡ address = ap (from_be_bytes w32) bytes ∙ last in
     record {
       first = one.0;
       second = two.0;
@@ -86,10 +90,10 @@ address_in-found text address e =
           four_joined text one.1 two.1 one.0 two.0 three.0 three.1
           (parts_at-found dot text one.0 one.1 at_one) (parts_at-found dot one.1 two.0 two.1 at_two) (parts_at-found dot two.1 three.0 three.1 at_three);
       value = cc;
-    })))))))
+    }))))))))
 
 pub address_in-only : (text : List ℕ) (address : ℕ) → IsAddress text address → address_in text ≡ Some address
-unfolding address_in
+unfolding address_in groups_in
 address_in-only text address is =
     let apart = λ (group : List ℕ) (number : IsNumber 255 group). digits_apart dot group (lit< tt) number.0 in
     rw (

@@ -1,6 +1,7 @@
 -- Lists of bits and the numbers that they stand for.
-use Rattle.std.proofs.Common.{◌≡◌, ℕ, zero, suc, ◌+◌, ◌-◌, ◌*◌, ◌/◌, ◌%◌, ◌^◌, ◌==◌, ◌<◌, ◌≤◌, cond, length, take, refl, sym, ◌∙◌, ap, arith}
-use Rattle.std.proofs.lemmas.Nat.{mod-pow-add, shr-shr, shl-shr}
+use Rattle.std.proofs.Math.Nat.{pow-suc, add-mul-div_right}
+use Rattle.std.proofs.Common.{Bool, List, [], ◌∷◌, lit<, true, false, ◌≡◌, ℕ, zero, suc, ◌+◌, ◌-◌, ◌*◌, ◌/◌, ◌%◌, ◌^◌, ◌==◌, ◌<◌, ◌≤◌, cond, length, take, refl, sym, ◌∙◌, ap, arith}
+use Rattle.std.proofs.lemmas.Nat.{shr_high, pow_pos, mod-pow-add, shr-shr, shl-shr}
 use Rattle.std.proofs.Math.Pow.{shr_mod}
 use Rattle.std.proofs.lemmas.List.{length-take-le}
 use Rattle.prefix_patterns.specs.Bits.{bits, number, prefix_bits, address_of, HasNoBitPast}
@@ -62,3 +63,46 @@ prefix_bits-cleared address len limit =
 -- the bits of a prefix give its fields back
 pub fields_again : (p : Inside) → HasNoBitPast p.len p.address → record { address = address_of (prefix_bits p.address p.len); len = length (prefix_bits p.address p.len) } ≡ p
 fields_again p clear = rw (clear.clear, length-prefix_bits p.address p.len clear.limit) refl
+
+-- higher digits do not change the lowest
+bits-add : (count high low : ℕ) → bits count (low + high * 2 ^ count) ≡ bits count low
+unfolding bits
+bits-add zero high low = refl
+bits-add (suc count) high low =
+    let regrouped : low + high * 2 ^ suc count ≡ low + (high * 2) * 2 ^ count = rw (pow-suc 2 count) (omega arith) in
+    let digit : (low / 2 ^ count + high * 2) % 2 ≡ low / 2 ^ count % 2 = omega arith in
+    rw (regrouped, add-mul-div_right low (high * 2) (pow_pos count), digit, bits-add count (high * 2) low) refl
+
+pub number_lt : (digits : List Bool) → number digits < 2 ^ length digits
+unfolding number
+number_lt [] = lit< tt
+number_lt (true ∷ digits) = rw (pow-suc 2 (length digits)) (omega (arith, number_lt digits))
+number_lt (false ∷ digits) = rw (pow-suc 2 (length digits)) (omega (arith, number_lt digits))
+
+-- one more digit above
+digit_above : (digits : List Bool) (digit : Bool) (high n : ℕ) → n ≡ number digits + high * 2 ^ length digits → (high % 2 == 1) ≡ digit
+    → bits (length digits) (number digits) ≡ digits → bits (suc (length digits)) n ≡ digit ∷ digits
+unfolding bits
+digit_above digits digit high n e top below =
+    let turned : number digits + high * 2 ^ length digits ≡ high * 2 ^ length digits + number digits = omega arith in
+    let head : (number digits + high * 2 ^ length digits) / 2 ^ length digits ≡ high =
+    ap (λ m. m / 2 ^ length digits) turned ∙ shr_high high (length digits) (number digits) (number_lt digits) in
+    rw (e, head, top, bits-add (length digits) high (number digits), below) refl
+
+bits_none : (n : ℕ) → bits 0 n ≡ []
+unfolding bits
+bits_none n = refl
+
+-- the digits of the number that digits stand for
+pub bits-number : (digits : List Bool) → bits (length digits) (number digits) ≡ digits
+unfolding number
+bits-number [] = bits_none (number [])
+bits-number (true ∷ digits) = digit_above digits true 1 _ (omega arith) refl (bits-number digits)
+bits-number (false ∷ digits) = digit_above digits false 0 _ (omega arith) refl (bits-number digits)
+
+-- a prefix is the first bits of its address
+pub prefix_bits-address_of : (prefix : List Bool) → length prefix ≤ 32 → prefix_bits (address_of prefix) (length prefix) ≡ prefix
+prefix_bits-address_of prefix limit =
+    prefix-quotient (address_of prefix) (length prefix) limit
+    ∙ ap (bits (length prefix)) (shl-shr (number prefix) (32 - length prefix))
+    ∙ bits-number prefix

@@ -1,5 +1,6 @@
 -- Reading a token from the left: what a text writes, or nothing.
-use Rattle.std.specs.Prelude.{ℕ, ◌+◌, ◌*◌, ◌^◌, ◌==◌, ◌&&◌, if◌then◌else◌, nat_le, Bool, false, List, [], ◌∷◌, take, drop, position, Option, Some, None}
+use Rattle.std.specs.Prelude.{ℕ, ◌+◌, ◌==◌, ◌&&◌, if◌then◌else◌, nat_le, Bool, false, List, [], ◌∷◌, take, drop, position, Option, Some, None}
+use Rattle.std.specs.Int.{w32, from_be_bytes}
 use Rattle.std.specs.Option.{option_map}
 use Rattle.std.specs.Str.{all_ascii_digits}
 use Rattle.prefix_patterns.specs.Bits.{prefix_bits}
@@ -25,9 +26,9 @@ number_in most text = if is_digits text && nat_le (decimal_value text) most then
 unfoldable pub parts_at : ℕ → List ℕ → Option (List ℕ × List ℕ)
 parts_at separator text = option_map (λ at. (take at text, drop (at + 1) text)) (position (λ byte. byte == separator) text)
 
--- the address that the text writes
-unfoldable pub address_in : List ℕ → Option ℕ
-address_in text = do
+-- the four groups of an address that the text writes
+unfoldable pub groups_in : List ℕ → Option (List ℕ)
+groups_in text = do
   one ← parts_at dot text
   two ← parts_at dot one.1
   three ← parts_at dot two.1
@@ -35,7 +36,13 @@ address_in text = do
   second ← number_in 255 two.0
   third ← number_in 255 three.0
   fourth ← number_in 255 three.1
-  Some (first * 2 ^ 24 + second * 2 ^ 16 + third * 2 ^ 8 + fourth)
+  Some (first ∷ second ∷ third ∷ fourth ∷ [])
+
+-- the address that the text writes
+unfoldable pub address_in : List ℕ → Option ℕ
+address_in text = do
+  groups ← groups_in text
+  Some (from_be_bytes w32 groups)
 
 -- the prefix that the text writes, as its bits
 unfoldable pub prefix_in : List ℕ → Option (List Bool)

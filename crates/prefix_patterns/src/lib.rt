@@ -2,14 +2,20 @@
 #![tactic(auto)]
 
 mod address;
+mod display;
 mod number;
+mod pattern;
 mod prefix;
+mod set;
 mod token;
 
 pub use address::Ip;
+pub use display::displayed_text_is_read;
 pub use number::read_number;
+pub use pattern::Pattern;
 pub use prefix::Prefix;
-pub use token::read_prefix;
+pub use set::{MAX_PATTERNS, PatternSet, SetFault};
+pub use token::{read_ip, read_prefix};
 
 #[cfg(test)]
 mod tests;

@@ -2,9 +2,10 @@ ghost use Rattle.std.proofs.lemmas.Cmp.{lists_equiv};
 ghost use Rattle.std.specs.Bool.{beq};
 ghost use Rattle.std.specs.Cmp.{bool_eq_equiv, partial_equiv_from_equiv};
 ghost use Rattle.std.specs.Cmp.Lexicographic.{pointwise};
-ghost use Rattle.std.specs.Prelude.{◌≡◌, ◌≤◌, length};
+ghost use Rattle.std.specs.Prelude.{◌≡◌, ◌≤◌, ◌↔◌, IsTrue, length, take};
 ghost use Rattle.std.specs.Option.{SomeIff};
-ghost use Rattle.prefix_patterns.specs.Bits.{prefix_bits, address_of};
+ghost use Rattle.prefix_patterns.specs.Bits.{address_bits, prefix_bits, address_of};
+ghost use Rattle.prefix_patterns.specs.Matching.{LiesWithin, lies_within, has_same_bits};
 
 use crate::address::Ip;
 use std::marker::Model;
@@ -57,6 +58,38 @@ impl Prefix {
             address: network as u32,
             len,
         }
+    }
+
+    /// Whether an address lies within the prefix.
+    pub fn contains(&self, ip: Ip) -> bool
+        ensures cases { IsTrue result ↔ LiesWithin (address_bits ip.0) self.now }
+        ensures exact { result ≡ lies_within (address_bits ip.0) self.now }
+    {
+        Prefix::masked(ip, self.len()) == *self
+    }
+
+    /// Whether the prefix lies within another one, or is that one.
+    pub fn within(&self, other: &Prefix) -> bool
+        ensures cases { IsTrue result ↔ LiesWithin self.now other.now }
+        ensures exact { result ≡ lies_within self.now other.now }
+    {
+        other.len() <= self.len() && self.first(other.len()) == *other
+    }
+
+    /// Whether the bits of two prefixes are the same, as far as both go.
+    pub(crate) fn has_same_bits(&self, other: &Prefix) -> bool
+        ensures { result ≡ has_same_bits self.now other.now }
+    {
+        let shared = self.len().min(other.len());
+        self.first(shared) == other.first(shared)
+    }
+
+    /// The prefix of the first `len` bits.
+    fn first(&self, len: u8) -> Prefix
+        requires { len ≤ length self.now }
+        ensures { result ≡ take len self.now }
+    {
+        Prefix::masked(Ip(self.address), len)
     }
 
     /// The prefix's first address: its bits, and zeros after them.

@@ -1,7 +1,7 @@
-ghost use Rattle.std.specs.Prelude.{◌≡◌, ◌==◌, ◌<◌, Bool, List, IfSome, length, position};
-ghost use Rattle.std.specs.Option.{option_map};
-ghost use Rattle.prefix_patterns.specs.Reading.{number_in, parts_at, address_in, prefix_in};
-ghost use Rattle.prefix_patterns.specs.Token.{IsPrefix};
+ghost use Rattle.std.specs.Prelude.{◌≡◌, ◌==◌, ◌<◌, ℕ, Bool, List, IfSome, length, position};
+ghost use Rattle.std.specs.Option.{IsSomeAnd, option_map};
+ghost use Rattle.prefix_patterns.specs.Reading.{number_in, parts_at, groups_in, address_in, prefix_in};
+ghost use Rattle.prefix_patterns.specs.Token.{IsAddress, IsPrefix};
 
 use crate::address::Ip;
 use crate::number::read_number;
@@ -24,8 +24,21 @@ pub fn read_prefix(text: &[u8]) -> Option<Prefix>
 
 /// Reads a text that is one address token and nothing else, as `10.0.0.1`.
 #[tactic(auto, unfolding(crate::specs::Reading::address_in))]
-fn read_ip(text: &[u8]) -> Option<Ip>
-    ensures { address_in text.now ≡ option_map (λ ip. ip.0) result }
+pub fn read_ip(text: &[u8]) -> Option<Ip>
+    // What is read is written there.
+    ensures found { IfSome result (λ ip. IsAddress text.now ip.0) }
+    // A text that writes an address is read as that one.
+    ensures only { (address : ℕ) → IsAddress text.now address → IsSomeAnd result (λ ip. ip.0 ≡ address) }
+    ensures exact { address_in text.now ≡ option_map (λ ip. ip.0) result }
+{
+    let groups = read_groups(text)?;
+    Some(Ip(u32::from_be_bytes(groups)))
+}
+
+/// Reads the four groups of an address, the first one first.
+#[tactic(auto, unfolding(crate::specs::Reading::groups_in))]
+fn read_groups(text: &[u8]) -> Option<[u8; 4]>
+    ensures { groups_in text.now ≡ result }
 {
     let (first, rest) = cut(text, b'.')?;
     let (second, rest) = cut(rest, b'.')?;
@@ -34,7 +47,7 @@ fn read_ip(text: &[u8]) -> Option<Ip>
     let second = read_group(second)?;
     let third = read_group(third)?;
     let fourth = read_group(fourth)?;
-    Some(Ip(u32::from_be_bytes([first, second, third, fourth])))
+    Some([first, second, third, fourth])
 }
 
 /// Reads one group of an address.

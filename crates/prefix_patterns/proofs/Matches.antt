@@ -1,0 +1,27 @@
+-- The tests of a prefix and a pattern decide the facts.
+use Rattle.std.proofs.Common.{nat_le, Bool, List, length, take}
+use Rattle.std.specs.Bool.{Decides}
+use Rattle.std.specs.Cmp.{booleans_Decides}
+use Rattle.std.specs.Cmp.Lexicographic.{pointwise_decides}
+use Rattle.std.proofs.lemmas.Bool.{leb-true, le-leb}
+use Rattle.std.proofs.lemmas.Bool.Decides.{Decides-and, Decides-like}
+use Rattle.std.proofs.lemmas.List.Folds.{Any-from_list_any, list_any-from_Any}
+use Rattle.prefix_patterns.specs.Matching.{LiesWithin, lies_within, PrefixPattern, Matches, matches, MatchesAny, matches_any, shared_length}
+
+pub lies_within-Decides : (bits prefix : List Bool) → Decides (lies_within bits prefix) (LiesWithin bits prefix)
+lies_within-Decides bits prefix = pointwise_decides booleans_Decides (take (length prefix) bits) prefix
+
+pub matches-Decides : (prefix : List Bool) (pattern : PrefixPattern) → Decides (matches prefix pattern) (Matches prefix pattern)
+matches-Decides prefix pattern =
+    let n = shared_length prefix pattern.bits in
+    Decides-like _
+    (λ parts. record { low = parts.0; high = parts.1.0; same = parts.1.1 })
+    (λ it. (it.low, (it.high, it.same)))
+    (Decides-and (nat_le pattern.low (length prefix)) _ (leb-true _ _, le-leb _ _)
+    (Decides-and (nat_le (length prefix) pattern.high) _ (leb-true _ _, le-leb _ _) (pointwise_decides booleans_Decides (take n prefix) (take n pattern.bits))))
+
+pub matches_any-Decides : (prefix : List Bool) (patterns : List PrefixPattern) → Decides (matches_any prefix patterns) (MatchesAny prefix patterns)
+matches_any-Decides prefix patterns = (
+  λ yes. let any = Any-from_list_any (matches prefix) patterns yes in (any.0, any.1, any.2, any.3, (matches-Decides prefix any.1).0 any.4),
+  λ any. list_any-from_Any (matches prefix) patterns (any.0, any.1, any.2, any.3, (matches-Decides prefix any.1).1 any.4),
+)

@@ -1,0 +1,10 @@
+use Rattle.std.proofs.Common.{rules, ◌≡◌}
+use Rattle.std.proofs.lemmas.Bool.Decides.{Decides-at}
+use Rattle.prefix_patterns.proofs.Matches.{matches-Decides}
+use Rattle.prefix_patterns.specs.Matching.{matches}
+use Rattle.prefix_patterns.proofs.pattern.Pattern.matches.Goals as goal
+
+pub returns-then-len-self-clause-cases : goal.returns-then-len-self-clause-cases
+returns-then-len-self-clause-cases c =
+    let exact : c.has_same_bits.result ≡ matches c.args.prefix.now c.args.self.now = search rules in
+    Decides-at _ _ exact (matches-Decides c.args.prefix.now c.args.self.now)

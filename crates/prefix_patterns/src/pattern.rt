@@ -1,0 +1,73 @@
+ghost use Rattle.std.specs.Prelude.{◌≡◌, ◌≤◌, IsTrue, ◌↔◌};
+ghost use Rattle.std.specs.Option.{SomeIff};
+ghost use Rattle.prefix_patterns.specs.Matching.{HasOrderedLengths, Matches, matches};
+
+use crate::prefix::Prefix;
+use std::marker::Model;
+
+/// A pattern for prefixes: bits, and the least and the greatest length of a prefix that it takes.
+///
+/// A prefix matches it if its length is one of these and its bits are those of the pattern, as far as both go.
+#[derive(Clone, Copy, Debug, PartialEq, Eq)]
+pub struct Pattern {
+    prefix: Prefix,
+    low: u8,
+    high: u8,
+}
+
+impl Model for Pattern {
+    ghost use Rattle.prefix_patterns.specs.Matching.{PrefixPattern, HasOrderedLengths};
+
+    ghost Value = { PrefixPattern };
+
+    ghost view = { λ p. record { bits = p.prefix; low = p.low; high = p.high } };
+
+    ghost invariant = { λ p. HasOrderedLengths p.low p.high };
+
+    ghost inverse = { λ v. record { prefix = v.bits; low = v.low; high = v.high } };
+}
+
+impl Pattern {
+    /// The pattern of a prefix's bits and the lengths from `low` to `high`.
+    /// None exactly where these are out of order or above 32.
+    pub fn new(prefix: Prefix, low: u8, high: u8) -> Option<Pattern>
+        ensures { SomeIff result (HasOrderedLengths low high) (record { bits = prefix; low = low; high = high }) }
+    {
+        if low <= high && high <= 32 {
+            Some(Pattern { prefix, low, high })
+        } else {
+            None
+        }
+    }
+
+    /// The pattern's bits, as a prefix.
+    pub fn prefix(&self) -> Prefix
+        ensures { result ≡ self.now.bits }
+    {
+        self.prefix
+    }
+
+    /// The least length of a prefix that matches.
+    pub fn low(&self) -> u8
+        ensures { result ≡ self.now.low }
+    {
+        self.low
+    }
+
+    /// The greatest length of a prefix that matches.
+    pub fn high(&self) -> u8
+        ensures lengths { HasOrderedLengths self.now.low result }
+        ensures high { result ≡ self.now.high }
+    {
+        self.high
+    }
+
+    /// Whether a prefix matches.
+    pub fn matches(&self, prefix: &Prefix) -> bool
+        ensures cases { IsTrue result ↔ Matches prefix.now self.now }
+        ensures exact { result ≡ matches prefix.now self.now }
+    {
+        let len = prefix.len();
+        self.low <= len && (len <= self.high && prefix.has_same_bits(&self.prefix))
+    }
+}
