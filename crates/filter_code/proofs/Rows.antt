@@ -1,5 +1,6 @@
 -- Worked rows: the definitions compute the outcomes that are wanted of them.
-use Rattle.std.proofs.Common.{◌≡◌, ℕ, List, [], ◌∷◌, ◌++◌, replicate, refl}
+use Rattle.std.proofs.Common.{◌≡◌, ℕ, List, [], ◌∷◌, ◌++◌, replicate, Bool, true, false, refl}
+use Rattle.prefix_patterns.specs.Matching.{PrefixPattern}
 use Rattle.filter_code.specs.declared.instruction.Instr.{Instr}
 use Rattle.filter_code.specs.declared.instruction.Instr.TheVariants as instr
 use Rattle.filter_code.specs.declared.outcome.FaultKind.TheVariants as fault
@@ -12,9 +13,13 @@ use Rattle.filter_code.specs.Program.{Program}
 -- the outcome of instructions on a metric, in a network of 8
 abbrev outcome_on : List Instr → ℕ → Outcome
 outcome_on instrs metric =
-    let program : Program = record { instrs = instrs } in
+    let program : Program = record { locals = 0; sets = []; instrs = instrs } in
     let route : Announcement = record { net = []; metric = metric; size = 8 } in
     outcome_of program route
+
+-- the bits of 1.0.0.0/8
+abbrev eight : List Bool
+eight = false ∷ (false ∷ (false ∷ (false ∷ (false ∷ (false ∷ (false ∷ (true ∷ [])))))))
 
 -- a raised metric is clipped at the size
 pub raised : outcome_on (instr.Metric ∷ (instr.Int 2 ∷ (instr.Add ∷ (instr.Received ∷ (instr.Max ∷ (instr.SetMetric ∷ (instr.Accept ∷ (instr.Reject ∷ [])))))))) 7 ≡ outcome.Accept 8
@@ -66,3 +71,49 @@ one_for_two = refl
 pub rejected : outcome_on (instr.Reject ∷ (instr.Accept ∷ [])) 3 ≡ outcome.Reject
 unfolding after
 rejected = refl
+
+-- a division, whose divisor is the metric
+abbrev dividing : List Instr
+dividing = instr.Int 8 ∷ (instr.Metric ∷ (instr.Div ∷ (instr.Int 2 ∷ (instr.Eq ∷ (instr.JumpIfNot 1 ∷ (instr.Accept ∷ (instr.Reject ∷ [])))))))
+
+pub divided : outcome_on dividing 3 ≡ outcome.Accept 3
+unfolding after
+divided = refl
+
+pub not_divided : outcome_on dividing 0 ≡ outcome.Fault fault.ZeroDivisor 2
+unfolding after
+not_divided = refl
+
+-- a jump out of the code is a step, and the fault comes with the next
+pub jumped_out : outcome_on (instr.Jump 1 ∷ (instr.Accept ∷ [])) 3 ≡ outcome.Fault fault.OutsideCode 2
+unfolding after
+jumped_out = refl
+
+-- a missing local variable comes before a missing operand
+pub no_local : outcome_on (instr.Store 0 ∷ (instr.Accept ∷ [])) 3 ≡ outcome.Fault fault.UnknownName 0
+unfolding after
+no_local = refl
+
+-- a code with one local variable and the set of 1.0.0.0/8 with lengths 15 to 17, on the prefix of these bits
+abbrev outcome_at : List Instr → List Bool → Outcome
+outcome_at instrs net =
+    let pattern : PrefixPattern = record { bits = eight; low = 15; high = 17 } in
+    let program : Program = record { locals = 1; sets = (pattern ∷ []) ∷ []; instrs = instrs } in
+    let route : Announcement = record { net = net; metric = 3; size = 8 } in
+    outcome_of program route
+
+pub empty_local : outcome_at (instr.Load 0 ∷ (instr.Accept ∷ [])) eight ≡ outcome.Fault fault.WrongKind 0
+unfolding after
+empty_local = refl
+
+-- takes what matches the set, and rejects the rest
+abbrev filtering : List Instr
+filtering = instr.Net ∷ (instr.Member 0 ∷ (instr.JumpIfNot 1 ∷ (instr.Accept ∷ (instr.Reject ∷ []))))
+
+pub taken : outcome_at filtering (eight ++ (false ∷ (false ∷ (false ∷ (false ∷ (false ∷ (false ∷ (true ∷ (false ∷ []))))))))) ≡ outcome.Accept 3
+unfolding after
+taken = refl
+
+pub too_short : outcome_at filtering eight ≡ outcome.Reject
+unfolding after
+too_short = refl

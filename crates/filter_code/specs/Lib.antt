@@ -3,6 +3,6 @@ pub mod Instruction
 pub mod Machine
 pub mod Outcomes
 pub mod Program
-pub mod Stops
+pub mod Steps
 pub mod Table
 pub mod Values

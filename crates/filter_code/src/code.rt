@@ -1,45 +1,76 @@
-ghost use Rattle.std.specs.Prelude.{◌≡◌, ◌≤◌, length};
+ghost use Rattle.std.specs.Prelude.{◌≡◌, ◌≤◌, All, length};
 ghost use Rattle.std.specs.Option.{SomeIff};
+ghost use Rattle.filter_code.specs.Program.{HasMask};
 
 use crate::instruction::Instr;
-use crate::limits::INSTRUCTION_LIMIT;
+use crate::limits::{INSTRUCTION_LIMIT, LOCAL_LIMIT, SET_LIMIT};
+use prefix_patterns::PatternSet;
 use std::marker::Model;
 
-/// Filter code: instructions within the limit.
+/// Filter code: how many local variables it has, its sets of patterns and its instructions, all within the limits.
 ///
-/// A contract sees a code as a `Program`, the list of its instructions.
+/// A contract sees a code as a `Program`.
 #[derive(Debug, Drop)]
 pub struct Code {
+    locals: u8,
+    sets: Vec<PatternSet>,
     instrs: Vec<Instr>,
 }
 
 impl Model for Code {
-    ghost use Rattle.std.specs.Prelude.{◌≤◌, length};
-    ghost use Rattle.filter_code.specs.Program.{Program};
-    ghost use Rattle.filter_code.specs.declared.limits.TheConstants.{INSTRUCTION_LIMIT};
+    ghost use Rattle.filter_code.specs.Program.{Program, IsAllowed};
 
     ghost Value = { Program };
 
-    ghost view = { λ c. record { instrs = c.instrs.items } };
+    ghost view = { λ c. record { locals = c.locals; sets = c.sets.items; instrs = c.instrs.items } };
 
-    ghost invariant = { λ c. length c.instrs.items ≤ INSTRUCTION_LIMIT };
+    ghost invariant = { λ c. IsAllowed (record { locals = c.locals; sets = c.sets.items; instrs = c.instrs.items }) };
 }
 
 impl Code {
-    /// The code of these instructions. None exactly where they are more than 1,024.
-    pub fn new(instrs: Vec<Instr>) -> Option<Code>
-        ensures { SomeIff result (length instrs.items ≤ INSTRUCTION_LIMIT) (record { instrs = instrs.items }) }
+    ghost use Rattle.filter_code.specs.Program.{Program, IsAllowed};
+
+    /// The code of these parts. None exactly where there are more than 16 local variables, 64 sets or
+    /// 1,024 instructions, or a MASK of more than 32 bits.
+    pub fn new(locals: u8, sets: Vec<PatternSet>, instrs: Vec<Instr>) -> Option<Code>
+        ensures { let program : Program = record { locals = locals; sets = sets.items; instrs = instrs.items } in
+            SomeIff result (IsAllowed program) program }
     {
-        if instrs.len() > INSTRUCTION_LIMIT {
-            return None;
+        let within_limits = usize::from(locals) <= LOCAL_LIMIT
+            && sets.len() <= SET_LIMIT
+            && instrs.len() <= INSTRUCTION_LIMIT;
+        if within_limits && instrs.iter().all(|instr| instr.has_mask()) {
+            Some(Code {
+                locals,
+                sets,
+                instrs,
+            })
+        } else {
+            None
         }
-        Some(Code { instrs })
+    }
+
+    /// The number of local variables.
+    pub fn locals(&self) -> u8
+        ensures value { result ≡ self.now.locals }
+        ensures limit { result ≤ LOCAL_LIMIT }
+    {
+        self.locals
+    }
+
+    /// The sets of patterns, in order.
+    pub fn sets(&self) -> &[PatternSet]
+        ensures value { result.now ≡ self.now.sets }
+        ensures limit { length result.now ≤ SET_LIMIT }
+    {
+        &self.sets
     }
 
     /// The instructions, in order.
     pub fn instrs(&self) -> &[Instr]
         ensures value { result.now ≡ self.now.instrs }
         ensures limit { length result.now ≤ INSTRUCTION_LIMIT }
+        ensures masks { All HasMask result.now }
     {
         &self.instrs
     }

@@ -1,6 +1,7 @@
-ghost use Rattle.std.specs.Prelude.{◌≡◌, ◌++◌, Some, codes};
+ghost use Rattle.std.specs.Prelude.{◌≡◌, ◌↔◌, IsTrue};
 ghost use Rattle.filter_code.specs.Instruction.{opcode};
 
+use prefix_patterns::{Ip, Prefix};
 use std::fmt;
 
 /// One instruction of filter code.
@@ -10,6 +11,18 @@ use std::fmt;
 pub enum Instr {
     /// to int: the number itself.
     Int(u32),
+    /// to bool: the truth value itself.
+    Bool(bool),
+    /// to ip: the address itself.
+    Ip(Ip),
+    /// to prefix: the prefix itself.
+    Prefix(Prefix),
+    /// to value: the value of the local variable with this number.
+    Load(u8),
+    /// Any value to none: sets the local variable with this number.
+    Store(u8),
+    /// to prefix: the route's prefix.
+    Net,
     /// to int: the current metric.
     Metric,
     /// to int: the metric that the route was received with.
@@ -19,8 +32,36 @@ pub enum Instr {
     SetMetric,
     /// int int to int: the sum modulo 2^32.
     Add,
+    /// int int to int: the first less the second, modulo 2^32.
+    Sub,
+    /// int int to int: the product modulo 2^32.
+    Mul,
+    /// int int to int: the first divided by the second, the rest dropped. It is a fault to divide by 0.
+    Div,
     /// int int to int: the greater.
     Max,
+    /// Two of one kind to bool: whether they are equal.
+    Eq,
+    /// Two ints or two ips to bool: whether the first is less.
+    Lt,
+    /// Two ints or two ips to bool: whether the first is not greater.
+    Le,
+    /// bool to bool: the other.
+    Not,
+    /// prefix to ip: its first address.
+    Addr,
+    /// prefix to int: its length.
+    Len,
+    /// ip to ip: keeps this many of the first bits, and clears the others.
+    Mask(u8),
+    /// ip prefix, or prefix prefix, to bool: whether the first lies within the second, or is the second.
+    Within,
+    /// prefix to bool: whether it matches the set with this number.
+    Member(u8),
+    /// Any stack: goes on behind this many more instructions.
+    Jump(u16),
+    /// bool to none: goes on behind this many more instructions where it is false.
+    JumpIfNot(u16),
     /// Any stack: ends, and accepts the route with the current metric.
     Accept,
     /// Any stack: ends, and rejects the route.
@@ -28,17 +69,49 @@ pub enum Instr {
 }
 
 impl Instr {
+    ghost use Rattle.filter_code.specs.Program.{HasMask};
+
+    /// Whether it is no MASK of more than 32 bits.
+    pub(crate) fn has_mask(&self) -> bool
+        ensures { IsTrue result ↔ HasMask self.now }
+    {
+        match self {
+            Instr::Mask(bits) => *bits <= 32,
+            _ => true,
+        }
+    }
+
     /// The byte that stands for the instruction in a code file, before its operand.
     pub fn opcode(self) -> u8
         ensures { result ≡ opcode self }
     {
         match self {
             Instr::Int(_) => 0x01,
+            Instr::Bool(_) => 0x02,
+            Instr::Ip(_) => 0x03,
+            Instr::Prefix(_) => 0x04,
+            Instr::Load(_) => 0x10,
+            Instr::Store(_) => 0x11,
+            Instr::Net => 0x12,
             Instr::Metric => 0x13,
             Instr::Received => 0x14,
             Instr::SetMetric => 0x15,
             Instr::Add => 0x20,
+            Instr::Sub => 0x21,
+            Instr::Mul => 0x22,
+            Instr::Div => 0x23,
             Instr::Max => 0x24,
+            Instr::Eq => 0x30,
+            Instr::Lt => 0x31,
+            Instr::Le => 0x32,
+            Instr::Not => 0x33,
+            Instr::Addr => 0x40,
+            Instr::Len => 0x41,
+            Instr::Mask(_) => 0x42,
+            Instr::Within => 0x50,
+            Instr::Member(_) => 0x51,
+            Instr::Jump(_) => 0x60,
+            Instr::JumpIfNot(_) => 0x61,
             Instr::Accept => 0x70,
             Instr::Reject => 0x71,
         }
@@ -49,11 +122,31 @@ impl fmt::Display for Instr {
     fn fmt<W: fmt::Write>(&self, f: &mut fmt::Formatter<W>) -> fmt::Result {
         match self {
             Instr::Int(number) => write!(f, "INT {number}"),
+            Instr::Bool(flag) => write!(f, "BOOL {flag}"),
+            Instr::Ip(ip) => write!(f, "IP {ip}"),
+            Instr::Prefix(prefix) => write!(f, "PREFIX {prefix}"),
+            Instr::Load(local) => write!(f, "LOAD {local}"),
+            Instr::Store(local) => write!(f, "STORE {local}"),
+            Instr::Net => write!(f, "NET"),
             Instr::Metric => write!(f, "METRIC"),
             Instr::Received => write!(f, "RECEIVED"),
             Instr::SetMetric => write!(f, "SETMETRIC"),
             Instr::Add => write!(f, "ADD"),
+            Instr::Sub => write!(f, "SUB"),
+            Instr::Mul => write!(f, "MUL"),
+            Instr::Div => write!(f, "DIV"),
             Instr::Max => write!(f, "MAX"),
+            Instr::Eq => write!(f, "EQ"),
+            Instr::Lt => write!(f, "LT"),
+            Instr::Le => write!(f, "LE"),
+            Instr::Not => write!(f, "NOT"),
+            Instr::Addr => write!(f, "ADDR"),
+            Instr::Len => write!(f, "LEN"),
+            Instr::Mask(bits) => write!(f, "MASK {bits}"),
+            Instr::Within => write!(f, "WITHIN"),
+            Instr::Member(set) => write!(f, "MEMBER {set}"),
+            Instr::Jump(passed) => write!(f, "JUMP {passed}"),
+            Instr::JumpIfNot(passed) => write!(f, "JUMPIFNOT {passed}"),
             Instr::Accept => write!(f, "ACCEPT"),
             Instr::Reject => write!(f, "REJECT"),
         }

@@ -4,6 +4,7 @@
 mod code;
 mod instruction;
 mod limits;
+mod locals;
 mod machine;
 mod outcome;
 mod route;
@@ -14,7 +15,9 @@ mod value;
 
 pub use code::Code;
 pub use instruction::Instr;
-pub use limits::{INSTRUCTION_LIMIT, LARGEST_SIZE, SMALLEST_SIZE, STACK_LIMIT};
+pub use limits::{
+    INSTRUCTION_LIMIT, LARGEST_SIZE, LOCAL_LIMIT, SET_LIMIT, SMALLEST_SIZE, STACK_LIMIT,
+};
 pub use machine::run_checked;
 pub use outcome::{FaultKind, Outcome};
 pub use route::Route;

@@ -1,3 +1,9 @@
+/// How many local variables a code may have.
+pub const LOCAL_LIMIT: usize = 16;
+
+/// How many sets of patterns a code may have.
+pub const SET_LIMIT: usize = 64;
+
 /// How many instructions a code may have.
 pub const INSTRUCTION_LIMIT: usize = 1024;
 

@@ -9,7 +9,7 @@ use std::marker::Model;
 /// A stack of at most 32 values, which lie in the stack itself.
 ///
 /// A contract sees a stack as the list of its values, the top first.
-#[derive(Drop)]
+#[derive(Debug, Drop)]
 pub struct Stack<T> {
     values: ArrayVec<T, STACK_LIMIT>,
 }

@@ -2,23 +2,24 @@ use Rattle.std.proofs.Common.{◌∙◌, arith}
 use Rattle.std.proofs.lemmas.Grind.{common_steps}
 use Rattle.std.proofs.lemmas.Option.{gets}
 use Rattle.filter_code.specs.Machine.{Config}
+use Rattle.filter_code.specs.Steps.{config_of}
 use Rattle.filter_code.proofs.Metrics.{accepted_in_range}
 use Rattle.filter_code.proofs.Runs.{begun, carried_on, carried_over, left}
 use Rattle.filter_code.proofs.machine.run_checked.Goals as goal
 
 pub loop-instr-init : goal.loop-instr-init
 loop-instr-init c =
-    rw (c.new-stack.ensures, c.metric-metric.ensures.value) (begun c.args.code.now c.args.route.now)
+    rw (c.new-stack.ensures, c.new-locals.ensures, c.locals.ensures.value, c.metric-metric.ensures.value) (begun c.args.code.now c.args.route.now)
 
 pub loop-instr-preserved : goal.loop-instr-preserved
 loop-instr-preserved c =
-    let config : Config = record { pc = c.loop-instr.pc; stack = c.loop-instr.stack; metric = c.loop-instr.metric } in
-    carried_on c.args.code.now c.args.route.now config c.in-Some.instr.now _ c.loop-instr.invariant (grind (arith, common_steps, gets)) (c.in-Ok.ensures c.loop-instr.pc)
+    let config : Config = config_of c.loop-instr.pc c.loop-instr.stack c.loop-instr.locals c.loop-instr.metric in
+    carried_on c.args.code.now c.args.route.now config c.in-Some.instr.now _ c.loop-instr.invariant (grind (arith, common_steps, gets)) (c.in-Ok.ensures.step c.loop-instr.pc)
 
 pub returns-in-Err : goal.returns-in-Err
 returns-in-Err c =
-    let config : Config = record { pc = c.loop-instr.pc; stack = c.loop-instr.stack; metric = c.loop-instr.metric } in
-    let is = c.at.ensures ∙ carried_over c.args.code.now c.args.route.now config c.in-Some.instr.now _ c.loop-instr.invariant (grind (arith, common_steps, gets)) (c.in-Err.ensures c.loop-instr.pc) in
+    let config : Config = config_of c.loop-instr.pc c.loop-instr.stack c.loop-instr.locals c.loop-instr.metric in
+    let is = c.at.ensures ∙ carried_over c.args.code.now c.args.route.now config c.in-Some.instr.now _ c.loop-instr.invariant (grind (arith, common_steps, gets)) (c.in-Err.ensures.step c.loop-instr.pc) in
     record {
       outcome = is;
       accepted = accepted_in_range c.args.code.now c.args.route.now _ c.metric-metric.ensures.limits.reachable is;
@@ -26,7 +27,7 @@ returns-in-Err c =
 
 pub returns : goal.returns
 returns c =
-    let config : Config = record { pc = c.loop-instr.pc; stack = c.loop-instr.stack; metric = c.loop-instr.metric } in
+    let config : Config = config_of c.loop-instr.pc c.loop-instr.stack c.loop-instr.locals c.loop-instr.metric in
     let is = left c.args.code.now c.args.route.now config c.loop-instr.invariant (grind (arith, common_steps)) in
     record {
       outcome = is;

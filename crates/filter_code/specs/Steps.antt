@@ -1,9 +1,18 @@
--- The ends that single instructions bring.
-use Rattle.std.specs.Prelude.{ℕ}
+-- The pieces of a step.
+use Rattle.std.specs.Prelude.{ℕ, Option, List}
 use Rattle.filter_code.specs.declared.machine.Stop.{Stop}
 use Rattle.filter_code.specs.declared.machine.Stop.TheVariants as stop
 use Rattle.filter_code.specs.declared.outcome.Outcome.{Outcome}
 use Rattle.filter_code.specs.declared.outcome.Outcome.TheVariants as outcome
+use Rattle.filter_code.specs.declared.value.Value.{Value}
+use Rattle.filter_code.specs.Machine.{Config}
+use Rattle.filter_code.specs.Table.{Frame}
+
+-- a configuration of its parts
+abbrev pub config_of : ℕ → List Value → List (Option Value) → ℕ → Config
+config_of pc stack locals metric =
+    let frame : Frame Value = record { stack = stack; locals = locals } in
+    record { pc = pc; frame = frame; metric = metric }
 
 -- the outcome of a run that an instruction ends at a place
 abbrev pub stopped : Stop → ℕ → Outcome

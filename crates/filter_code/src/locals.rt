@@ -1,0 +1,76 @@
+ghost use Rattle.std.specs.Prelude.{◌≡◌, ◌<◌, ◌≤◌, None, Some, length, replicate, slice_get, slice_set, MatchOption, MatchResult};
+ghost use Rattle.filter_code.specs.declared.outcome.FaultKind.TheVariants as fault;
+
+use crate::limits::LOCAL_LIMIT;
+use crate::outcome::FaultKind;
+use crate::value::Value;
+use std::marker::Model;
+
+/// The local variables of a run, each empty until it is set. They lie in the value itself.
+///
+/// A contract sees them as a list, in the order of their numbers.
+#[derive(Drop)]
+pub struct Locals {
+    values: [Option<Value>; LOCAL_LIMIT],
+    count: usize,
+}
+
+impl Model for Locals {
+    ghost use Rattle.std.specs.Prelude.{◌≡◌, ◌≤◌, List, Option, length, take};
+    ghost use Rattle.filter_code.specs.declared.limits.TheConstants.{LOCAL_LIMIT};
+    ghost use Rattle.filter_code.specs.declared.value.Value.{Value as Local};
+
+    ghost Value = { List (Option Local) };
+
+    ghost view = { λ l. take l.count l.values };
+
+    ghost invariant = { λ l. (l.count ≤ LOCAL_LIMIT) × (length l.values ≡ LOCAL_LIMIT) };
+}
+
+impl Locals {
+    /// That many local variables, all empty.
+    pub fn new(count: u8) -> Locals
+        requires { count ≤ LOCAL_LIMIT }
+        ensures { result ≡ replicate count None }
+    {
+        Locals {
+            values: [None; LOCAL_LIMIT],
+            count: usize::from(count),
+        }
+    }
+
+    /// Whether there is a local variable with this number; a fault exactly where there is none.
+    #[inline(always)]
+    pub fn check(&self, local: u8) -> Result<(), FaultKind>
+        ensures { MatchResult result (λ _. local < length self.now) (λ why. (why ≡ fault.UnknownName) × (length self.now ≤ local)) }
+    {
+        if usize::from(local) < self.count {
+            Ok(())
+        } else {
+            Err(FaultKind::UnknownName)
+        }
+    }
+
+    /// The value of a local variable. A fault exactly where there is none with this number, or it is empty.
+    #[inline(always)]
+    pub fn get(&self, local: u8) -> Result<Value, FaultKind>
+        ensures { MatchResult result
+            (λ v. slice_get self.now local ≡ Some (Some v))
+            (λ why. MatchOption (slice_get self.now local) (why ≡ fault.UnknownName) (λ held. (held ≡ None) × (why ≡ fault.WrongKind))) }
+    {
+        self.check(local)?;
+        match self.values[usize::from(local)] {
+            Some(value) => Ok(value),
+            None => Err(FaultKind::WrongKind),
+        }
+    }
+
+    /// Sets a local variable.
+    #[inline(always)]
+    pub fn set(&mut self, local: u8, value: Value)
+        requires { local < length self.old }
+        ensures { self.new ≡ slice_set self.old local (Some value) }
+    {
+        self.values[usize::from(local)] = Some(value);
+    }
+}
