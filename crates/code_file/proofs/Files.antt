@@ -1,72 +1,70 @@
 -- The fields of each code follow the format of a file, and no others do.
-use Rattle.std.proofs.Common.{◌≡◌, ℕ, zero, suc, ◌^◌, ◌<◌, ◌≤◌, Bool, true, false, cond, eqb, leb, List, [], ◌∷◌, ◌++◌, length, slice_index, Option, Some, None, unwrap_or, refl, sym, ap, subst, ◌∙◌, arith}
+use Rattle.std.proofs.Common.{◌≡◌, ◌==◌, ℕ, zero, suc, ◌^◌, ◌<◌, ◌≤◌, Bool, true, false, cond, eqb, leb, List, [], ◌∷◌, ◌++◌, length, slice_index, Option, Some, None, unwrap_or, refl, sym, ap, subst, ◌∙◌, arith, lit<}
 use Rattle.std.specs.Prelude.{is_some, find}
-use Rattle.std.specs.List.{flat_map, AllByRecursion}
+use Rattle.std.specs.List.{AllByRecursion}
 use Rattle.std.proofs.lemmas.Bool.{eqb-true, le-leb, leb-true}
 use Rattle.std.proofs.lemmas.List.{append-nil}
-use Rattle.std.proofs.lemmas.List.Concat.{flat_map-cons}
 use Rattle.byteorder.specs.Endian.{big_bytes}
-use Rattle.byteorder.specs.Numbers.{big_from-lt, length-bytes_high_first}
+use Rattle.prefix_patterns.specs.declared.set.TheConstants.{MAX_PATTERNS}
+use Rattle.prefix_patterns.specs.Matching.{PrefixPattern}
 use Rattle.filter_code.specs.declared.instruction.Instr.{Instr}
 use Rattle.filter_code.specs.declared.instruction.Instr.TheVariants as instr
-use Rattle.filter_code.specs.declared.limits.TheConstants.{INSTRUCTION_LIMIT}
+use Rattle.filter_code.specs.declared.limits.TheConstants.{LOCAL_LIMIT, SET_LIMIT, INSTRUCTION_LIMIT}
 use Rattle.filter_code.specs.Instruction.{opcode}
 use Rattle.filter_code.specs.Program.{Program}
-use Rattle.code_file.specs.Fields.{FieldKind, width, number, mark_bytes, is_good, form_of, forms}
-use Rattle.code_file.specs.Fields.FieldKind.{Mark, Locals, Sets, Instructions, Opcode, IntOperand}
-use Rattle.code_file.specs.Spelling.{Field, field, mark_byte, operand, instruction, fields, IsInstruction, IsProgram}
-use Rattle.code_file.specs.Reading.{Format, ◌>>=◌, a_number, an_operand, an_instruction, instructions, a_header, a_file}
+use Rattle.code_file.specs.Fields.{FieldKind, width, number, mark_bytes, is_good, is_prefix, form_of, forms}
+use Rattle.code_file.specs.Fields.FieldKind.{Mark, Locals, Sets, Patterns, Pattern, Instructions, Opcode, WordOperand, TruthOperand, PrefixOperand, NameOperand, BitsOperand, DistanceOperand}
+use Rattle.code_file.specs.Spelling.{Field, field, mark_byte, prefix_bytes, pattern, counted, set, operand, instruction, fields, IsPattern, IsSet, IsInstruction, IsProgram}
+use Rattle.code_file.specs.Reading.{Format, ◌>>=◌, a_number, prefix_of, a_pattern, a_count_of, a_set, an_operand, an_instruction, a_file}
 use Rattle.code_file.specs.Reading.Format.{Done}
-use Rattle.code_file.proofs.Bytes.{number_again, GivesBytesBack, bytes_again_1, bytes_again_2, bytes_again_4}
+use Rattle.code_file.proofs.Bytes.{GivesBytesBack, bytes_again_1, bytes_again_2, bytes_again_4}
 use Rattle.code_file.proofs.Formats.{Follows, AreBytes, follows_then, follows_both}
+use Rattle.code_file.proofs.Prefixes.{and_true, true_and, prefix_again, prefix_is_good, HasPrefix, has_prefix, five, seven}
+use Rattle.code_file.proofs.Times.{number_of_field, put_number, take_number, HasLimit, put_counted, take_counted}
 
--- ---- a field that holds a number
+-- ---- patterns and sets
 
-width_again : (kind : FieldKind) → GivesBytesBack (width kind)
-width_again (Mark place) = bytes_again_1
-width_again Locals = bytes_again_1
-width_again Sets = bytes_again_1
-width_again Instructions = bytes_again_2
-width_again Opcode = bytes_again_1
-width_again IntOperand = bytes_again_4
+put_pattern : (p : PrefixPattern) → IsPattern p → Follows a_pattern (pattern p ∷ []) p
+put_pattern p h =
+    let tail : List ℕ = p.low ∷ p.high ∷ [] in
+    let order = h.lengths.order in
+    let limit = h.lengths.limit in
+    let good : is_good Pattern (prefix_bytes p.bits ++ tail) ≡ true =
+    true_and (is_prefix (prefix_bytes p.bits ++ tail)) _ (prefix_is_good p.bits tail h.prefix) (true_and (leb p.low p.high) (leb p.high 32) (le-leb _ _ order) (le-leb _ _ limit)) in
+    let made : record { bits = prefix_of (prefix_bytes p.bits ++ tail); low = p.low; high = p.high } ≡ p = ap (λ (bits : List Bool). let q : PrefixPattern = record { bits = bits; low = p.low; high = p.high } in q) (prefix_again p.bits tail h.prefix) in
+    (refl, refl, good, (refl, made))
 
-length_of_field : (kind : FieldKind) (n : ℕ) → length (big_bytes (width kind) n) ≡ width kind
-length_of_field kind n = length-bytes_high_first (width kind) n
+pattern_again : (bytes : List ℕ) → length bytes ≡ 7 → HasPrefix bytes → prefix_bytes (prefix_of bytes) ++ slice_index bytes 5 ∷ slice_index bytes 6 ∷ [] ≡ bytes
+pattern_again bytes len has = ap (λ (b : List ℕ). b ++ slice_index bytes 5 ∷ slice_index bytes 6 ∷ []) has.parts ∙ seven bytes len
 
-number_of_field : (kind : FieldKind) (n : ℕ) → n < 256 ^ width kind → number kind (big_bytes (width kind) n) ≡ n
-number_of_field kind n h = number_again (width kind) n h
+take_pattern : (fs : List Field) (p : PrefixPattern) → AreBytes fs → Follows a_pattern fs p → (fs ≡ pattern p ∷ []) × IsPattern p
+take_pattern [] p b h = absurd h
+take_pattern (f ∷ fs) p b h =
+    let bytes = f.bytes in
+    let all = and_true (is_prefix bytes) _ h.2 in
+    let lengths = and_true (leb (slice_index bytes 5) (slice_index bytes 6)) (leb (slice_index bytes 6) 32) all.1 in
+    let has = has_prefix bytes (omega (arith, h.1)) b.0 all.0 in
+    let again : bytes ≡ prefix_bytes (prefix_of bytes) ++ slice_index bytes 5 ∷ slice_index bytes 6 ∷ [] = sym (pattern_again bytes h.1 has) in
+    let made : PrefixPattern = record { bits = prefix_of bytes; low = slice_index bytes 5; high = slice_index bytes 6 } in
+    let same : f ≡ pattern made = ap (λ (k : FieldKind). let g : Field = record { kind = k; bytes = bytes } in g) h.0 ∙ ap (λ (b : List ℕ). let g : Field = record { kind = Pattern; bytes = b } in g) again in
+    let is : IsPattern made = record { prefix = has.limit; lengths = record { order = leb-true _ _ lengths.0; limit = leb-true _ _ lengths.1 } } in
+    subst (λ (q : PrefixPattern). (f ∷ fs ≡ pattern q ∷ []) × IsPattern q) h.3.1 (ap (λ (g : Field). g ∷ fs) same ∙ ap (λ (gs : List Field). pattern made ∷ gs) h.3.0, is)
 
--- a good number, and what follows behind it
-put_number : {A : Type 0} (kind : FieldKind) (later : ℕ → Format A) (n : ℕ) (fs : List Field) (x : A) → n < 256 ^ width kind → is_good kind (big_bytes (width kind) n) ≡ true → Follows (later n) fs x
-    → Follows (a_number kind >>= later) (field kind n ∷ fs) x
-put_number kind later n fs x fits good h =
-    (refl, length_of_field kind n, good, rw (number_of_field kind n fits) h)
+patterns_limit : HasLimit Patterns MAX_PATTERNS
+patterns_limit = record {
+  back = bytes_again_2;
+  below = lit< tt;
+  is_taken = λ n le fits. le-leb _ _ (omega (arith, le, number_of_field Patterns n fits));
+  is_within = λ n fits good. let within : number Patterns (big_bytes 2 n) ≤ MAX_PATTERNS = leb-true _ _ good in omega (arith, within, number_of_field Patterns n fits);
+}
 
--- a number that was read, and what follows behind it
-record HasNumber {A : Type 0} (kind : FieldKind) (later : ℕ → Format A) (fs : List Field) (x : A) : Type 0 where
-  value : ℕ
-  others : List Field
-  parts : fs ≡ field kind value ∷ others
-  good : is_good kind (big_bytes (width kind) value) ≡ true
-  fits : value < 256 ^ width kind
-  follows : Follows (later value) others x
-  are_bytes : AreBytes others
+put_set : (patterns : List PrefixPattern) → IsSet patterns → Follows a_set (set patterns) patterns
+put_set patterns h = put_counted Patterns MAX_PATTERNS patterns_limit a_pattern (λ p. pattern p ∷ []) IsPattern put_pattern patterns h.within_limit h.each
 
-take_number : {A : Type 0} (kind : FieldKind) (later : ℕ → Format A) (fs : List Field) (x : A) → AreBytes fs → Follows (a_number kind >>= later) fs x → HasNumber kind later fs x
-take_number kind later [] x b h = absurd h
-take_number kind later (f ∷ fs) x b h =
-    let value = number kind f.bytes in
-    let again : big_bytes (width kind) value ≡ f.bytes = width_again kind f.bytes h.1 b.0 in
-    let same : f ≡ field kind value = ap (λ (k : FieldKind). let g : Field = record { kind = k; bytes = f.bytes } in g) h.0 ∙ ap (λ (bytes : List ℕ). let g : Field = record { kind = kind; bytes = bytes } in g) (sym again) in
-    record {
-      value = value;
-      others = fs;
-      parts = ap (λ (g : Field). g ∷ fs) same;
-      good = rw again h.2;
-      fits = big_from-lt 0 (width kind) f.bytes b.0;
-      follows = h.3;
-      are_bytes = b.1;
-    }
+take_set : (fs : List Field) (patterns : List PrefixPattern) → AreBytes fs → Follows a_set fs patterns → (fs ≡ set patterns) × IsSet patterns
+take_set fs patterns b h =
+    let all = take_counted Patterns MAX_PATTERNS patterns_limit a_pattern (λ p. pattern p ∷ []) IsPattern take_pattern fs patterns b h in
+    (all.parts, record { within_limit = all.within_limit; each = all.each })
 
 -- ---- an instruction
 
@@ -83,6 +81,7 @@ found_passes p (i ∷ is) form e = found_here p i is form (p i) refl (found_pass
 
 -- the form of a byte has that byte as its opcode
 opcode_of_form : (byte : ℕ) (form : Instr) → form_of byte ≡ Some form → opcode form ≡ byte
+unfolding form_of
 opcode_of_form byte form e = eqb-true _ _ (found_passes (λ i. eqb (opcode i) byte) forms form e)
 
 -- a byte that is good for an opcode has a form
@@ -95,14 +94,22 @@ has_form byte None e good = absurd cc
 has_form byte (Some form) e good = record { form = form; is_form = e }
 
 put_instruction : (i : Instr) → IsInstruction i → Follows an_instruction (instruction i) i
-put_instruction (instr.Int n) h = (refl, refl, refl, (refl, refl, refl, (refl, ap (λ (k : ℕ). instr.Int k) (number_of_field IntOperand n h))))
-put_instruction instr.Metric h = (refl, refl, refl, (refl, refl))
-put_instruction instr.Received h = (refl, refl, refl, (refl, refl))
-put_instruction instr.SetMetric h = (refl, refl, refl, (refl, refl))
-put_instruction instr.Add h = (refl, refl, refl, (refl, refl))
-put_instruction instr.Max h = (refl, refl, refl, (refl, refl))
-put_instruction instr.Accept h = (refl, refl, refl, (refl, refl))
-put_instruction instr.Reject h = (refl, refl, refl, (refl, refl))
+unfolding form_of
+put_instruction (instr.Int n) h = (refl, refl, refl, (refl, refl, refl, (refl, ap (λ (k : ℕ). instr.Int k) (number_of_field WordOperand n h))))
+put_instruction (instr.Bool true) h = (refl, refl, refl, (refl, refl, refl, (refl, refl)))
+put_instruction (instr.Bool false) h = (refl, refl, refl, (refl, refl, refl, (refl, refl)))
+put_instruction (instr.Ip a) h = (refl, refl, refl, (refl, refl, refl, (refl, ap (λ (k : ℕ). instr.Ip (record { 0 = k })) (number_of_field WordOperand a.0 h))))
+put_instruction (instr.Prefix bits) h = (refl, refl, refl, (refl, refl, prefix_is_good bits [] h, (refl, ap (λ (p : List Bool). instr.Prefix p) (prefix_again bits [] h))))
+put_instruction (instr.Load i) h = (refl, refl, refl, (refl, refl, refl, (refl, ap (λ (k : ℕ). instr.Load k) (number_of_field NameOperand i h))))
+put_instruction (instr.Store i) h = (refl, refl, refl, (refl, refl, refl, (refl, ap (λ (k : ℕ). instr.Store k) (number_of_field NameOperand i h))))
+put_instruction (instr.Mask n) h =
+    let fits : n < 256 = omega arith in
+    let good : leb (number BitsOperand (big_bytes 1 n)) 32 ≡ true = le-leb _ _ (omega (arith, h, number_of_field BitsOperand n fits)) in
+    (refl, refl, refl, (refl, refl, good, (refl, ap (λ (k : ℕ). instr.Mask k) (number_of_field BitsOperand n fits))))
+put_instruction (instr.Member i) h = (refl, refl, refl, (refl, refl, refl, (refl, ap (λ (k : ℕ). instr.Member k) (number_of_field NameOperand i h))))
+put_instruction (instr.Jump k) h = (refl, refl, refl, (refl, refl, refl, (refl, ap (λ (n : ℕ). instr.Jump n) (number_of_field DistanceOperand k h))))
+put_instruction (instr.JumpIfNot k) h = (refl, refl, refl, (refl, refl, refl, (refl, ap (λ (n : ℕ). instr.JumpIfNot n) (number_of_field DistanceOperand k h))))
+put_instruction i h = (refl, refl, refl, (refl, refl))
 
 -- an operand that was read stands in the spelling of what it made
 record IsOperandOf (form i : Instr) (fs : List Field) : Type 0 where
@@ -110,22 +117,53 @@ record IsOperandOf (form i : Instr) (fs : List Field) : Type 0 where
   same : opcode i ≡ opcode form
   fits : IsInstruction i
 
+-- an operand that is a number
+number_operand : (kind : FieldKind) (form : Instr) (make : ℕ → Instr) → GivesBytesBack (width kind) → ((n : ℕ) → n < 256 ^ width kind → is_good kind (big_bytes (width kind) n) ≡ true → IsOperandOf form (make n) (field kind n ∷ []))
+    → (fs : List Field) (i : Instr) → AreBytes fs → Follows (a_number kind >>= λ n. Done (make n)) fs i → IsOperandOf form i fs
+number_operand kind form make back is fs i b h =
+    let n = take_number kind (λ n. Done (make n)) fs i back b h in
+    let here : fs ≡ field kind n.value ∷ [] = n.parts ∙ ap (λ (gs : List Field). field kind n.value ∷ gs) n.follows.0 in
+    subst (λ (j : Instr). IsOperandOf form j fs) n.follows.1 (subst (λ (gs : List Field). IsOperandOf form (make n.value) gs) (sym here) (is n.value n.fits n.good))
+
+truth_operand : (any : Bool) (n : ℕ) → n < 256 → is_good TruthOperand (big_bytes 1 n) ≡ true → IsOperandOf (instr.Bool any) (instr.Bool (n == 1)) (field TruthOperand n ∷ [])
+truth_operand any zero fits good = record { parts = refl; same = refl; fits = tt }
+truth_operand any (suc zero) fits good = record { parts = refl; same = refl; fits = tt }
+truth_operand any (suc (suc n)) fits good =
+    let within : number TruthOperand (big_bytes 1 (suc (suc n))) ≤ 1 = leb-true _ _ good in
+    absurd (omega (arith, within, number_of_field TruthOperand (suc (suc n)) fits))
+
+bits_operand : (any n : ℕ) → n < 256 → is_good BitsOperand (big_bytes 1 n) ≡ true → IsOperandOf (instr.Mask any) (instr.Mask n) (field BitsOperand n ∷ [])
+bits_operand any n fits good =
+    let within : number BitsOperand (big_bytes 1 n) ≤ 32 = leb-true _ _ good in
+    record { parts = refl; same = refl; fits = omega (arith, within, number_of_field BitsOperand n fits) }
+
+prefix_operand : (any : List Bool) (fs : List Field) (i : Instr) → AreBytes fs → Follows (an_operand (instr.Prefix any)) fs i → IsOperandOf (instr.Prefix any) i fs
+prefix_operand any [] i b h = absurd h
+prefix_operand any (f ∷ fs) i b h =
+    let bytes = f.bytes in
+    let has = has_prefix bytes (omega (arith, h.1)) b.0 h.2 in
+    let again : bytes ≡ prefix_bytes (prefix_of bytes) = sym (has.parts ∙ five bytes h.1) in
+    let spelled : Field = record { kind = PrefixOperand; bytes = prefix_bytes (prefix_of bytes) } in
+    let same : f ≡ spelled = ap (λ (k : FieldKind). let g : Field = record { kind = k; bytes = bytes } in g) h.0 ∙ ap (λ (b : List ℕ). let g : Field = record { kind = PrefixOperand; bytes = b } in g) again in
+    subst (λ (j : Instr). IsOperandOf (instr.Prefix any) j (f ∷ fs)) h.3.1
+    (record { parts = ap (λ (g : Field). g ∷ fs) same ∙ ap (λ (gs : List Field). spelled ∷ gs) h.3.0; same = refl; fits = has.limit })
+
 take_operand : (form : Instr) (fs : List Field) (i : Instr) → AreBytes fs → Follows (an_operand form) fs i → IsOperandOf form i fs
-take_operand (instr.Int any) fs i b h =
-    let n = take_number IntOperand (λ n. Done (instr.Int n)) fs i b h in
-    subst (λ (j : Instr). IsOperandOf (instr.Int any) j fs) n.follows.1
-    (record { parts = n.parts ∙ ap (λ (gs : List Field). field IntOperand n.value ∷ gs) n.follows.0; same = refl; fits = n.fits })
-take_operand instr.Metric fs i b h = subst (λ (j : Instr). IsOperandOf instr.Metric j fs) h.1 (record { parts = h.0; same = refl; fits = tt })
-take_operand instr.Received fs i b h = subst (λ (j : Instr). IsOperandOf instr.Received j fs) h.1 (record { parts = h.0; same = refl; fits = tt })
-take_operand instr.SetMetric fs i b h = subst (λ (j : Instr). IsOperandOf instr.SetMetric j fs) h.1 (record { parts = h.0; same = refl; fits = tt })
-take_operand instr.Add fs i b h = subst (λ (j : Instr). IsOperandOf instr.Add j fs) h.1 (record { parts = h.0; same = refl; fits = tt })
-take_operand instr.Max fs i b h = subst (λ (j : Instr). IsOperandOf instr.Max j fs) h.1 (record { parts = h.0; same = refl; fits = tt })
-take_operand instr.Accept fs i b h = subst (λ (j : Instr). IsOperandOf instr.Accept j fs) h.1 (record { parts = h.0; same = refl; fits = tt })
-take_operand instr.Reject fs i b h = subst (λ (j : Instr). IsOperandOf instr.Reject j fs) h.1 (record { parts = h.0; same = refl; fits = tt })
+take_operand (instr.Int any) fs i b h = number_operand WordOperand (instr.Int any) (λ n. instr.Int n) bytes_again_4 (λ n fits good. record { parts = refl; same = refl; fits = fits }) fs i b h
+take_operand (instr.Bool any) fs i b h = number_operand TruthOperand (instr.Bool any) (λ n. instr.Bool (n == 1)) bytes_again_1 (truth_operand any) fs i b h
+take_operand (instr.Ip any) fs i b h = number_operand WordOperand (instr.Ip any) (λ n. instr.Ip (record { 0 = n })) bytes_again_4 (λ n fits good. record { parts = refl; same = refl; fits = fits }) fs i b h
+take_operand (instr.Prefix any) fs i b h = prefix_operand any fs i b h
+take_operand (instr.Load any) fs i b h = number_operand NameOperand (instr.Load any) (λ n. instr.Load n) bytes_again_1 (λ n fits good. record { parts = refl; same = refl; fits = fits }) fs i b h
+take_operand (instr.Store any) fs i b h = number_operand NameOperand (instr.Store any) (λ n. instr.Store n) bytes_again_1 (λ n fits good. record { parts = refl; same = refl; fits = fits }) fs i b h
+take_operand (instr.Mask any) fs i b h = number_operand BitsOperand (instr.Mask any) (λ n. instr.Mask n) bytes_again_1 (bits_operand any) fs i b h
+take_operand (instr.Member any) fs i b h = number_operand NameOperand (instr.Member any) (λ n. instr.Member n) bytes_again_1 (λ n fits good. record { parts = refl; same = refl; fits = fits }) fs i b h
+take_operand (instr.Jump any) fs i b h = number_operand DistanceOperand (instr.Jump any) (λ n. instr.Jump n) bytes_again_2 (λ n fits good. record { parts = refl; same = refl; fits = fits }) fs i b h
+take_operand (instr.JumpIfNot any) fs i b h = number_operand DistanceOperand (instr.JumpIfNot any) (λ n. instr.JumpIfNot n) bytes_again_2 (λ n fits good. record { parts = refl; same = refl; fits = fits }) fs i b h
+take_operand form fs i b h = subst (λ (j : Instr). IsOperandOf form j fs) h.1 (record { parts = h.0; same = refl; fits = tt })
 
 take_instruction : (fs : List Field) (i : Instr) → AreBytes fs → Follows an_instruction fs i → (fs ≡ instruction i) × IsInstruction i
 take_instruction fs i b h =
-    let n = take_number Opcode (λ byte. an_operand (unwrap_or (form_of byte) instr.Reject)) fs i b h in
+    let n = take_number Opcode (λ byte. an_operand (unwrap_or (form_of byte) instr.Reject)) fs i bytes_again_1 b h in
     let good : is_some (form_of n.value) ≡ true = subst (λ (k : ℕ). is_some (form_of k) ≡ true) (number_of_field Opcode n.value n.fits) n.good in
     let known = has_form n.value (form_of n.value) refl good in
     let follows : Follows (an_operand known.form) n.others i = rw known.is_form at n.follows in
@@ -133,72 +171,50 @@ take_instruction fs i b h =
     let byte : n.value ≡ opcode i = sym (o.same ∙ opcode_of_form n.value known.form known.is_form) in
     (n.parts ∙ ap (λ (k : ℕ). field Opcode k ∷ n.others) byte ∙ ap (λ (gs : List Field). field Opcode (opcode i) ∷ gs) o.parts, o.fits)
 
--- ---- instructions
-
-put_instructions : (is : List Instr) → AllByRecursion IsInstruction is → Follows (instructions (length is)) (flat_map instruction is) is
-unfolding instructions
-put_instructions [] h = (refl, refl)
-put_instructions (i ∷ is) h =
-    let end : Follows (Done (i ∷ is)) [] (i ∷ is) = (refl, refl) in
-    let others = follows_then (instructions (length is)) (λ others. Done (i ∷ others)) (flat_map instruction is) [] is (i ∷ is) (put_instructions is h.1) end in
-    let all = follows_then an_instruction (λ first. instructions (length is) >>= λ others. Done (first ∷ others)) (instruction i) (flat_map instruction is ++ []) i (i ∷ is) (put_instruction i h.0) others in
-    let same : instruction i ++ (flat_map instruction is ++ []) ≡ flat_map instruction (i ∷ is) = ap (λ (fs : List Field). instruction i ++ fs) (append-nil (flat_map instruction is)) ∙ sym (flat_map-cons instruction i is) in
-    subst (λ (fs : List Field). Follows (instructions (suc (length is))) fs (i ∷ is)) same all
-
-record AreInstructions (n : ℕ) (fs : List Field) (is : List Instr) : Type 0 where
-  parts : fs ≡ flat_map instruction is
-  count : length is ≡ n
-  each : AllByRecursion IsInstruction is
-
-take_instructions : (n : ℕ) (fs : List Field) (is : List Instr) → AreBytes fs → Follows (instructions n) fs is → AreInstructions n fs is
-unfolding instructions
-take_instructions zero fs is b h = subst (λ (js : List Instr). AreInstructions zero fs js) h.1 (record { parts = h.0; count = refl; each = tt })
-take_instructions (suc n) fs is b h =
-    let one = follows_both an_instruction (λ first. instructions n >>= λ others. Done (first ∷ others)) fs is b h in
-    let two = follows_both (instructions n) (λ others. Done (one.made ∷ others)) one.second is one.second_are_bytes one.follows_second in
-    let first = take_instruction one.first one.made one.first_are_bytes one.follows_first in
-    let others = take_instructions n two.first two.made two.first_are_bytes two.follows_first in
-    let made : one.made ∷ two.made ≡ is = two.follows_second.1 in
-    let back : one.second ≡ flat_map instruction two.made = two.parts ∙ ap (λ (gs : List Field). two.first ++ gs) two.follows_second.0 ∙ append-nil two.first ∙ others.parts in
-    let parts : fs ≡ flat_map instruction (one.made ∷ two.made) = one.parts ∙ ap (λ (gs : List Field). gs ++ one.second) first.0 ∙ ap (λ (gs : List Field). instruction one.made ++ gs) back ∙ sym (flat_map-cons instruction one.made two.made) in
-    subst (λ (js : List Instr). AreInstructions (suc n) fs js) made (record { parts = parts; count = ap suc others.count; each = (first.1, others.each) })
-
 -- ---- a whole file
 
-abbrev made_of : List Instr → Program
-made_of instrs = record { instrs = instrs }
+sets_limit : HasLimit Sets SET_LIMIT
+sets_limit = record {
+  back = bytes_again_1;
+  below = lit< tt;
+  is_taken = λ n le fits. le-leb _ _ (omega (arith, le, number_of_field Sets n fits));
+  is_within = λ n fits good. let within : number Sets (big_bytes 1 n) ≤ SET_LIMIT = leb-true _ _ good in omega (arith, within, number_of_field Sets n fits);
+}
 
-abbrev made : List Instr → Format Program
-made instrs = Done (made_of instrs)
+instructions_limit : HasLimit Instructions INSTRUCTION_LIMIT
+instructions_limit = record {
+  back = bytes_again_2;
+  below = lit< tt;
+  is_taken = λ n le fits. le-leb _ _ (omega (arith, le, number_of_field Instructions n fits));
+  is_within = λ n fits good. let within : number Instructions (big_bytes 2 n) ≤ INSTRUCTION_LIMIT = leb-true _ _ good in omega (arith, within, number_of_field Instructions n fits);
+}
 
-abbrev body : ℕ → Format Program
-body count = instructions count >>= made
+abbrev program_of : ℕ → List (List PrefixPattern) → List Instr → Program
+program_of locals sets instrs = record { locals = locals; sets = sets; instrs = instrs }
+
+abbrev made : ℕ → List (List PrefixPattern) → List Instr → Format Program
+made locals sets instrs = Done (program_of locals sets instrs)
+
+abbrev from_instructions : ℕ → List (List PrefixPattern) → Format Program
+from_instructions locals sets = a_count_of Instructions an_instruction >>= made locals sets
+
+abbrev from_sets : ℕ → Format Program
+from_sets locals = a_count_of Sets a_set >>= from_instructions locals
 
 -- the fields of a code follow the format
 pub put_file : (code : Program) → IsProgram code → Follows a_file (fields code) code
-unfolding a_file a_header
+unfolding a_file
 put_file code h =
-    let count = length code.instrs in
-    let fits : count < 256 ^ 2 = let limit = h.within_limit in omega arith in
-    let within : leb count INSTRUCTION_LIMIT ≡ true = le-leb _ _ h.within_limit in
-    let good : is_good Instructions (big_bytes 2 count) ≡ true = rw (number_of_field Instructions count fits) within in
+    let fits : code.locals < 256 = let limit = h.locals in omega arith in
+    let good : leb (number Locals (big_bytes 1 code.locals)) LOCAL_LIMIT ≡ true = le-leb _ _ (let limit = h.locals in omega (arith, number_of_field Locals code.locals fits)) in
     let end : Follows (Done code) [] code = (refl, refl) in
-    let with_end = follows_then (instructions count) made (flat_map instruction code.instrs) [] code.instrs code (put_instructions code.instrs h.each) end in
-    let all : Follows (body count) (flat_map instruction code.instrs) code = rw append-nil at with_end in
-    let counted = put_number Instructions body count (flat_map instruction code.instrs) code fits good all in
-    (refl, refl, refl, (refl, refl, refl, (refl, refl, refl, (refl, refl, refl, (refl, refl, refl, (refl, refl, refl, counted))))))
-
-mark_value : (place n : ℕ) → n < 256 → is_good (Mark place) (big_bytes 1 n) ≡ true → n ≡ slice_index mark_bytes place
-mark_value place n fits good = sym (number_of_field (Mark place) n fits) ∙ eqb-true _ _ good
-
-abbrev counted : Format Program
-counted = a_number Instructions >>= body
-
-abbrev from_sets : Format Program
-from_sets = a_number Sets >>= λ n. counted
-
-abbrev from_locals : Format Program
-from_locals = a_number Locals >>= λ n. from_sets
+    let instrs = put_counted Instructions INSTRUCTION_LIMIT instructions_limit an_instruction instruction IsInstruction put_instruction code.instrs h.instrs h.each_instr in
+    let with_end = follows_then (a_count_of Instructions an_instruction) (made code.locals code.sets) (counted Instructions instruction code.instrs) [] code.instrs code instrs end in
+    let back : Follows (from_instructions code.locals code.sets) (counted Instructions instruction code.instrs) code = subst (λ (fs : List Field). Follows (from_instructions code.locals code.sets) fs code) (append-nil (counted Instructions instruction code.instrs)) with_end in
+    let sets = put_counted Sets SET_LIMIT sets_limit a_set set IsSet put_set code.sets h.sets h.each_set in
+    let all = follows_then (a_count_of Sets a_set) (from_instructions code.locals) (counted Sets set code.sets) (counted Instructions instruction code.instrs) code.sets code sets back in
+    let behind_mark = put_number Locals from_sets code.locals (counted Sets set code.sets ++ counted Instructions instruction code.instrs) code fits good all in
+    (refl, refl, refl, (refl, refl, refl, (refl, refl, refl, (refl, refl, refl, behind_mark))))
 
 -- the next byte of the mark, and the fields behind it
 record HasMark (place : ℕ) (later : Format Program) (fs : List Field) (code : Program) : Type 0 where
@@ -209,65 +225,65 @@ record HasMark (place : ℕ) (later : Format Program) (fs : List Field) (code : 
 
 take_mark : (place : ℕ) (later : Format Program) (fs : List Field) (code : Program) → AreBytes fs → Follows (a_number (Mark place) >>= λ n. later) fs code → HasMark place later fs code
 take_mark place later fs code b h =
-    let n = take_number (Mark place) (λ n. later) fs code b h in
-    record { others = n.others; parts = n.parts ∙ ap (λ (k : ℕ). field (Mark place) k ∷ n.others) (mark_value place n.value n.fits n.good); follows = n.follows; are_bytes = n.are_bytes }
+    let n = take_number (Mark place) (λ n. later) fs code bytes_again_1 b h in
+    let value : n.value ≡ slice_index mark_bytes place = sym (number_of_field (Mark place) n.value n.fits) ∙ eqb-true _ _ n.good in
+    record { others = n.others; parts = n.parts ∙ ap (λ (k : ℕ). field (Mark place) k ∷ n.others) value; follows = n.follows; are_bytes = n.are_bytes }
 
--- a number that has to be 0
-record HasZero (kind : FieldKind) (later : Format Program) (fs : List Field) (code : Program) : Type 0 where
-  others : List Field
-  parts : fs ≡ field kind 0 ∷ others
-  follows : Follows later others code
-  are_bytes : AreBytes others
+-- the fields from some place on, and what they say of the code
+record IsFrom (spelled : Program → List Field) (says : Program → Type 0) (fs : List Field) (code : Program) : Type 0 where
+  parts : fs ≡ spelled code
+  is : says code
 
-take_zero : (kind : FieldKind) (later : Format Program) (fs : List Field) (code : Program) → ((n : ℕ) → n < 256 ^ width kind → is_good kind (big_bytes (width kind) n) ≡ true → n ≡ 0) → AreBytes fs → Follows (a_number kind >>= λ n. later) fs code → HasZero kind later fs code
-take_zero kind later fs code only b h =
-    let n = take_number kind (λ n. later) fs code b h in
-    record { others = n.others; parts = n.parts ∙ ap (λ (k : ℕ). field kind k ∷ n.others) (only n.value n.fits n.good); follows = n.follows; are_bytes = n.are_bytes }
+abbrev SaysInstructions : ℕ → List (List PrefixPattern) → Program → Type 0
+SaysInstructions locals sets code = (code.locals ≡ locals) × (code.sets ≡ sets) × (length code.instrs ≤ INSTRUCTION_LIMIT) × AllByRecursion IsInstruction code.instrs
 
-no_locals : (n : ℕ) → n < 256 → is_good Locals (big_bytes 1 n) ≡ true → n ≡ 0
-no_locals n fits good =
-    let le : number Locals (big_bytes 1 n) ≤ 0 = leb-true _ _ good in
-    omega (arith, le, number_of_field Locals n fits)
+take_instructions : (locals : ℕ) (sets : List (List PrefixPattern)) (fs : List Field) (code : Program) → AreBytes fs → Follows (from_instructions locals sets) fs code
+    → IsFrom (λ c. counted Instructions instruction c.instrs) (SaysInstructions locals sets) fs code
+take_instructions locals sets fs code b h =
+    let both = follows_both (a_count_of Instructions an_instruction) (made locals sets) fs code b h in
+    let all = take_counted Instructions INSTRUCTION_LIMIT instructions_limit an_instruction instruction IsInstruction take_instruction both.first both.made both.first_are_bytes both.follows_first in
+    let parts : fs ≡ counted Instructions instruction both.made = both.parts ∙ ap (λ (gs : List Field). both.first ++ gs) both.follows_second.0 ∙ append-nil both.first ∙ all.parts in
+    subst (λ (c : Program). IsFrom (λ c. counted Instructions instruction c.instrs) (SaysInstructions locals sets) fs c) both.follows_second.1
+    (record { parts = parts; is = (refl, refl, all.within_limit, all.each) })
 
-no_sets : (n : ℕ) → n < 256 → is_good Sets (big_bytes 1 n) ≡ true → n ≡ 0
-no_sets n fits good =
-    let le : number Sets (big_bytes 1 n) ≤ 0 = leb-true _ _ good in
-    omega (arith, le, number_of_field Sets n fits)
+abbrev SaysSets : ℕ → Program → Type 0
+SaysSets locals code = (code.locals ≡ locals) × (length code.sets ≤ SET_LIMIT) × AllByRecursion IsSet code.sets × (length code.instrs ≤ INSTRUCTION_LIMIT) × AllByRecursion IsInstruction code.instrs
 
--- the number of instructions, and these
-record IsCounted (fs : List Field) (code : Program) : Type 0 where
-  parts : fs ≡ field Instructions (length code.instrs) ∷ flat_map instruction code.instrs
-  is_program : IsProgram code
+take_sets : (locals : ℕ) (fs : List Field) (code : Program) → AreBytes fs → Follows (from_sets locals) fs code
+    → IsFrom (λ c. counted Sets set c.sets ++ counted Instructions instruction c.instrs) (SaysSets locals) fs code
+take_sets locals fs code b h =
+    let both = follows_both (a_count_of Sets a_set) (from_instructions locals) fs code b h in
+    let all = take_counted Sets SET_LIMIT sets_limit a_set set IsSet take_set both.first both.made both.first_are_bytes both.follows_first in
+    let rest = take_instructions locals both.made both.second code both.second_are_bytes both.follows_second in
+    let same : both.made ≡ code.sets = sym rest.is.1 in
+    let parts : fs ≡ counted Sets set code.sets ++ counted Instructions instruction code.instrs =
+    both.parts ∙ ap (λ (gs : List Field). gs ++ both.second) all.parts ∙ ap (λ (gs : List Field). counted Sets set both.made ++ gs) rest.parts ∙ ap (λ (sets : List (List PrefixPattern)). counted Sets set sets ++ counted Instructions instruction code.instrs) same in
+    record { parts = parts; is = (rest.is.0, subst (λ (sets : List (List PrefixPattern)). length sets ≤ SET_LIMIT) same all.within_limit, subst (λ (sets : List (List PrefixPattern)). AllByRecursion IsSet sets) same all.each, rest.is.2, rest.is.3) }
 
-is_counted : (n : ℕ) (fs others first second : List Field) (is : List Instr) (code : Program) → n < 256 ^ 2 → is_good Instructions (big_bytes 2 n) ≡ true → fs ≡ field Instructions n ∷ others → others ≡ first ++ second
-    → second ≡ [] → AreInstructions n first is → made_of is ≡ code → IsCounted fs code
-is_counted n fs others first second is code fits good p q r a made_is =
-    let le : number Instructions (big_bytes 2 n) ≤ INSTRUCTION_LIMIT = leb-true _ _ good in
-    let limit : length is ≤ INSTRUCTION_LIMIT = omega (arith, le, number_of_field Instructions n fits, a.count) in
-    let back : others ≡ flat_map instruction is = rw (q, r, append-nil first) a.parts in
-    let parts : fs ≡ field Instructions (length is) ∷ flat_map instruction is = rw (a.count, p, back) refl in
-    subst (λ (c : Program). IsCounted fs c) made_is (record { parts = parts; is_program = record { within_limit = limit; each = a.each } })
+take_locals : (fs : List Field) (code : Program) → AreBytes fs → Follows (a_number Locals >>= from_sets) fs code
+    → IsFrom (λ c. field Locals c.locals ∷ counted Sets set c.sets ++ counted Instructions instruction c.instrs) IsProgram fs code
+take_locals fs code b h =
+    let n = take_number Locals from_sets fs code bytes_again_1 b h in
+    let rest = take_sets n.value n.others code n.are_bytes n.follows in
+    let same : n.value ≡ code.locals = sym rest.is.0 in
+    let within : number Locals (big_bytes 1 n.value) ≤ LOCAL_LIMIT = leb-true _ _ n.good in
+    let limit : n.value ≤ LOCAL_LIMIT = omega (arith, within, number_of_field Locals n.value n.fits) in
+    record {
+      parts = n.parts ∙ ap (λ (gs : List Field). field Locals n.value ∷ gs) rest.parts ∙ ap (λ (k : ℕ). field Locals k ∷ counted Sets set code.sets ++ counted Instructions instruction code.instrs) same;
+      is = record { locals = rw (← same) limit; sets = rest.is.1; each_set = rest.is.2; instrs = rest.is.3; each_instr = rest.is.4 };
+    }
 
-take_counted : (fs : List Field) (code : Program) → AreBytes fs → Follows counted fs code → IsCounted fs code
-take_counted fs code b h =
-    let n = take_number Instructions body fs code b h in
-    let both = follows_both (instructions n.value) made n.others code n.are_bytes n.follows in
-    let is = take_instructions n.value both.first both.made both.first_are_bytes both.follows_first in
-    is_counted n.value fs n.others both.first both.second both.made code n.fits n.good n.parts both.parts both.follows_second.0 is both.follows_second.1
-
-in_front : (fs a b c d e g body : List Field) → fs ≡ mark_byte 0 ∷ a → a ≡ mark_byte 1 ∷ b → b ≡ mark_byte 2 ∷ c → c ≡ mark_byte 3 ∷ d → d ≡ field Locals 0 ∷ e → e ≡ field Sets 0 ∷ g → g ≡ body
-    → fs ≡ mark_byte 0 ∷ mark_byte 1 ∷ mark_byte 2 ∷ mark_byte 3 ∷ field Locals 0 ∷ field Sets 0 ∷ body
-in_front fs a b c d e g body p q r s t u v = rw (p, q, r, s, t, u, v) refl
+in_front : (fs a b c d body : List Field) → fs ≡ mark_byte 0 ∷ a → a ≡ mark_byte 1 ∷ b → b ≡ mark_byte 2 ∷ c → c ≡ mark_byte 3 ∷ d → d ≡ body → fs ≡ mark_byte 0 ∷ mark_byte 1 ∷ mark_byte 2 ∷ mark_byte 3 ∷ body
+in_front fs a b c d body p q r s t = rw (p, q, r, s, t) refl
 
 -- fields that follow the format are those of the code that they make
 pub take_file : (fs : List Field) (code : Program) → AreBytes fs → Follows a_file fs code → (fs ≡ fields code) × IsProgram code
-unfolding a_file a_header
+unfolding a_file
 take_file fs code b h =
-    let m0 = take_mark 0 (a_number (Mark 1) >>= λ n. a_number (Mark 2) >>= λ n. a_number (Mark 3) >>= λ n. from_locals) fs code b h in
-    let m1 = take_mark 1 (a_number (Mark 2) >>= λ n. a_number (Mark 3) >>= λ n. from_locals) m0.others code m0.are_bytes m0.follows in
-    let m2 = take_mark 2 (a_number (Mark 3) >>= λ n. from_locals) m1.others code m1.are_bytes m1.follows in
-    let m3 = take_mark 3 from_locals m2.others code m2.are_bytes m2.follows in
-    let l = take_zero Locals from_sets m3.others code no_locals m3.are_bytes m3.follows in
-    let s = take_zero Sets counted l.others code no_sets l.are_bytes l.follows in
-    let c = take_counted s.others code s.are_bytes s.follows in
-    (in_front fs m0.others m1.others m2.others m3.others l.others s.others (field Instructions (length code.instrs) ∷ flat_map instruction code.instrs) m0.parts m1.parts m2.parts m3.parts l.parts s.parts c.parts, c.is_program)
+    let behind_mark = a_number Locals >>= from_sets in
+    let m0 = take_mark 0 (a_number (Mark 1) >>= λ n. a_number (Mark 2) >>= λ n. a_number (Mark 3) >>= λ n. behind_mark) fs code b h in
+    let m1 = take_mark 1 (a_number (Mark 2) >>= λ n. a_number (Mark 3) >>= λ n. behind_mark) m0.others code m0.are_bytes m0.follows in
+    let m2 = take_mark 2 (a_number (Mark 3) >>= λ n. behind_mark) m1.others code m1.are_bytes m1.follows in
+    let m3 = take_mark 3 behind_mark m2.others code m2.are_bytes m2.follows in
+    let rest = take_locals m3.others code m3.are_bytes m3.follows in
+    (in_front fs m0.others m1.others m2.others m3.others (field Locals code.locals ∷ counted Sets set code.sets ++ counted Instructions instruction code.instrs) m0.parts m1.parts m2.parts m3.parts rest.parts, rest.is)

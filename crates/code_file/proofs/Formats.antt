@@ -5,8 +5,9 @@ use Rattle.std.proofs.lemmas.List.{take_at, drop_at, take-append-drop, length-ap
 use Rattle.code_file.specs.declared.fault.FileFault.{FileFault}
 use Rattle.code_file.specs.declared.fault.FileFault.TheVariants as fault
 use Rattle.code_file.proofs.Bytes.{IsBytes-drop, IsBytes-take, one_byte, zeros_are_bytes}
-use Rattle.code_file.specs.Fields.{FieldKind, width, is_good, fault_of, mark_bytes}
-use Rattle.code_file.specs.Fields.FieldKind.{Mark, Locals, Sets, Instructions, Opcode, IntOperand}
+use Rattle.code_file.specs.Fields.{FieldKind, width, is_good, fault_of, mark_bytes, form_of}
+use Rattle.code_file.specs.Fields.FieldKind.{Mark, Locals, Sets, Patterns, Pattern, Instructions, Opcode, WordOperand, TruthOperand, PrefixOperand, NameOperand, BitsOperand, DistanceOperand}
+use Rattle.prefix_patterns.specs.Bits.{bits, number}
 use Rattle.code_file.specs.Spelling.{Field, bytes_of}
 use Rattle.code_file.specs.Fields.{IsBytes}
 use Rattle.code_file.specs.Reading.{Format, ◌>>=◌, Rest, behind, read, whole}
@@ -174,9 +175,16 @@ abbrev good_example : FieldKind → List ℕ
 good_example (Mark place) = slice_index mark_bytes place ∷ []
 good_example Locals = 0 ∷ []
 good_example Sets = 0 ∷ []
+good_example Patterns = 0 ∷ 0 ∷ []
+good_example Pattern = 0 ∷ 0 ∷ 0 ∷ 0 ∷ 0 ∷ 0 ∷ 0 ∷ []
 good_example Instructions = 0 ∷ 0 ∷ []
 good_example Opcode = 0x71 ∷ []
-good_example IntOperand = 0 ∷ 0 ∷ 0 ∷ 0 ∷ []
+good_example WordOperand = 0 ∷ 0 ∷ 0 ∷ 0 ∷ []
+good_example TruthOperand = 0 ∷ []
+good_example PrefixOperand = 0 ∷ 0 ∷ 0 ∷ 0 ∷ 0 ∷ []
+good_example NameOperand = 0 ∷ []
+good_example BitsOperand = 0 ∷ []
+good_example DistanceOperand = 0 ∷ 0 ∷ []
 
 mark_is_bytes : IsBytes mark_bytes
 mark_is_bytes zero = lit< tt
@@ -191,12 +199,20 @@ pub record IsGoodField (kind : FieldKind) (bytes : List ℕ) : Type 0 where
   pub are_bytes : IsBytes bytes
 
 example_is_good : (kind : FieldKind) → IsGoodField kind (good_example kind)
+unfolding bits number form_of
 example_is_good (Mark place) = record { len = refl; good = eq-eqb _ _ (omega arith); are_bytes = one_byte _ (mark_is_bytes place) }
-example_is_good Locals = record { len = refl; good = refl; are_bytes = one_byte 0 (lit< tt) }
-example_is_good Sets = record { len = refl; good = refl; are_bytes = one_byte 0 (lit< tt) }
+example_is_good Locals = record { len = refl; good = refl; are_bytes = zeros_are_bytes 1 }
+example_is_good Sets = record { len = refl; good = refl; are_bytes = zeros_are_bytes 1 }
+example_is_good Patterns = record { len = refl; good = refl; are_bytes = zeros_are_bytes 2 }
+example_is_good Pattern = record { len = refl; good = refl; are_bytes = zeros_are_bytes 7 }
 example_is_good Instructions = record { len = refl; good = refl; are_bytes = zeros_are_bytes 2 }
 example_is_good Opcode = record { len = refl; good = refl; are_bytes = one_byte 0x71 (lit< tt) }
-example_is_good IntOperand = record { len = refl; good = refl; are_bytes = zeros_are_bytes 4 }
+example_is_good WordOperand = record { len = refl; good = refl; are_bytes = zeros_are_bytes 4 }
+example_is_good TruthOperand = record { len = refl; good = refl; are_bytes = zeros_are_bytes 1 }
+example_is_good PrefixOperand = record { len = refl; good = refl; are_bytes = zeros_are_bytes 5 }
+example_is_good NameOperand = record { len = refl; good = refl; are_bytes = zeros_are_bytes 1 }
+example_is_good BitsOperand = record { len = refl; good = refl; are_bytes = zeros_are_bytes 1 }
+example_is_good DistanceOperand = record { len = refl; good = refl; are_bytes = zeros_are_bytes 2 }
 
 pub record IsFollowed {A : Type 0} (s : Format A) : Type 0 where
   pub fields : List Field

@@ -1,5 +1,5 @@
 -- Reading is the grammar: a code is what is spelled so, and a fault is the one that the bytes have.
-use Rattle.std.proofs.Common.{◌≡◌, ℕ, ◌+◌, List, ◌∷◌, ◌++◌, length, Result, Ok, Err, sym, ap, subst, ◌∙◌, arith, inl, inr, ◌↔◌}
+use Rattle.std.proofs.Common.{refl, ◌≡◌, ℕ, ◌+◌, List, ◌∷◌, ◌++◌, length, Result, Ok, Err, sym, ap, subst, ◌∙◌, arith, inl, inr, ◌↔◌}
 use Rattle.filter_code.specs.Program.{Program}
 use Rattle.code_file.specs.declared.fault.FileFault.{FileFault}
 use Rattle.code_file.specs.declared.fault.FileFault.TheVariants as fault
@@ -111,3 +111,8 @@ exact_code bytes code h = (spelling_of_file bytes code h, λ is. ap file_of is.1
 
 pub exact_fault : (bytes : List ℕ) (found : FileFault) → IsBytes bytes → (file_of bytes ≡ Err found) ↔ IsFault bytes found
 exact_fault bytes found h = (fault_of_file bytes found h, file_of_fault bytes found)
+
+pub more_follows : (code : Program) (next : ℕ) (others : List ℕ) → IsProgram code → file_of (spelling code ++ next ∷ others) ≡ Err (fault.BytesAfterEnd (length (spelling code)))
+more_follows code next others h =
+    file_of_fault (spelling code ++ next ∷ others) (fault.BytesAfterEnd (length (spelling code)))
+    (inr (inr (record { code = code; is_program = h; next = next; others = others; parts = refl; fault = refl })))

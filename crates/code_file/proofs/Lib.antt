@@ -3,5 +3,9 @@ pub mod Bytes
 pub mod Files
 pub mod Formats
 pub mod Grammar
+pub mod Parts
+pub mod Prefixes
 mod Rows
 pub mod Steps
+pub mod Times
+pub mod Written

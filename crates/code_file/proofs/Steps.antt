@@ -1,106 +1,86 @@
--- Reading a file in steps: what stands before the instructions, one instruction after the other, and the end.
-use Rattle.std.proofs.Common.{◌≡◌, ℕ, suc, ◌+◌, ◌-◌, ◌<◌, ◌≤◌, List, [], ◌∷◌, ◌++◌, Result, Ok, Err, refl, sym, ap, ◌∙◌, append_assoc, arith, length, eqb, true, false, eq-eqb}
-use Rattle.std.proofs.lemmas.List.{append-nil}
+-- Reading in steps: one format after another, and one format so many times, as a loop does.
+use Rattle.std.proofs.Common.{◌≡◌, ℕ, suc, ◌+◌, ◌-◌, ◌<◌, ◌≤◌, true, false, eqb, List, [], ◌∷◌, ◌++◌, length, Result, Ok, Err, refl, sym, ap, ◌∙◌, append_assoc, arith, eq-eqb, inl, inr}
 use Rattle.std.proofs.lemmas.Bool.{ne_eqb}
-use Rattle.filter_code.specs.declared.instruction.Instr.{Instr}
-use Rattle.filter_code.specs.Program.{Program}
+use Rattle.std.proofs.lemmas.List.{append-nil}
 use Rattle.code_file.specs.declared.fault.FileFault.{FileFault}
 use Rattle.code_file.specs.declared.fault.FileFault.TheVariants as fault
-use Rattle.code_file.specs.Reading.{◌>>=◌, an_instruction, instructions, a_header, a_file, Rest, read, whole, file_of}
+use Rattle.code_file.specs.Reading.{Format, ◌>>=◌, times, Rest, read, whole, Reads, ReadsInto}
 use Rattle.code_file.specs.Reading.Format.{Done}
-use Rattle.code_file.specs.Reading.{Format}
-use Rattle.code_file.proofs.Formats.{from_start, and_then, read_then}
+use Rattle.code_file.proofs.Formats.{and_then, read_then}
+
+-- behind a first format that was read
+pub reads_on : {A B : Type 0} (s : Format A) (later : A → Format B) (rest left : Rest) (x : A) → read s rest ≡ Ok (x, left) → read (s >>= later) rest ≡ read (later x) left
+reads_on {A} s later rest left x h = read_then s later rest ∙ ap (λ (r : Result (A × Rest) FileFault). and_then r later) h
+
+-- a fault of the first format is one of both
+pub reads_no_more : {A B : Type 0} (s : Format A) (later : A → Format B) (rest : Rest) (found : FileFault) → read s rest ≡ Err found → read (s >>= later) rest ≡ Err found
+reads_no_more {A} s later rest found h = read_then s later rest ∙ ap (λ (r : Result (A × Rest) FileFault). and_then r later) h
+
+-- behind a first format that was read, a reader of the second is one of both
+pub reads_both : {A B X : Type 0} (view : X → B) (s : Format A) (later : A → Format B) (rest left new : Rest) (x : A) (r : Result X FileFault) → read s rest ≡ Ok (x, left) → Reads view (later x) left new r → Reads view (s >>= later) rest new r
+reads_both view s later rest left new x (Ok y) h given = reads_on s later rest left x h ∙ given
+reads_both view s later rest left new x (Err found) h given = reads_on s later rest left x h ∙ given
+
+pub reads_into_both : {A B X : Type 0} (view : X → B) (s : Format A) (later : A → Format B) (rest left new : Rest) (x : A) (r : Result X FileFault) → read s rest ≡ Ok (x, left) → ReadsInto view (later x) left new r → ReadsInto view (s >>= later) rest new r
+reads_into_both view s later rest left new x (Ok y) h given = reads_on s later rest left x h ∙ given
+reads_into_both view s later rest left new x (Err found) h (inl none) = inl none
+reads_into_both view s later rest left new x (Err found) h (inr met) = inr (reads_on s later rest left x h ∙ met)
 
 -- what was read before, and what is still read
-abbrev pub with_front : List Instr → Result (List Instr × Rest) FileFault → Result (List Instr × Rest) FileFault
+abbrev pub with_front : {A : Type 0} → List A → Result (List A × Rest) FileFault → Result (List A × Rest) FileFault
 with_front front (Ok made) = Ok (front ++ made.0, made.1)
 with_front front (Err found) = Err found
 
-regroup : (front : List Instr) (one : Instr) (r : Result (List Instr × Rest) FileFault) → with_front front (and_then r (λ others. Done (one ∷ others))) ≡ with_front (front ++ one ∷ []) r
-regroup front one (Ok made) = ap (λ (is : List Instr). Ok (is, made.1)) (simp append_assoc)
+pub none_before : {A : Type 0} (r : Result (List A × Rest) FileFault) → with_front [] r ≡ r
+none_before (Ok made) = refl
+none_before (Err found) = refl
+
+regroup : {A : Type 0} (front : List A) (one : A) (r : Result (List A × Rest) FileFault) → with_front front (and_then r (λ others. Done (one ∷ others))) ≡ with_front (front ++ one ∷ []) r
+regroup {A} front one (Ok made) = ap (λ (xs : List A). Ok (xs, made.1)) (simp append_assoc)
 regroup front one (Err found) = refl
 
-first_of_them : (k : ℕ) (rest left : Rest) (one : Instr) → read an_instruction rest ≡ Ok (one, left) → read (instructions (suc k)) rest ≡ and_then (read (instructions k) left) (λ others. Done (one ∷ others))
-unfolding instructions
-first_of_them k rest left one h =
-    read_then an_instruction (λ first. instructions k >>= λ others. Done (first ∷ others)) rest
-    ∙ ap (λ (r : Result (Instr × Rest) FileFault). and_then r (λ first. instructions k >>= λ others. Done (first ∷ others))) h
-    ∙ read_then (instructions k) (λ others. Done (one ∷ others)) left
+first_of_them : {A : Type 0} (s : Format A) (k : ℕ) (rest left : Rest) (one : A) → read s rest ≡ Ok (one, left) → read (times (suc k) s) rest ≡ and_then (read (times k s) left) (λ others. Done (one ∷ others))
+unfolding times
+first_of_them s k rest left one h =
+    reads_on s (λ first. times k s >>= λ others. Done (first ∷ others)) rest left one h ∙ read_then (times k s) (λ others. Done (one ∷ others)) left
 
-none_of_them : (k : ℕ) (rest : Rest) (found : FileFault) → read an_instruction rest ≡ Err found → read (instructions (suc k)) rest ≡ Err found
-unfolding instructions
-none_of_them k rest found h =
-    read_then an_instruction (λ first. instructions k >>= λ others. Done (first ∷ others)) rest
-    ∙ ap (λ (r : Result (Instr × Rest) FileFault). and_then r (λ first. instructions k >>= λ others. Done (first ∷ others))) h
+none_of_them : {A : Type 0} (s : Format A) (k : ℕ) (rest : Rest) (found : FileFault) → read s rest ≡ Err found → read (times (suc k) s) rest ≡ Err found
+unfolding times
+none_of_them s k rest found h = reads_no_more s (λ first. times k s >>= λ others. Done (first ∷ others)) rest found h
 
-pub goes_on : (front : List Instr) (count i : ℕ) (rest left : Rest) (one : Instr) (total : Result (List Instr × Rest) FileFault) → i < count → read an_instruction rest ≡ Ok (one, left)
-    → with_front front (read (instructions (count - i)) rest) ≡ total → with_front (front ++ one ∷ []) (read (instructions (count - (i + 1))) left) ≡ total
-goes_on front count i rest left one total lt h so_far =
+pub goes_on : {A : Type 0} (s : Format A) (front : List A) (count i : ℕ) (rest left : Rest) (one : A) (total : Result (List A × Rest) FileFault) → i < count → read s rest ≡ Ok (one, left)
+    → with_front front (read (times (count - i) s) rest) ≡ total → with_front (front ++ one ∷ []) (read (times (count - (i + 1)) s) left) ≡ total
+goes_on s front count i rest left one total lt h so_far =
     let k : count - i ≡ suc (count - (i + 1)) = omega arith in
-    sym (regroup front one (read (instructions (count - (i + 1))) left))
-    ∙ ap (with_front front) (sym (first_of_them (count - (i + 1)) rest left one h))
-    ∙ ap (λ (n : ℕ). with_front front (read (instructions n) rest)) (sym k)
+    sym (regroup front one (read (times (count - (i + 1)) s) left))
+    ∙ ap (with_front front) (sym (first_of_them s (count - (i + 1)) rest left one h))
+    ∙ ap (λ (n : ℕ). with_front front (read (times n s) rest)) (sym k)
     ∙ so_far
 
-pub stops : (front : List Instr) (count i : ℕ) (rest : Rest) (found : FileFault) (total : Result (List Instr × Rest) FileFault) → i < count → read an_instruction rest ≡ Err found
-    → with_front front (read (instructions (count - i)) rest) ≡ total → total ≡ Err found
-stops front count i rest found total lt h so_far =
+pub stops : {A : Type 0} (s : Format A) (front : List A) (count i : ℕ) (rest : Rest) (found : FileFault) (total : Result (List A × Rest) FileFault) → i < count → read s rest ≡ Err found
+    → with_front front (read (times (count - i) s) rest) ≡ total → total ≡ Err found
+stops s front count i rest found total lt h so_far =
     let k : count - i ≡ suc (count - (i + 1)) = omega arith in
     sym so_far
-    ∙ ap (λ (n : ℕ). with_front front (read (instructions n) rest)) k
-    ∙ ap (with_front front) (none_of_them (count - (i + 1)) rest found h)
+    ∙ ap (λ (n : ℕ). with_front front (read (times n s) rest)) k
+    ∙ ap (with_front front) (none_of_them s (count - (i + 1)) rest found h)
 
-pub ends : (front : List Instr) (count i : ℕ) (rest : Rest) (total : Result (List Instr × Rest) FileFault) → count ≤ i → with_front front (read (instructions (count - i)) rest) ≡ total → total ≡ Ok (front, rest)
-unfolding instructions
-ends front count i rest total le so_far =
+pub ends : {A : Type 0} (s : Format A) (front : List A) (count i : ℕ) (rest : Rest) (total : Result (List A × Rest) FileFault) → count ≤ i → with_front front (read (times (count - i) s) rest) ≡ total → total ≡ Ok (front, rest)
+unfolding times
+ends {A} s front count i rest total le so_far =
     let k : count - i ≡ 0 = omega arith in
     sym so_far
-    ∙ ap (λ (n : ℕ). with_front front (read (instructions n) rest)) k
-    ∙ ap (λ (is : List Instr). Ok (is, rest)) (append-nil front)
+    ∙ ap (λ (n : ℕ). with_front front (read (times n s) rest)) k
+    ∙ ap (λ (xs : List A). Ok (xs, rest)) (append-nil front)
 
--- ---- the whole file
+-- bytes behind what was made
+pub more_behind : {A : Type 0} (x : A) (left : Rest) → 0 < length left.bytes → whole (Ok (x, left)) ≡ Err (fault.BytesAfterEnd left.at)
+more_behind x left more =
+    let some : eqb (length left.bytes) 0 ≡ false = ne_eqb _ _ (λ e. omega (arith, e)) in
+    rw some refl
 
-abbrev program_of : List Instr → Program
-program_of instrs = record { instrs = instrs }
-
-abbrev made : List Instr → Format Program
-made instrs = Done (program_of instrs)
-
--- a fault before the instructions is that of the file
-pub file_begins_with_fault : (bytes : List ℕ) (found : FileFault) → read a_header (from_start bytes) ≡ Err found → file_of bytes ≡ Err found
-unfolding file_of a_file
-file_begins_with_fault bytes found h =
-    ap (λ (r : Result (Program × Rest) FileFault). whole r)
-    (read_then a_header (λ n. instructions n >>= made) (from_start bytes)
-    ∙ ap (λ (r : Result (ℕ × Rest) FileFault). and_then r (λ n. instructions n >>= made)) h)
-
-after_header : (bytes : List ℕ) (count : ℕ) (left : Rest) → read a_header (from_start bytes) ≡ Ok (count, left) → file_of bytes ≡ whole (and_then (read (instructions count) left) made)
-unfolding file_of a_file
-after_header bytes count left h =
-    ap (λ (r : Result (Program × Rest) FileFault). whole r)
-    (read_then a_header (λ n. instructions n >>= made) (from_start bytes)
-    ∙ ap (λ (r : Result (ℕ × Rest) FileFault). and_then r (λ n. instructions n >>= made)) h
-    ∙ read_then (instructions count) made left)
-
--- a fault among the instructions is that of the file
-pub file_stops : (bytes : List ℕ) (count : ℕ) (left : Rest) (found : FileFault) → read a_header (from_start bytes) ≡ Ok (count, left) → read (instructions count) left ≡ Err found → file_of bytes ≡ Err found
-file_stops bytes count left found h e =
-    after_header bytes count left h ∙ ap (λ (r : Result (List Instr × Rest) FileFault). whole (and_then r made)) e
-
-file_ends : (bytes : List ℕ) (count : ℕ) (left : Rest) (instrs : List Instr) (end : Rest) → read a_header (from_start bytes) ≡ Ok (count, left) → read (instructions count) left ≡ Ok (instrs, end) → file_of bytes ≡ whole (Ok (program_of instrs, end))
-file_ends bytes count left instrs end h e =
-    after_header bytes count left h ∙ ap (λ (r : Result (List Instr × Rest) FileFault). whole (and_then r made)) e
-
--- bytes behind the last instruction
-pub file_goes_on : (bytes : List ℕ) (count : ℕ) (left : Rest) (instrs : List Instr) (end : Rest) → read a_header (from_start bytes) ≡ Ok (count, left) → read (instructions count) left ≡ Ok (instrs, end) → 0 < length end.bytes
-    → file_of bytes ≡ Err (fault.BytesAfterEnd end.at)
-file_goes_on bytes count left instrs end h e more =
-    let some : eqb (length end.bytes) 0 ≡ false = ne_eqb _ _ (λ e. omega (arith, e)) in
-    file_ends bytes count left instrs end h e ∙ rw some refl
-
--- no bytes behind the last instruction
-pub file_is_whole : (bytes : List ℕ) (count : ℕ) (left : Rest) (instrs : List Instr) (end : Rest) → read a_header (from_start bytes) ≡ Ok (count, left) → read (instructions count) left ≡ Ok (instrs, end) → length end.bytes ≡ 0
-    → file_of bytes ≡ Ok (program_of instrs)
-file_is_whole bytes count left instrs end h e none =
-    let empty : eqb (length end.bytes) 0 ≡ true = eq-eqb _ _ none in
-    file_ends bytes count left instrs end h e ∙ rw empty refl
+-- nothing behind what was made
+pub none_behind : {A : Type 0} (x : A) (left : Rest) → length left.bytes ≡ 0 → whole (Ok (x, left)) ≡ Ok x
+none_behind x left none =
+    let empty : eqb (length left.bytes) 0 ≡ true = eq-eqb _ _ none in
+    rw empty refl

@@ -1,10 +1,12 @@
 -- The fields of a code file: how many bytes each kind has, and what may stand in them. The format is this project's
 -- own choice.
-use Rattle.std.specs.Prelude.{ℕ, ◌<◌, ◌==◌, Bool, true, List, [], ◌∷◌, slice_index, nat_le, Option, is_some, find}
+use Rattle.std.specs.Prelude.{ℕ, ◌<◌, ◌==◌, ◌&&◌, Bool, true, false, List, [], ◌∷◌, slice_index, nat_le, Option, is_some, find}
 use Rattle.byteorder.specs.Endian.{big_number}
+use Rattle.prefix_patterns.specs.declared.set.TheConstants.{MAX_PATTERNS}
+use Rattle.prefix_patterns.specs.Bits.{prefix_bits, address_of}
 use Rattle.filter_code.specs.declared.instruction.Instr.{Instr}
 use Rattle.filter_code.specs.declared.instruction.Instr.TheVariants as instr
-use Rattle.filter_code.specs.declared.limits.TheConstants.{INSTRUCTION_LIMIT}
+use Rattle.filter_code.specs.declared.limits.TheConstants.{LOCAL_LIMIT, SET_LIMIT, INSTRUCTION_LIMIT}
 use Rattle.filter_code.specs.Instruction.{opcode}
 use Rattle.code_file.specs.declared.fault.FileFault.{FileFault}
 use Rattle.code_file.specs.declared.fault.FileFault.TheVariants as fault
@@ -13,24 +15,38 @@ use Rattle.code_file.specs.declared.fault.FileFault.TheVariants as fault
 abbrev pub IsBytes : List ℕ → Type 0
 IsBytes bytes = (i : ℕ) → slice_index bytes i < 256
 
--- what a field is for: the byte of the mark at a place; the numbers of locals, of sets and of instructions; the
--- opcode of an instruction; an int that is its operand
+-- what a field is for: the byte of the mark at a place; the numbers of locals, of sets, of the patterns of a set and
+-- of instructions; a pattern; the opcode of an instruction; its operand, of one of six kinds
 pub data FieldKind : Type 0 where
   Mark : (place : ℕ) → FieldKind
   Locals : FieldKind
   Sets : FieldKind
+  Patterns : FieldKind
+  Pattern : FieldKind
   Instructions : FieldKind
   Opcode : FieldKind
-  IntOperand : FieldKind
+  WordOperand : FieldKind
+  TruthOperand : FieldKind
+  PrefixOperand : FieldKind
+  NameOperand : FieldKind
+  BitsOperand : FieldKind
+  DistanceOperand : FieldKind
 
 -- how many bytes a field has
 abbrev pub width : FieldKind → ℕ
 width (Mark place) = 1
 width Locals = 1
 width Sets = 1
+width Patterns = 2
+width Pattern = 7
 width Instructions = 2
 width Opcode = 1
-width IntOperand = 4
+width WordOperand = 4
+width TruthOperand = 1
+width PrefixOperand = 5
+width NameOperand = 1
+width BitsOperand = 1
+width DistanceOperand = 2
 
 -- the number in the bytes of a field, the highest byte first
 abbrev pub number : FieldKind → List ℕ → ℕ
@@ -40,28 +56,56 @@ number kind bytes = big_number (width kind) bytes
 abbrev pub mark_bytes : List ℕ
 mark_bytes = 0x4E ∷ 0x43 ∷ 0x46 ∷ 0x31 ∷ []
 
--- each instruction once, with 0 for an operand
+-- each instruction once, with 0, false or no bits for an operand
 abbrev pub forms : List Instr
-forms = instr.Int 0 ∷ instr.Metric ∷ instr.Received ∷ instr.SetMetric ∷ instr.Add ∷ instr.Max ∷ instr.Accept ∷ instr.Reject ∷ []
+forms =
+    instr.Int 0 ∷ instr.Bool false ∷ instr.Ip (record { 0 = 0 }) ∷ instr.Prefix [] ∷ instr.Load 0 ∷ instr.Store 0 ∷ instr.Net ∷ instr.Metric
+    ∷ instr.Received ∷ instr.SetMetric ∷ instr.Add ∷ instr.Sub ∷ instr.Mul ∷ instr.Div ∷ instr.Max ∷ instr.Eq ∷ instr.Lt ∷ instr.Le ∷ instr.Not
+    ∷ instr.Addr ∷ instr.Len ∷ instr.Mask 0 ∷ instr.Within ∷ instr.Member 0 ∷ instr.Jump 0 ∷ instr.JumpIfNot 0 ∷ instr.Accept ∷ instr.Reject ∷ []
 
 -- the instruction that a byte stands for, its operand left open
-abbrev pub form_of : ℕ → Option Instr
+unfoldable pub form_of : ℕ → Option Instr
 form_of byte = find (λ form. opcode form == byte) forms
+
+-- an address of four bytes and a length in one have no bit set past the length
+abbrev pub is_prefix : List ℕ → Bool
+is_prefix bytes =
+    let address = big_number 4 bytes in
+    let len = slice_index bytes 4 in
+    nat_le len 32 && (address_of (prefix_bits address len) == address)
+
+-- behind a prefix, the least and the greatest length are in order and at most 32
+abbrev pub is_pattern : List ℕ → Bool
+is_pattern bytes = is_prefix bytes && (nat_le (slice_index bytes 5) (slice_index bytes 6) && nat_le (slice_index bytes 6) 32)
 
 -- whether these bytes may stand in a field
 abbrev pub is_good : FieldKind → List ℕ → Bool
 is_good (Mark place) bytes = number (Mark place) bytes == slice_index mark_bytes place
-is_good Locals bytes = nat_le (number Locals bytes) 0
-is_good Sets bytes = nat_le (number Sets bytes) 0
+is_good Locals bytes = nat_le (number Locals bytes) LOCAL_LIMIT
+is_good Sets bytes = nat_le (number Sets bytes) SET_LIMIT
+is_good Patterns bytes = nat_le (number Patterns bytes) MAX_PATTERNS
+is_good Pattern bytes = is_pattern bytes
 is_good Instructions bytes = nat_le (number Instructions bytes) INSTRUCTION_LIMIT
 is_good Opcode bytes = is_some (form_of (number Opcode bytes))
-is_good IntOperand bytes = true
+is_good WordOperand bytes = true
+is_good TruthOperand bytes = nat_le (number TruthOperand bytes) 1
+is_good PrefixOperand bytes = is_prefix bytes
+is_good NameOperand bytes = true
+is_good BitsOperand bytes = nat_le (number BitsOperand bytes) 32
+is_good DistanceOperand bytes = true
 
 -- the fault of a whole field with other bytes, by the place of its first byte
 abbrev pub fault_of : FieldKind → ℕ → FileFault
 fault_of (Mark place) at = fault.OtherMark at
 fault_of Locals at = fault.OverLimit at
 fault_of Sets at = fault.OverLimit at
+fault_of Patterns at = fault.OverLimit at
+fault_of Pattern at = fault.BadOperand at
 fault_of Instructions at = fault.OverLimit at
 fault_of Opcode at = fault.UnknownOpcode at
-fault_of IntOperand at = fault.BadOperand at
+fault_of WordOperand at = fault.BadOperand at
+fault_of TruthOperand at = fault.BadOperand at
+fault_of PrefixOperand at = fault.BadOperand at
+fault_of NameOperand at = fault.BadOperand at
+fault_of BitsOperand at = fault.BadOperand at
+fault_of DistanceOperand at = fault.BadOperand at

@@ -1,12 +1,15 @@
 -- Reading a file from left to right, field by field, up to the first fault.
-use Rattle.std.specs.Prelude.{ℕ, zero, suc, ◌+◌, ◌==◌, List, [], ◌∷◌, length, take, drop, unwrap_or, Result, Ok, Err, nat_lt, if◌then◌else◌, ◌≡◌, ◌⊎◌}
+use Rattle.std.specs.Prelude.{◌≡◌, ◌⊎◌, ℕ, zero, suc, ◌+◌, ◌==◌, Bool, List, [], ◌∷◌, length, take, drop, slice_index, unwrap_or, Result, Ok, Err, nat_lt, if◌then◌else◌}
+use Rattle.byteorder.specs.Endian.{big_number}
+use Rattle.prefix_patterns.specs.Bits.{prefix_bits}
+use Rattle.prefix_patterns.specs.Matching.{PrefixPattern}
 use Rattle.filter_code.specs.declared.instruction.Instr.{Instr}
 use Rattle.filter_code.specs.declared.instruction.Instr.TheVariants as instr
 use Rattle.filter_code.specs.Program.{Program}
 use Rattle.code_file.specs.declared.fault.FileFault.{FileFault}
 use Rattle.code_file.specs.declared.fault.FileFault.TheVariants as fault
 use Rattle.code_file.specs.Fields.{FieldKind, width, number, is_good, fault_of, form_of}
-use Rattle.code_file.specs.Fields.FieldKind.{Mark, Locals, Sets, Instructions, Opcode, IntOperand}
+use Rattle.code_file.specs.Fields.FieldKind.{Mark, Locals, Sets, Patterns, Pattern, Instructions, Opcode, WordOperand, TruthOperand, PrefixOperand, NameOperand, BitsOperand, DistanceOperand}
 
 -- which fields are to be read, each of which may depend on the bytes of those before, and what they make
 pub data Format (A : Type 0) : Type 0 where
@@ -19,54 +22,101 @@ abbrev pub ◌>>=◌ : {A B : Type 0} → Format A → (A → Format B) → Form
 (Done made) >>= later = later made
 (Next kind others) >>= later = Next kind (λ bytes. others bytes >>= later)
 
+-- one format so many times, with what they made in order
+unfoldable pub times : {A : Type 0} → ℕ → Format A → Format (List A)
+times zero format = Done []
+times (suc n) format = do
+  first ← format
+  others ← times n format
+  Done (first ∷ others)
+
 -- a field that holds a number
 abbrev pub a_number : FieldKind → Format ℕ
 a_number kind = Next kind (λ bytes. Done (number kind bytes))
 
+-- the prefix of an address of four bytes and a length behind it
+abbrev pub prefix_of : List ℕ → List Bool
+prefix_of bytes = prefix_bits (big_number 4 bytes) (slice_index bytes 4)
+
+-- the pattern of a prefix, and its least and its greatest length
+abbrev pub pattern_of : List ℕ → PrefixPattern
+pattern_of bytes = record { bits = prefix_of bytes; low = slice_index bytes 5; high = slice_index bytes 6 }
+
+-- a pattern
+abbrev pub a_pattern : Format PrefixPattern
+a_pattern = Next Pattern (λ bytes. Done (pattern_of bytes))
+
+-- how many there are, and these
+abbrev pub a_count_of : {A : Type 0} → FieldKind → Format A → Format (List A)
+a_count_of kind format = do
+  n ← a_number kind
+  times n format
+
+-- a set
+abbrev pub a_set : Format (List PrefixPattern)
+a_set = a_count_of Patterns a_pattern
+
 -- the operand of an instruction of this form
 abbrev pub an_operand : Instr → Format Instr
 an_operand (instr.Int any) = do
-  n ← a_number IntOperand
+  n ← a_number WordOperand
   Done (instr.Int n)
-an_operand instr.Metric = Done instr.Metric
-an_operand instr.Received = Done instr.Received
-an_operand instr.SetMetric = Done instr.SetMetric
-an_operand instr.Add = Done instr.Add
-an_operand instr.Max = Done instr.Max
-an_operand instr.Accept = Done instr.Accept
-an_operand instr.Reject = Done instr.Reject
+an_operand (instr.Bool any) = do
+  n ← a_number TruthOperand
+  Done (instr.Bool (n == 1))
+an_operand (instr.Ip any) = do
+  n ← a_number WordOperand
+  Done (instr.Ip (record { 0 = n }))
+an_operand (instr.Prefix any) = Next PrefixOperand (λ bytes. Done (instr.Prefix (prefix_of bytes)))
+an_operand (instr.Load any) = do
+  i ← a_number NameOperand
+  Done (instr.Load i)
+an_operand (instr.Store any) = do
+  i ← a_number NameOperand
+  Done (instr.Store i)
+an_operand (instr.Mask any) = do
+  n ← a_number BitsOperand
+  Done (instr.Mask n)
+an_operand (instr.Member any) = do
+  i ← a_number NameOperand
+  Done (instr.Member i)
+an_operand (instr.Jump any) = do
+  k ← a_number DistanceOperand
+  Done (instr.Jump k)
+an_operand (instr.JumpIfNot any) = do
+  k ← a_number DistanceOperand
+  Done (instr.JumpIfNot k)
+an_operand form = Done form
 
--- an opcode and its operand (an opcode that has no form is bad, and nothing is read behind it)
+-- an opcode: it makes the instruction that it stands for, its operand left open (a byte that stands for none is bad,
+-- and nothing is read behind it)
+abbrev pub a_form : Format Instr
+a_form = do
+  byte ← a_number Opcode
+  Done (unwrap_or (form_of byte) instr.Reject)
+
+-- an opcode and its operand
 abbrev pub an_instruction : Format Instr
 an_instruction = do
-  byte ← a_number Opcode
-  an_operand (unwrap_or (form_of byte) instr.Reject)
+  form ← a_form
+  an_operand form
 
--- so many instructions
-unfoldable pub instructions : ℕ → Format (List Instr)
-instructions zero = Done []
-instructions (suc n) = do
-  first ← an_instruction
-  others ← instructions n
-  Done (first ∷ others)
-
--- all that stands before the instructions: it makes their number
-unfoldable pub a_header : Format ℕ
+-- the mark, and the number of locals
+abbrev pub a_header : Format ℕ
 a_header = do
   n ← a_number (Mark 0)
   c ← a_number (Mark 1)
   f ← a_number (Mark 2)
   one ← a_number (Mark 3)
-  locals ← a_number Locals
-  sets ← a_number Sets
-  a_number Instructions
+  a_number Locals
 
 -- a whole file
 unfoldable pub a_file : Format Program
 a_file = do
-  count ← a_header
-  instrs ← instructions count
-  Done (record { instrs = instrs })
+  locals ← a_header
+  sets ← a_count_of Sets a_set
+  instrs ← a_count_of Instructions an_instruction
+  Done (record { locals = locals; sets = sets; instrs = instrs })
 
 -- the bytes that are left of a file, and how many stood before them
 pub record Rest : Type 0 where

@@ -1,14 +1,17 @@
 -- The spelling of each code, field by field. The format is this project's own choice.
-use Rattle.std.specs.Prelude.{ℕ, ◌<◌, ◌≤◌, ◌^◌, List, [], ◌∷◌, ◌++◌, length, slice_index}
+use Rattle.std.specs.Prelude.{ℕ, ◌<◌, ◌≤◌, ◌^◌, if◌then◌else◌, Bool, List, [], ◌∷◌, ◌++◌, length, slice_index}
 use Rattle.std.specs.List.{flat_map, AllByRecursion}
 use Rattle.byteorder.specs.Endian.{big_bytes}
+use Rattle.prefix_patterns.specs.declared.set.TheConstants.{MAX_PATTERNS}
+use Rattle.prefix_patterns.specs.Bits.{address_of}
+use Rattle.prefix_patterns.specs.Matching.{PrefixPattern, HasOrderedLengths}
 use Rattle.filter_code.specs.declared.instruction.Instr.{Instr}
 use Rattle.filter_code.specs.declared.instruction.Instr.TheVariants as instr
-use Rattle.filter_code.specs.declared.limits.TheConstants.{INSTRUCTION_LIMIT}
+use Rattle.filter_code.specs.declared.limits.TheConstants.{LOCAL_LIMIT, SET_LIMIT, INSTRUCTION_LIMIT}
 use Rattle.filter_code.specs.Instruction.{opcode}
 use Rattle.filter_code.specs.Program.{Program}
 use Rattle.code_file.specs.Fields.{FieldKind, width, mark_bytes}
-use Rattle.code_file.specs.Fields.FieldKind.{Mark, Locals, Sets, Instructions, Opcode, IntOperand}
+use Rattle.code_file.specs.Fields.FieldKind.{Mark, Locals, Sets, Patterns, Pattern, Instructions, Opcode, WordOperand, TruthOperand, PrefixOperand, NameOperand, BitsOperand, DistanceOperand}
 
 -- a field with its bytes
 pub record Field : Type 0 where
@@ -28,43 +31,77 @@ bytes_of (f ∷ fs) = f.bytes ++ bytes_of fs
 abbrev pub mark_byte : ℕ → Field
 mark_byte place = field (Mark place) (slice_index mark_bytes place)
 
+-- a prefix: its first address in four bytes, and its length
+abbrev pub prefix_bytes : List Bool → List ℕ
+prefix_bytes bits = big_bytes 4 (address_of bits) ++ length bits ∷ []
+
+-- a pattern is one field: its prefix, and the least and the greatest length
+abbrev pub pattern : PrefixPattern → Field
+pattern p = record { kind = Pattern; bytes = prefix_bytes p.bits ++ p.low ∷ p.high ∷ [] }
+
+-- how many there are, and the fields of each, in order
+abbrev pub counted : {A : Type 0} → FieldKind → (A → List Field) → List A → List Field
+counted kind fields_of xs = field kind (length xs) ∷ flat_map fields_of xs
+
+-- a set: its patterns, counted
+abbrev pub set : List PrefixPattern → List Field
+set patterns = counted Patterns (λ p. pattern p ∷ []) patterns
+
 -- the operand of an instruction, where it has one
 abbrev pub operand : Instr → List Field
-operand (instr.Int n) = field IntOperand n ∷ []
-operand instr.Metric = []
-operand instr.Received = []
-operand instr.SetMetric = []
-operand instr.Add = []
-operand instr.Max = []
-operand instr.Accept = []
-operand instr.Reject = []
+operand (instr.Int n) = field WordOperand n ∷ []
+operand (instr.Bool b) = field TruthOperand (if b then 1 else 0) ∷ []
+operand (instr.Ip a) = field WordOperand a.0 ∷ []
+operand (instr.Prefix bits) = record { kind = PrefixOperand; bytes = prefix_bytes bits } ∷ []
+operand (instr.Load i) = field NameOperand i ∷ []
+operand (instr.Store i) = field NameOperand i ∷ []
+operand (instr.Mask n) = field BitsOperand n ∷ []
+operand (instr.Member i) = field NameOperand i ∷ []
+operand (instr.Jump k) = field DistanceOperand k ∷ []
+operand (instr.JumpIfNot k) = field DistanceOperand k ∷ []
+operand _ = []
 
 -- an instruction: its opcode, and behind it the operand
 abbrev pub instruction : Instr → List Field
 instruction i = field Opcode (opcode i) ∷ operand i
 
--- a whole file: the mark, no locals and no sets, how many instructions there are, and these in order
+-- a whole file: the mark, the number of locals, the sets counted, and the instructions counted
 abbrev pub fields : Program → List Field
 fields code =
-    mark_byte 0 ∷ mark_byte 1 ∷ mark_byte 2 ∷ mark_byte 3 ∷ field Locals 0 ∷ field Sets 0
-    ∷ field Instructions (length code.instrs) ∷ flat_map instruction code.instrs
+    mark_byte 0 ∷ mark_byte 1 ∷ mark_byte 2 ∷ mark_byte 3 ∷ field Locals code.locals
+    ∷ counted Sets set code.sets ++ counted Instructions instruction code.instrs
 
 -- the bytes of the file of a code
 abbrev pub spelling : Program → List ℕ
 spelling code = bytes_of (fields code)
 
+-- bits of an address, and lengths in order
+pub record IsPattern (p : PrefixPattern) : Type 0 where
+  pub prefix : length p.bits ≤ 32
+  pub lengths : HasOrderedLengths p.low p.high
+
+-- a set within the limit
+pub record IsSet (patterns : List PrefixPattern) : Type 0 where
+  pub within_limit : length patterns ≤ MAX_PATTERNS
+  pub each : AllByRecursion IsPattern patterns
+
 -- an instruction whose operand fits its field
 abbrev pub IsInstruction : Instr → Type 0
 IsInstruction (instr.Int n) = n < 2 ^ 32
-IsInstruction instr.Metric = Unit {0}
-IsInstruction instr.Received = Unit {0}
-IsInstruction instr.SetMetric = Unit {0}
-IsInstruction instr.Add = Unit {0}
-IsInstruction instr.Max = Unit {0}
-IsInstruction instr.Accept = Unit {0}
-IsInstruction instr.Reject = Unit {0}
+IsInstruction (instr.Ip a) = a.0 < 2 ^ 32
+IsInstruction (instr.Prefix bits) = length bits ≤ 32
+IsInstruction (instr.Load i) = i < 256
+IsInstruction (instr.Store i) = i < 256
+IsInstruction (instr.Mask n) = n ≤ 32
+IsInstruction (instr.Member i) = i < 256
+IsInstruction (instr.Jump k) = k < 2 ^ 16
+IsInstruction (instr.JumpIfNot k) = k < 2 ^ 16
+IsInstruction _ = Unit {0}
 
 -- a code that has a file
 pub record IsProgram (code : Program) : Type 0 where
-  pub within_limit : length code.instrs ≤ INSTRUCTION_LIMIT
-  pub each : AllByRecursion IsInstruction code.instrs
+  pub locals : code.locals ≤ LOCAL_LIMIT
+  pub sets : length code.sets ≤ SET_LIMIT
+  pub each_set : AllByRecursion IsSet code.sets
+  pub instrs : length code.instrs ≤ INSTRUCTION_LIMIT
+  pub each_instr : AllByRecursion IsInstruction code.instrs

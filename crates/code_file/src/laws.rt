@@ -1,8 +1,9 @@
 //! What holds of every file and of all bytes.
 
-ghost use Rattle.std.specs.Prelude.{◌≡◌, ◌++◌, ◌↔◌, ℕ, List, Ok, Err};
+ghost use Rattle.std.specs.Prelude.{◌≡◌, ◌∷◌, ◌++◌, ◌↔◌, ℕ, List, length, Ok, Err};
 ghost use Rattle.filter_code.specs.Program.{Program};
 ghost use Rattle.code_file.specs.declared.fault.FileFault.{FileFault as Fault};
+ghost use Rattle.code_file.specs.declared.fault.FileFault.TheVariants.{BytesAfterEnd};
 ghost use Rattle.code_file.specs.Fields.{IsBytes};
 ghost use Rattle.code_file.specs.Spelling.{spelling, IsProgram};
 ghost use Rattle.code_file.specs.Fault.{IsFault};
@@ -23,4 +24,10 @@ pub fn one_file()
 pub fn reading_is_exact()
     ensures code { (bytes : List ℕ) (code : Program) → IsBytes bytes → (file_of bytes ≡ Ok code) ↔ (IsProgram code × (bytes ≡ spelling code)) }
     ensures fault { (bytes : List ℕ) (found : Fault) → IsBytes bytes → (file_of bytes ≡ Err found) ↔ IsFault bytes found }
+{}
+
+/// The file of a code is read as that code, and what follows it is a fault at its first byte.
+pub fn written_is_read()
+    ensures again { (code : Program) → IsProgram code → file_of (spelling code) ≡ Ok code }
+    ensures more { (code : Program) (next : ℕ) (others : List ℕ) → IsProgram code → file_of (spelling code ++ next ∷ others) ≡ Err (BytesAfterEnd (length (spelling code))) }
 {}

@@ -1,4 +1,4 @@
-//! The file of a filter's code: a mark, numbers, and the instructions, each of them a field of its own.
+//! The file of a filter's code: a mark, numbers, patterns and instructions, each of them a field of its own.
 //!
 //! Reading takes it field by field from the left, and answers the code or the first fault.
 #![tactic(auto)]
@@ -7,10 +7,12 @@ mod fault;
 mod laws;
 mod reader;
 mod reading;
+mod writing;
 
 pub use fault::FileFault;
-pub use laws::{one_fault, one_file, reading_is_exact};
+pub use laws::{one_fault, one_file, reading_is_exact, written_is_read};
 pub use reading::read_code;
+pub use writing::write_code;
 
 #[cfg(test)]
 mod tests;

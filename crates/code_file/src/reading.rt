@@ -1,20 +1,61 @@
 //! Reading a whole file.
 
-ghost use Rattle.std.specs.Prelude.{◌≡◌, ◌⊎◌, length, Ok, Err, IfOk, IfErr, MatchResult};
-ghost use Rattle.filter_code.specs.Program.{Program};
+ghost use Rattle.std.specs.Prelude.{◌≡◌, ◌≤◌, ◌⊎◌, length, All, Ok, Err, IfOk, IfErr, MatchResult};
+ghost use Rattle.filter_code.specs.Program.{Program, HasMask};
+ghost use Rattle.code_file.specs.Fields.FieldKind.{Sets, Instructions};
 ghost use Rattle.code_file.specs.Spelling.{spelling, IsProgram};
 ghost use Rattle.code_file.specs.Fault.{IsFault};
-ghost use Rattle.code_file.specs.Reading.{instructions, file_of, ReadsInto};
+ghost use Rattle.code_file.specs.Reading.{a_pattern, a_set, an_instruction, a_count_of, times, file_of, ReadsInto};
 
 use crate::fault::FileFault;
 use crate::reader::Reader;
-use filter_code::{Code, Instr};
+use filter_code::{Code, INSTRUCTION_LIMIT, Instr, SET_LIMIT};
+use prefix_patterns::{MAX_PATTERNS, Pattern, PatternSet};
 use std::alloc::Global;
+
+/// So many patterns.
+fn patterns(alloc: Global, reader: &mut Reader<'_>, count: u16) -> Result<Vec<Pattern>, FileFault>
+    ensures value { ReadsInto (λ v. v.items) (times count a_pattern) reader.old reader.new result }
+    ensures count { IfOk result (λ v. length v.items ≡ count) }
+{
+    let mut patterns = Vec::with_capacity(alloc, (count as usize).min(reader.left()))?;
+    for _ in 0..count {
+        let pattern = reader.pattern()?;
+        patterns.push(pattern)?;
+    }
+    Ok(patterns)
+}
+
+/// The next set.
+fn set(alloc: Global, reader: &mut Reader<'_>) -> Result<PatternSet, FileFault>
+    ensures { ReadsInto (λ set. set) a_set reader.old reader.new result }
+{
+    let count = reader.pattern_count()?;
+    let patterns = patterns(alloc, reader, count)?;
+    match PatternSet::build(alloc, &patterns) {
+        Ok(set) => Ok(set),
+        Err(_) => Err(FileFault::OutOfMemory),
+    }
+}
+
+/// So many sets.
+fn sets(alloc: Global, reader: &mut Reader<'_>, count: u8) -> Result<Vec<PatternSet>, FileFault>
+    ensures value { ReadsInto (λ v. v.items) (times count a_set) reader.old reader.new result }
+    ensures count { IfOk result (λ v. length v.items ≡ count) }
+{
+    let mut sets = Vec::with_capacity(alloc, (count as usize).min(reader.left()))?;
+    for _ in 0..count {
+        let set = set(alloc, reader)?;
+        sets.push(set)?;
+    }
+    Ok(sets)
+}
 
 /// So many instructions.
 fn instructions(alloc: Global, reader: &mut Reader<'_>, count: u16) -> Result<Vec<Instr>, FileFault>
-    ensures value { ReadsInto (λ v. v.items) (instructions count) reader.old reader.new result }
+    ensures value { ReadsInto (λ v. v.items) (times count an_instruction) reader.old reader.new result }
     ensures count { IfOk result (λ v. length v.items ≡ count) }
+    ensures masks { IfOk result (λ v. All HasMask v.items) }
 {
     let mut instrs = Vec::with_capacity(alloc, (count as usize).min(reader.left()))?;
     for _ in 0..count {
@@ -29,12 +70,32 @@ fn code_of(alloc: Global, bytes: &[u8]) -> Result<Code, FileFault>
     ensures { MatchResult result (λ code. file_of bytes.now ≡ Ok code) (λ fault. (fault ≡ FileFault.OutOfMemory) ⊎ (file_of bytes.now ≡ Err fault)) }
 {
     let mut reader = Reader::new(bytes);
-    let count = reader.header()?;
-    let instrs = instructions(alloc, &mut reader, count)?;
+    let locals = reader.header()?;
+    let sets = counted_sets(alloc, &mut reader)?;
+    let instrs = counted_instructions(alloc, &mut reader)?;
     if reader.left() > 0 {
         return Err(FileFault::BytesAfterEnd(reader.at()));
     }
-    Ok(Code::new(instrs).unwrap())
+    Ok(Code::new(locals, sets, instrs).unwrap())
+}
+
+/// The number of sets, and these.
+fn counted_sets(alloc: Global, reader: &mut Reader<'_>) -> Result<Vec<PatternSet>, FileFault>
+    ensures value { ReadsInto (λ v. v.items) (a_count_of Sets a_set) reader.old reader.new result }
+    ensures limit { IfOk result (λ v. length v.items ≤ SET_LIMIT) }
+{
+    let count = reader.set_count()?;
+    sets(alloc, reader, count)
+}
+
+/// The number of instructions, and these.
+fn counted_instructions(alloc: Global, reader: &mut Reader<'_>) -> Result<Vec<Instr>, FileFault>
+    ensures value { ReadsInto (λ v. v.items) (a_count_of Instructions an_instruction) reader.old reader.new result }
+    ensures limit { IfOk result (λ v. length v.items ≤ INSTRUCTION_LIMIT) }
+    ensures masks { IfOk result (λ v. All HasMask v.items) }
+{
+    let count = reader.instruction_count()?;
+    instructions(alloc, reader, count)
 }
 
 /// The code whose file the bytes are, all of them.

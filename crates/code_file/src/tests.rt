@@ -1,5 +1,6 @@
 use crate::*;
-use filter_code::Instr;
+use filter_code::{Code, Instr};
+use prefix_patterns::{Ip, Pattern, PatternSet, Prefix};
 use std::alloc::Global;
 use std::test::Fail;
 
@@ -18,23 +19,70 @@ fn the_smallest_file(rt: HostRuntime) -> Result<(), Fail> {
     Ok(())
 }
 
-#[test]
-fn each_instruction(rt: HostRuntime) -> Result<(), Fail> {
-    let code = read_code(
-        rt.alloc(),
-        b"NCF1\0\0\0\x08\x13\x01\0\0\x01\x02\x20\x14\x24\x15\x70\x71",
-    )?;
-    let wanted = [
-        Instr::Metric,
+/// Ten locals, a set and each instruction.
+const EVERYTHING: [u8; 67] =
+    *b"NCF1\x0a\x01\0\x01\x0a\0\0\0\x08\x08\x10\0\x1c\x01\0\0\x01\x02\x02\x01\x03\x0a\0\0\x01\x04\x0a\x01\0\0\x10\x10\x09\x11\x09\x12\x13\x14\x15\x20\x21\x22\x23\x24\x30\x31\x32\x33\x40\x41\x42\x18\x50\x51\0\x60\x01\0\x61\0\x02\x70\x71";
+
+/// Each instruction once.
+fn instructions() -> Option<[Instr; 28]> {
+    Some([
         Instr::Int(258),
-        Instr::Add,
+        Instr::Bool(true),
+        Instr::Ip(Ip(0x0a00_0001)),
+        Instr::Prefix(Prefix::new(Ip(0x0a01_0000), 16)?),
+        Instr::Load(9),
+        Instr::Store(9),
+        Instr::Net,
+        Instr::Metric,
         Instr::Received,
-        Instr::Max,
         Instr::SetMetric,
+        Instr::Add,
+        Instr::Sub,
+        Instr::Mul,
+        Instr::Div,
+        Instr::Max,
+        Instr::Eq,
+        Instr::Lt,
+        Instr::Le,
+        Instr::Not,
+        Instr::Addr,
+        Instr::Len,
+        Instr::Mask(24),
+        Instr::Within,
+        Instr::Member(0),
+        Instr::Jump(256),
+        Instr::JumpIfNot(2),
         Instr::Accept,
         Instr::Reject,
-    ];
-    assert_eq!(rt; code.instrs(), wanted.as_slice());
+    ])
+}
+
+#[test]
+fn everything_is_read(rt: HostRuntime) -> Result<(), Fail> {
+    let code = read_code(rt.alloc(), &EVERYTHING)?;
+    let instrs = instructions().ok_or("a prefix of 16 bits")?;
+    let prefix = Prefix::new(Ip(0x0a00_0000), 8).ok_or("a prefix of 8 bits")?;
+    let pattern = Pattern::new(prefix, 8, 16).ok_or("lengths in order")?;
+    assert_eq!(rt; code.locals(), 10);
+    assert_eq!(rt; code.sets().len(), 1);
+    for set in code.sets() {
+        assert_eq!(rt; set.patterns(), [pattern].as_slice());
+    }
+    assert_eq!(rt; code.instrs(), instrs.as_slice());
+    Ok(())
+}
+
+#[test]
+fn everything_is_written(rt: HostRuntime) -> Result<(), Fail> {
+    let alloc = rt.alloc();
+    let instrs = instructions().ok_or("a prefix of 16 bits")?;
+    let prefix = Prefix::new(Ip(0x0a00_0000), 8).ok_or("a prefix of 8 bits")?;
+    let pattern = Pattern::new(prefix, 8, 16).ok_or("lengths in order")?;
+    let mut sets = Vec::new(alloc);
+    sets.push(PatternSet::build(alloc, &[pattern])?)?;
+    let code = Code::new(10, sets, instrs.to_vec(alloc)?).ok_or("a code within the limits")?;
+    let bytes = write_code(alloc, &code)?;
+    assert_eq!(rt; bytes.as_slice(), EVERYTHING.as_slice());
     Ok(())
 }
 
@@ -89,15 +137,57 @@ fn another_opcode(rt: HostRuntime) {
 }
 
 #[test]
+fn an_operand_out_of_range(rt: HostRuntime) {
+    let alloc = rt.alloc();
+    assert_eq!(rt;
+        fault_of(alloc, b"NCF1\0\0\0\x03\x03\x01\x02\x03\x04\x42\x21\x70"),
+        Some(FileFault::BadOperand(14))
+    );
+    assert_eq!(rt;
+        fault_of(alloc, b"NCF1\0\0\0\x02\x04\x01\x02\x03\x04\x10\x70"),
+        Some(FileFault::BadOperand(9))
+    );
+    assert_eq!(rt;
+        fault_of(alloc, b"NCF1\0\0\0\x02\x04\x01\x02\0\0\x21\x70"),
+        Some(FileFault::BadOperand(9))
+    );
+    assert_eq!(rt;
+        fault_of(alloc, b"NCF1\0\0\0\x02\x02\x02\x70"),
+        Some(FileFault::BadOperand(9))
+    );
+}
+
+#[test]
+fn a_pattern_out_of_range(rt: HostRuntime) {
+    let alloc = rt.alloc();
+    assert_eq!(rt;
+        fault_of(alloc, b"NCF1\0\x01\0\x01\x01\0\0\0\x08\x11\x0f\0\0"),
+        Some(FileFault::BadOperand(8))
+    );
+    assert_eq!(rt;
+        fault_of(alloc, b"NCF1\0\x01\0\x01\x01\0\0\0\x08\x08\x21\0\0"),
+        Some(FileFault::BadOperand(8))
+    );
+    assert_eq!(rt;
+        fault_of(alloc, b"NCF1\0\x01\0\x01\x01\x01\0\0\x08\x11"),
+        Some(FileFault::EndsEarly(14))
+    );
+}
+
+#[test]
 fn a_number_over_its_limit(rt: HostRuntime) {
     let alloc = rt.alloc();
     assert_eq!(rt;
-        fault_of(alloc, b"NCF1\x10\0"),
+        fault_of(alloc, b"NCF1\x11\0\0\0"),
         Some(FileFault::OverLimit(4))
     );
     assert_eq!(rt;
-        fault_of(alloc, b"NCF1\0\x01\0\0"),
+        fault_of(alloc, b"NCF1\x10\x41"),
         Some(FileFault::OverLimit(5))
+    );
+    assert_eq!(rt;
+        fault_of(alloc, b"NCF1\x10\x40\x04\x01"),
+        Some(FileFault::OverLimit(6))
     );
     assert_eq!(rt;
         fault_of(alloc, b"NCF1\0\0\x04\x01"),
