@@ -13,7 +13,7 @@ pub enum Reply {
     Answered,
     /// The line was refused.
     Refused,
-    /// The line was refused, and nothing behind it is read.
+    /// The line was refused. No line behind it is answered, and no further block is read.
     Ended,
 }
 
