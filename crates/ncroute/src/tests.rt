@@ -128,10 +128,72 @@ fn answers_routes(rt: HostRuntime) -> Result<(), Fail> {
 }
 
 #[test]
+fn answers_routes_under_all_instructions(rt: HostRuntime) -> Result<(), Fail> {
+    let divided = "4e43463100000008010000000813230100000002306100017071";
+    let in_set = "4e4346310001000101000000080f1100051251006100017071";
+    let not_too_far = concat!(
+        "4e4346310100001601000000001100020161000313110060000601000000011100010000000114241513",
+        "010000000a3233610002716000017071"
+    );
+    let rows = [
+        ("4e434631000000031361000070", "10.0.0.0/8 3 8", "fault K2 1"),
+        ("4e43463100000002100070", "10.0.0.0/8 3 8", "fault K7 0"),
+        ("4e43463101000002100070", "10.0.0.0/8 3 8", "fault K2 0"),
+        ("4e434631000000022370", "10.0.0.0/8 3 8", "fault K1 0"),
+        ("4e4346310000000260000170", "10.0.0.0/8 3 8", "fault K4 2"),
+        (divided, "10.0.0.0/8 4 8", "accept 4"),
+        (divided, "10.0.0.0/8 3 8", "accept 3"),
+        (divided, "10.0.0.0/8 0 8", "fault K3 2"),
+        (in_set, "1.2.0.0/16 3 8", "accept 3"),
+        (in_set, "1.0.0.0/8 3 8", "reject"),
+        (not_too_far, "10.0.0.0/8 11 16", "reject"),
+        (not_too_far, "10.0.0.0/8 10 16", "accept 10"),
+    ];
+    for (code, route, want) in rows {
+        expect_verdict(&rt, rt.alloc(), code, route, want)?;
+    }
+    Ok(())
+}
+
+#[test]
+fn refuses_bad_operands(rt: HostRuntime) -> Result<(), Fail> {
+    let rows: [(&[u8], &[u8]); 6] = [
+        (b"4e434631000000030301020304422170", b"refused C4 14\n"),
+        (b"4e4346310000000204010203041070", b"refused C4 9\n"),
+        (b"4e434631000100010100000008110f0000", b"refused C4 8\n"),
+        (b"4e434631000100010100000008000f", b"refused C2 15\n"),
+        (b"4e4346310001040101", b"refused C5 6\n"),
+        (b"4e43463100000002020270", b"refused C4 9\n"),
+    ];
+    for (input, want) in rows {
+        expect_answers(&rt, rt.alloc(), input, want, 1)?;
+    }
+    Ok(())
+}
+
+#[test]
+fn answers_a_full_stack(rt: HostRuntime) -> Result<(), Fail> {
+    let mut code = String::from_str(rt.alloc(), "4e43463100000022")?;
+    for _ in 0..33 {
+        code.push_str("13")?;
+    }
+    code.push_str("70")?;
+    expect_verdict(
+        &rt,
+        rt.alloc(),
+        code.as_str(),
+        "10.0.0.0/8 3 8",
+        "fault K5 32",
+    )?;
+    Ok(())
+}
+
+#[test]
 fn judges_words_from_the_left(rt: HostRuntime) -> Result<(), Fail> {
     let rows = [
         ("10.0.0.0/8 3 8 9", "refused O1 2"),
-        ("", "refused O1 2"),
+        // A line of blanks is not empty.
+        (" \t ", "refused O1 2"),
         ("10.0.0/8 9 1", "refused O8 2"),
         ("10.0.0.0/8 x 1", "refused O2 2"),
         ("10.0.0.0/8 3 65", "refused O2 2"),
@@ -143,8 +205,6 @@ fn judges_words_from_the_left(rt: HostRuntime) -> Result<(), Fail> {
         ("0.0.0.0/0 0 2", "accept 0"),
     ];
     for (route, want) in rows {
-        // An empty route line is skipped; a line of blanks is not.
-        let route = if route.is_empty() { " \t " } else { route };
         expect_verdict(&rt, rt.alloc(), ACCEPT, route, want)?;
     }
     Ok(())
@@ -160,8 +220,8 @@ fn refuses_bad_code_lines(rt: HostRuntime) -> Result<(), Fail> {
         (b"4e43\n", b"refused C2 2\n"),
         (b"4e4346320000000170\n", b"refused C1 3\n"),
         (b"4e4346310000000172\n", b"refused C3 8\n"),
-        (b"4e4346310100000170\n", b"refused C5 4\n"),
-        (b"4e4346310001000170\n", b"refused C5 5\n"),
+        (b"4e4346311100000170\n", b"refused C5 4\n"),
+        (b"4e4346310041000170\n", b"refused C5 5\n"),
         (b"4e434631000004010170\n", b"refused C5 6\n"),
         (b" \t \n", b"refused C2 0\n"),
         (b"4e4\n10.0.0.0/8 3 8\n", b"refused O3 1\n"),
