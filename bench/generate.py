@@ -1,11 +1,19 @@
 #!/usr/bin/env python3
 """Writes an input of `ncroute eval`: a code file in hexadecimal, then route lines `NET METRIC SIZE`.
 
-usage: generate.py CODE [ROUTES [SEED]]
+usage: generate.py INPUT [ROUTES [SEED]]
 
-CODE is the file line, ROUTES the number of route lines (200,000), SEED the seed of the generator (1). The same words
-give the same bytes on every machine: the numbers come from a small generator of this file. One route line in 500 is
-one that `eval` refuses, and before every thousandth there is a comment line, which is no route line.
+INPUT is one of
+
+    accept_alone       ACCEPT
+    add_two_and_clip   a filter that adds 2 to the metric
+    set_of_1024        a set of 1,024 patterns; it matches about half of the routes
+    straight_filter    about 1,000 instructions of arithmetic, local variables, comparisons and branches forward
+
+or a code file in hexadecimal. ROUTES is the number of route lines (100,000 for `straight_filter`, 200,000 otherwise),
+SEED the seed of the generator (1). The same words give the same bytes on every machine: the numbers come from a small
+generator of this file. One route line in 500 is one that `eval` refuses, and before every thousandth there is a comment
+line, which is no route line.
 """
 import sys
 
@@ -13,6 +21,8 @@ ROUTES = 200_000
 SEED = 1
 COMMENT_EVERY = 1_000
 REFUSED_ONE_IN = 500
+PATTERNS = 1_024
+LEAST_INSTRUCTIONS = 990
 
 
 class Numbers:
@@ -29,46 +39,227 @@ class Numbers:
         mixed = ((mixed ^ (mixed >> 27)) * 0x94D049BB133111EB) % 2**64
         return (mixed ^ (mixed >> 31)) % bound
 
+    def within(self, least, most):
+        """A number from least to most."""
+        return least + self.below(most - least + 1)
 
-def address(numbers):
-    word = numbers.below(2**32)
+    def one_of(self, choices):
+        return choices[self.below(len(choices))]
+
+
+# Code files. An instruction is its bytes, code a list of instructions.
+
+
+def plain(opcode):
+    return bytes([opcode])
+
+
+def with_byte(opcode, operand):
+    return bytes([opcode, operand])
+
+
+def number(value):
+    return b"\x01" + value.to_bytes(4, "big")
+
+
+def address_of(value):
+    return b"\x03" + value.to_bytes(4, "big")
+
+
+def prefix(value, length):
+    return b"\x04" + cut(value, length).to_bytes(4, "big") + bytes([length])
+
+
+def jump(opcode, distance):
+    return bytes([opcode]) + distance.to_bytes(2, "big")
+
+
+def cut(word, length):
+    """An address with the bits past the length cleared."""
+    return word >> 32 - length << 32 - length
+
+
+TRUE, FALSE = b"\x02\x01", b"\x02\x00"
+NET, METRIC, RECEIVED, SETMETRIC = map(plain, (0x12, 0x13, 0x14, 0x15))
+ADD, SUB, MUL, DIV, MAX = map(plain, (0x20, 0x21, 0x22, 0x23, 0x24))
+EQ, LT, LE, NOT = map(plain, (0x30, 0x31, 0x32, 0x33))
+ADDR, LEN, WITHIN, ACCEPT, REJECT = map(plain, (0x40, 0x41, 0x50, 0x70, 0x71))
+LOAD, STORE, MASK, MEMBER, JUMP, JUMPIFNOT = 0x10, 0x11, 0x42, 0x51, 0x60, 0x61
+
+
+def file_of(local_variables, sets, code):
+    """The code file in hexadecimal. A set is a list of patterns (address, length, low, high)."""
+    written = b"NCF1" + bytes([local_variables, len(sets)])
+    for patterns in sets:
+        written += len(patterns).to_bytes(2, "big")
+        written += b"".join(word.to_bytes(4, "big") + bytes(lengths) for word, *lengths in patterns)
+    return (written + len(code).to_bytes(2, "big") + b"".join(code)).hex()
+
+
+def pattern(numbers):
+    """A pattern of length 8 to 28: itself alone, or with longer ones, or with shorter ones, or with some longer ones."""
+    length = numbers.within(8, 28)
+    bounds = ((length, length), (length, 32), (0, length), (length, numbers.within(length, 32)))
+    return cut(numbers.below(2**32), length), length, *numbers.one_of(bounds)
+
+
+def set_of_1024(patterns):
+    """`if net ~ the set then accept; reject`"""
+    return file_of(0, [patterns], [NET, with_byte(MEMBER, 0), jump(JUMPIFNOT, 1), ACCEPT, REJECT])
+
+
+CODES = {
+    "accept_alone": file_of(0, [], [ACCEPT]),
+    "add_two_and_clip": file_of(0, [], [METRIC, number(2), ADD, RECEIVED, MAX, SETMETRIC, ACCEPT, REJECT]),
+}
+
+
+# The local variables of the straight filter: eight ints, two bools, an address and a prefix, each always of that kind.
+INTS, BOOLS, ADDRESS, PREFIX = range(8), (8, 9), 10, 11
+LOCALS = 12
+
+
+def load(local):
+    return with_byte(LOAD, local)
+
+
+def store(local):
+    return with_byte(STORE, local)
+
+
+def int_term(numbers):
+    return numbers.one_of(
+        (
+            [load(numbers.one_of(INTS))],
+            [load(numbers.one_of(INTS))],
+            [number(numbers.below(2 ** numbers.within(1, 32)))],
+            [METRIC],
+            [RECEIVED],
+            [NET, LEN],
+        )
+    )
+
+
+def int_sum(numbers):
+    """Two terms and a sign. A divisor is a number from 1 up, so that no run has a fault."""
+    if numbers.below(5) == 0:
+        return int_term(numbers) + [number(numbers.within(1, 64)), DIV]
+    return int_term(numbers) + int_term(numbers) + [numbers.one_of((ADD, SUB, MUL, MAX))]
+
+
+def condition(numbers):
+    net = numbers.below(2**32), numbers.within(0, 4)
+    return numbers.one_of(
+        (
+            int_term(numbers) + int_sum(numbers) + [numbers.one_of((LT, LE, EQ))],
+            int_term(numbers) + int_term(numbers) + [numbers.one_of((LT, LE))],
+            [load(numbers.one_of(BOOLS)), NOT],
+            [NET, ADDR, with_byte(MASK, numbers.within(1, 8)), address_of(net[0]), numbers.one_of((LT, LE))],
+            [load(ADDRESS), prefix(*net), WITHIN],
+            [NET, load(PREFIX), WITHIN],
+        )
+    )
+
+
+def assignment(numbers):
+    if numbers.below(8) == 0:
+        return condition(numbers) + [store(numbers.one_of(BOOLS))]
+    return int_sum(numbers) + [store(numbers.one_of(INTS))]
+
+
+def branch(numbers):
+    """`if condition then assignment; else assignment;`, or without the `else`"""
+    test, first, second = condition(numbers), assignment(numbers), assignment(numbers)
+    if numbers.below(2) == 0:
+        return test + [jump(JUMPIFNOT, len(first))] + first
+    return test + [jump(JUMPIFNOT, len(first) + 1)] + first + [jump(JUMP, len(second))] + second
+
+
+def straight_filter(numbers):
+    """Straight code: local variables are set, then assignments and branches; the metric takes a part of all ints."""
+    code = [NET, ADDR, store(ADDRESS), prefix(numbers.below(2**32), 1), store(PREFIX)]
+    for local in INTS:
+        code += [number(numbers.below(2**32)), store(local)]
+    for local in BOOLS:
+        code += [numbers.one_of((TRUE, FALSE)), store(local)]
+    ending = [load(INTS[0])]
+    for local in INTS[1:]:
+        ending += [load(local), ADD]
+    # the highest six bits, as a metric
+    ending += [number(2**26), DIV, RECEIVED, MAX, SETMETRIC, ACCEPT]
+    while len(code) + len(ending) < LEAST_INSTRUCTIONS:
+        code += numbers.one_of((assignment, assignment, branch))(numbers)
+    return file_of(LOCALS, [], code + ending)
+
+
+# Lines.
+
+
+def written_address(word):
     return f"{word >> 24}.{word >> 16 & 255}.{word >> 8 & 255}.{word & 255}"
 
 
-def route(numbers):
-    """A route line that is answered: any prefix, a size of 2 to 64, a metric of 0 to the size."""
+def any_net(numbers):
+    return f"{written_address(numbers.below(2**32))}/{numbers.below(33)}"
+
+
+def net_near(patterns):
+    """Nets of which about half match the patterns: two in five are made to, and of the others some do by chance."""
+
+    def net(numbers):
+        word = numbers.below(2**32)
+        if numbers.below(5) >= 2:
+            return f"{written_address(word)}/{numbers.within(8, 32)}"
+        near, length, low, high = numbers.one_of(patterns)
+        return f"{written_address(near | word & 2 ** (32 - length) - 1)}/{numbers.within(low, high)}"
+
+    return net
+
+
+def route(numbers, net):
+    """A route line that is answered: a size of 2 to 64, a metric of 0 to the size."""
     size = 2 + numbers.below(63)
-    return f"{address(numbers)}/{numbers.below(33)} {numbers.below(size + 1)} {size}"
+    return f"{net(numbers)} {numbers.below(size + 1)} {size}"
 
 
 def refused(numbers):
     """A line that is refused: a length of 33, a metric over the size, a word too few, a metric that is no number."""
     size = 2 + numbers.below(63)
-    net = f"{address(numbers)}/{numbers.below(33)}"
+    net = any_net(numbers)
     return (
-        f"{address(numbers)}/33 0 {size}",
+        f"{written_address(numbers.below(2**32))}/33 0 {size}",
         f"{net} {size + 1} {size}",
         f"{net} {size}",
         f"{net} -1 {size}",
     )[numbers.below(4)]
 
 
-def lines(code, routes, seed):
-    numbers = Numbers(seed)
+def lines(numbers, code, net, routes):
     yield code
     for index in range(routes):
         if index % COMMENT_EVERY == 0:
             yield f"# route {index} and those after it"
         is_refused = numbers.below(REFUSED_ONE_IN) == 0
-        yield refused(numbers) if is_refused else route(numbers)
+        yield refused(numbers) if is_refused else route(numbers, net)
+
+
+def parts(name, numbers):
+    """The code file of an input, its nets, and how many routes it has where that is left out."""
+    if name == "set_of_1024":
+        patterns = [pattern(numbers) for _ in range(PATTERNS)]
+        return set_of_1024(patterns), net_near(patterns), ROUTES
+    if name == "straight_filter":
+        return straight_filter(numbers), any_net, ROUTES // 2
+    return CODES.get(name, name), any_net, ROUTES
 
 
 def main(words):
     if not 1 <= len(words) <= 3:
         sys.exit(__doc__)
-    routes = int(words[1]) if len(words) > 1 else ROUTES
-    seed = int(words[2]) if len(words) > 2 else SEED
-    sys.stdout.writelines(f"{line}\n" for line in lines(words[0], routes, seed))
+    numbers = Numbers(int(words[2]) if len(words) > 2 else SEED)
+    code, net, routes = parts(words[0], numbers)
+    routes = int(words[1]) if len(words) > 1 else routes
+    sys.stdout.writelines(f"{line}\n" for line in lines(numbers, code, net, routes))
 
 
 if __name__ == "__main__":

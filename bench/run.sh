@@ -4,7 +4,7 @@
 # usage: bench/run.sh
 #   NCROUTE=PATH   a proved program that is built already: then none is built here
 #   ROUNDS=N       how often each program is run on each input (7)
-#   ROUTES=N       the number of route lines of an input (200,000)
+#   ROUTES=N       the number of route lines of each input (200,000, of straight_filter 100,000)
 set -eu
 bench="$(cd "$(dirname "$0")" && pwd)"
 folder="$(mktemp -d)"
@@ -21,13 +21,10 @@ if [ -z "${NCROUTE:-}" ]; then
 fi
 rustc --edition 2021 -O -o "$folder/plain" "$bench/baseline/main.rs"
 
-# Writes an input: its name, and the code file that its routes pass.
 inputs=()
-input() {
-    "$bench/generate.py" "$2" "${ROUTES:-200000}" >"$folder/$1"
-    inputs+=("$folder/$1")
-}
-input accept_alone 4e4346310000000170
-input add_two_and_clip 4e43463100000008130100000002201424157071
+for name in accept_alone add_two_and_clip set_of_1024 straight_filter; do
+    "$bench/generate.py" "$name" ${ROUTES:+"$ROUTES"} >"$folder/$name"
+    inputs+=("$folder/$name")
+done
 
 "$bench/compare.py" "$NCROUTE" "$folder/plain" "${ROUNDS:-7}" "${inputs[@]}"

@@ -6,6 +6,7 @@
 mod code;
 mod lines;
 mod machine;
+mod patterns;
 mod route;
 
 use std::io;
@@ -13,13 +14,13 @@ use std::process::ExitCode;
 
 use code::{decode_hexadecimal, read_code, Code};
 use lines::{answer_lines, push_decimal, push_refusal, trim_blanks, words, Reply, Service, LINE_LIMIT};
-use machine::{run, Outcome, Stack};
+use machine::{run, Memory, Outcome};
 use route::{read_prefix, read_route};
 
 /// Answers route lines with the code of the file line, once that was read.
 struct Eval {
     code: Option<Code>,
-    stack: Stack,
+    memory: Memory,
 }
 
 /// The code of the file line, or the code and the place of its refusal.
@@ -76,7 +77,7 @@ impl Service for Eval {
         };
         match read_route(line) {
             Some(route) if line.len() <= LINE_LIMIT => {
-                push_outcome(out, run(&mut self.stack, code, &route));
+                push_outcome(out, run(&mut self.memory, code, &route));
                 Reply::Answered
             }
             _ => {
@@ -100,7 +101,7 @@ fn main() -> ExitCode {
         eprintln!("usage: baseline eval");
         return ExitCode::from(2);
     }
-    let mut eval = Eval { code: None, stack: Stack::new() };
+    let mut eval = Eval { code: None, memory: Memory::new() };
     match answer_lines(&mut io::stdin().lock(), &mut io::stdout().lock(), &mut eval) {
         Ok(0) => ExitCode::SUCCESS,
         Ok(_) => ExitCode::FAILURE,

@@ -1,5 +1,10 @@
 //! Numbers, prefixes and routes, read from the words of a line.
 
+/// The mask of the first `length` bits of an address (0 to 32).
+pub fn mask_of(length: u8) -> u32 {
+    u32::MAX.checked_shl(32 - u32::from(length)).unwrap_or(0)
+}
+
 /// An address with the bits past the length cleared, and the length (0 to 32).
 #[derive(Clone, Copy, Debug, PartialEq, Eq)]
 pub struct Prefix {
@@ -8,9 +13,17 @@ pub struct Prefix {
 }
 
 impl Prefix {
-    pub fn new(address: u32, length: u32) -> Option<Prefix> {
-        let mask = u32::MAX.checked_shl(32_u32.checked_sub(length)?).unwrap_or(0);
-        Some(Prefix { address: address & mask, length: length as u8 })
+    pub fn new(address: u32, length: u8) -> Option<Prefix> {
+        (length <= 32).then(|| Prefix { address: address & mask_of(length), length })
+    }
+
+    pub fn contains(self, address: u32) -> bool {
+        (self.address ^ address) & mask_of(self.length) == 0
+    }
+
+    /// Whether this prefix lies within the other one, or equals it.
+    pub fn is_within(self, other: Prefix) -> bool {
+        other.length <= self.length && other.contains(self.address)
     }
 }
 
@@ -18,7 +31,6 @@ impl Prefix {
 /// metric of what cannot be reached.
 #[derive(Clone, Copy, Debug)]
 pub struct Route {
-    #[allow(dead_code)] // no instruction of today reads it
     pub net: Prefix,
     pub metric: u32,
     pub size: u32,
@@ -63,7 +75,7 @@ fn leading_prefix(text: &[u8]) -> Option<(Prefix, &[u8])> {
         rest = more;
     }
     let (length, rest) = leading_number(after(b'/', rest)?)?;
-    Some((Prefix::new(address, length)?, rest))
+    Some((Prefix::new(address, u8::try_from(length).ok()?)?, rest))
 }
 
 fn after_blanks(text: &[u8]) -> &[u8] {
