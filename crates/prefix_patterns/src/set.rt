@@ -73,7 +73,7 @@ impl PatternSet {
 
     /// The patterns, in the order given.
     pub fn patterns(&self) -> &[Pattern]
-        ensures items { result.now ≡ self.now }
+        ensures value { result.now ≡ self.now }
         ensures limit { length result.now ≤ set_limit }
     {
         self.patterns.as_slice()
