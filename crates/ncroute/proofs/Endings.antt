@@ -3,8 +3,8 @@ use Rattle.std.proofs.Common.{◌≡◌, ℕ, ◌≤◌, List, [], ◌∷◌, �
 use Rattle.std.proofs.lemmas.List.{append-nil}
 use Rattle.std.specs.Io.KnownBytes.{Appends, Consumes}
 use Rattle.filter_code.specs.Program.{Program}
-use Rattle.line_protocol.specs.Answers.{Answer, is_over, refusal, refusals, text_of}
-use Rattle.line_protocol.specs.Lines.{numbered, whole_lines}
+use Rattle.line_protocol.specs.Answers.{Answer, is_over, refusals, text_of}
+use Rattle.line_protocol.specs.Lines.{numbered}
 use Rattle.line_protocol.specs.Runs.{Finishes, IsWritten, Reaches, Runs, Stops}
 use Rattle.line_protocol.specs.declared.TheConstants.{INPUT_LIMIT}
 use Rattle.line_protocol.specs.declared.faults.StreamFault.{StreamFault}

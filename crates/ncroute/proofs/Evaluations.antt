@@ -1,11 +1,10 @@
 -- What the answers of the evaluator to all lines, or to the first of them, make.
-use Rattle.std.proofs.Common.{◌≡◌, ℕ, ◌+◌, zero, suc, List, [], ◌∷◌, ◌++◌, length, map, Option, Some, None, Result, Ok, Err, Bool, true, false, refl, sym, ap, subst, ◌∙◌, arith, MatchBool}
+use Rattle.std.proofs.Common.{◌≡◌, ℕ, List, [], ◌∷◌, ◌++◌, map, Option, Some, None, Result, Ok, Err, Bool, true, false, refl, sym, ap, subst, ◌∙◌, arith, MatchBool}
 use Rattle.filter_code.specs.Announcement.{Announcement}
 use Rattle.filter_code.specs.Program.{Program}
 use Rattle.line_protocol.specs.Answers.{Answer, is_end, is_over, refusals, text_of}
 use Rattle.line_protocol.specs.Runs.{Runs, RunsFront}
-use Rattle.line_protocol.specs.declared.answers.Reply.TheVariants as reply
-use Rattle.ncroute.specs.Eval.{Line, all_answers, answer_of, answers_after, code_answer, code_in, line_answers, no_code, route_answer}
+use Rattle.ncroute.specs.Eval.{Line, all_answers, answer_of, answers_after, code_answer, code_in, line_answers, route_answer}
 use Rattle.ncroute.specs.Evaluation.{AnswersLine, TakesCode}
 use Rattle.ncroute.specs.RouteLine.{route_in}
 use Rattle.ncroute.specs.declared.code_line_fault.CodeLineFault.{CodeLineFault}

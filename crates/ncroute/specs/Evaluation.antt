@@ -1,5 +1,5 @@
 -- How a run of `eval` goes and ends (this project's own choice).
-use Rattle.std.specs.Prelude.{◌≡◌, ◌≤◌, ◌+◌, ℕ, false, List, [], ◌∷◌, ◌++◌, length, take, Option, Some, None, Result, Ok, Err, ⊤}
+use Rattle.std.specs.Prelude.{◌≡◌, ◌≤◌, ◌+◌, ℕ, false, List, [], ◌++◌, length, take, Option, Some, None, Result, Ok, Err, ⊤}
 use Rattle.std.specs.Io.KnownBytes.{Appends, Consumes}
 use Rattle.filter_code.specs.Program.{Program}
 use Rattle.line_protocol.specs.Answers.{Answer, is_over, text_of}
@@ -9,7 +9,7 @@ use Rattle.line_protocol.specs.declared.TheConstants.{INPUT_LIMIT}
 use Rattle.line_protocol.specs.declared.answers.Reply.TheVariants as reply
 use Rattle.line_protocol.specs.declared.faults.StreamFault.{StreamFault}
 use Rattle.line_protocol.specs.declared.faults.StreamFault.TheVariants.{Read, Write, Memory, TooLong}
-use Rattle.ncroute.specs.Eval.{Line, code_answer, code_in, eval_answers, eval_out, eval_refusals, line_answers, route_answer}
+use Rattle.ncroute.specs.Eval.{code_answer, code_in, eval_answers, eval_out, eval_refusals, line_answers, route_answer}
 use Rattle.ncroute.specs.declared.code_line_fault.CodeLineFault.{CodeLineFault}
 
 -- The line of the code gets no answer where it is good: it leaves the code behind. A refusal ends the run.

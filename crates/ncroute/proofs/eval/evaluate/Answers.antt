@@ -1,6 +1,6 @@
 -- Each exit follows from how the lines were answered.
-use Rattle.std.proofs.Common.{◌≡◌, ℕ, List, None, refl, sym, subst, ap, ◌∙◌, false, true}
-use Rattle.ncroute.specs.Evaluation.{Breaks, Evaluates}
+use Rattle.std.proofs.Common.{◌≡◌, ℕ, None, refl, sym, subst}
+use Rattle.ncroute.specs.Evaluation.{Evaluates}
 use Rattle.ncroute.proofs.Endings.{breaks_at_refusal, breaks_off, ends_empty, ends_well, if_answered, if_known, if_refused, no_code_is_none, silent_run, some_code_is_some}
 use Rattle.ncroute.proofs.eval.evaluate.Goals as goal
 use Rattle.ncroute.proofs.eval.evaluate.Goals.{else-refused-eq0-via-then-refused-eq0+else-is_none, else-refused-eq0-via-else-refused-eq0}
