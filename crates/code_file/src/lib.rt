@@ -13,6 +13,3 @@ pub use fault::FileFault;
 pub use laws::{one_fault, one_file, reading_is_exact, written_is_read};
 pub use reading::read_code;
 pub use writing::write_code;
-
-#[cfg(test)]
-mod tests;

@@ -15,7 +15,7 @@ use std::alloc::{AllocError, Global};
 use std::io::{Read, Write};
 
 // The least room that a read is given.
-const BLOCK: usize = 65_536;
+pub(crate) const BLOCK: usize = 65_536;
 
 // How far the answers have come.
 #[derive(Drop)]
@@ -249,7 +249,7 @@ fn read_into<R: Read>(
 }
 
 // Reads up to `most` bytes behind the first `begun` ones of the buffer, which grows for them.
-fn read_block<R: Read>(
+pub(crate) fn read_block<R: Read>(
     reader: &mut R,
     buffer: &mut Vec<u8>,
     begun: usize,

@@ -10,14 +10,14 @@
 mod answers;
 mod engine;
 mod faults;
+mod input;
 mod streams;
-#[cfg(test)]
-mod tests;
 mod words;
 
 pub use answers::{Reply, Service, push_decimal, push_refusal};
 pub use engine::answer_lines;
 pub use faults::StreamFault;
+pub use input::read_input;
 pub use streams::write_text;
 pub use words::{next_word, trim_blanks};
 

@@ -37,7 +37,7 @@ abbrev pub has_same_bits : List Bool → List Bool → Bool
 has_same_bits p q = pointwise beq (take (shared_length p q) p) (take (shared_length p q) q)
 
 abbrev pub matches : List Bool → PrefixPattern → Bool
-matches prefix pattern = nat_le pattern.low (length prefix) && (nat_le (length prefix) pattern.high && has_same_bits prefix pattern.bits)
+matches prefix pattern = has_same_bits prefix pattern.bits && (nat_le pattern.low (length prefix) && nat_le (length prefix) pattern.high)
 
 -- the greatest number of patterns in a set (this project's own choice)
 abbrev pub set_limit : ℕ

@@ -16,6 +16,3 @@ pub use pattern::Pattern;
 pub use prefix::Prefix;
 pub use set::{MAX_PATTERNS, PatternSet, SetFault};
 pub use token::{read_ip, read_prefix};
-
-#[cfg(test)]
-mod tests;

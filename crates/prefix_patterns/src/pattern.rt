@@ -1,4 +1,4 @@
-ghost use Rattle.std.specs.Prelude.{◌≡◌, ◌≤◌, IsTrue, ◌↔◌};
+ghost use Rattle.std.specs.Prelude.{◌≡◌, ◌≤◌, ◌&&◌, IsTrue, ◌↔◌, nat_le};
 ghost use Rattle.std.specs.Option.{SomeIff};
 ghost use Rattle.prefix_patterns.specs.Matching.{HasOrderedLengths, Matches, matches};
 
@@ -67,7 +67,13 @@ impl Pattern {
         ensures cases { IsTrue result ↔ Matches prefix.now self.now }
         ensures exact { result ≡ matches prefix.now self.now }
     {
-        let len = prefix.len();
-        self.low <= len && (len <= self.high && prefix.has_same_bits(&self.prefix))
+        prefix.has_same_bits(&self.prefix) && self.takes(prefix.len())
+    }
+
+    /// Whether prefixes of a length can match.
+    fn takes(&self, len: u8) -> bool
+        ensures { result ≡ (nat_le self.now.low len && nat_le len self.now.high) }
+    {
+        self.low <= len && len <= self.high
     }
 }

@@ -1,0 +1,36 @@
+// A whole input in memory, up to a limit.
+ghost use Rattle.std.specs.Prelude.{◌≡◌, ◌<◌, ◌≤◌, ◌+◌, ◌^◌, vec_len, IfOk, IfErr};
+ghost use Rattle.std.specs.Io.KnownBytes.{Consumes, IsAtEnd};
+ghost use Rattle.line_protocol.specs.Runs.{ConsumesSome};
+ghost use Rattle.line_protocol.specs.Steps.{IsReadFault};
+
+use crate::engine::{BLOCK, read_block};
+use crate::faults::StreamFault;
+use std::alloc::Global;
+use std::io::Read;
+
+/// Reads an input to its end, or one byte further than the limit and no more.
+pub fn read_input<R: Read>(
+    alloc: Global,
+    reader: &mut R,
+    limit: usize,
+) -> Result<Vec<u8>, StreamFault>
+    requires fits { limit < 2 ^ 32 }
+    ensures read { IfOk result (λ input. Consumes (R.remaining reader.old) (R.remaining reader.new) input.items) }
+    ensures whole { IfOk result (λ input. vec_len input ≤ limit → IsAtEnd (R.remaining reader.new)) }
+    ensures within { IfOk result (λ input. vec_len input ≤ limit + 1) }
+    ensures err { IfErr result (λ fault. IsReadFault fault
+        × ConsumesSome (R.remaining reader.old) (R.remaining reader.new)) }
+{
+    let mut input = Vec::new(alloc);
+    let mut count = 0;
+    while count <= limit {
+        let n = read_block(reader, &mut input, count, BLOCK.min(limit + 1 - count))?;
+        if n == 0 {
+            break;
+        }
+        count += n;
+    }
+    input.truncate(count);
+    Ok(input)
+}
