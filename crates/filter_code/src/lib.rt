@@ -9,8 +9,6 @@ mod machine;
 mod outcome;
 mod route;
 mod stack;
-#[cfg(test)]
-mod tests;
 mod value;
 
 pub use code::Code;
@@ -18,7 +16,8 @@ pub use instruction::Instr;
 pub use limits::{
     INSTRUCTION_LIMIT, LARGEST_SIZE, LOCAL_LIMIT, SET_LIMIT, SMALLEST_SIZE, STACK_LIMIT,
 };
-pub use machine::run_checked;
-pub use outcome::{FaultKind, Outcome};
+pub use machine::{run_checked, run_counted};
+pub use outcome::{Counted, FaultKind, Outcome};
 pub use route::Route;
+pub use stack::Stack;
 pub use value::{Kind, Value};

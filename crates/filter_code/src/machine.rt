@@ -14,7 +14,7 @@ ghost use Rattle.filter_code.specs.Values.{bits_of, is_same, kind_of, net_of, nu
 use crate::code::Code;
 use crate::instruction::Instr;
 use crate::locals::Locals;
-use crate::outcome::{FaultKind, Outcome};
+use crate::outcome::{Counted, FaultKind, Outcome};
 use crate::route::Route;
 use crate::stack::Stack;
 use crate::value::Value;
@@ -326,23 +326,43 @@ fn carry_out(
     Ok(1)
 }
 
-/// Takes a route through a code: the outcome of the run from its first instruction. It allocates nothing.
-pub fn run_checked(code: &Code, route: &Route) -> Outcome
-    ensures outcome { result ≡ outcome_of code.now route.now }
-    ensures accepted { (d : ℕ) → result ≡ Outcome.Accept d → (route.now.metric ≤ d) × (d ≤ route.now.size) }
+/// Takes a route through a code and counts the steps: how the run from its first instruction ends, and after just how
+/// many steps, of which the last is the one that ends it. It allocates nothing.
+pub fn run_counted(code: &Code, route: &Route) -> Counted
+    ensures outcome { result.outcome ≡ outcome_of code.now route.now }
+    ensures steps { EndsAfter code.now route.now result.steps result.outcome }
+    ensures accepted { (d : ℕ) → result.outcome ≡ Outcome.Accept d → (route.now.metric ≤ d) × (d ≤ route.now.size) }
 {
     let instrs = code.instrs();
     let mut stack = Stack::new();
     let mut locals = Locals::new(code.locals());
     let mut metric = route.metric();
     let mut pc = 0;
+    let mut steps = 0;
     while let Some(instr) = instrs.get(pc) {
+        steps += 1;
         match carry_out(*instr, code, route, &mut stack, &mut locals, &mut metric) {
             Ok(distance) => pc += distance,
-            Err(stop) => return stop.at(pc),
+            Err(stop) => {
+                return Counted {
+                    outcome: stop.at(pc),
+                    steps,
+                };
+            }
         }
     }
-    Outcome::Fault(FaultKind::OutsideCode, pc)
+    Counted {
+        outcome: Outcome::Fault(FaultKind::OutsideCode, pc),
+        steps: steps + 1,
+    }
+}
+
+/// Takes a route through a code: the outcome of the run from its first instruction. It allocates nothing.
+pub fn run_checked(code: &Code, route: &Route) -> Outcome
+    ensures outcome { result ≡ outcome_of code.now route.now }
+    ensures accepted { (d : ℕ) → result ≡ Outcome.Accept d → (route.now.metric ≤ d) × (d ≤ route.now.size) }
+{
+    run_counted(code, route).outcome
 }
 
 /// Each run of each code has one outcome, and is over after one step more than the code has instructions.

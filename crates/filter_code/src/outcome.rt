@@ -33,6 +33,15 @@ pub enum Outcome {
     Fault(FaultKind, usize),
 }
 
+/// How a run ends, and after how many steps.
+#[derive(Clone, Copy, Debug, PartialEq, Eq)]
+pub struct Counted {
+    /// How the run ends.
+    pub outcome: Outcome,
+    /// The number of its steps, the last one counted.
+    pub steps: u32,
+}
+
 impl FaultKind {
     /// The fault's code, `K1` to `K7`.
     pub fn code(self) -> &'static str

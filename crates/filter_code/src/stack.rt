@@ -68,4 +68,12 @@ impl<T: Copy + Default> Stack<T> {
         let a = self.values.pop().unwrap();
         Ok((a, b))
     }
+
+    /// How many values it holds.
+    pub fn len(&self) -> usize
+        ensures value { result ≡ length self.now }
+        ensures limit { result ≤ STACK_LIMIT }
+    {
+        self.values.len()
+    }
 }
