@@ -1,0 +1,209 @@
+-- Reading a text from the left: what the lexer's functions answer (this project's own choice).
+-- No promise to a caller cites it: those cite Cutting, and proofs join the two.
+use Rattle.std.specs.Prelude.{◌≡◌, ℕ, zero, suc, ◌+◌, ◌-◌, ◌*◌, ◌≤◌, ◌==◌, ◌&&◌, ◌||◌, nat_le, nat_lt, if◌then◌else◌, Bool, true, false, not, List, [], ◌∷◌, length, take, drop, map, find, Option, Some, None, Result, Ok, Err}
+use Rattle.std.specs.Char.{digit_value, is_ascii_digit, is_ascii_hexdigit}
+use Rattle.std.specs.List.{prefix_len, list_any}
+use Rattle.std.specs.Option.{option_map}
+use Rattle.std.specs.Str.{bytes_eq}
+use Rattle.prefix_patterns.specs.Reading.{◌>>=◌, number_in, address_in, prefix_in}
+use Rattle.prefix_patterns.specs.Token.{dot, slash}
+use Rattle.filter_tokens.specs.declared.mark.Mark.{Mark}
+use Rattle.filter_tokens.specs.declared.mark.Mark.TheVariants as mark
+use Rattle.filter_tokens.specs.declared.part.Part.{Part}
+use Rattle.filter_tokens.specs.declared.part.Part.TheVariants as part
+use Rattle.filter_tokens.specs.declared.shape.Shape.{Shape}
+use Rattle.filter_tokens.specs.declared.shape.Shape.TheVariants as shape
+use Rattle.filter_tokens.specs.declared.word.Word.{Word}
+use Rattle.filter_tokens.specs.declared.word.Word.TheVariants as word
+use Rattle.filter_tokens.specs.Cutting.{hash, star, is_blank, begins_with}
+use Rattle.filter_tokens.specs.Marks.{mark_text, left_out}
+use Rattle.filter_tokens.specs.Meaning.{greatest_number, longest_name}
+use Rattle.filter_tokens.specs.Runs.{is_quotable, is_of_line}
+use Rattle.filter_tokens.specs.Shapes.{quote, zero_digit, small_x, begins_word, goes_on_word}
+
+-- what a call that may refuse answers, whatever fault it names
+abbrev pub Gives : {A E : Type 0} → Result A E → Option A → Type 0
+Gives (Ok value) reading = reading ≡ Some value
+Gives (Err fault) reading = reading ≡ None
+
+-- what stands behind the bytes at the front that pass a test
+abbrev pub behind : (ℕ → Bool) → List ℕ → List ℕ
+behind passes text = drop (prefix_len passes text) text
+
+-- behind a byte that has to stand there
+abbrev pub after_byte : ℕ → List ℕ → Option (List ℕ)
+after_byte wanted [] = None
+after_byte wanted (byte ∷ bytes) = if byte == wanted then Some bytes else None
+
+-- behind one digit at least
+unfoldable pub after_digits : List ℕ → Option (List ℕ)
+after_digits text = if prefix_len is_ascii_digit text == 0 then None else Some (behind is_ascii_digit text)
+
+-- behind four groups of digits and the dots between them
+unfoldable pub after_address : List ℕ → Option (List ℕ)
+after_address text = do
+  rest ← after_digits text
+  rest ← after_byte dot rest
+  rest ← after_digits rest
+  rest ← after_byte dot rest
+  rest ← after_digits rest
+  rest ← after_byte dot rest
+  after_digits rest
+
+-- behind an address, a slash and digits
+unfoldable pub after_prefix : List ℕ → Option (List ℕ)
+after_prefix text = do
+  rest ← after_address text
+  rest ← after_byte slash rest
+  after_digits rest
+
+-- behind a `0x` and the hexadecimal digits that follow, if any do
+unfoldable pub after_hexadecimal : List ℕ → Option (List ℕ)
+after_hexadecimal text = do
+  rest ← after_byte zero_digit text
+  rest ← after_byte small_x rest
+  Some (behind is_ascii_hexdigit rest)
+
+-- behind a text in double quotes
+unfoldable pub after_quoted : List ℕ → Option (List ℕ)
+after_quoted text = do
+  rest ← after_byte quote text
+  after_byte quote (behind is_quotable rest)
+
+-- a text in double quotes at the front, and what stands behind it
+abbrev pub quoted_shape : List ℕ → Option (Shape × List ℕ)
+quoted_shape text = option_map (λ (rest : List ℕ). let found : Shape × List ℕ = (shape.Text, rest) in found) (after_quoted text)
+
+-- the first of two shapes that is there
+abbrev pub or_shape : Shape → Option (List ℕ) → Shape × List ℕ → Shape × List ℕ
+or_shape shape None other = other
+or_shape shape (Some rest) other = (shape, rest)
+
+-- the longest shape at the front of a text that begins with a digit
+unfoldable pub digits_shape : List ℕ → Shape × List ℕ
+digits_shape text =
+    or_shape shape.Prefix (after_prefix text)
+    (or_shape shape.Address (after_address text)
+    (or_shape shape.Hexadecimal (after_hexadecimal text)
+    (shape.Decimal, behind is_ascii_digit text)))
+
+-- the signs, longer ones first
+abbrev pub signs : List Mark
+signs =
+    mark.And ∷ mark.Or ∷ mark.NotEqual ∷ mark.NotMatch ∷ mark.LessEqual ∷ mark.GreaterEqual ∷ mark.LeftParen ∷
+    mark.RightParen ∷ mark.LeftBrace ∷ mark.RightBrace ∷ mark.LeftBracket ∷ mark.RightBracket ∷ mark.Semicolon ∷
+    mark.Comma ∷ mark.Dot ∷ mark.Equal ∷ mark.Less ∷ mark.Greater ∷ mark.Match ∷ mark.Not ∷ mark.Plus ∷ mark.Minus ∷
+    mark.Times ∷ mark.Divide ∷ []
+
+-- whether the text begins with a mark
+abbrev pub stands_before : List ℕ → Mark → Bool
+stands_before text mark = bytes_eq (mark_text mark) (take (length (mark_text mark)) text)
+
+-- the first of the signs that the text begins with
+unfoldable pub sign_in : List ℕ → Option Mark
+sign_in text = find (stands_before text) signs
+
+-- the longest sign at the front of a text
+unfoldable pub sign_shape : List ℕ → Option (Shape × List ℕ)
+sign_shape text = option_map (λ sign. (shape.Sign sign, drop (length (mark_text sign)) text)) (sign_in text)
+
+-- the longest shape at the front of a text
+unfoldable pub longest_shape : List ℕ → Option (Shape × List ℕ)
+longest_shape [] = None
+longest_shape (first ∷ others) =
+    if begins_word first then Some (shape.Word, behind goes_on_word others)
+    else (if is_ascii_digit first then Some (digits_shape (first ∷ others))
+    else (if first == quote then quoted_shape (first ∷ others)
+    else sign_shape (first ∷ others)))
+
+-- the keywords
+abbrev pub keywords : List Mark
+keywords =
+    mark.Filter ∷ mark.Int ∷ mark.Bool ∷ mark.Ip ∷ mark.Prefix ∷ mark.If ∷ mark.Then ∷ mark.Else ∷ mark.Accept ∷
+    mark.Reject ∷ mark.True ∷ mark.False ∷ mark.Defined ∷ mark.Net ∷ mark.RipMetric ∷ []
+
+-- whether a mark is written so
+abbrev pub is_written : List ℕ → Mark → Bool
+is_written bytes mark = bytes_eq (mark_text mark) bytes
+
+-- the keyword that is written so
+unfoldable pub keyword_in : List ℕ → Option Mark
+keyword_in bytes = find (is_written bytes) keywords
+
+-- whether the language leaves a word out
+unfoldable pub is_left_out : List ℕ → Bool
+is_left_out bytes = list_any (λ word. bytes_eq word bytes) left_out
+
+-- a name, unless it is too long or left out
+abbrev pub name_in : List ℕ → Option Word
+name_in bytes = if nat_le (length bytes) longest_name && not (is_left_out bytes) then Some word.Name else None
+
+-- a keyword where there is one, and otherwise what else there is
+abbrev pub keyword_or : Option Mark → Option Word → Option Word
+keyword_or None other = other
+keyword_or (Some mark) other = Some (word.Mark mark)
+
+-- a keyword or a name
+unfoldable pub word_in : List ℕ → Option Word
+word_in bytes = keyword_or (keyword_in bytes) (name_in bytes)
+
+-- one more hexadecimal digit behind a number
+abbrev pub with_digit : ℕ → ℕ → Option ℕ
+with_digit value byte =
+    if nat_lt (digit_value byte) 16 && nat_le (value * 16 + digit_value byte) greatest_number
+    then Some (value * 16 + digit_value byte) else None
+
+-- the number that hexadecimal digits write behind what was read before them
+unfoldable pub hexadecimal_from : ℕ → List ℕ → Option ℕ
+hexadecimal_from value [] = Some value
+hexadecimal_from value (byte ∷ bytes) = with_digit value byte >>= λ longer. hexadecimal_from longer bytes
+
+-- the number behind a `0x`
+unfoldable pub hexadecimal_in : List ℕ → Option ℕ
+hexadecimal_in bytes = if nat_lt (length bytes) 3 then None else hexadecimal_from 0 (drop 2 bytes)
+
+-- the word that bytes of a shape mean
+abbrev pub meaning_in : Shape → List ℕ → Option Word
+meaning_in shape.Word bytes = word_in bytes
+meaning_in shape.Decimal bytes = option_map word.Number (number_in greatest_number bytes)
+meaning_in shape.Hexadecimal bytes = option_map word.Number (hexadecimal_in bytes)
+meaning_in shape.Address bytes = option_map (λ address. word.Address (record { 0 = address })) (address_in bytes)
+meaning_in shape.Prefix bytes = option_map word.Prefix (prefix_in bytes)
+meaning_in shape.Text bytes = Some word.Text
+meaning_in (shape.Sign sign) bytes = Some (word.Mark sign)
+
+-- whether a `*/` stands at the front
+abbrev pub closes : List ℕ → Bool
+closes text = bytes_eq (star ∷ slash ∷ []) (take 2 text)
+
+-- the number of bytes up to the end of the first `*/`
+unfoldable pub closing_len : List ℕ → Option ℕ
+closing_len [] = None
+closing_len (byte ∷ bytes) = if closes (byte ∷ bytes) then Some 2 else option_map (λ len. 1 + len) (closing_len bytes)
+
+-- the number of bytes of space or of a comment at the front of a text: 0 where neither begins, nothing where a comment does not end
+unfoldable pub gap_len : List ℕ → Option ℕ
+gap_len [] = Some 0
+gap_len (first ∷ others) =
+    if is_blank first then Some 1
+    else (if first == hash then Some (1 + prefix_len is_of_line others)
+    else (if first == slash && begins_with star others then option_map (λ len. 2 + len) (closing_len (drop 1 others))
+    else Some 0))
+
+-- the token that a shape makes, if its bytes mean one
+abbrev pub token_of : List ℕ → Shape × List ℕ → Option Part
+token_of text found =
+    let len = length text - length found.1 in
+    option_map (λ word. part.Token word len) (meaning_in found.0 (take len text))
+
+-- the token at the front of a text, whether or not space or a comment begins there
+unfoldable pub token_in : List ℕ → Option Part
+token_in text = longest_shape text >>= token_of text
+
+-- space or a comment of so many bytes, and otherwise a token
+abbrev pub part_of : List ℕ → ℕ → Option Part
+part_of text len = if len == 0 then token_in text else Some (part.Gap len)
+
+-- the part at the front of a text
+unfoldable pub part_in : List ℕ → Option Part
+part_in text = gap_len text >>= part_of text

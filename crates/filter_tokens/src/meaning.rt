@@ -1,0 +1,178 @@
+//! What the bytes of a token mean.
+
+ghost use Rattle.std.specs.Option.{option_map};
+ghost use Rattle.std.specs.List.{list_any};
+ghost use Rattle.std.specs.Prelude.{◌≡◌, find};
+ghost use Rattle.std.specs.Str.{bytes_eq};
+ghost use Rattle.filter_tokens.specs.Reading as spec;
+ghost use Rattle.prefix_patterns.specs.Reading.{address_in, prefix_in};
+
+use crate::fault::TokenFault;
+use crate::mark::{KEYWORDS, Mark};
+use crate::shape::Shape;
+use crate::word::Word;
+use prefix_patterns::{read_ip, read_number, read_prefix};
+
+/// The most bytes of a name.
+const NAME_LIMIT: usize = 64;
+
+/// Words of BIRD's filters that are neither names nor keywords here.
+static LEFT_OUT: [&str; 22] = [
+    "case",
+    "function",
+    "define",
+    "print",
+    "printn",
+    "return",
+    "include",
+    "string",
+    "pair",
+    "quad",
+    "ec",
+    "lc",
+    "bgppath",
+    "bgpmask",
+    "clist",
+    "eclist",
+    "lclist",
+    "set",
+    "from",
+    "proto",
+    "preference",
+    "source",
+];
+
+/// The word that bytes of a shape mean. They stand at `at`.
+pub fn meaning(shape: Shape, bytes: &[u8], at: usize) -> Result<Word, TokenFault>
+    ensures { spec.Gives result (spec.meaning_in shape bytes.now) }
+{
+    match shape {
+        Shape::Word => word(bytes, at),
+        Shape::Decimal => number(read_number(bytes, u32::MAX), at),
+        Shape::Hexadecimal => hexadecimal(bytes, at),
+        Shape::Address => address(bytes, at),
+        Shape::Prefix => prefix(bytes, at),
+        Shape::Text => Ok(Word::Text),
+        Shape::Sign(sign) => Ok(Word::Mark(sign)),
+    }
+}
+
+/// A name or a keyword.
+#[tactic(auto, unfolding(crate::specs::Reading::word_in))]
+fn word(bytes: &[u8], at: usize) -> Result<Word, TokenFault>
+    ensures { spec.Gives result (spec.word_in bytes.now) }
+{
+    if let Some(mark) = keyword(bytes) {
+        return Ok(Word::Mark(mark));
+    }
+    if bytes.len() > NAME_LIMIT {
+        return Err(TokenFault::NameTooLong(at));
+    }
+    if is_left_out(bytes) {
+        return Err(TokenFault::WordLeftOut(at));
+    }
+    Ok(Word::Name)
+}
+
+/// The keyword that is written so.
+#[tactic(auto, unfolding(crate::specs::Reading::keyword_in))]
+fn keyword(bytes: &[u8]) -> Option<Mark>
+    ensures { spec.keyword_in bytes.now ≡ result }
+{
+    written_so(&KEYWORDS, bytes)
+}
+
+/// The first of the marks that is written so.
+fn written_so(marks: &[Mark], bytes: &[u8]) -> Option<Mark>
+    ensures { find (spec.is_written bytes.now) marks.now ≡ result }
+{
+    for mark in marks {
+        if mark.text().as_bytes() == bytes {
+            return Some(*mark);
+        }
+    }
+    None
+}
+
+/// Whether the language leaves this word out.
+#[tactic(auto, unfolding(crate::specs::Reading::is_left_out))]
+fn is_left_out(bytes: &[u8]) -> bool
+    ensures { result ≡ spec.is_left_out bytes.now }
+{
+    is_among(&LEFT_OUT, bytes)
+}
+
+/// Whether one of the words is spelled so.
+fn is_among(words: &[&str], bytes: &[u8]) -> bool
+    ensures { result ≡ list_any (λ word. bytes_eq word.now bytes.now) words.now }
+{
+    for word in words {
+        if word.as_bytes() == bytes {
+            return true;
+        }
+    }
+    false
+}
+
+/// A number that was read, or was too large.
+fn number(read: Option<u32>, at: usize) -> Result<Word, TokenFault>
+    ensures { spec.Gives result (option_map Word.Number read) }
+{
+    match read {
+        Some(n) => Ok(Word::Number(n)),
+        None => Err(TokenFault::NumberTooLarge(at)),
+    }
+}
+
+/// The number behind a `0x`.
+#[tactic(auto, unfolding(crate::specs::Reading::hexadecimal_in))]
+fn hexadecimal(bytes: &[u8], at: usize) -> Result<Word, TokenFault>
+    ensures { spec.Gives result (option_map Word.Number (spec.hexadecimal_in bytes.now)) }
+{
+    if bytes.len() < 3 {
+        return Err(TokenFault::NoDigit(at));
+    }
+    number(read_hexadecimal(&bytes[2..]), at)
+}
+
+/// Reads a number from a text that is hexadecimal digits and nothing else, unless it is over 4,294,967,295.
+#[tactic(auto, unfolding(crate::specs::Reading::hexadecimal_from))]
+fn read_hexadecimal(digits: &[u8]) -> Option<u32>
+    ensures { spec.hexadecimal_from 0 digits.now ≡ result }
+{
+    let mut value = 0;
+    for byte in digits {
+        value = with_digit(value, *byte)?;
+    }
+    Some(value)
+}
+
+/// The number with one more hexadecimal digit at its end, if the byte is one and the number is not too large.
+fn with_digit(value: u32, byte: u8) -> Option<u32>
+    ensures { spec.with_digit value byte ≡ result }
+{
+    let digit = char::from(byte).to_digit(16)?;
+    let longer = u64::from(value) * 16 + u64::from(digit);
+    if longer > u64::from(u32::MAX) {
+        return None;
+    }
+    Some(longer as u32)
+}
+
+fn address(bytes: &[u8], at: usize) -> Result<Word, TokenFault>
+    ensures { spec.Gives result (option_map (λ address. Word.Address (record { 0 = address })) (address_in bytes.now)) }
+{
+    match read_ip(bytes) {
+        Some(ip) => Ok(Word::Address(ip)),
+        None => Err(TokenFault::OutOfRange(at)),
+    }
+}
+
+fn prefix(bytes: &[u8], at: usize) -> Result<Word, TokenFault>
+    ensures { spec.Gives result (option_map Word.Prefix (prefix_in bytes.now)) }
+{
+    match read_prefix(bytes) {
+        Some(prefix) => Ok(Word::Prefix(prefix)),
+        None => Err(TokenFault::OutOfRange(at)),
+    }
+}

@@ -1,0 +1,48 @@
+//! The part at the front of a text.
+
+ghost use Rattle.std.specs.Prelude.{◌≤◌, ◌<◌, IfOk, length};
+ghost use Rattle.filter_tokens.specs.Cutting.{part_len};
+ghost use Rattle.filter_tokens.specs.Reading as spec;
+
+use crate::fault::TokenFault;
+use crate::gaps::gap_len;
+use crate::meaning::meaning;
+use crate::part::Part;
+use crate::shapes::longest_shape;
+
+/// The part at the front of a text that has a byte at least. The text begins at `at`.
+#[tactic(auto, unfolding(crate::specs::Reading::part_in))]
+pub fn next_part(text: &[u8], at: usize) -> Result<Part, TokenFault>
+    ensures is { spec.Gives result (spec.part_in text.now) }
+    ensures within { IfOk result (λ part. (0 < part_len part) × (part_len part ≤ length text.now)) }
+{
+    match gap_len(text) {
+        Some(0) => token(text, at),
+        Some(len) => Ok(Part::Gap(len)),
+        None => Err(TokenFault::UnendedComment(at)),
+    }
+}
+
+/// The token at the front of a text.
+#[tactic(auto, unfolding(crate::specs::Reading::token_in))]
+fn token(text: &[u8], at: usize) -> Result<Part, TokenFault>
+    ensures { spec.Gives result (spec.token_in text.now) }
+{
+    let Some((shape, rest)) = longest_shape(text) else {
+        return Err(no_shape(text, at));
+    };
+    let len = text.len() - rest.len();
+    match meaning(shape, &text[..len], at) {
+        Ok(word) => Ok(Part::Token(word, len)),
+        Err(fault) => Err(fault),
+    }
+}
+
+/// Why no token begins here.
+fn no_shape(text: &[u8], at: usize) -> TokenFault {
+    match text.first() {
+        Some(b'"') => TokenFault::UnendedText(at),
+        Some(b'\'') => TokenFault::QuotedName(at),
+        _ => TokenFault::BadCharacter(at),
+    }
+}

@@ -1,0 +1,20 @@
+use crate::mark::Mark;
+
+/// What a token's bytes look like, whether or not they mean anything.
+#[derive(Clone, Copy, Debug, PartialEq, Eq)]
+pub enum Shape {
+    /// A letter or `_`, and letters, digits and `_` behind it.
+    Word,
+    /// Decimal digits.
+    Decimal,
+    /// `0x` and hexadecimal digits, if any.
+    Hexadecimal,
+    /// Four groups of decimal digits, joined by dots.
+    Address,
+    /// An address, `/` and decimal digits.
+    Prefix,
+    /// What stands between double quotes on one line, and these.
+    Text,
+    /// A sign.
+    Sign(Mark),
+}

@@ -1,0 +1,54 @@
+ghost use Rattle.std.specs.Prelude.{◌≡◌, List, None, IfOk, length};
+ghost use Rattle.filter_tokens.specs.declared.token.Token.{Token as TheToken};
+ghost use Rattle.filter_tokens.specs.Cutting.{Cuts, AreInOrder};
+
+use crate::fault::TokenFault;
+use crate::part::Part;
+use crate::parts::next_part;
+use crate::token::Token;
+use std::alloc::{AllocError, Global};
+
+/// A text's tokens from the left, and the fault that ended them if there was one.
+#[derive(Debug, Drop)]
+pub struct Lexed {
+    /// The tokens before the fault, or all.
+    pub tokens: Vec<Token>,
+    /// Why there are no more, where the text goes on.
+    pub fault: Option<TokenFault>,
+}
+
+/// Cuts a text into tokens, from the left up to the first byte that no token has.
+///
+/// An error is want of memory: a text that no tokens cut is answered with its fault.
+pub fn lex(alloc: Global, text: &[u8]) -> Result<Lexed, AllocError>
+    // The tokens lie in the text, in order, each with a byte at least.
+    ensures spans { IfOk result (λ c. AreInOrder 0 c.tokens.items (length text.now)) }
+    // Where there is no fault, the tokens cut the text.
+    ensures found { IfOk result (λ c. c.fault ≡ None → Cuts c.tokens.items 0 text.now) }
+    // Whatever cuts the text are these tokens, and then there is no fault.
+    ensures only { IfOk result (λ c. (tokens : List TheToken) → Cuts tokens 0 text.now → (c.fault ≡ None) × (c.tokens.items ≡ tokens)) }
+{
+    let mut tokens = Vec::new(alloc);
+    let mut at = 0;
+    while at < text.len() {
+        match next_part(&text[at..], at) {
+            Ok(Part::Gap(len)) => at += len,
+            Ok(Part::Token(word, len)) => {
+                tokens.push(Token {
+                    word,
+                    from: at,
+                    to: at + len,
+                })?;
+                at += len;
+            }
+            Err(fault) => return Ok(Lexed {
+                tokens,
+                fault: Some(fault),
+            }),
+        }
+    }
+    Ok(Lexed {
+        tokens,
+        fault: None,
+    })
+}

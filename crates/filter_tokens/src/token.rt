@@ -1,0 +1,12 @@
+use crate::word::Word;
+
+/// A token: what it is, and the bytes `from..to` of the text that it covers.
+#[derive(Clone, Copy, Debug, PartialEq, Eq)]
+pub struct Token {
+    /// What it is.
+    pub word: Word,
+    /// The place of its first byte.
+    pub from: usize,
+    /// The place behind its last byte.
+    pub to: usize,
+}
