@@ -1,0 +1,25 @@
+use Rattle.std.proofs.Common.{◌≡◌, None, Some}
+use Rattle.filter_tokens.specs.Lexemes.{lexemes}
+use Rattle.filter_parser.specs.Acting.{filter_of, said_of}
+use Rattle.filter_parser.proofs.Texts.{text_found, text_once, text_only}
+use Rattle.filter_parser.proofs.text.filter_of_tokens.Goals as goal
+
+pub returns-in-None-clause-found : goal.returns-in-None-clause-found
+returns-in-None-clause-found c =
+    text_found c.args.text.now c.args.tokens.items (said_of c.in-Ok.parts) c.requires.size (c.requires.cut c.in-None.is) (rw (c.as_slice.ensures.value) at c.in-Ok.ensures)
+
+pub returns-in-None-clause-unique : goal.returns-in-None-clause-unique
+returns-in-None-clause-unique c = λ t is.
+    text_once c.args.text.now c.args.tokens.items (said_of c.in-Ok.parts) t (rw (c.as_slice.ensures.value) at c.in-Ok.ensures) is (c.requires.only t.tokens is.cut).1
+
+pub returns-in-Some-clause-refused : goal.returns-in-Some-clause-refused
+returns-in-Some-clause-refused c = λ other t is.
+    let none : c.args.fault ≡ None = (c.requires.only t.tokens is.cut).0 in
+    let some : c.args.fault ≡ Some c.in-Some.fault = c.in-Some.is in
+    absurd (cc)
+
+pub returns-in-Err-clause-refused : goal.returns-in-Err-clause-refused
+returns-in-Err-clause-refused c = λ other t is.
+    let none : filter_of (lexemes c.args.text.now c.args.tokens.items) ≡ None = rw (c.as_slice.ensures.value) at (c.in-Err.ensures other) in
+    let some = text_only c.args.text.now c.args.tokens.items t is (c.requires.only t.tokens is.cut).1 in
+    absurd (cc)

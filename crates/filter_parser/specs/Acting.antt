@@ -1,0 +1,155 @@
+-- Reading commands, declarations and a filter from a list of lexemes: what is read first, and what is left. It follows the
+-- parser; nothing that is published cites it.
+use Rattle.std.specs.Prelude.{ℕ, zero, suc, Bool, true, false, List, [], ◌∷◌, ◌++◌, length, map, Option, Some, None}
+use Rattle.filter_tokens.specs.Lexemes.{Lexeme}
+use Rattle.filter_tokens.specs.declared.mark.Mark.{Mark}
+use Rattle.filter_tokens.specs.declared.mark.Mark.TheVariants as m
+use Rattle.filter_parser.specs.declared.parts.Parts.{Parts}
+use Rattle.filter_parser.specs.declared.tree.decl.Kind.{Kind}
+use Rattle.filter_parser.specs.declared.tree.decl.Kind.TheVariants as kind
+use Rattle.filter_parser.specs.Reading.{Reads, expr_at, turns}
+use Rattle.filter_parser.specs.Steps.{◌>>=◌, with_some, after_mark, after_quote}
+use Rattle.filter_parser.specs.Syntax.{Tree, nesting_limit}
+use Rattle.filter_parser.specs.SyntaxCommands.{Aim, Act, Acts, Declared, acts_of, view_command, view_decl}
+
+-- the text, if there is one, and the `;`
+abbrev pub end_of : Reads Bool
+end_of ws =
+    with_some (after_quote ws)
+    (after_mark m.Semicolon ws >>= λ rest. Some (false, rest))
+    (λ behind. after_mark m.Semicolon behind >>= λ rest. Some (true, rest))
+
+-- `= e ;`
+abbrev pub assign_with : Reads Tree → Aim → Reads Act
+assign_with expr aim ws =
+    after_mark m.Equal ws >>= λ value. expr value >>= λ x. after_mark m.Semicolon x.1 >>= λ rest. Some (Act.assign aim x.0, rest)
+
+-- commands up to a `}`, at most so many
+abbrev pub acts_from : Reads Act → ℕ → Reads Acts
+acts_from act zero ws = None
+acts_from act (suc n) ws =
+    with_some (after_mark m.RightBrace ws)
+    (act ws >>= λ first. acts_from act n first.1 >>= λ more. Some (Acts.act_then first.0 more.0, more.1))
+    (λ rest. Some (Acts.no_acts, rest))
+
+-- commands up to a `}`
+unfoldable pub acts_with : Reads Act → Reads Acts
+acts_with act ws = acts_from act (suc (length ws)) ws
+
+-- a block, behind its `{`
+abbrev pub block_with : Reads Act → Reads Act
+block_with act ws = acts_with act ws >>= λ body. Some (Act.block body.0, body.1)
+
+-- what stands behind the first command of an `if`
+abbrev pub other_with : Reads Act → Tree → Act → Reads Act
+other_with act test chosen ws =
+    with_some (after_mark m.Else ws) (Some (Act.choice test chosen, ws)) (λ behind. act behind >>= λ other. Some (Act.choice_else test chosen other.0, other.1))
+
+-- an `if`, behind that word
+abbrev pub choice_with : Reads Tree → Reads Act → Reads Act
+choice_with expr act ws =
+    expr ws >>= λ test. after_mark m.Then test.1 >>= λ behind. act behind >>= λ chosen. other_with act test.0 chosen.0 chosen.1
+
+abbrev pub accepts : Reads Act
+accepts ws = end_of ws >>= λ x. Some (Act.accept x.0, x.1)
+
+abbrev pub rejects : Reads Act
+rejects ws = end_of ws >>= λ x. Some (Act.reject x.0, x.1)
+
+-- nothing
+abbrev pub refuses : {A : Type 0} → Reads A
+refuses ws = None
+
+-- a command that a sign or a keyword begins
+abbrev pub act_by : Reads Tree → Reads Act → Reads Act → Mark → Reads Act
+act_by expr block choice m.Semicolon ws = Some (Act.empty, ws)
+act_by expr block choice m.LeftBrace ws = block ws
+act_by expr block choice m.If ws = choice ws
+act_by expr block choice m.Accept ws = accepts ws
+act_by expr block choice m.Reject ws = rejects ws
+act_by expr block choice m.RipMetric ws = assign_with expr Aim.to_metric ws
+act_by expr block choice m.Net ws = assign_with expr Aim.to_net ws
+act_by expr block choice _ ws = None
+
+-- a command, by its first lexeme
+abbrev pub act_with : Reads Tree → Reads Act → Reads Act → Reads Act
+act_with expr block choice [] = None
+act_with expr block choice (Lexeme.name text ∷ ws) = assign_with expr (Aim.to_name text) ws
+act_with expr block choice (Lexeme.number n ∷ ws) = None
+act_with expr block choice (Lexeme.address a ∷ ws) = None
+act_with expr block choice (Lexeme.prefix bits ∷ ws) = None
+act_with expr block choice (Lexeme.quote ∷ ws) = None
+act_with expr block choice (Lexeme.mark k ∷ ws) = act_by expr block choice k ws
+
+-- a command where so many levels may still nest
+unfoldable pub act_at : ℕ → Reads Act
+act_at zero = act_with (expr_at zero) refuses refuses
+act_at (suc depth) = act_with (expr_at (suc depth)) (block_with (act_at depth)) (choice_with (expr_at depth) (act_at depth))
+
+-- a block and an `if` where so many levels may still nest, themselves included
+abbrev pub block_at : ℕ → Reads Act
+block_at zero = refuses
+block_at (suc depth) = block_with (act_at depth)
+
+abbrev pub choice_at : ℕ → Reads Act
+choice_at zero = refuses
+choice_at (suc depth) = choice_with (expr_at depth) (act_at depth)
+
+-- the kind that a keyword names
+abbrev pub kind_of : Mark → Option Kind
+kind_of m.Int = Some kind.Int
+kind_of m.Bool = Some kind.Bool
+kind_of m.Ip = Some kind.Ip
+kind_of m.Prefix = Some kind.Prefix
+kind_of _ = None
+
+-- a kind's keyword
+abbrev pub kind_first : Reads Kind
+kind_first [] = None
+kind_first (Lexeme.mark k ∷ ws) = kind_of k >>= λ kind. Some (kind, ws)
+kind_first (_ ∷ ws) = None
+
+-- a name
+abbrev pub name_first : Reads (List ℕ)
+name_first [] = None
+name_first (Lexeme.name text ∷ ws) = Some (text, ws)
+name_first (_ ∷ ws) = None
+
+-- a declaration, behind its kind
+abbrev pub decl_with : Kind → Reads Declared
+decl_with k ws =
+    name_first ws >>= λ name. after_mark m.Semicolon name.1 >>= λ rest. Some (record { kind = k; name = name.0 }, rest)
+
+-- one more declaration, if one begins here
+abbrev pub decl_turn : List Declared → List Lexeme → Option (Option (List Declared × List Lexeme))
+decl_turn front ws = with_some (kind_first ws) (Some None) (λ k. decl_with k.0 k.1 >>= λ d. Some (Some (front ++ d.0 ∷ [], d.1)))
+
+-- declarations, as many as there are, behind others
+unfoldable pub decls_after : List Declared → Reads (List Declared)
+decls_after front ws = turns decl_turn (length ws) front ws
+
+-- what a filter says: its name, its declarations and its commands
+pub record Said : Type 0 where
+  pub name : List ℕ
+  pub decls : List Declared
+  pub body : Acts
+
+-- what was read, where nothing is left
+abbrev pub whole : {A : Type 0} → A → List Lexeme → Option A
+whole x [] = Some x
+whole x (w ∷ ws) = None
+
+-- a body from its `{` on, behind a name and declarations, and nothing behind it
+abbrev pub body_of : List ℕ → List Declared → List Lexeme → Option Said
+body_of name head ws =
+    after_mark m.LeftBrace ws >>= λ behind. decls_after head behind >>= λ all. acts_with (act_at nesting_limit) all.1
+    >>= λ body. whole (record { name = name; decls = all.0; body = body.0 }) body.1
+
+-- a filter, and nothing behind it
+abbrev pub filter_of : List Lexeme → Option Said
+filter_of ws =
+    after_mark m.Filter ws >>= λ behind. name_first behind >>= λ name. decls_after [] name.1 >>= λ head. body_of name.0 head.0 head.1
+
+-- what the program's parts of a filter say
+abbrev pub said_of : Parts → Said
+said_of x = record { name = x.name.items; decls = map view_decl x.decls.items; body = acts_of (map view_command x.body.items) }

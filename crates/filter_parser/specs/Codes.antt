@@ -1,0 +1,34 @@
+-- The codes and places of the faults of a filter's text. (This project's own choice.)
+use Rattle.std.specs.Prelude.{ℕ, List, codes}
+use Rattle.filter_tokens.specs.Codes.{fault_code as token_fault_code, fault_place as token_fault_place}
+use Rattle.filter_parser.specs.declared.fault.ParseFault.{ParseFault}
+use Rattle.filter_parser.specs.declared.fault.ParseFault.TheVariants as fault
+use Rattle.filter_parser.specs.SyntaxText.{text_limit}
+
+-- the code, as ASCII text
+abbrev pub fault_code : ParseFault → List ℕ
+fault_code (fault.Token found) = token_fault_code found
+fault_code (fault.Unexpected at wanted) = codes "P2"
+fault_code (fault.MaskOverLimit at) = codes "P4"
+fault_code (fault.PatternLengths at) = codes "P4"
+fault_code (fault.TooDeep at) = codes "P5"
+fault_code (fault.MixedOperators at) = codes "P6"
+fault_code fault.TooLong = codes "P7"
+fault_code (fault.EndsEarly at) = codes "P9"
+fault_code (fault.TextElsewhere at) = codes "P10"
+fault_code (fault.NumberSet at) = codes "P10"
+fault_code fault.Memory = codes "P11"
+
+-- the place; want of memory has none, which is 0
+abbrev pub fault_place : ParseFault → ℕ
+fault_place (fault.Token found) = token_fault_place found
+fault_place (fault.Unexpected at wanted) = at
+fault_place (fault.MaskOverLimit at) = at
+fault_place (fault.PatternLengths at) = at
+fault_place (fault.TooDeep at) = at
+fault_place (fault.MixedOperators at) = at
+fault_place fault.TooLong = text_limit
+fault_place (fault.EndsEarly at) = at
+fault_place (fault.TextElsewhere at) = at
+fault_place (fault.NumberSet at) = at
+fault_place fault.Memory = 0

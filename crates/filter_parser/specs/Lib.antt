@@ -1,0 +1,7 @@
+pub mod Acting
+pub mod Codes
+pub mod Reading
+pub mod Steps
+pub mod Syntax
+pub mod SyntaxCommands
+pub mod SyntaxText

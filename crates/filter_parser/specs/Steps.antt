@@ -1,0 +1,84 @@
+-- The parser's steps on lists of lexemes: what is read first, and what is left. Nothing that is published cites them.
+use Rattle.std.specs.Prelude.{◌≡◌, ◌≢◌, ℕ, Bool, false, List, [], ◌∷◌, Option, Some, None, Result, Ok, Err, nat_eq, if◌then◌else◌}
+use Rattle.std.specs.Cmp.Lexicographic.{pointwise}
+use denote.Enum.Bare.{sameb}
+use Rattle.filter_tokens.specs.Lexemes.{Lexeme, lexemes}
+use Rattle.filter_tokens.specs.declared.mark.Mark.{Mark}
+use Rattle.filter_tokens.specs.contracts.mark.Mark.{the_type}
+use Rattle.filter_parser.specs.declared.fault.ParseFault.{ParseFault}
+use Rattle.filter_parser.specs.declared.fault.ParseFault.TheVariants as fault
+use Rattle.filter_parser.specs.declared.input.Input.{Input}
+
+-- the lexemes that are left
+abbrev pub left_of : Input → List Lexeme
+left_of i = lexemes i.text.now i.tokens.now
+
+-- one step after the other, which may depend on what the first made
+infixl 10 ◌>>=◌
+abbrev pub ◌>>=◌ : {A B : Type 0} → Option A → (A → Option B) → Option B
+None >>= later = None
+(Some x) >>= later = later x
+
+-- one step if there is a first, and another one otherwise
+abbrev pub with_some : {A B : Type 0} → Option A → Option B → (A → Option B) → Option B
+with_some None other later = other
+with_some (Some x) other later = later x
+
+-- a function of the program answers as the reading function does, or for want of memory
+abbrev pub Gives : {X A : Type 0} → (X → A) → Result X ParseFault → Option A → Type 0
+Gives view (Ok x) read = read ≡ Some (view x)
+Gives view (Err e) read = e ≢ fault.Memory → read ≡ None
+
+-- a function of the program that may find nothing answers as the reading function does
+abbrev pub Finds : {X A : Type 0} → (X → A) → Option X → Option A → Type 0
+Finds view None read = read ≡ None
+Finds view (Some x) read = read ≡ Some (view x)
+
+-- whether two marks are the same
+abbrev pub same_mark : Mark → Mark → Bool
+same_mark = sameb the_type
+
+-- whether a lexeme is a mark
+abbrev pub is_mark : Mark → Lexeme → Bool
+is_mark wanted (Lexeme.mark m) = same_mark wanted m
+is_mark wanted (Lexeme.name text) = false
+is_mark wanted (Lexeme.number n) = false
+is_mark wanted (Lexeme.address a) = false
+is_mark wanted (Lexeme.prefix bits) = false
+is_mark wanted Lexeme.quote = false
+
+-- what stands behind a mark
+abbrev pub after_mark : Mark → List Lexeme → Option (List Lexeme)
+after_mark wanted [] = None
+after_mark wanted (w ∷ ws) = if is_mark wanted w then Some ws else None
+
+-- what stands behind a text in quotes
+abbrev pub after_quote : List Lexeme → Option (List Lexeme)
+after_quote (Lexeme.quote ∷ ws) = Some ws
+after_quote _ = None
+
+-- whether a lexeme is a name that is this word
+abbrev pub is_word : List ℕ → Lexeme → Bool
+is_word wanted (Lexeme.name text) = pointwise nat_eq text wanted
+is_word wanted (Lexeme.mark k) = false
+is_word wanted (Lexeme.number n) = false
+is_word wanted (Lexeme.address a) = false
+is_word wanted (Lexeme.prefix bits) = false
+is_word wanted Lexeme.quote = false
+
+-- what stands behind a name that is this word
+abbrev pub after_name : List ℕ → List Lexeme → Option (List Lexeme)
+after_name wanted [] = None
+after_name wanted (w ∷ ws) = if is_word wanted w then Some ws else None
+
+-- a number
+abbrev pub number_first : List Lexeme → Option (ℕ × List Lexeme)
+number_first [] = None
+number_first (Lexeme.number n ∷ ws) = Some (n, ws)
+number_first (_ ∷ ws) = None
+
+-- a prefix
+abbrev pub prefix_first : List Lexeme → Option (List Bool × List Lexeme)
+prefix_first [] = None
+prefix_first (Lexeme.prefix p ∷ ws) = Some (p, ws)
+prefix_first (_ ∷ ws) = None

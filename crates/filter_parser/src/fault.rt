@@ -1,0 +1,106 @@
+ghost use Rattle.std.specs.Prelude.{◌≡◌};
+ghost use Rattle.filter_parser.specs.declared.fault.ParseFault.TheVariants.{Memory};
+
+use crate::expected::Expected;
+use filter_tokens::TokenFault;
+use std::alloc::{AllocError, AllocFailed};
+use thiserror::Error;
+
+/// The bytes of the longest text that is read.
+pub const TEXT_LIMIT: usize = 65_536;
+
+/// Why a text is no filter: its first fault, from the left.
+///
+/// A place is a number of bytes, those that stand before it.
+#[derive(Clone, Copy, Debug, PartialEq, Eq, Error)]
+pub enum ParseFault {
+    /// P1, P3, P4, P8, P9 or P10: what stands there is no token of the language.
+    #[error(transparent)]
+    Token(TokenFault),
+    /// P2: the token at this place cannot stand there.
+    #[error("{1} is expected at {0}")]
+    Unexpected(usize, Expected),
+    /// P4: the argument of `mask` at this place is over 32.
+    #[error("the number at {0} is over 32, and an address has no more bits to keep")]
+    MaskOverLimit(usize),
+    /// P4: the lengths of a pattern, whose `{` is at this place, are not `low <= high <= 32`.
+    #[error("the two lengths at {0} are not in order, or one is over 32")]
+    PatternLengths(usize),
+    /// P5: what opens at this place would be nested in 32 others.
+    #[error("at {0} the nesting would be deeper than 32")]
+    TooDeep(usize),
+    /// P6: the `&&` or `||` at this place follows the other one without parentheses.
+    #[error("`&&` and `||` are mixed at {0}: put one of the runs into parentheses")]
+    MixedOperators(usize),
+    /// P7: the text is over 65,536 bytes.
+    #[error("the text is longer than 65536 bytes")]
+    TooLong,
+    /// P9: the text ends, at this place, before the filter does.
+    #[error("the text ends at {0}, before the filter does")]
+    EndsEarly(usize),
+    /// P10: the text in quotes at this place does not stand behind `accept` or `reject`.
+    #[error("the text at {0} is left out of this language: a text stands behind `accept` or `reject` alone")]
+    TextElsewhere(usize),
+    /// P10: the number at this place begins a set of numbers.
+    #[error("sets of numbers, as at {0}, are left out of this language")]
+    NumberSet(usize),
+    /// P11: memory was refused.
+    #[error("out of memory")]
+    Memory,
+}
+
+impl ParseFault {
+    ghost use Rattle.filter_parser.specs.Codes.{fault_code, fault_place};
+
+    /// The fault's code, `P1` to `P11`.
+    pub fn code(self) -> &'static str
+        ensures { result.now ≡ fault_code self }
+    {
+        match self {
+            ParseFault::Token(fault) => fault.code(),
+            ParseFault::Unexpected(_, _) => "P2",
+            ParseFault::MaskOverLimit(_) | ParseFault::PatternLengths(_) => "P4",
+            ParseFault::TooDeep(_) => "P5",
+            ParseFault::MixedOperators(_) => "P6",
+            ParseFault::TooLong => "P7",
+            ParseFault::EndsEarly(_) => "P9",
+            ParseFault::TextElsewhere(_) | ParseFault::NumberSet(_) => "P10",
+            ParseFault::Memory => "P11",
+        }
+    }
+
+    /// The fault's place, and 0 for want of memory, which has none.
+    pub fn at(self) -> usize
+        ensures { result ≡ fault_place self }
+    {
+        match self {
+            ParseFault::Token(fault) => fault.at(),
+            ParseFault::Unexpected(at, _)
+            | ParseFault::MaskOverLimit(at)
+            | ParseFault::PatternLengths(at)
+            | ParseFault::TooDeep(at)
+            | ParseFault::MixedOperators(at)
+            | ParseFault::EndsEarly(at)
+            | ParseFault::TextElsewhere(at)
+            | ParseFault::NumberSet(at) => at,
+            ParseFault::TooLong => TEXT_LIMIT,
+            ParseFault::Memory => 0,
+        }
+    }
+}
+
+impl From<AllocError> for ParseFault {
+    ghost from_gives = { λ _ e. e ≡ Memory };
+
+    fn from(_e: AllocError) -> ParseFault {
+        ParseFault::Memory
+    }
+}
+
+impl<T: Drop> From<AllocFailed<T>> for ParseFault {
+    ghost from_gives = { λ _ e. e ≡ Memory };
+
+    fn from(_e: AllocFailed<T>) -> ParseFault {
+        ParseFault::Memory
+    }
+}

@@ -1,0 +1,24 @@
+//! The parser of filters: a filter's text becomes a tree exactly where the grammar has one.
+#![tactic(auto)]
+
+mod command;
+mod decl;
+mod expected;
+mod expr;
+mod expr_level;
+mod expr_make;
+mod expr_word;
+mod fault;
+mod filter;
+mod input;
+mod parts;
+mod set_reader;
+mod text;
+mod tree;
+
+pub use expected::Expected;
+pub use fault::{ParseFault, TEXT_LIMIT};
+pub use text::parse;
+pub use tree::{
+    Attribute, Command, Decl, Expr, Filter, Kind, Membership, Op, Set, SetPattern, Suffix, Target,
+};

@@ -1,0 +1,73 @@
+//! From a text to its filter.
+
+ghost use Rattle.std.specs.Prelude.{◌≡◌, ◌≢◌, ◌≤◌, List, None, IfOk, IfErr, length};
+ghost use Rattle.filter_tokens.specs.Cutting.{AreInOrder, Cuts};
+ghost use Rattle.filter_tokens.specs.declared.token.Token.{Token as TheToken};
+ghost use Rattle.filter_parser.specs.SyntaxText.{IsText, Program, text_limit, view_filter};
+ghost use Rattle.filter_parser.specs.declared.fault.ParseFault.TheVariants.{Memory};
+
+use crate::fault::{ParseFault, TEXT_LIMIT};
+use crate::filter::filter;
+use crate::input::Input;
+use crate::tree::Filter;
+use filter_tokens::{Lexed, Token, TokenFault, lex};
+use std::alloc::Global;
+
+/// The filter that a text's tokens are read as. A fault may have ended them.
+fn filter_of_tokens(
+    alloc: Global,
+    text: &[u8],
+    tokens: Vec<Token>,
+    fault: Option<TokenFault>,
+) -> Result<Filter, ParseFault>
+    requires size { length text.now ≤ text_limit }
+    requires spans { AreInOrder 0 tokens.items (length text.now) }
+    requires cut { fault ≡ None → Cuts tokens.items 0 text.now }
+    requires only { (all : List TheToken) → Cuts all 0 text.now → (fault ≡ None) × (tokens.items ≡ all) }
+    ensures found { IfOk result (λ f. IsText text.now (view_filter f)) }
+    ensures unique { IfOk result (λ f. (t : Program) → IsText text.now t → t ≡ view_filter f) }
+    ensures refused { IfErr result (λ e. e ≢ Memory → (t : Program) → IsText text.now t → ⊥) }
+    ensures spans { IfOk result (λ f. AreInOrder 0 (view_filter f).tokens (length text.now)) }
+{
+    let read = filter(
+        alloc,
+        Input {
+            text,
+            tokens: tokens.as_slice(),
+            end: fault,
+        },
+    );
+    match read {
+        Ok(parts) => match fault {
+            None => Ok(Filter {
+                name: parts.name,
+                decls: parts.decls,
+                body: parts.body,
+                tokens,
+            }),
+            Some(fault) => Err(ParseFault::Token(fault)),
+        },
+        Err(fault) => Err(fault),
+    }
+}
+
+/// The filter that a text spells.
+///
+/// A text that spells none is refused with its first fault. Each token has the place of its first byte and the place behind
+/// its last one, and the tokens stand in order.
+pub fn parse(alloc: Global, text: &[u8]) -> Result<Filter, ParseFault>
+    // The text spells the filter that is answered.
+    ensures found { IfOk result (λ f. IsText text.now (view_filter f)) }
+    // It spells no other.
+    ensures unique { IfOk result (λ f. (t : Program) → IsText text.now t → t ≡ view_filter f) }
+    // A text that is refused spells no filter, unless memory ran out.
+    ensures refused { IfErr result (λ e. e ≢ Memory → (t : Program) → IsText text.now t → ⊥) }
+    // The tokens stand in order in the text.
+    ensures spans { IfOk result (λ f. AreInOrder 0 (view_filter f).tokens (length text.now)) }
+{
+    if text.len() > TEXT_LIMIT {
+        return Err(ParseFault::TooLong);
+    }
+    let Lexed { tokens, fault } = lex(alloc, text)?;
+    filter_of_tokens(alloc, text, tokens, fault)
+}

@@ -1,0 +1,43 @@
+use crate::tree::expr::Expr;
+
+/// What an assignment sets.
+#[derive(Debug, Drop)]
+pub enum Target {
+    /// A variable.
+    Name(Vec<u8>),
+    /// `rip_metric`
+    RipMetric,
+    /// `net`, which the grammar has and the rules of kinds refuse.
+    Net,
+}
+
+/// A command. The number in front is the place of its first byte; that of an assignment is the place of its name.
+#[derive(Debug, Drop)]
+pub enum Command {
+    /// `;` alone.
+    Empty(usize),
+    /// Commands in braces.
+    Block(usize, Vec<Command>),
+    /// `if e then c`, perhaps with `else d`.
+    If(usize, Expr, Box<Command>, Option<Box<Command>>),
+    /// `name = e;`
+    Assign(usize, Target, Expr),
+    /// `accept;`, and whether a text stands before the `;`. The text itself is dropped.
+    Accept(usize, bool),
+    /// `reject;`, and whether a text stands before the `;`. The text itself is dropped.
+    Reject(usize, bool),
+}
+
+impl Command {
+    /// The place of the command's first byte.
+    pub fn at(&self) -> usize {
+        match self {
+            Command::Empty(at) => *at,
+            Command::Block(at, _) => *at,
+            Command::If(at, _, _, _) => *at,
+            Command::Assign(at, _, _) => *at,
+            Command::Accept(at, _) => *at,
+            Command::Reject(at, _) => *at,
+        }
+    }
+}

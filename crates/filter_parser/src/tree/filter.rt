@@ -1,0 +1,46 @@
+ghost use Rattle.std.specs.Prelude.{◌≡◌, map};
+ghost use Rattle.filter_parser.specs.SyntaxCommands.{acts_of, view_command, view_decl};
+ghost use Rattle.filter_parser.specs.SyntaxText.{view_filter};
+
+use crate::tree::command::Command;
+use crate::tree::decl::Decl;
+use filter_tokens::Token;
+
+/// A filter that was read.
+#[derive(Debug, Drop)]
+pub struct Filter {
+    pub(crate) name: Vec<u8>,
+    pub(crate) decls: Vec<Decl>,
+    pub(crate) body: Vec<Command>,
+    pub(crate) tokens: Vec<Token>,
+}
+
+impl Filter {
+    /// The filter's name.
+    pub fn name(&self) -> &[u8]
+        ensures { result.now ≡ (view_filter self.now).name }
+    {
+        self.name.as_slice()
+    }
+
+    /// The variables in the order of their declarations, those before the body first.
+    pub fn decls(&self) -> &[Decl]
+        ensures { map view_decl result.now ≡ (view_filter self.now).decls }
+    {
+        self.decls.as_slice()
+    }
+
+    /// The commands of the body.
+    pub fn body(&self) -> &[Command]
+        ensures { acts_of (map view_command result.now) ≡ (view_filter self.now).body }
+    {
+        self.body.as_slice()
+    }
+
+    /// The tokens of the text, each with the place of its first byte and the place behind its last one.
+    pub fn tokens(&self) -> &[Token]
+        ensures { result.now ≡ (view_filter self.now).tokens }
+    {
+        self.tokens.as_slice()
+    }
+}

@@ -1,0 +1,54 @@
+ghost use Rattle.std.specs.Prelude.{◌≡◌};
+ghost use Rattle.filter_parser.specs.Syntax.{pattern_of, view_item};
+
+use prefix_patterns::{Pattern, Prefix};
+
+/// A set of prefixes in brackets, as `[10.0.0.0/8+, 20.0.0.0/8{9,24}]`.
+#[derive(Debug, Drop)]
+pub struct Set {
+    /// The place of its `[`.
+    pub at: usize,
+    /// Its patterns, of which there is at least one.
+    pub patterns: Vec<SetPattern>,
+}
+
+/// A pattern as it is written in a set. The place is that of its prefix.
+#[derive(Clone, Copy, Debug, PartialEq, Eq)]
+pub enum SetPattern {
+    /// `a/len`: prefixes of the length `len` alone.
+    Exact(usize, Prefix),
+    /// `a/len+`: prefixes of `len` to 32 bits.
+    OrLonger(usize, Prefix),
+    /// `a/len-`: prefixes of 0 to `len` bits.
+    OrShorter(usize, Prefix),
+    /// `a/len{low,high}`: prefixes of `low` to `high` bits.
+    Between(usize, Pattern),
+}
+
+impl SetPattern {
+    /// The place of the pattern's prefix.
+    pub fn at(&self) -> usize {
+        match *self {
+            SetPattern::Exact(at, _) => at,
+            SetPattern::OrLonger(at, _) => at,
+            SetPattern::OrShorter(at, _) => at,
+            SetPattern::Between(at, _) => at,
+        }
+    }
+
+    /// The pattern that is meant.
+    pub fn pattern(&self) -> Pattern
+        ensures { result ≡ pattern_of (view_item self.now) }
+    {
+        match *self {
+            SetPattern::Exact(_, prefix) => Pattern::new(
+                prefix,
+                prefix.len(),
+                prefix.len(),
+            ).unwrap(),
+            SetPattern::OrLonger(_, prefix) => Pattern::new(prefix, prefix.len(), 32).unwrap(),
+            SetPattern::OrShorter(_, prefix) => Pattern::new(prefix, 0, prefix.len()).unwrap(),
+            SetPattern::Between(_, pattern) => pattern,
+        }
+    }
+}
