@@ -1,0 +1,69 @@
+-- Runs and operands with suffixes, judged part by part, have the kinds and names that their trees have.
+use Rattle.std.proofs.Common.{◌≡◌, Option, Some, None, List, [], ◌∷◌, ◌++◌, Result, refl, sym, ap, subst, ◌∙◌, append_assoc}
+use Rattle.std.proofs.lemmas.List.{append-nil}
+use Rattle.filter_parser.specs.Syntax.{Tree, run_of, suffixes_of}
+use Rattle.filter_parser.specs.SyntaxCommands.{Declared}
+use Rattle.filter_parser.specs.declared.tree.decl.Kind.{Kind}
+use Rattle.filter_parser.specs.declared.tree.op.Op.{Op}
+use Rattle.filter_parser.specs.declared.tree.op.Suffix.{Suffix}
+use Rattle.filter_types.specs.Answers.{Gives}
+use Rattle.filter_types.specs.Kinds.{kind_in, names_in, of_one, of_two}
+use Rattle.filter_types.specs.Table.{operator, suffixed_by}
+use Rattle.filter_types.specs.Turns.{kind_after, kind_with, names_behind}
+use Rattle.filter_types.specs.declared.fault.TypeFault.{TypeFault}
+
+-- a form of two operands, of which the first is of a known kind
+two_is : (row : Kind → Kind → Option Kind) (a b : Option Kind) (f : Kind → Option Kind)
+    → of_one f (of_two row a b) ≡ of_one (λ k. of_one f (of_one (row k) b)) a
+two_is row None b f = refl
+two_is row (Some a) b f = refl
+
+one_is : (row f : Kind → Option Kind) (a : Option Kind) → of_one f (of_one row a) ≡ of_one (λ k. of_one f (row k)) a
+one_is row f None = refl
+one_is row f (Some a) = refl
+
+some_is : (a : Option Kind) → of_one Some a ≡ a
+some_is None = refl
+some_is (Some a) = refl
+
+-- the kind of a run is that of its first operand with what stands behind it
+run_kind : (vs : List Declared) (left : Tree) (xs : List (Op × Tree))
+    → kind_in vs (run_of left xs) ≡ of_one (λ k. kind_with vs k xs) (kind_in vs left)
+run_kind vs left [] = sym (some_is (kind_in vs left))
+run_kind vs left (x ∷ xs) =
+    run_kind vs (Tree.binary x.0 left x.1) xs
+    ∙ two_is (operator x.0) (kind_in vs left) (kind_in vs x.1) (λ k. kind_with vs k xs)
+
+pub run_names : (left : Tree) (xs : List (Op × Tree)) → names_in (run_of left xs) ≡ names_in left ++ names_behind xs
+run_names left [] = sym (append-nil (names_in left))
+run_names left (x ∷ xs) = run_names (Tree.binary x.0 left x.1) xs ∙ append_assoc (names_in left) _ _
+
+-- the kind of an operand with suffixes is that of the operand with what stands behind it
+suffixes_kind : (vs : List Declared) (inner : Tree) (xs : List Suffix)
+    → kind_in vs (suffixes_of inner xs) ≡ of_one (λ k. kind_after k xs) (kind_in vs inner)
+suffixes_kind vs inner [] = sym (some_is (kind_in vs inner))
+suffixes_kind vs inner (x ∷ xs) =
+    suffixes_kind vs (Tree.suffixed inner x) xs ∙ one_is (suffixed_by x) (λ k. kind_after k xs) (kind_in vs inner)
+
+pub suffixes_names : (inner : Tree) (xs : List Suffix) → names_in (suffixes_of inner xs) ≡ names_in inner
+suffixes_names inner [] = refl
+suffixes_names inner (x ∷ xs) = suffixes_names (Tree.suffixed inner x) xs
+
+-- what is known of the first operand
+pub run_gives : (vs : List Declared) (t left : Tree) (xs : List (Op × Tree)) (k : Kind) (answer : Result Kind TypeFault)
+    → t ≡ run_of left xs → kind_in vs left ≡ Some k → Gives answer (kind_with vs k xs) → Gives answer (kind_in vs t)
+run_gives vs t left xs k answer is found given =
+    subst (Gives answer) (sym (ap (kind_in vs) is ∙ run_kind vs left xs ∙ ap (of_one (λ j. kind_with vs j xs)) found)) given
+
+pub run_none : (vs : List Declared) (t left : Tree) (xs : List (Op × Tree)) → t ≡ run_of left xs → kind_in vs left ≡ None
+    → kind_in vs t ≡ None
+run_none vs t left xs is none = ap (kind_in vs) is ∙ run_kind vs left xs ∙ ap (of_one (λ j. kind_with vs j xs)) none
+
+pub suffixes_give : (vs : List Declared) (t inner : Tree) (xs : List Suffix) (k : Kind) (answer : Result Kind TypeFault)
+    → t ≡ suffixes_of inner xs → kind_in vs inner ≡ Some k → Gives answer (kind_after k xs) → Gives answer (kind_in vs t)
+suffixes_give vs t inner xs k answer is found given =
+    subst (Gives answer) (sym (ap (kind_in vs) is ∙ suffixes_kind vs inner xs ∙ ap (of_one (λ j. kind_after j xs)) found)) given
+
+pub suffixes_none : (vs : List Declared) (t inner : Tree) (xs : List Suffix) → t ≡ suffixes_of inner xs
+    → kind_in vs inner ≡ None → kind_in vs t ≡ None
+suffixes_none vs t inner xs is none = ap (kind_in vs) is ∙ suffixes_kind vs inner xs ∙ ap (of_one (λ j. kind_after j xs)) none

@@ -1,0 +1,22 @@
+-- The codes and places of the faults of names and kinds. (This project's own choice.)
+use Rattle.std.specs.Prelude.{ℕ, List, codes}
+use Rattle.filter_types.specs.declared.fault.TypeFault.{TypeFault}
+use Rattle.filter_types.specs.declared.fault.TypeFault.TheVariants as fault
+
+-- the code that a program answers
+abbrev pub fault_code : TypeFault → List ℕ
+fault_code (fault.UnknownName at) = codes "Y1"
+fault_code (fault.DeclaredTwice at) = codes "Y2"
+fault_code (fault.WrongKind at wanted found) = codes "Y3"
+fault_code (fault.NetAssigned at) = codes "Y4"
+fault_code (fault.TooManyVariables at) = codes "Y5"
+fault_code fault.Memory = codes "Y6"
+
+-- the place; want of memory has none, which is 0
+abbrev pub fault_place : TypeFault → ℕ
+fault_place (fault.UnknownName at) = at
+fault_place (fault.DeclaredTwice at) = at
+fault_place (fault.WrongKind at wanted found) = at
+fault_place (fault.NetAssigned at) = at
+fault_place (fault.TooManyVariables at) = at
+fault_place fault.Memory = 0

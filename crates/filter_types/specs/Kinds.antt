@@ -1,0 +1,132 @@
+-- Where a filter's names and kinds fit: a variable is declared once and before it is used, there are not more of them than the
+-- limit, `net` is not assigned, and each form has operands of the kinds that the table says. As in the BIRD 2.0 User's
+-- Guide on filters; the limit, and that `net` is not assigned, are this project's own choice.
+use Rattle.std.specs.Prelude.{◌≡◌, ◌≢◌, ℕ, ◌≤◌, Option, Some, None, List, [], ◌∷◌, ◌++◌, length, map, AllPairs}
+use Rattle.std.specs.List.{position_or_len, find}
+use Rattle.std.specs.Option.{option_map}
+use Rattle.std.specs.Str.{bytes_eq}
+use Rattle.filter_parser.specs.Syntax.{Tree, number, address, prefix, truth, name, attribute, defined, group, negation, binary, member, suffixed}
+use Rattle.filter_parser.specs.SyntaxCommands.{Act, Acts, Aim, Declared, to_name, to_metric, to_net}
+use Rattle.filter_parser.specs.SyntaxCommands.{empty, block, choice, choice_else, assign, accept, reject, no_acts, act_then}
+use Rattle.filter_parser.specs.SyntaxText.{Program}
+use Rattle.filter_parser.specs.declared.tree.decl.Kind.{Kind}
+use Rattle.filter_parser.specs.declared.tree.decl.Kind.TheVariants as kind
+use Rattle.filter_parser.specs.declared.tree.expr.Attribute.TheVariants as attributes
+use Rattle.filter_types.specs.Table.{operator, negated, in_set, suffixed_by, attribute_kind, tested}
+
+-- the greatest number of variables in a filter
+abbrev pub variable_limit : ℕ
+variable_limit = 16
+
+-- the number of a variable: variables are numbered from 0 in the order of declaration, and a name that none has gets their count
+abbrev pub number_of : List Declared → List ℕ → ℕ
+number_of variables text = position_or_len (λ d. bytes_eq d.name text) variables
+
+-- the kind of the variable of a name, if there is one
+abbrev pub kind_named : List Declared → List ℕ → Option Kind
+kind_named variables text = option_map (λ d. d.kind) (find (λ d. bytes_eq d.name text) variables)
+
+-- a form of one operand, and a form of two, where each operand has a kind
+abbrev pub of_one : (Kind → Option Kind) → Option Kind → Option Kind
+of_one row None = None
+of_one row (Some a) = row a
+
+abbrev pub of_two : (Kind → Kind → Option Kind) → Option Kind → Option Kind → Option Kind
+of_two row None b = None
+of_two row (Some a) b = of_one (row a) b
+
+-- the kind of an expression under these variables; None where its names or kinds do not fit
+abbrev pub kind_in : List Declared → Tree → Option Kind
+kind_in variables (number n) = Some kind.Int
+kind_in variables (address a) = Some kind.Ip
+kind_in variables (prefix bits) = Some kind.Prefix
+kind_in variables (truth b) = Some kind.Bool
+kind_in variables (name text) = kind_named variables text
+kind_in variables (attribute a) = Some (attribute_kind a)
+kind_in variables (defined a) = Some kind.Bool
+kind_in variables (group inner) = kind_in variables inner
+kind_in variables (negation inner) = of_one negated (kind_in variables inner)
+kind_in variables (binary op left right) = of_two (operator op) (kind_in variables left) (kind_in variables right)
+kind_in variables (member op left set) = of_one in_set (kind_in variables left)
+kind_in variables (suffixed inner s) = of_one (suffixed_by s) (kind_in variables inner)
+
+-- the kind of what an assignment sets; `net` is not assigned
+abbrev pub aim_kind : List Declared → Aim → Option Kind
+aim_kind variables (to_name text) = kind_named variables text
+aim_kind variables to_metric = Some (attribute_kind attributes.RipMetric)
+aim_kind variables to_net = None
+
+-- an assignment gives what it sets a value of the same kind
+abbrev pub FitsKinds : Option Kind → Option Kind → Type 0
+FitsKinds aim value = (k : Kind) × (aim ≡ Some k) × (value ≡ Some k)
+
+-- the names and kinds of a command fit, and those of commands one after another
+abbrev mutual
+  pub FitsAct : List Declared → Act → Type 0
+  FitsAct variables empty = Unit {0}
+  FitsAct variables (block body) = FitsActs variables body
+  FitsAct variables (choice test chosen) = (kind_in variables test ≡ Some tested) × FitsAct variables chosen
+  FitsAct variables (choice_else test chosen other) =
+      (kind_in variables test ≡ Some tested) × FitsAct variables chosen × FitsAct variables other
+  FitsAct variables (assign aim value) = FitsKinds (aim_kind variables aim) (kind_in variables value)
+  FitsAct variables (accept has_text) = Unit {0}
+  FitsAct variables (reject has_text) = Unit {0}
+
+  pub FitsActs : List Declared → Acts → Type 0
+  FitsActs variables no_acts = Unit {0}
+  FitsActs variables (act_then first more) = FitsAct variables first × FitsActs variables more
+
+-- no two variables have one name
+abbrev pub AreDeclaredOnce : List Declared → Type 0
+AreDeclaredOnce variables = AllPairs (λ c d. c.name ≢ d.name) variables
+
+-- each variable is declared once, and there are at most so many
+pub record AreDeclared (variables : List Declared) : Type 0 where
+  pub once : AreDeclaredOnce variables
+  pub few : length variables ≤ variable_limit
+
+-- A filter's names and kinds fit. Each variable is declared before it is used, since all declarations stand before the
+-- first command.
+pub record IsTyped (filter : Program) : Type 0 where
+  pub declared : AreDeclared filter.decls
+  pub body : FitsActs filter.decls filter.body
+
+-- the names that an expression uses, in the order of the text
+abbrev pub names_in : Tree → List (List ℕ)
+names_in (number n) = []
+names_in (address a) = []
+names_in (prefix bits) = []
+names_in (truth b) = []
+names_in (name text) = text ∷ []
+names_in (attribute a) = []
+names_in (defined a) = []
+names_in (group inner) = names_in inner
+names_in (negation inner) = names_in inner
+names_in (binary op left right) = names_in left ++ names_in right
+names_in (member op left set) = names_in left
+names_in (suffixed inner s) = names_in inner
+
+-- the name that an assignment sets, if it sets a variable
+abbrev pub names_of_aim : Aim → List (List ℕ)
+names_of_aim (to_name text) = text ∷ []
+names_of_aim to_metric = []
+names_of_aim to_net = []
+
+-- the names that a command uses or sets, in the order of the text, and those of commands one after another
+abbrev mutual
+  pub names_of_act : Act → List (List ℕ)
+  names_of_act empty = []
+  names_of_act (block body) = names_of_acts body
+  names_of_act (choice test chosen) = names_in test ++ names_of_act chosen
+  names_of_act (choice_else test chosen other) = names_in test ++ (names_of_act chosen ++ names_of_act other)
+  names_of_act (assign aim value) = names_of_aim aim ++ names_in value
+  names_of_act (accept has_text) = []
+  names_of_act (reject has_text) = []
+
+  pub names_of_acts : Acts → List (List ℕ)
+  names_of_acts no_acts = []
+  names_of_acts (act_then first more) = names_of_act first ++ names_of_acts more
+
+-- the number of the variable at each use, in the order of the text
+abbrev pub numbers_of : Program → List ℕ
+numbers_of filter = map (number_of filter.decls) (names_of_acts filter.body)

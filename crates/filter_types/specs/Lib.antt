@@ -1,0 +1,5 @@
+pub mod Answers
+pub mod Codes
+pub mod Kinds
+pub mod Table
+pub mod Turns

@@ -1,0 +1,84 @@
+-- The kinds table: which kinds of operands each form takes, and which kind it gives. None stands where the form does not
+-- take them. As in the BIRD 2.0 User's Guide on filters; what is left out is this project's own choice.
+use Rattle.std.specs.Prelude.{Option, Some, None}
+use Rattle.filter_parser.specs.declared.tree.decl.Kind.{Kind}
+use Rattle.filter_parser.specs.declared.tree.decl.Kind.TheVariants as kind
+use Rattle.filter_parser.specs.declared.tree.expr.Attribute.{Attribute}
+use Rattle.filter_parser.specs.declared.tree.expr.Attribute.TheVariants as attributes
+use Rattle.filter_parser.specs.declared.tree.op.Op.{Op}
+use Rattle.filter_parser.specs.declared.tree.op.Op.TheVariants as o
+use Rattle.filter_parser.specs.declared.tree.op.Suffix.{Suffix}
+use Rattle.filter_parser.specs.declared.tree.op.Suffix.TheVariants as suffix
+
+-- `+ - * /`: two ints give an int
+abbrev pub arithmetic : Kind → Kind → Option Kind
+arithmetic kind.Int kind.Int = Some kind.Int
+arithmetic _ _ = None
+
+-- `= !=`: two of one kind give a bool
+abbrev pub equality : Kind → Kind → Option Kind
+equality kind.Int kind.Int = Some kind.Bool
+equality kind.Bool kind.Bool = Some kind.Bool
+equality kind.Ip kind.Ip = Some kind.Bool
+equality kind.Prefix kind.Prefix = Some kind.Bool
+equality _ _ = None
+
+-- `< > <= >=`: two ints or two ips give a bool
+abbrev pub order : Kind → Kind → Option Kind
+order kind.Int kind.Int = Some kind.Bool
+order kind.Ip kind.Ip = Some kind.Bool
+order _ _ = None
+
+-- `~ !~` between two operands: an ip or a prefix, and a prefix, give a bool
+abbrev pub within : Kind → Kind → Option Kind
+within kind.Ip kind.Prefix = Some kind.Bool
+within kind.Prefix kind.Prefix = Some kind.Bool
+within _ _ = None
+
+-- `&& ||`: two bools give a bool
+abbrev pub logic : Kind → Kind → Option Kind
+logic kind.Bool kind.Bool = Some kind.Bool
+logic _ _ = None
+
+-- the row of each operator between two operands
+abbrev pub operator : Op → Kind → Kind → Option Kind
+operator o.Add = arithmetic
+operator o.Sub = arithmetic
+operator o.Mul = arithmetic
+operator o.Div = arithmetic
+operator o.Equal = equality
+operator o.NotEqual = equality
+operator o.Less = order
+operator o.Greater = order
+operator o.LessEqual = order
+operator o.GreaterEqual = order
+operator o.Match = within
+operator o.NotMatch = within
+operator o.And = logic
+operator o.Or = logic
+
+-- `!`: a bool gives a bool
+abbrev pub negated : Kind → Option Kind
+negated kind.Bool = Some kind.Bool
+negated _ = None
+
+-- `~ !~` with a set: a prefix gives a bool
+abbrev pub in_set : Kind → Option Kind
+in_set kind.Prefix = Some kind.Bool
+in_set _ = None
+
+-- `.ip` and `.len` of a prefix give an ip and an int, `.mask(n)` of an ip gives an ip
+abbrev pub suffixed_by : Suffix → Kind → Option Kind
+suffixed_by suffix.Ip kind.Prefix = Some kind.Ip
+suffixed_by suffix.Len kind.Prefix = Some kind.Int
+suffixed_by (suffix.Mask n) kind.Ip = Some kind.Ip
+suffixed_by _ _ = None
+
+-- `net` is a prefix and `rip_metric` an int
+abbrev pub attribute_kind : Attribute → Kind
+attribute_kind attributes.Net = kind.Prefix
+attribute_kind attributes.RipMetric = kind.Int
+
+-- what an `if` takes
+abbrev pub tested : Kind
+tested = kind.Bool

@@ -1,0 +1,95 @@
+//! The kinds of expressions.
+
+ghost use Rattle.std.specs.Prelude.{◌≡◌, ◌≤◌, ◌++◌, IfOk, length, map};
+ghost use Rattle.filter_parser.specs.Syntax.{view};
+ghost use Rattle.filter_parser.specs.SyntaxCommands.{view_decl};
+ghost use Rattle.filter_types.specs.Answers.{Gives};
+ghost use Rattle.filter_types.specs.Kinds.{kind_in, names_in, number_of, variable_limit};
+ghost use Rattle.filter_types.specs.Turns.{kind_after, kind_with, names_behind};
+
+use crate::fault::TypeFault;
+use crate::table::{Operand, attribute_kind, in_set, negated, operator, suffixed_by};
+use crate::variables::resolve;
+use filter_parser::{Decl, Expr, Kind, Op, Suffix};
+
+/// The kind of an operand with the suffixes behind it.
+fn kind_with_suffixes(operand: Operand, suffixes: &[Suffix]) -> Result<Kind, TypeFault>
+    ensures { Gives result (kind_after operand.entry.kind suffixes.now) }
+{
+    let mut operand = operand;
+    for suffix in suffixes {
+        operand.kind = suffixed_by(*suffix, operand)?;
+    }
+    Ok(operand.kind)
+}
+
+/// The kind of a first operand with the operators behind it, each with the operand at its right.
+#[cycle(kinds)]
+fn kind_of_run(
+    more: &[(Op, Expr)],
+    first: Operand,
+    variables: &[Decl],
+    uses: &mut Vec<u8>,
+) -> Result<Kind, TypeFault>
+    requires { length variables.now ≤ variable_limit }
+    ensures kind { Gives result (kind_with (map view_decl variables.now) first.entry.kind (map (λ p. (p.0, view p.1)) more.now)) }
+    ensures numbers { IfOk result (λ _. uses.new.items
+        ≡ uses.old.items ++ map (number_of (map view_decl variables.now)) (names_behind (map (λ p. (p.0, view p.1)) more.now))) }
+{
+    let mut kind = first.kind;
+    for (op, right) in more {
+        let left = Operand {
+            expr: first.expr,
+            kind,
+        };
+        let right_kind = kind_of(right, variables, uses)?;
+        kind = operator(
+            *op,
+            left,
+            Operand {
+                expr: right,
+                kind: right_kind,
+            },
+        )?;
+    }
+    Ok(kind)
+}
+
+/// The kind of an expression, of which each use of a variable puts its number behind those of earlier uses.
+#[cycle(kinds)]
+pub(crate) fn kind_of(
+    expr: &Expr,
+    variables: &[Decl],
+    uses: &mut Vec<u8>,
+) -> Result<Kind, TypeFault>
+    requires { length variables.now ≤ variable_limit }
+    ensures kind { Gives result (kind_in (map view_decl variables.now) (view expr.now)) }
+    ensures numbers { IfOk result (λ _. uses.new.items
+        ≡ uses.old.items ++ map (number_of (map view_decl variables.now)) (names_in (view expr.now))) }
+{
+    match expr {
+        Expr::Number(_, _) => Ok(Kind::Int),
+        Expr::Address(_, _) => Ok(Kind::Ip),
+        Expr::Prefix(_, _) => Ok(Kind::Prefix),
+        Expr::Truth(_, _) | Expr::Defined(_, _) => Ok(Kind::Bool),
+        Expr::Name(at, name) => resolve(*at, name, variables, uses),
+        Expr::Attribute(_, attribute) => Ok(attribute_kind(*attribute)),
+        Expr::Group(_, inner) => kind_of(inner, variables, uses),
+        Expr::Not(_, inner) => {
+            let kind = kind_of(inner, variables, uses)?;
+            negated(Operand { expr: inner, kind })
+        }
+        Expr::Run(first, more) => {
+            let kind = kind_of(first, variables, uses)?;
+            kind_of_run(more, Operand { expr: first, kind }, variables, uses)
+        }
+        Expr::Member(_, left, _) => {
+            let kind = kind_of(left, variables, uses)?;
+            in_set(Operand { expr: left, kind })
+        }
+        Expr::Suffixed(inner, suffixes) => {
+            let kind = kind_of(inner, variables, uses)?;
+            kind_with_suffixes(Operand { expr: inner, kind }, suffixes)
+        }
+    }
+}
