@@ -1,0 +1,15 @@
+pub mod Answered
+pub mod CommandRuns
+pub mod ExpressionRuns
+pub mod Masks
+pub mod Measured
+pub mod Operators
+pub mod Parts
+pub mod Reaching
+pub mod Rows
+pub mod Scenes
+pub mod Steps
+pub mod Views
+pub mod Whole
+pub mod Within
+pub mod Written

@@ -1,0 +1,17 @@
+-- What is seen at a question for a set.
+use Rattle.std.proofs.Common.{◌≡◌, Box, Global, ap, sym, ◌∙◌, map}
+use Rattle.filter_parser.specs.Syntax.{Tree, member, view, view_expr_step, view_item}
+use Rattle.filter_parser.specs.declared.tree.expr.Expr.{Expr}
+use Rattle.filter_parser.specs.declared.tree.expr.Expr.TheFolds.{fold-roll-Expr}
+use Rattle.filter_parser.specs.declared.tree.expr.Expr.TheOpen.{Expr-F}
+use Rattle.filter_parser.specs.declared.tree.expr.Expr.TheVariants as e
+use Rattle.filter_parser.specs.declared.tree.op.Membership.{Membership}
+use Rattle.filter_parser.specs.declared.tree.set.Set.{Set}
+
+pub view_member : (x : Expr) (op : Membership) (left : Box Expr Global) (set : Set) (y : Expr)
+    → x ≡ e.Member op left set → y ≡ left.value
+    → view x ≡ member op (view y) (map view_item set.patterns.items)
+view_member x op left set y is is_left =
+    ap view (is ∙ sym (e.rolls-Member op left set))
+    ∙ fold-roll-Expr Tree view_expr_step (Expr-F.Member op left set)
+    ∙ ap (λ z. member op (view z) (map view_item set.patterns.items)) (sym is_left)

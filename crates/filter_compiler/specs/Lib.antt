@@ -1,0 +1,9 @@
+pub mod Codes
+pub mod Limits
+pub mod Meaning
+pub mod Measures
+pub mod Need
+pub mod Same
+pub mod Translation
+pub mod Verdicts
+pub mod Writing

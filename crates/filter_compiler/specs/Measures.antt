@@ -1,0 +1,95 @@
+-- How large the code of each part is, counted no further than just past the limits. (This project's own choice.)
+use Rattle.std.specs.Prelude.{ℕ, ◌+◌, min, max, List, [], ◌∷◌, length}
+use Rattle.filter_parser.specs.declared.tree.op.Membership.{Membership}
+use Rattle.filter_parser.specs.declared.tree.op.Membership.TheVariants as membership
+use Rattle.filter_parser.specs.declared.tree.op.Op.{Op}
+use Rattle.filter_parser.specs.declared.tree.op.Op.TheVariants as o
+use Rattle.filter_parser.specs.declared.tree.op.Suffix.{Suffix}
+use Rattle.filter_parser.specs.Syntax.{Tree, number, address, prefix, truth, name, attribute, defined, group, negation, binary, member, suffixed}
+use Rattle.filter_parser.specs.SyntaxCommands.{Act, empty, block, choice, choice_else, assign, accept, reject, Acts, no_acts, act_then, Aim, to_name, to_metric, to_net}
+use Rattle.filter_parser.specs.SyntaxText as syntax
+use Rattle.filter_compiler.specs.declared.measure.Measure.{Measure}
+
+-- instructions and no set
+abbrev pub instructions_alone : ℕ → Measure
+instructions_alone n = record { instructions = n; sets = 0; patterns = 0 }
+
+-- two parts
+abbrev pub plus : Measure → Measure → Measure
+plus a b = record {
+  instructions = min (a.instructions + b.instructions) 1025;
+  sets = min (a.sets + b.sets) 65;
+  patterns = max a.patterns b.patterns;
+}
+
+-- a part and a set of so many patterns
+abbrev pub with_set : Measure → ℕ → Measure
+with_set a patterns = plus a (record { instructions = 0; sets = 1; patterns = patterns })
+
+-- the instructions that an operator has beside those of its operands
+abbrev pub own_count : Op → ℕ
+own_count o.NotEqual = 2
+own_count o.Greater = 2
+own_count o.GreaterEqual = 2
+own_count o.NotMatch = 2
+own_count o.And = 3
+own_count o.Or = 3
+own_count _ = 1
+
+abbrev pub member_count : Membership → ℕ
+member_count membership.In = 1
+member_count membership.NotIn = 2
+
+-- a part with an operator and the operand at its right
+abbrev pub with_right : Measure → Op → Measure → Measure
+with_right left op right = plus (plus left right) (instructions_alone (own_count op))
+
+-- the code of an expression
+abbrev pub tree_measure : Tree → Measure
+tree_measure (number n) = instructions_alone 1
+tree_measure (address a) = instructions_alone 1
+tree_measure (prefix bits) = instructions_alone 1
+tree_measure (truth b) = instructions_alone 1
+tree_measure (name text) = instructions_alone 1
+tree_measure (attribute a) = instructions_alone 1
+tree_measure (defined a) = instructions_alone 1
+tree_measure (group inner) = tree_measure inner
+tree_measure (negation inner) = plus (tree_measure inner) (instructions_alone 1)
+tree_measure (binary op left right) = with_right (tree_measure left) op (tree_measure right)
+tree_measure (member op left set) = plus (with_set (tree_measure left) (length set)) (instructions_alone (member_count op))
+tree_measure (suffixed inner s) = plus (tree_measure inner) (instructions_alone 1)
+
+-- a part with operators behind it, each with the operand at its right
+abbrev pub run_measure : Measure → List (Op × Tree) → Measure
+run_measure left [] = left
+run_measure left (x ∷ xs) = run_measure (with_right left x.0 (tree_measure x.1)) xs
+
+-- a part with suffixes
+abbrev pub suffixes_measure : Measure → List Suffix → Measure
+suffixes_measure inner [] = inner
+suffixes_measure inner (x ∷ xs) = suffixes_measure (plus inner (instructions_alone 1)) xs
+
+abbrev pub aim_count : Aim → ℕ
+aim_count (to_name text) = 1
+aim_count to_metric = 3
+aim_count to_net = 0
+
+-- the code of a command, and a part with that of commands behind it
+abbrev mutual
+  pub act_measure : Act → Measure
+  act_measure empty = instructions_alone 0
+  act_measure (block body) = acts_measure (instructions_alone 0) body
+  act_measure (choice test chosen) = plus (plus (tree_measure test) (act_measure chosen)) (instructions_alone 1)
+  act_measure (choice_else test chosen other) =
+      plus (plus (plus (tree_measure test) (act_measure chosen)) (act_measure other)) (instructions_alone 2)
+  act_measure (assign aim value) = plus (tree_measure value) (instructions_alone (aim_count aim))
+  act_measure (accept has_text) = instructions_alone 1
+  act_measure (reject has_text) = instructions_alone 1
+
+  pub acts_measure : Measure → Acts → Measure
+  acts_measure before no_acts = before
+  acts_measure before (act_then first more) = acts_measure (plus before (act_measure first)) more
+
+-- the code of a filter: two instructions for each variable, and a REJECT at the end
+abbrev pub filter_measure : syntax.Program → Measure
+filter_measure filter = acts_measure (instructions_alone (length filter.decls + length filter.decls + 1)) filter.body

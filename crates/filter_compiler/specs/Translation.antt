@@ -1,0 +1,174 @@
+-- The translation of filters: the code of each form. (This project's own choice.)
+use Rattle.std.specs.Prelude.{ℕ, ◌+◌, min, true, false, List, [], ◌∷◌, ◌++◌, length, map}
+use Rattle.prefix_patterns.specs.Matching.{PrefixPattern}
+use Rattle.filter_code.specs.declared.instruction.Instr.{Instr}
+use Rattle.filter_code.specs.declared.instruction.Instr.TheVariants as instr
+use Rattle.filter_parser.specs.declared.tree.decl.Kind.{Kind}
+use Rattle.filter_parser.specs.declared.tree.decl.Kind.TheVariants as kind
+use Rattle.filter_parser.specs.declared.tree.expr.Attribute.{Attribute}
+use Rattle.filter_parser.specs.declared.tree.expr.Attribute.TheVariants as attributes
+use Rattle.filter_parser.specs.declared.tree.op.Membership.{Membership}
+use Rattle.filter_parser.specs.declared.tree.op.Membership.TheVariants as membership
+use Rattle.filter_parser.specs.declared.tree.op.Op.{Op}
+use Rattle.filter_parser.specs.declared.tree.op.Op.TheVariants as o
+use Rattle.filter_parser.specs.declared.tree.op.Suffix.{Suffix}
+use Rattle.filter_parser.specs.declared.tree.op.Suffix.TheVariants as suffix
+use Rattle.filter_parser.specs.Syntax.{Tree, number, address, prefix, truth, name, attribute, defined, group, negation, binary, member, suffixed, pattern_of}
+use Rattle.filter_parser.specs.SyntaxCommands.{Act, empty, block, choice, choice_else, assign, accept, reject, Acts, no_acts, act_then, Aim, to_name, to_metric, to_net, Declared}
+use Rattle.filter_parser.specs.SyntaxText as syntax
+use Rattle.filter_code.specs.Program as code
+use Rattle.filter_types.specs.Kinds.{number_of}
+
+-- the sets of an expression, in the order of the text
+abbrev pub sets_of : Tree → List (List PrefixPattern)
+sets_of (number n) = []
+sets_of (address a) = []
+sets_of (prefix bits) = []
+sets_of (truth b) = []
+sets_of (name text) = []
+sets_of (attribute a) = []
+sets_of (defined a) = []
+sets_of (group inner) = sets_of inner
+sets_of (negation inner) = sets_of inner
+sets_of (binary op left right) = sets_of left ++ sets_of right
+sets_of (member op left set) = sets_of left ++ map pattern_of set ∷ []
+sets_of (suffixed inner s) = sets_of inner
+
+-- the instructions of an operator that takes both operands, behind them
+abbrev pub operator_code : Op → List Instr
+operator_code o.Add = instr.Add ∷ []
+operator_code o.Sub = instr.Sub ∷ []
+operator_code o.Mul = instr.Mul ∷ []
+operator_code o.Div = instr.Div ∷ []
+operator_code o.Equal = instr.Eq ∷ []
+operator_code o.NotEqual = instr.Eq ∷ instr.Not ∷ []
+operator_code o.Less = instr.Lt ∷ []
+operator_code o.Greater = instr.Le ∷ instr.Not ∷ []
+operator_code o.LessEqual = instr.Le ∷ []
+operator_code o.GreaterEqual = instr.Lt ∷ instr.Not ∷ []
+operator_code o.Match = instr.Within ∷ []
+operator_code o.NotMatch = instr.Within ∷ instr.Not ∷ []
+operator_code o.And = []
+operator_code o.Or = []
+
+-- a right side that is run where the left one is true, and otherwise false
+abbrev pub and_code : List Instr → List Instr → List Instr
+and_code left right =
+    left ++ instr.JumpIfNot (length right + 1) ∷ (right ++ instr.Jump 1 ∷ instr.Bool false ∷ [])
+
+-- true where the left side is true, and otherwise the right side, which is run
+abbrev pub or_code : List Instr → List Instr → List Instr
+or_code left right = left ++ instr.JumpIfNot 2 ∷ instr.Bool true ∷ instr.Jump (length right) ∷ right
+
+-- an operator and its operands
+abbrev pub joined_code : Op → List Instr → List Instr → List Instr
+joined_code o.And left right = and_code left right
+joined_code o.Or left right = or_code left right
+joined_code op left right = left ++ (right ++ operator_code op)
+
+-- whether a set matches, or does not
+abbrev pub member_code : Membership → ℕ → List Instr
+member_code membership.In set = instr.Member set ∷ []
+member_code membership.NotIn set = instr.Member set ∷ instr.Not ∷ []
+
+-- an address has 32 bits, and no text has a mask of more
+abbrev pub suffix_code : Suffix → Instr
+suffix_code suffix.Ip = instr.Addr
+suffix_code suffix.Len = instr.Len
+suffix_code (suffix.Mask n) = instr.Mask (min n 32)
+
+abbrev pub attribute_code : Attribute → Instr
+attribute_code attributes.Net = instr.Net
+attribute_code attributes.RipMetric = instr.Metric
+
+-- the code of an expression among these declarations, where so many sets stand before it in the text
+abbrev pub expression_code : List Declared → ℕ → Tree → List Instr
+expression_code decls sets (number n) = instr.Int n ∷ []
+expression_code decls sets (address a) = instr.Ip (record { 0 = a }) ∷ []
+expression_code decls sets (prefix bits) = instr.Prefix bits ∷ []
+expression_code decls sets (truth b) = instr.Bool b ∷ []
+expression_code decls sets (name text) = instr.Load (number_of decls text) ∷ []
+expression_code decls sets (attribute a) = attribute_code a ∷ []
+expression_code decls sets (defined a) = instr.Bool true ∷ []
+expression_code decls sets (group inner) = expression_code decls sets inner
+expression_code decls sets (negation inner) = expression_code decls sets inner ++ instr.Not ∷ []
+expression_code decls sets (binary op left right) =
+    joined_code op (expression_code decls sets left) (expression_code decls (sets + length (sets_of left)) right)
+expression_code decls sets (member op left set) =
+    expression_code decls sets left ++ member_code op (sets + length (sets_of left))
+expression_code decls sets (suffixed inner s) = expression_code decls sets inner ++ suffix_code s ∷ []
+
+-- the sets of a command and of commands one after another
+abbrev mutual
+  pub act_sets : Act → List (List PrefixPattern)
+  act_sets empty = []
+  act_sets (block body) = acts_sets body
+  act_sets (choice test chosen) = sets_of test ++ act_sets chosen
+  act_sets (choice_else test chosen other) = sets_of test ++ (act_sets chosen ++ act_sets other)
+  act_sets (assign aim value) = sets_of value
+  act_sets (accept has_text) = []
+  act_sets (reject has_text) = []
+
+  pub acts_sets : Acts → List (List PrefixPattern)
+  acts_sets no_acts = []
+  acts_sets (act_then first more) = act_sets first ++ acts_sets more
+
+-- a command that is passed over where the test is false
+abbrev pub choice_code : List Instr → List Instr → List Instr
+choice_code test chosen = test ++ instr.JumpIfNot (length chosen) ∷ chosen
+
+-- one of two commands
+abbrev pub choice_else_code : List Instr → List Instr → List Instr → List Instr
+choice_else_code test chosen other =
+    test ++ instr.JumpIfNot (length chosen + 1) ∷ (chosen ++ instr.Jump (length other) ∷ other)
+
+-- what sets a variable, and the metric: at least the metric received. `net` is never assigned
+abbrev pub aim_code : List Declared → Aim → List Instr
+aim_code decls (to_name text) = instr.Store (number_of decls text) ∷ []
+aim_code decls to_metric = instr.Received ∷ instr.Max ∷ instr.SetMetric ∷ []
+aim_code decls to_net = []
+
+-- the code of a command, and of commands one after another
+abbrev mutual
+  pub act_code : List Declared → ℕ → Act → List Instr
+  act_code decls sets empty = []
+  act_code decls sets (block body) = acts_code decls sets body
+  act_code decls sets (choice test chosen) =
+      choice_code (expression_code decls sets test) (act_code decls (sets + length (sets_of test)) chosen)
+  act_code decls sets (choice_else test chosen other) =
+      choice_else_code (expression_code decls sets test)
+      (act_code decls (sets + length (sets_of test)) chosen)
+      (act_code decls (sets + length (sets_of test) + length (act_sets chosen)) other)
+  act_code decls sets (assign aim value) = expression_code decls sets value ++ aim_code decls aim
+  act_code decls sets (accept has_text) = instr.Accept ∷ []
+  act_code decls sets (reject has_text) = instr.Reject ∷ []
+
+  pub acts_code : List Declared → ℕ → Acts → List Instr
+  acts_code decls sets no_acts = []
+  acts_code decls sets (act_then first more) =
+      act_code decls sets first ++ acts_code decls (sets + length (act_sets first)) more
+
+-- what puts a variable's first value on the stack
+abbrev pub first_value : Kind → Instr
+first_value kind.Int = instr.Int 0
+first_value kind.Bool = instr.Bool false
+first_value kind.Ip = instr.Ip (record { 0 = 0 })
+first_value kind.Prefix = instr.Prefix []
+
+-- the declarations, where so many stand before them
+abbrev pub declarations_code : ℕ → List Declared → List Instr
+declarations_code before [] = []
+declarations_code before (d ∷ rest) = first_value d.kind ∷ instr.Store before ∷ declarations_code (before + 1) rest
+
+-- the instructions of a filter: its declarations, its commands, and a REJECT at the end
+abbrev pub instructions : syntax.Program → List Instr
+instructions filter =
+    declarations_code 0 filter.decls ++ (acts_code filter.decls 0 filter.body ++ instr.Reject ∷ [])
+
+-- the code of a filter
+abbrev pub code_of : syntax.Program → code.Program
+code_of filter = record {
+  locals = length filter.decls;
+  sets = acts_sets filter.body;
+  instrs = instructions filter;
+}

@@ -1,0 +1,233 @@
+//! The code of expressions.
+
+ghost use Rattle.std.specs.Prelude.{◌≡◌, ◌+◌, ◌≤◌, [], ◌∷◌, ◌++◌, IfOk, OnOk, length, map};
+ghost use Rattle.filter_parser.specs.Syntax.{pattern_of, view, view_item};
+ghost use Rattle.filter_parser.specs.SyntaxCommands.{view_decl};
+ghost use Rattle.filter_types.specs.Kinds.{number_of, variable_limit};
+ghost use Rattle.filter_compiler.specs.Measures.{tree_measure};
+ghost use Rattle.filter_compiler.specs.Translation.{attribute_code, member_code, operator_code, sets_of, suffix_code};
+ghost use Rattle.filter_compiler.specs.Writing.{right_part, set_number, sets_behind, written, written_behind};
+
+use crate::measuring::measure;
+use crate::output::{Output, put};
+use filter_code::Instr;
+use filter_parser::{Attribute, Decl, Expr, Membership, Op, Set, SetPattern, Suffix};
+use prefix_patterns::{Pattern, PatternSet};
+use std::alloc::{AllocError, Global};
+
+/// The number of a variable, and the count of the variables where none has the name.
+fn number_of(variables: &[Decl], name: &[u8]) -> usize
+    ensures value { result ≡ number_of (map view_decl variables.now) name.now }
+    ensures limit { result ≤ length variables.now }
+{
+    for (number, variable) in variables.iter().enumerate() {
+        if variable.name.as_slice() == name {
+            return number;
+        }
+    }
+    variables.len()
+}
+
+/// The number of a variable's local variable.
+pub(crate) fn local_of(variables: &[Decl], name: &[u8]) -> u8
+    requires { length variables.now ≤ variable_limit }
+    ensures { result ≡ number_of (map view_decl variables.now) name.now }
+{
+    number_of(variables, name) as u8
+}
+
+/// The instruction that puts an attribute of the route on the stack.
+fn attribute_instr(attribute: Attribute) -> Instr
+    ensures { result ≡ attribute_code attribute }
+{
+    match attribute {
+        Attribute::Net => Instr::Net,
+        Attribute::RipMetric => Instr::Metric,
+    }
+}
+
+/// The instruction of a suffix. An address has 32 bits, and no text has a mask of more.
+fn suffix_instr(suffix: Suffix) -> Instr
+    ensures { result ≡ suffix_code suffix }
+{
+    match suffix {
+        Suffix::Ip => Instr::Addr,
+        Suffix::Len => Instr::Len,
+        Suffix::Mask(bits) => Instr::Mask(bits.min(32)),
+    }
+}
+
+/// The number of instructions of an expression.
+fn size_of(expr: &Expr) -> u16
+    ensures value { result ≡ (tree_measure (view expr.now)).instructions }
+    ensures limit { result ≤ 1025 }
+{
+    measure(expr).instructions as u16
+}
+
+/// Writes an instruction, and NOT behind it.
+fn put_opposite(out: &mut Output, instr: Instr) -> Result<(), AllocError>
+    ensures code { OnOk result (out.new.instrs.items ≡ out.old.instrs.items ++ instr ∷ Instr.Not ∷ []) }
+    ensures sets { out.new.sets.items ≡ out.old.sets.items }
+{
+    put(out, instr)?;
+    put(out, Instr::Not)
+}
+
+/// Writes an operator that takes both operands.
+fn emit_operator(op: Op, out: &mut Output) -> Result<(), AllocError>
+    ensures code { OnOk result (out.new.instrs.items ≡ out.old.instrs.items ++ operator_code op) }
+    ensures sets { out.new.sets.items ≡ out.old.sets.items }
+{
+    match op {
+        Op::Add => put(out, Instr::Add),
+        Op::Sub => put(out, Instr::Sub),
+        Op::Mul => put(out, Instr::Mul),
+        Op::Div => put(out, Instr::Div),
+        Op::Equal => put(out, Instr::Eq),
+        Op::NotEqual => put_opposite(out, Instr::Eq),
+        Op::Less => put(out, Instr::Lt),
+        Op::Greater => put_opposite(out, Instr::Le),
+        Op::LessEqual => put(out, Instr::Le),
+        Op::GreaterEqual => put_opposite(out, Instr::Lt),
+        Op::Match => put(out, Instr::Within),
+        Op::NotMatch => put_opposite(out, Instr::Within),
+        Op::And | Op::Or => Ok(()),
+    }
+}
+
+/// Writes suffixes from the left.
+fn emit_suffixes(suffixes: &[Suffix], out: &mut Output) -> Result<(), AllocError>
+    ensures code { OnOk result (out.new.instrs.items ≡ out.old.instrs.items ++ map suffix_code suffixes.now) }
+    ensures sets { OnOk result (out.new.sets.items ≡ out.old.sets.items) }
+{
+    for suffix in suffixes {
+        put(out, suffix_instr(*suffix))?;
+    }
+    Ok(())
+}
+
+/// The patterns that a set means.
+fn patterns_of(alloc: Global, set: &[SetPattern]) -> Result<Vec<Pattern>, AllocError>
+    ensures { IfOk result (λ patterns. patterns.items ≡ map pattern_of (map view_item set.now)) }
+{
+    let mut patterns = Vec::new(alloc);
+    for item in set {
+        patterns.push(item.pattern())?;
+    }
+    Ok(patterns)
+}
+
+/// The set of the code that a set means. The filter was measured before, and none of its sets is too large, so that
+/// only memory can be wanting.
+fn set_of(alloc: Global, set: &Set) -> Result<PatternSet, AllocError>
+    ensures { IfOk result (λ made. made ≡ map pattern_of (map view_item set.now.patterns.items)) }
+{
+    let patterns = patterns_of(alloc, &set.patterns)?;
+    match PatternSet::build(alloc, &patterns) {
+        Ok(made) => Ok(made),
+        Err(_) => Err(AllocError),
+    }
+}
+
+/// Keeps a set, and answers its number. The filter was measured before, and has no more sets than numbers.
+fn keep_set(set: &Set, out: &mut Output) -> Result<u8, AllocError>
+    ensures number { IfOk result (λ number. number ≡ set_number (length out.old.sets.items)) }
+    ensures sets { IfOk result (λ _. out.new.sets.items ≡ out.old.sets.items ++ map pattern_of (map view_item set.now.patterns.items) ∷ []) }
+    ensures code { out.new.instrs.items ≡ out.old.instrs.items }
+{
+    let number = out.sets.len().min(255) as u8;
+    let made = set_of(out.alloc, set)?;
+    out.sets.push(made)?;
+    Ok(number)
+}
+
+/// Writes the question whether an operand matches a set.
+fn emit_member(op: Membership, set: &Set, out: &mut Output) -> Result<(), AllocError>
+    ensures code { OnOk result (out.new.instrs.items ≡ out.old.instrs.items ++ member_code op (set_number (length out.old.sets.items))) }
+    ensures sets { OnOk result (out.new.sets.items ≡ out.old.sets.items ++ map pattern_of (map view_item set.now.patterns.items) ∷ []) }
+{
+    let number = keep_set(set, out)?;
+    match op {
+        Membership::In => put(out, Instr::Member(number)),
+        Membership::NotIn => put_opposite(out, Instr::Member(number)),
+    }
+}
+
+/// Writes an operator with the operand at its right.
+#[cycle(expressions)]
+fn emit_right(op: Op, right: &Expr, variables: &[Decl], out: &mut Output) -> Result<(), AllocError>
+    requires { length variables.now ≤ variable_limit }
+    ensures code { OnOk result (out.new.instrs.items ≡ out.old.instrs.items
+        ++ right_part op (tree_measure (view right.now)).instructions (written (map view_decl variables.now) (length out.old.sets.items) (view right.now))) }
+    ensures sets { OnOk result (out.new.sets.items ≡ out.old.sets.items ++ sets_of (view right.now)) }
+{
+    match op {
+        Op::And => {
+            put(out, Instr::JumpIfNot(size_of(right) + 1))?;
+            emit(right, variables, out)?;
+            put(out, Instr::Jump(1))?;
+            put(out, Instr::Bool(false))
+        }
+        Op::Or => {
+            put(out, Instr::JumpIfNot(2))?;
+            put(out, Instr::Bool(true))?;
+            put(out, Instr::Jump(size_of(right)))?;
+            emit(right, variables, out)
+        }
+        _ => {
+            emit(right, variables, out)?;
+            emit_operator(op, out)
+        }
+    }
+}
+
+/// Writes operators, each with the operand at its right.
+#[cycle(expressions)]
+fn emit_run(more: &[(Op, Expr)], variables: &[Decl], out: &mut Output) -> Result<(), AllocError>
+    requires { length variables.now ≤ variable_limit }
+    ensures code { OnOk result (out.new.instrs.items ≡ out.old.instrs.items
+        ++ written_behind (map view_decl variables.now) (length out.old.sets.items) (map (λ p. (p.0, view p.1)) more.now)) }
+    ensures sets { OnOk result (out.new.sets.items ≡ out.old.sets.items ++ sets_behind (map (λ p. (p.0, view p.1)) more.now)) }
+{
+    for (op, right) in more {
+        emit_right(*op, right, variables, out)?;
+    }
+    Ok(())
+}
+
+/// Writes an expression.
+#[cycle(expressions)]
+pub(crate) fn emit(expr: &Expr, variables: &[Decl], out: &mut Output) -> Result<(), AllocError>
+    requires { length variables.now ≤ variable_limit }
+    ensures code { OnOk result (out.new.instrs.items
+        ≡ out.old.instrs.items ++ written (map view_decl variables.now) (length out.old.sets.items) (view expr.now)) }
+    ensures sets { OnOk result (out.new.sets.items ≡ out.old.sets.items ++ sets_of (view expr.now)) }
+{
+    match expr {
+        Expr::Number(_, number) => put(out, Instr::Int(*number)),
+        Expr::Address(_, address) => put(out, Instr::Ip(*address)),
+        Expr::Prefix(_, prefix) => put(out, Instr::Prefix(*prefix)),
+        Expr::Truth(_, truth) => put(out, Instr::Bool(*truth)),
+        Expr::Name(_, name) => put(out, Instr::Load(local_of(variables, name))),
+        Expr::Attribute(_, attribute) => put(out, attribute_instr(*attribute)),
+        Expr::Defined(_, _) => put(out, Instr::Bool(true)),
+        Expr::Group(_, inner) => emit(inner, variables, out),
+        Expr::Not(_, inner) => {
+            emit(inner, variables, out)?;
+            put(out, Instr::Not)
+        }
+        Expr::Run(first, more) => {
+            emit(first, variables, out)?;
+            emit_run(more, variables, out)
+        }
+        Expr::Member(op, left, set) => {
+            emit(left, variables, out)?;
+            emit_member(*op, set, out)
+        }
+        Expr::Suffixed(inner, suffixes) => {
+            emit(inner, variables, out)?;
+            emit_suffixes(suffixes, out)
+        }
+    }
+}
