@@ -1,0 +1,19 @@
+pub mod Arithmetic
+pub mod Arrivals
+pub mod Budgets
+pub mod Costs
+pub mod Depths
+pub mod Ends
+pub mod Examples
+pub mod Fits
+pub mod Given
+pub mod Heights
+pub mod Meeting
+pub mod Parts
+pub mod Passes
+pub mod Placed
+mod Rows
+pub mod Sizes
+pub mod Sound
+pub mod Steps
+pub mod Visits

@@ -1,0 +1,72 @@
+-- What is handed on goes on inside the code.
+use Rattle.std.proofs.Common.{◌≡◌, ℕ, Bool, true, false, Option, Some, None, List, ◌++◌, length, map, take, refl, ap, sym, subst, ◌∙◌}
+use Rattle.std.proofs.Math.Seq.{take-append_seam}
+use Rattle.prefix_patterns.specs.Matching.{PrefixPattern}
+use Rattle.std.specs.Prelude.{slice_get}
+use Rattle.filter_code.specs.declared.instruction.Instr.{Instr}
+use Rattle.filter_code.specs.declared.outcome.FaultKind.{FaultKind}
+use Rattle.filter_code.specs.Program.{Program}
+use Rattle.filter_code.specs.Table.{Drawn, Bad, Good, draw, leads}
+use Rattle.filter_verifier.specs.declared.fact.Fact.{Fact}
+use Rattle.filter_verifier.specs.Arrivals.{Arrival, Unreached, Unlike, Arrived, Visit, Passed, unless_refused, unless_over, if_inside, judge, leads_below, visit, visit_known, visit_places}
+use Rattle.filter_verifier.specs.Facts.{kind_of_fact, all_known}
+use Rattle.filter_verifier.specs.Layout.{Layout}
+use Rattle.filter_verifier.specs.Pieces.{arrival_of_places, frame_of, going_on}
+
+refused_passed : (o : Option FaultKind) (at : ℕ) (v : Visit) (next : Arrival) → unless_refused o at v ≡ Passed next → v ≡ Passed next
+refused_passed None at v next e = e
+refused_passed (Some why) at v next e = cc
+
+over_passed : (over : Bool) (at : ℕ) (v : Visit) (next : Arrival) → unless_over over at v ≡ Passed next → v ≡ Passed next
+over_passed false at v next e = e
+over_passed true at v next e = cc
+
+inside_passed : (inside : Bool) (at : ℕ) (v : Visit) (next : Arrival) → if_inside inside at v ≡ Passed next → inside ≡ true
+inside_passed true at v next e = refl
+inside_passed false at v next e = cc
+
+judged_inside : (count size at : ℕ) (locals : List (Option Fact)) (i : Instr) (drawn : Drawn Fact) (next : Arrival) → judge count size at locals i drawn ≡ Passed next → leads_below at count (leads i) ≡ true
+judged_inside count size at locals i (Bad why) next e = cc
+judged_inside count size at locals i (Good operands rest) next e = inside_passed _ at _ next (over_passed _ at _ next (refused_passed _ at _ next e))
+
+known_inside : (program : Program) (size at : ℕ) (locals : List (Option Fact)) (stack : List Fact) (found : Option Instr) (i : Instr) (next : Arrival) → found ≡ Some i → visit_known program size at locals stack found ≡ Passed next → leads_below at (length program.instrs) (leads i) ≡ true
+known_inside program size at locals stack None i next is e = cc
+known_inside program size at locals stack (Some j) i next is e =
+    let same : j ≡ i = cc in
+    judged_inside (length program.instrs) size at locals i (draw kind_of_fact (length program.sets) i (frame_of stack locals)) next
+    (sym (ap (λ (x : Instr). judge (length program.instrs) size at locals x (draw kind_of_fact (length program.sets) x (frame_of stack locals))) same) ∙ e)
+
+placed_inside : (program : Program) (size at : ℕ) (locals : List (Option Fact)) (known : Option (List Fact)) (i : Instr) (next : Arrival) → slice_get program.instrs at ≡ Some i → visit_places program size at locals known ≡ Passed next → leads_below at (length program.instrs) (leads i) ≡ true
+placed_inside program size at locals None i next is e = cc
+placed_inside program size at locals (Some stack) i next is e = known_inside program size at locals stack (slice_get program.instrs at) i next is e
+
+pub passed_inside : (program : Program) (size at : ℕ) (a : Arrival) (i : Instr) (next : Arrival) → slice_get program.instrs at ≡ Some i → visit program size at a ≡ Passed next → leads_below at (length program.instrs) (leads i) ≡ true
+passed_inside program size at Unreached i next is e = cc
+passed_inside program size at Unlike i next is e = cc
+passed_inside program size at (Arrived stack locals) i next is e = placed_inside program size at locals (all_known stack) i next is e
+
+-- an instruction that has passed the tests of its operands and of the stack, and goes on inside the code
+gone : (program : Program) (size at : ℕ) (locals after : List (Option Fact)) (stack above : List Fact) (i : Instr) (places : Layout) →
+    slice_get program.instrs at ≡ Some i →
+    leads_below at (length program.instrs) (leads i) ≡ true →
+    judge (length program.instrs) size at locals i (draw kind_of_fact (length program.sets) i (frame_of stack locals)) ≡ going_on (length program.instrs) at i above after →
+    places ≡ record { stack = map (λ f. Some f) above; locals = after } →
+    Passed (arrival_of_places places) ≡ visit_known program size at locals stack (slice_get program.instrs at)
+gone program size at locals after stack above i places is inside judged laid =
+    ap (λ (l : Layout). Passed (arrival_of_places l)) laid
+    ∙ sym (ap (visit_known program size at locals stack) is ∙ (judged ∙ ap (λ (b : Bool). if_inside b at (Passed (Arrived (map (λ f. Some f) above) after))) inside))
+
+-- the same with what the code holds: a copy of the local variables, the sets, and the variables as a part of a list
+pub gone_on : (program : Program) (size at width : ℕ) (locals held after more : List (Option Fact)) (stack above : List Fact) (sets : List (List PrefixPattern)) (i : Instr) (places : Layout) →
+    held ≡ locals → sets ≡ program.sets → width ≡ length after →
+    slice_get program.instrs at ≡ Some i →
+    leads_below at (length program.instrs) (leads i) ≡ true →
+    judge (length program.instrs) size at held i (draw kind_of_fact (length sets) i (frame_of stack held)) ≡ going_on (length program.instrs) at i above after →
+    places ≡ record { stack = map (λ f. Some f) above; locals = take width (after ++ more) } →
+    Passed (arrival_of_places places) ≡ visit_known program size at locals stack (slice_get program.instrs at)
+gone_on program size at width locals held after more stack above sets i places same same_sets wide is inside judged laid =
+    let P : List (Option Fact) → Type 0 = λ l. judge (length program.instrs) size at l i (draw kind_of_fact (length sets) i (frame_of stack l)) ≡ going_on (length program.instrs) at i above after in
+    let Q : List (List PrefixPattern) → Type 0 = λ s. judge (length program.instrs) size at locals i (draw kind_of_fact (length s) i (frame_of stack locals)) ≡ going_on (length program.instrs) at i above after in
+    let front : take width (after ++ more) ≡ after = rw wide (take-append_seam after more) in
+    let L : List (Option Fact) → Layout = λ l. record { stack = map (λ f. Some f) above; locals = l } in
+    gone program size at locals after stack above i places is inside (subst Q same_sets (subst P same judged)) (laid ∙ ap L front)

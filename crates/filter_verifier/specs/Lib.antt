@@ -1,0 +1,9 @@
+pub mod Arrivals
+pub mod Bounds
+pub mod Checked
+pub mod Facts
+pub mod Faults
+pub mod Layout
+pub mod Pieces
+pub mod Safe
+pub mod Spans

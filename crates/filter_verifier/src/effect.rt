@@ -1,0 +1,239 @@
+//! How an instruction carries on what is known.
+
+ghost use Rattle.std.specs.Prelude.{◌≡◌, ◌<◌, ◌≤◌, ℕ, true, false, ◌∷◌, Some, length, slice_get, MatchOption, MatchResult};
+ghost use Rattle.filter_code.specs.declared.limits.TheConstants.{STACK_LIMIT};
+ghost use Rattle.filter_code.specs.declared.outcome.FaultKind.TheVariants as fault;
+ghost use Rattle.filter_code.specs.Table.{One, Two, Good, Bad, are_alike, are_nested, are_ordered, draw, each_is, is_bool, is_int, is_ip, is_prefix, one_of, passing, two_of};
+ghost use Rattle.filter_verifier.specs.declared.fact.Fact.TheVariants as fact;
+ghost use Rattle.filter_verifier.specs.Arrivals.{Refused, judge};
+ghost use Rattle.filter_verifier.specs.Facts.{kind_of_fact};
+ghost use Rattle.filter_verifier.specs.Faults.{refusal_of};
+ghost use Rattle.filter_verifier.specs.Pieces.{frame_of, going_on};
+ghost use Rattle.filter_verifier.specs.Spans.{span_of_quotient};
+
+use crate::fact::Fact;
+use crate::range::Range;
+use filter_code::{FaultKind, Instr, Stack};
+
+/// Takes an int.
+fn take_int(stack: &mut Stack<Fact>) -> Result<Range, FaultKind>
+    ensures { let drawn = passing (each_is (λ x. is_int (kind_of_fact x))) (one_of stack.old) in
+        MatchResult result (λ v. drawn ≡ Good (One (fact.Int v)) stack.new) (λ why. drawn ≡ Bad why) }
+{
+    match stack.take_one()? {
+        Fact::Int(range) => Ok(range),
+        _ => Err(FaultKind::WrongKind),
+    }
+}
+
+/// Takes a bool.
+fn take_bool(stack: &mut Stack<Fact>) -> Result<(), FaultKind>
+    ensures { let drawn = passing (each_is (λ x. is_bool (kind_of_fact x))) (one_of stack.old) in
+        MatchResult result (λ _. drawn ≡ Good (One fact.Bool) stack.new) (λ why. drawn ≡ Bad why) }
+{
+    match stack.take_one()? {
+        Fact::Bool => Ok(()),
+        _ => Err(FaultKind::WrongKind),
+    }
+}
+
+/// Takes an ip.
+fn take_ip(stack: &mut Stack<Fact>) -> Result<(), FaultKind>
+    ensures { let drawn = passing (each_is (λ x. is_ip (kind_of_fact x))) (one_of stack.old) in
+        MatchResult result (λ _. drawn ≡ Good (One fact.Ip) stack.new) (λ why. drawn ≡ Bad why) }
+{
+    match stack.take_one()? {
+        Fact::Ip => Ok(()),
+        _ => Err(FaultKind::WrongKind),
+    }
+}
+
+/// Takes a prefix.
+fn take_prefix(stack: &mut Stack<Fact>) -> Result<(), FaultKind>
+    ensures { let drawn = passing (each_is (λ x. is_prefix (kind_of_fact x))) (one_of stack.old) in
+        MatchResult result (λ _. drawn ≡ Good (One fact.Prefix) stack.new) (λ why. drawn ≡ Bad why) }
+{
+    match stack.take_one()? {
+        Fact::Prefix => Ok(()),
+        _ => Err(FaultKind::WrongKind),
+    }
+}
+
+/// Takes two ints, of which the second was on top.
+fn take_two_ints(stack: &mut Stack<Fact>) -> Result<(Range, Range), FaultKind>
+    ensures { let drawn = passing (each_is (λ x. is_int (kind_of_fact x))) (two_of stack.old) in
+        MatchResult result (λ p. drawn ≡ Good (Two (fact.Int p.0) (fact.Int p.1)) stack.new) (λ why. drawn ≡ Bad why) }
+{
+    let operands = stack.take_two()?;
+    match &operands {
+        (Fact::Int(a), Fact::Int(b)) => Ok((*a, *b)),
+        _ => Err(FaultKind::WrongKind),
+    }
+}
+
+/// Puts a fact on the stack.
+fn give(fact: Fact, stack: &mut Stack<Fact>) -> Result<(), FaultKind>
+    ensures given { MatchResult result (λ _. stack.new ≡ fact ∷ stack.old) (λ why. why ≡ fault.FullStack) }
+    ensures room { MatchResult result (λ _. length stack.old < STACK_LIMIT) (λ why. STACK_LIMIT ≤ length stack.old) }
+{
+    stack.push(fact)
+}
+
+/// The first of two ints divided by the second. A fault exactly where the second may be 0.
+fn quotient(size: u32, operands: (Range, Range)) -> Result<Fact, FaultKind>
+    ensures { MatchResult result
+        (λ f. (0 < operands.1.low) × (f ≡ fact.Int (span_of_quotient size operands.0 operands.1)))
+        (λ why. (operands.1.low ≡ 0) × (why ≡ fault.ZeroDivisor)) }
+{
+    match Range::quotient(size, operands) {
+        Some(range) => Ok(Fact::Int(range)),
+        None => Err(FaultKind::ZeroDivisor),
+    }
+}
+
+/// A bool, of two of one kind. A fault exactly where the kinds differ.
+fn equal(operands: (Fact, Fact)) -> Result<Fact, FaultKind>
+    ensures { MatchResult result
+        (λ f. (are_alike (kind_of_fact operands.0) (kind_of_fact operands.1) ≡ true) × (f ≡ fact.Bool))
+        (λ why. (are_alike (kind_of_fact operands.0) (kind_of_fact operands.1) ≡ false) × (why ≡ fault.WrongKind)) }
+{
+    match &operands {
+        (Fact::Int(_), Fact::Int(_))
+        | (Fact::Bool, Fact::Bool)
+        | (Fact::Ip, Fact::Ip)
+        | (Fact::Prefix, Fact::Prefix) => Ok(Fact::Bool),
+        _ => Err(FaultKind::WrongKind),
+    }
+}
+
+/// A bool, of two ints or two ips. A fault exactly where the operands are neither.
+fn ordered(operands: (Fact, Fact)) -> Result<Fact, FaultKind>
+    ensures { MatchResult result
+        (λ f. (are_ordered (kind_of_fact operands.0) (kind_of_fact operands.1) ≡ true) × (f ≡ fact.Bool))
+        (λ why. (are_ordered (kind_of_fact operands.0) (kind_of_fact operands.1) ≡ false) × (why ≡ fault.WrongKind)) }
+{
+    match &operands {
+        (Fact::Int(_), Fact::Int(_)) | (Fact::Ip, Fact::Ip) => Ok(Fact::Bool),
+        _ => Err(FaultKind::WrongKind),
+    }
+}
+
+/// A bool, of an ip or a prefix, and a prefix. A fault exactly where the operands are not these.
+fn within(operands: (Fact, Fact)) -> Result<Fact, FaultKind>
+    ensures { MatchResult result
+        (λ f. (are_nested (kind_of_fact operands.0) (kind_of_fact operands.1) ≡ true) × (f ≡ fact.Bool))
+        (λ why. (are_nested (kind_of_fact operands.0) (kind_of_fact operands.1) ≡ false) × (why ≡ fault.WrongKind)) }
+{
+    match &operands {
+        (Fact::Ip, Fact::Prefix) | (Fact::Prefix, Fact::Prefix) => Ok(Fact::Bool),
+        _ => Err(FaultKind::WrongKind),
+    }
+}
+
+/// That an int is known to be at least the metric received. A fault exactly where it is not.
+fn not_lower(range: Range) -> Result<(), FaultKind>
+    ensures { MatchResult result (λ _. range.mark ≡ true) (λ why. (range.mark ≡ false) × (why ≡ fault.LowerMetric)) }
+{
+    if !range.mark() {
+        return Err(FaultKind::LowerMetric);
+    }
+    Ok(())
+}
+
+/// That there is a number below a count, of the local variables or of the sets. A fault exactly where it is not.
+fn check_name(name: u8, count: usize) -> Result<(), FaultKind>
+    ensures { MatchResult result (λ _. name < count) (λ why. (count ≤ name) × (why ≡ fault.UnknownName)) }
+{
+    if usize::from(name) < count {
+        Ok(())
+    } else {
+        Err(FaultKind::UnknownName)
+    }
+}
+
+/// What is known of a local variable. A fault exactly where there is none with this number, or it may be empty.
+fn load(locals: &[Option<Fact>], local: u8) -> Result<Fact, FaultKind>
+    ensures { MatchResult result
+        (λ f. slice_get locals.now local ≡ Some (Some f))
+        (λ why. MatchOption (slice_get locals.now local)
+        (why ≡ fault.UnknownName)
+        (λ held. (held ≡ None) × (why ≡ fault.WrongKind))) }
+{
+    match locals.get(usize::from(local)) {
+        Some(Some(fact)) => Ok(*fact),
+        Some(None) => Err(FaultKind::WrongKind),
+        None => Err(FaultKind::UnknownName),
+    }
+}
+
+/// Carries what is known over one instruction, in a network of a size and with so many sets.
+/// After a fault nothing is said of the stack and the local variables.
+pub fn carry_on(
+    instr: Instr,
+    size: u32,
+    sets: usize,
+    stack: &mut Stack<Fact>,
+    locals: &mut [Option<Fact>],
+) -> Result<(), FaultKind>
+    ensures { (count at : ℕ) →
+        let visit = judge count size at locals.old instr (draw kind_of_fact sets instr (frame_of stack.old locals.old)) in
+        MatchResult result
+        (λ _. visit ≡ going_on count at instr stack.new locals.new)
+        (λ why. visit ≡ Refused (refusal_of why at)) }
+{
+    match instr {
+        Instr::Int(number) => give(Fact::Int(Range::of_number(size, number)), stack)?,
+        Instr::Bool(_) => give(Fact::Bool, stack)?,
+        Instr::Ip(_) => give(Fact::Ip, stack)?,
+        Instr::Prefix(_) => give(Fact::Prefix, stack)?,
+        Instr::Load(local) => give(load(locals, local)?, stack)?,
+        Instr::Store(local) => {
+            check_name(local, locals.len())?;
+            locals[usize::from(local)] = Some(stack.take_one()?);
+        }
+        Instr::Net => give(Fact::Prefix, stack)?,
+        Instr::Metric | Instr::Received => give(Fact::Int(Range::of_metric(size)), stack)?,
+        Instr::SetMetric => not_lower(take_int(stack)?)?,
+        Instr::Add => give(Fact::Int(Range::sum(size, take_two_ints(stack)?)), stack)?,
+        Instr::Sub => give(
+            Fact::Int(Range::difference(size, take_two_ints(stack)?)),
+            stack,
+        )?,
+        Instr::Mul => give(
+            Fact::Int(Range::product(size, take_two_ints(stack)?)),
+            stack,
+        )?,
+        Instr::Div => give(quotient(size, take_two_ints(stack)?)?, stack)?,
+        Instr::Max => give(
+            Fact::Int(Range::greater(size, take_two_ints(stack)?)),
+            stack,
+        )?,
+        Instr::Eq => give(equal(stack.take_two()?)?, stack)?,
+        Instr::Lt | Instr::Le => give(ordered(stack.take_two()?)?, stack)?,
+        Instr::Not => {
+            take_bool(stack)?;
+            give(Fact::Bool, stack)?;
+        }
+        Instr::Addr => {
+            take_prefix(stack)?;
+            give(Fact::Ip, stack)?;
+        }
+        Instr::Len => {
+            take_prefix(stack)?;
+            give(Fact::Int(Range::of_length(size)), stack)?;
+        }
+        Instr::Mask(_) => {
+            take_ip(stack)?;
+            give(Fact::Ip, stack)?;
+        }
+        Instr::Within => give(within(stack.take_two()?)?, stack)?,
+        Instr::Member(set) => {
+            check_name(set, sets)?;
+            take_prefix(stack)?;
+            give(Fact::Bool, stack)?;
+        }
+        Instr::JumpIfNot(_) => take_bool(stack)?,
+        Instr::Jump(_) | Instr::Accept | Instr::Reject => {}
+    }
+    Ok(())
+}
