@@ -1,8 +1,8 @@
 #!/usr/bin/env bash
-# Refuses each allocation of each crate's tests in turn, and prints a line a crate.
+# Refuses each allocation of a crate's tests in turn, and prints a line a crate.
 #
-# usage: scripts/refuse_memory.sh [CRATE..]     (without names: each crate of crates.txt)
-#   JOBS=N    how many runs go side by side (2); a run takes some 20 seconds of processor time
+# usage: scripts/refuse_memory.sh [CRATE..]     (without names: memory_tests, whose tests make each call that asks for memory once)
+#   JOBS=N    how many runs go side by side (2); a run takes some 40 seconds of processor time
 #   QUIET=N   after how many numbers in a row that no test of the crate notices its allocations are taken as over (3)
 #
 # For N = 1, 2, .. `rt try --test --fail-alloc N` makes the Nth allocation of each test fail. A test that meets this ends
@@ -16,10 +16,6 @@ jobs="${JOBS:-2}"
 quiet_wanted="${QUIET:-3}"
 folder="$(mktemp -d)"
 trap 'rm -rf "$folder"' EXIT
-
-crates() {
-    sed -e 's/#.*//' -e '/^[[:space:]]*$/d' -e 's/[:[:space:]].*//' crates.txt
-}
 
 # One run; its output and its status lie in the folder under its number. Number 0 refuses nothing.
 run() {
@@ -93,9 +89,7 @@ sweep() {
 }
 
 status=0
-for crate in ${*:-$(crates)}; do
-    if grep -rqs '#\[test\]' "crates/$crate/src"; then
-        sweep "$crate" || status=1
-    fi
+for crate in "${@:-memory_tests}"; do
+    sweep "$crate" || status=1
 done
 exit "$status"

@@ -1,24 +1,14 @@
 //! `ncroute`: takes routes through the code of route filters.
 #![tactic(auto)]
 
-mod code_line;
-mod code_line_fault;
-mod eval;
-mod fault;
-mod line_fault;
-mod route_line;
 #[cfg(test)]
 mod tests;
 mod words;
 
-use eval::eval_lines;
-use fault::ProgramFault;
+use ncroute_commands::{ProgramFault, eval_lines};
 use std::io;
 use std::process::ExitCode;
 use words::Request;
-
-/// A number of a line is at most this.
-pub const NUMBER_LIMIT: u32 = 65_535;
 
 /// The exit status where a line was refused or a fault ended the run.
 const REFUSED: u8 = 1;

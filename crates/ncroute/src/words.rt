@@ -1,7 +1,7 @@
 //! The words of the command line.
-use crate::fault::ProgramFault;
 use clap::error::ErrorKind;
 use clap::{Command, Error};
+use ncroute_commands::ProgramFault;
 use std::alloc::{AllocError, Global};
 use std::convert::AsStr;
 use std::rt::Env;

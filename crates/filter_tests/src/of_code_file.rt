@@ -1,0 +1,243 @@
+//! Code files, read and written.
+
+use code_file::{FileFault, read_code, write_code};
+use filter_code::{Code, Instr};
+use prefix_patterns::{Ip, Pattern, PatternSet, Prefix};
+use std::alloc::Global;
+use std::test::Fail;
+
+/// The fault of bytes that are no code file.
+fn fault_of(alloc: Global, bytes: &[u8]) -> Option<FileFault> {
+    match read_code(alloc, bytes) {
+        Ok(_) => None,
+        Err(fault) => Some(fault),
+    }
+}
+
+#[test]
+fn the_smallest_file(rt: HostRuntime) -> Result<(), Fail> {
+    let code = read_code(rt.alloc(), b"NCF1\0\0\0\x01\x70")?;
+    assert_eq!(rt; code.instrs(), [Instr::Accept].as_slice());
+    Ok(())
+}
+
+/// Ten locals, a set and each instruction.
+const EVERYTHING: [u8; 67] =
+    *b"NCF1\x0a\x01\0\x01\x0a\0\0\0\x08\x08\x10\0\x1c\x01\0\0\x01\x02\x02\x01\x03\x0a\0\0\x01\x04\x0a\x01\0\0\x10\x10\x09\x11\x09\x12\x13\x14\x15\x20\x21\x22\x23\x24\x30\x31\x32\x33\x40\x41\x42\x18\x50\x51\0\x60\x01\0\x61\0\x02\x70\x71";
+
+/// Each instruction once.
+fn instructions() -> Option<[Instr; 28]> {
+    Some([
+        Instr::Int(258),
+        Instr::Bool(true),
+        Instr::Ip(Ip(0x0a00_0001)),
+        Instr::Prefix(Prefix::new(Ip(0x0a01_0000), 16)?),
+        Instr::Load(9),
+        Instr::Store(9),
+        Instr::Net,
+        Instr::Metric,
+        Instr::Received,
+        Instr::SetMetric,
+        Instr::Add,
+        Instr::Sub,
+        Instr::Mul,
+        Instr::Div,
+        Instr::Max,
+        Instr::Eq,
+        Instr::Lt,
+        Instr::Le,
+        Instr::Not,
+        Instr::Addr,
+        Instr::Len,
+        Instr::Mask(24),
+        Instr::Within,
+        Instr::Member(0),
+        Instr::Jump(256),
+        Instr::JumpIfNot(2),
+        Instr::Accept,
+        Instr::Reject,
+    ])
+}
+
+#[test]
+fn everything_is_read(rt: HostRuntime) -> Result<(), Fail> {
+    let code = read_code(rt.alloc(), &EVERYTHING)?;
+    let instrs = instructions().ok_or("a prefix of 16 bits")?;
+    let prefix = Prefix::new(Ip(0x0a00_0000), 8).ok_or("a prefix of 8 bits")?;
+    let pattern = Pattern::new(prefix, 8, 16).ok_or("lengths in order")?;
+    assert_eq!(rt; code.locals(), 10);
+    assert_eq!(rt; code.sets().len(), 1);
+    for set in code.sets() {
+        assert_eq!(rt; set.patterns(), [pattern].as_slice());
+    }
+    assert_eq!(rt; code.instrs(), instrs.as_slice());
+    Ok(())
+}
+
+#[test]
+fn everything_is_written(rt: HostRuntime) -> Result<(), Fail> {
+    let alloc = rt.alloc();
+    let instrs = instructions().ok_or("a prefix of 16 bits")?;
+    let prefix = Prefix::new(Ip(0x0a00_0000), 8).ok_or("a prefix of 8 bits")?;
+    let pattern = Pattern::new(prefix, 8, 16).ok_or("lengths in order")?;
+    let mut sets = Vec::new(alloc);
+    sets.push(PatternSet::build(alloc, &[pattern])?)?;
+    let code = Code::new(10, sets, instrs.to_vec(alloc)?).ok_or("a code within the limits")?;
+    let bytes = write_code(alloc, &code)?;
+    assert_eq!(rt; bytes.as_slice(), EVERYTHING.as_slice());
+    Ok(())
+}
+
+#[test]
+fn a_file_without_instructions(rt: HostRuntime) -> Result<(), Fail> {
+    let code = read_code(rt.alloc(), b"NCF1\0\0\0\0")?;
+    assert_eq!(rt; code.instrs().len(), 0);
+    Ok(())
+}
+
+#[test]
+fn a_byte_after_the_end(rt: HostRuntime) {
+    let alloc = rt.alloc();
+    assert_eq!(rt;
+        fault_of(alloc, b"NCF1\0\0\0\x01\x70\0"),
+        Some(FileFault::BytesAfterEnd(9))
+    );
+}
+
+#[test]
+fn an_early_end(rt: HostRuntime) {
+    let alloc = rt.alloc();
+    assert_eq!(rt; fault_of(alloc, b""), Some(FileFault::EndsEarly(0)));
+    assert_eq!(rt; fault_of(alloc, b"NC"), Some(FileFault::EndsEarly(2)));
+    assert_eq!(rt;
+        fault_of(alloc, b"NCF1\0\0\0\x01"),
+        Some(FileFault::EndsEarly(8))
+    );
+    assert_eq!(rt;
+        fault_of(alloc, b"NCF1\0\0\0\x01\x01\xff\xff\xff"),
+        Some(FileFault::EndsEarly(12))
+    );
+}
+
+#[test]
+fn another_mark(rt: HostRuntime) {
+    let alloc = rt.alloc();
+    assert_eq!(rt;
+        fault_of(alloc, b"NCF2\0\0\0\x01\x70"),
+        Some(FileFault::OtherMark(3))
+    );
+    assert_eq!(rt; fault_of(alloc, b"N\0"), Some(FileFault::OtherMark(1)));
+}
+
+#[test]
+fn another_opcode(rt: HostRuntime) {
+    let alloc = rt.alloc();
+    assert_eq!(rt;
+        fault_of(alloc, b"NCF1\0\0\0\x01\x72"),
+        Some(FileFault::UnknownOpcode(8))
+    );
+}
+
+#[test]
+fn an_operand_out_of_range(rt: HostRuntime) {
+    let alloc = rt.alloc();
+    assert_eq!(rt;
+        fault_of(alloc, b"NCF1\0\0\0\x03\x03\x01\x02\x03\x04\x42\x21\x70"),
+        Some(FileFault::BadOperand(14))
+    );
+    assert_eq!(rt;
+        fault_of(alloc, b"NCF1\0\0\0\x02\x04\x01\x02\x03\x04\x10\x70"),
+        Some(FileFault::BadOperand(9))
+    );
+    assert_eq!(rt;
+        fault_of(alloc, b"NCF1\0\0\0\x02\x04\x01\x02\0\0\x21\x70"),
+        Some(FileFault::BadOperand(9))
+    );
+    assert_eq!(rt;
+        fault_of(alloc, b"NCF1\0\0\0\x02\x02\x02\x70"),
+        Some(FileFault::BadOperand(9))
+    );
+}
+
+#[test]
+fn a_pattern_out_of_range(rt: HostRuntime) {
+    let alloc = rt.alloc();
+    assert_eq!(rt;
+        fault_of(alloc, b"NCF1\0\x01\0\x01\x01\0\0\0\x08\x11\x0f\0\0"),
+        Some(FileFault::BadOperand(8))
+    );
+    assert_eq!(rt;
+        fault_of(alloc, b"NCF1\0\x01\0\x01\x01\0\0\0\x08\x08\x21\0\0"),
+        Some(FileFault::BadOperand(8))
+    );
+    assert_eq!(rt;
+        fault_of(alloc, b"NCF1\0\x01\0\x01\x01\x01\0\0\x08\x11"),
+        Some(FileFault::EndsEarly(14))
+    );
+}
+
+#[test]
+fn a_number_over_its_limit(rt: HostRuntime) {
+    let alloc = rt.alloc();
+    assert_eq!(rt;
+        fault_of(alloc, b"NCF1\x11\0\0\0"),
+        Some(FileFault::OverLimit(4))
+    );
+    assert_eq!(rt;
+        fault_of(alloc, b"NCF1\x10\x41"),
+        Some(FileFault::OverLimit(5))
+    );
+    assert_eq!(rt;
+        fault_of(alloc, b"NCF1\x10\x40\x04\x01"),
+        Some(FileFault::OverLimit(6))
+    );
+    assert_eq!(rt;
+        fault_of(alloc, b"NCF1\0\0\x04\x01"),
+        Some(FileFault::OverLimit(6))
+    );
+    assert_eq!(rt;
+        fault_of(alloc, b"NCF1\0\0\x04\0"),
+        Some(FileFault::EndsEarly(8))
+    );
+}
+
+fn text(alloc: Global, fault: FileFault) -> Result<String, Fail> {
+    Ok(format!(in alloc; "{} {} {fault}", fault.code(), fault.at())?)
+}
+
+#[test]
+fn the_texts(rt: HostRuntime) -> Result<(), Fail> {
+    let alloc = rt.alloc();
+    let rows = [
+        (
+            FileFault::OtherMark(3),
+            "C1 3 the byte at 3 differs from the mark NCF1, with which a code file begins",
+        ),
+        (
+            FileFault::EndsEarly(8),
+            "C2 8 the file ends at 8, before a field is whole",
+        ),
+        (
+            FileFault::UnknownOpcode(8),
+            "C3 8 the byte at 8 stands for no instruction",
+        ),
+        (
+            FileFault::BadOperand(9),
+            "C4 9 the operand or pattern at 9 is out of its range",
+        ),
+        (
+            FileFault::OverLimit(4),
+            "C5 4 the number at 4 is over its limit",
+        ),
+        (
+            FileFault::BytesAfterEnd(9),
+            "C6 9 the code ends before 9, and more bytes follow",
+        ),
+        (FileFault::OutOfMemory, "C7 0 out of memory"),
+    ];
+    for (fault, wanted) in rows {
+        let shown = text(alloc, fault)?;
+        assert_eq!(rt; shown.as_str(), wanted);
+    }
+    Ok(())
+}

@@ -1,0 +1,369 @@
+//! Runs of `eval`: worked rows, the rules of lines, faults in mid-stream, and the texts that people see.
+
+use line_protocol::StreamFault;
+use ncroute_commands::{ProgramFault, eval_lines};
+use std::alloc::Global;
+use std::io::{self, ErrorKind, Read, Write};
+use std::process::Abort;
+use std::test::Fail;
+
+/// ACCEPT alone.
+const ACCEPT: &str = "4e4346310000000170";
+
+/// A reader that gives a text in pieces, and fails once they are used up.
+#[derive(Drop)]
+struct FailingReader<'a> {
+    text: &'a [u8],
+}
+
+impl Read for FailingReader<'_> {
+    fn read(&mut self, buf: &mut [u8]) -> io::Result<usize> {
+        if self.text.is_empty() {
+            return Err(io::Error::from(ErrorKind::BrokenPipe));
+        }
+        let mut rest = self.text;
+        let count = rest.read(buf)?;
+        self.text = rest;
+        Ok(count)
+    }
+}
+
+/// A writer that takes some bytes, and fails behind them.
+#[derive(Drop)]
+struct FailingWriter {
+    room: usize,
+    text: Vec<u8>,
+}
+
+impl Write for FailingWriter {
+    fn write(&mut self, buf: &[u8]) -> io::Result<usize> {
+        let count = buf.len().min(self.room);
+        if count == 0 {
+            return Err(io::Error::from(ErrorKind::BrokenPipe));
+        }
+        self.text.extend_from_slice(&buf[..count])?;
+        self.room -= count;
+        Ok(count)
+    }
+
+    fn flush(&mut self) -> io::Result<()> {
+        Ok(())
+    }
+}
+
+/// Whether a text is some first lines of another, each whole.
+fn is_first_lines(text: &[u8], all: &[u8]) -> bool {
+    all.starts_with(text) && (text.is_empty() || text.ends_with(b"\n"))
+}
+
+/// Asserts what `eval` answers to an input, and how many of its lines are refusals. Where memory is refused, asserts that
+/// the lines that were written are the first, each whole, and passes the fault on.
+fn expect_answers(
+    rt: &impl Abort,
+    alloc: Global,
+    input: &[u8],
+    want: &[u8],
+    refused: u32,
+) -> Result<(), ProgramFault> {
+    let mut reader = input;
+    let mut writer = Vec::new(alloc);
+    match eval_lines(alloc, &mut reader, &mut writer) {
+        Ok(count) => {
+            assert_eq!(rt; writer.as_slice(), want);
+            assert_eq!(rt; count, refused);
+            Ok(())
+        }
+        Err(fault) => {
+            assert_eq!(rt; fault, ProgramFault::MEMORY);
+            assert!(rt; is_first_lines(writer.as_slice(), want));
+            Err(fault)
+        }
+    }
+}
+
+/// The same for one route line behind the line of a code.
+fn expect_verdict(
+    rt: &impl Abort,
+    alloc: Global,
+    code: &str,
+    route: &str,
+    want: &str,
+) -> Result<(), ProgramFault> {
+    let mut input = Vec::from_slice(alloc, code.as_bytes())?;
+    input.push(b'\n')?;
+    input.extend_from_slice(route.as_bytes())?;
+    input.push(b'\n')?;
+    let mut answer = Vec::from_slice(alloc, want.as_bytes())?;
+    answer.push(b'\n')?;
+    let refused = u32::from(want.starts_with("refused"));
+    expect_answers(rt, alloc, input.as_slice(), answer.as_slice(), refused)
+}
+
+#[test]
+fn answers_routes(rt: HostRuntime) -> Result<(), Fail> {
+    let up_two = "4e43463100000008130100000002201424157071";
+    let at_least_one = "4e4346310000000601000000011424157071";
+    let wrap = "4e434631000000081301ffffffff201424157071";
+    let lower = "4e434631000000051301ffffffff201570";
+    let rows = [
+        (ACCEPT, "10.0.0.0/8 3 8", "accept 3"),
+        (ACCEPT, "10.0.0.0/8 9 8", "refused O2 2"),
+        (ACCEPT, "10.0.0.0/33 3 8", "refused O8 2"),
+        (ACCEPT, "10.0.0.0/8 3", "refused O1 2"),
+        (ACCEPT, "10.0.0.0/8 8 8", "accept 8"),
+        (up_two, "10.0.0.0/8 7 8", "accept 8"),
+        (at_least_one, "10.0.0.0/8 5 8", "accept 5"),
+        (wrap, "10.0.0.0/8 3 8", "accept 3"),
+        (lower, "10.0.0.0/8 3 8", "fault K6 3"),
+        (lower, "10.0.0.0/8 0 8", "accept 8"),
+        ("4e4346310000000171", "10.0.0.0/8 3 8", "reject"),
+        ("4e43463100000000", "10.0.0.0/8 3 8", "fault K4 0"),
+        ("4e4346310000000120", "10.0.0.0/8 3 8", "fault K1 0"),
+    ];
+    for (code, route, want) in rows {
+        expect_verdict(&rt, rt.alloc(), code, route, want)?;
+    }
+    Ok(())
+}
+
+#[test]
+fn answers_routes_under_all_instructions(rt: HostRuntime) -> Result<(), Fail> {
+    let divided = "4e43463100000008010000000813230100000002306100017071";
+    let in_set = "4e4346310001000101000000080f1100051251006100017071";
+    let not_too_far = concat!(
+        "4e4346310100001601000000001100020161000313110060000601000000011100010000000114241513",
+        "010000000a3233610002716000017071"
+    );
+    let rows = [
+        ("4e434631000000031361000070", "10.0.0.0/8 3 8", "fault K2 1"),
+        ("4e43463100000002100070", "10.0.0.0/8 3 8", "fault K7 0"),
+        ("4e43463101000002100070", "10.0.0.0/8 3 8", "fault K2 0"),
+        ("4e434631000000022370", "10.0.0.0/8 3 8", "fault K1 0"),
+        ("4e4346310000000260000170", "10.0.0.0/8 3 8", "fault K4 2"),
+        (divided, "10.0.0.0/8 4 8", "accept 4"),
+        (divided, "10.0.0.0/8 3 8", "accept 3"),
+        (divided, "10.0.0.0/8 0 8", "fault K3 2"),
+        (in_set, "1.2.0.0/16 3 8", "accept 3"),
+        (in_set, "1.0.0.0/8 3 8", "reject"),
+        (not_too_far, "10.0.0.0/8 11 16", "reject"),
+        (not_too_far, "10.0.0.0/8 10 16", "accept 10"),
+    ];
+    for (code, route, want) in rows {
+        expect_verdict(&rt, rt.alloc(), code, route, want)?;
+    }
+    Ok(())
+}
+
+#[test]
+fn refuses_bad_operands(rt: HostRuntime) -> Result<(), Fail> {
+    let rows: [(&[u8], &[u8]); 6] = [
+        (b"4e434631000000030301020304422170", b"refused C4 14\n"),
+        (b"4e4346310000000204010203041070", b"refused C4 9\n"),
+        (b"4e434631000100010100000008110f0000", b"refused C4 8\n"),
+        (b"4e434631000100010100000008000f", b"refused C2 15\n"),
+        (b"4e4346310001040101", b"refused C5 6\n"),
+        (b"4e43463100000002020270", b"refused C4 9\n"),
+    ];
+    for (input, want) in rows {
+        expect_answers(&rt, rt.alloc(), input, want, 1)?;
+    }
+    Ok(())
+}
+
+#[test]
+fn answers_a_full_stack(rt: HostRuntime) -> Result<(), Fail> {
+    let mut code = String::from_str(rt.alloc(), "4e43463100000022")?;
+    for _ in 0..33 {
+        code.push_str("13")?;
+    }
+    code.push_str("70")?;
+    expect_verdict(
+        &rt,
+        rt.alloc(),
+        code.as_str(),
+        "10.0.0.0/8 3 8",
+        "fault K5 32",
+    )?;
+    Ok(())
+}
+
+#[test]
+fn judges_words_from_the_left(rt: HostRuntime) -> Result<(), Fail> {
+    let rows = [
+        ("10.0.0.0/8 3 8 9", "refused O1 2"),
+        // A line of blanks is not empty.
+        (" \t ", "refused O1 2"),
+        ("10.0.0/8 9 1", "refused O8 2"),
+        ("10.0.0.0/8 x 1", "refused O2 2"),
+        ("10.0.0.0/8 3 65", "refused O2 2"),
+        ("10.0.0.0/8 1 1", "refused O2 2"),
+        ("10.0.0.0/8 65536 8", "refused O2 2"),
+        ("10.0.0.0/8 +3 8", "refused O2 2"),
+        (" \t10.0.0.0/8\t 003   8 \t", "accept 3"),
+        ("010.1.2.3/08 64 64", "accept 64"),
+        ("0.0.0.0/0 0 2", "accept 0"),
+    ];
+    for (route, want) in rows {
+        expect_verdict(&rt, rt.alloc(), ACCEPT, route, want)?;
+    }
+    Ok(())
+}
+
+#[test]
+fn refuses_bad_code_lines(rt: HostRuntime) -> Result<(), Fail> {
+    let rows: [(&[u8], &[u8]); 14] = [
+        (b"", b"refused O1 0\n"),
+        (b"# nothing\n\n\r\n", b"refused O1 0\n"),
+        (b"4e434631000000017000\n10.0.0.0/8 3 8\n", b"refused C6 9\n"),
+        (b"4e43463100000001\n", b"refused C2 8\n"),
+        (b"4e43\n", b"refused C2 2\n"),
+        (b"4e4346320000000170\n", b"refused C1 3\n"),
+        (b"4e4346310000000172\n", b"refused C3 8\n"),
+        (b"4e4346311100000170\n", b"refused C5 4\n"),
+        (b"4e4346310041000170\n", b"refused C5 5\n"),
+        (b"4e434631000004010170\n", b"refused C5 6\n"),
+        (b" \t \n", b"refused C2 0\n"),
+        (b"4e4\n10.0.0.0/8 3 8\n", b"refused O3 1\n"),
+        (b"#\n\n4e4346310000000170 70\n", b"refused O3 3\n"),
+        (b"4e4346310000000170\r", b"refused O3 1\n"),
+    ];
+    for (input, want) in rows {
+        expect_answers(&rt, rt.alloc(), input, want, 1)?;
+    }
+    Ok(())
+}
+
+#[test]
+fn cuts_lines(rt: HostRuntime) -> Result<(), Fail> {
+    let rows: [(&[u8], &[u8], u32); 6] = [
+        // A last line without a line feed counts.
+        (b"4e4346310000000170\n10.0.0.0/8 3 8", b"accept 3\n", 0),
+        // A carriage return before a line feed is dropped, at the end of the input it is not.
+        (
+            b"\t4E4346310000000170 \r\n10.0.0.0/8 3 8\r\n",
+            b"accept 3\n",
+            0,
+        ),
+        (
+            b"4e4346310000000170\n10.0.0.0/8 3 8\r",
+            b"refused O2 2\n",
+            1,
+        ),
+        // Skipped lines are counted.
+        (
+            b"# code\n4e4346310000000170\n\n# route\n10.0.0.0/8 3\n",
+            b"refused O1 5\n",
+            1,
+        ),
+        // A comment begins with the first byte of its line.
+        (b"4e4346310000000170\n # 3 8\n", b"refused O8 2\n", 1),
+        (
+            b"4e4346310000000170\nx\n1.0.0.0/8 1 2\ny\n",
+            b"refused O1 2\naccept 1\nrefused O1 4\n",
+            2,
+        ),
+    ];
+    for (input, want, refused) in rows {
+        expect_answers(&rt, rt.alloc(), input, want, refused)?;
+    }
+    Ok(())
+}
+
+/// The line of a code, and then one line of `len` bytes, each of them `byte`.
+fn with_long_line(alloc: Global, byte: u8, len: usize) -> Result<Vec<u8>, Fail> {
+    let mut input = Vec::from_slice(alloc, b"4e4346310000000170\n")?;
+    let start = input.len();
+    let Some(end) = start.checked_add(len) else {
+        return Ok(input);
+    };
+    input.resize(end, byte)?;
+    input.push(b'\n')?;
+    Ok(input)
+}
+
+#[test]
+fn limits_lines(rt: HostRuntime) -> Result<(), Fail> {
+    let alloc = rt.alloc();
+    let rows: [(u8, usize, &[u8], u32); 3] = [
+        (b'1', 1_048_576, b"refused O1 2\n", 1),
+        (b'1', 1_048_577, b"refused O7 2\n", 1),
+        (b'#', 1_048_577, b"", 0),
+    ];
+    for (byte, len, want, refused) in rows {
+        let input = with_long_line(alloc, byte, len)?;
+        expect_answers(&rt, alloc, input.as_slice(), want, refused)?;
+    }
+    let mut input = Vec::new(alloc);
+    input.resize(1_048_577, b'4')?;
+    expect_answers(&rt, alloc, input.as_slice(), b"refused O7 1\n", 1)?;
+    Ok(())
+}
+
+#[test]
+fn limits_the_input(rt: HostRuntime) -> Result<(), Fail> {
+    let alloc = rt.alloc();
+    let mut input = Vec::from_slice(alloc, b"4e4346310000000170\n10.0.0.0/8 3 8\n#")?;
+    input.resize(16_777_214, b'#')?;
+    input.extend_from_slice(b"\nx")?;
+    // The last line of an input at the limit is answered.
+    expect_answers(&rt, alloc, input.as_slice(), b"accept 3\nrefused O1 4\n", 1)?;
+    input.push(b'y')?;
+    let mut reader = input.as_slice();
+    let mut writer = Vec::new(alloc);
+    let fault = ProgramFault::Stream(StreamFault::TooLong);
+    assert_eq!(&rt; eval_lines(alloc, &mut reader, &mut writer), Err(fault));
+    assert_eq!(&rt; writer.as_slice(), b"accept 3\n".as_slice());
+    Ok(())
+}
+
+#[test]
+fn answers_before_a_read_fault(rt: HostRuntime) -> Result<(), Fail> {
+    let alloc = rt.alloc();
+    let mut reader = FailingReader {
+        text: b"4e4346310000000170\n10.0.0.0/8 3 8\n10.0",
+    };
+    let mut writer = Vec::new(alloc);
+    let fault = ProgramFault::Stream(StreamFault::Read);
+    assert_eq!(&rt; eval_lines(alloc, &mut reader, &mut writer), Err(fault));
+    assert_eq!(&rt; writer.as_slice(), b"accept 3\n".as_slice());
+    Ok(())
+}
+
+#[test]
+fn stops_at_a_write_fault(rt: HostRuntime) -> Result<(), Fail> {
+    let alloc = rt.alloc();
+    for room in [0, 9, 12] {
+        let mut reader: &[u8] = b"4e4346310000000170\n10.0.0.0/8 3 8\n10.0.0.0/8 4 8\n";
+        let mut writer = FailingWriter {
+            room,
+            text: Vec::new(alloc),
+        };
+        let result = eval_lines(alloc, &mut reader, &mut writer);
+        assert_eq!(&rt; result, Err(ProgramFault::WRITE));
+        assert_eq!(&rt; writer.text.len(), room);
+        assert!(&rt; b"accept 3\naccept 4\n".starts_with(writer.text.as_slice()));
+    }
+    Ok(())
+}
+
+#[test]
+fn names_each_fault(rt: HostRuntime) -> Result<(), Fail> {
+    let rows = [
+        (StreamFault::Read, "E1", "the input could not be read"),
+        (StreamFault::Write, "E2", "the output could not be written"),
+        (StreamFault::Memory, "E3", "memory ran out"),
+        (
+            StreamFault::TooLong,
+            "E4",
+            "the input has more than 16777216 bytes",
+        ),
+    ];
+    for (fault, code, want) in rows {
+        let fault = ProgramFault::from(fault);
+        assert_eq!(&rt; fault.code(), code);
+        assert_eq!(&rt; fault.at(), 0);
+        let text = fault.to_string(rt.alloc())?;
+        assert_eq!(&rt; text.as_str(), want);
+    }
+    Ok(())
+}

@@ -1,0 +1,463 @@
+//! Texts with their tokens and faults.
+
+use filter_tokens::{Lexed, TokenFault, lex};
+use std::alloc::{AllocError, Global};
+use std::process::Abort;
+use std::test::Fail;
+
+/// Writes the tokens of a text, each with the places where it begins and ends, and then the fault's code and place.
+fn write_cut(shown: &mut String, alloc: Global, text: &str) -> Result<(), AllocError> {
+    let Lexed { tokens, fault } = lex(alloc, text.as_bytes())?;
+    for token in &tokens {
+        write!(shown, "{:?} {} {}, ", token.word, token.from, token.to)?;
+    }
+    if let Some(fault) = fault {
+        write!(shown, "{} {}", fault.code(), fault.at())?;
+    }
+    Ok(())
+}
+
+/// Each text has the tokens and the fault that stand beside it.
+fn check(rt: &impl Abort, alloc: Global, rows: &[(&str, &str)]) -> Result<(), AllocError> {
+    let mut shown = String::with_capacity(alloc, 512)?;
+    for (text, wanted) in rows {
+        shown.clear();
+        write_cut(&mut shown, alloc, text)?;
+        assert_eq!(rt; shown.as_str(), *wanted, "at {text}");
+    }
+    Ok(())
+}
+
+#[test]
+fn numbers(rt: HostRuntime) -> Result<(), Fail> {
+    check(
+        &rt,
+        rt.alloc(),
+        &[
+            ("", ""),
+            ("12ab", "Number(12) 0 2, Name 2 4, "),
+            ("007", "Number(7) 0 3, "),
+            ("4294967295", "Number(4294967295) 0 10, "),
+            ("4294967296", "P3 0"),
+            ("1 4294967296", "Number(1) 0 1, P3 2"),
+            ("99999999999999999999999999", "P3 0"),
+        ],
+    )?;
+    Ok(())
+}
+
+#[test]
+fn hexadecimal_numbers(rt: HostRuntime) -> Result<(), Fail> {
+    check(
+        &rt,
+        rt.alloc(),
+        &[
+            ("0x", "P1 0"),
+            ("0xg", "P1 0"),
+            (" 0x;", "P1 1"),
+            ("0xffffffff", "Number(4294967295) 0 10, "),
+            ("0xFfFfFfFf", "Number(4294967295) 0 10, "),
+            ("0x00000000000000000000a", "Number(10) 0 23, "),
+            ("0x100000000", "P3 0"),
+        ],
+    )?;
+    Ok(())
+}
+
+#[test]
+fn numbers_beside_words(rt: HostRuntime) -> Result<(), Fail> {
+    check(
+        &rt,
+        rt.alloc(),
+        &[
+            ("a 0x100000000", "Name 0 1, P3 2"),
+            ("0X1", "Number(0) 0 1, Name 1 3, "),
+            ("0x1g", "Number(1) 0 3, Name 3 4, "),
+            ("00x1", "Number(0) 0 2, Name 2 4, "),
+            (
+                "1=1then",
+                "Number(1) 0 1, Mark(Equal) 1 2, Number(1) 2 3, Mark(Then) 3 7, ",
+            ),
+            (
+                "_a9 rip_tag len mask iff If",
+                "Name 0 3, Name 4 11, Name 12 15, Name 16 20, Name 21 24, Name 25 27, ",
+            ),
+        ],
+    )?;
+    Ok(())
+}
+
+#[test]
+fn addresses(rt: HostRuntime) -> Result<(), Fail> {
+    check(
+        &rt,
+        rt.alloc(),
+        &[
+            ("10.0.0.1", "Address(Ip(167772161)) 0 8, "),
+            ("010.000.0.001", "Address(Ip(167772161)) 0 13, "),
+            ("255.255.255.255", "Address(Ip(4294967295)) 0 15, "),
+            (
+                "1.2.3",
+                "Number(1) 0 1, Mark(Dot) 1 2, Number(2) 2 3, Mark(Dot) 3 4, Number(3) 4 5, ",
+            ),
+            (
+                "1.2.3.",
+                "Number(1) 0 1, Mark(Dot) 1 2, Number(2) 2 3, Mark(Dot) 3 4, Number(3) 4 5, Mark(Dot) 5 6, ",
+            ),
+            (
+                "1..2",
+                "Number(1) 0 1, Mark(Dot) 1 2, Mark(Dot) 2 3, Number(2) 3 4, ",
+            ),
+            (
+                "1.2.3.4.5",
+                "Address(Ip(16909060)) 0 7, Mark(Dot) 7 8, Number(5) 8 9, ",
+            ),
+            (
+                "1.2.3.4.ip",
+                "Address(Ip(16909060)) 0 7, Mark(Dot) 7 8, Mark(Ip) 8 10, ",
+            ),
+        ],
+    )?;
+    Ok(())
+}
+
+#[test]
+fn addresses_and_lengths(rt: HostRuntime) -> Result<(), Fail> {
+    check(
+        &rt,
+        rt.alloc(),
+        &[
+            ("1.2.3.4x", "Address(Ip(16909060)) 0 7, Name 7 8, "),
+            ("256.0.0.1", "P4 0"),
+            ("1 = 1.2.3.256", "Number(1) 0 1, Mark(Equal) 2 3, P4 4"),
+            ("9.9.9.99999999999999999999", "P4 0"),
+            (
+                "10.0.0.0/8",
+                "Prefix(Prefix { address: 167772160, len: 8 }) 0 10, ",
+            ),
+            (
+                "10.1.2.3/8",
+                "Prefix(Prefix { address: 167772160, len: 8 }) 0 10, ",
+            ),
+            ("0.0.0.0/0", "Prefix(Prefix { address: 0, len: 0 }) 0 9, "),
+            (
+                "1.2.3.4/032",
+                "Prefix(Prefix { address: 16909060, len: 32 }) 0 11, ",
+            ),
+        ],
+    )?;
+    Ok(())
+}
+
+#[test]
+fn prefixes_beside_signs(rt: HostRuntime) -> Result<(), Fail> {
+    check(
+        &rt,
+        rt.alloc(),
+        &[
+            (
+                "10.0.0.0/8/9",
+                "Prefix(Prefix { address: 167772160, len: 8 }) 0 10, Mark(Divide) 10 11, Number(9) 11 12, ",
+            ),
+            (
+                "10.0.0.0/ 8",
+                "Address(Ip(167772160)) 0 8, Mark(Divide) 8 9, Number(8) 10 11, ",
+            ),
+            (
+                "10.0.0.0/0x8",
+                "Prefix(Prefix { address: 0, len: 0 }) 0 10, Name 10 12, ",
+            ),
+            (
+                "10.0.0.0/8+",
+                "Prefix(Prefix { address: 167772160, len: 8 }) 0 10, Mark(Plus) 10 11, ",
+            ),
+            ("10.0.0.0/*8*/", "Address(Ip(167772160)) 0 8, "),
+            ("1.0.0.0/33", "P4 0"),
+            ("[1.0.0.0/99999999999", "Mark(LeftBracket) 0 1, P4 1"),
+            ("1.0.0.300/8", "P4 0"),
+        ],
+    )?;
+    Ok(())
+}
+
+#[test]
+fn signs_of_two_bytes(rt: HostRuntime) -> Result<(), Fail> {
+    check(
+        &rt,
+        rt.alloc(),
+        &[
+            ("a!=b", "Name 0 1, Mark(NotEqual) 1 3, Name 3 4, "),
+            ("a!~b", "Name 0 1, Mark(NotMatch) 1 3, Name 3 4, "),
+            (
+                "a! =b",
+                "Name 0 1, Mark(Not) 1 2, Mark(Equal) 3 4, Name 4 5, ",
+            ),
+            ("!!=", "Mark(Not) 0 1, Mark(NotEqual) 1 3, "),
+            (
+                "<==>=<",
+                "Mark(LessEqual) 0 2, Mark(Equal) 2 3, Mark(GreaterEqual) 3 5, Mark(Less) 5 6, ",
+            ),
+            (
+                "=<>",
+                "Mark(Equal) 0 1, Mark(Less) 1 2, Mark(Greater) 2 3, ",
+            ),
+            ("&&||", "Mark(And) 0 2, Mark(Or) 2 4, "),
+        ],
+    )?;
+    Ok(())
+}
+
+#[test]
+fn signs_of_one_byte(rt: HostRuntime) -> Result<(), Fail> {
+    check(
+        &rt,
+        rt.alloc(),
+        &[
+            (
+                "(){}",
+                "Mark(LeftParen) 0 1, Mark(RightParen) 1 2, Mark(LeftBrace) 2 3, Mark(RightBrace) 3 4, ",
+            ),
+            (
+                "[];,",
+                "Mark(LeftBracket) 0 1, Mark(RightBracket) 1 2, Mark(Semicolon) 2 3, Mark(Comma) 3 4, ",
+            ),
+            (
+                ".~+-",
+                "Mark(Dot) 0 1, Mark(Match) 1 2, Mark(Plus) 2 3, Mark(Minus) 3 4, ",
+            ),
+            ("*/", "Mark(Times) 0 1, Mark(Divide) 1 2, "),
+            ("&&&", "Mark(And) 0 2, P1 2"),
+            ("a & b", "Name 0 1, P1 2"),
+            ("|", "P1 0"),
+        ],
+    )?;
+    Ok(())
+}
+
+#[test]
+fn words(rt: HostRuntime) -> Result<(), Fail> {
+    check(
+        &rt,
+        rt.alloc(),
+        &[
+            (
+                "filter int bool ip",
+                "Mark(Filter) 0 6, Mark(Int) 7 10, Mark(Bool) 11 15, Mark(Ip) 16 18, ",
+            ),
+            (
+                "prefix if then else",
+                "Mark(Prefix) 0 6, Mark(If) 7 9, Mark(Then) 10 14, Mark(Else) 15 19, ",
+            ),
+            (
+                "accept reject true false",
+                "Mark(Accept) 0 6, Mark(Reject) 7 13, Mark(True) 14 18, Mark(False) 19 24, ",
+            ),
+            (
+                "defined net rip_metric",
+                "Mark(Defined) 0 7, Mark(Net) 8 11, Mark(RipMetric) 12 22, ",
+            ),
+            ("case", "P10 0"),
+            (
+                "filter q { print \"x\"; }",
+                "Mark(Filter) 0 6, Name 7 8, Mark(LeftBrace) 9 10, P10 11",
+            ),
+            ("a.source", "Name 0 1, Mark(Dot) 1 2, P10 2"),
+            ("printer", "Name 0 7, "),
+        ],
+    )?;
+    Ok(())
+}
+
+#[test]
+fn names(rt: HostRuntime) -> Result<(), Fail> {
+    check(
+        &rt,
+        rt.alloc(),
+        &[
+            ("Case", "Name 0 4, "),
+            ("a 'b'", "Name 0 1, P10 2"),
+            ("'", "P10 0"),
+            ("('case')", "Mark(LeftParen) 0 1, P10 1"),
+            (
+                "aaaaaaaaaaaaaaaaaaaaaaaaaaaaaaaaaaaaaaaaaaaaaaaaaaaaaaaaaaaaaaaa",
+                "Name 0 64, ",
+            ),
+            (
+                "aaaaaaaaaaaaaaaaaaaaaaaaaaaaaaaaaaaaaaaaaaaaaaaaaaaaaaaaaaaaaaaaa",
+                "P8 0",
+            ),
+            (
+                " aaaaaaaaaaaaaaaaaaaaaaaaaaaaaaaaaaaaaaaaaaaaaaaaaaaaaaaaaaaaaaaaa=",
+                "P8 1",
+            ),
+            (
+                "1aaaaaaaaaaaaaaaaaaaaaaaaaaaaaaaaaaaaaaaaaaaaaaaaaaaaaaaaaaaaaaaaa",
+                "Number(1) 0 1, P8 1",
+            ),
+        ],
+    )?;
+    Ok(())
+}
+
+/// Each word that is left out. No token stands before it, and so no memory is taken.
+#[test]
+fn words_left_out(rt: HostRuntime) -> Result<(), Fail> {
+    let words = [
+        "case",
+        "function",
+        "define",
+        "print",
+        "printn",
+        "return",
+        "include",
+        "string",
+        "pair",
+        "quad",
+        "ec",
+        "lc",
+        "bgppath",
+        "bgpmask",
+        "clist",
+        "eclist",
+        "lclist",
+        "set",
+        "from",
+        "proto",
+        "preference",
+        "source",
+    ];
+    for word in &words {
+        let Lexed { tokens, fault } = lex(rt.alloc(), word.as_bytes())?;
+        assert_eq!(rt; fault, Some(TokenFault::WordLeftOut(0)), "at {word}");
+        assert_eq!(rt; tokens.len(), 0);
+    }
+    Ok(())
+}
+
+#[test]
+fn space(rt: HostRuntime) -> Result<(), Fail> {
+    check(
+        &rt,
+        rt.alloc(),
+        &[
+            (" \t\r\n", ""),
+            ("a \t\r\nb", "Name 0 1, Name 5 6, "),
+            ("a\x0bb", "Name 0 1, P1 1"),
+            ("\x0c", "P1 0"),
+            ("a \0", "Name 0 1, P1 2"),
+            ("a # b", "Name 0 1, "),
+            ("#", ""),
+            ("# a\rb", ""),
+        ],
+    )?;
+    Ok(())
+}
+
+#[test]
+fn comments(rt: HostRuntime) -> Result<(), Fail> {
+    check(
+        &rt,
+        rt.alloc(),
+        &[
+            ("# a\nb", "Name 4 5, "),
+            ("# /*\nb", "Name 5 6, "),
+            ("/* a */b", "Name 7 8, "),
+            ("/**/", ""),
+            ("/***/a", "Name 5 6, "),
+            ("a/* # */b", "Name 0 1, Name 8 9, "),
+            ("/* \n\" */ b", "Name 9 10, "),
+            ("/* /* */ */", "Mark(Times) 9 10, Mark(Divide) 10 11, "),
+        ],
+    )?;
+    Ok(())
+}
+
+#[test]
+fn unended_comments_and_other_bytes(rt: HostRuntime) -> Result<(), Fail> {
+    check(
+        &rt,
+        rt.alloc(),
+        &[
+            ("/*/", "P9 0"),
+            ("a /* b", "Name 0 1, P9 2"),
+            ("/* *", "P9 0"),
+            ("/* * /", "P9 0"),
+            ("é", "P1 0"),
+            ("# é\na", "Name 5 6, "),
+            ("/* é */a", "Name 8 9, "),
+            ("a $", "Name 0 1, P1 2"),
+        ],
+    )?;
+    Ok(())
+}
+
+#[test]
+fn texts(rt: HostRuntime) -> Result<(), Fail> {
+    check(
+        &rt,
+        rt.alloc(),
+        &[
+            ("\"\"", "Text 0 2, "),
+            (
+                "accept \"é # /* '\" ;",
+                "Mark(Accept) 0 6, Text 7 18, Mark(Semicolon) 19 20, ",
+            ),
+            ("\"a\"\"b\"", "Text 0 3, Text 3 6, "),
+            ("\"a\rb\0\"", "Text 0 6, "),
+            ("\"a", "P9 0"),
+            ("a \"", "Name 0 1, P9 2"),
+            ("a \"b\n\"", "Name 0 1, P9 2"),
+        ],
+    )?;
+    Ok(())
+}
+
+/// What each fault says to a person.
+#[test]
+fn faults_say(rt: HostRuntime) -> Result<(), Fail> {
+    let rows = [
+        (
+            TokenFault::BadCharacter(1),
+            "no token begins with the byte at 1",
+        ),
+        (
+            TokenFault::NoDigit(2),
+            "no hexadecimal digit follows the `0x` at 2",
+        ),
+        (
+            TokenFault::NumberTooLarge(3),
+            "the number at 3 is over 4294967295",
+        ),
+        (
+            TokenFault::OutOfRange(4),
+            "the address or prefix at 4 has a group over 255 or a length over 32",
+        ),
+        (
+            TokenFault::NameTooLong(5),
+            "the name at 5 has more than 64 bytes",
+        ),
+        (
+            TokenFault::UnendedComment(6),
+            "the comment at 6 is not ended by `*/`",
+        ),
+        (
+            TokenFault::UnendedText(7),
+            "the text at 7 is not ended by a double quote on its line",
+        ),
+        (
+            TokenFault::WordLeftOut(8),
+            "the word at 8 belongs to a part of BIRD's language that is left out",
+        ),
+        (
+            TokenFault::QuotedName(9),
+            "the name at 9 is in single quotes, which are left out",
+        ),
+    ];
+    let mut shown = String::with_capacity(rt.alloc(), 128)?;
+    for (fault, wanted) in &rows {
+        shown.clear();
+        write!(&mut shown, "{fault}")?;
+        assert_eq!(rt; shown.as_str(), *wanted);
+    }
+    Ok(())
+}

@@ -1,0 +1,217 @@
+//! Names and kinds: the texts that are refused, with codes and places, and those that fit.
+
+use filter_parser::{Kind, parse};
+use filter_types::{TypeFault, Wanted, check};
+use std::alloc::Global;
+use std::test::Fail;
+
+#[test]
+fn a_fault_says_what_is_wanted_and_what_is_found(rt: HostRuntime) -> Result<(), Fail> {
+    let rows = [
+        (
+            TypeFault::UnknownName(11),
+            "at 11 the name of a variable is wanted, and a name that is not declared is found",
+        ),
+        (
+            TypeFault::DeclaredTwice(22),
+            "at 22 a new name is wanted, and the name of an earlier variable is found",
+        ),
+        (
+            TypeFault::WrongKind(22, Wanted::Int, Kind::Bool),
+            "at 22 an int is wanted, and a bool is found",
+        ),
+        (
+            TypeFault::WrongKind(14, Wanted::IntOrIp, Kind::Prefix),
+            "at 14 an int or an ip is wanted, and a prefix is found",
+        ),
+        (
+            TypeFault::WrongKind(14, Wanted::IpOrPrefix, Kind::Int),
+            "at 14 an ip or a prefix is wanted, and an int is found",
+        ),
+        (
+            TypeFault::WrongKind(7, Wanted::Prefix, Kind::Ip),
+            "at 7 a prefix is wanted, and an ip is found",
+        ),
+        (
+            TypeFault::WrongKind(7, Wanted::Ip, Kind::Int),
+            "at 7 an ip is wanted, and an int is found",
+        ),
+        (
+            TypeFault::WrongKind(7, Wanted::Bool, Kind::Int),
+            "at 7 a bool is wanted, and an int is found",
+        ),
+        (
+            TypeFault::NetAssigned(11),
+            "at 11 a variable or rip_metric is wanted, and net is found, which cannot be set",
+        ),
+        (
+            TypeFault::TooManyVariables(127),
+            "at most 16 variables are wanted, and one more is found at 127",
+        ),
+        (TypeFault::Memory, "out of memory"),
+    ];
+    for (fault, text) in rows {
+        let shown = format!(in rt.alloc(); "{fault}")?;
+        assert_eq!(rt; shown.as_str(), text);
+    }
+    Ok(())
+}
+
+/// Texts whose names or kinds do not fit, each with the code and the place of its first fault.
+const REFUSED: &[(&str, &str, usize)] = &[
+    // Unknown names.
+    ("filter q { b = 1; }", "Y1", 11),
+    ("filter q { q = 1; }", "Y1", 11),
+    ("filter q { b = 1; net = 1; }", "Y1", 11),
+    ("filter q { if zzz then accept; }", "Y1", 14),
+    ("filter q { if 1 && zzz then accept; }", "Y1", 19),
+    ("filter q { if net ~ x then accept; }", "Y1", 20),
+    ("filter q { int a; a = a + c; }", "Y1", 26),
+    ("filter q { int a; a = (1 + 2 * c.len) + true; }", "Y1", 31),
+    // Names declared twice.
+    ("filter q { int a; int a; }", "Y2", 22),
+    ("filter q { int a; ip b; bool b; a = c; }", "Y2", 29),
+    ("filter q int a; { bool a; }", "Y2", 23),
+    ("filter q { int a; int a; b = 1; }", "Y2", 22),
+    // Sums and products.
+    ("filter q { int a; a = 1 + true; }", "Y3", 26),
+    ("filter q { int a; a = true + 1; }", "Y3", 22),
+    ("filter q { int a; a = net - true; }", "Y3", 22),
+    ("filter q { int a; a = 1 * 1.2.3.4; }", "Y3", 26),
+    ("filter q { int a; a = 1.2.3.4 / 2; }", "Y3", 22),
+    ("filter q { int a; a = 1 + 2 - true; }", "Y3", 30),
+    ("filter q { int a; a = 1 + true - 2; }", "Y3", 26),
+    // Equality.
+    ("filter q { if 1 = true then accept; }", "Y3", 18),
+    ("filter q { if true = 1 then accept; }", "Y3", 21),
+    ("filter q { if 1 != 1.2.3.4 then accept; }", "Y3", 19),
+    ("filter q { if net.ip = net then accept; }", "Y3", 23),
+    // Order.
+    ("filter q { if net < net then accept; }", "Y3", 14),
+    ("filter q { if true > true then accept; }", "Y3", 14),
+    ("filter q { if 1 < net then accept; }", "Y3", 18),
+    ("filter q { if 1.2.3.4 <= 1 then accept; }", "Y3", 25),
+    ("filter q { if 1 >= 1.2.3.4 then accept; }", "Y3", 19),
+    // `!`, `&&` and `||`.
+    ("filter q { if !1 then accept; }", "Y3", 15),
+    ("filter q { if !(1) then accept; }", "Y3", 15),
+    ("filter q { if true && 1 then accept; }", "Y3", 22),
+    ("filter q { if 1 || true then accept; }", "Y3", 14),
+    ("filter q { if true || true || 1 then accept; }", "Y3", 30),
+    // `~` and `!~`.
+    ("filter q { ip a; if net ~ a then accept; }", "Y3", 26),
+    ("filter q { if 1 ~ net then accept; }", "Y3", 14),
+    ("filter q { if 1 !~ 1 then accept; }", "Y3", 14),
+    (
+        "filter q { if 1.2.3.4 ~ [1.0.0.0/8] then accept; }",
+        "Y3",
+        14,
+    ),
+    ("filter q { if 1 !~ [1.0.0.0/8] then accept; }", "Y3", 14),
+    // Suffixes.
+    ("filter q { ip a; a = 1.2.3.4.ip; }", "Y3", 21),
+    ("filter q { ip a; int b; b = a.len; }", "Y3", 28),
+    ("filter q { ip a; a = net.mask(8); }", "Y3", 21),
+    ("filter q { ip a; a = net.ip.len; }", "Y3", 21),
+    ("filter q { int a; a = (net).len + (true); }", "Y3", 34),
+    // Conditions.
+    ("filter q { if 1 then accept; }", "Y3", 14),
+    ("filter q { if net then accept; else reject; }", "Y3", 14),
+    ("filter q { if rip_metric + 1 then accept; }", "Y3", 14),
+    ("filter q { if true then ; else if 1 then ; }", "Y3", 34),
+    ("filter q { { { if 1 then ; } } }", "Y3", 18),
+    // Assignments.
+    ("filter q { int a; a = true; }", "Y3", 22),
+    ("filter q { bool a; a = 1; }", "Y3", 23),
+    ("filter q { prefix p; p = net.ip; }", "Y3", 25),
+    ("filter q { rip_metric = true; }", "Y3", 24),
+    ("filter q { rip_metric = net; }", "Y3", 24),
+    // Assignments to `net`.
+    ("filter q { net = 1; }", "Y4", 11),
+    ("filter q { net = zzz + true; b = 1; }", "Y4", 11),
+    ("filter q { if true then net = net; }", "Y4", 24),
+    ("filter q { int a; a = 1; { net = net; } }", "Y4", 27),
+];
+
+/// Sixteen declarations, of 112 bytes.
+const SIXTEEN: &str = "int a; int b; int c; int d; int e; int f; int g; int h; \
+    int i; int j; int k; int l; int m; int n; int o; int p; ";
+
+/// What stands before and behind sixteen declarations, and the fault.
+const AROUND_SIXTEEN: &[(&str, &str, &str, usize)] = &[
+    ("filter z { ", "int q; }", "Y5", 127),
+    ("filter z { ", "bool q; int r; q = zzz; }", "Y5", 128),
+    ("filter z ", "{ bool q; }", "Y5", 128),
+    ("filter z { ", "int p; }", "Y2", 127),
+    ("filter z { ", "int p; int q; }", "Y2", 127),
+    ("filter z { ", "q = 1; }", "Y1", 123),
+];
+
+/// Texts whose names and kinds fit, each with the numbers of its uses of variables.
+const TAKEN: &[(&str, &[u8])] = &[
+    ("filter q { accept; }", &[]),
+    ("filter q { int q; int len; len = q; }", &[1, 0]),
+    ("filter q { int a; ip b; int c; c = a; }", &[2, 0]),
+    (
+        "filter q { int a; a = a + a * 2; if a = 1 then reject; else a = 3; }",
+        &[0, 0, 0, 0, 0],
+    ),
+    (
+        "filter q int x; { prefix p; bool b; p = net; b = p ~ [1.0.0.0/8+] && defined(net); }",
+        &[1, 2, 1],
+    ),
+    (
+        "filter q { ip a; a = net.ip.mask(8); if a ~ 10.0.0.0/8 || !(a < 1.2.3.4) then accept; }",
+        &[0, 0, 0],
+    ),
+    (
+        "filter q { int a; { rip_metric = rip_metric + net.len; { a = rip_metric; } } }",
+        &[0],
+    ),
+];
+
+fn fault_of(alloc: Global, text: &[u8]) -> Result<(&'static str, usize), Fail> {
+    match check(alloc, parse(alloc, text)?) {
+        Ok(_) => Ok(("none", 0)),
+        Err(TypeFault::Memory) => Err(TypeFault::Memory.into()),
+        Err(fault) => Ok((fault.code(), fault.at())),
+    }
+}
+
+#[test]
+fn the_first_fault_is_answered(rt: HostRuntime) -> Result<(), Fail> {
+    for (text, code, at) in REFUSED {
+        let found = fault_of(rt.alloc(), text.as_bytes())?;
+        assert!(rt;
+            found.0 == *code && found.1 == *at,
+            "{text}: {} {}",
+            found.0,
+            found.1
+        );
+    }
+    Ok(())
+}
+
+#[test]
+fn a_filter_has_at_most_sixteen_variables(rt: HostRuntime) -> Result<(), Fail> {
+    for (before, behind, code, at) in AROUND_SIXTEEN {
+        let text = format!(in rt.alloc(); "{before}{SIXTEEN}{behind}")?;
+        let found = fault_of(rt.alloc(), text.as_bytes())?;
+        assert!(rt;
+            found.0 == *code && found.1 == *at,
+            "{text}: {} {}",
+            found.0,
+            found.1
+        );
+    }
+    Ok(())
+}
+
+#[test]
+fn each_use_has_the_number_of_its_variable(rt: HostRuntime) -> Result<(), Fail> {
+    for (text, numbers) in TAKEN {
+        let typed = check(rt.alloc(), parse(rt.alloc(), text.as_bytes())?)?;
+        assert!(rt; typed.numbers() == *numbers, "{text}");
+    }
+    Ok(())
+}

@@ -1,0 +1,217 @@
+//! Prefixes, patterns and sets, and how they are read and displayed.
+
+use prefix_patterns::{
+    Ip, Pattern, PatternSet, Prefix, SetFault, displayed_text_is_read, read_ip, read_number,
+    read_prefix,
+};
+use std::test::Fail;
+
+/// A prefix as its first address and its length.
+fn parts(prefix: Prefix) -> (u32, u8) {
+    (prefix.address().0, prefix.len())
+}
+
+#[test]
+fn prefixes_are_made_of_an_address_and_a_length(rt: HostRuntime) {
+    let rows = [
+        (0x0a00_0000, 8, Some((0x0a00_0000, 8))),
+        (0x0a01_0203, 8, Some((0x0a00_0000, 8))),
+        (0x0102_0304, 32, Some((0x0102_0304, 32))),
+        (0xffff_ffff, 0, Some((0, 0))),
+        (0x0a00_0000, 33, None),
+    ];
+    for (address, len, wanted) in rows {
+        assert_eq!(rt; Prefix::new(Ip(address), len).map(parts), wanted);
+    }
+}
+
+#[test]
+fn numbers_are_digits_up_to_a_limit(rt: HostRuntime) {
+    let rows: [(&[u8], u32, Option<u32>); 12] = [
+        (b"0", 0, Some(0)),
+        (b"007", 7, Some(7)),
+        (b"255", 255, Some(255)),
+        (b"256", 255, None),
+        (b"4294967295", u32::MAX, Some(u32::MAX)),
+        (b"4294967296", u32::MAX, None),
+        (b"99999999999999999999999999", u32::MAX, None),
+        (b"00000000000000000000000000000000000000001", 1, Some(1)),
+        (b"", 9, None),
+        (b"+1", 9, None),
+        (b"1 ", 9, None),
+        (b"0x1", 9, None),
+    ];
+    for (text, most, wanted) in rows {
+        assert_eq!(rt; read_number(text, most), wanted);
+    }
+}
+
+#[test]
+fn prefix_tokens_are_read(rt: HostRuntime) {
+    let rows: [(&[u8], Option<(u32, u8)>); 22] = [
+        (b"10.0.0.0/8", Some((0x0a00_0000, 8))),
+        (b"0010.0.0.0/08", Some((0x0a00_0000, 8))),
+        (
+            b"10.0.0.0/00000000000000000000000000000000000000008",
+            Some((0x0a00_0000, 8)),
+        ),
+        (b"10.9.8.7/8", Some((0x0a00_0000, 8))),
+        (b"1.2.3.4/8", Some((0x0100_0000, 8))),
+        (b"1.2.3.4/32", Some((0x0102_0304, 32))),
+        (b"255.255.255.255/0", Some((0, 0))),
+        (b"10.0.0.0/33", None),
+        (b"10.0.0.256/8", None),
+        (b"10.0.0.0/ 8", None),
+        (b" 10.0.0.0/8", None),
+        (b"10.0.0.0/8 ", None),
+        (b"10.0.0.0", None),
+        (b"/8", None),
+        (b"", None),
+        (b"1.2.3/8", None),
+        (b"1.2.3.4.5/8", None),
+        (b"1..3.4/8", None),
+        (b"1.2.3./8", None),
+        (b".1.2.3/8", None),
+        (b"1.2.3.4/", None),
+        (b"1.2.3.4/8/9", None),
+    ];
+    for (text, wanted) in rows {
+        assert_eq!(rt; read_prefix(text).map(parts), wanted);
+    }
+}
+
+#[test]
+fn addresses_are_read(rt: HostRuntime) {
+    let rows: [(&[u8], Option<Ip>); 7] = [
+        (b"10.20.30.40", Some(Ip(0x0a14_1e28))),
+        (b"255.255.255.255", Some(Ip(u32::MAX))),
+        (b"000.00.0.01", Some(Ip(1))),
+        (b"10.20.30", None),
+        (b"10.20.30.40.50", None),
+        (b"10.20.30.256", None),
+        (b"10.20.30.40/8", None),
+    ];
+    for (text, wanted) in rows {
+        assert_eq!(rt; read_ip(text), wanted);
+    }
+}
+
+#[test]
+fn addresses_and_prefixes_are_displayed(rt: HostRuntime) -> Result<(), Fail> {
+    let rows = [
+        (0x0a14_1e28, 12, "10.20.30.40 10.16.0.0/12"),
+        (1, 0, "0.0.0.1 0.0.0.0/0"),
+    ];
+    for (address, len, wanted) in rows {
+        let prefix = Prefix::new(Ip(address), len).ok_or("no prefix")?;
+        let text = format!(in rt.alloc(); "{} {prefix}", Ip(address))?;
+        assert_eq!(rt; text.as_str(), wanted);
+    }
+    displayed_text_is_read();
+    Ok(())
+}
+
+#[test]
+fn addresses_and_prefixes_lie_within_prefixes(rt: HostRuntime) -> Result<(), Fail> {
+    let rows = [
+        (0x0a10_0000, 12, 0x0a10_0000, 12, true, true),
+        (0x0a10_0000, 12, 0x0a1f_ffff, 16, true, true),
+        (0x0a10_0000, 12, 0x0a1f_0000, 11, true, false),
+        (0x0a10_0000, 12, 0x0a20_0000, 12, false, false),
+        (0, 0, u32::MAX, 12, true, true),
+    ];
+    for (outer, outer_len, inner, inner_len, contains, within) in rows {
+        let outer = Prefix::new(Ip(outer), outer_len).ok_or("no prefix")?;
+        let prefix = Prefix::new(Ip(inner), inner_len).ok_or("no prefix")?;
+        assert_eq!(rt;
+            (outer.contains(Ip(inner)), prefix.within(&outer)),
+            (contains, within)
+        );
+    }
+    Ok(())
+}
+
+/// A pattern of a prefix in text.
+fn pattern(text: &[u8], low: u8, high: u8) -> Option<Pattern> {
+    Pattern::new(read_prefix(text)?, low, high)
+}
+
+#[test]
+fn patterns_have_lengths_in_order(rt: HostRuntime) {
+    let rows = [(8, 8, true), (0, 32, true), (9, 8, false), (8, 33, false)];
+    for (low, high, wanted) in rows {
+        let pattern = pattern(b"1.0.0.0/8", low, high);
+        assert_eq!(rt; pattern.is_some(), wanted);
+        if let Some(pattern) = pattern {
+            assert_eq!(rt;
+                (parts(pattern.prefix()), pattern.low(), pattern.high()),
+                ((0x0100_0000, 8), low, high)
+            );
+        }
+    }
+}
+
+#[test]
+fn sets_match_what_a_pattern_matches(rt: HostRuntime) -> Result<(), Fail> {
+    let up_to_8 = pattern(b"1.0.0.0/8", 0, 8).ok_or("no pattern")?;
+    let host = pattern(b"1.2.3.4/32", 0, 32).ok_or("no pattern")?;
+    let long = pattern(b"0.0.0.0/0", 20, 24).ok_or("no pattern")?;
+    let all = [up_to_8, host, long];
+    let all = all.as_slice();
+    // The patterns from one up to another, a prefix, and whether it matches the first of them, and any of them.
+    let rows: [(usize, usize, &[u8], bool, bool); 9] = [
+        (0, 1, b"1.0.0.0/16", false, false),
+        (0, 1, b"0.0.0.0/4", true, true),
+        (0, 1, b"1.0.0.0/8", true, true),
+        (1, 2, b"1.2.0.0/15", true, true),
+        (2, 3, b"0.0.0.0/0", false, false),
+        (2, 3, b"9.0.0.0/22", true, true),
+        (1, 3, b"1.2.0.0/15", true, true),
+        (1, 3, b"9.0.0.0/22", false, true),
+        (1, 3, b"9.0.0.0/8", false, false),
+    ];
+    for (from, to, text, first, any) in rows {
+        let prefix = read_prefix(text).ok_or("no prefix")?;
+        let patterns = &all[from..to];
+        let set = PatternSet::build(rt.alloc(), patterns)?;
+        assert_eq!(rt; set.patterns(), patterns);
+        assert_eq!(rt;
+            (all[from].matches(&prefix), set.matches(&prefix)),
+            (first, any)
+        );
+    }
+    Ok(())
+}
+
+#[test]
+fn sets_have_at_most_1024_patterns(rt: HostRuntime) -> Result<(), Fail> {
+    let pattern = pattern(b"1.0.0.0/8", 8, 8).ok_or("no pattern")?;
+    for (count, wanted) in [(0, true), (1024, true), (1025, false)] {
+        let patterns = vec![in rt.alloc(); pattern; count]?;
+        let prefix = pattern.prefix();
+        match PatternSet::build(rt.alloc(), &patterns) {
+            Ok(set) => assert_eq!(rt;
+                (set.patterns().len(), set.matches(&prefix), wanted),
+                (count, count > 0, true)
+            ),
+            Err(fault) => assert_eq!(rt; (fault, wanted), (SetFault::TooManyPatterns, false)),
+        }
+    }
+    Ok(())
+}
+
+#[test]
+fn faults_have_texts_and_codes(rt: HostRuntime) -> Result<(), Fail> {
+    let rows = [
+        (
+            SetFault::TooManyPatterns,
+            "S1 0 more than 1024 patterns in a set",
+        ),
+        (SetFault::Memory, "S2 0 no memory for the patterns of a set"),
+    ];
+    for (fault, wanted) in rows {
+        let text = format!(in rt.alloc(); "{} {} {fault}", fault.code(), fault.at())?;
+        assert_eq!(rt; text.as_str(), wanted);
+    }
+    Ok(())
+}

@@ -1,0 +1,100 @@
+//! A set, a code and its file: built, read and written, with memory and without.
+
+use code_file::{FileFault, read_code, write_code};
+use filter_code::{Code, Instr, Outcome, Route, run_checked};
+use prefix_patterns::{Ip, Pattern, PatternSet, Prefix, SetFault};
+use std::process::Abort;
+use std::test::Fail;
+
+/// A set of two patterns, and nine instructions that use it: two more for the nets that match, and no others.
+const FILE: [u8; 40] =
+    *b"NCF1\x01\x01\0\x02\x0a\0\0\0\x08\x08\x10\x0b\0\0\0\x08\x08\x08\0\x09\x12\x51\0\x61\0\x05\x13\x01\0\0\0\x02\x20\x15\x70\x71";
+
+/// The set's patterns: 10.0.0.0/8 with lengths from 8 to 16, and 11.0.0.0/8 alone.
+fn patterns() -> Option<[Pattern; 2]> {
+    let first = Prefix::new(Ip(0x0a00_0000), 8)?;
+    let second = Prefix::new(Ip(0x0b00_0000), 8)?;
+    Some([Pattern::new(first, 8, 16)?, Pattern::new(second, 8, 8)?])
+}
+
+/// Asserts that a code is that of the file.
+fn expect_code(rt: &impl Abort, code: &Code, patterns: &[Pattern]) {
+    let instrs = [
+        Instr::Net,
+        Instr::Member(0),
+        Instr::JumpIfNot(5),
+        Instr::Metric,
+        Instr::Int(2),
+        Instr::Add,
+        Instr::SetMetric,
+        Instr::Accept,
+        Instr::Reject,
+    ];
+    assert_eq!(rt; code.locals(), 1);
+    assert_eq!(rt; code.sets().len(), 1);
+    for set in code.sets() {
+        assert_eq!(rt; set.patterns(), patterns);
+    }
+    assert_eq!(rt; code.instrs(), instrs.as_slice());
+}
+
+#[test]
+fn a_set_is_built_or_s2(rt: HostRuntime) -> Result<(), Fail> {
+    let given = patterns().ok_or("two patterns")?;
+    let built = PatternSet::build(rt.alloc(), &given);
+    if let Err(fault) = &built {
+        assert_eq!(rt; *fault, SetFault::Memory);
+        let set = PatternSet::build(rt.alloc(), &given)?;
+        assert_eq!(rt; set.patterns(), given.as_slice());
+    }
+    let set = built?;
+    assert_eq!(rt; set.patterns(), given.as_slice());
+    Ok(())
+}
+
+#[test]
+fn a_file_is_read_or_c7(rt: HostRuntime) -> Result<(), Fail> {
+    let patterns = patterns().ok_or("two patterns")?;
+    let read = read_code(rt.alloc(), &FILE);
+    if let Err(fault) = &read {
+        assert_eq!(rt; *fault, FileFault::OutOfMemory);
+        let code = read_code(rt.alloc(), &FILE)?;
+        expect_code(&rt, &code, &patterns);
+    }
+    let code = read?;
+    expect_code(&rt, &code, &patterns);
+    Ok(())
+}
+
+#[test]
+fn a_file_is_written_or_c7(rt: HostRuntime) -> Result<(), Fail> {
+    let patterns = patterns().ok_or("two patterns")?;
+    let code = read_code(rt.alloc(), &FILE)?;
+    let written = write_code(rt.alloc(), &code);
+    if let Err(fault) = &written {
+        assert_eq!(rt; *fault, FileFault::OutOfMemory);
+        expect_code(&rt, &code, &patterns);
+        let bytes = write_code(rt.alloc(), &code)?;
+        assert_eq!(rt; bytes.as_slice(), FILE.as_slice());
+    }
+    let bytes = written?;
+    assert_eq!(rt; bytes.as_slice(), FILE.as_slice());
+    Ok(())
+}
+
+#[test]
+fn a_route_runs_through_what_was_read(rt: HostRuntime) -> Result<(), Fail> {
+    let code = read_code(rt.alloc(), &FILE)?;
+    let rows = [
+        (0x0a01_0000, 16, Outcome::Accept(5)),
+        (0x0b00_0000, 8, Outcome::Accept(5)),
+        (0x0b00_0000, 9, Outcome::Reject),
+        (0x0c00_0000, 8, Outcome::Reject),
+    ];
+    for (address, len, wanted) in rows {
+        let net = Prefix::new(Ip(address), len).ok_or("a prefix")?;
+        let route = Route::new(net, 3, 8).ok_or("a route within the limits")?;
+        assert_eq!(rt; run_checked(&code, &route), wanted);
+    }
+    Ok(())
+}

@@ -1,0 +1,96 @@
+//! Lines that are answered block by block, with memory and without.
+
+use line_protocol::{Reply, Service, StreamFault, answer_lines, push_decimal, push_refusal};
+use std::alloc::{AllocError, Global};
+use std::io::{self, Read, Write};
+use std::test::Fail;
+
+/// Gives a few bytes a read.
+#[derive(Drop)]
+struct Pieces<'a> {
+    rest: &'a [u8],
+}
+
+impl Read for Pieces<'_> {
+    fn read(&mut self, buf: &mut [u8]) -> io::Result<usize> {
+        let count = buf.len().min(self.rest.len()).min(5);
+        buf[..count].copy_from_slice(&self.rest[..count]);
+        self.rest = &self.rest[count..];
+        Ok(count)
+    }
+}
+
+/// Holds what was written. It needs no memory.
+#[derive(Drop)]
+struct Page {
+    held: [u8; 64],
+    len: usize,
+}
+
+impl Page {
+    fn text(&self) -> &[u8] {
+        &self.held[..self.len.min(64)]
+    }
+}
+
+impl Write for Page {
+    fn write(&mut self, buf: &[u8]) -> io::Result<usize> {
+        let from = self.len.min(64);
+        let count = buf.len().min(64 - from);
+        self.held[from..from + count].copy_from_slice(&buf[..count]);
+        self.len = from + count;
+        Ok(count)
+    }
+
+    fn flush(&mut self) -> io::Result<()> {
+        Ok(())
+    }
+}
+
+/// Answers a line by its number and the line, and refuses one that begins with `!`.
+#[derive(Drop)]
+struct Echo;
+
+impl Service for Echo {
+    ghost answers = { λ _ _ _ _ _. Unit {0} };
+
+    fn answer(
+        &mut self,
+        _alloc: Global,
+        number: u32,
+        line: &[u8],
+        out: &mut Vec<u8>,
+    ) -> Result<Reply, AllocError> {
+        if line.starts_with(b"!") {
+            push_refusal(out, "O9", u64::from(number))?;
+            return Ok(Reply::Refused);
+        }
+        push_decimal(out, u64::from(number))?;
+        out.push(b' ')?;
+        out.extend_from_slice(line)?;
+        out.push(b'\n')?;
+        Ok(Reply::Answered)
+    }
+}
+
+#[test]
+fn lines_are_answered_or_e3(rt: HostRuntime) -> Result<(), Fail> {
+    let mut reader = Pieces {
+        rest: b"one\n# two\n!three\nfour and a long one\nfive",
+    };
+    let mut out = Page {
+        held: [0; 64],
+        len: 0,
+    };
+    let wanted = b"1 one\nrefused O9 3\n4 four and a long one\n5 five\n";
+    let answered = answer_lines(rt.alloc(), &mut reader, &mut out, &mut Echo);
+    if let Err(fault) = &answered {
+        assert_eq!(rt; *fault, StreamFault::Memory);
+        assert!(rt; wanted.starts_with(out.text()));
+        assert!(rt; out.text().is_empty() || out.text().ends_with(b"\n"));
+    }
+    let refused = answered?;
+    assert_eq!(rt; refused, 1);
+    assert_eq!(rt; out.text(), wanted.as_slice());
+    Ok(())
+}
