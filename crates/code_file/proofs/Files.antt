@@ -5,11 +5,11 @@ use Rattle.std.specs.List.{AllByRecursion}
 use Rattle.std.proofs.lemmas.Bool.{eqb-true, le-leb, leb-true}
 use Rattle.std.proofs.lemmas.List.{append-nil}
 use Rattle.byteorder.specs.Endian.{big_bytes}
-use Rattle.prefix_patterns.specs.declared.set.TheConstants.{MAX_PATTERNS}
+use Rattle.prefix_patterns.specs.Matching.{pattern_limit}
 use Rattle.prefix_patterns.specs.Matching.{PrefixPattern}
 use Rattle.filter_code.specs.declared.instruction.Instr.{Instr}
 use Rattle.filter_code.specs.declared.instruction.Instr.TheVariants as instr
-use Rattle.filter_code.specs.declared.limits.TheConstants.{LOCAL_LIMIT, SET_LIMIT, INSTRUCTION_LIMIT}
+use Rattle.filter_code.specs.Limits.{local_limit, set_limit, instruction_limit}
 use Rattle.filter_code.specs.Instruction.{opcode}
 use Rattle.filter_code.specs.Program.{Program}
 use Rattle.code_file.specs.Fields.{FieldKind, width, number, mark_bytes, is_good, is_prefix, form_of, forms}
@@ -50,20 +50,20 @@ take_pattern (f ∷ fs) p b h =
     let is : IsPattern made = record { prefix = has.limit; lengths = record { order = leb-true _ _ lengths.0; limit = leb-true _ _ lengths.1 } } in
     subst (λ (q : PrefixPattern). (f ∷ fs ≡ pattern q ∷ []) × IsPattern q) h.3.1 (ap (λ (g : Field). g ∷ fs) same ∙ ap (λ (gs : List Field). pattern made ∷ gs) h.3.0, is)
 
-patterns_limit : HasLimit Patterns MAX_PATTERNS
+patterns_limit : HasLimit Patterns pattern_limit
 patterns_limit = record {
   back = bytes_again_2;
   below = lit< tt;
   is_taken = λ n le fits. le-leb _ _ (omega (arith, le, number_of_field Patterns n fits));
-  is_within = λ n fits good. let within : number Patterns (big_bytes 2 n) ≤ MAX_PATTERNS = leb-true _ _ good in omega (arith, within, number_of_field Patterns n fits);
+  is_within = λ n fits good. let within : number Patterns (big_bytes 2 n) ≤ pattern_limit = leb-true _ _ good in omega (arith, within, number_of_field Patterns n fits);
 }
 
 put_set : (patterns : List PrefixPattern) → IsSet patterns → Follows a_set (set patterns) patterns
-put_set patterns h = put_counted Patterns MAX_PATTERNS patterns_limit a_pattern (λ p. pattern p ∷ []) IsPattern put_pattern patterns h.within_limit h.each
+put_set patterns h = put_counted Patterns pattern_limit patterns_limit a_pattern (λ p. pattern p ∷ []) IsPattern put_pattern patterns h.within_limit h.each
 
 take_set : (fs : List Field) (patterns : List PrefixPattern) → AreBytes fs → Follows a_set fs patterns → (fs ≡ set patterns) × IsSet patterns
 take_set fs patterns b h =
-    let all = take_counted Patterns MAX_PATTERNS patterns_limit a_pattern (λ p. pattern p ∷ []) IsPattern take_pattern fs patterns b h in
+    let all = take_counted Patterns pattern_limit patterns_limit a_pattern (λ p. pattern p ∷ []) IsPattern take_pattern fs patterns b h in
     (all.parts, record { within_limit = all.within_limit; each = all.each })
 
 -- ---- an instruction
@@ -173,20 +173,20 @@ take_instruction fs i b h =
 
 -- ---- a whole file
 
-sets_limit : HasLimit Sets SET_LIMIT
+sets_limit : HasLimit Sets set_limit
 sets_limit = record {
   back = bytes_again_1;
   below = lit< tt;
   is_taken = λ n le fits. le-leb _ _ (omega (arith, le, number_of_field Sets n fits));
-  is_within = λ n fits good. let within : number Sets (big_bytes 1 n) ≤ SET_LIMIT = leb-true _ _ good in omega (arith, within, number_of_field Sets n fits);
+  is_within = λ n fits good. let within : number Sets (big_bytes 1 n) ≤ set_limit = leb-true _ _ good in omega (arith, within, number_of_field Sets n fits);
 }
 
-instructions_limit : HasLimit Instructions INSTRUCTION_LIMIT
+instructions_limit : HasLimit Instructions instruction_limit
 instructions_limit = record {
   back = bytes_again_2;
   below = lit< tt;
   is_taken = λ n le fits. le-leb _ _ (omega (arith, le, number_of_field Instructions n fits));
-  is_within = λ n fits good. let within : number Instructions (big_bytes 2 n) ≤ INSTRUCTION_LIMIT = leb-true _ _ good in omega (arith, within, number_of_field Instructions n fits);
+  is_within = λ n fits good. let within : number Instructions (big_bytes 2 n) ≤ instruction_limit = leb-true _ _ good in omega (arith, within, number_of_field Instructions n fits);
 }
 
 abbrev program_of : ℕ → List (List PrefixPattern) → List Instr → Program
@@ -206,12 +206,12 @@ pub put_file : (code : Program) → IsProgram code → Follows a_file (fields co
 unfolding a_file
 put_file code h =
     let fits : code.locals < 256 = let limit = h.locals in omega arith in
-    let good : leb (number Locals (big_bytes 1 code.locals)) LOCAL_LIMIT ≡ true = le-leb _ _ (let limit = h.locals in omega (arith, number_of_field Locals code.locals fits)) in
+    let good : leb (number Locals (big_bytes 1 code.locals)) local_limit ≡ true = le-leb _ _ (let limit = h.locals in omega (arith, number_of_field Locals code.locals fits)) in
     let end : Follows (Done code) [] code = (refl, refl) in
-    let instrs = put_counted Instructions INSTRUCTION_LIMIT instructions_limit an_instruction instruction IsInstruction put_instruction code.instrs h.instrs h.each_instr in
+    let instrs = put_counted Instructions instruction_limit instructions_limit an_instruction instruction IsInstruction put_instruction code.instrs h.instrs h.each_instr in
     let with_end = follows_then (a_count_of Instructions an_instruction) (made code.locals code.sets) (counted Instructions instruction code.instrs) [] code.instrs code instrs end in
     let back : Follows (from_instructions code.locals code.sets) (counted Instructions instruction code.instrs) code = subst (λ (fs : List Field). Follows (from_instructions code.locals code.sets) fs code) (append-nil (counted Instructions instruction code.instrs)) with_end in
-    let sets = put_counted Sets SET_LIMIT sets_limit a_set set IsSet put_set code.sets h.sets h.each_set in
+    let sets = put_counted Sets set_limit sets_limit a_set set IsSet put_set code.sets h.sets h.each_set in
     let all = follows_then (a_count_of Sets a_set) (from_instructions code.locals) (counted Sets set code.sets) (counted Instructions instruction code.instrs) code.sets code sets back in
     let behind_mark = put_number Locals from_sets code.locals (counted Sets set code.sets ++ counted Instructions instruction code.instrs) code fits good all in
     (refl, refl, refl, (refl, refl, refl, (refl, refl, refl, (refl, refl, refl, behind_mark))))
@@ -235,30 +235,30 @@ record IsFrom (spelled : Program → List Field) (says : Program → Type 0) (fs
   is : says code
 
 abbrev SaysInstructions : ℕ → List (List PrefixPattern) → Program → Type 0
-SaysInstructions locals sets code = (code.locals ≡ locals) × (code.sets ≡ sets) × (length code.instrs ≤ INSTRUCTION_LIMIT) × AllByRecursion IsInstruction code.instrs
+SaysInstructions locals sets code = (code.locals ≡ locals) × (code.sets ≡ sets) × (length code.instrs ≤ instruction_limit) × AllByRecursion IsInstruction code.instrs
 
 take_instructions : (locals : ℕ) (sets : List (List PrefixPattern)) (fs : List Field) (code : Program) → AreBytes fs → Follows (from_instructions locals sets) fs code
     → IsFrom (λ c. counted Instructions instruction c.instrs) (SaysInstructions locals sets) fs code
 take_instructions locals sets fs code b h =
     let both = follows_both (a_count_of Instructions an_instruction) (made locals sets) fs code b h in
-    let all = take_counted Instructions INSTRUCTION_LIMIT instructions_limit an_instruction instruction IsInstruction take_instruction both.first both.made both.first_are_bytes both.follows_first in
+    let all = take_counted Instructions instruction_limit instructions_limit an_instruction instruction IsInstruction take_instruction both.first both.made both.first_are_bytes both.follows_first in
     let parts : fs ≡ counted Instructions instruction both.made = both.parts ∙ ap (λ (gs : List Field). both.first ++ gs) both.follows_second.0 ∙ append-nil both.first ∙ all.parts in
     subst (λ (c : Program). IsFrom (λ c. counted Instructions instruction c.instrs) (SaysInstructions locals sets) fs c) both.follows_second.1
     (record { parts = parts; is = (refl, refl, all.within_limit, all.each) })
 
 abbrev SaysSets : ℕ → Program → Type 0
-SaysSets locals code = (code.locals ≡ locals) × (length code.sets ≤ SET_LIMIT) × AllByRecursion IsSet code.sets × (length code.instrs ≤ INSTRUCTION_LIMIT) × AllByRecursion IsInstruction code.instrs
+SaysSets locals code = (code.locals ≡ locals) × (length code.sets ≤ set_limit) × AllByRecursion IsSet code.sets × (length code.instrs ≤ instruction_limit) × AllByRecursion IsInstruction code.instrs
 
 take_sets : (locals : ℕ) (fs : List Field) (code : Program) → AreBytes fs → Follows (from_sets locals) fs code
     → IsFrom (λ c. counted Sets set c.sets ++ counted Instructions instruction c.instrs) (SaysSets locals) fs code
 take_sets locals fs code b h =
     let both = follows_both (a_count_of Sets a_set) (from_instructions locals) fs code b h in
-    let all = take_counted Sets SET_LIMIT sets_limit a_set set IsSet take_set both.first both.made both.first_are_bytes both.follows_first in
+    let all = take_counted Sets set_limit sets_limit a_set set IsSet take_set both.first both.made both.first_are_bytes both.follows_first in
     let rest = take_instructions locals both.made both.second code both.second_are_bytes both.follows_second in
     let same : both.made ≡ code.sets = sym rest.is.1 in
     let parts : fs ≡ counted Sets set code.sets ++ counted Instructions instruction code.instrs =
     both.parts ∙ ap (λ (gs : List Field). gs ++ both.second) all.parts ∙ ap (λ (gs : List Field). counted Sets set both.made ++ gs) rest.parts ∙ ap (λ (sets : List (List PrefixPattern)). counted Sets set sets ++ counted Instructions instruction code.instrs) same in
-    record { parts = parts; is = (rest.is.0, subst (λ (sets : List (List PrefixPattern)). length sets ≤ SET_LIMIT) same all.within_limit, subst (λ (sets : List (List PrefixPattern)). AllByRecursion IsSet sets) same all.each, rest.is.2, rest.is.3) }
+    record { parts = parts; is = (rest.is.0, subst (λ (sets : List (List PrefixPattern)). length sets ≤ set_limit) same all.within_limit, subst (λ (sets : List (List PrefixPattern)). AllByRecursion IsSet sets) same all.each, rest.is.2, rest.is.3) }
 
 take_locals : (fs : List Field) (code : Program) → AreBytes fs → Follows (a_number Locals >>= from_sets) fs code
     → IsFrom (λ c. field Locals c.locals ∷ counted Sets set c.sets ++ counted Instructions instruction c.instrs) IsProgram fs code
@@ -266,8 +266,8 @@ take_locals fs code b h =
     let n = take_number Locals from_sets fs code bytes_again_1 b h in
     let rest = take_sets n.value n.others code n.are_bytes n.follows in
     let same : n.value ≡ code.locals = sym rest.is.0 in
-    let within : number Locals (big_bytes 1 n.value) ≤ LOCAL_LIMIT = leb-true _ _ n.good in
-    let limit : n.value ≤ LOCAL_LIMIT = omega (arith, within, number_of_field Locals n.value n.fits) in
+    let within : number Locals (big_bytes 1 n.value) ≤ local_limit = leb-true _ _ n.good in
+    let limit : n.value ≤ local_limit = omega (arith, within, number_of_field Locals n.value n.fits) in
     record {
       parts = n.parts ∙ ap (λ (gs : List Field). field Locals n.value ∷ gs) rest.parts ∙ ap (λ (k : ℕ). field Locals k ∷ counted Sets set code.sets ++ counted Instructions instruction code.instrs) same;
       is = record { locals = rw (← same) limit; sets = rest.is.1; each_set = rest.is.2; instrs = rest.is.3; each_instr = rest.is.4 };

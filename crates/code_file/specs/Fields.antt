@@ -2,11 +2,11 @@
 -- own choice.
 use Rattle.std.specs.Prelude.{ℕ, ◌<◌, ◌==◌, ◌&&◌, Bool, true, false, List, [], ◌∷◌, slice_index, nat_le, Option, is_some, find}
 use Rattle.byteorder.specs.Endian.{big_number}
-use Rattle.prefix_patterns.specs.declared.set.TheConstants.{MAX_PATTERNS}
+use Rattle.prefix_patterns.specs.Matching.{pattern_limit}
 use Rattle.prefix_patterns.specs.Bits.{prefix_bits, address_of}
 use Rattle.filter_code.specs.declared.instruction.Instr.{Instr}
 use Rattle.filter_code.specs.declared.instruction.Instr.TheVariants as instr
-use Rattle.filter_code.specs.declared.limits.TheConstants.{LOCAL_LIMIT, SET_LIMIT, INSTRUCTION_LIMIT}
+use Rattle.filter_code.specs.Limits.{local_limit, set_limit, instruction_limit}
 use Rattle.filter_code.specs.Instruction.{opcode}
 use Rattle.code_file.specs.declared.fault.FileFault.{FileFault}
 use Rattle.code_file.specs.declared.fault.FileFault.TheVariants as fault
@@ -81,11 +81,11 @@ is_pattern bytes = is_prefix bytes && (nat_le (slice_index bytes 5) (slice_index
 -- whether these bytes may stand in a field
 abbrev pub is_good : FieldKind → List ℕ → Bool
 is_good (Mark place) bytes = number (Mark place) bytes == slice_index mark_bytes place
-is_good Locals bytes = nat_le (number Locals bytes) LOCAL_LIMIT
-is_good Sets bytes = nat_le (number Sets bytes) SET_LIMIT
-is_good Patterns bytes = nat_le (number Patterns bytes) MAX_PATTERNS
+is_good Locals bytes = nat_le (number Locals bytes) local_limit
+is_good Sets bytes = nat_le (number Sets bytes) set_limit
+is_good Patterns bytes = nat_le (number Patterns bytes) pattern_limit
 is_good Pattern bytes = is_pattern bytes
-is_good Instructions bytes = nat_le (number Instructions bytes) INSTRUCTION_LIMIT
+is_good Instructions bytes = nat_le (number Instructions bytes) instruction_limit
 is_good Opcode bytes = is_some (form_of (number Opcode bytes))
 is_good WordOperand bytes = true
 is_good TruthOperand bytes = nat_le (number TruthOperand bytes) 1

@@ -2,12 +2,12 @@
 use Rattle.std.specs.Prelude.{ℕ, ◌<◌, ◌≤◌, ◌^◌, if◌then◌else◌, Bool, List, [], ◌∷◌, ◌++◌, length, slice_index}
 use Rattle.std.specs.List.{flat_map, AllByRecursion}
 use Rattle.byteorder.specs.Endian.{big_bytes}
-use Rattle.prefix_patterns.specs.declared.set.TheConstants.{MAX_PATTERNS}
+use Rattle.prefix_patterns.specs.Matching.{pattern_limit}
 use Rattle.prefix_patterns.specs.Bits.{address_of}
 use Rattle.prefix_patterns.specs.Matching.{PrefixPattern, HasOrderedLengths}
 use Rattle.filter_code.specs.declared.instruction.Instr.{Instr}
 use Rattle.filter_code.specs.declared.instruction.Instr.TheVariants as instr
-use Rattle.filter_code.specs.declared.limits.TheConstants.{LOCAL_LIMIT, SET_LIMIT, INSTRUCTION_LIMIT}
+use Rattle.filter_code.specs.Limits.{local_limit, set_limit, instruction_limit}
 use Rattle.filter_code.specs.Instruction.{opcode}
 use Rattle.filter_code.specs.Program.{Program}
 use Rattle.code_file.specs.Fields.{FieldKind, width, mark_bytes}
@@ -82,7 +82,7 @@ pub record IsPattern (p : PrefixPattern) : Type 0 where
 
 -- a set within the limit
 pub record IsSet (patterns : List PrefixPattern) : Type 0 where
-  pub within_limit : length patterns ≤ MAX_PATTERNS
+  pub within_limit : length patterns ≤ pattern_limit
   pub each : AllByRecursion IsPattern patterns
 
 -- an instruction whose operand fits its field
@@ -100,8 +100,8 @@ IsInstruction _ = Unit {0}
 
 -- a code that has a file
 pub record IsProgram (code : Program) : Type 0 where
-  pub locals : code.locals ≤ LOCAL_LIMIT
-  pub sets : length code.sets ≤ SET_LIMIT
+  pub locals : code.locals ≤ local_limit
+  pub sets : length code.sets ≤ set_limit
   pub each_set : AllByRecursion IsSet code.sets
-  pub instrs : length code.instrs ≤ INSTRUCTION_LIMIT
+  pub instrs : length code.instrs ≤ instruction_limit
   pub each_instr : AllByRecursion IsInstruction code.instrs

@@ -22,12 +22,14 @@ pub fn one_file()
 
 /// Reading from the left gives the code whose file the bytes are, or else the fault that they have.
 pub fn reading_is_exact()
-    ensures code { (bytes : List ℕ) (code : Program) → IsBytes bytes → (file_of bytes ≡ Ok code) ↔ (IsProgram code × (bytes ≡ spelling code)) }
+    ensures code { (bytes : List ℕ) (code : Program) → IsBytes bytes →
+        (file_of bytes ≡ Ok code) ↔ (IsProgram code × (bytes ≡ spelling code)) }
     ensures fault { (bytes : List ℕ) (found : Fault) → IsBytes bytes → (file_of bytes ≡ Err found) ↔ IsFault bytes found }
 {}
 
 /// The file of a code is read as that code, and what follows it is a fault at its first byte.
 pub fn written_is_read()
     ensures again { (code : Program) → IsProgram code → file_of (spelling code) ≡ Ok code }
-    ensures more { (code : Program) (next : ℕ) (others : List ℕ) → IsProgram code → file_of (spelling code ++ next ∷ others) ≡ Err (BytesAfterEnd (length (spelling code))) }
+    ensures more { (code : Program) (next : ℕ) (others : List ℕ) → IsProgram code →
+        file_of (spelling code ++ next ∷ others) ≡ Err (BytesAfterEnd (length (spelling code))) }
 {}

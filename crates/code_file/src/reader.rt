@@ -61,7 +61,8 @@ impl<'a> Reader<'a> {
     /// The bytes of the next field.
     fn field(&mut self, width: usize) -> Result<&'a [u8], FileFault>
         ensures whole { MatchResult result (λ field. width ≤ length self.old.bytes) (λ found. length self.old.bytes < width) }
-        ensures value { MatchResult result (λ field. field.now ≡ take width self.old.bytes) (λ found. found ≡ FileFault.EndsEarly (self.old.at + length self.old.bytes)) }
+        ensures value { MatchResult result (λ field. field.now ≡ take width self.old.bytes)
+            (λ found. found ≡ FileFault.EndsEarly (self.old.at + length self.old.bytes)) }
         ensures left { MatchResult result (λ field. self.new ≡ behind width self.old) (λ found. self.new ≡ self.old) }
     {
         if self.bytes.len() < width {

@@ -67,7 +67,8 @@ fn instructions(alloc: Global, reader: &mut Reader<'_>, count: u16) -> Result<Ve
 
 /// The code of a whole file.
 fn code_of(alloc: Global, bytes: &[u8]) -> Result<Code, FileFault>
-    ensures { MatchResult result (λ code. file_of bytes.now ≡ Ok code) (λ fault. (fault ≡ FileFault.OutOfMemory) ⊎ (file_of bytes.now ≡ Err fault)) }
+    ensures { MatchResult result (λ code. file_of bytes.now ≡ Ok code)
+        (λ fault. (fault ≡ FileFault.OutOfMemory) ⊎ (file_of bytes.now ≡ Err fault)) }
 {
     let mut reader = Reader::new(bytes);
     let locals = reader.header()?;
@@ -105,11 +106,13 @@ pub fn read_code(alloc: Global, bytes: &[u8]) -> Result<Code, FileFault>
     // What is read is the code that is spelled so.
     ensures found { IfOk result (λ code. IsProgram code × (bytes.now ≡ spelling code)) }
     // What is spelled so is read, unless memory runs out.
-    ensures only { (code : Program) → IsProgram code → bytes.now ≡ spelling code → MatchResult result (λ read. read ≡ code) (λ fault. fault ≡ FileFault.OutOfMemory) }
+    ensures only { (code : Program) → IsProgram code → bytes.now ≡ spelling code →
+        MatchResult result (λ read. read ≡ code) (λ fault. fault ≡ FileFault.OutOfMemory) }
     // What is refused has the fault that is answered, unless memory ran out.
     ensures refused { IfErr result (λ fault. (fault ≡ FileFault.OutOfMemory) ⊎ IsFault bytes.now fault) }
     // Code and fault as a function of the bytes.
-    ensures exact { MatchResult result (λ code. file_of bytes.now ≡ Ok code) (λ fault. (fault ≡ FileFault.OutOfMemory) ⊎ (file_of bytes.now ≡ Err fault)) }
+    ensures exact { MatchResult result (λ code. file_of bytes.now ≡ Ok code)
+        (λ fault. (fault ≡ FileFault.OutOfMemory) ⊎ (file_of bytes.now ≡ Err fault)) }
 {
     code_of(alloc, bytes)
 }

@@ -1,5 +1,6 @@
 pub mod Announcement
 pub mod Instruction
+pub mod Limits
 pub mod Machine
 pub mod Outcomes
 pub mod Program

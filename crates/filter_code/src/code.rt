@@ -1,5 +1,6 @@
 ghost use Rattle.std.specs.Prelude.{◌≡◌, ◌≤◌, All, length};
 ghost use Rattle.std.specs.Option.{SomeIff};
+ghost use Rattle.filter_code.specs.Limits.{local_limit, set_limit, instruction_limit};
 ghost use Rattle.filter_code.specs.Program.{HasMask};
 
 use crate::instruction::Instr;
@@ -53,7 +54,7 @@ impl Code {
     /// The number of local variables.
     pub fn locals(&self) -> u8
         ensures value { result ≡ self.now.locals }
-        ensures limit { result ≤ LOCAL_LIMIT }
+        ensures limit { result ≤ local_limit }
     {
         self.locals
     }
@@ -61,7 +62,7 @@ impl Code {
     /// The sets of patterns, in order.
     pub fn sets(&self) -> &[PatternSet]
         ensures value { result.now ≡ self.now.sets }
-        ensures limit { length result.now ≤ SET_LIMIT }
+        ensures limit { length result.now ≤ set_limit }
     {
         &self.sets
     }
@@ -69,7 +70,7 @@ impl Code {
     /// The instructions, in order.
     pub fn instrs(&self) -> &[Instr]
         ensures value { result.now ≡ self.now.instrs }
-        ensures limit { length result.now ≤ INSTRUCTION_LIMIT }
+        ensures limit { length result.now ≤ instruction_limit }
         ensures masks { All HasMask result.now }
     {
         &self.instrs

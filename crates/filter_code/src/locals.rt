@@ -1,5 +1,6 @@
 ghost use Rattle.std.specs.Prelude.{◌≡◌, ◌<◌, ◌≤◌, None, Some, length, replicate, slice_get, slice_set, MatchOption, MatchResult};
 ghost use Rattle.filter_code.specs.declared.outcome.FaultKind.TheVariants as fault;
+ghost use Rattle.filter_code.specs.Limits.{local_limit};
 
 use crate::limits::LOCAL_LIMIT;
 use crate::outcome::FaultKind;
@@ -17,20 +18,20 @@ pub struct Locals {
 
 impl Model for Locals {
     ghost use Rattle.std.specs.Prelude.{◌≡◌, ◌≤◌, List, Option, length, take};
-    ghost use Rattle.filter_code.specs.declared.limits.TheConstants.{LOCAL_LIMIT};
+    ghost use Rattle.filter_code.specs.Limits.{local_limit};
     ghost use Rattle.filter_code.specs.declared.value.Value.{Value as Local};
 
     ghost Value = { List (Option Local) };
 
     ghost view = { λ l. take l.count l.values };
 
-    ghost invariant = { λ l. (l.count ≤ LOCAL_LIMIT) × (length l.values ≡ LOCAL_LIMIT) };
+    ghost invariant = { λ l. (l.count ≤ local_limit) × (length l.values ≡ local_limit) };
 }
 
 impl Locals {
     /// That many local variables, all empty.
     pub fn new(count: u8) -> Locals
-        requires { count ≤ LOCAL_LIMIT }
+        requires { count ≤ local_limit }
         ensures { result ≡ replicate count None }
     {
         Locals {

@@ -1,7 +1,7 @@
 ghost use Rattle.std.specs.Prelude.{◌≡◌, ℕ, ◌+◌, ◌-◌, ◌*◌, ◌/◌, ◌%◌, ◌^◌, ◌<◌, ◌≤◌, true, false, List, ◌∷◌, Some, length, max, min, nat_le, nat_lt, slice_get, IfOk, MatchResult};
 ghost use Rattle.prefix_patterns.specs.Bits.{address_of, prefix_bits};
 ghost use Rattle.prefix_patterns.specs.Matching.{lies_within};
-ghost use Rattle.filter_code.specs.declared.limits.TheConstants.{STACK_LIMIT};
+ghost use Rattle.filter_code.specs.Limits.{stack_limit};
 ghost use Rattle.filter_code.specs.declared.outcome.FaultKind.TheVariants as fault;
 ghost use Rattle.filter_code.specs.declared.value.Value.TheVariants as value;
 ghost use Rattle.filter_code.specs.Announcement.{Announcement};
@@ -117,7 +117,7 @@ fn take_two_ints(stack: &mut Stack<Value>) -> Result<(u32, u32), FaultKind>
 #[inline(always)]
 fn give(value: Value, stack: &mut Stack<Value>) -> Result<(), FaultKind>
     ensures given { MatchResult result (λ _. stack.new ≡ value ∷ stack.old) (λ why. why ≡ fault.FullStack) }
-    ensures room { MatchResult result (λ _. length stack.old < STACK_LIMIT) (λ why. STACK_LIMIT ≤ length stack.old) }
+    ensures room { MatchResult result (λ _. length stack.old < stack_limit) (λ why. stack_limit ≤ length stack.old) }
 {
     stack.push(value)
 }
@@ -187,7 +187,8 @@ fn equal(operands: (Value, Value)) -> Result<Value, FaultKind>
 #[inline(always)]
 fn ordered(operands: (Value, Value)) -> Result<(u32, u32), FaultKind>
     ensures { MatchResult result
-        (λ p. (are_ordered (kind_of operands.0) (kind_of operands.1) ≡ true) × (number_of operands.0 ≡ Some p.0) × (number_of operands.1 ≡ Some p.1))
+        (λ p. (are_ordered (kind_of operands.0) (kind_of operands.1) ≡ true) × (number_of operands.0 ≡ Some p.0)
+        × (number_of operands.1 ≡ Some p.1))
         (λ why. (are_ordered (kind_of operands.0) (kind_of operands.1) ≡ false) × (why ≡ fault.WrongKind)) }
 {
     match &operands {

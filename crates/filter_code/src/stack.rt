@@ -1,5 +1,6 @@
 ghost use Rattle.std.specs.Prelude.{◌≡◌, ◌+◌, ◌<◌, ◌≤◌, [], ◌∷◌, length, MatchResult};
 ghost use Rattle.filter_code.specs.declared.outcome.FaultKind.TheVariants as fault;
+ghost use Rattle.filter_code.specs.Limits.{stack_limit};
 
 use crate::limits::STACK_LIMIT;
 use crate::outcome::FaultKind;
@@ -36,7 +37,7 @@ impl<T: Copy + Default> Stack<T> {
     #[inline(always)]
     pub fn push(&mut self, value: T) -> Result<(), FaultKind>
         ensures pushed { MatchResult result (λ _. self.new ≡ value ∷ self.old) (λ why. (why ≡ fault.FullStack) × (self.new ≡ self.old)) }
-        ensures room { MatchResult result (λ _. length self.old < STACK_LIMIT) (λ why. STACK_LIMIT ≤ length self.old) }
+        ensures room { MatchResult result (λ _. length self.old < stack_limit) (λ why. stack_limit ≤ length self.old) }
     {
         if self.values.is_full() {
             return Err(FaultKind::FullStack);
@@ -48,7 +49,8 @@ impl<T: Copy + Default> Stack<T> {
     /// Takes the top. A fault exactly where the stack is empty.
     #[inline(always)]
     pub fn take_one(&mut self) -> Result<T, FaultKind>
-        ensures { MatchResult result (λ a. self.old ≡ a ∷ self.new) (λ why. (why ≡ fault.MissingOperand) × (self.old ≡ []) × (self.new ≡ [])) }
+        ensures { MatchResult result (λ a. self.old ≡ a ∷ self.new)
+            (λ why. (why ≡ fault.MissingOperand) × (self.old ≡ []) × (self.new ≡ [])) }
     {
         match self.values.pop() {
             None => Err(FaultKind::MissingOperand),
@@ -59,7 +61,8 @@ impl<T: Copy + Default> Stack<T> {
     /// Takes the top two, of which the second was the top. A fault exactly where there are fewer, which then stay.
     #[inline(always)]
     pub fn take_two(&mut self) -> Result<(T, T), FaultKind>
-        ensures { MatchResult result (λ p. self.old ≡ p.1 ∷ (p.0 ∷ self.new)) (λ why. (why ≡ fault.MissingOperand) × (length self.old < 2) × (self.new ≡ self.old)) }
+        ensures { MatchResult result (λ p. self.old ≡ p.1 ∷ (p.0 ∷ self.new))
+            (λ why. (why ≡ fault.MissingOperand) × (length self.old < 2) × (self.new ≡ self.old)) }
     {
         if self.values.len() < 2 {
             return Err(FaultKind::MissingOperand);
@@ -72,7 +75,7 @@ impl<T: Copy + Default> Stack<T> {
     /// How many values it holds.
     pub fn len(&self) -> usize
         ensures value { result ≡ length self.now }
-        ensures limit { result ≤ STACK_LIMIT }
+        ensures limit { result ≤ stack_limit }
     {
         self.values.len()
     }

@@ -10,7 +10,7 @@ use Rattle.line_protocol.specs.Answers.{Answer, text_of}
 use Rattle.line_protocol.specs.Lines.{answerable_from, numbered, whole_lines}
 use Rattle.line_protocol.specs.Steps.{Advances, AnswersFront, BreaksOff, EndsOff, IsReadFault, IsWhole, NoneEnds}
 use Rattle.line_protocol.specs.Runs.{Finishes, Runs, RunsFront, Stops, IsWritten}
-use Rattle.line_protocol.specs.declared.TheConstants.{INPUT_LIMIT}
+use Rattle.line_protocol.specs.Limits.{input_limit}
 use Rattle.line_protocol.specs.declared.faults.StreamFault.{StreamFault}
 use Rattle.line_protocol.specs.declared.faults.StreamFault.TheVariants.{Read, Write, Memory, TooLong}
 use Rattle.line_protocol.proofs.LineLemmas.{IsOpen, open_part, lines-append, whole_lines-append, whole_lines-cut}
@@ -104,7 +104,7 @@ module _ {S : Type 0} (answers : S → ℕ → List ℕ → Answer → S → Typ
 module _ {S : Type 0} (answers : S → ℕ → List ℕ → Answer → S → Type 0) (start : S) (held : Option (List ℕ)) where
   -- an answer ended the stream
   pub finish_over : (known : Option (List ℕ)) (after : S) (left holds : Option (List ℕ)) (front back : List ℕ) (given : List Answer) (total number refused : ℕ)
-      → Done answers start after known left held holds front back given total number refused true → total ≤ INPUT_LIMIT
+      → Done answers start after known left held holds front back given total number refused true → total ≤ input_limit
       → IfSome known (λ input. Finishes answers start after input left held holds refused)
   finish_over None after left holds front back given total number refused done short = tt
   finish_over (Some input) after left holds front back given total number refused done short =
@@ -125,7 +125,7 @@ module _ {S : Type 0} (answers : S → ℕ → List ℕ → Answer → S → Typ
       → UnderWay answers start now known left held holds begun total number refused
       → Consumes left left' [] → IsAtEnd left'
       → (found : List Answer) × Advances answers now after (lines begun) found number number' refused refused' over × Appends holds holds' (text_of found)
-      → total ≤ INPUT_LIMIT
+      → total ≤ input_limit
       → IfSome known (λ input. Finishes answers start after input left' held holds' refused')
   finish_end None now after left left' holds holds' begun total number number' refused refused' over (front, given, done, begun_open) none end (found, told, written) short = tt
   finish_end (Some input) now after None left' holds holds' begun total number number' refused refused' over (front, given, done, begun_open) none end (found, told, written) short = absurd done.consumed
@@ -233,7 +233,7 @@ module _ {S : Type 0} (answers : S → ℕ → List ℕ → Answer → S → Typ
   -- more came than the limit allows
   pub stop_long : (known : Option (List ℕ)) (now : S) (left holds : Option (List ℕ)) (front bytes excess : List ℕ) (at : ℕ) (given : List Answer) (total number refused : ℕ) (over : Bool)
       → Done answers start now known left held holds front (drop at bytes ++ excess) given total number refused over
-      → (over ≡ false → NoneEnds bytes at (length bytes)) → total ≡ INPUT_LIMIT + 1 → length excess ≡ 1
+      → (over ≡ false → NoneEnds bytes at (length bytes)) → total ≡ input_limit + 1 → length excess ≡ 1
       → IfSome known (λ input. Stops answers TooLong start now input left held holds)
   stop_long None now left holds front bytes excess at given total number refused over done none long one = tt
   stop_long (Some input) now left holds front bytes excess at given total number refused over done none long one =
@@ -242,8 +242,8 @@ module _ {S : Type 0} (answers : S → ℕ → List ℕ → Answer → S → Typ
       let same : front ++ (back ++ excess) ≡ (front ++ back) ++ excess = sym (append_assoc front back excess) in
       let both = ap length same in
       let parts = length-append (front ++ back) excess in
-      let limit : length (front ++ back) ≡ INPUT_LIMIT = omega (arith, done.all) in
-      let kept : take INPUT_LIMIT (front ++ (back ++ excess)) ≡ front ++ back = ap (take INPUT_LIMIT) same ∙ take_at (front ++ back) excess INPUT_LIMIT limit in
+      let limit : length (front ++ back) ≡ input_limit = omega (arith, done.all) in
+      let kept : take input_limit (front ++ (back ++ excess)) ≡ front ++ back = ap (take input_limit) same ∙ take_at (front ++ back) excess input_limit limit in
       let open_back = λ (go : over ≡ false). subst IsOpen (take_rest bytes at) (open_part bytes at (length bytes) (omega arith) (none go)) in
       record {
         given = given;

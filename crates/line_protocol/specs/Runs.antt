@@ -3,7 +3,7 @@ use Rattle.std.specs.Prelude.{◌≡◌, ℕ, ◌+◌, ◌≤◌, false, MatchBo
 use Rattle.std.specs.Io.KnownBytes.{Appends, Consumes}
 use Rattle.line_protocol.specs.Answers.{Answer, is_end, is_over, refusals, text_of}
 use Rattle.line_protocol.specs.Lines.{numbered, whole_lines}
-use Rattle.line_protocol.specs.declared.TheConstants.{INPUT_LIMIT}
+use Rattle.line_protocol.specs.Limits.{input_limit}
 use Rattle.line_protocol.specs.declared.faults.StreamFault.{StreamFault}
 use Rattle.line_protocol.specs.declared.faults.StreamFault.TheVariants.{Read, Write, Memory, TooLong}
 
@@ -50,7 +50,7 @@ module _ {S : Type 0} (answers : S → ℕ → List ℕ → Answer → S → Typ
     pub counted : refused ≡ refusals given
     pub read : List ℕ
     pub consumed : Consumes (Some input) left read
-    pub within : length read ≤ INPUT_LIMIT
+    pub within : length read ≤ input_limit
     pub to_end : is_over given ≡ false → left ≡ Some []
 
   -- How far the answers reach where a fault ended the stream, when `read` was read of it.
@@ -61,8 +61,8 @@ module _ {S : Type 0} (answers : S → ℕ → List ℕ → Answer → S → Typ
   Reaches Write before now read given after = ⊤
   Reaches Memory before now read given after = ⊤
   -- one byte more than the limit was read, and each line that ended within the limit is answered
-  Reaches TooLong before now read given after = (length read ≡ INPUT_LIMIT + 1) × (now ≡ after)
-      × Runs before (numbered (whole_lines (take INPUT_LIMIT read))) given after
+  Reaches TooLong before now read given after = (length read ≡ input_limit + 1) × (now ≡ after)
+      × Runs before (numbered (whole_lines (take input_limit read))) given after
 
   -- A fault ended a stream of lines: the first lines of the input are answered, each whole. The names are those of `Finishes`,
   -- and `now` is the service as the fault left it.

@@ -40,8 +40,8 @@ abbrev pub matches : List Bool → PrefixPattern → Bool
 matches prefix pattern = has_same_bits prefix pattern.bits && (nat_le pattern.low (length prefix) && nat_le (length prefix) pattern.high)
 
 -- the greatest number of patterns in a set (this project's own choice)
-abbrev pub set_limit : ℕ
-set_limit = 1024
+abbrev pub pattern_limit : ℕ
+pattern_limit = 1024
 
 -- a prefix matches a set if it matches one of its patterns
 abbrev pub MatchesAny : List Bool → List PrefixPattern → Type 0

@@ -1,6 +1,6 @@
 ghost use Rattle.std.specs.Prelude.{◌≡◌, ◌<◌, ◌≤◌, ◌↔◌, IsTrue, IfOk, IsErrOf, codes, length};
 ghost use Rattle.prefix_patterns.specs.Fault.{set_fault_code};
-ghost use Rattle.prefix_patterns.specs.Matching.{MatchesAny, matches_any, set_limit};
+ghost use Rattle.prefix_patterns.specs.Matching.{MatchesAny, matches_any, pattern_limit};
 
 use crate::pattern::Pattern;
 use crate::prefix::Prefix;
@@ -19,13 +19,13 @@ pub struct PatternSet {
 
 impl Model for PatternSet {
     ghost use Rattle.std.specs.Prelude.{List, ◌≤◌, length};
-    ghost use Rattle.prefix_patterns.specs.Matching.{PrefixPattern, set_limit};
+    ghost use Rattle.prefix_patterns.specs.Matching.{PrefixPattern, pattern_limit};
 
     ghost Value = { List PrefixPattern };
 
     ghost view = { λ s. s.patterns.items };
 
-    ghost invariant = { λ s. length s.patterns.items ≤ set_limit };
+    ghost invariant = { λ s. length s.patterns.items ≤ pattern_limit };
 }
 
 /// Why a set was not built.
@@ -60,7 +60,7 @@ impl PatternSet {
     /// The set of these patterns. Refused exactly where there are more than 1,024, want of memory aside.
     pub fn build(alloc: Global, patterns: &[Pattern]) -> Result<PatternSet, SetFault>
         ensures built { IfOk result (λ set. set ≡ patterns.now) }
-        ensures too_many { IsErrOf result SetFault.TooManyPatterns ↔ (set_limit < length patterns.now) }
+        ensures too_many { IsErrOf result SetFault.TooManyPatterns ↔ (pattern_limit < length patterns.now) }
     {
         if patterns.len() > MAX_PATTERNS {
             return Err(SetFault::TooManyPatterns);
@@ -74,7 +74,7 @@ impl PatternSet {
     /// The patterns, in the order given.
     pub fn patterns(&self) -> &[Pattern]
         ensures value { result.now ≡ self.now }
-        ensures limit { length result.now ≤ set_limit }
+        ensures limit { length result.now ≤ pattern_limit }
     {
         self.patterns.as_slice()
     }
