@@ -1,5 +1,6 @@
 -- Steps of the loops that look for the first that passes.
-use Rattle.std.proofs.Common.{◌≡◌, ℕ, ◌+◌, ◌<◌, ◌≤◌, Bool, true, false, ◌||◌, List, [], ◌∷◌, length, drop, get_or, Option, Some, None, refl, sym, ◌∙◌, ap, arith}
+use Rattle.std.proofs.Common.{◌≡◌, ℕ, ◌+◌, ◌<◌, ◌≤◌, Bool, true, false, ◌||◌, List, [], ◌∷◌, length, drop, get_or, Option, Some}
+use Rattle.std.proofs.Common.{None, refl, sym, ◌∙◌, ap, arith}
 use Rattle.std.specs.List.{find, list_any}
 use Rattle.std.specs.Option.{option_map}
 use Rattle.std.proofs.lemmas.List.{drop_more, drop_all}
@@ -33,7 +34,8 @@ none_more None = refl
 none_more (Some len) = ap Some (omega arith)
 
 -- one added behind n added is one more than n
-one_more : (n : ℕ) (found : Option ℕ) → option_map (λ len. n + len) (option_map (λ len. 1 + len) found) ≡ option_map (λ len. (n + 1) + len) found
+one_more : (n : ℕ) (found : Option ℕ)
+    → option_map (λ len. n + len) (option_map (λ len. 1 + len) found) ≡ option_map (λ len. (n + 1) + len) found
 one_more n None = refl
 one_more n (Some len) = ap Some (omega arith)
 

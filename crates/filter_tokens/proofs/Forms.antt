@@ -1,9 +1,12 @@
 -- The longest shape at the front of a text: what is found is there, and what is there is found or something longer.
-use Rattle.std.proofs.Common.{◌≡◌, ◌≢◌, ℕ, zero, suc, ◌+◌, ◌<◌, ◌≤◌, ◌⊎◌, Bool, true, false, cond, eqb, not, ◌||◌, ◌&&◌, List, [], ◌∷◌, ◌++◌, length, take, drop, Option, Some, None, All, refl, sym, ◌∙◌, ap, arith, inl, inr, ⊎_elim, length-append}
+use Rattle.std.proofs.Common.{◌≡◌, ◌≢◌, ℕ, zero, suc, ◌+◌, ◌<◌, ◌≤◌, ◌⊎◌, Bool, true, false, cond, eqb, not, ◌||◌, ◌&&◌, List, []}
+use Rattle.std.proofs.Common.{◌∷◌, ◌++◌, length, take, drop, Option, Some, None, All, refl, sym, ◌∙◌, ap, arith, inl, inr, ⊎_elim}
+use Rattle.std.proofs.Common.{length-append}
 use Rattle.std.specs.Char.{IsAsciiDigit, is_ascii_digit, is_ascii_hexdigit}
 use Rattle.std.specs.List.{prefix_len, join_with_byte}
 use Rattle.std.specs.Option.{option_map}
-use Rattle.std.proofs.lemmas.Bool.{eqb-true, eq-eqb, ne_eqb, leb-true, le-leb, and_parts, and_from, or_parts, or_from, cases_Bool, false_from_ne_true, not-true}
+use Rattle.std.proofs.lemmas.Bool.{eqb-true, eq-eqb, ne_eqb, leb-true, le-leb, and_parts, and_from, or_parts, or_from, cases_Bool}
+use Rattle.std.proofs.lemmas.Bool.{false_from_ne_true, not-true}
 use Rattle.std.proofs.lemmas.List.{append_assoc}
 use Rattle.std.proofs.lemmas.List.Elements.{All-head, All-tail, All-weaker}
 use Rattle.prefix_patterns.specs.Number.{IsDigits}
@@ -56,7 +59,8 @@ digits_there : (byte : ℕ) (bytes rest : List ℕ) → is_ascii_digit byte ≡ 
     → after_digits (byte ∷ bytes) ≡ Some (behind is_ascii_digit (byte ∷ bytes))
 unfolding after_digits
 digits_there byte bytes rest e =
-    let more : eqb (prefix_len is_ascii_digit (byte ∷ bytes)) 0 ≡ false = rw e (ne_eqb _ _ (λ (same : 1 + prefix_len is_ascii_digit bytes ≡ 0). omega arith)) in
+    let more : eqb (prefix_len is_ascii_digit (byte ∷ bytes)) 0 ≡ false =
+    rw e (ne_eqb _ _ (λ (same : 1 + prefix_len is_ascii_digit bytes ≡ 0). omega arith)) in
     rw more refl
 
 -- digits are found, and all that follow
@@ -80,7 +84,10 @@ after_digits-found text rest e =
     let some = digits_some text rest (prefix_len is_ascii_digit text) _ refl refl e in
     record {
       bytes = f.bytes;
-      is = record { some = omega (arith, some.0, f.count); each = All-weaker (λ byte. is_ascii_digit byte ≡ true) IsAsciiDigit digit_fact f.bytes f.each };
+      is = record {
+        some = omega (arith, some.0, f.count);
+        each = All-weaker (λ byte. is_ascii_digit byte ≡ true) IsAsciiDigit digit_fact f.bytes f.each;
+      };
       whole = f.whole ∙ ap (λ tail. f.bytes ++ tail) some.1;
     }
 
@@ -114,7 +121,8 @@ address_whole : (text one two three four five six rest a b c d : List ℕ)
     → text ≡ a ++ one → one ≡ dot ∷ two → two ≡ b ++ three → three ≡ dot ∷ four → four ≡ c ++ five → five ≡ dot ∷ six → six ≡ d ++ rest
     → text ≡ join_with_byte dot (a ∷ b ∷ c ∷ d ∷ []) ++ rest
 address_whole text one two three four five six rest a b c d e f g h i j k =
-    e ∙ ap (λ t. a ++ t) (f ∙ ap (λ t. dot ∷ t) (g ∙ ap (λ t. b ++ t) (h ∙ ap (λ t. dot ∷ t) (i ∙ ap (λ t. c ++ t) (j ∙ ap (λ t. dot ∷ t) k)))))
+    e ∙ ap (λ t. a ++ t) (f
+    ∙ ap (λ t. dot ∷ t) (g ∙ ap (λ t. b ++ t) (h ∙ ap (λ t. dot ∷ t) (i ∙ ap (λ t. c ++ t) (j ∙ ap (λ t. dot ∷ t) k)))))
     ∙ sym (joined a b c d rest)
 
 pub after_address-found : (text rest : List ℕ) → after_address text ≡ Some rest → Stands HasFourGroups text rest
@@ -132,7 +140,14 @@ after_address-found text rest e =
     let d = after_digits-found six rest e in
     record {
       bytes = join_with_byte dot (a.bytes ∷ b.bytes ∷ c.bytes ∷ d.bytes ∷ []);
-      is = record { first = a.bytes; second = b.bytes; third = c.bytes; fourth = d.bytes; groups = (a.is, b.is, c.is, d.is); spelled = refl };
+      is = record {
+        first = a.bytes;
+        second = b.bytes;
+        third = c.bytes;
+        fourth = d.bytes;
+        groups = (a.is, b.is, c.is, d.is);
+        spelled = refl;
+      };
       whole =
           address_whole text one two three four five six rest a.bytes b.bytes c.bytes d.bytes a.whole (after_byte-found dot one two at_two)
           b.whole (after_byte-found dot three four at_four) c.whole (after_byte-found dot five six at_six) d.whole;
@@ -219,7 +234,8 @@ after_hexadecimal-found text rest e =
       is = (f.bytes, f.each, refl);
       whole =
           after_byte-found zero_digit text one at_one
-          ∙ ap (λ t. zero_digit ∷ t) (after_byte-found small_x one two at_two ∙ ap (λ t. small_x ∷ t) (f.whole ∙ ap (λ t. f.bytes ++ t) last));
+          ∙ ap (λ t. zero_digit ∷ t) (after_byte-found small_x one two at_two
+          ∙ ap (λ t. small_x ∷ t) (f.whole ∙ ap (λ t. f.bytes ++ t) last));
     }))
 
 -- ---- texts in double quotes
@@ -235,7 +251,8 @@ plain_fact byte passes =
 plain_pass : (inner rest : List ℕ) → All (λ byte. (byte ≢ quote) × (byte ≢ line_feed)) inner
     → behind is_quotable (inner ++ quote ∷ rest) ≡ quote ∷ rest
 plain_pass inner rest plain =
-    behind-append is_quotable inner (quote ∷ rest) (All-weaker (λ byte. (byte ≢ quote) × (byte ≢ line_feed)) (λ byte. is_quotable byte ≡ true) plain_test inner plain)
+    behind-append is_quotable inner (quote ∷ rest)
+    (All-weaker (λ byte. (byte ≢ quote) × (byte ≢ line_feed)) (λ byte. is_quotable byte ≡ true) plain_test inner plain)
 
 after_inner : (inner rest : List ℕ) → All (λ byte. (byte ≢ quote) × (byte ≢ line_feed)) inner
     → after_quoted (quote ∷ (inner ++ quote ∷ rest)) ≡ Some rest
@@ -255,8 +272,13 @@ after_quoted-found text rest e =
     let f = front is_quotable one in
     record {
       bytes = quote ∷ (f.bytes ++ quote ∷ []);
-      is = record { inner = f.bytes; plain = All-weaker (λ byte. is_quotable byte ≡ true) (λ byte. (byte ≢ quote) × (byte ≢ line_feed)) plain_fact f.bytes f.each; spelled = refl };
+      is = record {
+        inner = f.bytes;
+        plain = All-weaker (λ byte. is_quotable byte ≡ true) (λ byte. (byte ≢ quote) × (byte ≢ line_feed)) plain_fact f.bytes f.each;
+        spelled = refl;
+      };
       whole =
           after_byte-found quote text one at_one
-          ∙ ap (λ t. quote ∷ t) (f.whole ∙ ap (λ t. f.bytes ++ t) (after_byte-found quote (behind is_quotable one) rest e) ∙ sym (append_assoc f.bytes (quote ∷ []) rest));
+          ∙ ap (λ t. quote ∷ t) (f.whole ∙ ap (λ t. f.bytes ++ t) (after_byte-found quote (behind is_quotable one) rest e)
+          ∙ sym (append_assoc f.bytes (quote ∷ []) rest));
     })

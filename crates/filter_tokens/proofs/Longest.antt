@@ -1,5 +1,7 @@
 -- The longest shape at the front of a text.
-use Rattle.std.proofs.Common.{◌≡◌, ◌≢◌, ℕ, ◌+◌, ◌<◌, ◌≤◌, ◌==◌, if◌then◌else◌, Bool, true, false, List, [], ◌∷◌, ◌++◌, length, take, drop, Option, Some, None, All, refl, sym, ◌∙◌, ap, subst, arith, append-nil, length-append, length-drop}
+use Rattle.std.proofs.Common.{◌≡◌, ◌≢◌, ℕ, ◌+◌, ◌<◌, ◌≤◌, ◌==◌, if◌then◌else◌, Bool, true, false, List, [], ◌∷◌, ◌++◌, length}
+use Rattle.std.proofs.Common.{take, drop, Option, Some, None, All, refl, sym, ◌∙◌, ap, subst, arith, append-nil, length-append}
+use Rattle.std.proofs.Common.{length-drop}
 use Rattle.std.specs.Char.{IsAsciiDigit, is_ascii_digit, is_ascii_hexdigit}
 use Rattle.std.specs.List.{prefix_len}
 use Rattle.std.specs.Option.{option_map}
@@ -15,9 +17,14 @@ use Rattle.filter_tokens.specs.declared.mark.Mark.TheVariants as mark
 use Rattle.filter_tokens.specs.declared.shape.Shape.{Shape}
 use Rattle.filter_tokens.specs.declared.shape.Shape.TheVariants as shape
 use Rattle.filter_tokens.specs.Marks.{mark_text, is_sign}
-use Rattle.filter_tokens.specs.Reading.{behind, after_byte, after_digits, after_address, after_prefix, after_hexadecimal, after_quoted, quoted_shape, or_shape, digits_shape, sign_in, sign_shape, longest_shape}
-use Rattle.filter_tokens.specs.Shapes.{quote, zero_digit, small_x, begins_word, goes_on_word, IsWord, HasFourGroups, HasLength, IsQuoted, AreHexadecimal, HasShape}
-use Rattle.filter_tokens.proofs.Forms.{Stands, behind_front, digit_fact, digits_pass, after_byte-found, after_digits-there, after_digits-found, after_address-there, after_address-found, after_address-within, after_prefix-there, after_prefix-found, after_prefix-within, after_hexadecimal-there, after_hexadecimal-found, after_quoted-there, after_quoted-found}
+use Rattle.filter_tokens.specs.Reading.{behind, after_byte, after_digits, after_address, after_prefix, after_hexadecimal}
+use Rattle.filter_tokens.specs.Reading.{after_quoted, quoted_shape, or_shape, digits_shape, sign_in, sign_shape, longest_shape}
+use Rattle.filter_tokens.specs.Shapes.{quote, zero_digit, small_x, begins_word, goes_on_word, IsWord, HasFourGroups, HasLength}
+use Rattle.filter_tokens.specs.Shapes.{IsQuoted, AreHexadecimal, HasShape}
+use Rattle.filter_tokens.proofs.Forms.{Stands, behind_front, digit_fact, digits_pass, after_byte-found, after_digits-there}
+use Rattle.filter_tokens.proofs.Forms.{after_digits-found, after_address-there, after_address-found, after_address-within}
+use Rattle.filter_tokens.proofs.Forms.{after_prefix-there, after_prefix-found, after_prefix-within, after_hexadecimal-there}
+use Rattle.filter_tokens.proofs.Forms.{after_hexadecimal-found, after_quoted-there, after_quoted-found}
 use Rattle.filter_tokens.proofs.Fronts.{Front, bind_some, map_some, behind-append, behind-all, front, behind-length, split_length}
 use Rattle.filter_tokens.proofs.Signs.{Covers, sign-itself, sign-covers, sign-found}
 
@@ -32,7 +39,8 @@ a_shape shape rest = (shape, rest)
 
 digit_no_word : (byte : ℕ) → IsAsciiDigit byte → begins_word byte ≡ false
 digit_no_word byte digit =
-    or_from _ _ (or_from _ _ (and_left _ _ (lt-leb 65 byte (omega (arith, digit.1)))) (and_left _ _ (lt-leb 97 byte (omega (arith, digit.1)))))
+    or_from _ _ (or_from _ _ (and_left _ _ (lt-leb 65 byte (omega (arith, digit.1))))
+    (and_left _ _ (lt-leb 97 byte (omega (arith, digit.1)))))
     (ne_eqb byte 95 (λ same. omega (arith, digit.1)))
 
 by_word : (first : ℕ) (others : List ℕ) → begins_word first ≡ true
@@ -47,7 +55,8 @@ by_digit first others e = rw (digit_no_word first (digit_fact first e), e) refl
 
 by_digits : (bytes rest : List ℕ) → IsDigits bytes → longest_shape (bytes ++ rest) ≡ Some (digits_shape (bytes ++ rest))
 by_digits [] rest digits = absurd (omega (arith, digits.some))
-by_digits (byte ∷ bytes) rest digits = by_digit byte (bytes ++ rest) (All-head (λ byte. is_ascii_digit byte ≡ true) byte bytes (digits_pass (byte ∷ bytes) digits))
+by_digits (byte ∷ bytes) rest digits =
+    by_digit byte (bytes ++ rest) (All-head (λ byte. is_ascii_digit byte ≡ true) byte bytes (digits_pass (byte ∷ bytes) digits))
 
 -- a text that begins with digits
 pub begun_by_digits : (text rest : List ℕ) → after_digits text ≡ Some rest → longest_shape text ≡ Some (digits_shape text)
@@ -114,7 +123,8 @@ no_hexadecimal_as x is (Some rest) e =
     let stands = after_hexadecimal-found x rest e in
     let spelled : x ≡ zero_digit ∷ small_x ∷ (stands.is.0 ++ rest) = stands.whole ∙ ap (λ t. t ++ rest) stands.is.2 in
     let each = All-same IsAsciiDigit (zero_digit ∷ small_x ∷ (stands.is.0 ++ rest)) x (sym spelled) is.each in
-    let second = All-head IsAsciiDigit small_x (stands.is.0 ++ rest) (All-tail IsAsciiDigit zero_digit (small_x ∷ (stands.is.0 ++ rest)) each) in
+    let second = All-head IsAsciiDigit small_x (stands.is.0 ++ rest)
+    (All-tail IsAsciiDigit zero_digit (small_x ∷ (stands.is.0 ++ rest)) each) in
     absurd (omega (arith, second.1))
 
 -- ---- what each form of number is, where it stands
@@ -183,7 +193,10 @@ decimal_stands first others e =
     let some : prefix_len is_ascii_digit text ≡ 1 + prefix_len is_ascii_digit others = rw e refl in
     record {
       bytes = f.bytes;
-      is = record { some = omega (arith, f.count, some); each = All-weaker (λ byte. is_ascii_digit byte ≡ true) IsAsciiDigit digit_fact f.bytes f.each };
+      is = record {
+        some = omega (arith, f.count, some);
+        each = All-weaker (λ byte. is_ascii_digit byte ≡ true) IsAsciiDigit digit_fact f.bytes f.each;
+      };
       whole = f.whole;
     }
 
@@ -221,12 +234,15 @@ module _ (first : ℕ) (others : List ℕ) (found : Found) where
   by_sign false same e = sign_stands (first ∷ others) found e
 
   by_number : (d : Bool) → is_ascii_digit first ≡ d
-      → (if d then Some (digits_shape (first ∷ others)) else (if first == quote then quoted_shape (first ∷ others) else sign_shape (first ∷ others))) ≡ Some found → Is (first ∷ others) found
+      → (if d then Some (digits_shape (first ∷ others))
+      else (if first == quote then quoted_shape (first ∷ others) else sign_shape (first ∷ others))) ≡ Some found → Is (first ∷ others) found
   by_number true digit e = subst (Is (first ∷ others)) (same_Some _ _ e) (digits_stand first others digit)
   by_number false digit e = by_sign (first == quote) refl e
 
   by_name : (w : Bool) → begins_word first ≡ w
-      → (if w then Some (a_shape shape.Word (behind goes_on_word others)) else (if is_ascii_digit first then Some (digits_shape (first ∷ others)) else (if first == quote then quoted_shape (first ∷ others) else sign_shape (first ∷ others)))) ≡ Some found
+      → (if w then Some (a_shape shape.Word (behind goes_on_word others))
+      else (if is_ascii_digit first then Some (digits_shape (first ∷ others))
+      else (if first == quote then quoted_shape (first ∷ others) else sign_shape (first ∷ others)))) ≡ Some found
       → Is (first ∷ others) found
   by_name true word e = subst (Is (first ∷ others)) (same_Some _ _ e) (word_stands first others word)
   by_name false word e = by_number (is_ascii_digit first) refl e
@@ -275,7 +291,11 @@ prefix_within x rest is =
     record {
       found = digits_shape text;
       is = address_begins text address.0 address.1;
-      bounded = omega (arith, ap (λ (f : Found). length f.1) (prefix_is text (behind is_ascii_digit rest) there), behind-length is_ascii_digit rest);
+      bounded = omega (
+        arith,
+        ap (λ (f : Found). length f.1) (prefix_is text (behind is_ascii_digit rest) there),
+        behind-length is_ascii_digit rest,
+      );
     }
 
 address_within : (x rest : List ℕ) → HasFourGroups x → Within (x ++ rest) (length rest)
@@ -289,7 +309,8 @@ address_within x rest is =
       found = digits_shape text;
       is = address_begins text last there;
       bounded =
-          or_shape-within (length rest) shape.Prefix (after_prefix text) _ (λ r e. omega (arith, short, prefix_bounded text last there r e)) (rw there short);
+          or_shape-within (length rest) shape.Prefix (after_prefix text) _ (λ r e. omega (arith, short, prefix_bounded text last there r e))
+          (rw there short);
     }
 
 -- behind digits, whatever number begins with them, no more stands than behind them
@@ -301,7 +322,8 @@ digits_within x rest is hexadecimal =
     let last = behind is_ascii_digit rest in
     let there = after_digits-there x rest is in
     let short = behind-length is_ascii_digit rest in
-    let address = λ (r : List ℕ) (e : after_address text ≡ Some r). let w = after_address-within text r last there e in let bound : length r ≤ length rest = omega arith in bound in
+    let address = λ (r : List ℕ) (e : after_address text ≡ Some r). let w = after_address-within text r last there e in
+    let bound : length r ≤ length rest = omega arith in bound in
     record {
       found = digits_shape text;
       is = begun_by_digits text last there;
@@ -331,7 +353,8 @@ hexadecimal_within : (digits rest : List ℕ) → AreHexadecimal digits → With
 hexadecimal_within digits rest is =
     let text = zero_digit ∷ small_x ∷ (digits ++ rest) in
     let none = no_hexadecimal_address (digits ++ rest) in
-    let same = hexadecimal_is text (behind is_ascii_hexdigit rest) (no_address_no_prefix text none) none (after_hexadecimal-there digits rest is) in
+    let same = hexadecimal_is text (behind is_ascii_hexdigit rest) (no_address_no_prefix text none) none
+    (after_hexadecimal-there digits rest is) in
     record {
       found = digits_shape text;
       is = by_digit zero_digit (small_x ∷ (digits ++ rest)) refl;
@@ -357,7 +380,8 @@ sign_within sign rest is =
     let covers = sign-covers sign rest is in
     record {
       found = a_shape (shape.Sign covers.longest) (drop (length (mark_text covers.longest)) text);
-      is = by_sign_byte sign rest is ∙ ap (option_map (λ sign. a_shape (shape.Sign sign) (drop (length (mark_text sign)) text))) covers.found;
+      is = by_sign_byte sign rest is
+          ∙ ap (option_map (λ sign. a_shape (shape.Sign sign) (drop (length (mark_text sign)) text))) covers.found;
       bounded = omega (arith, length-drop (length (mark_text covers.longest)) text, length-append (mark_text sign) rest, covers.covers);
     }
 
@@ -431,7 +455,8 @@ pub longest-itself : (kind : Shape) (x : List ℕ) → HasShape kind x → longe
 longest-itself shape.Word x is = word_itself x is
 longest-itself shape.Decimal x is = decimal_itself x is
 longest-itself shape.Hexadecimal x is =
-    let P : List ℕ → Type 0 = λ t. longest_shape t ≡ Some (a_shape shape.Hexadecimal []) in subst P (sym is.2) (hexadecimal_itself is.0 is.1)
+    let P : List ℕ → Type 0 = λ t. longest_shape t ≡ Some (a_shape shape.Hexadecimal []) in
+    subst P (sym is.2) (hexadecimal_itself is.0 is.1)
 longest-itself shape.Address x is = address_itself x is
 longest-itself shape.Prefix x is = prefix_itself x is
 longest-itself shape.Text x is = quoted_itself x is

@@ -1,9 +1,11 @@
 -- What the bytes of a shape mean: what is read is meant, and what is meant is read.
-use Rattle.std.proofs.Common.{◌≡◌, ◌≢◌, ℕ, zero, suc, ◌+◌, ◌*◌, ◌^◌, ◌<◌, ◌≤◌, Bool, true, false, not, ◌&&◌, ◌||◌, ⊎_elim, nat_le, nat_lt, List, [], ◌∷◌, length, drop, Option, Some, None, All, refl, sym, ◌∙◌, ap, subst, arith}
+use Rattle.std.proofs.Common.{◌≡◌, ◌≢◌, ℕ, zero, suc, ◌+◌, ◌*◌, ◌^◌, ◌<◌, ◌≤◌, Bool, true, false, not, ◌&&◌, ◌||◌, ⊎_elim, nat_le}
+use Rattle.std.proofs.Common.{nat_lt, List, [], ◌∷◌, length, drop, Option, Some, None, All, refl, sym, ◌∙◌, ap, subst, arith}
 use Rattle.std.specs.Char.{digit_value, is_ascii_hexdigit}
 use Rattle.std.specs.Int.{is_in_range}
 use Rattle.std.specs.Option.{option_map}
-use Rattle.std.proofs.lemmas.Bool.{leb-true, le-leb, ltb-true, lt-ltb, le-ltb, ltb-false, and_parts, and_from, not-true, not_from_false, cond-true, or_cases, agree_below_at}
+use Rattle.std.proofs.lemmas.Bool.{leb-true, le-leb, ltb-true, lt-ltb, le-ltb, ltb-false, and_parts, and_from, not-true}
+use Rattle.std.proofs.lemmas.Bool.{not_from_false, cond-true, or_cases, agree_below_at}
 use Rattle.std.proofs.lemmas.List.Elements.{All-head, All-tail, All-same}
 use Rattle.std.proofs.lemmas.Option.{cond_some, same_Some}
 use Rattle.std.proofs.Math.Nat.{mul-le-mul_left, pow-succ'}
@@ -18,7 +20,8 @@ use Rattle.filter_tokens.specs.declared.word.Word.{Word}
 use Rattle.filter_tokens.specs.declared.word.Word.TheVariants as word
 use Rattle.filter_tokens.specs.Marks.{mark_text}
 use Rattle.filter_tokens.specs.Meaning.{greatest_number, longest_name, hexadecimal_value, IsName, IsHexadecimal, Means}
-use Rattle.filter_tokens.specs.Reading.{keyword_in, is_left_out, name_in, keyword_or, word_in, with_digit, hexadecimal_from, hexadecimal_in, meaning_in}
+use Rattle.filter_tokens.specs.Reading.{keyword_in, is_left_out, name_in, keyword_or, word_in, with_digit, hexadecimal_from}
+use Rattle.filter_tokens.specs.Reading.{hexadecimal_in, meaning_in}
 use Rattle.filter_tokens.specs.Shapes.{zero_digit, small_x, IsWord, AreHexadecimal, HasShape}
 use Rattle.filter_tokens.proofs.Fronts.{bind_some, map_some}
 use Rattle.filter_tokens.proofs.Signs.{keyword-there, keyword-found, left_out-none, left_out-all}
@@ -77,7 +80,8 @@ scale value digit power rest = omega arith
 
 -- one more digit behind a number, and then those behind it
 digits_sum : (value byte : ℕ) (bytes : List ℕ)
-    → (value * 16 + digit_value byte) * 16 ^ length bytes + hexadecimal_value bytes ≡ value * 16 ^ length (byte ∷ bytes) + hexadecimal_value (byte ∷ bytes)
+    → (value * 16 + digit_value byte) * 16 ^ length bytes + hexadecimal_value bytes
+    ≡ value * 16 ^ length (byte ∷ bytes) + hexadecimal_value (byte ∷ bytes)
 unfolding hexadecimal_value
 digits_sum value byte bytes =
     scale value (digit_value byte) (16 ^ length bytes) (hexadecimal_value bytes)
@@ -106,7 +110,8 @@ digit_below : (byte : ℕ) → is_ascii_hexdigit byte ≡ true → nat_lt (digit
 digit_below byte e =
     let small : byte < 128 =
     ⊎_elim
-    (λ either. ⊎_elim (λ range. omega (arith, leb-true byte 57 (and_parts (nat_le 48 byte) (nat_le byte 57) range).1)) (λ range. omega (arith, leb-true byte 70 (and_parts (nat_le 65 byte) (nat_le byte 70) range).1))
+    (λ either. ⊎_elim (λ range. omega (arith, leb-true byte 57 (and_parts (nat_le 48 byte) (nat_le byte 57) range).1))
+    (λ range. omega (arith, leb-true byte 70 (and_parts (nat_le 65 byte) (nat_le byte 70) range).1))
     (or_cases (is_in_range 48 57 byte) (is_in_range 65 70 byte) either))
     (λ range. omega (arith, leb-true byte 102 (and_parts (nat_le 97 byte) (nat_le byte 102) range).1))
     (or_cases (is_in_range 48 57 byte || is_in_range 65 70 byte) (is_in_range 97 102 byte) e) in
@@ -126,7 +131,8 @@ digits_there value (byte ∷ bytes) each limit =
     let same = digits_sum value byte bytes in
     let fits : longer * power + hexadecimal_value bytes ≤ greatest_number = omega (arith, same, limit) in
     let small = digit_below byte (All-head (λ byte. is_ascii_hexdigit byte ≡ true) byte bytes each) in
-    let limit_here = le-leb longer greatest_number (grows longer power (hexadecimal_value bytes) greatest_number (power_some (length bytes)) fits) in
+    let limit_here = le-leb longer greatest_number
+    (grows longer power (hexadecimal_value bytes) greatest_number (power_some (length bytes)) fits) in
     let here : with_digit value byte ≡ Some longer = cond-true _ (Some longer) None (and_from _ _ small limit_here) in
     ap (λ o. o >>= λ longer. hexadecimal_from longer bytes) here
     ∙ digits_there longer bytes (All-tail (λ byte. is_ascii_hexdigit byte ≡ true) byte bytes each) fits

@@ -1,5 +1,7 @@
 -- The part at the front of a text: what is read is there, and what is there is read.
-use Rattle.std.proofs.Common.{◌≡◌, ◌⊎◌, ℕ, zero, suc, ◌+◌, ◌-◌, ◌<◌, ◌≤◌, ◌==◌, Bool, true, false, List, [], ◌∷◌, ◌++◌, length, take, drop, Option, Some, None, Result, Ok, Err, refl, sym, ◌∙◌, ap, subst, arith, length-append, length-drop, length-take}
+use Rattle.std.proofs.Common.{◌≡◌, ◌⊎◌, ℕ, zero, suc, ◌+◌, ◌-◌, ◌<◌, ◌≤◌, ◌==◌, Bool, true, false, List, [], ◌∷◌, ◌++◌, length}
+use Rattle.std.proofs.Common.{take, drop, Option, Some, None, Result, Ok, Err, refl, sym, ◌∙◌, ap, subst, arith, length-append}
+use Rattle.std.proofs.Common.{length-drop, length-take}
 use Rattle.std.specs.Prelude.{IfOk}
 use Rattle.std.proofs.Math.Nat.{pos_of_ne-zero}
 use Rattle.std.specs.Option.{option_map}
@@ -77,7 +79,9 @@ token_found_as text found one outside e f =
 -- the token that is read stands there
 token_found : (text : List ℕ) (one : Part) → begins_gap text ≡ false → token_in text ≡ Some one → IsPart text one
 unfolding token_in
-token_found text one outside e = bind_some _ _ _ e (λ (found : Found) (there : longest_shape text ≡ Some found) (f : token_of text found ≡ Some one). token_found_as text found one outside there f)
+token_found text one outside e =
+    bind_some _ _ _ e (λ (found : Found) (there : longest_shape text ≡ Some found) (f : token_of text found ≡ Some one).
+    token_found_as text found one outside there f)
 
 -- the token that stands there is read
 token_there_as : (text : List ℕ) (word : Word) (len : ℕ) → IsToken text word len → (found : Found) → longest_shape text ≡ Some found
@@ -89,7 +93,8 @@ token_there_as text word len token found there bounded =
     let same : length text - length found.1 ≡ len = omega (arith, short, bounded, length-drop len text, token.within, front.within) in
     let x = take len text in
     let formed : HasShape found.0 x = subst (λ n. HasShape found.0 (take n text)) same front.formed in
-    let one : a_shape found.0 [] ≡ a_shape token.shape [] = same_Some _ _ (sym (longest-itself found.0 x formed) ∙ longest-itself token.shape x token.formed) in
+    let one : a_shape found.0 [] ≡ a_shape token.shape [] =
+    same_Some _ _ (sym (longest-itself found.0 x formed) ∙ longest-itself token.shape x token.formed) in
     let kind : found.0 ≡ token.shape = ap (λ (f : Found). f.0) one in
     let means : meaning_in found.0 x ≡ Some word = ap (λ kind. meaning_in kind x) kind
     ∙ meaning-there token.shape x word token.formed token.means in
@@ -118,7 +123,9 @@ part_found_as text (suc n) one gap false none e =
 -- the part that is read stands there
 pub part-found : (text : List ℕ) (one : Part) → part_in text ≡ Some one → IsPart text one
 unfolding part_in
-part-found text one e = bind_some _ _ _ e (λ (len : ℕ) (gap : gap_len text ≡ Some len) (f : part_of text len ≡ Some one). part_found_as text len one gap (len == 0) refl f)
+part-found text one e =
+    bind_some _ _ _ e (λ (len : ℕ) (gap : gap_len text ≡ Some len) (f : part_of text len ≡ Some one). part_found_as text len one gap
+    (len == 0) refl f)
 
 gap_part : (text : List ℕ) (len : ℕ) → IsGap text len → part_in text ≡ Some (part.Gap len)
 unfolding part_in
@@ -158,7 +165,9 @@ token_bounds_as text found one e f =
 
 token_bounds : (text : List ℕ) (one : Part) → token_in text ≡ Some one → (0 < part_len one) × (part_len one ≤ length text)
 unfolding token_in
-token_bounds text one e = bind_some _ _ _ e (λ (found : Found) (there : longest_shape text ≡ Some found) (f : token_of text found ≡ Some one). token_bounds_as text found one there f)
+token_bounds text one e =
+    bind_some _ _ _ e (λ (found : Found) (there : longest_shape text ≡ Some found) (f : token_of text found ≡ Some one).
+    token_bounds_as text found one there f)
 
 -- the same of what a call answers
 pub token-answer : {E : Type 0} (text : List ℕ) (answer : Result Part E) → Gives answer (token_in text)

@@ -11,7 +11,9 @@ use Rattle.filter_tokens.specs.declared.token.Token.{Token}
 use Rattle.filter_tokens.specs.declared.word.Word.TheVariants as word
 use Rattle.filter_tokens.specs.Cutting.{part_len, AreParts, Cuts}
 use Rattle.filter_tokens.specs.Meaning.{hexadecimal_value}
-use Rattle.filter_tokens.specs.Reading.{after_digits, after_address, after_prefix, after_hexadecimal, after_quoted, digits_shape, sign_in, sign_shape, longest_shape, keyword_in, is_left_out, word_in, hexadecimal_from, hexadecimal_in, closing_len, gap_len, token_in, part_in}
+use Rattle.filter_tokens.specs.Reading.{after_digits, after_address, after_prefix, after_hexadecimal, after_quoted, digits_shape}
+use Rattle.filter_tokens.specs.Reading.{sign_in, sign_shape, longest_shape, keyword_in, is_left_out, word_in, hexadecimal_from}
+use Rattle.filter_tokens.specs.Reading.{hexadecimal_in, closing_len, gap_len, token_in, part_in}
 use Rattle.filter_tokens.proofs.Cuts.{lexes-start, lexes-stopped}
 use Rattle.filter_tokens.proofs.PartLaws.{part-found}
 
@@ -30,22 +32,27 @@ none_cut : (text : List ℕ) → part_in text ≡ None → 0 < length text → (
 none_cut text e some tokens cuts = lexes-stopped text [] 0 text (lexes-start text) e some tokens cuts
 
 -- `!=` is one sign
-not_equal : Cuts (record { word = word.Name; from = 0; to = 1 } ∷ record { word = word.Mark mark.NotEqual; from = 1; to = 3 } ∷ record { word = word.Name; from = 3; to = 4 } ∷ []) 0 (codes "a!=b")
+not_equal : Cuts (record { word = word.Name; from = 0; to = 1 } ∷ record { word = word.Mark mark.NotEqual; from = 1; to = 3 }
+    ∷ record { word = word.Name; from = 3; to = 4 } ∷ []) 0 (codes "a!=b")
 unfolding part_in gap_len token_in longest_shape sign_shape sign_in word_in keyword_in is_left_out
 not_equal =
     let parts = part.Token word.Name 1 ∷ part.Token (word.Mark mark.NotEqual) 2 ∷ part.Token word.Name 1 ∷ [] in
     record { parts = parts; cut = are_parts parts (codes "a!=b") (refl, (refl, (refl, refl))); among = refl }
 
 -- a dot between numbers parts them, and a hexadecimal number goes on as far as its digits do
-dot_between : Cuts (record { word = word.Number 1; from = 0; to = 1 } ∷ record { word = word.Mark mark.Dot; from = 1; to = 2 } ∷ record { word = word.Number 255; from = 2; to = 6 } ∷ []) 0 (codes "1.0xfF")
-unfolding part_in gap_len token_in longest_shape digits_shape after_prefix after_address after_digits after_hexadecimal sign_shape sign_in number_in decimal_value hexadecimal_in hexadecimal_from
+dot_between : Cuts (record { word = word.Number 1; from = 0; to = 1 } ∷ record { word = word.Mark mark.Dot; from = 1; to = 2 }
+    ∷ record { word = word.Number 255; from = 2; to = 6 } ∷ []) 0 (codes "1.0xfF")
+unfolding part_in gap_len token_in longest_shape digits_shape after_prefix after_address after_digits after_hexadecimal sign_shape
+    sign_in number_in decimal_value hexadecimal_in hexadecimal_from
 dot_between =
     let parts = part.Token (word.Number 1) 1 ∷ part.Token (word.Mark mark.Dot) 1 ∷ part.Token (word.Number 255) 4 ∷ [] in
     record { parts = parts; cut = are_parts parts (codes "1.0xfF") (refl, (refl, (refl, refl))); among = refl }
 
 -- an address with a length is one token
-ten_net : Cuts (record { word = word.Prefix (false ∷ false ∷ false ∷ false ∷ true ∷ false ∷ true ∷ false ∷ []); from = 0; to = 10 } ∷ []) 0 (codes "10.0.0.0/8")
-unfolding part_in gap_len token_in longest_shape digits_shape after_prefix after_address after_digits prefix_in address_in groups_in parts_at number_in decimal_value bits
+ten_net : Cuts (record { word = word.Prefix (false ∷ false ∷ false ∷ false ∷ true ∷ false ∷ true ∷ false ∷ []); from = 0; to = 10 } ∷ []) 0
+    (codes "10.0.0.0/8")
+unfolding part_in gap_len token_in longest_shape digits_shape after_prefix after_address after_digits prefix_in address_in
+    groups_in parts_at number_in decimal_value bits
 ten_net =
     let parts = part.Token (word.Prefix (false ∷ false ∷ false ∷ false ∷ true ∷ false ∷ true ∷ false ∷ [])) 10 ∷ [] in
     record { parts = parts; cut = are_parts parts (codes "10.0.0.0/8") (refl, refl); among = refl }
@@ -64,17 +71,20 @@ unended = none_cut (codes "/*/") refl (lit< tt)
 
 -- a `0x` with no digit is no token
 no_digit : (tokens : List Token) → Cuts tokens 0 (codes "0x;") → ⊥
-unfolding part_in gap_len token_in longest_shape digits_shape after_prefix after_address after_digits after_hexadecimal hexadecimal_in hexadecimal_from
+unfolding part_in gap_len token_in longest_shape digits_shape after_prefix after_address after_digits after_hexadecimal
+    hexadecimal_in hexadecimal_from
 no_digit = none_cut (codes "0x;") refl (lit< tt)
 
 -- nor is a number over the greatest
 too_large : (tokens : List Token) → Cuts tokens 0 (codes "4294967296") → ⊥
-unfolding part_in gap_len token_in longest_shape digits_shape after_prefix after_address after_digits after_hexadecimal number_in decimal_value
+unfolding part_in gap_len token_in longest_shape digits_shape after_prefix after_address after_digits after_hexadecimal number_in
+    decimal_value
 too_large = none_cut (codes "4294967296") refl (lit< tt)
 
 -- nor an address with a group over 255
 group_over : (tokens : List Token) → Cuts tokens 0 (codes "1.2.3.256") → ⊥
-unfolding part_in gap_len token_in longest_shape digits_shape after_prefix after_address after_digits address_in groups_in parts_at number_in decimal_value
+unfolding part_in gap_len token_in longest_shape digits_shape after_prefix after_address after_digits address_in groups_in
+    parts_at number_in decimal_value
 group_over = none_cut (codes "1.2.3.256") refl (lit< tt)
 
 -- nor a word that is left out

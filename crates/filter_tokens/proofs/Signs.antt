@@ -1,5 +1,6 @@
 -- Which sign stands at the front of a text, and which keyword a word is.
-use Rattle.std.proofs.Common.{◌≡◌, ◌≢◌, ℕ, zero, suc, ◌+◌, ◌<◌, ◌≤◌, Bool, true, false, List, [], ◌∷◌, ◌++◌, length, take, drop, get_or, Option, Some, None, All, refl, sym, ◌∙◌, ap, arith, lit<}
+use Rattle.std.proofs.Common.{◌≡◌, ◌≢◌, ℕ, zero, suc, ◌+◌, ◌<◌, ◌≤◌, Bool, true, false, List, [], ◌∷◌, ◌++◌, length, take, drop}
+use Rattle.std.proofs.Common.{get_or, Option, Some, None, All, refl, sym, ◌∙◌, ap, arith, lit<}
 use Rattle.std.specs.List.{find, list_all, list_any}
 use Rattle.std.specs.Str.{bytes_eq}
 use Rattle.std.proofs.lemmas.Bool.{and_parts, false_from_ne_true}
@@ -251,13 +252,15 @@ unfolding is_left_out
 left_out-none bytes none =
     list_any_none (λ word. bytes_eq word bytes) left_out
     (All-from_get_or (λ word. bytes_eq word bytes ≡ false) left_out []
-    (λ k within. false_from_ne_true _ (λ same. All-get_or (λ word. bytes ≢ word) left_out k [] within none (sym ((bytes_eq-Decides (get_or left_out k []) bytes).0 same)))))
+    (λ k within. false_from_ne_true _
+    (λ same. All-get_or (λ word. bytes ≢ word) left_out k [] within none (sym ((bytes_eq-Decides (get_or left_out k []) bytes).0 same)))))
 
 pub left_out-all : (bytes : List ℕ) → is_left_out bytes ≡ false → All (λ word. bytes ≢ word) left_out
 unfolding is_left_out
 left_out-all bytes none =
     All-from_get_or (λ word. bytes ≢ word) left_out []
     (λ k within same.
-    let there = list_any_at (λ word. bytes_eq word bytes) left_out k [] within ((bytes_eq-Decides (get_or left_out k []) bytes).1 (sym same)) in
+    let there = list_any_at (λ word. bytes_eq word bytes) left_out k [] within
+    ((bytes_eq-Decides (get_or left_out k []) bytes).1 (sym same)) in
     let clash : true ≡ false = sym there ∙ none in
     absurd cc)

@@ -1,5 +1,7 @@
 -- Space and comments at the front of a text: what is read is there, and what is there is read.
-use Rattle.std.proofs.Common.{◌≡◌, ◌⊎◌, ℕ, zero, suc, ◌+◌, ◌<◌, ◌≤◌, ◌==◌, ◌&&◌, ◌||◌, if◌then◌else◌, Bool, true, false, List, [], ◌∷◌, ◌++◌, length, take, drop, Option, Some, None, refl, sym, ◌∙◌, ap, subst, arith, inl, inr, ⊎_elim, length-append}
+use Rattle.std.proofs.Common.{◌≡◌, ◌⊎◌, ℕ, zero, suc, ◌+◌, ◌<◌, ◌≤◌, ◌==◌, ◌&&◌, ◌||◌, if◌then◌else◌, Bool, true, false, List, []}
+use Rattle.std.proofs.Common.{◌∷◌, ◌++◌, length, take, drop, Option, Some, None, refl, sym, ◌∙◌, ap, subst, arith, inl, inr}
+use Rattle.std.proofs.Common.{⊎_elim, length-append}
 use Rattle.std.specs.List.{prefix_len}
 use Rattle.std.specs.Option.{option_map}
 use Rattle.std.proofs.lemmas.Bool.{eqb-true, eq-eqb, and_parts, or_parts, or_from}
@@ -70,20 +72,26 @@ unfolding closing_len
 closing_at_once behind = refl
 
 closing_later : (byte : ℕ) (inner behind : List ℕ) (here : Bool) → closes (byte ∷ (inner ++ star ∷ slash ∷ behind)) ≡ here
-    → ((other later : List ℕ) → byte ∷ (inner ++ star ∷ slash ∷ behind) ≡ other ++ star ∷ slash ∷ later → length (byte ∷ inner) ≤ length other)
+    → ((other later : List ℕ) → byte ∷ (inner ++ star ∷ slash ∷ behind) ≡ other ++ star ∷ slash ∷ later
+    → length (byte ∷ inner) ≤ length other)
     → closing_len (inner ++ star ∷ slash ∷ behind) ≡ Some (length inner + 2)
     → closing_len (byte ∷ (inner ++ star ∷ slash ∷ behind)) ≡ Some (length (byte ∷ inner) + 2)
 unfolding closing_len
 closing_later byte inner behind true here first rest =
-    absurd (let none = first [] (drop 2 (byte ∷ (inner ++ star ∷ slash ∷ behind))) (closes_fact (byte ∷ (inner ++ star ∷ slash ∷ behind)) here) in omega arith)
-closing_later byte inner behind false here first rest = rw here (ap (option_map (λ len. 1 + len)) rest ∙ ap Some (let same : 1 + (length inner + 2) ≡ length (byte ∷ inner) + 2 = omega arith in same))
+    absurd (let none = first [] (drop 2 (byte ∷ (inner ++ star ∷ slash ∷ behind)))
+    (closes_fact (byte ∷ (inner ++ star ∷ slash ∷ behind)) here) in omega arith)
+closing_later byte inner behind false here first rest =
+    rw here (ap (option_map (λ len. 1 + len)) rest
+    ∙ ap Some (let same : 1 + (length inner + 2) ≡ length (byte ∷ inner) + 2 = omega arith in same))
 
-closing_there : (inner behind : List ℕ) → ((other later : List ℕ) → inner ++ star ∷ slash ∷ behind ≡ other ++ star ∷ slash ∷ later → length inner ≤ length other)
+closing_there : (inner behind : List ℕ)
+    → ((other later : List ℕ) → inner ++ star ∷ slash ∷ behind ≡ other ++ star ∷ slash ∷ later → length inner ≤ length other)
     → closing_len (inner ++ star ∷ slash ∷ behind) ≡ Some (length inner + 2)
 unfolding closing_len
 closing_there [] behind first = closing_at_once behind
 closing_there (byte ∷ inner) behind first = closing_later byte inner behind (closes (byte ∷ (inner ++ star ∷ slash ∷ behind))) refl first
-    (closing_there inner behind (λ other later same. let more = first (byte ∷ other) later (ap (λ t. byte ∷ t) same) in omega (arith, more)))
+    (closing_there inner behind (λ other later same. let more = first (byte ∷ other) later (ap (λ t. byte ∷ t) same) in
+    omega (arith, more)))
 
 -- ---- the whole
 
@@ -92,7 +100,8 @@ space_length n e = omega arith
 
 gap_zero_as : (first : ℕ) (others : List ℕ) (a b c : Bool) → is_blank first ≡ a → (first == hash) ≡ b
     → (first == slash && begins_with star others) ≡ c
-    → (if a then Some 1 else (if b then Some (1 + prefix_len is_of_line others) else (if c then option_map (λ len. 2 + len) (closing_len (drop 1 others)) else Some 0))) ≡ Some 0
+    → (if a then Some 1 else (if b then Some (1 + prefix_len is_of_line others)
+    else (if c then option_map (λ len. 2 + len) (closing_len (drop 1 others)) else Some 0))) ≡ Some 0
     → begins_gap (first ∷ others) ≡ false
 gap_zero_as first others true b c blank h enclosed e = absurd (let none = same_Some _ _ e in omega arith)
 gap_zero_as first others false true c blank h enclosed e = absurd (let none = same_Some _ _ e in omega arith)
@@ -104,7 +113,8 @@ gap_zero_as first others false false false blank h enclosed e = or_from _ _ (or_
 pub gap-zero : (text : List ℕ) → gap_len text ≡ Some 0 → begins_gap text ≡ false
 unfolding gap_len
 gap-zero [] e = refl
-gap-zero (first ∷ others) e = gap_zero_as first others (is_blank first) (first == hash) (first == slash && begins_with star others) refl refl refl e
+gap-zero (first ∷ others) e =
+    gap_zero_as first others (is_blank first) (first == hash) (first == slash && begins_with star others) refl refl refl e
 
 -- where none begins none is read
 pub gap-none : (text : List ℕ) → begins_gap text ≡ false → gap_len text ≡ Some 0
@@ -139,7 +149,8 @@ enclosed_found first others len begins e =
 
 gap_found_as : (first : ℕ) (others : List ℕ) (a b c : Bool) (len : ℕ) → is_blank first ≡ a → (first == hash) ≡ b
     → (first == slash && begins_with star others) ≡ c
-    → (if a then Some 1 else (if b then Some (1 + prefix_len is_of_line others) else (if c then option_map (λ len. 2 + len) (closing_len (drop 1 others)) else Some 0))) ≡ Some len
+    → (if a then Some 1 else (if b then Some (1 + prefix_len is_of_line others)
+    else (if c then option_map (λ len. 2 + len) (closing_len (drop 1 others)) else Some 0))) ≡ Some len
     → 0 < len → IsGap (first ∷ others) len
 gap_found_as first others true b c len blank h enclosed e some = inl (blank, sym (same_Some _ _ e))
 gap_found_as first others false true c len blank h enclosed e some = inr (inl (eqb-true first hash h, sym (same_Some _ _ e)))
@@ -175,7 +186,9 @@ enclosed_there text len is =
 
 -- what is there is read
 pub gap-there : (text : List ℕ) (len : ℕ) → IsGap text len → gap_len text ≡ Some len
-gap-there text len gap = ⊎_elim (λ space. space_there text len space) (λ comment. ⊎_elim (λ line. line_there text len line) (λ enclosed. enclosed_there text len enclosed) comment) gap
+gap-there text len gap =
+    ⊎_elim (λ space. space_there text len space)
+    (λ comment. ⊎_elim (λ line. line_there text len line) (λ enclosed. enclosed_there text len enclosed) comment) gap
 
 -- no gap is empty, and none goes past the end
 line_bounds : (text : List ℕ) (len : ℕ) → IsRestOfLine text len → (0 < len) × (len ≤ length text)
@@ -187,7 +200,10 @@ space_bounds [] len is = absurd is
 space_bounds (first ∷ others) len is = (omega (arith, is.1), omega (arith, is.1))
 
 enclosed_bounds : (text : List ℕ) (len : ℕ) → IsEnclosed text len → (0 < len) × (len ≤ length text)
-enclosed_bounds text len is = (omega (arith, is.whole), omega (arith, is.whole, ap length is.spelled, length-append is.inner (star ∷ slash ∷ is.behind)))
+enclosed_bounds text len is =
+    (omega (arith, is.whole), omega (arith, is.whole, ap length is.spelled, length-append is.inner (star ∷ slash ∷ is.behind)))
 
 pub gap-bounds : (text : List ℕ) (len : ℕ) → IsGap text len → (0 < len) × (len ≤ length text)
-gap-bounds text len gap = ⊎_elim (λ space. space_bounds text len space) (λ comment. ⊎_elim (λ line. line_bounds text len line) (λ enclosed. enclosed_bounds text len enclosed) comment) gap
+gap-bounds text len gap =
+    ⊎_elim (λ space. space_bounds text len space)
+    (λ comment. ⊎_elim (λ line. line_bounds text len line) (λ enclosed. enclosed_bounds text len enclosed) comment) gap

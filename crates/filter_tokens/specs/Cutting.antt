@@ -91,6 +91,19 @@ pub record Cuts (tokens : List Token) (at : ℕ) (text : List ℕ) : Type 0 wher
   pub cut : AreParts parts text
   pub among : tokens ≡ tokens_among parts at
 
+-- these parts stand side by side at the front of a text, and behind them the rest
+abbrev pub AreFrontParts : List Part → List ℕ → List ℕ → Type 0
+AreFrontParts [] text rest = text ≡ rest
+AreFrontParts (part ∷ parts) text rest = IsPart text part × AreFrontParts parts (drop (part_len part) text) rest
+
+-- the text is cut into these tokens up to a place, where it goes on with neither space nor a comment nor a token
+pub record StopsAt (tokens : List Token) (place : ℕ) (text : List ℕ) : Type 0 where
+  pub parts : List Part
+  pub cut : AreFrontParts parts text (drop place text)
+  pub among : tokens ≡ tokens_among parts 0
+  pub before_end : place < length text
+  pub no_part : (part : Part) → IsPart (drop place text) part → ⊥
+
 -- each token has a byte at least, they stand in order, and all lie between the two places
 abbrev pub AreInOrder : ℕ → List Token → ℕ → Type 0
 AreInOrder from [] to = from ≤ to

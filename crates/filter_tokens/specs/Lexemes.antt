@@ -14,9 +14,9 @@ pub data Lexeme : Type 0 where
   quote : Lexeme
   mark : (m : Mark) → Lexeme
 
--- the bytes from one place up to another
-abbrev pub slice : List ℕ → ℕ → ℕ → List ℕ
-slice text from to = take (to - from) (drop from text)
+-- the bytes of a text that a token covers
+abbrev pub covered : List ℕ → Token → List ℕ
+covered text token = take (token.to - token.from) (drop token.from text)
 
 -- what a word is to the grammar, where the token covers these bytes
 abbrev pub lexeme_of : List ℕ → Word → Lexeme
@@ -29,7 +29,7 @@ lexeme_of bytes (word.Mark m) = mark m
 
 -- what a token of the text is to the grammar
 abbrev pub lexeme : List ℕ → Token → Lexeme
-lexeme text token = lexeme_of (slice text token.from token.to) token.word
+lexeme text token = lexeme_of (covered text token) token.word
 
 -- the lexemes of a text that is cut into these tokens
 abbrev pub lexemes : List ℕ → List Token → List Lexeme

@@ -2,8 +2,9 @@
 
 ghost use Rattle.std.specs.Option.{option_map};
 ghost use Rattle.std.specs.List.{list_any};
-ghost use Rattle.std.specs.Prelude.{◌≡◌, find};
+ghost use Rattle.std.specs.Prelude.{◌≡◌, IfErr, find};
 ghost use Rattle.std.specs.Str.{bytes_eq};
+ghost use Rattle.filter_tokens.specs.Codes.{fault_place};
 ghost use Rattle.filter_tokens.specs.Reading as spec;
 ghost use Rattle.prefix_patterns.specs.Reading.{address_in, prefix_in};
 
@@ -44,7 +45,8 @@ static LEFT_OUT: [&str; 22] = [
 
 /// The word that bytes of a shape mean. They stand at `at`.
 pub fn meaning(shape: Shape, bytes: &[u8], at: usize) -> Result<Word, TokenFault>
-    ensures { spec.Gives result (spec.meaning_in shape bytes.now) }
+    ensures is { spec.Gives result (spec.meaning_in shape bytes.now) }
+    ensures placed { IfErr result (λ fault. fault_place fault ≡ at) }
 {
     match shape {
         Shape::Word => word(bytes, at),
@@ -60,7 +62,8 @@ pub fn meaning(shape: Shape, bytes: &[u8], at: usize) -> Result<Word, TokenFault
 /// A name or a keyword.
 #[tactic(auto, unfolding(crate::specs::Reading::word_in))]
 fn word(bytes: &[u8], at: usize) -> Result<Word, TokenFault>
-    ensures { spec.Gives result (spec.word_in bytes.now) }
+    ensures is { spec.Gives result (spec.word_in bytes.now) }
+    ensures placed { IfErr result (λ fault. fault_place fault ≡ at) }
 {
     if let Some(mark) = keyword(bytes) {
         return Ok(Word::Mark(mark));
@@ -116,7 +119,8 @@ fn is_among(words: &[&str], bytes: &[u8]) -> bool
 
 /// A number that was read, or was too large.
 fn number(read: Option<u32>, at: usize) -> Result<Word, TokenFault>
-    ensures { spec.Gives result (option_map Word.Number read) }
+    ensures is { spec.Gives result (option_map Word.Number read) }
+    ensures placed { IfErr result (λ fault. fault_place fault ≡ at) }
 {
     match read {
         Some(n) => Ok(Word::Number(n)),
@@ -127,7 +131,8 @@ fn number(read: Option<u32>, at: usize) -> Result<Word, TokenFault>
 /// The number behind a `0x`.
 #[tactic(auto, unfolding(crate::specs::Reading::hexadecimal_in))]
 fn hexadecimal(bytes: &[u8], at: usize) -> Result<Word, TokenFault>
-    ensures { spec.Gives result (option_map Word.Number (spec.hexadecimal_in bytes.now)) }
+    ensures is { spec.Gives result (option_map Word.Number (spec.hexadecimal_in bytes.now)) }
+    ensures placed { IfErr result (λ fault. fault_place fault ≡ at) }
 {
     if bytes.len() < 3 {
         return Err(TokenFault::NoDigit(at));
@@ -159,8 +164,10 @@ fn with_digit(value: u32, byte: u8) -> Option<u32>
     Some(longer as u32)
 }
 
+/// An address, unless a group of it is over 255.
 fn address(bytes: &[u8], at: usize) -> Result<Word, TokenFault>
-    ensures { spec.Gives result (option_map (λ address. Word.Address (record { 0 = address })) (address_in bytes.now)) }
+    ensures is { spec.Gives result (option_map (λ address. Word.Address (record { 0 = address })) (address_in bytes.now)) }
+    ensures placed { IfErr result (λ fault. fault_place fault ≡ at) }
 {
     match read_ip(bytes) {
         Some(ip) => Ok(Word::Address(ip)),
@@ -168,8 +175,10 @@ fn address(bytes: &[u8], at: usize) -> Result<Word, TokenFault>
     }
 }
 
+/// A prefix, unless a group of its address is over 255 or its length over 32.
 fn prefix(bytes: &[u8], at: usize) -> Result<Word, TokenFault>
-    ensures { spec.Gives result (option_map Word.Prefix (prefix_in bytes.now)) }
+    ensures is { spec.Gives result (option_map Word.Prefix (prefix_in bytes.now)) }
+    ensures placed { IfErr result (λ fault. fault_place fault ≡ at) }
 {
     match read_prefix(bytes) {
         Some(prefix) => Ok(Word::Prefix(prefix)),

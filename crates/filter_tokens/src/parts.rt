@@ -1,6 +1,7 @@
 //! The part at the front of a text.
 
-ghost use Rattle.std.specs.Prelude.{◌≤◌, ◌<◌, IfOk, length};
+ghost use Rattle.std.specs.Prelude.{◌≡◌, ◌≤◌, ◌<◌, IfErr, IfOk, length};
+ghost use Rattle.filter_tokens.specs.Codes.{fault_place};
 ghost use Rattle.filter_tokens.specs.Cutting.{part_len};
 ghost use Rattle.filter_tokens.specs.Reading as spec;
 
@@ -15,6 +16,7 @@ use crate::shapes::longest_shape;
 pub fn next_part(text: &[u8], at: usize) -> Result<Part, TokenFault>
     ensures is { spec.Gives result (spec.part_in text.now) }
     ensures within { IfOk result (λ part. (0 < part_len part) × (part_len part ≤ length text.now)) }
+    ensures placed { IfErr result (λ fault. fault_place fault ≡ at) }
 {
     match gap_len(text) {
         Some(0) => token(text, at),
@@ -26,7 +28,8 @@ pub fn next_part(text: &[u8], at: usize) -> Result<Part, TokenFault>
 /// The token at the front of a text.
 #[tactic(auto, unfolding(crate::specs::Reading::token_in))]
 fn token(text: &[u8], at: usize) -> Result<Part, TokenFault>
-    ensures { spec.Gives result (spec.token_in text.now) }
+    ensures is { spec.Gives result (spec.token_in text.now) }
+    ensures placed { IfErr result (λ fault. fault_place fault ≡ at) }
 {
     let Some((shape, rest)) = longest_shape(text) else {
         return Err(no_shape(text, at));
@@ -39,7 +42,9 @@ fn token(text: &[u8], at: usize) -> Result<Part, TokenFault>
 }
 
 /// Why no token begins here.
-fn no_shape(text: &[u8], at: usize) -> TokenFault {
+fn no_shape(text: &[u8], at: usize) -> TokenFault
+    ensures { fault_place result ≡ at }
+{
     match text.first() {
         Some(b'"') => TokenFault::UnendedText(at),
         Some(b'\'') => TokenFault::QuotedName(at),

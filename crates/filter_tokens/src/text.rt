@@ -1,6 +1,7 @@
-ghost use Rattle.std.specs.Prelude.{◌≡◌, List, None, IfOk, length};
+ghost use Rattle.std.specs.Prelude.{◌≡◌, List, None, IfOk, IfSome, length};
 ghost use Rattle.filter_tokens.specs.declared.token.Token.{Token as TheToken};
-ghost use Rattle.filter_tokens.specs.Cutting.{Cuts, AreInOrder};
+ghost use Rattle.filter_tokens.specs.Codes.{fault_place};
+ghost use Rattle.filter_tokens.specs.Cutting.{Cuts, AreInOrder, StopsAt};
 
 use crate::fault::TokenFault;
 use crate::part::Part;
@@ -27,6 +28,10 @@ pub fn lex(alloc: Global, text: &[u8]) -> Result<Lexed, AllocError>
     ensures found { IfOk result (λ c. c.fault ≡ None → Cuts c.tokens.items 0 text.now) }
     // Whatever cuts the text are these tokens, and then there is no fault.
     ensures only { IfOk result (λ c. (tokens : List TheToken) → Cuts tokens 0 text.now → (c.fault ≡ None) × (c.tokens.items ≡ tokens)) }
+    // No text is cut in two ways.
+    ensures one { (tokens others : List TheToken) → Cuts tokens 0 text.now → Cuts others 0 text.now → tokens ≡ others }
+    // Where there is a fault, the tokens cut the text up to its place, and nothing stands there that the text could go on with.
+    ensures stopped { IfOk result (λ c. IfSome c.fault (λ fault. StopsAt c.tokens.items (fault_place fault) text.now)) }
 {
     let mut tokens = Vec::new(alloc);
     let mut at = 0;

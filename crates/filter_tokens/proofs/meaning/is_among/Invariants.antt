@@ -5,4 +5,5 @@ use Rattle.filter_tokens.proofs.meaning.is_among.Given as goal
 
 -- none so far is spelled so
 abbrev pub invariant-loop-word : goal.invariant-loop-word
-invariant-loop-word l = list_any (λ word. bytes_eq word.now l.bytes) l.words ≡ list_any (λ word. bytes_eq word.now l.bytes) (drop l.word-index l.words)
+invariant-loop-word l =
+    list_any (λ word. bytes_eq word.now l.bytes) l.words ≡ list_any (λ word. bytes_eq word.now l.bytes) (drop l.word-index l.words)

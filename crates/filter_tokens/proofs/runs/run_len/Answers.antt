@@ -5,9 +5,11 @@ use Rattle.filter_tokens.proofs.runs.run_len.Goals as goal
 
 pub returns-then-not-is_in-clause-len : goal.returns-then-not-is_in-clause-len
 returns-then-not-is_in-clause-len c =
-    sym (prefix_len_is (is_in c.args.run) c.args.text.now c.loop-i.i 0 (omega arith) c.loop-i.invariant (λ _. sym c.is_in.ensures ∙ c.if-not-is_in.true))
+    sym (prefix_len_is (is_in c.args.run) c.args.text.now c.loop-i.i 0 (omega arith) c.loop-i.invariant (λ _. sym c.is_in.ensures
+    ∙ c.if-not-is_in.true))
 
 pub returns-clause-len : goal.returns-clause-len
 returns-clause-len c =
     let s = c.args.text.now in
-    sym (prefix_len_is (is_in c.args.run) s (length s) 0 (omega arith) (λ k h. c.loop-i.invariant k (omega arith)) (λ (h : length s < length s). absurd (omega arith)))
+    sym (prefix_len_is (is_in c.args.run) s (length s) 0 (omega arith) (λ k h. c.loop-i.invariant k (omega arith))
+    (λ (h : length s < length s). absurd (omega arith)))

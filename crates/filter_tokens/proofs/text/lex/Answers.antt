@@ -1,6 +1,7 @@
 use Rattle.std.proofs.Common.{◌+◌, refl, arith}
 use Rattle.filter_tokens.specs.declared.part.Part.TheVariants as part
-use Rattle.filter_tokens.proofs.Cuts.{step-bounds, step-gap, step-token, step-order, step-stopped, ended-found, ended-only, ordered-further}
+use Rattle.filter_tokens.proofs.Cuts.{cuts_once, step-bounds, step-gap, step-token, step-order, step-stopped, step-stopped-at, ended-found}
+use Rattle.filter_tokens.proofs.Cuts.{ended-only, ordered-further}
 use Rattle.filter_tokens.proofs.text.lex.Goals as goal
 
 pub loop-at-preserved-in-Ok-Gap : goal.loop-at-preserved-in-Ok-Gap
@@ -36,10 +37,26 @@ returns-in-Err-clause-spans c = ordered-further 0 c.loop-at.tokens.items c.loop-
 
 pub returns-in-Err-clause-only : goal.returns-in-Err-clause-only
 returns-in-Err-clause-only c tokens cuts =
-    absurd (step-stopped c.args.text.now c.loop-at.tokens.items c.loop-at.at (omega arith) c.in-Err.ensures.is c.loop-at.invariant.lexes tokens cuts)
+    absurd (step-stopped c.args.text.now c.loop-at.tokens.items c.loop-at.at
+    (omega arith) c.in-Err.ensures.is c.loop-at.invariant.lexes tokens cuts)
+
+pub returns-in-Err-clause-stopped : goal.returns-in-Err-clause-stopped
+returns-in-Err-clause-stopped c =
+    step-stopped-at c.args.text.now c.loop-at.tokens.items c.loop-at.at _ (omega arith) c.in-Err.ensures.is c.loop-at.invariant.lexes
+    c.in-Err.ensures.placed
 
 pub returns-clause-found : goal.returns-clause-found
 returns-clause-found c none = ended-found c.args.text.now c.loop-at.tokens.items c.loop-at.at (omega arith) c.loop-at.invariant.lexes
 
 pub returns-clause-only : goal.returns-clause-only
-returns-clause-only c tokens cuts = (refl, ended-only c.args.text.now c.loop-at.tokens.items c.loop-at.at (omega arith) c.loop-at.invariant.lexes tokens cuts)
+returns-clause-only c tokens cuts =
+    (refl, ended-only c.args.text.now c.loop-at.tokens.items c.loop-at.at (omega arith) c.loop-at.invariant.lexes tokens cuts)
+
+pub returns-in_err-push-in-Ok-Token-clause-one : goal.returns-in_err-push-in-Ok-Token-clause-one
+returns-in_err-push-in-Ok-Token-clause-one c = cuts_once c.args.text.now
+
+pub returns-in-Err-clause-one : goal.returns-in-Err-clause-one
+returns-in-Err-clause-one c = cuts_once c.args.text.now
+
+pub returns-clause-one : goal.returns-clause-one
+returns-clause-one c = cuts_once c.args.text.now
