@@ -1,19 +1,24 @@
 -- What commands are spelled as is read as those commands.
-use Rattle.std.proofs.Common.{◌≡◌, refl, ap, ◌∙◌, sym, ℕ, zero, suc, ◌+◌, ◌<◌, ◌≤◌, Bool, true, false, List, [], ◌∷◌, ◌++◌, length, Option, Some, None, ◌⊎◌, inl, inr, append_assoc, length-append, arith}
+use Rattle.std.proofs.Common.{◌≡◌, refl, ap, ◌∙◌, sym, ℕ, zero, suc, ◌+◌, ◌<◌, ◌≤◌, Bool, true, false, List, [], ◌∷◌, ◌++◌}
+use Rattle.std.proofs.Common.{length, Option, Some, None, ◌⊎◌, inl, inr, append_assoc, length-append, arith}
 use Rattle.filter_tokens.specs.Lexemes.{Lexeme}
 use Rattle.filter_tokens.specs.declared.mark.Mark.{Mark}
 use Rattle.filter_tokens.specs.declared.mark.Mark.TheVariants as m
-use Rattle.filter_parser.specs.Acting.{act_at, act_with, acts_from, acts_with, assign_with, block_at, block_with, choice_at, choice_with, end_of, other_with}
+use Rattle.filter_parser.specs.Acting.{act_at, act_with, acts_from, acts_with, assign_with, block_at, block_with, choice_at}
+use Rattle.filter_parser.specs.Acting.{choice_with, end_of, other_with}
 use Rattle.filter_parser.specs.Reading.{Reads, expr_at}
 use Rattle.filter_parser.specs.Steps.{◌>>=◌, with_some, after_mark, after_quote}
 use Rattle.filter_parser.specs.Syntax.{Tree, Fits, one_less, spelling}
-use Rattle.filter_parser.specs.SyntaxCommands.{Aim, Act, Acts, FitsAct, FitsActs, is_open, spelling_act, spelling_acts, spelling_aim, spelling_end}
+use Rattle.filter_parser.specs.SyntaxCommands.{Aim, Act, Acts, FitsAct, FitsActs, is_open, spelling_act, spelling_acts}
+use Rattle.filter_parser.specs.SyntaxCommands.{spelling_aim, spelling_end}
 use Rattle.filter_parser.proofs.Bodies.{act_is}
 
 -- an expression before `;` and `then` is read as it is spelled
 pub record AreComplete (depth : ℕ) (expr : Reads Tree) : Type 0 where
-  pub before_end : (t : Tree) (rest : List Lexeme) → Fits t depth → expr (spelling t ++ Lexeme.mark m.Semicolon ∷ rest) ≡ Some (t, Lexeme.mark m.Semicolon ∷ rest)
-  pub before_then : (t : Tree) (rest : List Lexeme) → Fits t depth → expr (spelling t ++ Lexeme.mark m.Then ∷ rest) ≡ Some (t, Lexeme.mark m.Then ∷ rest)
+  pub before_end : (t : Tree) (rest : List Lexeme) → Fits t depth
+      → expr (spelling t ++ Lexeme.mark m.Semicolon ∷ rest) ≡ Some (t, Lexeme.mark m.Semicolon ∷ rest)
+  pub before_then : (t : Tree) (rest : List Lexeme) → Fits t depth
+      → expr (spelling t ++ Lexeme.mark m.Then ∷ rest) ≡ Some (t, Lexeme.mark m.Then ∷ rest)
 
 -- where an `else` would belong to an `if` in the command, none follows
 abbrev pub Settled : Act → List Lexeme → Type 0
@@ -48,7 +53,9 @@ no_else (Act.reject has_text) rest = refl
 
 no_else_acts : (body : Acts) (rest : List Lexeme) → after_mark m.Else (spelling_acts body ++ Lexeme.mark m.RightBrace ∷ rest) ≡ None
 no_else_acts Acts.no_acts rest = refl
-no_else_acts (Acts.act_then first more) rest = rw (append_assoc {A = Lexeme} (spelling_act first) (spelling_acts more) (Lexeme.mark m.RightBrace ∷ rest)) (no_else first (spelling_acts more ++ Lexeme.mark m.RightBrace ∷ rest))
+no_else_acts (Acts.act_then first more) rest =
+    rw (append_assoc {A = Lexeme} (spelling_act first) (spelling_acts more) (Lexeme.mark m.RightBrace ∷ rest))
+    (no_else first (spelling_acts more ++ Lexeme.mark m.RightBrace ∷ rest))
 
 -- each command has a lexeme at least
 behind_more : {A : Type 0} (w : A) (ws rest : List A) → length rest < length ((w ∷ ws) ++ rest)
@@ -59,22 +66,26 @@ some_lexeme Act.empty rest = behind_more (Lexeme.mark m.Semicolon) [] rest
 some_lexeme (Act.block body) rest = behind_more (Lexeme.mark m.LeftBrace) _ rest
 some_lexeme (Act.choice test chosen) rest = behind_more (Lexeme.mark m.If) _ rest
 some_lexeme (Act.choice_else test chosen other) rest = behind_more (Lexeme.mark m.If) _ rest
-some_lexeme (Act.assign aim value) rest = behind_more (spelling_aim aim) (Lexeme.mark m.Equal ∷ (spelling value ++ Lexeme.mark m.Semicolon ∷ [])) rest
+some_lexeme (Act.assign aim value) rest =
+    behind_more (spelling_aim aim) (Lexeme.mark m.Equal ∷ (spelling value ++ Lexeme.mark m.Semicolon ∷ [])) rest
 some_lexeme (Act.accept has_text) rest = behind_more (Lexeme.mark m.Accept) _ rest
 some_lexeme (Act.reject has_text) rest = behind_more (Lexeme.mark m.Reject) _ rest
 
-one_turn : (act : Reads Act) (n : ℕ) (ws rest : List Lexeme) (t : Act) (x : Acts × List Lexeme) → after_mark m.RightBrace ws ≡ None → act ws ≡ Some (t, rest)
+one_turn : (act : Reads Act) (n : ℕ) (ws rest : List Lexeme) (t : Act) (x : Acts × List Lexeme) → after_mark m.RightBrace ws ≡ None
+    → act ws ≡ Some (t, rest)
     → acts_from act n rest ≡ Some x → acts_from act (suc n) ws ≡ Some (Acts.act_then t x.0, x.1)
 one_turn act n ws rest t x none one more = rw (none, one, more) refl
 
 -- commands up to their `}`
 acts_complete : (depth : ℕ) (act : Reads Act) → IsActComplete depth act → (body : Acts) (n : ℕ) (rest : List Lexeme) → FitsActs body depth
-    → length (spelling_acts body ++ Lexeme.mark m.RightBrace ∷ rest) < n → acts_from act n (spelling_acts body ++ Lexeme.mark m.RightBrace ∷ rest) ≡ Some (body, rest)
+    → length (spelling_acts body ++ Lexeme.mark m.RightBrace ∷ rest) < n
+    → acts_from act n (spelling_acts body ++ Lexeme.mark m.RightBrace ∷ rest) ≡ Some (body, rest)
 acts_complete depth act of body zero rest fits lt = absurd (omega arith)
 acts_complete depth act of Acts.no_acts (suc n) rest fits lt = refl
 acts_complete depth act of (Acts.act_then first more) (suc n) rest fits lt =
     let behind = spelling_acts more ++ Lexeme.mark m.RightBrace ∷ rest in
-    let group : (spelling_act first ++ spelling_acts more) ++ Lexeme.mark m.RightBrace ∷ rest ≡ spelling_act first ++ behind = simp append_assoc in
+    let group : (spelling_act first ++ spelling_acts more) ++ Lexeme.mark m.RightBrace ∷ rest ≡ spelling_act first ++ behind =
+    simp append_assoc in
     let some = some_lexeme first behind in
     let shorter : length behind < n = omega (arith, ap (length {A = Lexeme}) group) in
     ap (acts_from act (suc n)) group
@@ -91,47 +102,65 @@ end_complete : (has_text : Bool) (rest : List Lexeme) → end_of (spelling_end h
 end_complete true rest = refl
 end_complete false rest = refl
 
-assign_complete : (depth : ℕ) (expr : Reads Tree) → AreComplete depth expr → (aim : Aim) (value : Tree) (rest : List Lexeme) → Fits value depth
-    → assign_with expr aim (Lexeme.mark m.Equal ∷ ((spelling value ++ Lexeme.mark m.Semicolon ∷ []) ++ rest)) ≡ Some (Act.assign aim value, rest)
+assign_complete : (depth : ℕ) (expr : Reads Tree) → AreComplete depth expr → (aim : Aim) (value : Tree) (rest : List Lexeme)
+    → Fits value depth
+    → assign_with expr aim (Lexeme.mark m.Equal ∷ ((spelling value ++ Lexeme.mark m.Semicolon ∷ []) ++ rest))
+    ≡ Some (Act.assign aim value, rest)
 assign_complete depth expr of aim value rest fits =
-    let group : (spelling value ++ Lexeme.mark m.Semicolon ∷ []) ++ rest ≡ spelling value ++ Lexeme.mark m.Semicolon ∷ rest = simp append_assoc in
+    let group : (spelling value ++ Lexeme.mark m.Semicolon ∷ []) ++ rest ≡ spelling value ++ Lexeme.mark m.Semicolon ∷ rest =
+    simp append_assoc in
     ap (λ (ws : List Lexeme). assign_with expr aim (Lexeme.mark m.Equal ∷ ws)) group
     ∙ rw (of.before_end value rest fits) refl
 
 block_complete : (depth : ℕ) (act : Reads Act) → IsActComplete depth act → (body : Acts) (rest : List Lexeme) → FitsActs body depth
     → block_with act ((spelling_acts body ++ Lexeme.mark m.RightBrace ∷ []) ++ rest) ≡ Some (Act.block body, rest)
 block_complete depth act of body rest fits =
-    let group : (spelling_acts body ++ Lexeme.mark m.RightBrace ∷ []) ++ rest ≡ spelling_acts body ++ Lexeme.mark m.RightBrace ∷ rest = simp append_assoc in
+    let group : (spelling_acts body ++ Lexeme.mark m.RightBrace ∷ []) ++ rest ≡ spelling_acts body ++ Lexeme.mark m.RightBrace ∷ rest =
+    simp append_assoc in
     ap (block_with act) group ∙ rw (acts_with_complete depth act of body rest fits) refl
 
-choice_complete : (depth : ℕ) (expr : Reads Tree) (act : Reads Act) → AreComplete depth expr → IsActComplete depth act → (test : Tree) (chosen : Act) (rest : List Lexeme)
+choice_complete : (depth : ℕ) (expr : Reads Tree) (act : Reads Act) → AreComplete depth expr → IsActComplete depth act
+    → (test : Tree) (chosen : Act) (rest : List Lexeme)
     → Fits test depth → FitsAct chosen depth → after_mark m.Else rest ≡ None
     → choice_with expr act ((spelling test ++ Lexeme.mark m.Then ∷ spelling_act chosen) ++ rest) ≡ Some (Act.choice test chosen, rest)
 choice_complete depth expr act tests of test chosen rest a b none =
     let behind = spelling_act chosen ++ rest in
-    let group : (spelling test ++ Lexeme.mark m.Then ∷ spelling_act chosen) ++ rest ≡ spelling test ++ Lexeme.mark m.Then ∷ behind = simp append_assoc in
+    let group : (spelling test ++ Lexeme.mark m.Then ∷ spelling_act chosen) ++ rest ≡ spelling test ++ Lexeme.mark m.Then ∷ behind =
+    simp append_assoc in
     ap (choice_with expr act) group
     ∙ rw (tests.before_then test behind a, of.complete chosen rest b (λ opened. none), none) refl
 
-else_complete : (depth : ℕ) (expr : Reads Tree) (act : Reads Act) → AreComplete depth expr → IsActComplete depth act → (test : Tree) (chosen other : Act) (rest : List Lexeme)
+else_complete : (depth : ℕ) (expr : Reads Tree) (act : Reads Act) → AreComplete depth expr → IsActComplete depth act
+    → (test : Tree) (chosen other : Act) (rest : List Lexeme)
     → Fits test depth → FitsAct chosen depth → FitsAct other depth → is_open chosen ≡ false → Settled other rest
-    → choice_with expr act ((spelling test ++ Lexeme.mark m.Then ∷ (spelling_act chosen ++ Lexeme.mark m.Else ∷ spelling_act other)) ++ rest) ≡ Some (Act.choice_else test chosen other, rest)
+    → choice_with expr act
+    ((spelling test ++ Lexeme.mark m.Then ∷ (spelling_act chosen ++ Lexeme.mark m.Else ∷ spelling_act other)) ++ rest)
+    ≡ Some (Act.choice_else test chosen other, rest)
 else_complete depth expr act tests of test chosen other rest a b d closed settled =
     let behind = spelling_act other ++ rest in
     let front = spelling_act chosen ++ Lexeme.mark m.Else ∷ behind in
-    let group : (spelling test ++ Lexeme.mark m.Then ∷ (spelling_act chosen ++ Lexeme.mark m.Else ∷ spelling_act other)) ++ rest ≡ spelling test ++ Lexeme.mark m.Then ∷ front = simp append_assoc in
+    let group : (spelling test ++ Lexeme.mark m.Then ∷ (spelling_act chosen ++ Lexeme.mark m.Else ∷ spelling_act other)) ++ rest
+    ≡ spelling test ++ Lexeme.mark m.Then ∷ front = simp append_assoc in
     ap (choice_with expr act) group
-    ∙ rw (tests.before_then test front a, of.complete chosen (Lexeme.mark m.Else ∷ behind) b (λ opened. absurd (cc)), of.complete other rest d settled) refl
+    ∙ rw (
+      tests.before_then test front a,
+      of.complete chosen (Lexeme.mark m.Else ∷ behind) b (λ opened. absurd (cc)),
+      of.complete other rest d settled,
+    ) refl
 
 -- what a command is spelled as is read as that command
 pub act_complete : (of : (depth : ℕ) → AreComplete depth (expr_at depth)) (depth : ℕ) → IsActComplete depth (act_at depth)
 act_complete of depth = record { complete = go depth }
   where
-    go : (depth : ℕ) (t : Act) (rest : List Lexeme) → FitsAct t depth → Settled t rest → act_at depth (spelling_act t ++ rest) ≡ Some (t, rest)
+    go : (depth : ℕ) (t : Act) (rest : List Lexeme) → FitsAct t depth → Settled t rest
+        → act_at depth (spelling_act t ++ rest) ≡ Some (t, rest)
     go depth Act.empty rest fits settled = act_is depth _
-    go depth (Act.assign (Aim.to_name text) value) rest fits settled = act_is depth _ ∙ assign_complete depth (expr_at depth) (of depth) (Aim.to_name text) value rest fits
-    go depth (Act.assign Aim.to_metric value) rest fits settled = act_is depth _ ∙ assign_complete depth (expr_at depth) (of depth) Aim.to_metric value rest fits
-    go depth (Act.assign Aim.to_net value) rest fits settled = act_is depth _ ∙ assign_complete depth (expr_at depth) (of depth) Aim.to_net value rest fits
+    go depth (Act.assign (Aim.to_name text) value) rest fits settled =
+        act_is depth _ ∙ assign_complete depth (expr_at depth) (of depth) (Aim.to_name text) value rest fits
+    go depth (Act.assign Aim.to_metric value) rest fits settled =
+        act_is depth _ ∙ assign_complete depth (expr_at depth) (of depth) Aim.to_metric value rest fits
+    go depth (Act.assign Aim.to_net value) rest fits settled =
+        act_is depth _ ∙ assign_complete depth (expr_at depth) (of depth) Aim.to_net value rest fits
     go depth (Act.accept has_text) rest fits settled = act_is depth _ ∙ rw (end_complete has_text rest) refl
     go depth (Act.reject has_text) rest fits settled = act_is depth _ ∙ rw (end_complete has_text rest) refl
     go zero (Act.block body) rest fits settled = absurd fits
@@ -142,7 +171,10 @@ act_complete of depth = record { complete = go depth }
         act_is (suc depth) _ ∙ block_complete depth (act_at depth) inner body rest fits
     go (suc depth) (Act.choice test chosen) rest fits settled =
         let inner : IsActComplete depth (act_at depth) = record { complete = go depth } in
-        act_is (suc depth) _ ∙ choice_complete depth (expr_at depth) (act_at depth) (of depth) inner test chosen rest fits.0 fits.1 (settled refl)
+        act_is (suc depth) _
+        ∙ choice_complete depth (expr_at depth) (act_at depth) (of depth) inner test chosen rest fits.0 fits.1 (settled refl)
     go (suc depth) (Act.choice_else test chosen other) rest fits settled =
         let inner : IsActComplete depth (act_at depth) = record { complete = go depth } in
-        act_is (suc depth) _ ∙ else_complete depth (expr_at depth) (act_at depth) (of depth) inner test chosen other rest fits.1.0 fits.1.1 fits.1.2 fits.0 settled
+        act_is (suc depth) _
+        ∙ else_complete depth (expr_at depth) (act_at depth)
+        (of depth) inner test chosen other rest fits.1.0 fits.1.1 fits.1.2 fits.0 settled

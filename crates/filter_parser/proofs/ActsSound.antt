@@ -1,13 +1,16 @@
 -- What is read of commands is spelled so, and fits.
-use Rattle.std.proofs.Common.{◌≡◌, refl, ap, subst, ◌∙◌, sym, ℕ, zero, suc, Bool, true, false, List, [], ◌∷◌, ◌++◌, length, Option, Some, None, inl, inr, append_assoc}
+use Rattle.std.proofs.Common.{◌≡◌, refl, ap, subst, ◌∙◌, sym, ℕ, zero, suc, Bool, true, false, List, [], ◌∷◌, ◌++◌, length}
+use Rattle.std.proofs.Common.{Option, Some, None, inl, inr, append_assoc}
 use Rattle.filter_tokens.specs.Lexemes.{Lexeme}
 use Rattle.filter_tokens.specs.declared.mark.Mark.{Mark}
 use Rattle.filter_tokens.specs.declared.mark.Mark.TheVariants as m
-use Rattle.filter_parser.specs.Acting.{accepts, act_at, act_by, act_with, acts_from, acts_with, assign_with, block_at, block_with, choice_at, choice_with, end_of, other_with, refuses, rejects}
+use Rattle.filter_parser.specs.Acting.{accepts, act_at, act_by, act_with, acts_from, acts_with, assign_with, block_at, block_with}
+use Rattle.filter_parser.specs.Acting.{choice_at, choice_with, end_of, other_with, refuses, rejects}
 use Rattle.filter_parser.specs.Reading.{Reads, expr_at}
 use Rattle.filter_parser.specs.Steps.{◌>>=◌, with_some, after_mark, after_quote}
 use Rattle.filter_parser.specs.Syntax.{Tree, Fits, spelling}
-use Rattle.filter_parser.specs.SyntaxCommands.{Aim, Act, Acts, FitsAct, FitsActs, is_open, spelling_act, spelling_acts, spelling_aim, spelling_end}
+use Rattle.filter_parser.specs.SyntaxCommands.{Aim, Act, Acts, FitsAct, FitsActs, is_open, spelling_act, spelling_acts}
+use Rattle.filter_parser.specs.SyntaxCommands.{spelling_aim, spelling_end}
 use Rattle.filter_parser.proofs.Bodies.{act_is}
 use Rattle.filter_parser.proofs.Joined.{acts_joined, assign_joined, block_joined, choice_joined, else_joined, front_joined}
 use Rattle.filter_parser.proofs.Steps.{bind_some, mark_found, some_is, with_some_cases}
@@ -45,7 +48,8 @@ end_sound ws x e =
           subst P (some_is same) (mark_found m.Semicolon ws rest found)
       | inr (behind, quoted, read) ↦
           let (rest, found, same) = bind_some (after_mark m.Semicolon behind) _ x read in
-          subst P (some_is same) (quote_found ws behind quoted ∙ ap (λ (vs : List Lexeme). Lexeme.quote ∷ vs) (mark_found m.Semicolon behind rest found))
+          subst P (some_is same) (quote_found ws behind quoted
+          ∙ ap (λ (vs : List Lexeme). Lexeme.quote ∷ vs) (mark_found m.Semicolon behind rest found))
     ]
 
 accepts_sound : (depth : ℕ) → IsActSound depth (Lexeme.mark m.Accept ∷ []) accepts
@@ -72,7 +76,8 @@ rejects_sound depth = record {
       subst (FoundAct depth (Lexeme.mark m.Reject ∷ ws)) (some_is same) found;
 }
 
-assign_sound : (depth : ℕ) (expr : Reads Tree) → AreSound depth expr → (aim : Aim) → IsActSound depth (spelling_aim aim ∷ []) (assign_with expr aim)
+assign_sound : (depth : ℕ) (expr : Reads Tree) → AreSound depth expr → (aim : Aim)
+    → IsActSound depth (spelling_aim aim ∷ []) (assign_with expr aim)
 assign_sound depth expr of aim = record {
   sound = λ ws x e.
       let (value, e1, f1) = bind_some (after_mark m.Equal ws) _ x e in
@@ -93,7 +98,8 @@ pub record FoundActs (depth : ℕ) (ws : List Lexeme) (x : Acts × List Lexeme) 
   pub spelled : ws ≡ spelling_acts x.0 ++ Lexeme.mark m.RightBrace ∷ x.1
   pub fits : FitsActs x.0 depth
 
-acts_sound : (depth : ℕ) (act : Reads Act) → IsActSound depth [] act → (n : ℕ) (ws : List Lexeme) (x : Acts × List Lexeme) → acts_from act n ws ≡ Some x → FoundActs depth ws x
+acts_sound : (depth : ℕ) (act : Reads Act) → IsActSound depth [] act → (n : ℕ) (ws : List Lexeme) (x : Acts × List Lexeme)
+    → acts_from act n ws ≡ Some x → FoundActs depth ws x
 acts_sound depth act of zero ws x e = absurd (cc)
 acts_sound depth act of (suc n) ws x e =
     elim (with_some_cases (after_mark m.RightBrace ws) _ _ x e) [
@@ -103,7 +109,8 @@ acts_sound depth act of (suc n) ws x e =
           let one = of.sound ws first e1 in
           let others = acts_sound depth act of n first.1 more e2 in
           let found : FoundActs depth ws (Acts.act_then first.0 more.0, more.1) = record {
-            spelled = acts_joined (Lexeme.mark m.RightBrace) ws (spelling_act first.0) first.1 (spelling_acts more.0) more.1 one.spelled others.spelled;
+            spelled = acts_joined (Lexeme.mark m.RightBrace) ws (spelling_act first.0) first.1
+                (spelling_acts more.0) more.1 one.spelled others.spelled;
             fits = (one.fits, others.fits);
           } in
           subst (FoundActs depth ws) (some_is f2) found
@@ -112,11 +119,13 @@ acts_sound depth act of (suc n) ws x e =
           subst (FoundActs depth ws) (some_is same) found
     ]
 
-pub acts_with_sound : (depth : ℕ) (act : Reads Act) → IsActSound depth [] act → (ws : List Lexeme) (x : Acts × List Lexeme) → acts_with act ws ≡ Some x → FoundActs depth ws x
+pub acts_with_sound : (depth : ℕ) (act : Reads Act) → IsActSound depth [] act → (ws : List Lexeme) (x : Acts × List Lexeme)
+    → acts_with act ws ≡ Some x → FoundActs depth ws x
 unfolding acts_with
 acts_with_sound depth act of ws x e = acts_sound depth act of (suc (length ws)) ws x e
 
-block_sound : (depth : ℕ) (act : Reads Act) → IsActSound depth [] act → IsActSound (suc depth) (Lexeme.mark m.LeftBrace ∷ []) (block_with act)
+block_sound : (depth : ℕ) (act : Reads Act) → IsActSound depth [] act
+    → IsActSound (suc depth) (Lexeme.mark m.LeftBrace ∷ []) (block_with act)
 block_sound depth act of = record {
   sound = λ ws x e.
       let (body, e1, same) = bind_some (acts_with act ws) _ x e in
@@ -130,14 +139,16 @@ block_sound depth act of = record {
 }
 
 -- a command behind which an `else` was found is not open
-closed : (t : Act) (ws behind : List Lexeme) → (is_open t ≡ true → after_mark m.Else ws ≡ None) → after_mark m.Else ws ≡ Some behind → is_open t ≡ false
+closed : (t : Act) (ws behind : List Lexeme) → (is_open t ≡ true → after_mark m.Else ws ≡ None) → after_mark m.Else ws ≡ Some behind
+    → is_open t ≡ false
 closed t ws behind settled found = go (is_open t) refl
   where
     go : (b : Bool) → is_open t ≡ b → is_open t ≡ false
     go false e = e
     go true e = let none : after_mark m.Else ws ≡ None = settled e in absurd (cc)
 
-choice_sound : (depth : ℕ) (expr : Reads Tree) (act : Reads Act) → AreSound depth expr → IsActSound depth [] act → IsActSound (suc depth) (Lexeme.mark m.If ∷ []) (choice_with expr act)
+choice_sound : (depth : ℕ) (expr : Reads Tree) (act : Reads Act) → AreSound depth expr → IsActSound depth [] act
+    → IsActSound (suc depth) (Lexeme.mark m.If ∷ []) (choice_with expr act)
 choice_sound depth expr act tests of = record {
   sound = λ ws x e.
       let (test, e1, f1) = bind_some (expr ws) _ x e in
@@ -146,7 +157,8 @@ choice_sound depth expr act tests of = record {
       let asked = tests.sound ws test e1 in
       let taken = of.sound behind chosen e3 in
       let front : ws ≡ spelling test.0 ++ Lexeme.mark m.Then ∷ (spelling_act chosen.0 ++ chosen.1) =
-      front_joined (Lexeme.mark m.Then) ws (spelling test.0) test.1 behind (spelling_act chosen.0) chosen.1 asked.0 (mark_found m.Then test.1 behind e2) taken.spelled in
+      front_joined (Lexeme.mark m.Then) ws (spelling test.0) test.1 behind (spelling_act chosen.0) chosen.1 asked.0
+      (mark_found m.Then test.1 behind e2) taken.spelled in
       elim (with_some_cases (after_mark m.Else chosen.1) _ _ x f3) [
         | inl (none, same) ↦
             let found : FoundAct (suc depth) (Lexeme.mark m.If ∷ ws) (Act.choice test.0 chosen.0, chosen.1) = record {
@@ -159,7 +171,8 @@ choice_sound depth expr act tests of = record {
             let (other, e4, same) = bind_some (act others) _ x read in
             let left = of.sound others other e4 in
             let found : FoundAct (suc depth) (Lexeme.mark m.If ∷ ws) (Act.choice_else test.0 chosen.0 other.0, other.1) = record {
-              spelled = else_joined (Lexeme.mark m.If) (Lexeme.mark m.Then) (Lexeme.mark m.Else) ws (spelling test.0) (spelling_act chosen.0) chosen.1 others
+              spelled = else_joined (Lexeme.mark m.If) (Lexeme.mark m.Then) (Lexeme.mark m.Else) ws (spelling test.0)
+                  (spelling_act chosen.0) chosen.1 others
                   (spelling_act other.0) other.1 front (mark_found m.Else chosen.1 others some) left.spelled;
               fits = (closed chosen.0 chosen.1 others taken.settled some, (asked.1, taken.fits, left.fits));
               settled = left.settled;
@@ -171,11 +184,13 @@ choice_sound depth expr act tests of = record {
 refuses_sound : (depth : ℕ) (before : List Lexeme) → IsActSound depth before refuses
 refuses_sound depth before = record { sound = λ ws x e. absurd (cc) }
 
-by_sound : (depth : ℕ) (expr : Reads Tree) (block choice : Reads Act) → AreSound depth expr → IsActSound depth (Lexeme.mark m.LeftBrace ∷ []) block
+by_sound : (depth : ℕ) (expr : Reads Tree) (block choice : Reads Act) → AreSound depth expr
+    → IsActSound depth (Lexeme.mark m.LeftBrace ∷ []) block
     → IsActSound depth (Lexeme.mark m.If ∷ []) choice → (k : Mark) → IsActSound depth (Lexeme.mark k ∷ []) (act_by expr block choice k)
 by_sound depth expr block choice of blocks choices m.Semicolon = record {
   sound = λ ws x e.
-      let found : FoundAct depth (Lexeme.mark m.Semicolon ∷ ws) (Act.empty, ws) = record { spelled = refl; fits = tt; settled = λ opened. absurd (cc) } in
+      let found : FoundAct depth (Lexeme.mark m.Semicolon ∷ ws) (Act.empty, ws) =
+      record { spelled = refl; fits = tt; settled = λ opened. absurd (cc) } in
       subst (FoundAct depth (Lexeme.mark m.Semicolon ∷ ws)) (some_is e) found;
 }
 by_sound depth expr block choice of blocks choices m.LeftBrace = blocks
@@ -186,15 +201,19 @@ by_sound depth expr block choice of blocks choices m.RipMetric = assign_sound de
 by_sound depth expr block choice of blocks choices m.Net = assign_sound depth expr of Aim.to_net
 by_sound depth expr block choice of blocks choices other = record { sound = λ ws x e. absurd (cc) }
 
-with_sound : (depth : ℕ) (expr : Reads Tree) (block choice : Reads Act) → AreSound depth expr → IsActSound depth (Lexeme.mark m.LeftBrace ∷ []) block
-    → IsActSound depth (Lexeme.mark m.If ∷ []) choice → (ws : List Lexeme) (x : Act × List Lexeme) → act_with expr block choice ws ≡ Some x → FoundAct depth ws x
+with_sound : (depth : ℕ) (expr : Reads Tree) (block choice : Reads Act) → AreSound depth expr
+    → IsActSound depth (Lexeme.mark m.LeftBrace ∷ []) block
+    → IsActSound depth (Lexeme.mark m.If ∷ []) choice → (ws : List Lexeme) (x : Act × List Lexeme) → act_with expr block choice ws ≡ Some x
+    → FoundAct depth ws x
 with_sound depth expr block choice of blocks choices [] x e = absurd (cc)
-with_sound depth expr block choice of blocks choices (Lexeme.name text ∷ ws) x e = (assign_sound depth expr of (Aim.to_name text)).sound ws x e
+with_sound depth expr block choice of blocks choices (Lexeme.name text ∷ ws) x e =
+    (assign_sound depth expr of (Aim.to_name text)).sound ws x e
 with_sound depth expr block choice of blocks choices (Lexeme.number n ∷ ws) x e = absurd (cc)
 with_sound depth expr block choice of blocks choices (Lexeme.address a ∷ ws) x e = absurd (cc)
 with_sound depth expr block choice of blocks choices (Lexeme.prefix bits ∷ ws) x e = absurd (cc)
 with_sound depth expr block choice of blocks choices (Lexeme.quote ∷ ws) x e = absurd (cc)
-with_sound depth expr block choice of blocks choices (Lexeme.mark k ∷ ws) x e = (by_sound depth expr block choice of blocks choices k).sound ws x e
+with_sound depth expr block choice of blocks choices (Lexeme.mark k ∷ ws) x e =
+    (by_sound depth expr block choice of blocks choices k).sound ws x e
 
 -- what is read of a command is spelled so, and fits
 pub act_sound : (of : (depth : ℕ) → AreSound depth (expr_at depth)) (depth : ℕ) → IsActSound depth [] (act_at depth)
@@ -205,5 +224,6 @@ act_sound of zero = record {
 act_sound of (suc depth) = record {
   sound = λ ws x e.
       with_sound (suc depth) (expr_at (suc depth)) (block_with (act_at depth)) (choice_with (expr_at depth) (act_at depth)) (of (suc depth))
-      (block_sound depth (act_at depth) (act_sound of depth)) (choice_sound depth (expr_at depth) (act_at depth) (of depth) (act_sound of depth)) ws x e;
+      (block_sound depth (act_at depth) (act_sound of depth))
+      (choice_sound depth (expr_at depth) (act_at depth) (of depth) (act_sound of depth)) ws x e;
 }

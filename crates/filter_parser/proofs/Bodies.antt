@@ -1,5 +1,6 @@
 -- The loop over the commands of a body, beside the function that reads them.
-use Rattle.std.proofs.Common.{◌≡◌, ℕ, zero, suc, ◌-◌, ◌<◌, List, [], ◌∷◌, ◌++◌, length, map, Option, Some, None, Result, refl, sym, ap, ◌∙◌, arith}
+use Rattle.std.proofs.Common.{◌≡◌, ℕ, zero, suc, ◌-◌, ◌<◌, List, [], ◌∷◌, ◌++◌, length, map, Option, Some, None, Result, refl}
+use Rattle.std.proofs.Common.{sym, ap, ◌∙◌, arith}
 use Rattle.filter_tokens.specs.Lexemes.{Lexeme}
 use Rattle.filter_tokens.specs.declared.mark.Mark.TheVariants as m
 use Rattle.filter_parser.specs.declared.fault.ParseFault.{ParseFault}
@@ -60,7 +61,8 @@ first_is act n ws rest x none found = rw (none, found) refl
 none_is : (act : Reads Act) (n : ℕ) (ws : List Lexeme) → after_mark m.RightBrace ws ≡ None → act ws ≡ None → acts_from act (suc n) ws ≡ None
 none_is act n ws none found = rw (none, found) refl
 
-end_is : (act : Reads Act) (n : ℕ) (ws rest : List Lexeme) → after_mark m.RightBrace ws ≡ Some rest → acts_from act (suc n) ws ≡ Some (Acts.no_acts, rest)
+end_is : (act : Reads Act) (n : ℕ) (ws rest : List Lexeme) → after_mark m.RightBrace ws ≡ Some rest
+    → acts_from act (suc n) ws ≡ Some (Acts.no_acts, rest)
 end_is act n ws rest found = rw found refl
 
 pub begins : (act : Reads Act) (ws : List Lexeme) → Goes act [] ws (acts_with act ws)
@@ -72,7 +74,8 @@ map_one f [] x = refl
 map_one {B = B} f (y ∷ xs) x = ap (λ (ys : List B). f y ∷ ys) (map_one f xs x)
 
 pub goes_on : {act : Reads Act} {xs : List Act} {ws rest : List Lexeme} {total : Option (Acts × List Lexeme)} {x : Act}
-    → Goes act xs ws total → after_mark m.RightBrace ws ≡ None → act ws ≡ Some (x, rest) → length rest < length ws → Goes act (xs ++ x ∷ []) rest total
+    → Goes act xs ws total → after_mark m.RightBrace ws ≡ None → act ws ≡ Some (x, rest) → length rest < length ws
+    → Goes act (xs ++ x ∷ []) rest total
 goes_on {act} {xs} {ws} {rest} {total} {x} g none found lt =
     let enough : length ws < g.turns = g.enough in
     let n : ℕ = g.turns - 1 in

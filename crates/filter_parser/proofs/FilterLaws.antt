@@ -1,16 +1,19 @@
 -- What is read of a filter is spelled so, and what is spelled so is read.
-use Rattle.std.proofs.Common.{◌≡◌, refl, ap, subst, ◌∙◌, sym, ℕ, zero, suc, ◌≤◌, ◌<◌, List, [], ◌∷◌, ◌++◌, length, Option, Some, None, inl, inr, append_assoc, length-append, arith}
+use Rattle.std.proofs.Common.{◌≡◌, refl, ap, subst, ◌∙◌, sym, ℕ, zero, suc, ◌≤◌, ◌<◌, List, [], ◌∷◌, ◌++◌, length, Option, Some}
+use Rattle.std.proofs.Common.{None, inl, inr, append_assoc, length-append, arith}
 use Rattle.std.proofs.lemmas.List.{append-nil}
 use Rattle.filter_tokens.specs.Lexemes.{Lexeme}
 use Rattle.filter_tokens.specs.declared.mark.Mark.{Mark}
 use Rattle.filter_tokens.specs.declared.mark.Mark.TheVariants as m
 use Rattle.filter_parser.specs.declared.tree.decl.Kind.{Kind}
 use Rattle.filter_parser.specs.declared.tree.decl.Kind.TheVariants as kind
-use Rattle.filter_parser.specs.Acting.{Said, act_at, acts_with, body_of, decl_turn, decl_with, decls_after, filter_of, kind_first, kind_of, name_first, whole}
+use Rattle.filter_parser.specs.Acting.{Said, act_at, acts_with, body_of, decl_turn, decl_with, decls_after, filter_of, kind_first}
+use Rattle.filter_parser.specs.Acting.{kind_of, name_first, whole}
 use Rattle.filter_parser.specs.Reading.{turns, expr_at}
 use Rattle.filter_parser.specs.Steps.{◌>>=◌, with_some, after_mark}
 use Rattle.filter_parser.specs.Syntax.{Tree, Fits, nesting_limit, spelling}
-use Rattle.filter_parser.specs.SyntaxCommands.{Aim, Act, Acts, Declared, FitsActs, kind_mark, spelling_act, spelling_acts, spelling_decl, spelling_decls}
+use Rattle.filter_parser.specs.SyntaxCommands.{Aim, Act, Acts, Declared, FitsActs, kind_mark, spelling_act, spelling_acts}
+use Rattle.filter_parser.specs.SyntaxCommands.{spelling_decl, spelling_decls}
 use Rattle.filter_parser.specs.SyntaxText.{spelling_filter}
 use Rattle.filter_parser.proofs.ActsComplete.{AreComplete, act_complete, acts_with_complete}
 use Rattle.filter_parser.proofs.ActsSound.{AreSound, act_sound, acts_with_sound}
@@ -58,7 +61,8 @@ name_found (Lexeme.name text ∷ ws) x e =
     subst P (some_is e) refl
 name_found (_ ∷ ws) x e = absurd (cc)
 
-decl_found : (k : Kind) (w : Lexeme) (ws : List Lexeme) (x : Declared × List Lexeme) → w ≡ Lexeme.mark (kind_mark k) → decl_with k ws ≡ Some x → w ∷ ws ≡ spelling_decl x.0 ++ x.1
+decl_found : (k : Kind) (w : Lexeme) (ws : List Lexeme) (x : Declared × List Lexeme) → w ≡ Lexeme.mark (kind_mark k)
+    → decl_with k ws ≡ Some x → w ∷ ws ≡ spelling_decl x.0 ++ x.1
 decl_found k w ws x first e =
     let (name, e1, f1) = bind_some (name_first ws) _ x e in
     let (rest, e2, f2) = bind_some (after_mark m.Semicolon name.1) _ x f1 in
@@ -86,7 +90,8 @@ turn_found front ws y e =
           subst P is (d.0, refl, kind_found ws k e1 ∙ decl_found k.0 (Lexeme.mark (kind_mark k.0)) k.1 d refl e2)
     ]
 
-turns_found : (n : ℕ) (front : List Declared) (ws : List Lexeme) (x : List Declared × List Lexeme) → turns decl_turn n front ws ≡ Some x → FoundDecls front ws x
+turns_found : (n : ℕ) (front : List Declared) (ws : List Lexeme) (x : List Declared × List Lexeme) → turns decl_turn n front ws ≡ Some x
+    → FoundDecls front ws x
 turns_found zero front ws x e =
     let found : FoundDecls front ws (front, ws) = record { more = []; all = sym (append-nil front); spelled = refl } in
     subst (FoundDecls front ws) (some_is e) found
@@ -106,28 +111,34 @@ turns_found (suc n) front ws x e =
           }
     ]
   where
-    all_joined : (front : List Declared) (d : Declared) (more next all : List Declared) → next ≡ front ++ d ∷ [] → all ≡ next ++ more → all ≡ front ++ d ∷ more
+    all_joined : (front : List Declared) (d : Declared) (more next all : List Declared) → next ≡ front ++ d ∷ [] → all ≡ next ++ more
+        → all ≡ front ++ d ∷ more
     all_joined front d more next all a b = b ∙ ap (λ (xs : List Declared). xs ++ more) a ∙ append_assoc front (d ∷ []) more
 
     joined : (ws a b r s : List Lexeme) → ws ≡ a ++ r → r ≡ b ++ s → ws ≡ (a ++ b) ++ s
     joined ws a b r s e f = rw (e, f) (simp append_assoc)
 
-decls_found : (front : List Declared) (ws : List Lexeme) (x : List Declared × List Lexeme) → decls_after front ws ≡ Some x → FoundDecls front ws x
+decls_found : (front : List Declared) (ws : List Lexeme) (x : List Declared × List Lexeme) → decls_after front ws ≡ Some x
+    → FoundDecls front ws x
 unfolding decls_after
 decls_found front ws x e = turns_found (length ws) front ws x e
 
-turn_again : (front : List Declared) (d : Declared) (rest : List Lexeme) → decl_turn front (spelling_decl d ++ rest) ≡ Some (Some (front ++ d ∷ [], rest))
+turn_again : (front : List Declared) (d : Declared) (rest : List Lexeme)
+    → decl_turn front (spelling_decl d ++ rest) ≡ Some (Some (front ++ d ∷ [], rest))
 turn_again front d rest = rw (kind_again d.kind) refl
 
-turns_again : (ds : List Declared) (n : ℕ) (front : List Declared) (rest : List Lexeme) → kind_first rest ≡ None → length (spelling_decls ds ++ rest) ≤ n
+turns_again : (ds : List Declared) (n : ℕ) (front : List Declared) (rest : List Lexeme) → kind_first rest ≡ None
+    → length (spelling_decls ds ++ rest) ≤ n
     → turns decl_turn n front (spelling_decls ds ++ rest) ≡ Some (front ++ ds, rest)
 turns_again [] zero front rest none le = ap (λ (xs : List Declared). Some (xs, rest)) (sym (append-nil front))
 turns_again [] (suc n) front rest none le = rw none (ap (λ (xs : List Declared). Some (xs, rest)) (sym (append-nil front)))
 turns_again (d ∷ ds) zero front rest none le = absurd (omega arith)
 turns_again (d ∷ ds) (suc n) front rest none le =
-    rw (kind_again d.kind) (turns_again ds n (front ++ d ∷ []) rest none (omega arith) ∙ ap (λ (xs : List Declared). Some (xs, rest)) (append_assoc front (d ∷ []) ds))
+    rw (kind_again d.kind) (turns_again ds n (front ++ d ∷ []) rest none (omega arith)
+    ∙ ap (λ (xs : List Declared). Some (xs, rest)) (append_assoc front (d ∷ []) ds))
 
-decls_again : (ds front : List Declared) (rest : List Lexeme) → kind_first rest ≡ None → decls_after front (spelling_decls ds ++ rest) ≡ Some (front ++ ds, rest)
+decls_again : (ds front : List Declared) (rest : List Lexeme) → kind_first rest ≡ None
+    → decls_after front (spelling_decls ds ++ rest) ≡ Some (front ++ ds, rest)
 unfolding decls_after
 decls_again ds front rest none = turns_again ds (length (spelling_decls ds ++ rest)) front rest none (omega arith)
 
@@ -148,7 +159,8 @@ no_kind (Act.reject has_text) rest = refl
 no_kind_acts : (body : Acts) (rest : List Lexeme) → kind_first (spelling_acts body ++ Lexeme.mark m.RightBrace ∷ rest) ≡ None
 no_kind_acts Acts.no_acts rest = refl
 no_kind_acts (Acts.act_then first more) rest =
-    rw (append_assoc {A = Lexeme} (spelling_act first) (spelling_acts more) (Lexeme.mark m.RightBrace ∷ rest)) (no_kind first (spelling_acts more ++ Lexeme.mark m.RightBrace ∷ rest))
+    rw (append_assoc {A = Lexeme} (spelling_act first) (spelling_acts more) (Lexeme.mark m.RightBrace ∷ rest))
+    (no_kind first (spelling_acts more ++ Lexeme.mark m.RightBrace ∷ rest))
 
 whole_found : {A : Type 0} (x : A) (ws : List Lexeme) (y : A) → whole x ws ≡ Some y → (ws ≡ []) × (x ≡ y)
 whole_found x [] y e = (refl, some_is e)
@@ -162,7 +174,8 @@ pub record FoundFilter (ws : List Lexeme) (x : Said) : Type 0 where
   pub spelled : ws ≡ spelling_filter x.name head inner x.body
   pub fits : FitsActs x.body nesting_limit
 
-filter_joined : (ws a b c d e : List Lexeme) (f g h k n : Lexeme) (front inner body : List Lexeme) → ws ≡ f ∷ a → a ≡ n ∷ b → b ≡ front ++ c → c ≡ g ∷ d → d ≡ inner ++ e → e ≡ body ++ k ∷ []
+filter_joined : (ws a b c d e : List Lexeme) (f g h k n : Lexeme) (front inner body : List Lexeme) → ws ≡ f ∷ a → a ≡ n ∷ b → b ≡ front ++ c
+    → c ≡ g ∷ d → d ≡ inner ++ e → e ≡ body ++ k ∷ []
     → ws ≡ f ∷ n ∷ (front ++ g ∷ (inner ++ (body ++ k ∷ [])))
 filter_joined ws a b c d e f g h k n front inner body e1 e2 e3 e4 e5 e6 = rw (e1, e2, e3, e4, e5, e6) refl
 
@@ -182,9 +195,12 @@ filter_sound ws x e =
       head = front.more;
       inner = inner.more;
       declared = inner.all ∙ ap (λ (xs : List Declared). xs ++ inner.more) front.all;
-      spelled = filter_joined ws a name.1 head.1 d all.1 (Lexeme.mark m.Filter) (Lexeme.mark m.LeftBrace) (Lexeme.mark m.LeftBrace) (Lexeme.mark m.RightBrace) (Lexeme.name name.0)
-          (spelling_decls front.more) (spelling_decls inner.more) (spelling_acts body.0) (mark_found m.Filter ws a e1) (name_found a name e2) front.spelled
-          (mark_found m.LeftBrace head.1 d e4) inner.spelled (acts.spelled ∙ ap (λ (rest : List Lexeme). spelling_acts body.0 ++ Lexeme.mark m.RightBrace ∷ rest) nothing);
+      spelled = filter_joined ws a name.1 head.1 d all.1 (Lexeme.mark m.Filter) (Lexeme.mark m.LeftBrace) (Lexeme.mark m.LeftBrace)
+          (Lexeme.mark m.RightBrace) (Lexeme.name name.0)
+          (spelling_decls front.more) (spelling_decls inner.more) (spelling_acts body.0) (mark_found m.Filter ws a e1)
+          (name_found a name e2) front.spelled
+          (mark_found m.LeftBrace head.1 d e4) inner.spelled (acts.spelled
+          ∙ ap (λ (rest : List Lexeme). spelling_acts body.0 ++ Lexeme.mark m.RightBrace ∷ rest) nothing);
       fits = acts.fits;
     } in
     subst (FoundFilter ws) is found

@@ -1,7 +1,8 @@
 -- Lists that were read part by part, put together.
 use Rattle.std.proofs.Common.{◌≡◌, List, [], ◌∷◌, ◌++◌, refl, append_assoc}
 
-pub assign_joined : {A : Type 0} (w k s : A) (ws v t l rest : List A) → ws ≡ k ∷ v → v ≡ t ++ l → l ≡ s ∷ rest → w ∷ ws ≡ (w ∷ k ∷ (t ++ s ∷ [])) ++ rest
+pub assign_joined : {A : Type 0} (w k s : A) (ws v t l rest : List A) → ws ≡ k ∷ v → v ≡ t ++ l → l ≡ s ∷ rest
+    → w ∷ ws ≡ (w ∷ k ∷ (t ++ s ∷ [])) ++ rest
 assign_joined w k s ws v t l rest a b c = rw (a, b, c) (simp append_assoc)
 
 pub acts_joined : {A : Type 0} (k : A) (ws a r b s : List A) → ws ≡ a ++ r → r ≡ b ++ k ∷ s → ws ≡ (a ++ b) ++ k ∷ s

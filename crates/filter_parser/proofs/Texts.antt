@@ -3,6 +3,7 @@ use Rattle.std.proofs.Common.{◌≡◌, refl, ap, sym, ◌∙◌, ℕ, ◌≤�
 use Rattle.filter_tokens.specs.Cutting.{Cuts}
 use Rattle.filter_tokens.specs.Lexemes.{Lexeme, lexemes}
 use Rattle.filter_tokens.specs.declared.token.Token.{Token}
+use Rattle.filter_tokens.proofs.Cuts.{cuts_once}
 use Rattle.filter_parser.specs.Acting.{Said, filter_of}
 use Rattle.filter_parser.specs.SyntaxCommands.{Acts, Declared}
 use Rattle.filter_parser.specs.SyntaxText.{IsText, Program, spelling_filter, text_limit}
@@ -17,21 +18,40 @@ abbrev pub program : Said → List Token → Program
 program x tokens = record { name = x.name; decls = x.decls; body = x.body; tokens = tokens }
 
 -- what is read of the tokens that a text is cut into, the text spells
-pub text_found : (text : List ℕ) (tokens : List Token) (x : Said) → length text ≤ text_limit → Cuts tokens 0 text → filter_of (lexemes text tokens) ≡ Some x
+pub text_found : (text : List ℕ) (tokens : List Token) (x : Said) → length text ≤ text_limit → Cuts tokens 0 text
+    → filter_of (lexemes text tokens) ≡ Some x
     → IsText text (program x tokens)
 text_found text tokens x size cut read =
     let found = filter_sound (lexemes text tokens) x read in
-    record { size = size; cut = cut; head = found.head; inner = found.inner; declared = found.declared; spelled = found.spelled; fits = found.fits }
+    record {
+      size = size;
+      cut = cut;
+      head = found.head;
+      inner = found.inner;
+      declared = found.declared;
+      spelled = found.spelled;
+      fits = found.fits;
+    }
 
 -- what a text spells is read of its tokens
-pub text_only : (text : List ℕ) (tokens : List Token) (t : Program) → IsText text t → tokens ≡ t.tokens → filter_of (lexemes text tokens) ≡ Some (said t)
+pub text_only : (text : List ℕ) (tokens : List Token) (t : Program) → IsText text t → tokens ≡ t.tokens
+    → filter_of (lexemes text tokens) ≡ Some (said t)
 text_only text tokens t is same =
-    ap (λ (ts : List Token). filter_of (lexemes text ts)) same ∙ ap filter_of is.spelled ∙ filter_complete t.name is.head is.inner t.body is.fits
+    ap (λ (ts : List Token). filter_of (lexemes text ts)) same ∙ ap filter_of is.spelled
+    ∙ filter_complete t.name is.head is.inner t.body is.fits
     ∙ ap (λ (ds : List Declared). let x : Said = record { name = t.name; decls = ds; body = t.body } in Some x) (sym is.declared)
 
 -- a text spells one filter
-pub text_once : (text : List ℕ) (tokens : List Token) (x : Said) (t : Program) → filter_of (lexemes text tokens) ≡ Some x → IsText text t → tokens ≡ t.tokens
+pub text_once : (text : List ℕ) (tokens : List Token) (x : Said) (t : Program) → filter_of (lexemes text tokens) ≡ Some x → IsText text t
+    → tokens ≡ t.tokens
     → t ≡ program x tokens
 text_once text tokens x t read is same =
     let e : said t ≡ x = some_is (sym (text_only text tokens t is same) ∙ read) in
     ap (λ (ts : List Token). program (said t) ts) (sym same) ∙ ap (λ (y : Said). program y tokens) e
+
+-- no text spells two filters
+pub text_one : (text : List ℕ) (t u : Program) → IsText text t → IsText text u → t ≡ u
+text_one text t u is other =
+    let same : u.tokens ≡ t.tokens = cuts_once text u.tokens t.tokens other.cut is.cut in
+    let read = text_only text t.tokens t is refl in
+    text_once text t.tokens (said t) t read is refl ∙ sym (text_once text t.tokens (said t) u read other (sym same))

@@ -1,16 +1,28 @@
 -- Reading commands, declarations and a filter from a list of lexemes: what is read first, and what is left. It follows the
 -- parser; nothing that is published cites it.
-use Rattle.std.specs.Prelude.{ℕ, zero, suc, Bool, true, false, List, [], ◌∷◌, ◌++◌, length, map, Option, Some, None}
-use Rattle.filter_tokens.specs.Lexemes.{Lexeme}
+use Rattle.std.specs.Prelude.{ℕ, zero, suc, Bool, true, false, List, [], ◌∷◌, ◌++◌, length, map, Option, Some, None, Vec}
+use Rattle.std.specs.declared.alloc.Global.{Global}
+use Rattle.filter_tokens.specs.Lexemes.{Lexeme, covered}
 use Rattle.filter_tokens.specs.declared.mark.Mark.{Mark}
 use Rattle.filter_tokens.specs.declared.mark.Mark.TheVariants as m
+use Rattle.filter_tokens.specs.declared.token.Token.{Token}
+use Rattle.filter_parser.specs.declared.input.Input.{Input}
 use Rattle.filter_parser.specs.declared.parts.Parts.{Parts}
+use Rattle.filter_parser.specs.declared.tree.command.Command.{Command}
 use Rattle.filter_parser.specs.declared.tree.decl.Kind.{Kind}
 use Rattle.filter_parser.specs.declared.tree.decl.Kind.TheVariants as kind
 use Rattle.filter_parser.specs.Reading.{Reads, expr_at, turns}
-use Rattle.filter_parser.specs.Steps.{◌>>=◌, with_some, after_mark, after_quote}
+use Rattle.filter_parser.specs.Steps.{◌>>=◌, left_of, with_some, after_mark, after_quote}
 use Rattle.filter_parser.specs.Syntax.{Tree, nesting_limit}
 use Rattle.filter_parser.specs.SyntaxCommands.{Aim, Act, Acts, Declared, acts_of, view_command, view_decl}
+
+-- a command that the program read, as the reading functions answer it
+abbrev pub command_read_of : Command × Input → Act × List Lexeme
+command_read_of x = (view_command x.0, left_of x.1)
+
+-- commands that the program read
+abbrev pub body_read_of : Vec Command Global × Input → Acts × List Lexeme
+body_read_of x = (acts_of (map view_command x.0.items), left_of x.1)
 
 -- the text, if there is one, and the `;`
 abbrev pub end_of : Reads Bool
@@ -23,6 +35,10 @@ end_of ws =
 abbrev pub assign_with : Reads Tree → Aim → Reads Act
 assign_with expr aim ws =
     after_mark m.Equal ws >>= λ value. expr value >>= λ x. after_mark m.Semicolon x.1 >>= λ rest. Some (Act.assign aim x.0, rest)
+
+-- what an assignment sets that begins with this token, a name
+abbrev pub aim_of : List ℕ → Token → Aim
+aim_of text token = Aim.to_name (covered text token)
 
 -- commands up to a `}`, at most so many
 abbrev pub acts_from : Reads Act → ℕ → Reads Acts
@@ -43,16 +59,19 @@ block_with act ws = acts_with act ws >>= λ body. Some (Act.block body.0, body.1
 -- what stands behind the first command of an `if`
 abbrev pub other_with : Reads Act → Tree → Act → Reads Act
 other_with act test chosen ws =
-    with_some (after_mark m.Else ws) (Some (Act.choice test chosen, ws)) (λ behind. act behind >>= λ other. Some (Act.choice_else test chosen other.0, other.1))
+    with_some (after_mark m.Else ws) (Some (Act.choice test chosen, ws))
+    (λ behind. act behind >>= λ other. Some (Act.choice_else test chosen other.0, other.1))
 
 -- an `if`, behind that word
 abbrev pub choice_with : Reads Tree → Reads Act → Reads Act
 choice_with expr act ws =
     expr ws >>= λ test. after_mark m.Then test.1 >>= λ behind. act behind >>= λ chosen. other_with act test.0 chosen.0 chosen.1
 
+-- what stands behind `accept`
 abbrev pub accepts : Reads Act
 accepts ws = end_of ws >>= λ x. Some (Act.accept x.0, x.1)
 
+-- what stands behind `reject`
 abbrev pub rejects : Reads Act
 rejects ws = end_of ws >>= λ x. Some (Act.reject x.0, x.1)
 
@@ -86,11 +105,12 @@ unfoldable pub act_at : ℕ → Reads Act
 act_at zero = act_with (expr_at zero) refuses refuses
 act_at (suc depth) = act_with (expr_at (suc depth)) (block_with (act_at depth)) (choice_with (expr_at depth) (act_at depth))
 
--- a block and an `if` where so many levels may still nest, themselves included
+-- a block where so many levels may still nest, this one included
 abbrev pub block_at : ℕ → Reads Act
 block_at zero = refuses
 block_at (suc depth) = block_with (act_at depth)
 
+-- an `if` where so many levels may still nest, this one included
 abbrev pub choice_at : ℕ → Reads Act
 choice_at zero = refuses
 choice_at (suc depth) = choice_with (expr_at depth) (act_at depth)

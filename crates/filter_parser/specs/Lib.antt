@@ -1,5 +1,6 @@
 pub mod Acting
 pub mod Codes
+pub mod Places
 pub mod Reading
 pub mod Steps
 pub mod Syntax

@@ -1,10 +1,11 @@
 -- The parser's steps on lists of lexemes: what is read first, and what is left. Nothing that is published cites them.
-use Rattle.std.specs.Prelude.{◌≡◌, ◌≢◌, ℕ, Bool, false, List, [], ◌∷◌, Option, Some, None, Result, Ok, Err, nat_eq, if◌then◌else◌}
+use Rattle.std.specs.Prelude.{◌≡◌, ◌≢◌, ℕ, Bool, false, List, [], ◌∷◌, length, Option, Some, None, Result, Ok, Err, nat_eq, if◌then◌else◌}
 use Rattle.std.specs.Cmp.Lexicographic.{pointwise}
 use denote.Enum.Bare.{sameb}
 use Rattle.filter_tokens.specs.Lexemes.{Lexeme, lexemes}
 use Rattle.filter_tokens.specs.declared.mark.Mark.{Mark}
 use Rattle.filter_tokens.specs.contracts.mark.Mark.{the_type}
+use Rattle.filter_tokens.specs.declared.token.Token.{Token}
 use Rattle.filter_parser.specs.declared.fault.ParseFault.{ParseFault}
 use Rattle.filter_parser.specs.declared.fault.ParseFault.TheVariants as fault
 use Rattle.filter_parser.specs.declared.input.Input.{Input}
@@ -12,6 +13,15 @@ use Rattle.filter_parser.specs.declared.input.Input.{Input}
 -- the lexemes that are left
 abbrev pub left_of : Input → List Lexeme
 left_of i = lexemes i.text.now i.tokens.now
+
+-- the place of the first token that is left, and that of the text's end where there is none
+abbrev pub first_place_of : ℕ → List Token → ℕ
+first_place_of end [] = end
+first_place_of end (token ∷ tokens) = token.from
+
+-- the same of what is left to read
+abbrev pub first_place : Input → ℕ
+first_place i = first_place_of (length i.text.now) i.tokens.now
 
 -- one step after the other, which may depend on what the first made
 infixl 10 ◌>>=◌

@@ -1,15 +1,15 @@
 //! Commands.
 
-ghost use Rattle.std.specs.Prelude.{◌≡◌, ◌≢◌, ◌<◌, ◌≤◌, length, map, Some, IfOk};
-ghost use Rattle.filter_tokens.specs.Lexemes.{slice};
+ghost use Rattle.std.specs.Prelude.{◌≡◌, ◌≢◌, ◌<◌, ◌≤◌, length, Some, IfOk};
 ghost use Rattle.filter_parser.specs.declared.fault.ParseFault.TheVariants.{Memory};
-ghost use Rattle.filter_parser.specs.Acting.{accepts, act_at, act_by, acts_with, assign_with, block_at, choice_at, end_of, other_with, rejects};
+ghost use Rattle.filter_parser.specs.Acting.{body_read_of, command_read_of, accepts, act_at, act_by, acts_with, assign_with, block_at};
+ghost use Rattle.filter_parser.specs.Acting.{aim_of, choice_at, end_of, other_with, rejects};
+ghost use Rattle.filter_parser.specs.Places.{command_place};
 ghost use Rattle.filter_parser.specs.Reading.{expr_at};
-ghost use Rattle.filter_parser.specs.Steps.{Gives, left_of};
+ghost use Rattle.filter_parser.specs.Steps.{Gives, first_place, left_of};
 ghost use Rattle.filter_parser.specs.Syntax.{view};
-ghost use Rattle.filter_parser.specs.SyntaxCommands.{acts_of, view_command, view_target};
+ghost use Rattle.filter_parser.specs.SyntaxCommands.{view_command, view_target};
 ghost use Rattle.filter_parser.specs.SyntaxCommands.Act.{choice, choice_else};
-ghost use Rattle.filter_parser.specs.SyntaxCommands.Aim.{to_name};
 
 use crate::expected::Expected;
 use crate::expr::expr;
@@ -41,8 +41,9 @@ fn assignment<'a>(
     target: Target,
     input: Input<'a>,
 ) -> Result<(Command, Input<'a>), ParseFault>
-    ensures reads { Gives (λ x. (view_command x.0, left_of x.1)) result (assign_with (expr_at depth) (view_target target) (left_of input.entry)) }
+    ensures reads { Gives command_read_of result (assign_with (expr_at depth) (view_target target) (left_of input.entry)) }
     ensures shorter { IfOk result (λ x. length (left_of x.1) < length (left_of input.entry)) }
+    ensures placed { IfOk result (λ x. command_place x.0 ≡ at) }
 {
     let value = input.expect(Mark::Equal, Expected::Assign)?;
     let (value, end) = expr(alloc, depth, value)?;
@@ -52,7 +53,8 @@ fn assignment<'a>(
 
 /// An `if` without `else`.
 fn chooses(alloc: Global, at: usize, test: Expr, chosen: Command) -> Result<Command, AllocError>
-    ensures { IfOk result (λ c. view_command c ≡ choice (view test) (view_command chosen)) }
+    ensures is { IfOk result (λ c. view_command c ≡ choice (view test) (view_command chosen)) }
+    ensures placed { IfOk result (λ c. command_place c ≡ at) }
 {
     Ok(Command::If(at, test, Box::new(alloc, chosen)?, None))
 }
@@ -65,7 +67,8 @@ fn chooses_else(
     chosen: Command,
     other: Command,
 ) -> Result<Command, AllocError>
-    ensures { IfOk result (λ c. view_command c ≡ choice_else (view test) (view_command chosen) (view_command other)) }
+    ensures is { IfOk result (λ c. view_command c ≡ choice_else (view test) (view_command chosen) (view_command other)) }
+    ensures placed { IfOk result (λ c. command_place c ≡ at) }
 {
     Ok(Command::If(
         at,
@@ -85,8 +88,9 @@ fn other<'a>(
     chosen: Command,
     input: Input<'a>,
 ) -> Result<(Command, Input<'a>), ParseFault>
-    ensures reads { Gives (λ x. (view_command x.0, left_of x.1)) result (other_with (act_at depth) (view test) (view_command chosen) (left_of input.entry)) }
+    ensures reads { Gives command_read_of result (other_with (act_at depth) (view test) (view_command chosen) (left_of input.entry)) }
     ensures shorter { IfOk result (λ x. length (left_of x.1) ≤ length (left_of input.entry)) }
+    ensures placed { IfOk result (λ x. command_place x.0 ≡ at) }
 {
     match input.behind(Mark::Else) {
         None => Ok((chooses(alloc, at, test, chosen)?, input)),
@@ -105,8 +109,9 @@ fn choice<'a>(
     at: usize,
     input: Input<'a>,
 ) -> Result<(Command, Input<'a>), ParseFault>
-    ensures reads { Gives (λ x. (view_command x.0, left_of x.1)) result (choice_at depth (left_of input.entry)) }
+    ensures reads { Gives command_read_of result (choice_at depth (left_of input.entry)) }
     ensures shorter { IfOk result (λ x. length (left_of x.1) < length (left_of input.entry)) }
+    ensures placed { IfOk result (λ x. command_place x.0 ≡ at) }
 {
     if depth == 0 {
         return Err(ParseFault::TooDeep(at));
@@ -124,7 +129,7 @@ pub fn body<'a>(
     depth: usize,
     input: Input<'a>,
 ) -> Result<(Vec<Command>, Input<'a>), ParseFault>
-    ensures reads { Gives (λ x. (acts_of (map view_command x.0.items), left_of x.1)) result (acts_with (act_at depth) (left_of input.entry)) }
+    ensures reads { Gives body_read_of result (acts_with (act_at depth) (left_of input.entry)) }
     ensures shorter { IfOk result (λ x. length (left_of x.1) < length (left_of input.entry)) }
 {
     let mut commands = Vec::new(alloc);
@@ -151,8 +156,9 @@ fn block<'a>(
     at: usize,
     input: Input<'a>,
 ) -> Result<(Command, Input<'a>), ParseFault>
-    ensures reads { Gives (λ x. (view_command x.0, left_of x.1)) result (block_at depth (left_of input.entry)) }
+    ensures reads { Gives command_read_of result (block_at depth (left_of input.entry)) }
     ensures shorter { IfOk result (λ x. length (left_of x.1) < length (left_of input.entry)) }
+    ensures placed { IfOk result (λ x. command_place x.0 ≡ at) }
 {
     if depth == 0 {
         return Err(ParseFault::TooDeep(at));
@@ -169,8 +175,9 @@ fn to_variable<'a>(
     name: &Token,
     rest: Input<'a>,
 ) -> Result<(Command, Input<'a>), ParseFault>
-    ensures reads { Gives (λ x. (view_command x.0, left_of x.1)) result (assign_with (expr_at depth) (to_name (slice input.entry.text.now name.now.from name.now.to)) (left_of rest.entry)) }
+    ensures reads { Gives command_read_of result (assign_with (expr_at depth) (aim_of input.entry.text.now name.now) (left_of rest.entry)) }
     ensures shorter { IfOk result (λ x. length (left_of x.1) < length (left_of rest.entry)) }
+    ensures placed { IfOk result (λ x. command_place x.0 ≡ name.now.from) }
 {
     let text = input.bytes(alloc, name)?;
     assignment(alloc, depth, name.from, Target::Name(text), rest)
@@ -178,8 +185,9 @@ fn to_variable<'a>(
 
 /// `accept`, behind that word.
 fn acceptance<'a>(at: usize, input: Input<'a>) -> Result<(Command, Input<'a>), ParseFault>
-    ensures reads { Gives (λ x. (view_command x.0, left_of x.1)) result (accepts (left_of input.entry)) }
+    ensures reads { Gives command_read_of result (accepts (left_of input.entry)) }
     ensures shorter { IfOk result (λ x. length (left_of x.1) < length (left_of input.entry)) }
+    ensures placed { IfOk result (λ x. command_place x.0 ≡ at) }
 {
     let (has_text, rest) = end(input)?;
     Ok((Command::Accept(at, has_text), rest))
@@ -187,8 +195,9 @@ fn acceptance<'a>(at: usize, input: Input<'a>) -> Result<(Command, Input<'a>), P
 
 /// `reject`, behind that word.
 fn rejection<'a>(at: usize, input: Input<'a>) -> Result<(Command, Input<'a>), ParseFault>
-    ensures reads { Gives (λ x. (view_command x.0, left_of x.1)) result (rejects (left_of input.entry)) }
+    ensures reads { Gives command_read_of result (rejects (left_of input.entry)) }
     ensures shorter { IfOk result (λ x. length (left_of x.1) < length (left_of input.entry)) }
+    ensures placed { IfOk result (λ x. command_place x.0 ≡ at) }
 {
     let (has_text, rest) = end(input)?;
     Ok((Command::Reject(at, has_text), rest))
@@ -205,8 +214,9 @@ fn command_by<'a>(
     rest: Input<'a>,
 ) -> Result<(Command, Input<'a>), ParseFault>
     requires { other ≢ Memory }
-    ensures reads { Gives (λ x. (view_command x.0, left_of x.1)) result (act_by (expr_at depth) (block_at depth) (choice_at depth) mark (left_of rest.entry)) }
+    ensures reads { Gives command_read_of result (act_by (expr_at depth) (block_at depth) (choice_at depth) mark (left_of rest.entry)) }
     ensures shorter { IfOk result (λ x. length (left_of x.1) ≤ length (left_of rest.entry)) }
+    ensures placed { IfOk result (λ x. command_place x.0 ≡ at) }
 {
     match mark {
         Mark::Semicolon => Ok((Command::Empty(at), rest)),
@@ -229,8 +239,9 @@ pub fn command<'a>(
     expected: Expected,
     input: Input<'a>,
 ) -> Result<(Command, Input<'a>), ParseFault>
-    ensures reads { Gives (λ x. (view_command x.0, left_of x.1)) result (act_at depth (left_of input.entry)) }
+    ensures reads { Gives command_read_of result (act_at depth (left_of input.entry)) }
     ensures shorter { IfOk result (λ x. length (left_of x.1) < length (left_of input.entry)) }
+    ensures placed { IfOk result (λ x. command_place x.0 ≡ first_place input.entry) }
 {
     let other = input.unexpected(expected);
     let Some((first, rest)) = input.next() else {

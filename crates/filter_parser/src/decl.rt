@@ -1,9 +1,9 @@
 //! Declarations.
 
-ghost use Rattle.std.specs.Prelude.{◌≡◌, ◌<◌, ◌≤◌, length, map, Some, None, IfOk, IfSome, MatchOption};
+ghost use Rattle.std.specs.Prelude.{◌≡◌, ◌<◌, ◌≤◌, length, map, Some, None, IfOk, IfSome};
 ghost use Rattle.filter_parser.specs.Acting.{decl_with, decls_after, kind_first, name_first};
 ghost use Rattle.filter_parser.specs.Acting.{kind_of as the_kind_of};
-ghost use Rattle.filter_parser.specs.Steps.{Gives, left_of};
+ghost use Rattle.filter_parser.specs.Steps.{Finds, Gives, first_place, left_of};
 ghost use Rattle.filter_parser.specs.SyntaxCommands.{view_decl};
 
 use crate::expected::Expected;
@@ -28,7 +28,7 @@ fn kind_of(mark: Mark) -> Option<Kind>
 
 /// The kind with which a declaration begins, where one comes first.
 fn kind<'a>(input: Input<'a>) -> Option<(Kind, Input<'a>)>
-    ensures found { MatchOption result (kind_first (left_of input.entry) ≡ None) (λ x. kind_first (left_of input.entry) ≡ Some (x.0, left_of x.1)) }
+    ensures found { Finds (λ x. (x.0, left_of x.1)) result (kind_first (left_of input.entry)) }
     ensures shorter { IfSome result (λ x. length (left_of x.1) < length (left_of input.entry)) }
 {
     let (first, rest) = input.next()?;
@@ -45,6 +45,7 @@ fn kind<'a>(input: Input<'a>) -> Option<(Kind, Input<'a>)>
 pub fn name<'a>(alloc: Global, input: Input<'a>) -> Result<(usize, Vec<u8>, Input<'a>), ParseFault>
     ensures reads { Gives (λ x. (x.1.items, left_of x.2)) result (name_first (left_of input.entry)) }
     ensures shorter { IfOk result (λ x. length (left_of x.2) < length (left_of input.entry)) }
+    ensures placed { IfOk result (λ x. x.0 ≡ first_place input.entry) }
 {
     let Some((first, rest)) = input.next() else {
         return Err(input.unexpected(Expected::Name));
@@ -63,6 +64,7 @@ fn declaration<'a>(
 ) -> Result<(Decl, Input<'a>), ParseFault>
     ensures reads { Gives (λ x. (view_decl x.0, left_of x.1)) result (decl_with kind (left_of input.entry)) }
     ensures shorter { IfOk result (λ x. length (left_of x.1) < length (left_of input.entry)) }
+    ensures placed { IfOk result (λ x. x.0.at ≡ first_place input.entry) }
 {
     let (at, name, rest) = name(alloc, input)?;
     let rest = rest.expect(Mark::Semicolon, Expected::Semicolon)?;

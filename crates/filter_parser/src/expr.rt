@@ -1,8 +1,9 @@
 ghost use Rattle.std.specs.Prelude.{◌≡◌, ◌<◌, ◌≤◌, Some, None, IfOk, IfSome, length};
+ghost use Rattle.filter_parser.specs.Places.{expr_place};
 ghost use Rattle.filter_parser.specs.Reading.{read_of, bracket_of, close_of, comparison_with, expr_at, inner_at, member_of, neg_at};
 ghost use Rattle.filter_parser.specs.Reading.{next_with, post_with, prim_with, product_with, right_with, run_with, sum_with};
 ghost use Rattle.filter_parser.specs.Reading.{membership_of as the_membership_of, unmixed as unmixed_of};
-ghost use Rattle.filter_parser.specs.Steps.{Finds, Gives, left_of};
+ghost use Rattle.filter_parser.specs.Steps.{Finds, Gives, first_place, left_of};
 ghost use Rattle.filter_parser.specs.Syntax.{view};
 ghost use Rattle.filter_parser.specs.declared.fault.ParseFault.TheVariants.{Memory};
 
@@ -21,6 +22,7 @@ use std::alloc::Global;
 fn unmixed<'a>(whole: Expr, rest: Input<'a>) -> Result<(Expr, Input<'a>), ParseFault>
     ensures reads { Gives read_of result (unmixed_of (view whole, left_of rest.entry)) }
     ensures same { IfOk result (λ x. length (left_of x.1) ≤ length (left_of rest.entry)) }
+    ensures placed { IfOk result (λ x. expr_place x.0 ≡ expr_place whole) }
 {
     if operator(Level::And, rest).is_some() {
         return Err(ParseFault::MixedOperators(rest.at()));
@@ -41,6 +43,7 @@ fn in_set<'a>(
 ) -> Result<(Expr, Input<'a>), ParseFault>
     ensures reads { Gives read_of result (member_of (view left) op (left_of input.entry)) }
     ensures shorter { IfOk result (λ x. length (left_of x.1) < length (left_of input.entry)) }
+    ensures placed { IfOk result (λ x. expr_place x.0 ≡ expr_place left) }
 {
     let (found, rest) = set(alloc, at, input)?;
     Ok((member(alloc, op, left, found)?, rest))
@@ -86,6 +89,7 @@ fn close<'a>(
 ) -> Result<(Expr, Input<'a>), ParseFault>
     ensures reads { Gives read_of result (close_of (view inner) (left_of input.entry)) }
     ensures shorter { IfOk result (λ x. length (left_of x.1) < length (left_of input.entry)) }
+    ensures placed { IfOk result (λ x. expr_place x.0 ≡ at) }
 {
     match input.expect(Mark::RightParen, Expected::RightParen) {
         Ok(rest) => Ok((group(alloc, at, inner)?, rest)),
@@ -102,6 +106,7 @@ pub fn expr<'a>(
 ) -> Result<(Expr, Input<'a>), ParseFault>
     ensures reads { Gives read_of result (expr_at depth (left_of input.entry)) }
     ensures shorter { IfOk result (λ x. length (left_of x.1) < length (left_of input.entry)) }
+    ensures placed { IfOk result (λ x. expr_place x.0 ≡ first_place input.entry) }
 {
     let (first, rest) = comparison(alloc, depth, input)?;
     let (whole, rest) = operands(alloc, depth, join_level(rest), first, rest)?;
@@ -119,6 +124,7 @@ fn operands<'a>(
 ) -> Result<(Expr, Input<'a>), ParseFault>
     ensures reads { Gives read_of result (run_with (neg_at depth) level (view first) (left_of input.entry)) }
     ensures shorter { IfOk result (λ x. length (left_of x.1) ≤ length (left_of input.entry)) }
+    ensures placed { IfOk result (λ x. expr_place x.0 ≡ expr_place first) }
 {
     let mut more = Vec::new(alloc);
     let mut rest = input;
@@ -144,6 +150,7 @@ fn operand<'a>(
 ) -> Result<(Expr, Input<'a>), ParseFault>
     ensures reads { Gives read_of result (next_with (neg_at depth) level (left_of input.entry)) }
     ensures shorter { IfOk result (λ x. length (left_of x.1) < length (left_of input.entry)) }
+    ensures placed { IfOk result (λ x. expr_place x.0 ≡ first_place input.entry) }
 {
     match level {
         Level::Or => comparison(alloc, depth, input),
@@ -163,6 +170,7 @@ fn comparison<'a>(
 ) -> Result<(Expr, Input<'a>), ParseFault>
     ensures reads { Gives read_of result (comparison_with (neg_at depth) (left_of input.entry)) }
     ensures shorter { IfOk result (λ x. length (left_of x.1) < length (left_of input.entry)) }
+    ensures placed { IfOk result (λ x. expr_place x.0 ≡ first_place input.entry) }
 {
     let (left, rest) = sum(alloc, depth, input)?;
     match operator(Level::Comparison, rest) {
@@ -182,6 +190,7 @@ fn right<'a>(
 ) -> Result<(Expr, Input<'a>), ParseFault>
     ensures reads { Gives read_of result (right_with (sum_with (neg_at depth)) (view left) op (left_of input.entry)) }
     ensures shorter { IfOk result (λ x. length (left_of x.1) < length (left_of input.entry)) }
+    ensures placed { IfOk result (λ x. expr_place x.0 ≡ expr_place left) }
 {
     if let Some((found, behind)) = bracket(op, input) {
         return in_set(alloc, input.at(), found, left, behind);
@@ -197,6 +206,7 @@ fn right<'a>(
 fn sum<'a>(alloc: Global, depth: usize, input: Input<'a>) -> Result<(Expr, Input<'a>), ParseFault>
     ensures reads { Gives read_of result (sum_with (neg_at depth) (left_of input.entry)) }
     ensures shorter { IfOk result (λ x. length (left_of x.1) < length (left_of input.entry)) }
+    ensures placed { IfOk result (λ x. expr_place x.0 ≡ first_place input.entry) }
 {
     let (first, rest) = product(alloc, depth, input)?;
     operands(alloc, depth, Level::Sum, first, rest)
@@ -211,6 +221,7 @@ fn product<'a>(
 ) -> Result<(Expr, Input<'a>), ParseFault>
     ensures reads { Gives read_of result (product_with (neg_at depth) (left_of input.entry)) }
     ensures shorter { IfOk result (λ x. length (left_of x.1) < length (left_of input.entry)) }
+    ensures placed { IfOk result (λ x. expr_place x.0 ≡ first_place input.entry) }
 {
     let (first, rest) = neg(alloc, depth, input)?;
     operands(alloc, depth, Level::Product, first, rest)
@@ -222,6 +233,7 @@ fn product<'a>(
 fn neg<'a>(alloc: Global, depth: usize, input: Input<'a>) -> Result<(Expr, Input<'a>), ParseFault>
     ensures reads { Gives read_of result (neg_at depth (left_of input.entry)) }
     ensures shorter { IfOk result (λ x. length (left_of x.1) < length (left_of input.entry)) }
+    ensures placed { IfOk result (λ x. expr_place x.0 ≡ first_place input.entry) }
 {
     let Some(rest) = input.behind(Mark::Not) else {
         return post(alloc, depth, input);
@@ -238,6 +250,7 @@ fn neg<'a>(alloc: Global, depth: usize, input: Input<'a>) -> Result<(Expr, Input
 fn post<'a>(alloc: Global, depth: usize, input: Input<'a>) -> Result<(Expr, Input<'a>), ParseFault>
     ensures reads { Gives read_of result (post_with (inner_at depth) (left_of input.entry)) }
     ensures shorter { IfOk result (λ x. length (left_of x.1) < length (left_of input.entry)) }
+    ensures placed { IfOk result (λ x. expr_place x.0 ≡ first_place input.entry) }
 {
     let (inner, rest) = prim(alloc, depth, input)?;
     suffixes(alloc, inner, rest)
@@ -248,6 +261,7 @@ fn post<'a>(alloc: Global, depth: usize, input: Input<'a>) -> Result<(Expr, Inpu
 fn prim<'a>(alloc: Global, depth: usize, input: Input<'a>) -> Result<(Expr, Input<'a>), ParseFault>
     ensures reads { Gives read_of result (prim_with (inner_at depth) (left_of input.entry)) }
     ensures shorter { IfOk result (λ x. length (left_of x.1) < length (left_of input.entry)) }
+    ensures placed { IfOk result (λ x. expr_place x.0 ≡ first_place input.entry) }
 {
     let Some(behind) = input.behind(Mark::LeftParen) else {
         return atom(alloc, input);

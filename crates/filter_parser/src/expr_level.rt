@@ -35,6 +35,7 @@ fn op_of(level: Level, mark: Mark) -> Option<Op>
     }
 }
 
+/// `||`.
 fn or_op(mark: Mark) -> Option<Op>
     ensures { result ≡ the_op_of Level.Or mark }
 {
@@ -44,6 +45,7 @@ fn or_op(mark: Mark) -> Option<Op>
     }
 }
 
+/// `&&`.
 fn and_op(mark: Mark) -> Option<Op>
     ensures { result ≡ the_op_of Level.And mark }
 {
@@ -53,6 +55,7 @@ fn and_op(mark: Mark) -> Option<Op>
     }
 }
 
+/// `=`, `<`, `~` or one of their kin.
 fn comparison_op(mark: Mark) -> Option<Op>
     ensures { result ≡ the_op_of Level.Comparison mark }
 {
@@ -69,6 +72,7 @@ fn comparison_op(mark: Mark) -> Option<Op>
     }
 }
 
+/// `+` or `-`.
 fn sum_op(mark: Mark) -> Option<Op>
     ensures { result ≡ the_op_of Level.Sum mark }
 {
@@ -79,6 +83,7 @@ fn sum_op(mark: Mark) -> Option<Op>
     }
 }
 
+/// `*` or `/`.
 fn product_op(mark: Mark) -> Option<Op>
     ensures { result ≡ the_op_of Level.Product mark }
 {

@@ -1,4 +1,5 @@
 ghost use Rattle.std.specs.Prelude.{◌≡◌, IfOk, map};
+ghost use Rattle.filter_parser.specs.Places.{expr_place};
 ghost use Rattle.filter_parser.specs.Syntax.{Tree, run_of, suffixes_of, view, view_item, view_more};
 
 use crate::tree::{Expr, Membership, Op, Set, Suffix};
@@ -6,21 +7,24 @@ use std::alloc::{AllocError, Global};
 
 /// An expression in parentheses, the first of which has the place `at`.
 pub fn group(alloc: Global, at: usize, inner: Expr) -> Result<Expr, AllocError>
-    ensures { IfOk result (λ t. view t ≡ Tree.group (view inner)) }
+    ensures is { IfOk result (λ t. view t ≡ Tree.group (view inner)) }
+    ensures placed { IfOk result (λ t. expr_place t ≡ at) }
 {
     Ok(Expr::Group(at, Box::new(alloc, inner)?))
 }
 
 /// `!`, which has the place `at`, and its operand.
 pub fn negation(alloc: Global, at: usize, inner: Expr) -> Result<Expr, AllocError>
-    ensures { IfOk result (λ t. view t ≡ Tree.negation (view inner)) }
+    ensures is { IfOk result (λ t. view t ≡ Tree.negation (view inner)) }
+    ensures placed { IfOk result (λ t. expr_place t ≡ at) }
 {
     Ok(Expr::Not(at, Box::new(alloc, inner)?))
 }
 
 /// An operand and the operators behind it, if there are any.
 pub fn run(alloc: Global, first: Expr, more: Vec<(Op, Expr)>) -> Result<Expr, AllocError>
-    ensures { IfOk result (λ t. view t ≡ run_of (view first) (view_more more.items)) }
+    ensures is { IfOk result (λ t. view t ≡ run_of (view first) (view_more more.items)) }
+    ensures placed { IfOk result (λ t. expr_place t ≡ expr_place first) }
 {
     if more.is_empty() {
         return Ok(first);
@@ -30,7 +34,8 @@ pub fn run(alloc: Global, first: Expr, more: Vec<(Op, Expr)>) -> Result<Expr, Al
 
 /// Two operands and the operator between them.
 pub fn binary(alloc: Global, op: Op, left: Expr, right: Expr) -> Result<Expr, AllocError>
-    ensures { IfOk result (λ t. view t ≡ Tree.binary op (view left) (view right)) }
+    ensures is { IfOk result (λ t. view t ≡ Tree.binary op (view left) (view right)) }
+    ensures placed { IfOk result (λ t. expr_place t ≡ expr_place left) }
 {
     let mut more = Vec::new(alloc);
     more.push((op, right))?;
@@ -39,14 +44,16 @@ pub fn binary(alloc: Global, op: Op, left: Expr, right: Expr) -> Result<Expr, Al
 
 /// An operand and a set.
 pub fn member(alloc: Global, op: Membership, left: Expr, set: Set) -> Result<Expr, AllocError>
-    ensures { IfOk result (λ t. view t ≡ Tree.member op (view left) (map view_item set.patterns.items)) }
+    ensures is { IfOk result (λ t. view t ≡ Tree.member op (view left) (map view_item set.patterns.items)) }
+    ensures placed { IfOk result (λ t. expr_place t ≡ expr_place left) }
 {
     Ok(Expr::Member(op, Box::new(alloc, left)?, set))
 }
 
 /// An operand and its suffixes, if there are any.
 pub fn suffixed(alloc: Global, inner: Expr, suffixes: Vec<Suffix>) -> Result<Expr, AllocError>
-    ensures { IfOk result (λ t. view t ≡ suffixes_of (view inner) suffixes.items) }
+    ensures is { IfOk result (λ t. view t ≡ suffixes_of (view inner) suffixes.items) }
+    ensures placed { IfOk result (λ t. expr_place t ≡ expr_place inner) }
 {
     if suffixes.is_empty() {
         return Ok(inner);

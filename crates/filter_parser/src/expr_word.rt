@@ -1,8 +1,9 @@
-ghost use Rattle.std.specs.Prelude.{◌≡◌, ◌<◌, ◌≤◌, Some, None, IfOk, length};
+ghost use Rattle.std.specs.Prelude.{◌≡◌, ◌<◌, ◌≤◌, Some, None, IfOk, IfSome, length};
+ghost use Rattle.filter_parser.specs.Places.{expr_place};
 ghost use Rattle.filter_parser.specs.Reading.{read_of, attribute_first, atom_of, defined_of, keyword_of, mask_of, mask_suffix, suffix_of};
 ghost use Rattle.filter_parser.specs.Reading.{suffixes_from, word_first};
 ghost use Rattle.filter_parser.specs.Reading.{attribute_of as the_attribute_of};
-ghost use Rattle.filter_parser.specs.Steps.{Finds, Gives, left_of};
+ghost use Rattle.filter_parser.specs.Steps.{Finds, Gives, first_place, left_of};
 ghost use Rattle.filter_parser.specs.Syntax.{view};
 
 use crate::expected::Expected;
@@ -45,6 +46,7 @@ fn attribute<'a>(input: Input<'a>) -> Result<(Attribute, Input<'a>), ParseFault>
 fn defined<'a>(at: usize, input: Input<'a>) -> Result<(Expr, Input<'a>), ParseFault>
     ensures reads { Gives read_of result (defined_of (left_of input.entry)) }
     ensures shorter { IfOk result (λ x. length (left_of x.1) < length (left_of input.entry)) }
+    ensures placed { IfOk result (λ x. expr_place x.0 ≡ at) }
 {
     let rest = input.expect(Mark::LeftParen, Expected::LeftParen)?;
     let (found, rest) = attribute(rest)?;
@@ -54,7 +56,8 @@ fn defined<'a>(at: usize, input: Input<'a>) -> Result<(Expr, Input<'a>), ParseFa
 
 /// The expression that a keyword is, at a place.
 fn keyword(at: usize, mark: Mark) -> Option<Expr>
-    ensures { Finds view result (keyword_of mark) }
+    ensures is { Finds view result (keyword_of mark) }
+    ensures placed { IfSome result (λ t. expr_place t ≡ at) }
 {
     match mark {
         Mark::True => Some(Expr::Truth(at, true)),
@@ -69,6 +72,7 @@ fn keyword(at: usize, mark: Mark) -> Option<Expr>
 fn word<'a>(alloc: Global, input: Input<'a>) -> Result<(Expr, Input<'a>), ParseFault>
     ensures reads { Gives read_of result (word_first (left_of input.entry)) }
     ensures shorter { IfOk result (λ x. length (left_of x.1) < length (left_of input.entry)) }
+    ensures placed { IfOk result (λ x. expr_place x.0 ≡ first_place input.entry) }
 {
     let Some((first, rest)) = input.next() else {
         return Err(input.unexpected(Expected::Operand));
@@ -91,6 +95,7 @@ fn word<'a>(alloc: Global, input: Input<'a>) -> Result<(Expr, Input<'a>), ParseF
 pub fn atom<'a>(alloc: Global, input: Input<'a>) -> Result<(Expr, Input<'a>), ParseFault>
     ensures reads { Gives read_of result (atom_of (left_of input.entry)) }
     ensures shorter { IfOk result (λ x. length (left_of x.1) < length (left_of input.entry)) }
+    ensures placed { IfOk result (λ x. expr_place x.0 ≡ first_place input.entry) }
 {
     match input.behind(Mark::Defined) {
         Some(rest) => defined(input.at(), rest),
@@ -148,6 +153,7 @@ pub fn suffixes<'a>(
 ) -> Result<(Expr, Input<'a>), ParseFault>
     ensures reads { Gives read_of result (suffixes_from (view inner) (left_of input.entry)) }
     ensures shorter { IfOk result (λ x. length (left_of x.1) ≤ length (left_of input.entry)) }
+    ensures placed { IfOk result (λ x. expr_place x.0 ≡ expr_place inner) }
 {
     let mut all = Vec::new(alloc);
     let mut rest = input;

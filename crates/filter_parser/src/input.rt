@@ -1,6 +1,6 @@
 ghost use Rattle.std.specs.Prelude.{◌≡◌, ◌≢◌, ◌∷◌, ◌<◌, ℕ, List, [], Some, None, IfOk, IfSome, MatchOption, length};
 ghost use Rattle.std.specs.Cmp.Lexicographic.{pointwise};
-ghost use Rattle.filter_tokens.specs.Lexemes.{lexeme, slice};
+ghost use Rattle.filter_tokens.specs.Lexemes.{covered as the_covered, lexeme};
 ghost use Rattle.filter_parser.specs.Steps.{is_mark as is_the_mark};
 ghost use Rattle.filter_parser.specs.declared.fault.ParseFault.TheVariants.{Memory};
 
@@ -32,11 +32,13 @@ fn is_mark(token: &Token, text: &[u8], mark: Mark) -> bool
 }
 
 impl<'a> Input<'a> {
-    ghost use Rattle.filter_parser.specs.Steps.{Finds, left_of, after_mark, after_name, after_quote, number_first, prefix_first, Gives};
+    ghost use Rattle.filter_parser.specs.Steps.{Finds, Gives, after_mark, after_name, after_quote, first_place, left_of};
+    ghost use Rattle.filter_parser.specs.Steps.{number_first, prefix_first};
 
     /// The first token, and what is left behind it.
     pub fn next(self) -> Option<(&'a Token, Input<'a>)>
-        ensures { let ws = left_of self.entry in MatchOption result (ws ≡ []) (λ x. ws ≡ lexeme self.entry.text.now x.0.now ∷ left_of x.1) }
+        ensures is { let w = left_of self.entry in MatchOption result (w ≡ []) (λ x. w ≡ lexeme self.entry.text.now x.0.now ∷ left_of x.1) }
+        ensures placed { IfSome result (λ x. x.0.now.from ≡ first_place self.entry) }
     {
         let (first, tokens) = self.tokens.split_first()?;
         Some((
@@ -50,7 +52,9 @@ impl<'a> Input<'a> {
     }
 
     /// The place of the first token, and that of the text's end where there is none.
-    pub fn at(self) -> usize {
+    pub fn at(self) -> usize
+        ensures { result ≡ first_place self.entry }
+    {
         match self.tokens.first() {
             None => self.text.len(),
             Some(token) => token.from,
@@ -162,7 +166,7 @@ impl<'a> Input<'a> {
 
     /// The bytes that a token covers.
     fn covered(self, token: &Token) -> &'a [u8]
-        ensures { result.now ≡ slice self.entry.text.now token.now.from token.now.to }
+        ensures { result.now ≡ the_covered self.entry.text.now token.now }
     {
         let start = token.from.min(self.text.len());
         let end = token.to.min(self.text.len()).max(start);
@@ -171,7 +175,7 @@ impl<'a> Input<'a> {
 
     /// A copy of the bytes that a token covers.
     pub fn bytes(self, alloc: Global, token: &Token) -> Result<Vec<u8>, AllocError>
-        ensures { IfOk result (λ v. v.items ≡ slice self.entry.text.now token.now.from token.now.to) }
+        ensures { IfOk result (λ v. v.items ≡ the_covered self.entry.text.now token.now) }
     {
         Vec::from_slice(alloc, self.covered(token))
     }

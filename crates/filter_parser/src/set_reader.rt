@@ -1,8 +1,9 @@
 ghost use Rattle.std.specs.Prelude.{◌≡◌, ◌<◌, ◌≤◌, Some, None, IfOk, length, map};
+ghost use Rattle.filter_parser.specs.Places.{pattern_place};
 ghost use Rattle.filter_parser.specs.Reading.{item_read_of, items_read_of, set_read_of, between_of, braces_of, item_of, lengths_of};
 ghost use Rattle.filter_parser.specs.Reading.{set_behind, set_of};
 ghost use Rattle.filter_parser.specs.Reading.{items_from as the_items_from};
-ghost use Rattle.filter_parser.specs.Steps.{Finds, Gives, left_of};
+ghost use Rattle.filter_parser.specs.Steps.{Finds, Gives, first_place, left_of};
 ghost use Rattle.filter_parser.specs.Syntax.{Item, view_item};
 
 use crate::expected::Expected;
@@ -32,6 +33,7 @@ fn braces<'a>(
 ) -> Result<(SetPattern, Input<'a>), ParseFault>
     ensures reads { Gives item_read_of result (braces_of prefix (left_of input.entry)) }
     ensures shorter { IfOk result (λ x. length (left_of x.1) < length (left_of input.entry)) }
+    ensures placed { IfOk result (λ x. pattern_place x.0 ≡ at) }
 {
     let (low, rest) = input.number()?;
     let rest = rest.expect(Mark::Comma, Expected::Comma)?;
@@ -51,6 +53,7 @@ fn lengths<'a>(
 ) -> Result<(SetPattern, Input<'a>), ParseFault>
     ensures reads { Gives item_read_of result (lengths_of prefix (left_of input.entry)) }
     ensures shorter { IfOk result (λ x. length (left_of x.1) ≤ length (left_of input.entry)) }
+    ensures placed { IfOk result (λ x. pattern_place x.0 ≡ at) }
 {
     if let Some(rest) = input.behind(Mark::Plus) {
         return Ok((SetPattern::OrLonger(at, prefix), rest));
@@ -68,6 +71,7 @@ fn lengths<'a>(
 fn item<'a>(input: Input<'a>) -> Result<(SetPattern, Input<'a>), ParseFault>
     ensures reads { Gives item_read_of result (item_of (left_of input.entry)) }
     ensures shorter { IfOk result (λ x. length (left_of x.1) < length (left_of input.entry)) }
+    ensures placed { IfOk result (λ x. pattern_place x.0 ≡ first_place input.entry) }
 {
     match input.prefix() {
         Ok((prefix, rest)) => lengths(input.at(), prefix, rest),
@@ -101,6 +105,7 @@ fn items<'a>(
 fn first_item<'a>(input: Input<'a>) -> Result<(SetPattern, Input<'a>), ParseFault>
     ensures reads { Gives item_read_of result (item_of (left_of input.entry)) }
     ensures shorter { IfOk result (λ x. length (left_of x.1) < length (left_of input.entry)) }
+    ensures placed { IfOk result (λ x. pattern_place x.0 ≡ first_place input.entry) }
 {
     match input.number() {
         Ok(_) => Err(ParseFault::NumberSet(input.at())),
@@ -116,6 +121,7 @@ fn set_of_first<'a>(
     input: Input<'a>,
 ) -> Result<(Set, Input<'a>), ParseFault>
     ensures reads { Gives set_read_of result (set_behind (view_item first) (left_of input.entry)) }
+    ensures placed { IfOk result (λ x. x.0.at ≡ at) }
     ensures shorter { IfOk result (λ x. length (left_of x.1) < length (left_of input.entry)) }
 {
     let mut patterns = Vec::new(alloc);
@@ -132,6 +138,7 @@ fn set_of_first<'a>(
 /// A set, behind its `[`, which has the place `at`.
 pub fn set<'a>(alloc: Global, at: usize, input: Input<'a>) -> Result<(Set, Input<'a>), ParseFault>
     ensures reads { Gives set_read_of result (set_of (left_of input.entry)) }
+    ensures placed { IfOk result (λ x. x.0.at ≡ at) }
     ensures shorter { IfOk result (λ x. length (left_of x.1) < length (left_of input.entry)) }
 {
     match first_item(input) {

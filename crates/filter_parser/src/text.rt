@@ -60,6 +60,8 @@ pub fn parse(alloc: Global, text: &[u8]) -> Result<Filter, ParseFault>
     ensures found { IfOk result (λ f. IsText text.now (view_filter f)) }
     // It spells no other.
     ensures unique { IfOk result (λ f. (t : Program) → IsText text.now t → t ≡ view_filter f) }
+    // No text spells two filters.
+    ensures one { (t u : Program) → IsText text.now t → IsText text.now u → t ≡ u }
     // A text that is refused spells no filter, unless memory ran out.
     ensures refused { IfErr result (λ e. e ≢ Memory → (t : Program) → IsText text.now t → ⊥) }
     // The tokens stand in order in the text.

@@ -1,3 +1,6 @@
+ghost use Rattle.std.specs.Prelude.{◌≡◌};
+ghost use Rattle.filter_parser.specs.Places.{command_place};
+
 use crate::tree::expr::Expr;
 
 /// What an assignment sets.
@@ -30,7 +33,9 @@ pub enum Command {
 
 impl Command {
     /// The place of the command's first byte.
-    pub fn at(&self) -> usize {
+    pub fn at(&self) -> usize
+        ensures { result ≡ command_place self.now }
+    {
         match self {
             Command::Empty(at) => *at,
             Command::Block(at, _) => *at,

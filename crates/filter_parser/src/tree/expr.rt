@@ -1,3 +1,6 @@
+ghost use Rattle.std.specs.Prelude.{◌≡◌};
+ghost use Rattle.filter_parser.specs.Places.{expr_place};
+
 use crate::tree::op::{Membership, Op, Suffix};
 use crate::tree::set::Set;
 use prefix_patterns::{Ip, Prefix};
@@ -47,7 +50,9 @@ pub enum Expr {
 
 impl Expr {
     /// The place of the expression's first byte.
-    pub fn at(&self) -> usize {
+    pub fn at(&self) -> usize
+        ensures { result ≡ expr_place self.now }
+    {
         let mut first = self;
         loop {
             match first {

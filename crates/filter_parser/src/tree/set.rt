@@ -1,4 +1,5 @@
 ghost use Rattle.std.specs.Prelude.{◌≡◌};
+ghost use Rattle.filter_parser.specs.Places.{pattern_place};
 ghost use Rattle.filter_parser.specs.Syntax.{pattern_of, view_item};
 
 use prefix_patterns::{Pattern, Prefix};
@@ -27,7 +28,9 @@ pub enum SetPattern {
 
 impl SetPattern {
     /// The place of the pattern's prefix.
-    pub fn at(&self) -> usize {
+    pub fn at(&self) -> usize
+        ensures { result ≡ pattern_place self.now }
+    {
         match *self {
             SetPattern::Exact(at, _) => at,
             SetPattern::OrLonger(at, _) => at,

@@ -25,12 +25,12 @@ body-loop-behind-preserved t c = record {
 }
 
 pub command-returns-in_default-clause-reads : goal.command-returns-in_default-clause-reads
-command-returns-in_default-clause-reads t c = λ other. rw (c.in_default.ensures, act_is c.args.depth []) refl
+command-returns-in_default-clause-reads t c = λ other. rw (c.in_default.ensures.is, act_is c.args.depth []) refl
 
 pub command-returns-in-Name-clause-reads : goal.command-returns-in-Name-clause-reads
 command-returns-in-Name-clause-reads t c =
-    by_lexeme c.to_variable.result c.args.depth _ _ (rw (c.in-Name.is) at c.in-Some.ensures) c.to_variable.ensures.reads
+    by_lexeme c.to_variable.result c.args.depth _ _ (rw (c.in-Name.is) at c.in-Some.ensures.is) c.to_variable.ensures.reads
 
 pub command-returns-in-Mark-clause-reads : goal.command-returns-in-Mark-clause-reads
 command-returns-in-Mark-clause-reads t c =
-    by_lexeme c.command_by.result c.args.depth _ _ (rw (c.in-Mark.is) at c.in-Some.ensures) c.command_by.ensures.reads
+    by_lexeme c.command_by.result c.args.depth _ _ (rw (c.in-Mark.is) at c.in-Some.ensures.is) c.command_by.ensures.reads

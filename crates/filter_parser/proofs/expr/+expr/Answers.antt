@@ -22,7 +22,7 @@ operands-loop-op-preserved t c = record {
 
 pub operands-returns-clause-reads : goal.operands-returns-clause-reads
 operands-returns-clause-reads t c =
-    rw (c.in_ok-run.ensures, c.loop-op.invariant.kept)
+    rw (c.in_ok-run.ensures.is, c.loop-op.invariant.kept)
     (run_ends (next_with (neg_at c.args.depth) c.args.level) c.args.level c.in_default.ensures.found c.loop-op.invariant.goes)
 
 pub right-returns-in-Err-clause-reads : goal.right-returns-in-Err-clause-reads

@@ -16,5 +16,5 @@ loop-behind-preserved c = record {
 }
 
 pub returns-clause-reads : goal.returns-clause-reads
-returns-clause-reads c = rw (c.in_ok-suffixed.ensures, c.loop-behind.invariant.kept)
+returns-clause-reads c = rw (c.in_ok-suffixed.ensures.is, c.loop-behind.invariant.kept)
     (suffix_ends c.in_default.ensures.found c.loop-behind.invariant.goes)

@@ -6,11 +6,13 @@ use Rattle.filter_parser.proofs.text.filter_of_tokens.Goals as goal
 
 pub returns-in-None-clause-found : goal.returns-in-None-clause-found
 returns-in-None-clause-found c =
-    text_found c.args.text.now c.args.tokens.items (said_of c.in-Ok.parts) c.requires.size (c.requires.cut c.in-None.is) (rw (c.as_slice.ensures.value) at c.in-Ok.ensures)
+    text_found c.args.text.now c.args.tokens.items (said_of c.in-Ok.parts) c.requires.size (c.requires.cut c.in-None.is)
+    (rw (c.as_slice.ensures.value) at c.in-Ok.ensures)
 
 pub returns-in-None-clause-unique : goal.returns-in-None-clause-unique
 returns-in-None-clause-unique c = λ t is.
-    text_once c.args.text.now c.args.tokens.items (said_of c.in-Ok.parts) t (rw (c.as_slice.ensures.value) at c.in-Ok.ensures) is (c.requires.only t.tokens is.cut).1
+    text_once c.args.text.now c.args.tokens.items (said_of c.in-Ok.parts) t (rw (c.as_slice.ensures.value) at c.in-Ok.ensures) is
+    (c.requires.only t.tokens is.cut).1
 
 pub returns-in-Some-clause-refused : goal.returns-in-Some-clause-refused
 returns-in-Some-clause-refused c = λ other t is.
