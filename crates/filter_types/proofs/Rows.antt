@@ -14,7 +14,7 @@ use Rattle.filter_types.specs.Kinds.{FitsAct, IsTyped, kind_in, number_of, numbe
 -- `int a; ip b; int c;`
 abbrev variables : List Declared
 variables =
-    record { kind = kind.Int; name = codes "a" } ∷ (record { kind = kind.Ip; name = codes "b" } ∷ (record { kind = kind.Int; name = codes "c" } ∷ []))
+    record { kind = kind.Int; name = codes "a" } ∷ record { kind = kind.Ip; name = codes "b" } ∷ record { kind = kind.Int; name = codes "c" } ∷ []
 
 abbrev named : List ℕ → Tree
 named text = Tree.name text

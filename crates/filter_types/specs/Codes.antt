@@ -1,7 +1,11 @@
--- The codes and places of the faults of names and kinds. (This project's own choice.)
+-- The codes, places and words of the faults of names and kinds. (This project's own choice.)
 use Rattle.std.specs.Prelude.{ℕ, List, codes}
+use Rattle.filter_parser.specs.declared.tree.decl.Kind.{Kind}
+use Rattle.filter_parser.specs.declared.tree.decl.Kind.TheVariants as kind
 use Rattle.filter_types.specs.declared.fault.TypeFault.{TypeFault}
 use Rattle.filter_types.specs.declared.fault.TypeFault.TheVariants as fault
+use Rattle.filter_types.specs.declared.fault.Wanted.{Wanted}
+use Rattle.filter_types.specs.declared.fault.Wanted.TheVariants as wanted
 
 -- the code that a program answers
 abbrev pub fault_code : TypeFault → List ℕ
@@ -20,3 +24,10 @@ fault_place (fault.WrongKind at wanted found) = at
 fault_place (fault.NetAssigned at) = at
 fault_place (fault.TooManyVariables at) = at
 fault_place fault.Memory = 0
+
+-- what a place takes that takes operands of one kind
+abbrev pub wanted_of : Kind → Wanted
+wanted_of kind.Int = wanted.Int
+wanted_of kind.Bool = wanted.Bool
+wanted_of kind.Ip = wanted.Ip
+wanted_of kind.Prefix = wanted.Prefix

@@ -5,7 +5,8 @@ use Rattle.std.specs.Prelude.{◌≡◌, ◌≢◌, ℕ, ◌≤◌, Option, Some
 use Rattle.std.specs.List.{position_or_len, find}
 use Rattle.std.specs.Option.{option_map}
 use Rattle.std.specs.Str.{bytes_eq}
-use Rattle.filter_parser.specs.Syntax.{Tree, number, address, prefix, truth, name, attribute, defined, group, negation, binary, member, suffixed}
+use Rattle.filter_parser.specs.Syntax.{Tree, number, address, prefix, truth, name, attribute, defined}
+use Rattle.filter_parser.specs.Syntax.{group, negation, binary, member, suffixed}
 use Rattle.filter_parser.specs.SyntaxCommands.{Act, Acts, Aim, Declared, to_name, to_metric, to_net}
 use Rattle.filter_parser.specs.SyntaxCommands.{empty, block, choice, choice_else, assign, accept, reject, no_acts, act_then}
 use Rattle.filter_parser.specs.SyntaxText.{Program}

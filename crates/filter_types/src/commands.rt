@@ -64,8 +64,8 @@ fn check_assignment(
     uses: &mut Vec<u8>,
 ) -> Result<(), TypeFault>
     requires { length variables.now ≤ variable_limit }
-    ensures kind { Judges result
-        (FitsKinds (aim_kind (map view_decl variables.now) (view_target target.now)) (kind_in (map view_decl variables.now) (view value.now))) }
+    ensures kind { Judges result (FitsKinds (aim_kind (map view_decl variables.now) (view_target target.now))
+        (kind_in (map view_decl variables.now) (view value.now))) }
     ensures numbers { IfOk result (λ _. uses.new.items ≡ uses.old.items
         ++ map (number_of (map view_decl variables.now)) (names_of_aim (view_target target.now) ++ names_in (view value.now))) }
 {

@@ -1,6 +1,7 @@
 //! Why a filter's names and kinds do not fit.
 
 ghost use Rattle.std.specs.Prelude.{◌≡◌};
+ghost use Rattle.filter_types.specs.Codes.{wanted_of};
 ghost use Rattle.filter_types.specs.declared.fault.TypeFault.TheVariants.{Memory};
 
 use filter_parser::Kind;
@@ -39,6 +40,8 @@ impl Display for Wanted {
 }
 
 impl From<Kind> for Wanted {
+    ghost from_gives = { λ kind wanted. wanted ≡ wanted_of kind };
+
     fn from(kind: Kind) -> Wanted {
         match kind {
             Kind::Int => Wanted::Int,

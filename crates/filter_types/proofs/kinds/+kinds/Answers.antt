@@ -15,14 +15,16 @@ kind_of-returns-in_err-kind-in-Run-clause-kind t c =
     let p = err_from_is_err_and c.from_residual-in_err-kind-in-Run.result c.from_residual-in_err-kind-in-Run.ensures.1 in
     rw (p.1, p.2) (λ not_memory. run_none (map view_decl c.args.variables.now) (view c.args.expr.now) (view c.deref-in-Run.result.now)
     (map (λ p. (p.0, view p.1)) c.in-Run.more.items)
-    (view_run c.args.expr.now c.in-Run.first c.in-Run.more c.deref-in-Run.result.now c.in-Run.more.items c.in-Run.is c.deref-in-Run.ensures refl)
+    (view_run c.args.expr.now c.in-Run.first c.in-Run.more c.deref-in-Run.result.now c.in-Run.more.items c.in-Run.is
+    c.deref-in-Run.ensures refl)
     (c.in_err-kind-in-Run.ensures.kind not_memory))
 
 pub kind_of-returns-in_err-kind-in-Suffixed-clause-kind :
     goal.kind_of-returns-in_err-kind-in-Suffixed-clause-kind
 kind_of-returns-in_err-kind-in-Suffixed-clause-kind t c =
     let p = err_from_is_err_and c.from_residual-in_err-kind-in-Suffixed.result c.from_residual-in_err-kind-in-Suffixed.ensures.1 in
-    rw (p.1, p.2) (λ not_memory. suffixes_none (map view_decl c.args.variables.now) (view c.args.expr.now) (view c.deref-in-Suffixed.result.now)
+    rw (p.1, p.2) (λ not_memory. suffixes_none (map view_decl c.args.variables.now) (view c.args.expr.now)
+    (view c.deref-in-Suffixed.result.now)
     c.in-Suffixed.suffixes.items
     (view_suffixed c.args.expr.now c.in-Suffixed.inner c.in-Suffixed.suffixes c.deref-in-Suffixed.result.now c.in-Suffixed.suffixes.items
     c.in-Suffixed.is c.deref-in-Suffixed.ensures refl)
@@ -56,7 +58,8 @@ pub kind_of-returns-in_ok-kind-in-Suffixed-clause-kind :
 kind_of-returns-in_ok-kind-in-Suffixed-clause-kind t c =
     suffixes_give (map view_decl c.args.variables.now) (view c.args.expr.now) (view c.deref-in-Suffixed.result.now)
     c.deref-in-Suffixed-3.result.now c.in_ok-kind-in-Suffixed.kind c.kind_with_suffixes.result
-    (view_suffixed c.args.expr.now c.in-Suffixed.inner c.in-Suffixed.suffixes c.deref-in-Suffixed.result.now c.deref-in-Suffixed-3.result.now
+    (view_suffixed c.args.expr.now c.in-Suffixed.inner c.in-Suffixed.suffixes c.deref-in-Suffixed.result.now
+    c.deref-in-Suffixed-3.result.now
     c.in-Suffixed.is c.deref-in-Suffixed.ensures c.deref-in-Suffixed-3.ensures.value)
     c.in_ok-kind-in-Suffixed.ensures.kind c.kind_with_suffixes.ensures
 

@@ -10,4 +10,6 @@ returns-then-eq c =
     (ap (λ l. bytes_eq l c.args.name.now) (sym c.as_slice.ensures.value) ∙ sym c.if-eq.ensures)
 
 pub returns : goal.returns
-returns c = number_none c.args.variables.now c.args.name.now (λ k d low. c.loop-number.invariant k d (omega (arith, c.loop-number-test.false)))
+returns c =
+    number_none c.args.variables.now c.args.name.now
+    (λ k d low. c.loop-number.invariant k d (omega (arith, c.loop-number-test.false)))
