@@ -1,5 +1,6 @@
 -- The code of commands does what they say.
-use Rattle.std.proofs.Common.{◌≡◌, ℕ, ◌+◌, ◌<◌, ◌≤◌, max, ◌⊎◌, inl, inr, true, false, List, [], ◌∷◌, ◌++◌, length, Option, Some, None, refl, subst, arith, length-append}
+use Rattle.std.proofs.Common.{◌≡◌, ℕ, ◌+◌, ◌<◌, ◌≤◌, max, ◌⊎◌, inl, inr, true, false, List, [], ◌∷◌, ◌++◌, length, Option, Some, None}
+use Rattle.std.proofs.Common.{refl, subst, arith, length-append}
 use Rattle.std.specs.Prelude.{nat_lt, slice_get}
 use Rattle.std.proofs.lemmas.Bool.Decides.{nat_tests}
 use Rattle.std.proofs.lemmas.Option.{slice_get_within}
@@ -14,16 +15,20 @@ use Rattle.filter_compiler.proofs.Reaching.{carried_over}
 use Rattle.filter_parser.specs.declared.tree.decl.Kind.{Kind}
 use Rattle.filter_parser.specs.declared.tree.decl.Kind.TheVariants as kind
 use Rattle.filter_parser.specs.Syntax.{Tree}
-use Rattle.filter_parser.specs.SyntaxCommands.{Act, empty, block, choice, choice_else, assign, accept, reject, Acts, no_acts, act_then, Aim, to_name, to_metric, to_net, Declared}
+use Rattle.filter_parser.specs.SyntaxCommands.{Act, empty, block, choice, choice_else, assign, accept, reject, Acts, no_acts, act_then}
+use Rattle.filter_parser.specs.SyntaxCommands.{Aim, to_name, to_metric, to_net, Declared}
 use Rattle.filter_types.specs.Kinds.{kind_in, kind_named, number_of, aim_kind, FitsKinds, FitsAct, FitsActs}
 use Rattle.filter_compiler.specs.Meaning.{Scene, value_of}
 use Rattle.filter_compiler.specs.Need.{expression_need, aim_need, act_need, acts_need}
-use Rattle.filter_compiler.specs.Translation.{expression_code, sets_of, act_sets, acts_sets, choice_code, choice_else_code, aim_code, act_code, acts_code}
-use Rattle.filter_compiler.specs.Verdicts.{accepted, rejected, divided, Course, goes_on, ends, assigned, kept_in_range, set_to, chosen_by, then_do, course_of, course_of_all}
+use Rattle.filter_compiler.specs.Translation.{expression_code, sets_of, act_sets, acts_sets, choice_code, choice_else_code, aim_code}
+use Rattle.filter_compiler.specs.Translation.{act_code, acts_code}
+use Rattle.filter_compiler.specs.Verdicts.{accepted, rejected, divided, Course, goes_on, ends, assigned, kept_in_range, set_to, chosen_by}
+use Rattle.filter_compiler.specs.Verdicts.{then_do, course_of, course_of_all}
 use Rattle.filter_compiler.proofs.ExpressionRuns.{Comes, expression_runs}
 use Rattle.filter_compiler.proofs.Parts.{HasAt, has_front, has_back}
 use Rattle.filter_compiler.proofs.Scenes.{HaveKinds, held, is_assigned, kind_of_value, locals_of}
-use Rattle.filter_compiler.proofs.Steps.{Stands, Fills, Divides, config_in, fills_more, same_place, goes_to, put, replaced, jumped, not_jumped, jumped_if_not}
+use Rattle.filter_compiler.proofs.Steps.{Stands, Fills, Divides, config_in, fills_more, same_place, goes_to, put, replaced, jumped}
+use Rattle.filter_compiler.proofs.Steps.{not_jumped, jumped_if_not}
 
 -- what is set is not below the metric received
 not_lower : (n least : ℕ) → nat_lt (max n least) least ≡ false
@@ -48,7 +53,9 @@ module _ (program : Program) (route : Announcement) (decls : List Declared) wher
   runs_at pc pc' depth course e r = subst (λ n. Runs n depth course) e r
 
   -- one of two courses, behind the value of a test
-  chosen_from : (scene : Scene) (pc1 pc2 depth all : ℕ) (o : Option Value) (first second : Course) → depth ≤ all → Comes program route scene pc1 [] kind.Bool depth o → (Stands program route scene pc1 (value.Bool true ∷ []) → Runs pc2 all first) → (Stands program route scene pc1 (value.Bool false ∷ []) → Runs pc2 all second) → Runs pc2 all (chosen_by o first second)
+  chosen_from : (scene : Scene) (pc1 pc2 depth all : ℕ) (o : Option Value) (first second : Course) → depth ≤ all
+      → Comes program route scene pc1 [] kind.Bool depth o → (Stands program route scene pc1 (value.Bool true ∷ []) → Runs pc2 all first)
+      → (Stands program route scene pc1 (value.Bool false ∷ []) → Runs pc2 all second) → Runs pc2 all (chosen_by o first second)
   chosen_from scene pc1 pc2 depth all None first second le (inl g) on_true on_false = inl g
   chosen_from scene pc1 pc2 depth all (Some (value.Bool true)) first second le (inl g) on_true on_false = on_true g.0
   chosen_from scene pc1 pc2 depth all (Some (value.Bool false)) first second le (inl g) on_true on_false = on_false g.0
@@ -56,7 +63,9 @@ module _ (program : Program) (route : Announcement) (decls : List Declared) wher
   chosen_from scene pc1 pc2 depth all o first second le (inr f) on_true on_false = inr (fills_more program route depth all le f)
 
   -- what follows a command
-  then_from : (pc1 pc2 depth all : ℕ) (course : Course) (more : Scene → Course) → depth ≤ all → Runs pc1 depth course → ((scene : Scene) → HaveKinds decls scene.variables → Stands program route scene pc1 [] → Runs pc2 all (more scene)) → Runs pc2 all (then_do course more)
+  then_from : (pc1 pc2 depth all : ℕ) (course : Course) (more : Scene → Course) → depth ≤ all → Runs pc1 depth course
+      → ((scene : Scene) → HaveKinds decls scene.variables → Stands program route scene pc1 [] → Runs pc2 all (more scene))
+      → Runs pc2 all (then_do course more)
   then_from pc1 pc2 depth all (goes_on scene) more le (inl l) next = next scene l.1 l.0
   then_from pc1 pc2 depth all (ends (accepted metric)) more le (inl l) next = inl l
   then_from pc1 pc2 depth all (ends rejected) more le (inl l) next = inl l
@@ -64,7 +73,8 @@ module _ (program : Program) (route : Announcement) (decls : List Declared) wher
   then_from pc1 pc2 depth all course more le (inr f) next = inr (fills_more program route depth all le f)
 
   -- a jump over the other command, where the run goes on
-  over_other : (pc end passed depth : ℕ) (course : Course) → pc + (1 + passed) ≡ end → slice_get program.instrs pc ≡ Some (instr.Jump passed) → Runs pc depth course → Runs end depth course
+  over_other : (pc end passed depth : ℕ) (course : Course) → pc + (1 + passed) ≡ end
+      → slice_get program.instrs pc ≡ Some (instr.Jump passed) → Runs pc depth course → Runs end depth course
   over_other pc end passed depth (goes_on scene) e here (inl l) =
       inl (same_place program route scene (pc + (1 + passed)) end [] e (jumped program route scene pc passed [] here l.0), l.1)
   over_other pc end passed depth (ends (accepted metric)) e here (inl l) = inl l
@@ -73,60 +83,89 @@ module _ (program : Program) (route : Announcement) (decls : List Declared) wher
   over_other pc end passed depth course e here (inr f) = inr f
 
   -- STORE
-  stored : (scene : Scene) (pc : ℕ) (text : List ℕ) (k : Kind) (v : Value) → HaveKinds decls scene.variables → kind_named decls text ≡ Some k → kind_of_value v ≡ k → slice_get program.instrs pc ≡ Some (instr.Store (number_of decls text)) → Stands program route scene pc (v ∷ []) → Leads (pc + 1) (goes_on (record { variables = assigned scene.variables text v; metric = scene.metric }))
+  stored : (scene : Scene) (pc : ℕ) (text : List ℕ) (k : Kind) (v : Value) → HaveKinds decls scene.variables
+      → kind_named decls text ≡ Some k → kind_of_value v ≡ k → slice_get program.instrs pc ≡ Some (instr.Store (number_of decls text))
+      → Stands program route scene pc (v ∷ [])
+      → Leads (pc + 1) (goes_on (record { variables = assigned scene.variables text v; metric = scene.metric }))
   stored scene pc text k v have named is here s =
       let after : Scene = record { variables = assigned scene.variables text v; metric = scene.metric } in
       let a = is_assigned decls scene.variables text k v have named is in
       let h = held decls scene.variables text k have named in
-      let within : number_of decls text < length (locals_of scene.variables) = slice_get_within (locals_of scene.variables) (number_of decls text) (Some h.value) h.in_local in
+      let within : number_of decls text < length (locals_of scene.variables) =
+      slice_get_within (locals_of scene.variables) (number_of decls text) (Some h.value) h.in_local in
       let test : nat_lt (number_of decls text) (length (locals_of scene.variables)) ≡ true = grind (arith, nat_tests) in
-      let step : carry_out program route (config_in program route scene pc (v ∷ [])) (Some (instr.Store (number_of decls text))) ≡ Going (config_in program route after (pc + 1) []) = rw (test, a.locals) refl in
+      let step : carry_out program route (config_in program route scene pc (v ∷ [])) (Some (instr.Store (number_of decls text))) ≡ Going
+      (config_in program route after (pc + 1) []) = rw (test, a.locals) refl in
       (goes_to program route scene after pc (pc + 1) (v ∷ []) [] (instr.Store (number_of decls text)) here (omega arith) step s, a.kinds)
 
-  name_from : (scene : Scene) (pc : ℕ) (text : List ℕ) (k : Kind) (depth : ℕ) (o : Option Value) → HaveKinds decls scene.variables → kind_named decls text ≡ Some k → slice_get program.instrs pc ≡ Some (instr.Store (number_of decls text)) → Comes program route scene pc [] k depth o → Runs (pc + 1) depth (set_to route scene (to_name text) o)
+  name_from : (scene : Scene) (pc : ℕ) (text : List ℕ) (k : Kind) (depth : ℕ) (o : Option Value) → HaveKinds decls scene.variables
+      → kind_named decls text ≡ Some k → slice_get program.instrs pc ≡ Some (instr.Store (number_of decls text))
+      → Comes program route scene pc [] k depth o → Runs (pc + 1) depth (set_to route scene (to_name text) o)
   name_from scene pc text k depth None have named here (inl g) = inl g
   name_from scene pc text k depth (Some v) have named here (inl g) = inl (stored scene pc text k v have named g.1 here g.0)
   name_from scene pc text k depth o have named here (inr f) = inr f
 
   -- RECEIVED, MAX and SETMETRIC
-  metric_set : (scene : Scene) (pc n : ℕ) → HasAt program.instrs pc (instr.Received ∷ instr.Max ∷ instr.SetMetric ∷ []) → HaveKinds decls scene.variables → Stands program route scene pc (value.Int n ∷ []) → Leads (pc + 1 + 1 + 1) (goes_on (record { variables = scene.variables; metric = kept_in_range route n }))
+  metric_set : (scene : Scene) (pc n : ℕ) → HasAt program.instrs pc (instr.Received ∷ instr.Max ∷ instr.SetMetric ∷ [])
+      → HaveKinds decls scene.variables → Stands program route scene pc (value.Int n ∷ [])
+      → Leads (pc + 1 + 1 + 1) (goes_on (record { variables = scene.variables; metric = kept_in_range route n }))
   metric_set scene pc n has have s =
       let after : Scene = record { variables = scene.variables; metric = kept_in_range route n } in
-      let s1 = put program route scene pc (value.Int n ∷ []) (value.Int n ∷ []) instr.Received (value.Int route.metric) has.0 (omega arith) refl s in
-      let s2 = replaced program route scene (pc + 1) (value.Int route.metric ∷ value.Int n ∷ []) [] instr.Max (value.Int (max n route.metric)) has.1.0 (omega arith) refl s1 in
-      let step : carry_out program route (config_in program route scene (pc + 1 + 1) (value.Int (max n route.metric) ∷ [])) (Some instr.SetMetric) ≡ Going (config_in program route after (pc + 1 + 1 + 1) []) = rw (not_lower n route.metric) refl in
-      (goes_to program route scene after (pc + 1 + 1) (pc + 1 + 1 + 1) (value.Int (max n route.metric) ∷ []) [] instr.SetMetric has.1.1.0 (omega arith) step s2, have)
+      let s1 = put program route scene pc (value.Int n ∷ []) (value.Int n ∷ []) instr.Received (value.Int route.metric) has.0
+      (omega arith) refl s in
+      let s2 = replaced program route scene (pc + 1) (value.Int route.metric ∷ value.Int n ∷ []) [] instr.Max (value.Int
+      (max n route.metric)) has.1.0 (omega arith) refl s1 in
+      let step : carry_out program route (config_in program route scene (pc + 1 + 1) (value.Int (max n route.metric) ∷ []))
+      (Some instr.SetMetric) ≡ Going (config_in program route after (pc + 1 + 1 + 1) []) = rw (not_lower n route.metric) refl in (
+        goes_to program route scene after (pc + 1 + 1) (pc + 1 + 1 + 1) (value.Int (max n route.metric) ∷ []) [] instr.SetMetric has.1.1.0
+            (omega arith) step s2,
+        have,
+      )
 
-  metric_from : (scene : Scene) (pc depth : ℕ) (o : Option Value) → HaveKinds decls scene.variables → HasAt program.instrs pc (instr.Received ∷ instr.Max ∷ instr.SetMetric ∷ []) → Comes program route scene pc [] kind.Int depth o → Runs (pc + 1 + 1 + 1) depth (set_to route scene to_metric o)
+  metric_from : (scene : Scene) (pc depth : ℕ) (o : Option Value) → HaveKinds decls scene.variables
+      → HasAt program.instrs pc (instr.Received ∷ instr.Max ∷ instr.SetMetric ∷ []) → Comes program route scene pc [] kind.Int depth o
+      → Runs (pc + 1 + 1 + 1) depth (set_to route scene to_metric o)
   metric_from scene pc depth None have has (inl g) = inl g
   metric_from scene pc depth (Some (value.Int n)) have has (inl g) = inl (metric_set scene pc n has have g.0)
   metric_from scene pc depth (Some _) have has (inl g) = absurd (let e = g.1 in cc)
   metric_from scene pc depth o have has (inr f) = inr f
 
   -- an assignment
-  assign_runs : (aim : Aim) (tree : Tree) (sets pc : ℕ) (scene : Scene) → FitsKinds (aim_kind decls aim) (kind_in decls tree) → HaveKinds decls scene.variables → HasAt program.instrs pc (expression_code decls sets tree ++ aim_code decls aim) → HasAt program.sets sets (sets_of tree) → Stands program route scene pc [] → Runs (pc + length (expression_code decls sets tree ++ aim_code decls aim)) (aim_need aim (expression_need tree)) (set_to route scene aim (value_of route scene tree))
+  assign_runs : (aim : Aim) (tree : Tree) (sets pc : ℕ) (scene : Scene) → FitsKinds (aim_kind decls aim) (kind_in decls tree)
+      → HaveKinds decls scene.variables → HasAt program.instrs pc (expression_code decls sets tree ++ aim_code decls aim)
+      → HasAt program.sets sets (sets_of tree) → Stands program route scene pc []
+      → Runs (pc + length (expression_code decls sets tree ++ aim_code decls aim)) (aim_need aim (expression_need tree))
+      (set_to route scene aim (value_of route scene tree))
   assign_runs (to_name text) tree sets pc scene fits have has has_sets s =
       let c = expression_code decls sets tree in
       let last = instr.Store (number_of decls text) ∷ [] in
       let behind : pc + length c + 1 ≡ pc + length (c ++ last) = omega (arith, length-append c last) in
-      let comes = expression_runs program route decls scene have tree sets pc [] fits.0 fits.2 (has_front program.instrs pc c last has) has_sets s in
+      let comes = expression_runs program route decls scene have tree sets pc [] fits.0 fits.2
+      (has_front program.instrs pc c last has) has_sets s in
       runs_at _ _ _ _ behind
-      (runs_deeper _ (0 + expression_need tree) (expression_need tree) (set_to route scene (to_name text) (value_of route scene tree)) (omega arith)
-      (name_from scene (pc + length c) text fits.0 (0 + expression_need tree) (value_of route scene tree) have fits.1 (has_back program.instrs pc c last has).0 comes))
+      (runs_deeper _ (0 + expression_need tree) (expression_need tree) (set_to route scene (to_name text) (value_of route scene tree))
+      (omega arith)
+      (name_from scene (pc + length c) text fits.0 (0 + expression_need tree) (value_of route scene tree) have fits.1
+      (has_back program.instrs pc c last has).0 comes))
   assign_runs to_metric tree sets pc scene fits have has has_sets s =
       let c = expression_code decls sets tree in
       let last = instr.Received ∷ instr.Max ∷ instr.SetMetric ∷ [] in
       let is_int : kind_in decls tree ≡ Some kind.Int = (let e1 = fits.1 in let e2 = fits.2 in cc) in
       let behind : pc + length c + 1 + 1 + 1 ≡ pc + length (c ++ last) = omega (arith, length-append c last) in
-      let comes = expression_runs program route decls scene have tree sets pc [] kind.Int is_int (has_front program.instrs pc c last has) has_sets s in
+      let comes = expression_runs program route decls scene have tree sets pc [] kind.Int is_int
+      (has_front program.instrs pc c last has) has_sets s in
       runs_at _ _ _ _ behind
-      (runs_deeper _ (0 + expression_need tree) (max (expression_need tree) 2) (set_to route scene to_metric (value_of route scene tree)) (omega arith)
-      (metric_from scene (pc + length c) (0 + expression_need tree) (value_of route scene tree) have (has_back program.instrs pc c last has) comes))
+      (runs_deeper _ (0 + expression_need tree) (max (expression_need tree) 2) (set_to route scene to_metric (value_of route scene tree))
+      (omega arith)
+      (metric_from scene (pc + length c) (0 + expression_need tree) (value_of route scene tree) have
+      (has_back program.instrs pc c last has) comes))
   assign_runs to_net tree sets pc scene fits have has has_sets s = absurd (let e = fits.1 in cc)
 
   mutual
     -- a command's code does what the command says
-    pub act_runs : (act : Act) (sets pc : ℕ) (scene : Scene) → FitsAct decls act → HaveKinds decls scene.variables → HasAt program.instrs pc (act_code decls sets act) → HasAt program.sets sets (act_sets act) → Stands program route scene pc [] → Runs (pc + length (act_code decls sets act)) (act_need act) (course_of route act scene)
+    pub act_runs : (act : Act) (sets pc : ℕ) (scene : Scene) → FitsAct decls act → HaveKinds decls scene.variables
+        → HasAt program.instrs pc (act_code decls sets act) → HasAt program.sets sets (act_sets act) → Stands program route scene pc []
+        → Runs (pc + length (act_code decls sets act)) (act_need act) (course_of route act scene)
     act_runs empty sets pc scene fits have has has_sets s =
         let behind : pc ≡ pc + 0 = omega arith in
         inl (same_place program route scene pc _ [] behind s, have)
@@ -141,10 +180,18 @@ module _ (program : Program) (route : Announcement) (decls : List Declared) wher
         let l1 = length-append t (instr.JumpIfNot (length c) ∷ c) in
         let behind : pc1 + 1 + length c ≡ pc + length (choice_code t c) = omega (arith, l1) in
         let over : pc1 + (1 + length c) ≡ pc + length (choice_code t c) = omega (arith, l1) in
-        chosen_from scene pc1 (pc + length (choice_code t c)) (0 + expression_need test) all (value_of route scene test) (course_of route chosen scene) (goes_on scene) (omega arith)
-        (expression_runs program route decls scene have test sets pc [] kind.Bool fits.0 (has_front program.instrs pc t (instr.JumpIfNot (length c) ∷ c) has) (has_front program.sets sets (sets_of test) (act_sets chosen) has_sets) s)
-        (λ u. runs_at _ _ _ _ behind (runs_deeper _ (act_need chosen) all _ (omega arith) (act_runs chosen sets' (pc1 + 1) scene fits.1 have h1.1 (has_back program.sets sets (sets_of test) (act_sets chosen) has_sets) (not_jumped program route scene pc1 (length c) [] h1.0 u))))
-        (λ u. inl (same_place program route scene (pc1 + (1 + length c)) _ [] over (jumped_if_not program route scene pc1 (length c) [] h1.0 u), have))
+        chosen_from scene pc1 (pc + length (choice_code t c)) (0 + expression_need test) all (value_of route scene test)
+        (course_of route chosen scene) (goes_on scene) (omega arith)
+        (expression_runs program route decls scene have test sets pc [] kind.Bool fits.0 (has_front program.instrs pc t (instr.JumpIfNot
+        (length c) ∷ c) has) (has_front program.sets sets (sets_of test) (act_sets chosen) has_sets) s)
+        (λ u. runs_at _ _ _ _ behind (runs_deeper _ (act_need chosen) all _ (omega arith) (act_runs chosen sets'
+        (pc1 + 1) scene fits.1 have h1.1 (has_back program.sets sets (sets_of test) (act_sets chosen) has_sets)
+        (not_jumped program route scene pc1 (length c) [] h1.0 u))))
+        (λ u. inl (
+          same_place program route scene (pc1 + (1 + length c)) _ [] over (jumped_if_not program route scene pc1
+              (length c) [] h1.0 u),
+          have,
+        ))
     act_runs (choice_else test chosen other) sets pc scene fits have has has_sets s =
         let sets1 = sets + length (sets_of test) in
         let sets2 = sets1 + length (act_sets chosen) in
@@ -165,17 +212,27 @@ module _ (program : Program) (route : Announcement) (decls : List Declared) wher
         let behind : pc2 + 1 + length d ≡ end = omega (arith, l1, l2) in
         let sets_rest = has_back program.sets sets (sets_of test) (act_sets chosen ++ act_sets other) has_sets in
         let first = course_of route chosen scene in
-        chosen_from scene pc1 end (0 + expression_need test) all (value_of route scene test) first (course_of route other scene) (omega arith)
-        (expression_runs program route decls scene have test sets pc [] kind.Bool fits.0 (has_front program.instrs pc t (instr.JumpIfNot (length c + 1) ∷ tail) has) (has_front program.sets sets (sets_of test) (act_sets chosen ++ act_sets other) has_sets) s)
-        (λ u. over_other pc2 end (length d) all first over h2.0 (runs_deeper _ (act_need chosen) all first (omega arith) (act_runs chosen sets1 (pc1 + 1) scene fits.1 have (has_front program.instrs (pc1 + 1) c (instr.Jump (length d) ∷ d) h1.1) (has_front program.sets sets1 (act_sets chosen) (act_sets other) sets_rest) (not_jumped program route scene pc1 (length c + 1) [] h1.0 u))))
-        (λ u. runs_at _ _ _ _ behind (runs_deeper _ (act_need other) all _ (omega arith) (act_runs other sets2 (pc2 + 1) scene fits.2 have h2.1 (has_back program.sets sets1 (act_sets chosen) (act_sets other) sets_rest) (same_place program route scene _ (pc2 + 1) [] to_other (jumped_if_not program route scene pc1 (length c + 1) [] h1.0 u)))))
+        chosen_from scene pc1 end (0 + expression_need test) all (value_of route scene test) first (course_of route other scene)
+        (omega arith)
+        (expression_runs program route decls scene have test sets pc [] kind.Bool fits.0 (has_front program.instrs pc t (instr.JumpIfNot
+        (length c + 1) ∷ tail) has) (has_front program.sets sets (sets_of test) (act_sets chosen ++ act_sets other) has_sets) s)
+        (λ u. over_other pc2 end (length d) all first over h2.0 (runs_deeper _ (act_need chosen) all first (omega arith)
+        (act_runs chosen sets1 (pc1 + 1) scene fits.1 have (has_front program.instrs (pc1 + 1) c (instr.Jump (length d) ∷ d) h1.1)
+        (has_front program.sets sets1 (act_sets chosen) (act_sets other) sets_rest) (not_jumped program route scene pc1
+        (length c + 1) [] h1.0 u))))
+        (λ u. runs_at _ _ _ _ behind (runs_deeper _ (act_need other) all _ (omega arith) (act_runs other sets2
+        (pc2 + 1) scene fits.2 have h2.1 (has_back program.sets sets1 (act_sets chosen) (act_sets other) sets_rest)
+        (same_place program route scene _ (pc2 + 1) [] to_other (jumped_if_not program route scene pc1 (length c + 1) [] h1.0 u)))))
     act_runs (assign aim tree) sets pc scene fits have has has_sets s = assign_runs aim tree sets pc scene fits have has has_sets s
     act_runs (accept has_text) sets pc scene fits have has has_sets s =
         inl (carried_over program route (config_in program route scene pc []) instr.Accept _ s.reached has.0 refl)
     act_runs (reject has_text) sets pc scene fits have has has_sets s =
         inl (carried_over program route (config_in program route scene pc []) instr.Reject _ s.reached has.0 refl)
 
-    pub acts_run : (acts : Acts) (sets pc : ℕ) (scene : Scene) → FitsActs decls acts → HaveKinds decls scene.variables → HasAt program.instrs pc (acts_code decls sets acts) → HasAt program.sets sets (acts_sets acts) → Stands program route scene pc [] → Runs (pc + length (acts_code decls sets acts)) (acts_need acts) (course_of_all route acts scene)
+    pub acts_run : (acts : Acts) (sets pc : ℕ) (scene : Scene) → FitsActs decls acts → HaveKinds decls scene.variables
+        → HasAt program.instrs pc (acts_code decls sets acts) → HasAt program.sets sets (acts_sets acts)
+        → Stands program route scene pc []
+        → Runs (pc + length (acts_code decls sets acts)) (acts_need acts) (course_of_all route acts scene)
     acts_run no_acts sets pc scene fits have has has_sets s =
         let behind : pc ≡ pc + 0 = omega arith in
         inl (same_place program route scene pc _ [] behind s, have)
@@ -188,5 +245,7 @@ module _ (program : Program) (route : Announcement) (decls : List Declared) wher
         let behind : pc1 + length d ≡ pc + length (c ++ d) = omega (arith, length-append c d) in
         runs_at _ _ _ _ behind
         (then_from pc1 (pc1 + length d) (act_need first) all (course_of route first scene) (course_of_all route more) (omega arith)
-        (act_runs first sets pc scene fits.0 have (has_front program.instrs pc c d has) (has_front program.sets sets (act_sets first) (acts_sets more) has_sets) s)
-        (λ scene' have' u. runs_deeper _ (acts_need more) all _ (omega arith) (acts_run more sets' pc1 scene' fits.1 have' (has_back program.instrs pc c d has) (has_back program.sets sets (act_sets first) (acts_sets more) has_sets) u)))
+        (act_runs first sets pc scene fits.0 have (has_front program.instrs pc c d has) (has_front program.sets sets (act_sets first)
+        (acts_sets more) has_sets) s)
+        (λ scene' have' u. runs_deeper _ (acts_need more) all _ (omega arith) (acts_run more sets' pc1 scene' fits.1 have'
+        (has_back program.instrs pc c d has) (has_back program.sets sets (act_sets first) (acts_sets more) has_sets) u)))

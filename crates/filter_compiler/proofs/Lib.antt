@@ -9,6 +9,7 @@ pub mod Reaching
 pub mod Rows
 pub mod Scenes
 pub mod Steps
+pub mod Uses
 pub mod Views
 pub mod Whole
 pub mod Within

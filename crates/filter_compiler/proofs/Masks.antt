@@ -11,10 +11,13 @@ use Rattle.filter_parser.specs.declared.tree.op.Op.{Op}
 use Rattle.filter_parser.specs.declared.tree.op.Op.TheVariants as o
 use Rattle.filter_parser.specs.declared.tree.op.Suffix.{Suffix}
 use Rattle.filter_parser.specs.declared.tree.op.Suffix.TheVariants as suffix
-use Rattle.filter_parser.specs.Syntax.{Tree, number, address, prefix, truth, name, attribute, defined, group, negation, binary, member, suffixed}
-use Rattle.filter_parser.specs.SyntaxCommands.{Act, empty, block, choice, choice_else, assign, accept, reject, Acts, no_acts, act_then, Aim, to_name, to_metric, to_net, Declared}
+use Rattle.filter_parser.specs.Syntax.{Tree, number, address, prefix, truth, name, attribute, defined, group, negation, binary, member}
+use Rattle.filter_parser.specs.Syntax.{suffixed}
+use Rattle.filter_parser.specs.SyntaxCommands.{Act, empty, block, choice, choice_else, assign, accept, reject, Acts, no_acts, act_then}
+use Rattle.filter_parser.specs.SyntaxCommands.{Aim, to_name, to_metric, to_net, Declared}
 use Rattle.filter_parser.specs.SyntaxText as syntax
-use Rattle.filter_compiler.specs.Translation.{sets_of, act_sets, operator_code, joined_code, member_code, suffix_code, expression_code, aim_code, act_code, acts_code, declarations_code, first_value, instructions}
+use Rattle.filter_compiler.specs.Translation.{sets_of, act_sets, operator_code, joined_code, member_code, suffix_code, expression_code}
+use Rattle.filter_compiler.specs.Translation.{aim_code, act_code, acts_code, declarations_code, first_value, instructions}
 
 -- each MASK of the instructions keeps at most 32 bits
 abbrev pub AreMasked : List Instr → Type 0
@@ -86,8 +89,14 @@ module _ (decls : List Declared) where
     acts_one (block body) sets = acts_all body sets
     acts_one (choice test chosen) sets = joint _ _ (trees test sets) (tt, acts_one chosen (sets + length (sets_of test)))
     acts_one (choice_else test chosen other) sets =
-        joint _ _ (trees test sets)
-        (tt, joint _ _ (acts_one chosen (sets + length (sets_of test))) (tt, acts_one other (sets + length (sets_of test) + length (act_sets chosen))))
+        joint _ _ (trees test sets) (
+          tt,
+          joint _ _ (acts_one chosen (sets + length (sets_of test))) (
+            tt,
+            acts_one other (sets + length (sets_of test) + length
+                (act_sets chosen)),
+          ),
+        )
     acts_one (assign aim tree) sets = joint _ _ (trees tree sets) (aims aim)
     acts_one (accept has_text) sets = (tt, tt)
     acts_one (reject has_text) sets = (tt, tt)

@@ -4,10 +4,12 @@ use Rattle.std.proofs.lemmas.List.{length-map}
 use Rattle.filter_parser.specs.declared.tree.op.Membership.{Membership}
 use Rattle.filter_parser.specs.declared.tree.op.Op.{Op}
 use Rattle.filter_parser.specs.declared.tree.op.Suffix.{Suffix}
-use Rattle.filter_parser.specs.Syntax.{Tree, number, address, prefix, truth, name, attribute, defined, group, negation, binary, member, suffixed, Item, run_of, suffixes_of}
+use Rattle.filter_parser.specs.Syntax.{Tree, number, address, prefix, truth, name, attribute, defined, group, negation, binary, member}
+use Rattle.filter_parser.specs.Syntax.{suffixed, Item, run_of, suffixes_of}
 use Rattle.filter_parser.specs.SyntaxCommands.{Act, empty, block, choice, choice_else, assign, accept, reject, Acts, no_acts, act_then}
 use Rattle.filter_compiler.specs.declared.measure.Measure.{Measure}
-use Rattle.filter_compiler.specs.Measures.{tree_measure, act_measure, acts_measure, run_measure, suffixes_measure, member_count, plus, with_set, instructions_alone}
+use Rattle.filter_compiler.specs.Measures.{tree_measure, act_measure, acts_measure, run_measure, suffixes_measure, member_count, plus}
+use Rattle.filter_compiler.specs.Measures.{with_set, instructions_alone}
 
 pub run_measured : (left : Tree) (xs : List (Op × Tree)) → tree_measure (run_of left xs) ≡ run_measure (tree_measure left) xs
 run_measured left [] = refl
@@ -47,14 +49,18 @@ mutual
   acts_are_small (act_then first more) before low = acts_are_small more (plus before (act_measure first)) (omega arith)
 
 -- a question for a set, measured part by part
-pub member_measured : {A : Type 0} (t left : Tree) (op : Membership) (set : List A) (f : A → Item) (whole inner with own : Measure) (count own_instrs : ℕ) → t ≡ member op left (map f set) → inner ≡ tree_measure left → count ≡ length set → with ≡ with_set inner count → own_instrs ≡ member_count op → own ≡ instructions_alone own_instrs → whole ≡ plus with own → whole ≡ tree_measure t
+pub member_measured : {A : Type 0} (t left : Tree) (op : Membership) (set : List A) (f : A → Item) (whole inner with own : Measure)
+    (count own_instrs : ℕ) → t ≡ member op left (map f set) → inner ≡ tree_measure left → count ≡ length set
+    → with ≡ with_set inner count → own_instrs ≡ member_count op → own ≡ instructions_alone own_instrs → whole ≡ plus with own
+    → whole ≡ tree_measure t
 member_measured t left op set f whole inner with own count own_instrs is e1 e2 e3 e4 e5 e6 =
     e6
     ∙ (ap (λ m. plus m own) (e3 ∙ (ap (λ m. with_set m count) e1 ∙ ap (λ n. with_set (tree_measure left) n) (e2 ∙ sym (length-map set f))))
     ∙ (ap (λ m. plus (with_set (tree_measure left) (length (map f set))) m) (e5 ∙ ap instructions_alone e4) ∙ sym (ap tree_measure is)))
 
 -- one suffix more
-pub suffix_measured : (xs : List Suffix) (i : ℕ) (m : Measure) → i < length xs → suffixes_measure m (drop i xs) ≡ suffixes_measure (plus m (instructions_alone 1)) (drop (i + 1) xs)
+pub suffix_measured : (xs : List Suffix) (i : ℕ) (m : Measure) → i < length xs
+    → suffixes_measure m (drop i xs) ≡ suffixes_measure (plus m (instructions_alone 1)) (drop (i + 1) xs)
 suffix_measured [] i m low = absurd (omega arith)
 suffix_measured (x ∷ xs) zero m low = refl
 suffix_measured (x ∷ xs) (suc i) m low =

@@ -1,5 +1,6 @@
 -- The instructions of each operator: they put its result in the place of its operands.
-use Rattle.std.proofs.Common.{◌≡◌, ℕ, zero, suc, ◌+◌, ◌/◌, ◌==◌, ◌<◌, ◌≤◌, min, ◌⊎◌, inl, inr, Bool, true, false, not, List, [], ◌∷◌, length, map, Option, Some, None, refl, sym, ap, ◌∙◌, subst, arith}
+use Rattle.std.proofs.Common.{◌≡◌, ℕ, zero, suc, ◌+◌, ◌/◌, ◌==◌, ◌<◌, ◌≤◌, min, ◌⊎◌, inl, inr, Bool, true, false, not, List, [], ◌∷◌}
+use Rattle.std.proofs.Common.{length, map, Option, Some, None, refl, sym, ap, ◌∙◌, subst, arith}
 use Rattle.std.specs.Prelude.{nat_lt, nat_le, slice_get}
 use Rattle.std.proofs.lemmas.Bool.{cases_lt}
 use Rattle.std.proofs.lemmas.Bool.Decides.{nat_tests}
@@ -71,96 +72,135 @@ module _ (program : Program) (route : Announcement) (scene : Scene) where
   Gives pc stack k None = Divides program route
 
   -- NOT
-  inverted : (pc : ℕ) (stack : List Value) (b : Bool) → slice_get program.instrs pc ≡ Some instr.Not → Stands program route scene pc (value.Bool b ∷ stack) → Stands program route scene (pc + 1) (value.Bool (not b) ∷ stack)
-  inverted pc stack b here s = replaced program route scene pc (value.Bool b ∷ stack) stack instr.Not (value.Bool (not b)) here (omega arith) refl s
+  inverted : (pc : ℕ) (stack : List Value) (b : Bool) → slice_get program.instrs pc ≡ Some instr.Not
+      → Stands program route scene pc (value.Bool b ∷ stack) → Stands program route scene (pc + 1) (value.Bool (not b) ∷ stack)
+  inverted pc stack b here s =
+      replaced program route scene pc (value.Bool b ∷ stack) stack instr.Not (value.Bool (not b)) here (omega arith) refl s
 
   -- an instruction that takes two operands and gives a value
-  two : (pc : ℕ) (stack : List Value) (i : Instr) (a b v : Value) → slice_get program.instrs pc ≡ Some i → carry_out program route (config_in program route scene pc (b ∷ a ∷ stack)) (Some i) ≡ unless_full (nat_lt 32 (suc (length stack))) pc (Going (config_in program route scene (pc + 1) (v ∷ stack))) → Stands program route scene pc (b ∷ a ∷ stack) → Stands program route scene (pc + 1) (v ∷ stack)
+  two : (pc : ℕ) (stack : List Value) (i : Instr) (a b v : Value) → slice_get program.instrs pc ≡ Some i
+      → carry_out program route (config_in program route scene pc (b ∷ a ∷ stack)) (Some i) ≡ unless_full
+      (nat_lt 32 (suc (length stack))) pc (Going (config_in program route scene (pc + 1) (v ∷ stack)))
+      → Stands program route scene pc (b ∷ a ∷ stack) → Stands program route scene (pc + 1) (v ∷ stack)
   two pc stack i a b v here e s = replaced program route scene pc (b ∷ a ∷ stack) stack i v here (omega arith) e s
 
   -- and its opposite
-  two_inverted : (pc : ℕ) (stack : List Value) (i : Instr) (a b : Value) (answer : Bool) → slice_get program.instrs pc ≡ Some i → slice_get program.instrs (pc + 1) ≡ Some instr.Not → carry_out program route (config_in program route scene pc (b ∷ a ∷ stack)) (Some i) ≡ unless_full (nat_lt 32 (suc (length stack))) pc (Going (config_in program route scene (pc + 1) (value.Bool answer ∷ stack))) → Stands program route scene pc (b ∷ a ∷ stack) → Stands program route scene (pc + 2) (value.Bool (not answer) ∷ stack)
+  two_inverted : (pc : ℕ) (stack : List Value) (i : Instr) (a b : Value) (answer : Bool) → slice_get program.instrs pc ≡ Some i
+      → slice_get program.instrs (pc + 1) ≡ Some instr.Not
+      → carry_out program route (config_in program route scene pc (b ∷ a ∷ stack)) (Some i) ≡ unless_full
+      (nat_lt 32 (suc (length stack))) pc (Going (config_in program route scene (pc + 1) (value.Bool answer ∷ stack)))
+      → Stands program route scene pc (b ∷ a ∷ stack) → Stands program route scene (pc + 2) (value.Bool (not answer) ∷ stack)
   two_inverted pc stack i a b answer here next e s =
       let at : pc + 1 + 1 ≡ pc + 2 = omega arith in
-      subst (λ n. Stands program route scene n (value.Bool (not answer) ∷ stack)) at (inverted (pc + 1) stack answer next (two pc stack i a b (value.Bool answer) here e s))
+      subst (λ n. Stands program route scene n (value.Bool (not answer) ∷ stack)) at (inverted (pc + 1) stack answer next
+      (two pc stack i a b (value.Bool answer) here e s))
 
-  add_runs : (pc : ℕ) (stack : List Value) (a b : Value) (k : Kind) → arithmetic (kind_of_value a) (kind_of_value b) ≡ Some k → HasAt program.instrs pc (operator_code o.Add) → Stands program route scene pc (b ∷ a ∷ stack) → Gives (pc + 1) stack k (result_of o.Add a b)
+  add_runs : (pc : ℕ) (stack : List Value) (a b : Value) (k : Kind) → arithmetic (kind_of_value a) (kind_of_value b) ≡ Some k
+      → HasAt program.instrs pc (operator_code o.Add) → Stands program route scene pc (b ∷ a ∷ stack)
+      → Gives (pc + 1) stack k (result_of o.Add a b)
   add_runs pc stack (value.Int a) (value.Int b) k fits has s = (two pc stack instr.Add _ _ _ has.0 refl s, cc)
   add_runs pc stack _ _ k fits has s = cc
 
-  sub_runs : (pc : ℕ) (stack : List Value) (a b : Value) (k : Kind) → arithmetic (kind_of_value a) (kind_of_value b) ≡ Some k → HasAt program.instrs pc (operator_code o.Sub) → Stands program route scene pc (b ∷ a ∷ stack) → Gives (pc + 1) stack k (result_of o.Sub a b)
+  sub_runs : (pc : ℕ) (stack : List Value) (a b : Value) (k : Kind) → arithmetic (kind_of_value a) (kind_of_value b) ≡ Some k
+      → HasAt program.instrs pc (operator_code o.Sub) → Stands program route scene pc (b ∷ a ∷ stack)
+      → Gives (pc + 1) stack k (result_of o.Sub a b)
   sub_runs pc stack (value.Int a) (value.Int b) k fits has s = (two pc stack instr.Sub _ _ _ has.0 refl s, cc)
   sub_runs pc stack _ _ k fits has s = cc
 
-  mul_runs : (pc : ℕ) (stack : List Value) (a b : Value) (k : Kind) → arithmetic (kind_of_value a) (kind_of_value b) ≡ Some k → HasAt program.instrs pc (operator_code o.Mul) → Stands program route scene pc (b ∷ a ∷ stack) → Gives (pc + 1) stack k (result_of o.Mul a b)
+  mul_runs : (pc : ℕ) (stack : List Value) (a b : Value) (k : Kind) → arithmetic (kind_of_value a) (kind_of_value b) ≡ Some k
+      → HasAt program.instrs pc (operator_code o.Mul) → Stands program route scene pc (b ∷ a ∷ stack)
+      → Gives (pc + 1) stack k (result_of o.Mul a b)
   mul_runs pc stack (value.Int a) (value.Int b) k fits has s = (two pc stack instr.Mul _ _ _ has.0 refl s, cc)
   mul_runs pc stack _ _ k fits has s = cc
 
   -- DIV by a number that is not 0
-  divided_step : (pc : ℕ) (stack : List Value) (a b : ℕ) → carry_out program route (config_in program route scene pc (value.Int (suc b) ∷ value.Int a ∷ stack)) (Some instr.Div) ≡ unless_full (nat_lt 32 (suc (length stack))) pc (Going (config_in program route scene (pc + 1) (value.Int (a / suc b) ∷ stack)))
+  divided_step : (pc : ℕ) (stack : List Value) (a b : ℕ)
+      → carry_out program route (config_in program route scene pc (value.Int (suc b) ∷ value.Int a ∷ stack)) (Some instr.Div)
+      ≡ unless_full (nat_lt 32 (suc (length stack))) pc (Going (config_in program route scene (pc + 1) (value.Int (a / suc b) ∷ stack)))
   divided_step pc stack a b = rw (suc_is_not_zero b) refl
 
-  div_runs : (pc : ℕ) (stack : List Value) (a b : Value) (k : Kind) → arithmetic (kind_of_value a) (kind_of_value b) ≡ Some k → HasAt program.instrs pc (operator_code o.Div) → Stands program route scene pc (b ∷ a ∷ stack) → Gives (pc + 1) stack k (result_of o.Div a b)
+  div_runs : (pc : ℕ) (stack : List Value) (a b : Value) (k : Kind) → arithmetic (kind_of_value a) (kind_of_value b) ≡ Some k
+      → HasAt program.instrs pc (operator_code o.Div) → Stands program route scene pc (b ∷ a ∷ stack)
+      → Gives (pc + 1) stack k (result_of o.Div a b)
   div_runs pc stack (value.Int a) (value.Int zero) k fits has s =
       record { at = pc; ended = carried_over program route (config_in program route scene pc _) instr.Div _ s.reached has.0 refl }
   div_runs pc stack (value.Int a) (value.Int (suc b)) k fits has s =
       (two pc stack instr.Div (value.Int a) (value.Int (suc b)) (value.Int (a / suc b)) has.0 (divided_step pc stack a b) s, cc)
   div_runs pc stack _ _ k fits has s = cc
 
-  equal_runs : (pc : ℕ) (stack : List Value) (a b : Value) (k : Kind) → equality (kind_of_value a) (kind_of_value b) ≡ Some k → HasAt program.instrs pc (operator_code o.Equal) → Stands program route scene pc (b ∷ a ∷ stack) → Gives (pc + 1) stack k (result_of o.Equal a b)
+  equal_runs : (pc : ℕ) (stack : List Value) (a b : Value) (k : Kind) → equality (kind_of_value a) (kind_of_value b) ≡ Some k
+      → HasAt program.instrs pc (operator_code o.Equal) → Stands program route scene pc (b ∷ a ∷ stack)
+      → Gives (pc + 1) stack k (result_of o.Equal a b)
   equal_runs pc stack (value.Int a) (value.Int b) k fits has s = (two pc stack instr.Eq _ _ _ has.0 refl s, cc)
   equal_runs pc stack (value.Bool a) (value.Bool b) k fits has s = (two pc stack instr.Eq _ _ _ has.0 refl s, cc)
   equal_runs pc stack (value.Addr a) (value.Addr b) k fits has s = (two pc stack instr.Eq _ _ _ has.0 refl s, cc)
   equal_runs pc stack (value.Net a) (value.Net b) k fits has s = (two pc stack instr.Eq _ _ _ has.0 refl s, cc)
   equal_runs pc stack _ _ k fits has s = cc
 
-  unequal_runs : (pc : ℕ) (stack : List Value) (a b : Value) (k : Kind) → equality (kind_of_value a) (kind_of_value b) ≡ Some k → HasAt program.instrs pc (operator_code o.NotEqual) → Stands program route scene pc (b ∷ a ∷ stack) → Gives (pc + 2) stack k (result_of o.NotEqual a b)
+  unequal_runs : (pc : ℕ) (stack : List Value) (a b : Value) (k : Kind) → equality (kind_of_value a) (kind_of_value b) ≡ Some k
+      → HasAt program.instrs pc (operator_code o.NotEqual) → Stands program route scene pc (b ∷ a ∷ stack)
+      → Gives (pc + 2) stack k (result_of o.NotEqual a b)
   unequal_runs pc stack (value.Int a) (value.Int b) k fits has s = (two_inverted pc stack instr.Eq _ _ _ has.0 has.1.0 refl s, cc)
   unequal_runs pc stack (value.Bool a) (value.Bool b) k fits has s = (two_inverted pc stack instr.Eq _ _ _ has.0 has.1.0 refl s, cc)
   unequal_runs pc stack (value.Addr a) (value.Addr b) k fits has s = (two_inverted pc stack instr.Eq _ _ _ has.0 has.1.0 refl s, cc)
   unequal_runs pc stack (value.Net a) (value.Net b) k fits has s = (two_inverted pc stack instr.Eq _ _ _ has.0 has.1.0 refl s, cc)
   unequal_runs pc stack _ _ k fits has s = cc
 
-  less_runs : (pc : ℕ) (stack : List Value) (a b : Value) (k : Kind) → order (kind_of_value a) (kind_of_value b) ≡ Some k → HasAt program.instrs pc (operator_code o.Less) → Stands program route scene pc (b ∷ a ∷ stack) → Gives (pc + 1) stack k (result_of o.Less a b)
+  less_runs : (pc : ℕ) (stack : List Value) (a b : Value) (k : Kind) → order (kind_of_value a) (kind_of_value b) ≡ Some k
+      → HasAt program.instrs pc (operator_code o.Less) → Stands program route scene pc (b ∷ a ∷ stack)
+      → Gives (pc + 1) stack k (result_of o.Less a b)
   less_runs pc stack (value.Int a) (value.Int b) k fits has s = (two pc stack instr.Lt _ _ _ has.0 refl s, cc)
   less_runs pc stack (value.Addr a) (value.Addr b) k fits has s = (two pc stack instr.Lt _ _ _ has.0 refl s, cc)
   less_runs pc stack _ _ k fits has s = cc
 
-  at_most_runs : (pc : ℕ) (stack : List Value) (a b : Value) (k : Kind) → order (kind_of_value a) (kind_of_value b) ≡ Some k → HasAt program.instrs pc (operator_code o.LessEqual) → Stands program route scene pc (b ∷ a ∷ stack) → Gives (pc + 1) stack k (result_of o.LessEqual a b)
+  at_most_runs : (pc : ℕ) (stack : List Value) (a b : Value) (k : Kind) → order (kind_of_value a) (kind_of_value b) ≡ Some k
+      → HasAt program.instrs pc (operator_code o.LessEqual) → Stands program route scene pc (b ∷ a ∷ stack)
+      → Gives (pc + 1) stack k (result_of o.LessEqual a b)
   at_most_runs pc stack (value.Int a) (value.Int b) k fits has s = (two pc stack instr.Le _ _ _ has.0 refl s, cc)
   at_most_runs pc stack (value.Addr a) (value.Addr b) k fits has s = (two pc stack instr.Le _ _ _ has.0 refl s, cc)
   at_most_runs pc stack _ _ k fits has s = cc
 
   -- `a > b` is not `a <= b`, and `a >= b` is not `a < b`
-  opposite_is : (pc : ℕ) (stack : List Value) (test answer : Bool) → not test ≡ answer → Stands program route scene pc (value.Bool (not test) ∷ stack) → Stands program route scene pc (value.Bool answer ∷ stack)
+  opposite_is : (pc : ℕ) (stack : List Value) (test answer : Bool) → not test ≡ answer
+      → Stands program route scene pc (value.Bool (not test) ∷ stack) → Stands program route scene pc (value.Bool answer ∷ stack)
   opposite_is pc stack test answer e s = subst (λ b. Stands program route scene pc (value.Bool b ∷ stack)) e s
 
-  greater_runs : (pc : ℕ) (stack : List Value) (a b : Value) (k : Kind) → order (kind_of_value a) (kind_of_value b) ≡ Some k → HasAt program.instrs pc (operator_code o.Greater) → Stands program route scene pc (b ∷ a ∷ stack) → Gives (pc + 2) stack k (result_of o.Greater a b)
+  greater_runs : (pc : ℕ) (stack : List Value) (a b : Value) (k : Kind) → order (kind_of_value a) (kind_of_value b) ≡ Some k
+      → HasAt program.instrs pc (operator_code o.Greater) → Stands program route scene pc (b ∷ a ∷ stack)
+      → Gives (pc + 2) stack k (result_of o.Greater a b)
   greater_runs pc stack (value.Int a) (value.Int b) k fits has s =
       (opposite_is (pc + 2) stack _ _ (le_is_not_gt a b) (two_inverted pc stack instr.Le _ _ (nat_le a b) has.0 has.1.0 refl s), cc)
   greater_runs pc stack (value.Addr a) (value.Addr b) k fits has s =
       (opposite_is (pc + 2) stack _ _ (le_is_not_gt a.0 b.0) (two_inverted pc stack instr.Le _ _ (nat_le a.0 b.0) has.0 has.1.0 refl s), cc)
   greater_runs pc stack _ _ k fits has s = cc
 
-  at_least_runs : (pc : ℕ) (stack : List Value) (a b : Value) (k : Kind) → order (kind_of_value a) (kind_of_value b) ≡ Some k → HasAt program.instrs pc (operator_code o.GreaterEqual) → Stands program route scene pc (b ∷ a ∷ stack) → Gives (pc + 2) stack k (result_of o.GreaterEqual a b)
+  at_least_runs : (pc : ℕ) (stack : List Value) (a b : Value) (k : Kind) → order (kind_of_value a) (kind_of_value b) ≡ Some k
+      → HasAt program.instrs pc (operator_code o.GreaterEqual) → Stands program route scene pc (b ∷ a ∷ stack)
+      → Gives (pc + 2) stack k (result_of o.GreaterEqual a b)
   at_least_runs pc stack (value.Int a) (value.Int b) k fits has s =
       (opposite_is (pc + 2) stack _ _ (lt_is_not_ge a b) (two_inverted pc stack instr.Lt _ _ (nat_lt a b) has.0 has.1.0 refl s), cc)
   at_least_runs pc stack (value.Addr a) (value.Addr b) k fits has s =
       (opposite_is (pc + 2) stack _ _ (lt_is_not_ge a.0 b.0) (two_inverted pc stack instr.Lt _ _ (nat_lt a.0 b.0) has.0 has.1.0 refl s), cc)
   at_least_runs pc stack _ _ k fits has s = cc
 
-  within_runs : (pc : ℕ) (stack : List Value) (a b : Value) (k : Kind) → within (kind_of_value a) (kind_of_value b) ≡ Some k → HasAt program.instrs pc (operator_code o.Match) → Stands program route scene pc (b ∷ a ∷ stack) → Gives (pc + 1) stack k (result_of o.Match a b)
+  within_runs : (pc : ℕ) (stack : List Value) (a b : Value) (k : Kind) → within (kind_of_value a) (kind_of_value b) ≡ Some k
+      → HasAt program.instrs pc (operator_code o.Match) → Stands program route scene pc (b ∷ a ∷ stack)
+      → Gives (pc + 1) stack k (result_of o.Match a b)
   within_runs pc stack (value.Addr a) (value.Net b) k fits has s = (two pc stack instr.Within _ _ _ has.0 refl s, cc)
   within_runs pc stack (value.Net a) (value.Net b) k fits has s = (two pc stack instr.Within _ _ _ has.0 refl s, cc)
   within_runs pc stack _ _ k fits has s = cc
 
-  outside_runs : (pc : ℕ) (stack : List Value) (a b : Value) (k : Kind) → within (kind_of_value a) (kind_of_value b) ≡ Some k → HasAt program.instrs pc (operator_code o.NotMatch) → Stands program route scene pc (b ∷ a ∷ stack) → Gives (pc + 2) stack k (result_of o.NotMatch a b)
+  outside_runs : (pc : ℕ) (stack : List Value) (a b : Value) (k : Kind) → within (kind_of_value a) (kind_of_value b) ≡ Some k
+      → HasAt program.instrs pc (operator_code o.NotMatch) → Stands program route scene pc (b ∷ a ∷ stack)
+      → Gives (pc + 2) stack k (result_of o.NotMatch a b)
   outside_runs pc stack (value.Addr a) (value.Net b) k fits has s = (two_inverted pc stack instr.Within _ _ _ has.0 has.1.0 refl s, cc)
   outside_runs pc stack (value.Net a) (value.Net b) k fits has s = (two_inverted pc stack instr.Within _ _ _ has.0 has.1.0 refl s, cc)
   outside_runs pc stack _ _ k fits has s = cc
 
   -- an operator behind both its operands
-  pub operator_runs : (op : Op) (pc : ℕ) (stack : List Value) (a b : Value) (k : Kind) → TakesBoth op → operator op (kind_of_value a) (kind_of_value b) ≡ Some k → HasAt program.instrs pc (operator_code op) → Stands program route scene pc (b ∷ a ∷ stack) → Gives (pc + length (operator_code op)) stack k (result_of op a b)
+  pub operator_runs : (op : Op) (pc : ℕ) (stack : List Value) (a b : Value) (k : Kind) → TakesBoth op
+      → operator op (kind_of_value a) (kind_of_value b) ≡ Some k → HasAt program.instrs pc (operator_code op)
+      → Stands program route scene pc (b ∷ a ∷ stack) → Gives (pc + length (operator_code op)) stack k (result_of op a b)
   operator_runs o.Add pc stack a b k both fits has s = add_runs pc stack a b k fits has s
   operator_runs o.Sub pc stack a b k both fits has s = sub_runs pc stack a b k fits has s
   operator_runs o.Mul pc stack a b k both fits has s = mul_runs pc stack a b k fits has s
@@ -177,36 +217,64 @@ module _ (program : Program) (route : Announcement) (scene : Scene) where
   operator_runs o.Or pc stack a b k both fits has s = absurd both
 
   -- `!`
-  pub negation_runs : (pc : ℕ) (stack : List Value) (a : Value) (k : Kind) → negated (kind_of_value a) ≡ Some k → HasAt program.instrs pc (instr.Not ∷ []) → Stands program route scene pc (a ∷ stack) → Gives (pc + 1) stack k (meaning.negated a)
+  pub negation_runs : (pc : ℕ) (stack : List Value) (a : Value) (k : Kind) → negated (kind_of_value a) ≡ Some k
+      → HasAt program.instrs pc (instr.Not ∷ []) → Stands program route scene pc (a ∷ stack) → Gives (pc + 1) stack k (meaning.negated a)
   negation_runs pc stack (value.Bool b) k fits has s = (inverted pc stack b has.0 s, cc)
   negation_runs pc stack _ k fits has s = cc
 
   -- MASK of at most 32 bits, which are all that an address has
-  mask_step : (pc : ℕ) (stack : List Value) (a : Ip) (n : ℕ) → carry_out program route (config_in program route scene pc (value.Addr a ∷ stack)) (Some (instr.Mask (min n 32))) ≡ unless_full (nat_lt 32 (suc (length stack))) pc (Going (config_in program route scene (pc + 1) (value.Addr (record { 0 = address_of (prefix_bits a.0 n) }) ∷ stack)))
+  mask_step : (pc : ℕ) (stack : List Value) (a : Ip) (n : ℕ)
+      → carry_out program route (config_in program route scene pc (value.Addr a ∷ stack)) (Some (instr.Mask (min n 32))) ≡ unless_full
+      (nat_lt 32 (suc (length stack))) pc (Going (config_in program route scene (pc + 1) (value.Addr (record {
+        0 = address_of
+            (prefix_bits a.0 n);
+      }) ∷ stack)))
   mask_step pc stack a n = rw (masked_all a.0 n) refl
 
   -- a suffix
-  pub suffix_runs : (s : Suffix) (pc : ℕ) (stack : List Value) (a : Value) (k : Kind) → suffixed_by s (kind_of_value a) ≡ Some k → HasAt program.instrs pc (suffix_code s ∷ []) → Stands program route scene pc (a ∷ stack) → Gives (pc + 1) stack k (suffix_of s a)
-  suffix_runs suffix.Ip pc stack (value.Net p) k fits has s = (replaced program route scene pc (value.Net p ∷ stack) stack instr.Addr _ has.0 (omega arith) refl s, cc)
-  suffix_runs suffix.Len pc stack (value.Net p) k fits has s = (replaced program route scene pc (value.Net p ∷ stack) stack instr.Len _ has.0 (omega arith) refl s, cc)
-  suffix_runs (suffix.Mask n) pc stack (value.Addr a) k fits has s = (replaced program route scene pc (value.Addr a ∷ stack) stack (instr.Mask (min n 32)) (value.Addr (record { 0 = address_of (prefix_bits a.0 n) })) has.0 (omega arith) (mask_step pc stack a n) s, cc)
+  pub suffix_runs : (s : Suffix) (pc : ℕ) (stack : List Value) (a : Value) (k : Kind) → suffixed_by s (kind_of_value a) ≡ Some k
+      → HasAt program.instrs pc (suffix_code s ∷ []) → Stands program route scene pc (a ∷ stack) → Gives (pc + 1) stack k (suffix_of s a)
+  suffix_runs suffix.Ip pc stack (value.Net p) k fits has s =
+      (replaced program route scene pc (value.Net p ∷ stack) stack instr.Addr _ has.0 (omega arith) refl s, cc)
+  suffix_runs suffix.Len pc stack (value.Net p) k fits has s =
+      (replaced program route scene pc (value.Net p ∷ stack) stack instr.Len _ has.0 (omega arith) refl s, cc)
+  suffix_runs (suffix.Mask n) pc stack (value.Addr a) k fits has s = (
+    replaced program route scene pc (value.Addr a ∷ stack) stack (instr.Mask (min n 32)) (value.Addr (record {
+      0 = address_of
+          (prefix_bits a.0 n);
+    })) has.0 (omega arith) (mask_step pc stack a n) s,
+    cc,
+  )
   suffix_runs suffix.Ip pc stack _ k fits has s = cc
   suffix_runs suffix.Len pc stack _ k fits has s = cc
   suffix_runs (suffix.Mask n) pc stack _ k fits has s = cc
 
   -- MEMBER of a set of the code
-  member_step : (pc : ℕ) (stack : List Value) (set : ℕ) (patterns : List PrefixPattern) (p : List Bool) → slice_get program.sets set ≡ Some patterns → carry_out program route (config_in program route scene pc (value.Net p ∷ stack)) (Some (instr.Member set)) ≡ unless_full (nat_lt 32 (suc (length stack))) pc (Going (config_in program route scene (pc + 1) (value.Bool (matches_any p patterns) ∷ stack)))
+  member_step : (pc : ℕ) (stack : List Value) (set : ℕ) (patterns : List PrefixPattern) (p : List Bool)
+      → slice_get program.sets set ≡ Some patterns
+      → carry_out program route (config_in program route scene pc (value.Net p ∷ stack)) (Some (instr.Member set)) ≡ unless_full
+      (nat_lt 32 (suc (length stack))) pc (Going (config_in program route scene (pc + 1) (value.Bool (matches_any p patterns) ∷ stack)))
   member_step pc stack set patterns p found =
       let within : set < length program.sets = slice_get_within program.sets set patterns found in
       let test : nat_lt set (length program.sets) ≡ true = grind (arith, nat_tests) in
       rw (test, found) refl
 
-  pub member_runs : (op : Membership) (pc : ℕ) (stack : List Value) (number : ℕ) (set : List Item) (a : Value) (k : Kind) → in_set (kind_of_value a) ≡ Some k → slice_get program.sets number ≡ Some (map pattern_of set) → HasAt program.instrs pc (member_code op number) → Stands program route scene pc (a ∷ stack) → Gives (pc + length (member_code op number)) stack k (member_of op set a)
-  member_runs membership.In pc stack number set (value.Net p) k fits found has s =
-      (replaced program route scene pc (value.Net p ∷ stack) stack (instr.Member number) _ has.0 (omega arith) (member_step pc stack number _ p found) s, cc)
+  pub member_runs : (op : Membership) (pc : ℕ) (stack : List Value) (number : ℕ) (set : List Item) (a : Value) (k : Kind)
+      → in_set (kind_of_value a) ≡ Some k → slice_get program.sets number ≡ Some (map pattern_of set)
+      → HasAt program.instrs pc (member_code op number) → Stands program route scene pc (a ∷ stack)
+      → Gives (pc + length (member_code op number)) stack k (member_of op set a)
+  member_runs membership.In pc stack number set (value.Net p) k fits found has s = (
+    replaced program route scene pc (value.Net p ∷ stack) stack (instr.Member number) _ has.0 (omega arith)
+        (member_step pc stack number _ p found) s,
+    cc,
+  )
   member_runs membership.NotIn pc stack number set (value.Net p) k fits found has s =
       let at : pc + 1 + 1 ≡ pc + 2 = omega arith in
-      let one = replaced program route scene pc (value.Net p ∷ stack) stack (instr.Member number) _ has.0 (omega arith) (member_step pc stack number _ p found) s in
-      (same_place program route scene (pc + 1 + 1) (pc + 2) (value.Bool (not (matches_any p (map pattern_of set))) ∷ stack) at (inverted (pc + 1) stack _ has.1.0 one), cc)
+      let one = replaced program route scene pc (value.Net p ∷ stack) stack (instr.Member number) _ has.0 (omega arith)
+      (member_step pc stack number _ p found) s in (
+        same_place program route scene (pc + 1 + 1) (pc + 2) (value.Bool (not (matches_any p (map pattern_of set))) ∷ stack) at (inverted
+            (pc + 1) stack _ has.1.0 one),
+        cc,
+      )
   member_runs membership.In pc stack number set _ k fits found has s = cc
   member_runs membership.NotIn pc stack number set _ k fits found has s = cc

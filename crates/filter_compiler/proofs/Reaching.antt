@@ -18,11 +18,13 @@ pub begun : (program : Program) (route : Announcement) → Reaches program route
 begun program route = record { steps = 0; here = runs.begun_in program route }
 
 -- the instruction at the place is carried out, and the run goes on
-pub carried_on : (program : Program) (route : Announcement) (c : Config) (i : Instr) (d : Config) → Reaches program route c → slice_get program.instrs c.pc ≡ Some i → carry_out program route c (Some i) ≡ Going d → Reaches program route d
+pub carried_on : (program : Program) (route : Announcement) (c : Config) (i : Instr) (d : Config) → Reaches program route c
+    → slice_get program.instrs c.pc ≡ Some i → carry_out program route c (Some i) ≡ Going d → Reaches program route d
 carried_on program route c i d r here e =
     record { steps = r.steps + 1; here = runs.carried_on program route r.steps c i d r.here here e }
 
 -- the instruction at the place is carried out, and the run is over
-pub carried_over : (program : Program) (route : Announcement) (c : Config) (i : Instr) (end : Outcome) → Reaches program route c → slice_get program.instrs c.pc ≡ Some i → carry_out program route c (Some i) ≡ Ended end → end ≡ outcome_of program route
+pub carried_over : (program : Program) (route : Announcement) (c : Config) (i : Instr) (end : Outcome) → Reaches program route c
+    → slice_get program.instrs c.pc ≡ Some i → carry_out program route c (Some i) ≡ Ended end → end ≡ outcome_of program route
 carried_over program route c i end r here e =
     runs.outcome_after program route (r.steps + 1) end (runs.carried_over program route r.steps c i end r.here here e)

@@ -9,7 +9,8 @@ use Rattle.filter_parser.specs.declared.tree.expr.Attribute.TheVariants as attri
 use Rattle.filter_parser.specs.declared.tree.op.Membership.TheVariants as membership
 use Rattle.filter_parser.specs.declared.tree.op.Op.TheVariants as o
 use Rattle.filter_parser.specs.Syntax.{Tree, number, truth, name, attribute, defined, binary, member, group, between}
-use Rattle.filter_parser.specs.SyntaxCommands.{Act, block, choice, choice_else, assign, accept, reject, to_name, to_metric, Declared, acts_of}
+use Rattle.filter_parser.specs.SyntaxCommands.{Act, block, choice, choice_else, assign, accept, reject, to_name, to_metric, Declared}
+use Rattle.filter_parser.specs.SyntaxCommands.{acts_of}
 use Rattle.filter_parser.specs.SyntaxText as syntax
 use Rattle.filter_compiler.specs.Need.{need}
 use Rattle.filter_compiler.specs.Translation.{code_of}
@@ -70,8 +71,7 @@ up2_seven = refl
 abbrev low : syntax.Program
 low = filter_of [] (assign to_metric (number 1) ∷ accept false ∷ [])
 
-pub low_code : code_of low ≡ without_sets 0
-    (instr.Int 1 ∷ instr.Received ∷ instr.Max ∷ instr.SetMetric ∷ instr.Accept ∷ instr.Reject ∷ [])
+pub low_code : code_of low ≡ without_sets 0 (instr.Int 1 ∷ instr.Received ∷ instr.Max ∷ instr.SetMetric ∷ instr.Accept ∷ instr.Reject ∷ [])
 low_code = refl
 
 pub low_five : meaning low (route_of [] 5 8) ≡ accepted 5
@@ -150,7 +150,8 @@ abbrev e : syntax.Program
 e = filter_of [] (choice (truth false) (choice_else (truth true) (accept false) (accept false)) ∷ [])
 
 pub e_code : code_of e ≡ without_sets 0
-    (instr.Bool false ∷ instr.JumpIfNot 5 ∷ instr.Bool true ∷ instr.JumpIfNot 2 ∷ instr.Accept ∷ instr.Jump 1 ∷ instr.Accept ∷ instr.Reject ∷ [])
+    (instr.Bool false ∷ instr.JumpIfNot 5 ∷ instr.Bool true ∷ instr.JumpIfNot 2 ∷ instr.Accept ∷ instr.Jump 1 ∷ instr.Accept ∷
+    instr.Reject ∷ [])
 e_code = refl
 
 pub e_three : meaning e (route_of [] 3 8) ≡ rejected
@@ -160,7 +161,8 @@ e_three = refl
 abbrev z : syntax.Program
 z =
     filter_of []
-    (choice_else (binary o.And (truth false) (binary o.Equal (binary o.Div (number 1) (number 0)) (number 1))) (accept false) (accept false) ∷ [])
+    (choice_else (binary o.And (truth false) (binary o.Equal (binary o.Div (number 1) (number 0)) (number 1))) (accept false)
+    (accept false) ∷ [])
 
 pub z_code : code_of z ≡ without_sets 0
     (instr.Bool false ∷ instr.JumpIfNot 6 ∷ instr.Int 1 ∷ instr.Int 0 ∷ instr.Div ∷ instr.Int 1 ∷ instr.Eq ∷ instr.Jump 1 ∷ instr.Bool false

@@ -40,10 +40,13 @@ pub record IsHeld (decls : List Declared) (bound : List Bound) (text : List ℕ)
   pub in_local : slice_get (locals_of bound) (number_of decls text) ≡ Some (Some value)
 
 -- the number of a variable that is not the first one
-number_later : (d : Declared) (decls : List Declared) (text : List ℕ) → bytes_eq d.name text ≡ false → number_of (d ∷ decls) text ≡ suc (number_of decls text)
+number_later : (d : Declared) (decls : List Declared) (text : List ℕ) → bytes_eq d.name text ≡ false
+    → number_of (d ∷ decls) text ≡ suc (number_of decls text)
 number_later d decls text found = rw found (omega arith)
 
-held_from : (d : Declared) (decls : List Declared) (b : Bound) (bound : List Bound) (text : List ℕ) (k : Kind) (found : Bool) → bytes_eq d.name text ≡ found → b.name ≡ d.name → kind_of_value b.value ≡ d.kind → kind_named (d ∷ decls) text ≡ Some k → (kind_named decls text ≡ Some k → IsHeld decls bound text k) → IsHeld (d ∷ decls) (b ∷ bound) text k
+held_from : (d : Declared) (decls : List Declared) (b : Bound) (bound : List Bound) (text : List ℕ) (k : Kind) (found : Bool)
+    → bytes_eq d.name text ≡ found → b.name ≡ d.name → kind_of_value b.value ≡ d.kind → kind_named (d ∷ decls) text ≡ Some k
+    → (kind_named decls text ≡ Some k → IsHeld decls bound text k) → IsHeld (d ∷ decls) (b ∷ bound) text k
 held_from d decls b bound text k true found name kind wanted later =
     let same : bytes_eq b.name text ≡ true = rw name found in
     let wanted' : Some d.kind ≡ Some k = rw found at wanted in
@@ -60,11 +63,13 @@ held_from d decls b bound text k false found name kind wanted later =
       value = rest.value;
       named = rw same rest.named;
       kind = rest.kind;
-      in_local = subst (λ i. slice_get (locals_of (b ∷ bound)) i ≡ Some (Some rest.value)) (sym (number_later d decls text found)) rest.in_local;
+      in_local = subst (λ i. slice_get (locals_of (b ∷ bound)) i ≡ Some (Some rest.value)) (sym
+          (number_later d decls text found)) rest.in_local;
     }
 
 -- a variable that has a kind has a value of that kind, which stands in the local variable with its number
-pub held : (decls : List Declared) (bound : List Bound) (text : List ℕ) (k : Kind) → HaveKinds decls bound → kind_named decls text ≡ Some k → IsHeld decls bound text k
+pub held : (decls : List Declared) (bound : List Bound) (text : List ℕ) (k : Kind) → HaveKinds decls bound
+    → kind_named decls text ≡ Some k → IsHeld decls bound text k
 held [] [] text k have wanted = cc
 held [] (b ∷ bound) text k have wanted = absurd have
 held (d ∷ decls) [] text k have wanted = absurd have
@@ -76,7 +81,9 @@ pub record IsAssigned (decls : List Declared) (bound : List Bound) (text : List 
   pub kinds : HaveKinds decls (assigned bound text v)
   pub locals : slice_set (locals_of bound) (number_of decls text) (Some v) ≡ locals_of (assigned bound text v)
 
-assigned_from : (d : Declared) (decls : List Declared) (b : Bound) (bound : List Bound) (text : List ℕ) (k : Kind) (v : Value) (found : Bool) → bytes_eq d.name text ≡ found → HaveKinds (d ∷ decls) (b ∷ bound) → kind_named (d ∷ decls) text ≡ Some k → kind_of_value v ≡ k → (kind_named decls text ≡ Some k → IsAssigned decls bound text v) → IsAssigned (d ∷ decls) (b ∷ bound) text v
+assigned_from : (d : Declared) (decls : List Declared) (b : Bound) (bound : List Bound) (text : List ℕ) (k : Kind) (v : Value)
+    (found : Bool) → bytes_eq d.name text ≡ found → HaveKinds (d ∷ decls) (b ∷ bound) → kind_named (d ∷ decls) text ≡ Some k
+    → kind_of_value v ≡ k → (kind_named decls text ≡ Some k → IsAssigned decls bound text v) → IsAssigned (d ∷ decls) (b ∷ bound) text v
 assigned_from d decls b bound text k v true found have wanted given later =
     let same : bytes_eq b.name text ≡ true = rw have.0 found in
     let wanted' : Some d.kind ≡ Some k = rw found at wanted in
@@ -88,19 +95,23 @@ assigned_from d decls b bound text k v true found have wanted given later =
 assigned_from d decls b bound text k v false found have wanted given later =
     let same : bytes_eq b.name text ≡ false = rw have.0 found in
     let rest = later (rw found at wanted) in
-    let set : slice_set (locals_of (b ∷ bound)) (suc (number_of decls text)) (Some v) ≡ local b ∷ locals_of (assigned bound text v) = ap (λ l. local b ∷ l) rest.locals in
+    let set : slice_set (locals_of (b ∷ bound)) (suc (number_of decls text)) (Some v) ≡ local b ∷ locals_of (assigned bound text v) =
+    ap (λ l. local b ∷ l) rest.locals in
     record {
       kinds = rw same (have.0, have.1, rest.kinds);
-      locals = rw same (subst (λ i. slice_set (locals_of (b ∷ bound)) i (Some v) ≡ local b ∷ locals_of (assigned bound text v)) (sym (number_later d decls text found)) set);
+      locals = rw same (subst (λ i. slice_set (locals_of (b ∷ bound)) i (Some v) ≡ local b ∷ locals_of (assigned bound text v)) (sym
+          (number_later d decls text found)) set);
     }
 
 -- an assignment keeps the kinds, and sets the local variable with the variable's number
-pub is_assigned : (decls : List Declared) (bound : List Bound) (text : List ℕ) (k : Kind) (v : Value) → HaveKinds decls bound → kind_named decls text ≡ Some k → kind_of_value v ≡ k → IsAssigned decls bound text v
+pub is_assigned : (decls : List Declared) (bound : List Bound) (text : List ℕ) (k : Kind) (v : Value) → HaveKinds decls bound
+    → kind_named decls text ≡ Some k → kind_of_value v ≡ k → IsAssigned decls bound text v
 is_assigned [] [] text k v have wanted given = cc
 is_assigned [] (b ∷ bound) text k v have wanted given = absurd have
 is_assigned (d ∷ decls) [] text k v have wanted given = absurd have
 is_assigned (d ∷ decls) (b ∷ bound) text k v have wanted given =
-    assigned_from d decls b bound text k v (bytes_eq d.name text) refl have wanted given (λ w. is_assigned decls bound text k v have.2 w given)
+    assigned_from d decls b bound text k v (bytes_eq d.name text) refl have wanted given
+    (λ w. is_assigned decls bound text k v have.2 w given)
 
 -- what is not assigned has its kind
 unassigned_kind : (k : Kind) → kind_of_value (unassigned k) ≡ k

@@ -1,5 +1,6 @@
 -- Measures count what they measure, and within the limits what is written is the code.
-use Rattle.std.proofs.Common.{◌≡◌, ℕ, true, false, ◌+◌, ◌≤◌, min, max, List, [], ◌∷◌, ◌++◌, length, map, refl, sym, ap, ◌∙◌, arith, append_assoc, length-append}
+use Rattle.std.proofs.Common.{◌≡◌, ℕ, true, false, ◌+◌, ◌≤◌, min, max, List, [], ◌∷◌, ◌++◌, length, map, refl, sym, ap, ◌∙◌, arith}
+use Rattle.std.proofs.Common.{append_assoc, length-append}
 use Rattle.std.proofs.lemmas.List.{append-nil, length-map}
 use Rattle.prefix_patterns.specs.Matching.{PrefixPattern}
 use Rattle.filter_code.specs.declared.instruction.Instr.{Instr}
@@ -8,13 +9,19 @@ use Rattle.filter_parser.specs.declared.tree.op.Membership.{Membership}
 use Rattle.filter_parser.specs.declared.tree.op.Membership.TheVariants as membership
 use Rattle.filter_parser.specs.declared.tree.op.Op.{Op}
 use Rattle.filter_parser.specs.declared.tree.op.Op.TheVariants as o
-use Rattle.filter_parser.specs.Syntax.{Tree, number, address, prefix, truth, name, attribute, defined, group, negation, binary, member, suffixed, pattern_of}
-use Rattle.filter_parser.specs.SyntaxCommands.{Act, empty, block, choice, choice_else, assign, accept, reject, Acts, no_acts, act_then, Aim, to_name, to_metric, to_net, Declared}
+use Rattle.filter_parser.specs.Syntax.{Tree, number, address, prefix, truth, name, attribute, defined, group, negation, binary, member}
+use Rattle.filter_parser.specs.Syntax.{suffixed, pattern_of}
+use Rattle.filter_parser.specs.SyntaxCommands.{Act, empty, block, choice, choice_else, assign, accept, reject, Acts, no_acts, act_then}
+use Rattle.filter_parser.specs.SyntaxCommands.{Aim, to_name, to_metric, to_net, Declared}
 use Rattle.filter_parser.specs.SyntaxText as syntax
+use Rattle.filter_types.specs.Kinds.{names_in, names_of_act, names_of_acts, names_of_aim, numbers_of}
 use Rattle.filter_compiler.specs.declared.measure.Measure.{Measure}
-use Rattle.filter_compiler.specs.Measures.{instructions_alone, plus, own_count, member_count, aim_count, tree_measure, act_measure, acts_measure, filter_measure}
-use Rattle.filter_compiler.specs.Translation.{sets_of, act_sets, acts_sets, joined_code, member_code, suffix_code, expression_code, aim_code, act_code, acts_code, declarations_code, instructions}
-use Rattle.filter_compiler.specs.Writing.{right_part, set_number, written, written_act, written_acts, written_filter}
+use Rattle.filter_compiler.specs.Measures.{instructions_alone, plus, own_count, member_count, aim_count, tree_measure, act_measure}
+use Rattle.filter_compiler.specs.Measures.{acts_measure, filter_measure}
+use Rattle.filter_compiler.specs.Translation.{sets_of, act_sets, acts_sets, joined_code, member_code, suffix_code, expression_code}
+use Rattle.filter_compiler.specs.Translation.{aim_code, act_code, acts_code, declarations_code, instructions}
+use Rattle.filter_compiler.specs.Writing.{behind, right_part, set_number, written, written_act, written_acts, written_aim, written_filter}
+use Rattle.filter_compiler.proofs.Uses.{HasUses, all_uses, first_uses, later_uses, use_is}
 
 -- the number of patterns in the largest set
 abbrev pub largest : List (List PrefixPattern) → ℕ
@@ -43,12 +50,15 @@ plus_counts n m s r =
     three _ _ _ _ _ _ (omega arith) count (sym (largest-append s r))
 
 -- two parts that are measured
-plus_is : (a b : Measure) (n m k : ℕ) (s r q : List (List PrefixPattern)) → a ≡ measure_of n s → b ≡ measure_of m r → n + m ≡ k → s ++ r ≡ q → plus a b ≡ measure_of k q
+plus_is : (a b : Measure) (n m k : ℕ) (s r q : List (List PrefixPattern)) → a ≡ measure_of n s → b ≡ measure_of m r → n + m ≡ k
+    → s ++ r ≡ q → plus a b ≡ measure_of k q
 plus_is a b n m k s r q ea eb ek eq =
-    ap (λ x. plus x b) ea ∙ (ap (plus (measure_of n s)) eb ∙ (plus_counts n m s r ∙ (ap (λ x. measure_of x (s ++ r)) ek ∙ ap (measure_of k) eq)))
+    ap (λ x. plus x b) ea ∙ (ap (plus (measure_of n s)) eb ∙ (plus_counts n m s r ∙ (ap (λ x. measure_of x (s ++ r)) ek
+    ∙ ap (measure_of k) eq)))
 
 -- a part with instructions that have no set
-plus_own : (a own : Measure) (n m k : ℕ) (s : List (List PrefixPattern)) → a ≡ measure_of n s → own ≡ measure_of m [] → n + m ≡ k → plus a own ≡ measure_of k s
+plus_own : (a own : Measure) (n m k : ℕ) (s : List (List PrefixPattern)) → a ≡ measure_of n s → own ≡ measure_of m [] → n + m ≡ k
+    → plus a own ≡ measure_of k s
 plus_own a own n m k s ea eo ek = plus_is a own n m k s [] s ea eo ek (append-nil s)
 
 own_measured : (op : Op) → instructions_alone (own_count op) ≡ measure_of (own_count op) []
@@ -70,7 +80,13 @@ member_length membership.NotIn n = refl
 
 -- the length of an operator's code with its operands
 joined_length : (op : Op) (l r : List Instr) → length l + length r + own_count op ≡ length (joined_code op l r)
-joined_length o.And l r = omega (arith, length-append l (instr.JumpIfNot (length r + 1) ∷ (r ++ instr.Jump 1 ∷ instr.Bool false ∷ [])), length-append r (instr.Jump 1 ∷ instr.Bool false ∷ []))
+joined_length o.And l r =
+    omega (
+      arith,
+      length-append l (instr.JumpIfNot (length r + 1) ∷ (r ++ instr.Jump 1 ∷ instr.Bool false ∷ [])),
+      length-append r
+          (instr.Jump 1 ∷ instr.Bool false ∷ []),
+    )
 joined_length o.Or l r = omega (arith, length-append l (instr.JumpIfNot 2 ∷ instr.Bool true ∷ instr.Jump (length r) ∷ r))
 joined_length o.Add l r = omega (arith, length-append l (r ++ instr.Add ∷ []), length-append r (instr.Add ∷ []))
 joined_length o.Sub l r = omega (arith, length-append l (r ++ instr.Sub ∷ []), length-append r (instr.Sub ∷ []))
@@ -82,8 +98,10 @@ joined_length o.LessEqual l r = omega (arith, length-append l (r ++ instr.Le ∷
 joined_length o.Match l r = omega (arith, length-append l (r ++ instr.Within ∷ []), length-append r (instr.Within ∷ []))
 joined_length o.NotEqual l r = omega (arith, length-append l (r ++ instr.Eq ∷ instr.Not ∷ []), length-append r (instr.Eq ∷ instr.Not ∷ []))
 joined_length o.Greater l r = omega (arith, length-append l (r ++ instr.Le ∷ instr.Not ∷ []), length-append r (instr.Le ∷ instr.Not ∷ []))
-joined_length o.GreaterEqual l r = omega (arith, length-append l (r ++ instr.Lt ∷ instr.Not ∷ []), length-append r (instr.Lt ∷ instr.Not ∷ []))
-joined_length o.NotMatch l r = omega (arith, length-append l (r ++ instr.Within ∷ instr.Not ∷ []), length-append r (instr.Within ∷ instr.Not ∷ []))
+joined_length o.GreaterEqual l r =
+    omega (arith, length-append l (r ++ instr.Lt ∷ instr.Not ∷ []), length-append r (instr.Lt ∷ instr.Not ∷ []))
+joined_length o.NotMatch l r =
+    omega (arith, length-append l (r ++ instr.Within ∷ instr.Not ∷ []), length-append r (instr.Within ∷ instr.Not ∷ []))
 
 module _ (decls : List Declared) where
   pub tree_counts : (t : Tree) (sets : ℕ) → tree_measure t ≡ measure_of (length (expression_code decls sets t)) (sets_of t)
@@ -102,7 +120,8 @@ module _ (decls : List Declared) where
       let l = expression_code decls sets left in
       let r = expression_code decls (sets + length (sets_of left)) right in
       plus_own _ _ (length l + length r) (own_count op) _ (sets_of left ++ sets_of right)
-      (plus_is _ _ (length l) (length r) _ (sets_of left) (sets_of right) _ (tree_counts left sets) (tree_counts right (sets + length (sets_of left))) refl refl)
+      (plus_is _ _ (length l) (length r) _ (sets_of left) (sets_of right) _ (tree_counts left sets) (tree_counts right (sets + length
+      (sets_of left))) refl refl)
       (own_measured op) (joined_length op l r)
   tree_counts (member op left set) sets =
       let c = expression_code decls sets left in
@@ -132,7 +151,8 @@ module _ (decls : List Declared) where
         let c = act_code decls (sets + length (sets_of test)) chosen in
         let l = length-append t (instr.JumpIfNot (length c) ∷ c) in
         plus_own _ _ (length t + length c) 1 _ (sets_of test ++ act_sets chosen)
-        (plus_is _ _ (length t) (length c) _ (sets_of test) (act_sets chosen) _ (tree_counts test sets) (act_counts chosen (sets + length (sets_of test))) refl refl)
+        (plus_is _ _ (length t) (length c) _ (sets_of test) (act_sets chosen) _ (tree_counts test sets) (act_counts chosen (sets + length
+        (sets_of test))) refl refl)
         refl (omega (arith, l))
     act_counts (choice_else test chosen other) sets =
         let sets1 = sets + length (sets_of test) in
@@ -148,11 +168,13 @@ module _ (decls : List Declared) where
         refl (omega (arith, l1, l2))
     act_counts (assign aim tree) sets =
         let c = expression_code decls sets tree in
-        plus_own _ _ (length c) (length (aim_code decls aim)) _ (sets_of tree) (tree_counts tree sets) (aim_counts aim) (sym (length-append c (aim_code decls aim)))
+        plus_own _ _ (length c) (length (aim_code decls aim)) _ (sets_of tree) (tree_counts tree sets) (aim_counts aim) (sym
+        (length-append c (aim_code decls aim)))
     act_counts (accept has_text) sets = refl
     act_counts (reject has_text) sets = refl
 
-    pub acts_count : (acts : Acts) (sets : ℕ) (before : Measure) (n : ℕ) (s : List (List PrefixPattern)) → before ≡ measure_of n s → acts_measure before acts ≡ measure_of (n + length (acts_code decls sets acts)) (s ++ acts_sets acts)
+    pub acts_count : (acts : Acts) (sets : ℕ) (before : Measure) (n : ℕ) (s : List (List PrefixPattern)) → before ≡ measure_of n s
+        → acts_measure before acts ≡ measure_of (n + length (acts_code decls sets acts)) (s ++ acts_sets acts)
     acts_count no_acts sets before n s e =
         let at : n ≡ n + 0 = omega arith in
         e ∙ (ap (λ k. measure_of k s) at ∙ ap (measure_of (n + 0)) (sym (append-nil s)))
@@ -163,7 +185,8 @@ module _ (decls : List Declared) where
         let at : n + length c + length d ≡ n + length (c ++ d) = omega (arith, length-append c d) in
         acts_count more sets' (plus before (act_measure first)) (n + length c) (s ++ act_sets first)
         (plus_is _ _ n (length c) _ s (act_sets first) _ e (act_counts first sets) refl refl)
-        ∙ (ap (λ k. measure_of k ((s ++ act_sets first) ++ acts_sets more)) at ∙ ap (measure_of (n + length (c ++ d))) (append_assoc s (act_sets first) (acts_sets more)))
+        ∙ (ap (λ k. measure_of k ((s ++ act_sets first) ++ acts_sets more)) at
+        ∙ ap (measure_of (n + length (c ++ d))) (append_assoc s (act_sets first) (acts_sets more)))
 
 -- an operator and the operand at its right, where their number is counted whole
 right_is : (op : Op) (l r : List Instr) (n : ℕ) → n ≡ length r → l ++ right_part op n r ≡ joined_code op l r
@@ -172,28 +195,39 @@ right_is o.Or l r n e = ap (λ k. l ++ instr.JumpIfNot 2 ∷ instr.Bool true ∷
 right_is _ l r n e = refl
 
 module _ (decls : List Declared) where
-  tree_size : (t : Tree) (sets : ℕ) → length (expression_code decls sets t) ≤ 1024 → (tree_measure t).instructions ≡ length (expression_code decls sets t)
+  tree_size : (t : Tree) (sets : ℕ) → length (expression_code decls sets t) ≤ 1024
+      → (tree_measure t).instructions ≡ length (expression_code decls sets t)
   tree_size t sets short =
-      let e : (tree_measure t).instructions ≡ min (length (expression_code decls sets t)) 1025 = ap (λ (m : Measure). m.instructions) (tree_counts decls t sets) in
+      let e : (tree_measure t).instructions ≡ min (length (expression_code decls sets t)) 1025 =
+      ap (λ (m : Measure). m.instructions) (tree_counts decls t sets) in
       omega arith
 
   act_size : (a : Act) (sets : ℕ) → length (act_code decls sets a) ≤ 1024 → (act_measure a).instructions ≡ length (act_code decls sets a)
   act_size a sets short =
-      let e : (act_measure a).instructions ≡ min (length (act_code decls sets a)) 1025 = ap (λ (m : Measure). m.instructions) (act_counts decls a sets) in
+      let e : (act_measure a).instructions ≡ min (length (act_code decls sets a)) 1025 =
+      ap (λ (m : Measure). m.instructions) (act_counts decls a sets) in
       omega arith
 
-  pub tree_written : (t : Tree) (sets : ℕ) → length (expression_code decls sets t) ≤ 1024 → sets + length (sets_of t) ≤ 255 → written decls sets t ≡ expression_code decls sets t
-  tree_written (number n) sets short few = refl
-  tree_written (address a) sets short few = refl
-  tree_written (prefix bits) sets short few = refl
-  tree_written (truth b) sets short few = refl
-  tree_written (name text) sets short few = refl
-  tree_written (attribute a) sets short few = refl
-  tree_written (defined a) sets short few = refl
-  tree_written (group inner) sets short few = tree_written inner sets short few
-  tree_written (negation inner) sets short few =
-      ap (λ c. c ++ instr.Not ∷ []) (tree_written inner sets (omega (arith, length-append (expression_code decls sets inner) (instr.Not ∷ []))) few)
-  tree_written (binary op left right) sets short few =
+-- what is written with the numbers of the uses
+module _ (decls : List Declared) where
+  pub tree_written : (t : Tree) (uses : List ℕ) (sets : ℕ) → HasUses decls uses (names_in t)
+      → length (expression_code decls sets t) ≤ 1024 → sets + length (sets_of t) ≤ 255 → written uses sets t ≡ expression_code decls sets t
+  tree_written (number n) uses sets has short few = refl
+  tree_written (address a) uses sets has short few = refl
+  tree_written (prefix bits) uses sets has short few = refl
+  tree_written (truth b) uses sets has short few = refl
+  tree_written (name text) uses sets has short few = ap (λ n. instr.Load n ∷ []) (use_is decls uses text has)
+  tree_written (attribute a) uses sets has short few = refl
+  tree_written (defined a) uses sets has short few = refl
+  tree_written (group inner) uses sets has short few = tree_written inner uses sets has short few
+  tree_written (negation inner) uses sets has short few =
+      ap (λ c. c ++ instr.Not ∷ []) (tree_written inner uses sets has (omega (
+        arith,
+        length-append (expression_code decls sets inner)
+            (instr.Not ∷ []),
+      )) few)
+  tree_written (binary op left right) uses sets has short few =
+      let uses' = behind (names_in left) uses in
       let sets' = sets + length (sets_of left) in
       let l = expression_code decls sets left in
       let r = expression_code decls sets' right in
@@ -201,33 +235,52 @@ module _ (decls : List Declared) where
       let k = length-append (sets_of left) (sets_of right) in
       let size = (tree_measure right).instructions in
       let short_r : length r ≤ 1024 = omega arith in
-      ap (λ c. c ++ right_part op size (written decls sets' right)) (tree_written left sets (omega arith) (omega arith))
-      ∙ (ap (λ c. l ++ right_part op size c) (tree_written right sets' short_r (omega arith)) ∙ right_is op l r size (tree_size right sets' short_r))
-  tree_written (member op left set) sets short few =
+      ap (λ c. c ++ right_part op size (written uses' sets' right))
+      (tree_written left uses sets (first_uses decls uses (names_in left) (names_in right) has) (omega arith) (omega arith))
+      ∙ (ap (λ c. l ++ right_part op size c)
+      (tree_written right uses' sets' (later_uses decls uses (names_in left) (names_in right) has) short_r (omega arith))
+      ∙ right_is op l r size (tree_size decls right sets' short_r))
+  tree_written (member op left set) uses sets has short few =
       let n = sets + length (sets_of left) in
       let c = expression_code decls sets left in
       let k = length-append (sets_of left) (map pattern_of set ∷ []) in
       let l = length-append c (member_code op n) in
       let is : set_number n ≡ n = omega arith in
-      ap (λ x. x ++ member_code op (set_number n)) (tree_written left sets (omega arith) (omega arith)) ∙ ap (λ x. c ++ member_code op x) is
-  tree_written (suffixed inner s) sets short few =
-      ap (λ c. c ++ suffix_code s ∷ []) (tree_written inner sets (omega (arith, length-append (expression_code decls sets inner) (suffix_code s ∷ []))) few)
+      ap (λ x. x ++ member_code op (set_number n)) (tree_written left uses sets has (omega arith) (omega arith))
+      ∙ ap (λ x. c ++ member_code op x) is
+  tree_written (suffixed inner s) uses sets has short few =
+      ap (λ c. c ++ suffix_code s ∷ []) (tree_written inner uses sets has (omega (
+        arith,
+        length-append (expression_code decls sets inner)
+            (suffix_code s ∷ []),
+      )) few)
+
+  aim_written : (aim : Aim) (uses : List ℕ) → HasUses decls uses (names_of_aim aim) → written_aim uses aim ≡ aim_code decls aim
+  aim_written (to_name text) uses has = ap (λ n. instr.Store n ∷ []) (use_is decls uses text has)
+  aim_written to_metric uses has = refl
+  aim_written to_net uses has = refl
 
   mutual
-    pub act_written : (a : Act) (sets : ℕ) → length (act_code decls sets a) ≤ 1024 → sets + length (act_sets a) ≤ 255 → written_act decls sets a ≡ act_code decls sets a
-    act_written empty sets short few = refl
-    act_written (block body) sets short few = acts_written body sets short few
-    act_written (choice test chosen) sets short few =
+    pub act_written : (a : Act) (uses : List ℕ) (sets : ℕ) → HasUses decls uses (names_of_act a) → length (act_code decls sets a) ≤ 1024
+        → sets + length (act_sets a) ≤ 255 → written_act uses sets a ≡ act_code decls sets a
+    act_written empty uses sets has short few = refl
+    act_written (block body) uses sets has short few = acts_written body uses sets has short few
+    act_written (choice test chosen) uses sets has short few =
+        let uses' = behind (names_in test) uses in
         let sets' = sets + length (sets_of test) in
         let t = expression_code decls sets test in
         let c = act_code decls sets' chosen in
         let l = length-append t (instr.JumpIfNot (length c) ∷ c) in
         let k = length-append (sets_of test) (act_sets chosen) in
         let short_c : length c ≤ 1024 = omega arith in
-        ap (λ x. x ++ instr.JumpIfNot (act_measure chosen).instructions ∷ written_act decls sets' chosen) (tree_written test sets (omega arith) (omega arith))
-        ∙ (ap (λ n. t ++ instr.JumpIfNot n ∷ written_act decls sets' chosen) (act_size chosen sets' short_c)
-        ∙ ap (λ x. t ++ instr.JumpIfNot (length c) ∷ x) (act_written chosen sets' short_c (omega arith)))
-    act_written (choice_else test chosen other) sets short few =
+        ap (λ x. x ++ instr.JumpIfNot (act_measure chosen).instructions ∷ written_act uses' sets' chosen)
+        (tree_written test uses sets (first_uses decls uses (names_in test) (names_of_act chosen) has) (omega arith) (omega arith))
+        ∙ (ap (λ n. t ++ instr.JumpIfNot n ∷ written_act uses' sets' chosen) (act_size decls chosen sets' short_c)
+        ∙ ap (λ x. t ++ instr.JumpIfNot (length c) ∷ x)
+        (act_written chosen uses' sets' (later_uses decls uses (names_in test) (names_of_act chosen) has) short_c (omega arith)))
+    act_written (choice_else test chosen other) uses sets has short few =
+        let uses1 = behind (names_in test) uses in
+        let uses2 = behind (names_of_act chosen) uses1 in
         let sets1 = sets + length (sets_of test) in
         let sets2 = sets1 + length (act_sets chosen) in
         let t = expression_code decls sets test in
@@ -241,26 +294,48 @@ module _ (decls : List Declared) where
         let short_d : length d ≤ 1024 = omega arith in
         let n = (act_measure chosen).instructions in
         let m = (act_measure other).instructions in
-        ap (λ x. x ++ instr.JumpIfNot (n + 1) ∷ (written_act decls sets1 chosen ++ instr.Jump m ∷ written_act decls sets2 other)) (tree_written test sets (omega arith) (omega arith))
-        ∙ (ap (λ x. t ++ instr.JumpIfNot (x + 1) ∷ (written_act decls sets1 chosen ++ instr.Jump m ∷ written_act decls sets2 other)) (act_size chosen sets1 short_c)
-        ∙ (ap (λ x. t ++ instr.JumpIfNot (length c + 1) ∷ (x ++ instr.Jump m ∷ written_act decls sets2 other)) (act_written chosen sets1 short_c (omega arith))
-        ∙ (ap (λ x. t ++ instr.JumpIfNot (length c + 1) ∷ (c ++ instr.Jump x ∷ written_act decls sets2 other)) (act_size other sets2 short_d)
-        ∙ ap (λ x. t ++ instr.JumpIfNot (length c + 1) ∷ (c ++ instr.Jump (length d) ∷ x)) (act_written other sets2 short_d (omega arith)))))
-    act_written (assign aim tree) sets short few =
-        ap (λ c. c ++ aim_code decls aim) (tree_written tree sets (omega (arith, length-append (expression_code decls sets tree) (aim_code decls aim))) few)
-    act_written (accept has_text) sets short few = refl
-    act_written (reject has_text) sets short few = refl
+        let has_t = first_uses decls uses (names_in test) (names_of_act chosen ++ names_of_act other) has in
+        let has' = later_uses decls uses (names_in test) (names_of_act chosen ++ names_of_act other) has in
+        let has_c = first_uses decls uses1 (names_of_act chosen) (names_of_act other) has' in
+        let has_d = later_uses decls uses1 (names_of_act chosen) (names_of_act other) has' in
+        ap (λ x. x ++ instr.JumpIfNot (n + 1) ∷ (written_act uses1 sets1 chosen ++ instr.Jump m ∷ written_act uses2 sets2 other))
+        (tree_written test uses sets has_t (omega arith) (omega arith))
+        ∙ (ap (λ x. t ++ instr.JumpIfNot (x + 1) ∷ (written_act uses1 sets1 chosen ++ instr.Jump m ∷ written_act uses2 sets2 other))
+        (act_size decls chosen sets1 short_c)
+        ∙ (ap (λ x. t ++ instr.JumpIfNot (length c + 1) ∷ (x ++ instr.Jump m ∷ written_act uses2 sets2 other))
+        (act_written chosen uses1 sets1 has_c short_c (omega arith))
+        ∙ (ap (λ x. t ++ instr.JumpIfNot (length c + 1) ∷ (c ++ instr.Jump x ∷ written_act uses2 sets2 other))
+        (act_size decls other sets2 short_d)
+        ∙ ap (λ x. t ++ instr.JumpIfNot (length c + 1) ∷ (c ++ instr.Jump (length d) ∷ x)) (act_written other uses2 sets2 has_d short_d
+        (omega arith)))))
+    act_written (assign aim tree) uses sets has short few =
+        let uses' = behind (names_of_aim aim) uses in
+        let c = expression_code decls sets tree in
+        ap (λ x. x ++ written_aim uses aim)
+        (tree_written tree uses' sets (later_uses decls uses (names_of_aim aim) (names_in tree) has) (omega (
+          arith,
+          length-append c
+              (aim_code decls aim),
+        )) few)
+        ∙ ap (λ x. c ++ x) (aim_written aim uses (first_uses decls uses (names_of_aim aim) (names_in tree) has))
+    act_written (accept has_text) uses sets has short few = refl
+    act_written (reject has_text) uses sets has short few = refl
 
-    pub acts_written : (acts : Acts) (sets : ℕ) → length (acts_code decls sets acts) ≤ 1024 → sets + length (acts_sets acts) ≤ 255 → written_acts decls sets acts ≡ acts_code decls sets acts
-    acts_written no_acts sets short few = refl
-    acts_written (act_then first more) sets short few =
+    pub acts_written : (acts : Acts) (uses : List ℕ) (sets : ℕ) → HasUses decls uses (names_of_acts acts)
+        → length (acts_code decls sets acts) ≤ 1024 → sets + length (acts_sets acts) ≤ 255
+        → written_acts uses sets acts ≡ acts_code decls sets acts
+    acts_written no_acts uses sets has short few = refl
+    acts_written (act_then first more) uses sets has short few =
+        let uses' = behind (names_of_act first) uses in
         let sets' = sets + length (act_sets first) in
         let c = act_code decls sets first in
         let d = acts_code decls sets' more in
         let l = length-append c d in
         let k = length-append (act_sets first) (acts_sets more) in
-        ap (λ x. x ++ written_acts decls sets' more) (act_written first sets (omega arith) (omega arith))
-        ∙ ap (λ x. c ++ x) (acts_written more sets' (omega arith) (omega arith))
+        ap (λ x. x ++ written_acts uses' sets' more)
+        (act_written first uses sets (first_uses decls uses (names_of_act first) (names_of_acts more) has) (omega arith) (omega arith))
+        ∙ ap (λ x. c ++ x) (acts_written more uses' sets' (later_uses decls uses (names_of_act first) (names_of_acts more) has)
+        (omega arith) (omega arith))
 
 declarations_length : (before : ℕ) (decls : List Declared) → length (declarations_code before decls) ≡ length decls + length decls
 declarations_length before [] = refl
@@ -281,11 +356,13 @@ filter_counts f few =
     let e : n + length body ≡ length (instructions f) = omega arith in
     acts_count f.decls f.body 0 (instructions_alone n) n [] (alone n (omega arith)) ∙ ap (λ k. measure_of k (acts_sets f.body)) e
 
--- within the limits what is written is the code
-pub filter_written : (f : syntax.Program) → length (instructions f) ≤ 1024 → length (acts_sets f.body) ≤ 64 → written_filter f ≡ instructions f
+-- within the limits what is written with the numbers of a filter's uses is the code
+pub filter_written : (f : syntax.Program) → length (instructions f) ≤ 1024 → length (acts_sets f.body) ≤ 64
+    → written_filter (numbers_of f) f ≡ instructions f
 filter_written f short few =
     let d = declarations_code 0 f.decls in
     let body = acts_code f.decls 0 f.body in
     let l1 = length-append d (body ++ instr.Reject ∷ []) in
     let l2 = length-append body (instr.Reject ∷ []) in
-    ap (λ x. d ++ (x ++ instr.Reject ∷ [])) (acts_written f.decls f.body 0 (omega arith) (omega arith))
+    ap (λ x. d ++ (x ++ instr.Reject ∷ []))
+    (acts_written f.decls f.body (numbers_of f) 0 (all_uses f.decls (names_of_acts f.body)) (omega arith) (omega arith))

@@ -1,7 +1,8 @@
 -- The meaning of expressions: the value that one has for a route, where each variable has its value by its name. There
 -- is no stack and there are no jumps. As in the BIRD 2.0 User's Guide on filters; that numbers wrap and that a zero
 -- divisor has no value are this project's own choice. An expression whose kinds do not fit has no value either.
-use Rattle.std.specs.Prelude.{ℕ, zero, suc, ◌+◌, ◌-◌, ◌*◌, ◌/◌, ◌%◌, ◌^◌, ◌==◌, nat_lt, nat_le, Bool, true, false, not, if◌then◌else◌, Option, Some, None, option_and_then, List, [], ◌∷◌, length, map}
+use Rattle.std.specs.Prelude.{ℕ, zero, suc, ◌+◌, ◌-◌, ◌*◌, ◌/◌, ◌%◌, ◌^◌, ◌==◌, nat_lt, nat_le, Bool, true, false, not, if◌then◌else◌}
+use Rattle.std.specs.Prelude.{Option, Some, None, option_and_then, List, [], ◌∷◌, length, map}
 use Rattle.std.specs.Bool.{beq}
 use Rattle.std.specs.Cmp.Lexicographic.{pointwise}
 use Rattle.std.specs.Option.{option_map}
@@ -19,7 +20,8 @@ use Rattle.filter_parser.specs.declared.tree.op.Op.{Op}
 use Rattle.filter_parser.specs.declared.tree.op.Op.TheVariants as o
 use Rattle.filter_parser.specs.declared.tree.op.Suffix.{Suffix}
 use Rattle.filter_parser.specs.declared.tree.op.Suffix.TheVariants as suffix
-use Rattle.filter_parser.specs.Syntax.{Tree, number, address, prefix, truth, name, attribute, defined, group, negation, binary, member, suffixed, Item, pattern_of}
+use Rattle.filter_parser.specs.Syntax.{Tree, number, address, prefix, truth, name, attribute, defined, group, negation, binary, member}
+use Rattle.filter_parser.specs.Syntax.{suffixed, Item, pattern_of}
 
 -- a variable and its value
 pub record Bound : Type 0 where

@@ -2,8 +2,10 @@
 use Rattle.std.specs.Prelude.{ℕ, ◌+◌, max, List, [], ◌∷◌}
 use Rattle.filter_parser.specs.declared.tree.op.Op.{Op}
 use Rattle.filter_parser.specs.declared.tree.op.Op.TheVariants as o
-use Rattle.filter_parser.specs.Syntax.{Tree, number, address, prefix, truth, name, attribute, defined, group, negation, binary, member, suffixed}
-use Rattle.filter_parser.specs.SyntaxCommands.{Act, empty, block, choice, choice_else, assign, accept, reject, Acts, no_acts, act_then, Aim, to_metric, Declared}
+use Rattle.filter_parser.specs.Syntax.{Tree, number, address, prefix, truth, name, attribute, defined, group, negation, binary, member}
+use Rattle.filter_parser.specs.Syntax.{suffixed}
+use Rattle.filter_parser.specs.SyntaxCommands.{Act, empty, block, choice, choice_else, assign, accept, reject, Acts, no_acts, act_then}
+use Rattle.filter_parser.specs.SyntaxCommands.{Aim, to_metric, Declared}
 use Rattle.filter_parser.specs.SyntaxText as syntax
 
 -- the left operand waits while the right one is worked out; of `&&` and `||` it does not

@@ -13,8 +13,10 @@ use Rattle.filter_parser.specs.declared.tree.op.Op.{Op}
 use Rattle.filter_parser.specs.declared.tree.op.Op.TheVariants as o
 use Rattle.filter_parser.specs.declared.tree.op.Suffix.{Suffix}
 use Rattle.filter_parser.specs.declared.tree.op.Suffix.TheVariants as suffix
-use Rattle.filter_parser.specs.Syntax.{Tree, number, address, prefix, truth, name, attribute, defined, group, negation, binary, member, suffixed, pattern_of}
-use Rattle.filter_parser.specs.SyntaxCommands.{Act, empty, block, choice, choice_else, assign, accept, reject, Acts, no_acts, act_then, Aim, to_name, to_metric, to_net, Declared}
+use Rattle.filter_parser.specs.Syntax.{Tree, number, address, prefix, truth, name, attribute, defined, group, negation, binary, member}
+use Rattle.filter_parser.specs.Syntax.{suffixed, pattern_of}
+use Rattle.filter_parser.specs.SyntaxCommands.{Act, empty, block, choice, choice_else, assign, accept, reject, Acts, no_acts, act_then}
+use Rattle.filter_parser.specs.SyntaxCommands.{Aim, to_name, to_metric, to_net, Declared}
 use Rattle.filter_parser.specs.SyntaxText as syntax
 use Rattle.filter_code.specs.Program as code
 use Rattle.filter_types.specs.Kinds.{number_of}
@@ -122,10 +124,14 @@ abbrev pub choice_else_code : List Instr → List Instr → List Instr → List 
 choice_else_code test chosen other =
     test ++ instr.JumpIfNot (length chosen + 1) ∷ (chosen ++ instr.Jump (length other) ∷ other)
 
--- what sets a variable, and the metric: at least the metric received. `net` is never assigned
+-- what sets the metric: to the value on the stack, or to the metric received where this is greater
+abbrev pub metric_code : List Instr
+metric_code = instr.Received ∷ instr.Max ∷ instr.SetMetric ∷ []
+
+-- what sets a variable, and the metric. `net` is never assigned
 abbrev pub aim_code : List Declared → Aim → List Instr
 aim_code decls (to_name text) = instr.Store (number_of decls text) ∷ []
-aim_code decls to_metric = instr.Received ∷ instr.Max ∷ instr.SetMetric ∷ []
+aim_code decls to_metric = metric_code
 aim_code decls to_net = []
 
 -- the code of a command, and of commands one after another

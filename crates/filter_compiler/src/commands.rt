@@ -3,16 +3,16 @@
 ghost use Rattle.std.specs.Prelude.{◌≡◌, ◌≤◌, [], ◌∷◌, ◌++◌, OnOk, length, map};
 ghost use Rattle.filter_parser.specs.Syntax.{view};
 ghost use Rattle.filter_parser.specs.SyntaxCommands.{acts_of, view_command, view_decl, view_target};
-ghost use Rattle.filter_types.specs.Kinds.{variable_limit};
+ghost use Rattle.filter_types.specs.Kinds.{names_in, names_of_act, names_of_acts, names_of_aim, variable_limit};
 ghost use Rattle.filter_compiler.specs.Measures.{act_measure};
-ghost use Rattle.filter_compiler.specs.Translation.{act_sets, acts_sets, aim_code, declarations_code, first_value};
-ghost use Rattle.filter_compiler.specs.Writing.{written_act, written_acts};
+ghost use Rattle.filter_compiler.specs.Translation.{act_sets, acts_sets, declarations_code, first_value, metric_code, sets_of};
+ghost use Rattle.filter_compiler.specs.Writing.{behind, written, written_act, written_acts, written_aim};
 
-use crate::expressions::{emit, local_of};
+use crate::expressions::emit;
 use crate::measuring::measure_command;
-use crate::output::{Output, put};
+use crate::output::{Output, next_number, put};
 use filter_code::Instr;
-use filter_parser::{Command, Decl, Kind, Target};
+use filter_parser::{Command, Decl, Expr, Kind, Target};
 use prefix_patterns::{Ip, Prefix};
 use std::alloc::AllocError;
 
@@ -33,6 +33,7 @@ pub(crate) fn emit_declarations(variables: &[Decl], out: &mut Output) -> Result<
     requires { length variables.now ≤ variable_limit }
     ensures code { OnOk result (out.new.instrs.items ≡ out.old.instrs.items ++ declarations_code 0 (map view_decl variables.now)) }
     ensures sets { OnOk result (out.new.sets.items ≡ out.old.sets.items) }
+    ensures uses { OnOk result (out.new.uses.now ≡ out.old.uses.now) }
 {
     for (number, variable) in variables.iter().enumerate() {
         put(out, first_value(variable.kind))?;
@@ -41,20 +42,37 @@ pub(crate) fn emit_declarations(variables: &[Decl], out: &mut Output) -> Result<
     Ok(())
 }
 
-/// Writes what sets a variable or the metric, which is at least the metric received.
-fn emit_target(target: &Target, variables: &[Decl], out: &mut Output) -> Result<(), AllocError>
-    requires { length variables.now ≤ variable_limit }
-    ensures code { OnOk result (out.new.instrs.items ≡ out.old.instrs.items ++ aim_code (map view_decl variables.now) (view_target target.now)) }
-    ensures sets { OnOk result (out.new.sets.items ≡ out.old.sets.items) }
+/// Writes what sets the metric, which is at least the metric received.
+fn emit_metric(out: &mut Output) -> Result<(), AllocError>
+    ensures code { OnOk result (out.new.instrs.items ≡ out.old.instrs.items ++ metric_code) }
+    ensures sets { out.new.sets.items ≡ out.old.sets.items }
+    ensures uses { out.new.uses.now ≡ out.old.uses.now }
+{
+    put(out, Instr::Received)?;
+    put(out, Instr::Max)?;
+    put(out, Instr::SetMetric)
+}
+
+/// Writes an assignment, of which the name stands before the value.
+fn emit_assignment(target: &Target, value: &Expr, out: &mut Output) -> Result<(), AllocError>
+    ensures code { OnOk result (out.new.instrs.items ≡ out.old.instrs.items
+        ++ (written (behind (names_of_aim (view_target target.now)) out.old.uses.now) (length out.old.sets.items) (view value.now)
+        ++ written_aim out.old.uses.now (view_target target.now))) }
+    ensures sets { OnOk result (out.new.sets.items ≡ out.old.sets.items ++ sets_of (view value.now)) }
+    ensures uses { OnOk result (out.new.uses.now
+        ≡ behind (names_of_aim (view_target target.now) ++ names_in (view value.now)) out.old.uses.now) }
 {
     match target {
-        Target::Name(name) => put(out, Instr::Store(local_of(variables, name))),
-        Target::RipMetric => {
-            put(out, Instr::Received)?;
-            put(out, Instr::Max)?;
-            put(out, Instr::SetMetric)
+        Target::Name(_) => {
+            let number = next_number(out);
+            emit(value, out)?;
+            put(out, Instr::Store(number))
         }
-        Target::Net => Ok(()),
+        Target::RipMetric => {
+            emit(value, out)?;
+            emit_metric(out)
+        }
+        Target::Net => emit(value, out),
     }
 }
 
@@ -68,52 +86,45 @@ fn size_of(command: &Command) -> u16
 
 /// Writes commands one after another.
 #[cycle(command)]
-pub(crate) fn emit_commands(
-    commands: &[Command],
-    variables: &[Decl],
-    out: &mut Output,
-) -> Result<(), AllocError>
-    requires { length variables.now ≤ variable_limit }
+pub(crate) fn emit_commands(commands: &[Command], out: &mut Output) -> Result<(), AllocError>
     ensures code { OnOk result (out.new.instrs.items ≡ out.old.instrs.items
-        ++ written_acts (map view_decl variables.now) (length out.old.sets.items) (acts_of (map view_command commands.now))) }
+        ++ written_acts out.old.uses.now (length out.old.sets.items) (acts_of (map view_command commands.now))) }
     ensures sets { OnOk result (out.new.sets.items ≡ out.old.sets.items ++ acts_sets (acts_of (map view_command commands.now))) }
+    ensures uses { OnOk result (out.new.uses.now ≡ behind (names_of_acts (acts_of (map view_command commands.now))) out.old.uses.now) }
 {
     for command in commands {
-        emit_command(command, variables, out)?;
+        emit_command(command, out)?;
     }
     Ok(())
 }
 
 /// Writes a command.
 #[cycle(command)]
-fn emit_command(command: &Command, variables: &[Decl], out: &mut Output) -> Result<(), AllocError>
-    requires { length variables.now ≤ variable_limit }
+fn emit_command(command: &Command, out: &mut Output) -> Result<(), AllocError>
     ensures code { OnOk result (out.new.instrs.items ≡ out.old.instrs.items
-        ++ written_act (map view_decl variables.now) (length out.old.sets.items) (view_command command.now)) }
+        ++ written_act out.old.uses.now (length out.old.sets.items) (view_command command.now)) }
     ensures sets { OnOk result (out.new.sets.items ≡ out.old.sets.items ++ act_sets (view_command command.now)) }
+    ensures uses { OnOk result (out.new.uses.now ≡ behind (names_of_act (view_command command.now)) out.old.uses.now) }
 {
     match command {
         Command::Empty(_) => Ok(()),
-        Command::Block(_, body) => emit_commands(body, variables, out),
+        Command::Block(_, body) => emit_commands(body, out),
         Command::If(_, test, chosen, other) => {
-            emit(test, variables, out)?;
+            emit(test, out)?;
             match other {
                 None => {
                     put(out, Instr::JumpIfNot(size_of(chosen)))?;
-                    emit_command(chosen, variables, out)
+                    emit_command(chosen, out)
                 }
                 Some(other) => {
                     put(out, Instr::JumpIfNot(size_of(chosen) + 1))?;
-                    emit_command(chosen, variables, out)?;
+                    emit_command(chosen, out)?;
                     put(out, Instr::Jump(size_of(other)))?;
-                    emit_command(other, variables, out)
+                    emit_command(other, out)
                 }
             }
         }
-        Command::Assign(_, target, value) => {
-            emit(value, variables, out)?;
-            emit_target(target, variables, out)
-        }
+        Command::Assign(_, target, value) => emit_assignment(target, value, out),
         Command::Accept(_, _) => put(out, Instr::Accept),
         Command::Reject(_, _) => put(out, Instr::Reject),
     }

@@ -2,39 +2,18 @@
 
 ghost use Rattle.std.specs.Prelude.{◌≡◌, ◌+◌, ◌≤◌, [], ◌∷◌, ◌++◌, IfOk, OnOk, length, map};
 ghost use Rattle.filter_parser.specs.Syntax.{pattern_of, view, view_item};
-ghost use Rattle.filter_parser.specs.SyntaxCommands.{view_decl};
-ghost use Rattle.filter_types.specs.Kinds.{number_of, variable_limit};
+ghost use Rattle.filter_types.specs.Kinds.{names_in};
+ghost use Rattle.filter_types.specs.Turns.{names_behind};
 ghost use Rattle.filter_compiler.specs.Measures.{tree_measure};
 ghost use Rattle.filter_compiler.specs.Translation.{attribute_code, member_code, operator_code, sets_of, suffix_code};
-ghost use Rattle.filter_compiler.specs.Writing.{right_part, set_number, sets_behind, written, written_behind};
+ghost use Rattle.filter_compiler.specs.Writing.{behind, right_part, set_number, sets_behind, written, written_behind};
 
 use crate::measuring::measure;
-use crate::output::{Output, put};
+use crate::output::{Output, next_number, put};
+use crate::sets::list_of;
 use filter_code::Instr;
-use filter_parser::{Attribute, Decl, Expr, Membership, Op, Set, SetPattern, Suffix};
-use prefix_patterns::{Pattern, PatternSet};
-use std::alloc::{AllocError, Global};
-
-/// The number of a variable, and the count of the variables where none has the name.
-fn number_of(variables: &[Decl], name: &[u8]) -> usize
-    ensures value { result ≡ number_of (map view_decl variables.now) name.now }
-    ensures limit { result ≤ length variables.now }
-{
-    for (number, variable) in variables.iter().enumerate() {
-        if variable.name.as_slice() == name {
-            return number;
-        }
-    }
-    variables.len()
-}
-
-/// The number of a variable's local variable.
-pub(crate) fn local_of(variables: &[Decl], name: &[u8]) -> u8
-    requires { length variables.now ≤ variable_limit }
-    ensures { result ≡ number_of (map view_decl variables.now) name.now }
-{
-    number_of(variables, name) as u8
-}
+use filter_parser::{Attribute, Expr, Membership, Op, Set, Suffix};
+use std::alloc::AllocError;
 
 /// The instruction that puts an attribute of the route on the stack.
 fn attribute_instr(attribute: Attribute) -> Instr
@@ -69,6 +48,7 @@ fn size_of(expr: &Expr) -> u16
 fn put_opposite(out: &mut Output, instr: Instr) -> Result<(), AllocError>
     ensures code { OnOk result (out.new.instrs.items ≡ out.old.instrs.items ++ instr ∷ Instr.Not ∷ []) }
     ensures sets { out.new.sets.items ≡ out.old.sets.items }
+    ensures uses { out.new.uses.now ≡ out.old.uses.now }
 {
     put(out, instr)?;
     put(out, Instr::Not)
@@ -78,6 +58,7 @@ fn put_opposite(out: &mut Output, instr: Instr) -> Result<(), AllocError>
 fn emit_operator(op: Op, out: &mut Output) -> Result<(), AllocError>
     ensures code { OnOk result (out.new.instrs.items ≡ out.old.instrs.items ++ operator_code op) }
     ensures sets { out.new.sets.items ≡ out.old.sets.items }
+    ensures uses { out.new.uses.now ≡ out.old.uses.now }
 {
     match op {
         Op::Add => put(out, Instr::Add),
@@ -100,6 +81,7 @@ fn emit_operator(op: Op, out: &mut Output) -> Result<(), AllocError>
 fn emit_suffixes(suffixes: &[Suffix], out: &mut Output) -> Result<(), AllocError>
     ensures code { OnOk result (out.new.instrs.items ≡ out.old.instrs.items ++ map suffix_code suffixes.now) }
     ensures sets { OnOk result (out.new.sets.items ≡ out.old.sets.items) }
+    ensures uses { OnOk result (out.new.uses.now ≡ out.old.uses.now) }
 {
     for suffix in suffixes {
         put(out, suffix_instr(*suffix))?;
@@ -107,38 +89,17 @@ fn emit_suffixes(suffixes: &[Suffix], out: &mut Output) -> Result<(), AllocError
     Ok(())
 }
 
-/// The patterns that a set means.
-fn patterns_of(alloc: Global, set: &[SetPattern]) -> Result<Vec<Pattern>, AllocError>
-    ensures { IfOk result (λ patterns. patterns.items ≡ map pattern_of (map view_item set.now)) }
-{
-    let mut patterns = Vec::new(alloc);
-    for item in set {
-        patterns.push(item.pattern())?;
-    }
-    Ok(patterns)
-}
-
-/// The set of the code that a set means. The filter was measured before, and none of its sets is too large, so that
-/// only memory can be wanting.
-fn set_of(alloc: Global, set: &Set) -> Result<PatternSet, AllocError>
-    ensures { IfOk result (λ made. made ≡ map pattern_of (map view_item set.now.patterns.items)) }
-{
-    let patterns = patterns_of(alloc, &set.patterns)?;
-    match PatternSet::build(alloc, &patterns) {
-        Ok(made) => Ok(made),
-        Err(_) => Err(AllocError),
-    }
-}
-
 /// Keeps a set, and answers its number. The filter was measured before, and has no more sets than numbers.
 fn keep_set(set: &Set, out: &mut Output) -> Result<u8, AllocError>
     ensures number { IfOk result (λ number. number ≡ set_number (length out.old.sets.items)) }
-    ensures sets { IfOk result (λ _. out.new.sets.items ≡ out.old.sets.items ++ map pattern_of (map view_item set.now.patterns.items) ∷ []) }
+    ensures sets { IfOk result (λ _. out.new.sets.items
+        ≡ out.old.sets.items ++ map pattern_of (map view_item set.now.patterns.items) ∷ []) }
     ensures code { out.new.instrs.items ≡ out.old.instrs.items }
+    ensures uses { out.new.uses.now ≡ out.old.uses.now }
 {
     let number = out.sets.len().min(255) as u8;
-    let made = set_of(out.alloc, set)?;
-    out.sets.push(made)?;
+    let list = list_of(out.alloc, set)?;
+    out.sets.push(list)?;
     Ok(number)
 }
 
@@ -146,6 +107,7 @@ fn keep_set(set: &Set, out: &mut Output) -> Result<u8, AllocError>
 fn emit_member(op: Membership, set: &Set, out: &mut Output) -> Result<(), AllocError>
     ensures code { OnOk result (out.new.instrs.items ≡ out.old.instrs.items ++ member_code op (set_number (length out.old.sets.items))) }
     ensures sets { OnOk result (out.new.sets.items ≡ out.old.sets.items ++ map pattern_of (map view_item set.now.patterns.items) ∷ []) }
+    ensures uses { OnOk result (out.new.uses.now ≡ out.old.uses.now) }
 {
     let number = keep_set(set, out)?;
     match op {
@@ -156,16 +118,17 @@ fn emit_member(op: Membership, set: &Set, out: &mut Output) -> Result<(), AllocE
 
 /// Writes an operator with the operand at its right.
 #[cycle(expressions)]
-fn emit_right(op: Op, right: &Expr, variables: &[Decl], out: &mut Output) -> Result<(), AllocError>
-    requires { length variables.now ≤ variable_limit }
+fn emit_right(op: Op, right: &Expr, out: &mut Output) -> Result<(), AllocError>
     ensures code { OnOk result (out.new.instrs.items ≡ out.old.instrs.items
-        ++ right_part op (tree_measure (view right.now)).instructions (written (map view_decl variables.now) (length out.old.sets.items) (view right.now))) }
+        ++ right_part op (tree_measure (view right.now)).instructions
+        (written out.old.uses.now (length out.old.sets.items) (view right.now))) }
     ensures sets { OnOk result (out.new.sets.items ≡ out.old.sets.items ++ sets_of (view right.now)) }
+    ensures uses { OnOk result (out.new.uses.now ≡ behind (names_in (view right.now)) out.old.uses.now) }
 {
     match op {
         Op::And => {
             put(out, Instr::JumpIfNot(size_of(right) + 1))?;
-            emit(right, variables, out)?;
+            emit(right, out)?;
             put(out, Instr::Jump(1))?;
             put(out, Instr::Bool(false))
         }
@@ -173,10 +136,10 @@ fn emit_right(op: Op, right: &Expr, variables: &[Decl], out: &mut Output) -> Res
             put(out, Instr::JumpIfNot(2))?;
             put(out, Instr::Bool(true))?;
             put(out, Instr::Jump(size_of(right)))?;
-            emit(right, variables, out)
+            emit(right, out)
         }
         _ => {
-            emit(right, variables, out)?;
+            emit(right, out)?;
             emit_operator(op, out)
         }
     }
@@ -184,49 +147,52 @@ fn emit_right(op: Op, right: &Expr, variables: &[Decl], out: &mut Output) -> Res
 
 /// Writes operators, each with the operand at its right.
 #[cycle(expressions)]
-fn emit_run(more: &[(Op, Expr)], variables: &[Decl], out: &mut Output) -> Result<(), AllocError>
-    requires { length variables.now ≤ variable_limit }
+fn emit_run(more: &[(Op, Expr)], out: &mut Output) -> Result<(), AllocError>
     ensures code { OnOk result (out.new.instrs.items ≡ out.old.instrs.items
-        ++ written_behind (map view_decl variables.now) (length out.old.sets.items) (map (λ p. (p.0, view p.1)) more.now)) }
+        ++ written_behind out.old.uses.now (length out.old.sets.items) (map (λ p. (p.0, view p.1)) more.now)) }
     ensures sets { OnOk result (out.new.sets.items ≡ out.old.sets.items ++ sets_behind (map (λ p. (p.0, view p.1)) more.now)) }
+    ensures uses { OnOk result (out.new.uses.now ≡ behind (names_behind (map (λ p. (p.0, view p.1)) more.now)) out.old.uses.now) }
 {
     for (op, right) in more {
-        emit_right(*op, right, variables, out)?;
+        emit_right(*op, right, out)?;
     }
     Ok(())
 }
 
 /// Writes an expression.
 #[cycle(expressions)]
-pub(crate) fn emit(expr: &Expr, variables: &[Decl], out: &mut Output) -> Result<(), AllocError>
-    requires { length variables.now ≤ variable_limit }
+pub(crate) fn emit(expr: &Expr, out: &mut Output) -> Result<(), AllocError>
     ensures code { OnOk result (out.new.instrs.items
-        ≡ out.old.instrs.items ++ written (map view_decl variables.now) (length out.old.sets.items) (view expr.now)) }
+        ≡ out.old.instrs.items ++ written out.old.uses.now (length out.old.sets.items) (view expr.now)) }
     ensures sets { OnOk result (out.new.sets.items ≡ out.old.sets.items ++ sets_of (view expr.now)) }
+    ensures uses { OnOk result (out.new.uses.now ≡ behind (names_in (view expr.now)) out.old.uses.now) }
 {
     match expr {
         Expr::Number(_, number) => put(out, Instr::Int(*number)),
         Expr::Address(_, address) => put(out, Instr::Ip(*address)),
         Expr::Prefix(_, prefix) => put(out, Instr::Prefix(*prefix)),
         Expr::Truth(_, truth) => put(out, Instr::Bool(*truth)),
-        Expr::Name(_, name) => put(out, Instr::Load(local_of(variables, name))),
+        Expr::Name(_, _) => {
+            let number = next_number(out);
+            put(out, Instr::Load(number))
+        }
         Expr::Attribute(_, attribute) => put(out, attribute_instr(*attribute)),
         Expr::Defined(_, _) => put(out, Instr::Bool(true)),
-        Expr::Group(_, inner) => emit(inner, variables, out),
+        Expr::Group(_, inner) => emit(inner, out),
         Expr::Not(_, inner) => {
-            emit(inner, variables, out)?;
+            emit(inner, out)?;
             put(out, Instr::Not)
         }
         Expr::Run(first, more) => {
-            emit(first, variables, out)?;
-            emit_run(more, variables, out)
+            emit(first, out)?;
+            emit_run(more, out)
         }
         Expr::Member(op, left, set) => {
-            emit(left, variables, out)?;
+            emit(left, out)?;
             emit_member(*op, set, out)
         }
         Expr::Suffixed(inner, suffixes) => {
-            emit(inner, variables, out)?;
+            emit(inner, out)?;
             emit_suffixes(suffixes, out)
         }
     }

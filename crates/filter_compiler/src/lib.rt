@@ -8,6 +8,7 @@ mod fault;
 mod measure;
 mod measuring;
 mod output;
+mod sets;
 
 pub use compiler::compile;
 pub use fault::CompileFault;

@@ -1,7 +1,12 @@
 //! How large code is.
 
-ghost use Rattle.std.specs.Prelude.{◌≡◌};
+ghost use Rattle.std.specs.Prelude.{◌≡◌, MatchResult};
+ghost use Rattle.filter_compiler.specs.Limits.{IsRefused, IsWithin};
 ghost use Rattle.filter_compiler.specs.Measures.{instructions_alone, plus, with_set};
+
+use crate::fault::CompileFault;
+use filter_code::{INSTRUCTION_LIMIT, SET_LIMIT};
+use prefix_patterns::MAX_PATTERNS;
 
 /// How large a part of a filter's code is.
 #[derive(Clone, Copy, Debug, PartialEq, Eq)]
@@ -49,5 +54,18 @@ impl Measure {
             sets: 1,
             patterns,
         })
+    }
+
+    /// Refuses what is past the limits of code.
+    pub(crate) fn check_limits(self) -> Result<(), CompileFault>
+        ensures { MatchResult result (λ _. IsWithin self) (λ why. IsRefused why self) }
+    {
+        if self.instructions > INSTRUCTION_LIMIT {
+            return Err(CompileFault::TooManyInstructions);
+        }
+        if self.sets > SET_LIMIT || self.patterns > MAX_PATTERNS {
+            return Err(CompileFault::TooManySets);
+        }
+        Ok(())
     }
 }

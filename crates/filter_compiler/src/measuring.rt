@@ -5,7 +5,8 @@ ghost use Rattle.filter_parser.specs.Syntax.{view};
 ghost use Rattle.filter_parser.specs.SyntaxCommands.{acts_of, view_command, view_target};
 ghost use Rattle.filter_parser.specs.SyntaxText.{view_filter};
 ghost use Rattle.filter_types.specs.Kinds.{variable_limit};
-ghost use Rattle.filter_compiler.specs.Measures.{act_measure, acts_measure, aim_count, filter_measure, member_count, own_count, run_measure, suffixes_measure, tree_measure};
+ghost use Rattle.filter_compiler.specs.Measures.{act_measure, acts_measure, aim_count, filter_measure};
+ghost use Rattle.filter_compiler.specs.Measures.{member_count, own_count, run_measure, suffixes_measure, tree_measure};
 
 use crate::measure::Measure;
 use filter_parser::{Command, Expr, Filter, Membership, Op, Suffix, Target};

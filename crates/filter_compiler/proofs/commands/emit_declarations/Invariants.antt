@@ -9,4 +9,5 @@ invariant-loop-number l = record {
   code : l.out.instrs.items ++ declarations_code l.number (map view_decl (drop l.number l.variables))
       ≡ l.initial.out.instrs.items ++ declarations_code 0 (map view_decl l.variables);
   sets : l.out.sets.items ≡ l.initial.out.sets.items;
+  uses : l.out.uses.now ≡ l.initial.out.uses.now;
 }

@@ -9,21 +9,25 @@ use Rattle.filter_compiler.proofs.measuring.+measures.Goals as goal
 pub measure-returns-in-Run : goal.measure-returns-in-Run
 measure-returns-in-Run t c =
     let xs = map (λ p. (p.0, view p.1)) c.deref-in-Run-2.result.now in
-    let is = view_run c.args.expr.now c.in-Run.first c.in-Run.more c.deref-in-Run.result.now c.deref-in-Run-2.result.now c.in-Run.is c.deref-in-Run.ensures c.deref-in-Run-2.ensures.value in
+    let is = view_run c.args.expr.now c.in-Run.first c.in-Run.more c.deref-in-Run.result.now c.deref-in-Run-2.result.now c.in-Run.is
+    c.deref-in-Run.ensures c.deref-in-Run-2.ensures.value in
     c.measure_run.ensures
     ∙ (ap (λ m. run_measure m xs) c.measure-in-Run.ensures
     ∙ sym (ap tree_measure is ∙ run_measured (view c.deref-in-Run.result.now) xs))
 
 pub measure-returns-in-Member : goal.measure-returns-in-Member
 measure-returns-in-Member t c =
-    let is = view_member c.args.expr.now c.in-Member.op c.in-Member.left c.in-Member.set c.deref-in-Member.result.now c.in-Member.is c.deref-in-Member.ensures in
+    let is = view_member c.args.expr.now c.in-Member.op c.in-Member.left c.in-Member.set c.deref-in-Member.result.now c.in-Member.is
+    c.deref-in-Member.ensures in
     member_measured (view c.args.expr.now) (view c.deref-in-Member.result.now) c.in-Member.op c.in-Member.set.patterns.items view_item
     c.plus-in-Member.result c.measure-in-Member.result c.with_set-part.result c.of-in-Member.result c.len.result c.member_count.result
-    is c.measure-in-Member.ensures (c.len.ensures ∙ c.in-Member.set.patterns.ok.0) c.with_set-part.ensures c.member_count.ensures c.of-in-Member.ensures c.plus-in-Member.ensures
+    is c.measure-in-Member.ensures (c.len.ensures
+    ∙ c.in-Member.set.patterns.ok.0) c.with_set-part.ensures c.member_count.ensures c.of-in-Member.ensures c.plus-in-Member.ensures
 
 pub measure-returns-in-Suffixed : goal.measure-returns-in-Suffixed
 measure-returns-in-Suffixed t c =
-    let is = view_suffixed c.args.expr.now c.in-Suffixed.inner c.in-Suffixed.suffixes c.deref-in-Suffixed.result.now c.deref-in-Suffixed-2.result.now c.in-Suffixed.is c.deref-in-Suffixed.ensures c.deref-in-Suffixed-2.ensures.value in
+    let is = view_suffixed c.args.expr.now c.in-Suffixed.inner c.in-Suffixed.suffixes c.deref-in-Suffixed.result.now
+    c.deref-in-Suffixed-2.result.now c.in-Suffixed.is c.deref-in-Suffixed.ensures c.deref-in-Suffixed-2.ensures.value in
     c.with_suffixes.ensures
     ∙ (ap (λ m. suffixes_measure m c.deref-in-Suffixed-2.result.now) c.measure-in-Suffixed.ensures
     ∙ sym (ap tree_measure is ∙ suffixes_measured (view c.deref-in-Suffixed.result.now) c.deref-in-Suffixed-2.result.now))

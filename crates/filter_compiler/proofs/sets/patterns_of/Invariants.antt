@@ -1,6 +1,6 @@
 use Rattle.std.proofs.Common.{◌≡◌, map, take}
 use Rattle.filter_parser.specs.Syntax.{pattern_of, view_item}
-use Rattle.filter_compiler.proofs.expressions.patterns_of.Given as goal
+use Rattle.filter_compiler.proofs.sets.patterns_of.Given as goal
 
 -- the patterns so far
 abbrev pub invariant-loop-item : goal.invariant-loop-item

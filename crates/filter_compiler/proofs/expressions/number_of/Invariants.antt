@@ -1,8 +1,0 @@
-use Rattle.std.proofs.Common.{◌≡◌, ℕ, ◌<◌, false, get_or}
-use Rattle.std.specs.Str.{bytes_eq}
-use Rattle.filter_parser.specs.declared.tree.decl.Decl.{Decl}
-use Rattle.filter_compiler.proofs.expressions.number_of.Given as goal
-
--- none of the variables before has the name
-abbrev pub invariant-loop-number : goal.invariant-loop-number
-invariant-loop-number l = (k : ℕ) (d : Decl) → k < l.number → bytes_eq (get_or l.variables k d).name.items l.name ≡ false
