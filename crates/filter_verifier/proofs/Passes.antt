@@ -4,7 +4,7 @@ use Rattle.std.proofs.lemmas.Bool.Decides.{nat_tests}
 use Rattle.std.proofs.lemmas.List.{get_or_default}
 use Rattle.std.specs.Prelude.{◌==◌, if◌then◌else◌, slice_get}
 use native.Mathlib.Numerals.{unary_clauses}
-use Rattle.filter_code.specs.declared.limits.TheConstants.{STACK_LIMIT, SMALLEST_SIZE, LARGEST_SIZE}
+use Rattle.filter_code.specs.Limits.{stack_limit, smallest_size, largest_size}
 use Rattle.filter_code.specs.declared.instruction.Instr.{Instr}
 use Rattle.filter_code.specs.Program.{Program}
 use Rattle.filter_code.specs.Table.{leads}
@@ -20,27 +20,32 @@ pub record Before (program : Program) (size n : ℕ) (pending : List Waiting) (d
   pub none : first_fault program size n ≡ None
   pub waits : (k : ℕ) → waiting_at pending k ≡ arriving program size n k
   pub deepest : depth ≡ highest program size n
-  pub limit : depth ≤ STACK_LIMIT
+  pub limit : depth ≤ stack_limit
 
-arriving_next : (program : Program) (size n k : ℕ) → arriving program size (n + 1) k ≡ meet (arriving program size n k) (hand_on program n (visit program size n (arriving program size n n)) k)
+arriving_next : (program : Program) (size n k : ℕ) → arriving program size (n + 1) k
+    ≡ meet (arriving program size n k) (hand_on program n (visit program size n (arriving program size n n)) k)
 unfolding arriving
 arriving_next program size n k = rw add-one refl
 
-fault_next : (program : Program) (size n : ℕ) → first_fault program size (n + 1) ≡ or_else (first_fault program size n) (refused_by (verdict program size n))
+fault_next : (program : Program) (size n : ℕ) → first_fault program size (n + 1)
+    ≡ or_else (first_fault program size n) (refused_by (verdict program size n))
 unfolding first_fault
 fault_next program size n = rw add-one refl
 
-highest_next : (program : Program) (size n : ℕ) → highest program size (n + 1) ≡ max (highest program size n) (height_of (facts program size n))
+highest_next : (program : Program) (size n : ℕ) → highest program size (n + 1)
+    ≡ max (highest program size n) (height_of (facts program size n))
 unfolding highest
 highest_next program size n = rw add-one refl
 
 -- before the first visit
-pub begun : (program : Program) (size : ℕ) (pending : List Waiting) → length pending ≡ length program.instrs → ((k : ℕ) → waiting_at pending k ≡ beginning program k) → Before program size 0 pending 0
+pub begun : (program : Program) (size : ℕ) (pending : List Waiting) → length pending ≡ length program.instrs →
+    ((k : ℕ) → waiting_at pending k ≡ beginning program k) → Before program size 0 pending 0
 unfolding arriving first_fault highest
 begun program size pending wide waits = record { wide = wide; none = refl; waits = waits; deepest = refl; limit = omega arith }
 
 -- what becomes of an index is the verdict on it
-pub judged : (program : Program) (size n : ℕ) (pending : List Waiting) (depth : ℕ) → Before program size n pending depth → visit program size n (waiting_at pending n) ≡ verdict program size n
+pub judged : (program : Program) (size n : ℕ) (pending : List Waiting) (depth : ℕ) →
+    Before program size n pending depth → visit program size n (waiting_at pending n) ≡ verdict program size n
 judged program size n pending depth before = ap (visit program size n) (before.waits n)
 
 -- an index where nothing is unknown
@@ -50,23 +55,32 @@ pub advanced : (program : Program) (size n : ℕ) (pending next : List Waiting) 
     refused_by (visit program size n (waiting_at pending n)) ≡ None →
     ((k : ℕ) → waiting_at next k ≡ meet (waiting_at pending k) (hand_on program n (visit program size n (waiting_at pending n)) k)) →
     height ≡ height_of (waiting_at pending n) →
-    height ≤ STACK_LIMIT →
+    height ≤ stack_limit →
     Before program size (n + 1) next (max depth height)
 advanced program size n pending next depth height before wide none waits height_is limit =
     let same = judged program size n pending depth before in
     record {
       wide = wide ∙ before.wide;
-      none = fault_next program size n ∙ (ap (λ (o : Option VerifyFault). or_else o (refused_by (verdict program size n))) before.none ∙ (sym (ap refused_by same) ∙ none));
-      waits = λ k. waits k ∙ (ap (λ (a : Arrival). meet a (hand_on program n (visit program size n (waiting_at pending n)) k)) (before.waits k) ∙ (ap (λ (v : Visit). meet (arriving program size n k) (hand_on program n v k)) same ∙ sym (arriving_next program size n k)));
-      deepest = ap (λ (d : ℕ). max d height) before.deepest ∙ (ap (λ (h : ℕ). max (highest program size n) h) (height_is ∙ ap height_of (before.waits n)) ∙ sym (highest_next program size n));
+      none = fault_next program size n ∙ (ap (λ (o : Option VerifyFault). or_else o
+          (refused_by (verdict program size n))) before.none ∙ (sym (ap refused_by same) ∙ none));
+      waits = λ k. waits k ∙ (ap (λ (a : Arrival). meet a
+          (hand_on program n (visit program size n (waiting_at pending n)) k)) (before.waits k)
+          ∙ (ap (λ (v : Visit). meet (arriving program size n k) (hand_on program n v k)) same
+          ∙ sym (arriving_next program size n k)));
+      deepest = ap (λ (d : ℕ). max d height) before.deepest
+          ∙ (ap (λ (h : ℕ). max (highest program size n) h) (height_is ∙ ap height_of (before.waits n))
+          ∙ sym (highest_next program size n));
       limit = omega (arith, before.limit, limit);
     }
 
 -- what is unknown at some index stays the first such thing
-first_stays : (program : Program) (size n more : ℕ) (why : VerifyFault) → first_fault program size n ≡ Some why → first_fault program size (n + more) ≡ Some why
+first_stays : (program : Program) (size n more : ℕ) (why : VerifyFault) → first_fault program size n ≡ Some why →
+    first_fault program size (n + more) ≡ Some why
 unfolding first_fault
 first_stays program size n zero why e = simp unary_clauses e
-first_stays program size n (suc more) why e = simp unary_clauses (ap (λ (o : Option VerifyFault). or_else o (refused_by (verdict program size (n + more)))) (first_stays program size n more why e))
+first_stays program size n (suc more) why e = simp unary_clauses
+    (ap (λ (o : Option VerifyFault). or_else o (refused_by (verdict program size (n + more))))
+    (first_stays program size n more why e))
 
 pub refused : (program : Program) (size n : ℕ) (pending : List Waiting) (depth : ℕ) (why : VerifyFault) →
     Before program size n pending depth →
@@ -74,7 +88,9 @@ pub refused : (program : Program) (size n : ℕ) (pending : List Waiting) (depth
     n < length program.instrs →
     first_fault program size (length program.instrs) ≡ Some why
 refused program size n pending depth why before found inside =
-    let here : first_fault program size (n + 1) ≡ Some why = fault_next program size n ∙ (ap (λ (o : Option VerifyFault). or_else o (refused_by (verdict program size n))) before.none ∙ (sym (ap refused_by (judged program size n pending depth before)) ∙ found)) in
+    let here : first_fault program size (n + 1) ≡ Some why = fault_next program size n
+    ∙ (ap (λ (o : Option VerifyFault). or_else o (refused_by (verdict program size n))) before.none
+    ∙ (sym (ap refused_by (judged program size n pending depth before)) ∙ found)) in
     let P : ℕ → Type 0 = λ m. first_fault program size m ≡ Some why in
     let reaches : ((n + 1) + (length program.instrs - (n + 1))) ≡ length program.instrs = omega arith in
     subst P reaches (first_stays program size (n + 1) (length program.instrs - (n + 1)) why here)
@@ -87,7 +103,8 @@ waiting_more (w ∷ pending) zero = refl
 waiting_more (w ∷ pending) (suc k) = waiting_more pending k
 
 -- what is read of the waiting
-pub waiting_is : (pending : List Waiting) (at : ℕ) (w : Waiting) → at < length pending → w ≡ get_or pending at w → arrival_of w ≡ waiting_at pending at
+pub waiting_is : (pending : List Waiting) (at : ℕ) (w : Waiting) → at < length pending → w ≡ get_or pending at w →
+    arrival_of w ≡ waiting_at pending at
 waiting_is pending at w inside is = ap arrival_of (is ∙ get_or_default pending at w waiting.Unreached inside)
 
 -- what is handed on where a visit passed
@@ -103,7 +120,9 @@ handed program size at target w next old new i distances is ways passed met =
     ∙ sym (ap (λ (v : Visit). meet old (hand_on program at v target)) passed)))
 
 -- code of which nothing is unknown
-pub nothing_unknown : (program : Program) (size : ℕ) → SMALLEST_SIZE ≤ size → size ≤ LARGEST_SIZE → (length program.instrs == 0) ≡ false → first_fault program size (length program.instrs) ≡ None → the_fault program size ≡ None
+pub nothing_unknown : (program : Program) (size : ℕ) → smallest_size ≤ size → size ≤ largest_size →
+    (length program.instrs == 0) ≡ false → first_fault program size (length program.instrs) ≡ None →
+    the_fault program size ≡ None
 nothing_unknown program size low high full none =
     let fits : is_size size ≡ true = grind (arith, nat_tests) in
     rw (fits, full) none

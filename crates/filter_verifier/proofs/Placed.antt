@@ -16,20 +16,25 @@ nothing_common None = refl
 nothing_common (Some a) = refl
 
 -- from one place on
-common_from : (xs ys : List (Option Fact)) (i : ℕ) → i < length xs → common_places (drop i xs) (drop i ys) ≡ common_at (get_or xs i None) (get_or ys i None) ∷ common_places (drop (suc i) xs) (drop (suc i) ys)
+common_from : (xs ys : List (Option Fact)) (i : ℕ) → i < length xs → common_places (drop i xs) (drop i ys)
+    ≡ common_at (get_or xs i None) (get_or ys i None) ∷ common_places (drop (suc i) xs) (drop (suc i) ys)
 common_from [] ys i inside = absurd (omega arith)
 common_from (x ∷ xs) [] zero inside = ap (λ (a : Option Fact). a ∷ common_places xs []) (sym (nothing_common x))
 common_from (x ∷ xs) (y ∷ ys) zero inside = refl
 common_from (x ∷ xs) [] (suc i) inside = rw (drop-nil {A = Option Fact} i) at (common_from xs [] i (omega arith))
 common_from (x ∷ xs) (y ∷ ys) (suc i) inside = common_from xs ys i (omega arith)
 
-pub common_step : (xs ys : List (Option Fact)) (i : ℕ) → i < length xs → common_places (drop i xs) (drop i ys) ≡ common_at (get_or xs i None) (get_or ys i None) ∷ common_places (drop (i + 1) xs) (drop (i + 1) ys)
+pub common_step : (xs ys : List (Option Fact)) (i : ℕ) → i < length xs → common_places (drop i xs) (drop i ys)
+    ≡ common_at (get_or xs i None) (get_or ys i None) ∷ common_places (drop (i + 1) xs) (drop (i + 1) ys)
 common_step xs ys i inside = rw add-one (common_from xs ys i inside)
 
 -- a stack is known from a place on
-pub known_from : (places : List (Option Fact)) (at : ℕ) (a : Fact) (stack : List Fact) → at < length places → get_or places at None ≡ Some a → all_known (drop (at + 1) places) ≡ Some stack → all_known (drop at places) ≡ Some (a ∷ stack)
+pub known_from : (places : List (Option Fact)) (at : ℕ) (a : Fact) (stack : List Fact) → at < length places →
+    get_or places at None ≡ Some a → all_known (drop (at + 1) places) ≡ Some stack →
+    all_known (drop at places) ≡ Some (a ∷ stack)
 known_from places at a stack inside here above =
-    let split : drop at places ≡ Some a ∷ drop (suc at) places = drop-cons places at None inside ∙ ap (λ (x : Option Fact). x ∷ drop (suc at) places) here in
+    let split : drop at places ≡ Some a ∷ drop (suc at) places = drop-cons places at None inside
+    ∙ ap (λ (x : Option Fact). x ∷ drop (suc at) places) here in
     let rest : all_known (drop (suc at) places) ≡ Some stack = rw add-one at above in
     ap all_known split ∙ ap (λ (o : Option (List Fact)). option_and_then (λ facts. Some (a ∷ facts)) o) rest
 

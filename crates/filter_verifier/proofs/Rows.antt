@@ -16,7 +16,8 @@ fault_of locals instrs size =
 
 -- the metric raised by 2 is known to be at least the one received
 abbrev raising : List Instr
-raising = instr.Metric ∷ (instr.Int 2 ∷ (instr.Add ∷ (instr.Received ∷ (instr.Max ∷ (instr.SetMetric ∷ (instr.Accept ∷ (instr.Reject ∷ [])))))))
+raising = instr.Metric ∷ (instr.Int 2 ∷ (instr.Add
+    ∷ (instr.Received ∷ (instr.Max ∷ (instr.SetMetric ∷ (instr.Accept ∷ (instr.Reject ∷ [])))))))
 
 pub raised : fault_of 0 raising 8 ≡ None
 unfolding arriving first_fault
@@ -60,7 +61,9 @@ unlike_depths = refl
 
 -- a local variable is an int on one way and a bool on the other, and empty where they meet
 abbrev int_or_bool : List Instr
-int_or_bool = instr.Bool true ∷ (instr.JumpIfNot 3 ∷ (instr.Int 1 ∷ (instr.Store 0 ∷ (instr.Jump 2 ∷ (instr.Bool false ∷ (instr.Store 0 ∷ (instr.Load 0 ∷ (instr.Accept ∷ []))))))))
+int_or_bool = instr.Bool true ∷ (instr.JumpIfNot 3
+    ∷ (instr.Int 1 ∷ (instr.Store 0 ∷ (instr.Jump 2
+    ∷ (instr.Bool false ∷ (instr.Store 0 ∷ (instr.Load 0 ∷ (instr.Accept ∷ []))))))))
 
 pub unlike_local : fault_of 1 int_or_bool 8 ≡ Some (refusal.WrongKind 7)
 unfolding arriving first_fault
@@ -76,7 +79,9 @@ unlike_operand = refl
 
 -- three ways meet at 8: two with unlike kinds, and a third, the last, with another depth
 abbrev three_ways : List Instr
-three_ways = instr.Bool true ∷ (instr.JumpIfNot 2 ∷ (instr.Int 1 ∷ (instr.Jump 4 ∷ (instr.Bool true ∷ (instr.JumpIfNot 2 ∷ (instr.Bool true ∷ (instr.Jump 0 ∷ (instr.Accept ∷ []))))))))
+three_ways = instr.Bool true ∷ (instr.JumpIfNot 2
+    ∷ (instr.Int 1 ∷ (instr.Jump 4 ∷ (instr.Bool true
+    ∷ (instr.JumpIfNot 2 ∷ (instr.Bool true ∷ (instr.Jump 0 ∷ (instr.Accept ∷ []))))))))
 
 pub depths_before_kinds : fault_of 0 three_ways 8 ≡ Some (refusal.UnlikeDepths 8)
 unfolding arriving first_fault
@@ -101,7 +106,8 @@ unfolding arriving first_fault
 times_zero = refl
 
 -- a sum that may wrap
-pub wrapping : fault_of 0 (instr.Metric ∷ (instr.Int 4294967295 ∷ (instr.Add ∷ (instr.SetMetric ∷ (instr.Accept ∷ []))))) 8 ≡ Some (refusal.LowerMetric 3)
+pub wrapping : fault_of 0 (instr.Metric ∷ (instr.Int 4294967295
+    ∷ (instr.Add ∷ (instr.SetMetric ∷ (instr.Accept ∷ []))))) 8 ≡ Some (refusal.LowerMetric 3)
 unfolding arriving first_fault
 wrapping = refl
 
@@ -160,7 +166,8 @@ unreached_peak = refl
 
 -- both branches count: the longer one for the cost, and the higher one for the peak
 abbrev branching : List Instr
-branching = instr.Bool true ∷ (instr.JumpIfNot 2 ∷ (instr.Metric ∷ (instr.Accept ∷ (instr.Int 1 ∷ (instr.Int 2 ∷ (instr.Int 3 ∷ (instr.Reject ∷ [])))))))
+branching = instr.Bool true ∷ (instr.JumpIfNot 2
+    ∷ (instr.Metric ∷ (instr.Accept ∷ (instr.Int 1 ∷ (instr.Int 2 ∷ (instr.Int 3 ∷ (instr.Reject ∷ [])))))))
 
 pub branching_cost : cost branching 0 ≡ 6
 branching_cost = refl

@@ -2,7 +2,7 @@
 use Rattle.std.proofs.Common.{◌≡◌, ℕ, zero, suc, ◌≤◌, ◌<◌, Bool, true, false, Option, Some, None, List, subst, arith}
 use Rattle.std.proofs.lemmas.Bool.Decides.{nat_tests}
 use Rattle.filter_code.specs.declared.instruction.Instr.{Instr}
-use Rattle.filter_code.specs.declared.limits.TheConstants.{SMALLEST_SIZE, LARGEST_SIZE}
+use Rattle.filter_code.specs.Limits.{smallest_size, largest_size}
 use Rattle.filter_code.specs.declared.outcome.FaultKind.{FaultKind}
 use Rattle.filter_code.specs.declared.outcome.FaultKind.TheVariants as fault
 use Rattle.filter_code.specs.Program.{Program}
@@ -47,16 +47,21 @@ inside_at_place : (inside : Bool) (at : ℕ) (next : Arrival) → VisitAtPlace (
 inside_at_place true at next = tt
 inside_at_place false at next = tt
 
-judged_at_place : (count size at : ℕ) (locals : List (Option Fact)) (i : Instr) (drawn : Drawn Fact) → VisitAtPlace (judge count size at locals i drawn)
+judged_at_place : (count size at : ℕ) (locals : List (Option Fact)) (i : Instr) (drawn : Drawn Fact) →
+    VisitAtPlace (judge count size at locals i drawn)
 judged_at_place count size at locals i (Bad why) = refusal_at_place why at
 judged_at_place count size at locals i (Good operands rest) =
-    refused_at_place (fact_fault i operands) at _ (over_at_place (overfills (fact_given size i operands) rest) at _ (inside_at_place (leads_below at count (leads i)) at (handed_on size locals i operands rest)))
+    refused_at_place (fact_fault i operands) at _ (over_at_place (overfills (fact_given size i operands) rest) at _
+    (inside_at_place (leads_below at count (leads i)) at (handed_on size locals i operands rest)))
 
-known_at_place : (program : Program) (size at : ℕ) (locals : List (Option Fact)) (stack : List Fact) (found : Option Instr) → VisitAtPlace (visit_known program size at locals stack found)
+known_at_place : (program : Program) (size at : ℕ) (locals : List (Option Fact)) (stack : List Fact)
+    (found : Option Instr) → VisitAtPlace (visit_known program size at locals stack found)
 known_at_place program size at locals stack None = tt
-known_at_place program size at locals stack (Some i) = judged_at_place (length program.instrs) size at locals i (draw kind_of_fact (length program.sets) i (frame_of stack locals))
+known_at_place program size at locals stack (Some i) = judged_at_place (length program.instrs) size at locals i
+    (draw kind_of_fact (length program.sets) i (frame_of stack locals))
 
-places_at_place : (program : Program) (size at : ℕ) (locals : List (Option Fact)) (known : Option (List Fact)) → VisitAtPlace (visit_places program size at locals known)
+places_at_place : (program : Program) (size at : ℕ) (locals : List (Option Fact)) (known : Option (List Fact)) →
+    VisitAtPlace (visit_places program size at locals known)
 places_at_place program size at locals None = tt
 places_at_place program size at locals (Some stack) = known_at_place program size at locals stack (slice_get program.instrs at)
 
@@ -81,18 +86,20 @@ either_at_place (Some why) p h g = h
 first_at_place : (program : Program) (size n : ℕ) → FoundAtPlace (first_fault program size n)
 unfolding first_fault
 first_at_place program size zero = tt
-first_at_place program size (suc n) = either_at_place (first_fault program size n) (refused_by (verdict program size n)) (first_at_place program size n) (found_at_place (verdict program size n) (visit_at_place program size n (facts program size n)))
+first_at_place program size (suc n) = either_at_place (first_fault program size n)
+    (refused_by (verdict program size n)) (first_at_place program size n)
+    (found_at_place (verdict program size n) (visit_at_place program size n (facts program size n)))
 
 -- what is first unknown at an index is not the size
 pub not_the_size : (program : Program) (size n : ℕ) → first_fault program size n ≡ Some refusal.BadSize → ⊥
 not_the_size program size n e = subst FoundAtPlace e (first_at_place program size n)
 
 -- the sizes that networks have, and no others
-pub size_fits : (size : ℕ) → SMALLEST_SIZE ≤ size → size ≤ LARGEST_SIZE → is_size size ≡ true
+pub size_fits : (size : ℕ) → smallest_size ≤ size → size ≤ largest_size → is_size size ≡ true
 size_fits size low high = grind (arith, nat_tests)
 
-pub size_small : (size : ℕ) → size < SMALLEST_SIZE → is_size size ≡ false
+pub size_small : (size : ℕ) → size < smallest_size → is_size size ≡ false
 size_small size low = grind (arith, nat_tests)
 
-pub size_large : (size : ℕ) → LARGEST_SIZE < size → is_size size ≡ false
+pub size_large : (size : ℕ) → largest_size < size → is_size size ≡ false
 size_large size high = grind (arith, nat_tests)

@@ -25,22 +25,32 @@ inside_passed : (inside : Bool) (at : ℕ) (v : Visit) (next : Arrival) → if_i
 inside_passed true at v next e = refl
 inside_passed false at v next e = cc
 
-judged_inside : (count size at : ℕ) (locals : List (Option Fact)) (i : Instr) (drawn : Drawn Fact) (next : Arrival) → judge count size at locals i drawn ≡ Passed next → leads_below at count (leads i) ≡ true
+judged_inside : (count size at : ℕ) (locals : List (Option Fact)) (i : Instr) (drawn : Drawn Fact)
+    (next : Arrival) → judge count size at locals i drawn ≡ Passed next → leads_below at count (leads i) ≡ true
 judged_inside count size at locals i (Bad why) next e = cc
-judged_inside count size at locals i (Good operands rest) next e = inside_passed _ at _ next (over_passed _ at _ next (refused_passed _ at _ next e))
+judged_inside count size at locals i (Good operands rest) next e = inside_passed _ at _ next
+    (over_passed _ at _ next (refused_passed _ at _ next e))
 
-known_inside : (program : Program) (size at : ℕ) (locals : List (Option Fact)) (stack : List Fact) (found : Option Instr) (i : Instr) (next : Arrival) → found ≡ Some i → visit_known program size at locals stack found ≡ Passed next → leads_below at (length program.instrs) (leads i) ≡ true
+known_inside : (program : Program) (size at : ℕ) (locals : List (Option Fact)) (stack : List Fact)
+    (found : Option Instr) (i : Instr) (next : Arrival) → found ≡ Some i →
+    visit_known program size at locals stack found ≡ Passed next → leads_below at (length program.instrs) (leads i) ≡ true
 known_inside program size at locals stack None i next is e = cc
 known_inside program size at locals stack (Some j) i next is e =
     let same : j ≡ i = cc in
     judged_inside (length program.instrs) size at locals i (draw kind_of_fact (length program.sets) i (frame_of stack locals)) next
-    (sym (ap (λ (x : Instr). judge (length program.instrs) size at locals x (draw kind_of_fact (length program.sets) x (frame_of stack locals))) same) ∙ e)
+    (sym (ap (λ (x : Instr). judge (length program.instrs) size at locals x
+    (draw kind_of_fact (length program.sets) x (frame_of stack locals))) same) ∙ e)
 
-placed_inside : (program : Program) (size at : ℕ) (locals : List (Option Fact)) (known : Option (List Fact)) (i : Instr) (next : Arrival) → slice_get program.instrs at ≡ Some i → visit_places program size at locals known ≡ Passed next → leads_below at (length program.instrs) (leads i) ≡ true
+placed_inside : (program : Program) (size at : ℕ) (locals : List (Option Fact)) (known : Option (List Fact))
+    (i : Instr) (next : Arrival) → slice_get program.instrs at ≡ Some i →
+    visit_places program size at locals known ≡ Passed next → leads_below at (length program.instrs) (leads i) ≡ true
 placed_inside program size at locals None i next is e = cc
-placed_inside program size at locals (Some stack) i next is e = known_inside program size at locals stack (slice_get program.instrs at) i next is e
+placed_inside program size at locals (Some stack) i next is e = known_inside program size at locals stack
+    (slice_get program.instrs at) i next is e
 
-pub passed_inside : (program : Program) (size at : ℕ) (a : Arrival) (i : Instr) (next : Arrival) → slice_get program.instrs at ≡ Some i → visit program size at a ≡ Passed next → leads_below at (length program.instrs) (leads i) ≡ true
+pub passed_inside : (program : Program) (size at : ℕ) (a : Arrival) (i : Instr) (next : Arrival) →
+    slice_get program.instrs at ≡ Some i → visit program size at a ≡ Passed next →
+    leads_below at (length program.instrs) (leads i) ≡ true
 passed_inside program size at Unreached i next is e = cc
 passed_inside program size at Unlike i next is e = cc
 passed_inside program size at (Arrived stack locals) i next is e = placed_inside program size at locals (all_known stack) i next is e
@@ -49,24 +59,31 @@ passed_inside program size at (Arrived stack locals) i next is e = placed_inside
 gone : (program : Program) (size at : ℕ) (locals after : List (Option Fact)) (stack above : List Fact) (i : Instr) (places : Layout) →
     slice_get program.instrs at ≡ Some i →
     leads_below at (length program.instrs) (leads i) ≡ true →
-    judge (length program.instrs) size at locals i (draw kind_of_fact (length program.sets) i (frame_of stack locals)) ≡ going_on (length program.instrs) at i above after →
+    judge (length program.instrs) size at locals i
+    (draw kind_of_fact (length program.sets) i (frame_of stack locals))
+    ≡ going_on (length program.instrs) at i above after →
     places ≡ record { stack = map (λ f. Some f) above; locals = after } →
     Passed (arrival_of_places places) ≡ visit_known program size at locals stack (slice_get program.instrs at)
 gone program size at locals after stack above i places is inside judged laid =
     ap (λ (l : Layout). Passed (arrival_of_places l)) laid
-    ∙ sym (ap (visit_known program size at locals stack) is ∙ (judged ∙ ap (λ (b : Bool). if_inside b at (Passed (Arrived (map (λ f. Some f) above) after))) inside))
+    ∙ sym (ap (visit_known program size at locals stack) is
+    ∙ (judged ∙ ap (λ (b : Bool). if_inside b at (Passed (Arrived (map (λ f. Some f) above) after))) inside))
 
 -- the same with what the code holds: a copy of the local variables, the sets, and the variables as a part of a list
-pub gone_on : (program : Program) (size at width : ℕ) (locals held after more : List (Option Fact)) (stack above : List Fact) (sets : List (List PrefixPattern)) (i : Instr) (places : Layout) →
+pub gone_on : (program : Program) (size at width : ℕ) (locals held after more : List (Option Fact))
+    (stack above : List Fact) (sets : List (List PrefixPattern)) (i : Instr) (places : Layout) →
     held ≡ locals → sets ≡ program.sets → width ≡ length after →
     slice_get program.instrs at ≡ Some i →
     leads_below at (length program.instrs) (leads i) ≡ true →
-    judge (length program.instrs) size at held i (draw kind_of_fact (length sets) i (frame_of stack held)) ≡ going_on (length program.instrs) at i above after →
+    judge (length program.instrs) size at held i (draw kind_of_fact (length sets) i (frame_of stack held))
+    ≡ going_on (length program.instrs) at i above after →
     places ≡ record { stack = map (λ f. Some f) above; locals = take width (after ++ more) } →
     Passed (arrival_of_places places) ≡ visit_known program size at locals stack (slice_get program.instrs at)
 gone_on program size at width locals held after more stack above sets i places same same_sets wide is inside judged laid =
-    let P : List (Option Fact) → Type 0 = λ l. judge (length program.instrs) size at l i (draw kind_of_fact (length sets) i (frame_of stack l)) ≡ going_on (length program.instrs) at i above after in
-    let Q : List (List PrefixPattern) → Type 0 = λ s. judge (length program.instrs) size at locals i (draw kind_of_fact (length s) i (frame_of stack locals)) ≡ going_on (length program.instrs) at i above after in
+    let P : List (Option Fact) → Type 0 = λ l. judge (length program.instrs) size at l i
+    (draw kind_of_fact (length sets) i (frame_of stack l)) ≡ going_on (length program.instrs) at i above after in
+    let Q : List (List PrefixPattern) → Type 0 = λ s. judge (length program.instrs) size at locals i
+    (draw kind_of_fact (length s) i (frame_of stack locals)) ≡ going_on (length program.instrs) at i above after in
     let front : take width (after ++ more) ≡ after = rw wide (take-append_seam after more) in
     let L : List (Option Fact) → Layout = λ l. record { stack = map (λ f. Some f) above; locals = l } in
     gone program size at locals after stack above i places is inside (subst Q same_sets (subst P same judged)) (laid ∙ ap L front)

@@ -2,11 +2,11 @@
 -- that hand something on to it; in which order they are visited plays no part. (This project's own choice.)
 use Rattle.std.specs.Prelude.{ℕ, zero, suc, ◌+◌, ◌==◌, nat_lt, nat_le, Bool, true, false, ◌&&◌, ◌||◌, if◌then◌else◌, Option, Some, None, List, [], ◌∷◌, length, map, replicate, slice_get}
 use Rattle.filter_code.specs.declared.instruction.Instr.{Instr}
-use Rattle.filter_code.specs.declared.limits.TheConstants.{SMALLEST_SIZE, LARGEST_SIZE}
 use Rattle.filter_code.specs.declared.outcome.FaultKind.{FaultKind}
 use Rattle.filter_code.specs.Machine.{locals_after, overfills, with_given}
 use Rattle.filter_code.specs.Program.{Program}
 use Rattle.filter_code.specs.Table.{Frame, Operands, Drawn, Bad, Good, draw, leads}
+use Rattle.filter_code.specs.Limits.{smallest_size, largest_size}
 use Rattle.filter_verifier.specs.declared.fact.Fact.{Fact}
 use Rattle.filter_verifier.specs.declared.fault.VerifyFault.{VerifyFault}
 use Rattle.filter_verifier.specs.declared.fault.VerifyFault.TheVariants as refusal
@@ -51,7 +51,8 @@ abbrev pub leads_below : ℕ → ℕ → List ℕ → Bool
 leads_below at limit [] = true
 leads_below at limit (d ∷ distances) = nat_lt (at + d) limit && leads_below at limit distances
 
--- a stack that fits and successors that are there: the last tests, in their order
+-- the last tests, in their order: that the values of the operands are no fault, that the stack would not hold too much,
+-- and that the text goes on to instructions of the code alone
 abbrev pub unless_refused : Option FaultKind → ℕ → Visit → Visit
 unless_refused None at visit = visit
 unless_refused (Some why) at visit = Refused (refusal_of why at)
@@ -69,11 +70,11 @@ handed_on size locals i operands rest =
 
 -- an instruction with the facts of its operands, in a code of so many instructions: the tests that are left
 abbrev pub judge : ℕ → ℕ → ℕ → List (Option Fact) → Instr → Drawn Fact → Visit
-judge instrs size at locals i (Bad why) = Refused (refusal_of why at)
-judge instrs size at locals i (Good operands rest) =
+judge count size at locals i (Bad why) = Refused (refusal_of why at)
+judge count size at locals i (Good operands rest) =
     unless_refused (fact_fault i operands) at
     (unless_over (overfills (fact_given size i operands) rest) at
-    (if_inside (leads_below at instrs (leads i)) at
+    (if_inside (leads_below at count (leads i)) at
     (Passed (handed_on size locals i operands rest))))
 
 -- an instruction at a stack whose kinds are known
@@ -143,7 +144,7 @@ first_fault program size (suc n) = or_else (first_fault program size n) (refused
 
 -- the sizes that networks have
 abbrev pub is_size : ℕ → Bool
-is_size size = nat_le SMALLEST_SIZE size && nat_le size LARGEST_SIZE
+is_size size = nat_le smallest_size size && nat_le size largest_size
 
 -- what is not known of a code in a network of a size: the size is judged first, and code without instructions leads
 -- outside at once

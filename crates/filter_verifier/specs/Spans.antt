@@ -57,6 +57,7 @@ span_of_quotient size a b = spanning size (a.low / b.high) (a.high / b.low) fals
 abbrev pub span_of_greater : ℕ → Span → Span → Span
 span_of_greater size a b = spanning size (max a.low b.low) (max a.high b.high) (a.mark || b.mark)
 
--- the smallest range that holds two ranges, with the mark where both have it
+-- the smallest range that holds two ranges, with the mark where both have it; where both begin at the size or above it,
+-- both have it
 abbrev pub span_of_both : Span → Span → Span
 span_of_both a b = record { low = min a.low b.low; high = max a.high b.high; mark = a.mark && b.mark }

@@ -1,7 +1,7 @@
 //! The most instructions on any way.
 
 ghost use Rattle.std.specs.Prelude.{◌≡◌, ◌<◌, ◌≤◌, ◌∷◌, All, IfOk, length, slice_index};
-ghost use Rattle.filter_code.specs.declared.limits.TheConstants.{INSTRUCTION_LIMIT};
+ghost use Rattle.filter_code.specs.Limits.{instruction_limit};
 ghost use Rattle.filter_verifier.specs.Bounds.{cost, greatest_at};
 ghost use Rattle.filter_verifier.specs.Pieces.{distances};
 
@@ -35,7 +35,7 @@ fn greatest(costs: &[u32], leads: Following) -> u32
 /// The most instructions on any way from the first one to an end.
 #[tactic(auto, using(crate::proofs::Budgets::costs_at))]
 pub fn budget_of(alloc: Global, instrs: &[Instr]) -> Result<u32, AllocError>
-    requires { length instrs.now ≤ INSTRUCTION_LIMIT }
+    requires { length instrs.now ≤ instruction_limit }
     ensures { IfOk result (λ budget. budget ≡ cost instrs.now 0) }
 {
     let mut costs = vec![in alloc; 0; instrs.len()]?;

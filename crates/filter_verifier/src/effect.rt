@@ -1,7 +1,7 @@
 //! How an instruction carries on what is known.
 
 ghost use Rattle.std.specs.Prelude.{◌≡◌, ◌<◌, ◌≤◌, ℕ, true, false, ◌∷◌, Some, length, slice_get, MatchOption, MatchResult};
-ghost use Rattle.filter_code.specs.declared.limits.TheConstants.{STACK_LIMIT};
+ghost use Rattle.filter_code.specs.Limits.{stack_limit};
 ghost use Rattle.filter_code.specs.declared.outcome.FaultKind.TheVariants as fault;
 ghost use Rattle.filter_code.specs.Table.{One, Two, Good, Bad, are_alike, are_nested, are_ordered, draw, each_is, is_bool, is_int, is_ip, is_prefix, one_of, passing, two_of};
 ghost use Rattle.filter_verifier.specs.declared.fact.Fact.TheVariants as fact;
@@ -26,35 +26,35 @@ fn take_int(stack: &mut Stack<Fact>) -> Result<Range, FaultKind>
     }
 }
 
-/// Takes a bool.
-fn take_bool(stack: &mut Stack<Fact>) -> Result<(), FaultKind>
+/// Takes a bool, for which something else is given.
+fn take_bool(stack: &mut Stack<Fact>, given: Fact) -> Result<Fact, FaultKind>
     ensures { let drawn = passing (each_is (λ x. is_bool (kind_of_fact x))) (one_of stack.old) in
-        MatchResult result (λ _. drawn ≡ Good (One fact.Bool) stack.new) (λ why. drawn ≡ Bad why) }
+        MatchResult result (λ f. (drawn ≡ Good (One fact.Bool) stack.new) × (f ≡ given)) (λ why. drawn ≡ Bad why) }
 {
     match stack.take_one()? {
-        Fact::Bool => Ok(()),
+        Fact::Bool => Ok(given),
         _ => Err(FaultKind::WrongKind),
     }
 }
 
-/// Takes an ip.
-fn take_ip(stack: &mut Stack<Fact>) -> Result<(), FaultKind>
+/// Takes an ip, for which something else is given.
+fn take_ip(stack: &mut Stack<Fact>, given: Fact) -> Result<Fact, FaultKind>
     ensures { let drawn = passing (each_is (λ x. is_ip (kind_of_fact x))) (one_of stack.old) in
-        MatchResult result (λ _. drawn ≡ Good (One fact.Ip) stack.new) (λ why. drawn ≡ Bad why) }
+        MatchResult result (λ f. (drawn ≡ Good (One fact.Ip) stack.new) × (f ≡ given)) (λ why. drawn ≡ Bad why) }
 {
     match stack.take_one()? {
-        Fact::Ip => Ok(()),
+        Fact::Ip => Ok(given),
         _ => Err(FaultKind::WrongKind),
     }
 }
 
-/// Takes a prefix.
-fn take_prefix(stack: &mut Stack<Fact>) -> Result<(), FaultKind>
+/// Takes a prefix, for which something else is given.
+fn take_prefix(stack: &mut Stack<Fact>, given: Fact) -> Result<Fact, FaultKind>
     ensures { let drawn = passing (each_is (λ x. is_prefix (kind_of_fact x))) (one_of stack.old) in
-        MatchResult result (λ _. drawn ≡ Good (One fact.Prefix) stack.new) (λ why. drawn ≡ Bad why) }
+        MatchResult result (λ f. (drawn ≡ Good (One fact.Prefix) stack.new) × (f ≡ given)) (λ why. drawn ≡ Bad why) }
 {
     match stack.take_one()? {
-        Fact::Prefix => Ok(()),
+        Fact::Prefix => Ok(given),
         _ => Err(FaultKind::WrongKind),
     }
 }
@@ -74,19 +74,27 @@ fn take_two_ints(stack: &mut Stack<Fact>) -> Result<(Range, Range), FaultKind>
 /// Puts a fact on the stack.
 fn give(fact: Fact, stack: &mut Stack<Fact>) -> Result<(), FaultKind>
     ensures given { MatchResult result (λ _. stack.new ≡ fact ∷ stack.old) (λ why. why ≡ fault.FullStack) }
-    ensures room { MatchResult result (λ _. length stack.old < STACK_LIMIT) (λ why. STACK_LIMIT ≤ length stack.old) }
+    ensures room { MatchResult result (λ _. length stack.old < stack_limit) (λ why. stack_limit ≤ length stack.old) }
 {
     stack.push(fact)
 }
 
+/// Puts an int in a range on the stack.
+fn give_int(range: Range, stack: &mut Stack<Fact>) -> Result<(), FaultKind>
+    ensures given { MatchResult result (λ _. stack.new ≡ fact.Int range ∷ stack.old) (λ why. why ≡ fault.FullStack) }
+    ensures room { MatchResult result (λ _. length stack.old < stack_limit) (λ why. stack_limit ≤ length stack.old) }
+{
+    stack.push(Fact::Int(range))
+}
+
 /// The first of two ints divided by the second. A fault exactly where the second may be 0.
-fn quotient(size: u32, operands: (Range, Range)) -> Result<Fact, FaultKind>
+fn quotient(size: u32, operands: (Range, Range)) -> Result<Range, FaultKind>
     ensures { MatchResult result
-        (λ f. (0 < operands.1.low) × (f ≡ fact.Int (span_of_quotient size operands.0 operands.1)))
+        (λ r. (0 < operands.1.low) × (r ≡ span_of_quotient size operands.0 operands.1))
         (λ why. (operands.1.low ≡ 0) × (why ≡ fault.ZeroDivisor)) }
 {
     match Range::quotient(size, operands) {
-        Some(range) => Ok(Fact::Int(range)),
+        Some(range) => Ok(range),
         None => Err(FaultKind::ZeroDivisor),
     }
 }
@@ -181,58 +189,38 @@ pub fn carry_on(
         (λ _. visit ≡ going_on count at instr stack.new locals.new)
         (λ why. visit ≡ Refused (refusal_of why at)) }
 {
+    let length = Fact::Int(Range::of_length(size));
     match instr {
-        Instr::Int(number) => give(Fact::Int(Range::of_number(size, number)), stack)?,
+        Instr::Int(number) => give_int(Range::of_number(size, number), stack)?,
         Instr::Bool(_) => give(Fact::Bool, stack)?,
         Instr::Ip(_) => give(Fact::Ip, stack)?,
-        Instr::Prefix(_) => give(Fact::Prefix, stack)?,
+        Instr::Prefix(_) | Instr::Net => give(Fact::Prefix, stack)?,
         Instr::Load(local) => give(load(locals, local)?, stack)?,
         Instr::Store(local) => {
             check_name(local, locals.len())?;
             locals[usize::from(local)] = Some(stack.take_one()?);
         }
-        Instr::Net => give(Fact::Prefix, stack)?,
-        Instr::Metric | Instr::Received => give(Fact::Int(Range::of_metric(size)), stack)?,
+        Instr::Metric | Instr::Received => give_int(Range::of_metric(size), stack)?,
         Instr::SetMetric => not_lower(take_int(stack)?)?,
-        Instr::Add => give(Fact::Int(Range::sum(size, take_two_ints(stack)?)), stack)?,
-        Instr::Sub => give(
-            Fact::Int(Range::difference(size, take_two_ints(stack)?)),
-            stack,
-        )?,
-        Instr::Mul => give(
-            Fact::Int(Range::product(size, take_two_ints(stack)?)),
-            stack,
-        )?,
-        Instr::Div => give(quotient(size, take_two_ints(stack)?)?, stack)?,
-        Instr::Max => give(
-            Fact::Int(Range::greater(size, take_two_ints(stack)?)),
-            stack,
-        )?,
+        Instr::Add => give_int(Range::sum(size, take_two_ints(stack)?), stack)?,
+        Instr::Sub => give_int(Range::difference(size, take_two_ints(stack)?), stack)?,
+        Instr::Mul => give_int(Range::product(size, take_two_ints(stack)?), stack)?,
+        Instr::Div => give_int(quotient(size, take_two_ints(stack)?)?, stack)?,
+        Instr::Max => give_int(Range::greater(size, take_two_ints(stack)?), stack)?,
         Instr::Eq => give(equal(stack.take_two()?)?, stack)?,
         Instr::Lt | Instr::Le => give(ordered(stack.take_two()?)?, stack)?,
-        Instr::Not => {
-            take_bool(stack)?;
-            give(Fact::Bool, stack)?;
-        }
-        Instr::Addr => {
-            take_prefix(stack)?;
-            give(Fact::Ip, stack)?;
-        }
-        Instr::Len => {
-            take_prefix(stack)?;
-            give(Fact::Int(Range::of_length(size)), stack)?;
-        }
-        Instr::Mask(_) => {
-            take_ip(stack)?;
-            give(Fact::Ip, stack)?;
-        }
+        Instr::Not => give(take_bool(stack, Fact::Bool)?, stack)?,
+        Instr::Addr => give(take_prefix(stack, Fact::Ip)?, stack)?,
+        Instr::Len => give(take_prefix(stack, length)?, stack)?,
+        Instr::Mask(_) => give(take_ip(stack, Fact::Ip)?, stack)?,
         Instr::Within => give(within(stack.take_two()?)?, stack)?,
         Instr::Member(set) => {
             check_name(set, sets)?;
-            take_prefix(stack)?;
-            give(Fact::Bool, stack)?;
+            give(take_prefix(stack, Fact::Bool)?, stack)?;
         }
-        Instr::JumpIfNot(_) => take_bool(stack)?,
+        Instr::JumpIfNot(_) => {
+            take_bool(stack, Fact::Bool)?;
+        }
         Instr::Jump(_) | Instr::Accept | Instr::Reject => {}
     }
     Ok(())

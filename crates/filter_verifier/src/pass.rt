@@ -4,7 +4,7 @@ ghost use Rattle.std.specs.Prelude.{◌≡◌, ◌⊎◌, ◌<◌, ◌≤◌, �
 ghost use Rattle.filter_verifier.specs.declared.fault.VerifyFault.TheVariants as refusal;
 ghost use Rattle.filter_verifier.specs.Arrivals.{Passed, Unreached, beginning, first_fault, hand_on, leads_below, leads_to, meet, refused_by, visit};
 ghost use Rattle.filter_verifier.specs.Pieces.{arrival_of_places, distances, highest, waiting_at};
-ghost use Rattle.filter_code.specs.declared.limits.TheConstants.{STACK_LIMIT};
+ghost use Rattle.filter_code.specs.Limits.{stack_limit};
 
 use crate::fault::VerifyFault;
 use crate::following::{Following, leads};
@@ -105,7 +105,7 @@ pub fn walk(alloc: Global, code: &Code, size: u32) -> Result<u32, VerifyFault>
         (λ depth. (first_fault code.now size (length code.now.instrs) ≡ None)
         × (depth ≡ highest code.now size (length code.now.instrs)))
         (λ e. (e ≡ refusal.Memory) ⊎ (first_fault code.now size (length code.now.instrs) ≡ Some e)) }
-    ensures limit { IfOk result (λ depth. depth ≤ STACK_LIMIT) }
+    ensures limit { IfOk result (λ depth. depth ≤ stack_limit) }
     ensures not_the_size { IfErr result (λ e. e ≢ refusal.BadSize) }
 {
     let mut pending = begin(alloc, code)?;

@@ -1,7 +1,7 @@
 //! What is known of the places of a stack and of the local variables.
 
 ghost use Rattle.std.specs.Prelude.{◌≡◌, ◌≤◌, None, Some, [], IfOk, MatchOption, length, map, replicate};
-ghost use Rattle.filter_code.specs.declared.limits.TheConstants.{STACK_LIMIT};
+ghost use Rattle.filter_code.specs.Limits.{stack_limit};
 ghost use Rattle.filter_verifier.specs.Facts.{all_known, common_places};
 ghost use Rattle.filter_verifier.specs.Pieces.{fact_at};
 
@@ -22,20 +22,20 @@ pub struct Places {
 
 impl Model for Places {
     ghost use Rattle.std.specs.Prelude.{◌≤◌, length};
-    ghost use Rattle.filter_code.specs.declared.limits.TheConstants.{STACK_LIMIT};
+    ghost use Rattle.filter_code.specs.Limits.{stack_limit};
     ghost use Rattle.filter_verifier.specs.Layout.{Layout};
 
     ghost Value = { Layout };
 
     ghost view = { λ p. record { stack = p.stack.items; locals = p.locals.items } };
 
-    ghost invariant = { λ p. length p.stack.items ≤ STACK_LIMIT };
+    ghost invariant = { λ p. length p.stack.items ≤ stack_limit };
 }
 
 /// The facts of a stack, the top first, as places.
 fn listed(alloc: Global, mut stack: Stack<Fact>) -> Result<Vec<Option<Fact>>, AllocError>
     ensures value { IfOk result (λ v. v.items ≡ map (λ f. Some f) stack) }
-    ensures limit { IfOk result (λ v. length v.items ≤ STACK_LIMIT) }
+    ensures limit { IfOk result (λ v. length v.items ≤ stack_limit) }
 {
     let mut places = Vec::with_capacity(alloc, stack.len())?;
     while let Ok(fact) = stack.take_one() {
@@ -97,7 +97,7 @@ impl Places {
     /// How many places the stack has.
     pub fn height(&self) -> u32
         ensures value { result ≡ length self.now.stack }
-        ensures limit { result ≤ STACK_LIMIT }
+        ensures limit { result ≤ stack_limit }
     {
         self.stack.len() as u32
     }

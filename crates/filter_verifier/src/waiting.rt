@@ -1,7 +1,7 @@
 //! What waits at an index until it is visited.
 
 ghost use Rattle.std.specs.Prelude.{◌≡◌, ◌≤◌, IfOk};
-ghost use Rattle.filter_code.specs.declared.limits.TheConstants.{STACK_LIMIT};
+ghost use Rattle.filter_code.specs.Limits.{stack_limit};
 ghost use Rattle.filter_verifier.specs.Arrivals.{meet};
 ghost use Rattle.filter_verifier.specs.Pieces.{arrival_of, arrival_of_places, height_of};
 
@@ -23,7 +23,7 @@ impl Waiting {
     /// How many places the stack has; 0 where that is not known.
     pub fn height(&self) -> u32
         ensures value { result ≡ height_of (arrival_of self.now) }
-        ensures limit { result ≤ STACK_LIMIT }
+        ensures limit { result ≤ stack_limit }
     {
         match self {
             Waiting::Arrived(places) => places.height(),

@@ -13,8 +13,11 @@ same_item xs k x other h = get_or_from_slice_get xs k (slice_index_or xs k x) ot
 pub loop-instr-preserved : goal.loop-instr-preserved
 loop-instr-preserved c =
     let inside : c.loop-instr.instr-index < length c.args.instrs.now = omega arith in
-    below_more (λ k. (other : Instr) → HasLiteral (slice_index_or c.args.instrs.now k other)) c.loop-instr.instr-index c.loop-instr.invariant
-    λ other. subst HasLiteral (c.instr-item.is ∙ sym (same_item c.args.instrs.now c.loop-instr.instr-index c.instr-item.result other inside)) c.read_literal.ensures
+    below_more (λ k. (other : Instr) → HasLiteral (slice_index_or c.args.instrs.now k other))
+    c.loop-instr.instr-index c.loop-instr.invariant
+    λ other. subst HasLiteral (c.instr-item.is
+    ∙ sym (same_item c.args.instrs.now c.loop-instr.instr-index c.instr-item.result other inside))
+    c.read_literal.ensures
 
 pub returns : goal.returns
 returns c = λ k other h. c.loop-instr.invariant k (omega arith) other

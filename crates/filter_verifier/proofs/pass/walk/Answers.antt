@@ -7,17 +7,20 @@ use Rattle.filter_verifier.proofs.Sizes.{not_the_size}
 use Rattle.filter_verifier.proofs.pass.walk.Goals as goal
 
 pub loop-at-init : goal.loop-at-init
-loop-at-init c = begun c.args.code.now c.args.size c.in_ok-pending.pending.items c.in_ok-pending.ensures.wide c.in_ok-pending.ensures.waiting
+loop-at-init c = begun c.args.code.now c.args.size c.in_ok-pending.pending.items c.in_ok-pending.ensures.wide
+    c.in_ok-pending.ensures.waiting
 
 pub returns-in-Some-clause-outcome : goal.returns-in-Some-clause-outcome
 returns-in-Some-clause-outcome c =
     let inside : c.loop-at.at < length c.args.code.now.instrs = rw (← c.instrs-at-end.ensures.value) c.loop-at-test.true in
-    inr (refused c.args.code.now c.args.size c.loop-at.at c.loop-at.pending.items c.loop-at.depth c.in-Some.fault c.loop-at.invariant (sym c.in_ok-fault.ensures.refused ∙ c.in-Some.is) inside)
+    inr (refused c.args.code.now c.args.size c.loop-at.at c.loop-at.pending.items c.loop-at.depth c.in-Some.fault
+    c.loop-at.invariant (sym c.in_ok-fault.ensures.refused ∙ c.in-Some.is) inside)
 
 pub returns-in-Some-clause-not_the_size : goal.returns-in-Some-clause-not_the_size
 returns-in-Some-clause-not_the_size c = λ e.
     let inside : c.loop-at.at < length c.args.code.now.instrs = rw (← c.instrs-at-end.ensures.value) c.loop-at-test.true in
-    let found = refused c.args.code.now c.args.size c.loop-at.at c.loop-at.pending.items c.loop-at.depth c.in-Some.fault c.loop-at.invariant (sym c.in_ok-fault.ensures.refused ∙ c.in-Some.is) inside in
+    let found = refused c.args.code.now c.args.size c.loop-at.at c.loop-at.pending.items c.loop-at.depth
+    c.in-Some.fault c.loop-at.invariant (sym c.in_ok-fault.ensures.refused ∙ c.in-Some.is) inside in
     not_the_size c.args.code.now c.args.size (length c.args.code.now.instrs) (found ∙ ap (λ (why : VerifyFault). Some why) e)
 
 pub loop-at-preserved : goal.loop-at-preserved
@@ -25,5 +28,7 @@ loop-at-preserved c =
     let inside : c.loop-at.at < length c.args.code.now.instrs = rw (← c.instrs-at-end.ensures.value) c.loop-at-test.true in
     let here = waiting_is c.loop-at.pending.items c.loop-at.at c.index.result.now (rw c.loop-at.invariant.wide inside) c.index.ensures in
     let deeper : c.max-depth.result ≡ max c.loop-at.depth c.height.result = first_of (search rules, grind (arith, common_steps)) in
-    rw deeper (advanced c.args.code.now c.args.size c.loop-at.at c.loop-at.pending.items c.advance.new.pending.items c.loop-at.depth c.height.result c.loop-at.invariant
-    c.in_ok-fault.ensures.wide (sym c.in_ok-fault.ensures.refused ∙ c.in_default.is) c.in_ok-fault.ensures.handed_on (c.height.ensures.value ∙ ap height_of here) c.height.ensures.limit)
+    rw deeper (advanced c.args.code.now c.args.size c.loop-at.at c.loop-at.pending.items c.advance.new.pending.items
+    c.loop-at.depth c.height.result c.loop-at.invariant
+    c.in_ok-fault.ensures.wide (sym c.in_ok-fault.ensures.refused ∙ c.in_default.is) c.in_ok-fault.ensures.handed_on
+    (c.height.ensures.value ∙ ap height_of here) c.height.ensures.limit)
