@@ -3,9 +3,13 @@
 #![tactic(auto)]
 
 #[cfg(test)]
+mod of_check;
+#[cfg(test)]
 mod of_code_file;
 #[cfg(test)]
 mod of_eval;
+#[cfg(test)]
+mod of_examples;
 #[cfg(test)]
 mod of_expressions;
 #[cfg(test)]

@@ -107,7 +107,7 @@ fn around_the_body(rt: HostRuntime) -> Result<(), ParseFault> {
     compare(&rt, rt.alloc(), &AROUND_THE_BODY)
 }
 
-const COMMANDS: [Row; 20] = [
+const COMMANDS: [Row; 24] = [
     ("filter q { accept; int a; }", "P2", 19),
     ("filter q { ; int a; }", "P2", 13),
     ("filter q { { int a; } accept; }", "P2", 13),
@@ -140,6 +140,14 @@ const COMMANDS: [Row; 20] = [
         "tree",
         0,
     ),
+    ("filter q { /* a /* b */ accept; */ }", "P2", 32),
+    ("/* /* */ */ filter q { accept; }", "P2", 9),
+    (
+        "filter q { if a then accept; else reject; else accept; }",
+        "P2",
+        42,
+    ),
+    ("filter q { int a;; int b; }", "P2", 19),
 ];
 
 #[test]
@@ -225,7 +233,7 @@ fn parts_and_sets(rt: HostRuntime) -> Result<(), ParseFault> {
     compare(&rt, rt.alloc(), &PARTS_AND_SETS)
 }
 
-const NUMBERS: [Row; 19] = [
+const NUMBERS: [Row; 23] = [
     ("filter q { a = 0x100000000; }", "P3", 15),
     ("filter q { if 1 ~ [4294967296..5] then accept; }", "P3", 19),
     ("filter q { accept; } 99999999999", "P3", 21),
@@ -269,6 +277,18 @@ const NUMBERS: [Row; 19] = [
         "tree",
         0,
     ),
+    ("filter q { a = b.mask(0x21); }", "P4", 22),
+    ("filter q { a = b.mask(-1); }", "P2", 22),
+    (
+        "filter q { if net ~ [1.0.0.0/8{33,40}] then accept; }",
+        "P4",
+        30,
+    ),
+    (
+        "filter q { if net ~ [1.0.0.0/8{0x9,010}] then accept; }",
+        "tree",
+        0,
+    ),
 ];
 
 #[test]
@@ -293,7 +313,7 @@ fn mixed_runs(rt: HostRuntime) -> Result<(), ParseFault> {
     compare(&rt, rt.alloc(), &MIXED_RUNS)
 }
 
-const EARLY_ENDS: [Row; 18] = [
+const EARLY_ENDS: [Row; 21] = [
     ("filter", "P9", 6),
     ("filter q", "P9", 8),
     ("filter q int a;", "P9", 15),
@@ -316,6 +336,9 @@ const EARLY_ENDS: [Row; 18] = [
         "tree",
         0,
     ),
+    ("filter q { reject \"a\n", "P9", 18),
+    ("filter q { a = \"b\nc\"; }", "P9", 15),
+    ("\"\n", "P9", 0),
 ];
 
 #[test]
@@ -323,7 +346,49 @@ fn early_ends(rt: HostRuntime) -> Result<(), ParseFault> {
     compare(&rt, rt.alloc(), &EARLY_ENDS)
 }
 
-const LEFT_OUT: [Row; 17] = [
+/// Faults of tokens and of the grammar are answered in the order of the text.
+const FIRST_IN_READING_ORDER: [Row; 10] = [
+    ("filter q { accept } $", "P2", 18),
+    ("filter q { a = ; 'x' }", "P2", 15),
+    ("filter q { a = b c; /*", "P2", 17),
+    ("filter q { $ accept } ;", "P1", 11),
+    ("filter q { int $ } print", "P1", 15),
+    ("filter q { a = b && c || \"x\"; }", "P6", 22),
+    ("filter q { if a && b || 4294967296 then ; }", "P6", 21),
+    ("filter q { a = b || c && $; }", "P6", 22),
+    (
+        "filter q { if net ~ [1.0.0.0/8{10,9}, $] then accept; }",
+        "P4",
+        30,
+    ),
+    ("filter q { a = b.mask(99999999999); }", "P3", 22),
+];
+
+#[test]
+fn the_first_fault_in_reading_order(rt: HostRuntime) -> Result<(), ParseFault> {
+    compare(&rt, rt.alloc(), &FIRST_IN_READING_ORDER)
+}
+
+#[test]
+fn each_part_keeps_its_place(rt: HostRuntime) -> Result<(), Fail> {
+    let alloc = rt.alloc();
+    let text = b"filter q int v; { ; { accept; } if true then reject \"x\"; else v = 1; }";
+    let Ok(filter) = parse(alloc, text) else {
+        return Err(Fail::from("a filter is wanted"));
+    };
+    let declarations = format!(in alloc; "{:?}", filter.decls())?;
+    assert_eq!(rt;
+        declarations.as_str(),
+        "[Decl { at: 13, kind: Int, name: [118] }]"
+    );
+    let body = format!(in alloc; "{:?}", filter.body())?;
+    let parts = "[Empty(18), Block(20, [Accept(22, false)]), \
+        If(32, Truth(35, true), Reject(45, true), Some(Assign(62, Name([118]), Number(66, 1))))]";
+    assert_eq!(rt; body.as_str(), parts);
+    Ok(())
+}
+
+const LEFT_OUT: [Row; 20] = [
     ("filter q { a = \"b\"; }", "P10", 15),
     ("filter q { 'a' = 1; }", "P10", 11),
     ("filter q { accept; } print", "P10", 21),
@@ -341,6 +406,13 @@ const LEFT_OUT: [Row; 17] = [
     ("filter q { if 1 !~ [5", "P10", 20),
     ("filter q { if \"a\" then accept; }", "P10", 14),
     ("filter q { printer = setting; accept; }", "tree", 0),
+    ("filter q { accept 'b'; }", "P10", 18),
+    (
+        "filter q { if net ~ [0x5, 1.0.0.0/8] then accept; }",
+        "P10",
+        21,
+    ),
+    ("filter q { define a = 1; }", "P10", 11),
 ];
 
 #[test]
@@ -513,11 +585,14 @@ fn long_names(rt: HostRuntime) -> Result<(), Fail> {
     compare_repeated(&rt, rt.alloc(), &LONG_NAMES)
 }
 
-const LONG_TEXTS: [Repeated; 4] = [
+const LONG_TEXTS: [Repeated; 7] = [
     ("filter q { accept; }", " ", 65_516, "", "tree", 0),
     ("filter q { accept; }", " ", 65_517, "", "P7", 65_536),
     ("$", " ", 65_536, "", "P7", 65_536),
     ("filter q { accept;", " ", 65_518, "", "P9", 65_536),
+    ("filter ", "n", 65_530, "", "P7", 65_536),
+    ("", "{", 65_537, "", "P7", 65_536),
+    ("/*", " ", 65_534, "", "P9", 0),
 ];
 
 #[test]

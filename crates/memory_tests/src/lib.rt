@@ -7,4 +7,8 @@
 #[cfg(test)]
 mod calls;
 #[cfg(test)]
+mod filters;
+#[cfg(test)]
 mod lines;
+#[cfg(test)]
+mod verification;

@@ -1,11 +1,11 @@
-//! `ncroute`: takes routes through the code of route filters.
+//! `ncroute`: checks route filters, and takes routes through their code.
 #![tactic(auto)]
 
 #[cfg(test)]
 mod tests;
 mod words;
 
-use ncroute_commands::{ProgramFault, eval_lines};
+use ncroute_commands::{ProgramFault, check_text, eval_lines};
 use std::io;
 use std::process::ExitCode;
 use words::Request;
@@ -31,7 +31,17 @@ fn run(rt: &HostRuntime) -> Result<u8, ProgramFault> {
         Request::Shown(status) => Ok(status),
         Request::Eval => {
             let refused = eval_lines(rt.alloc(), &mut rt.stdin(), &mut io::writer(rt))?;
-            Ok(if refused == 0 { 0 } else { REFUSED })
+            Ok(status_of(refused))
+        }
+        Request::Check { size, is_code } => {
+            let (reader, writer) = (&mut rt.stdin(), &mut io::writer(rt));
+            let refused = check_text(rt.alloc(), reader, writer, size, is_code)?;
+            Ok(status_of(refused))
         }
     }
+}
+
+/// The exit status of a run with so many refused lines.
+fn status_of(refused: u32) -> u8 {
+    if refused == 0 { 0 } else { REFUSED }
 }

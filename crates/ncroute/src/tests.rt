@@ -4,10 +4,29 @@ use std::test::Fail;
 
 #[test]
 fn reads_words(rt: HostRuntime) -> Result<(), Fail> {
-    let rows: [(&[&str], Request); 7] = [
+    let rows: [(&[&str], Request); 11] = [
         (&["ncroute", "eval"], Request::Eval),
         (&["ncroute"], Request::Shown(2)),
         (&["ncroute", "check"], Request::Shown(2)),
+        (
+            &["ncroute", "check", "--size", "16"],
+            Request::Check {
+                size: 16,
+                is_code: false,
+            },
+        ),
+        (
+            &["ncroute", "check", "--code", "--size=4294967295"],
+            Request::Check {
+                size: 4_294_967_295,
+                is_code: true,
+            },
+        ),
+        (
+            &["ncroute", "check", "--size", "4294967296"],
+            Request::Shown(2),
+        ),
+        (&["ncroute", "check", "--size", "x"], Request::Shown(2)),
         (&["ncroute", "eval", "more"], Request::Shown(2)),
         (&["ncroute", "eval", "--size"], Request::Shown(2)),
         (&["ncroute", "--help"], Request::Shown(0)),

@@ -1,6 +1,6 @@
 //! The words of the command line.
 use clap::error::ErrorKind;
-use clap::{Command, Error};
+use clap::{Arg, ArgAction, ArgMatches, Command, Error};
 use ncroute_commands::ProgramFault;
 use std::alloc::{AllocError, Global};
 use std::convert::AsStr;
@@ -15,6 +15,13 @@ const WRONG_WORDS: u8 = 2;
 pub enum Request {
     /// Take the routes of standard input through a code file.
     Eval,
+    /// Compile the filter of standard input, or read its code file, and verify the code.
+    Check {
+        /// The number of nodes of the networks that the code is for.
+        size: u32,
+        /// Standard input is a code file in hexadecimal, and no filter's text.
+        is_code: bool,
+    },
     /// Nothing more: a text was shown, and the program ends with this status.
     Shown(u8),
 }
@@ -41,8 +48,23 @@ pub fn request_of<R: Print + Eprint, S: AsStr>(
     words: &[S],
 ) -> Result<Request, ProgramFault> {
     match command(alloc)?.try_get_matches_from(words) {
-        Ok(_) => Ok(Request::Eval),
+        Ok(matches) => Ok(request_in(&matches)),
         Err(error) => show(rt, &error),
+    }
+}
+
+/// What words ask for that the parser of words took.
+fn request_in(matches: &ArgMatches<'_>) -> Request {
+    let Some(check) = matches.subcommand_matches("check") else {
+        return Request::Eval;
+    };
+    match check.get_one::<u32>("size") {
+        Some(size) => Request::Check {
+            size,
+            is_code: check.get_flag("code"),
+        },
+        // The parser takes no words without a size.
+        None => Request::Shown(WRONG_WORDS),
     }
 }
 
@@ -70,11 +92,52 @@ fn command<'a>(alloc: Global) -> Result<Command<'a>, AllocError> {
         .about("Take routes through a code file, and print the verdict of each")
         .after_help(EVAL_HELP);
     Command::new(alloc, "ncroute")
-        .about("Take routes through the code of route filters")
+        .about("Check route filters, and take routes through their code")
         .subcommand_required(true)
         .arg_required_else_help(true)
+        .subcommand(check_command(alloc)?)?
         .subcommand(eval)
 }
+
+/// The command `check`.
+fn check_command<'a>(alloc: Global) -> Result<Command<'a>, AllocError> {
+    let size = Arg::new(alloc, "size")
+        .long("size")
+        .value_name("N")
+        .required(true)
+        .value_parser(clap::value_parser!(u32))
+        .help("The number of nodes of the network (2 to 64)");
+    let code = Arg::new(alloc, "code")
+        .long("code")
+        .action(ArgAction::SetTrue)
+        .help("Read a code file in hexadecimal in place of a filter");
+    Command::new(alloc, "check")
+        .about("Compile a filter, and verify its code")
+        .after_help(CHECK_HELP)
+        .arg(size)?
+        .arg(code)
+}
+
+const CHECK_HELP: &str = "\
+Standard input is one filter, or with --code a code file in hexadecimal.
+
+Two lines are printed:
+  code HEX                the filter's code, as `ncroute eval` reads it
+  verified BUDGET DEPTH   the code can never go wrong, takes at most BUDGET steps on
+                          a route, and holds at most DEPTH operands
+A filter or code that is refused ends with the line `refused CODE AT` instead:
+  P1 to P10   no filter: the text is wrong at byte AT
+  Y1 to Y5    a name or a kind is wrong at byte AT
+  G1, G2      the code would be too long, or have too many sets
+  V1 to V9    it is not known that instruction AT cannot go wrong
+  C1 to C6    no code file: byte AT is wrong
+  O3, O7      no hexadecimal; more than 1,048,576 bytes
+
+Example:
+  echo 'filter up { rip_metric = rip_metric + 2; accept; }' | ncroute check --size 16
+The exit status is 0; 1 if something was refused or a fault ended the run; 2 if
+the words are wrong.
+";
 
 const EVAL_HELP: &str = "\
 Standard input is lines. The first is a code file in hexadecimal, each other a route:

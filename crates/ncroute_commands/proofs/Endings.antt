@@ -6,12 +6,12 @@ use Rattle.filter_code.specs.Program.{Program}
 use Rattle.line_protocol.specs.Answers.{Answer, is_over, refusals, text_of}
 use Rattle.line_protocol.specs.Lines.{numbered}
 use Rattle.line_protocol.specs.Runs.{Finishes, IsWritten, Reaches, Runs, Stops}
-use Rattle.line_protocol.specs.declared.TheConstants.{INPUT_LIMIT}
 use Rattle.line_protocol.specs.declared.faults.StreamFault.{StreamFault}
 use Rattle.line_protocol.specs.declared.faults.StreamFault.TheVariants.{Read, Write, Memory, TooLong}
 use Rattle.ncroute_commands.proofs.Evaluations.{Begins, Makes, answers, front_run, whole_run}
 use Rattle.ncroute_commands.specs.Eval.{Line, all_answers, eval_answers, line_answers, no_code}
 use Rattle.ncroute_commands.specs.Evaluation.{Breaks, Evaluates, IsCut, ReachesTo}
+use Rattle.line_protocol.specs.Limits.{input_limit}
 use Rattle.ncroute_commands.specs.declared.eval.Evaluator.{Evaluator}
 
 -- what grew twice grew by both
@@ -35,7 +35,8 @@ no_code_text : text_of (no_code ∷ []) ≡ no_code.text
 no_code_text = append-nil no_code.text
 
 -- A run in which a line was answered ends as the run of its lines does.
-pub ends_well : (s after : Evaluator) (input : List ℕ) (left held holds : Option (List ℕ)) (n : ℕ) → s.code ≡ None → ((n ≡ 0) → (after.code ≡ None) → ⊥) → Finishes answers s after input left held holds n → Evaluates input left held holds n
+pub ends_well : (s after : Evaluator) (input : List ℕ) (left held holds : Option (List ℕ)) (n : ℕ) → s.code ≡ None
+    → ((n ≡ 0) → (after.code ≡ None) → ⊥) → Finishes answers s after input left held holds n → Evaluates input left held holds n
 ends_well s after input left held holds n e some f =
     let makes : Makes (numbered input) f.given after = whole_run s e (numbered input) f.given after f.run in
     let P : List Line → Type 0 = λ lines. Runs answers s lines f.given after in
@@ -63,10 +64,11 @@ pub record IsSilent (input : List ℕ) (left held holds : Option (List ℕ)) : T
   pub written : Appends held holds []
   pub read : List ℕ
   pub consumed : Consumes (Some input) left read
-  pub within : length read ≤ INPUT_LIMIT
+  pub within : length read ≤ input_limit
   pub to_end : left ≡ Some []
 
-pub silent_run : (s after : Evaluator) (input : List ℕ) (left held holds : Option (List ℕ)) (n : ℕ) → s.code ≡ None → (n ≡ 0) → (after.code ≡ None) → Finishes answers s after input left held holds n → IsSilent input left held holds
+pub silent_run : (s after : Evaluator) (input : List ℕ) (left held holds : Option (List ℕ)) (n : ℕ) → s.code ≡ None → (n ≡ 0)
+    → (after.code ≡ None) → Finishes answers s after input left held holds n → IsSilent input left held holds
 silent_run s after input left held holds n e zero none f =
     let makes : Makes (numbered input) f.given after = whole_run s e (numbered input) f.given after f.run in
     let lines : numbered input ≡ [] = makes.silent none (sym f.counted ∙ zero) in
@@ -81,11 +83,13 @@ silent_run s after input left held holds n e zero none f =
     }
 
 -- An input of which no line is answered ends with the one refusal.
-pub ends_empty : (input : List ℕ) (left held mid holds : Option (List ℕ)) → IsSilent input left held mid → Appends mid holds no_code.text → Evaluates input left held holds 1
+pub ends_empty : (input : List ℕ) (left held mid holds : Option (List ℕ)) → IsSilent input left held mid
+    → Appends mid holds no_code.text → Evaluates input left held holds 1
 ends_empty input left held mid holds s w =
     let all : eval_answers input ≡ no_code ∷ [] = no_lines input s.none in
     record {
-      written = subst (λ (t : List ℕ). Appends held holds t) (sym (ap text_of all ∙ no_code_text)) (append_twice held mid holds [] no_code.text s.written w);
+      written = subst (λ (t : List ℕ). Appends held holds t) (sym (ap text_of all ∙ no_code_text))
+          (append_twice held mid holds [] no_code.text s.written w);
       counted = sym (ap refusals all);
       read = s.read;
       consumed = s.consumed;
@@ -94,7 +98,8 @@ ends_empty input left held mid holds s w =
     }
 
 -- A fault ends a run as it ends the answers to its lines.
-pub breaks_off : (fault : StreamFault) (s now : Evaluator) (input : List ℕ) (left held holds : Option (List ℕ)) → s.code ≡ None → Stops answers fault s now input left held holds → Breaks fault input left held holds
+pub breaks_off : (fault : StreamFault) (s now : Evaluator) (input : List ℕ) (left held holds : Option (List ℕ)) → s.code ≡ None
+    → Stops answers fault s now input left held holds → Breaks fault input left held holds
 breaks_off fault s now input left held holds e f =
     let begins : Begins (numbered input) f.given = front_run s e (numbered input) f.given f.after f.run in
     record {
@@ -107,14 +112,16 @@ breaks_off fault s now input left held holds e f =
       reach = reach_to fault s now f.read f.given f.after begins.front e begins.text f.reach;
     }
   where
-    reach_to : (fault : StreamFault) (s now : Evaluator) (read : List ℕ) (given : List Answer) (after : Evaluator) (front : List Answer) → s.code ≡ None → text_of given ≡ text_of front → Reaches answers fault s now read given after → ReachesTo fault read front
+    reach_to : (fault : StreamFault) (s now : Evaluator) (read : List ℕ) (given : List Answer) (after : Evaluator) (front : List Answer)
+        → s.code ≡ None → text_of given ≡ text_of front → Reaches answers fault s now read given after → ReachesTo fault read front
     reach_to Read s now read given after front e text r = sym text ∙ (whole_run s e _ given after r.1).text
     reach_to Write s now read given after front e text r = tt
     reach_to Memory s now read given after front e text r = tt
     reach_to TooLong s now read given after front e text r = (r.0, sym text ∙ (whole_run s e _ given after r.2).text)
 
 -- A fault at that one refusal ends the run with none of it or with a front of it.
-pub breaks_at_refusal : (fault : StreamFault) (input : List ℕ) (left held mid holds : Option (List ℕ)) → IsSilent input left held mid → IsCut fault mid holds no_code.text → Breaks fault input left held holds
+pub breaks_at_refusal : (fault : StreamFault) (input : List ℕ) (left held mid holds : Option (List ℕ)) → IsSilent input left held mid
+    → IsCut fault mid holds no_code.text → Breaks fault input left held holds
 breaks_at_refusal Read input left held mid holds s w = absurd w
 breaks_at_refusal TooLong input left held mid holds s w = absurd w
 breaks_at_refusal Memory input left held mid holds s w = record {
@@ -137,7 +144,8 @@ breaks_at_refusal Write input left held mid holds s w = record {
 }
 
 -- Of bytes that are known, more follows.
-pub if_known : {P Q : List ℕ → Type 0} (known : Option (List ℕ)) → ((input : List ℕ) → P input → Q input) → IfSome known P → IfSome known Q
+pub if_known : {P Q : List ℕ → Type 0} (known : Option (List ℕ)) → ((input : List ℕ) → P input → Q input) → IfSome known P
+    → IfSome known Q
 if_known None f h = h
 if_known (Some input) f h = f input h
 

@@ -1,2 +1,5 @@
 pub mod Evaluations
 pub mod Endings
+pub mod FileBytes
+pub mod Printed
+pub mod Saying

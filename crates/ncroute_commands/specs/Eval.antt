@@ -14,8 +14,8 @@ use Rattle.filter_code.specs.declared.outcome.Outcome.TheVariants as outcome
 use Rattle.line_protocol.specs.Answers.{Answer, refusal, refusals, text_of}
 use Rattle.line_protocol.specs.Lines.{numbered}
 use Rattle.line_protocol.specs.Words.{trimmed}
-use Rattle.line_protocol.specs.declared.TheConstants.{LINE_LIMIT}
 use Rattle.line_protocol.specs.declared.answers.Reply.TheVariants as reply
+use Rattle.line_protocol.specs.Limits.{line_limit}
 use Rattle.ncroute_commands.specs.RouteLine.{line_code, route_in}
 use Rattle.ncroute_commands.specs.declared.code_line_fault.CodeLineFault.{CodeLineFault}
 use Rattle.ncroute_commands.specs.declared.code_line_fault.CodeLineFault.TheVariants as fault
@@ -52,7 +52,7 @@ code_of_bytes (Err found) = Err (fault.Line line.Hexadecimal)
 
 -- the code that a line gives: a code file in hexadecimal, with the blanks round it dropped
 abbrev pub code_in : List ℕ → Result Program CodeLineFault
-code_in given = if nat_lt LINE_LIMIT (length given) then Err (fault.Line line.TooLong) else code_of_bytes (decode_of (trimmed given))
+code_in given = if nat_lt line_limit (length given) then Err (fault.Line line.TooLong) else code_of_bytes (decode_of (trimmed given))
 
 -- a refused code line, by its number: a fault of the file has a place in the file
 abbrev pub code_refusal : ℕ → CodeLineFault → List ℕ

@@ -5,11 +5,11 @@ use Rattle.filter_code.specs.Program.{Program}
 use Rattle.line_protocol.specs.Answers.{Answer, is_over, text_of}
 use Rattle.line_protocol.specs.Lines.{numbered, whole_lines}
 use Rattle.line_protocol.specs.Runs.{AppendsFront, IsWritten}
-use Rattle.line_protocol.specs.declared.TheConstants.{INPUT_LIMIT}
 use Rattle.line_protocol.specs.declared.answers.Reply.TheVariants as reply
 use Rattle.line_protocol.specs.declared.faults.StreamFault.{StreamFault}
 use Rattle.line_protocol.specs.declared.faults.StreamFault.TheVariants.{Read, Write, Memory, TooLong}
 use Rattle.ncroute_commands.specs.Eval.{code_answer, code_in, eval_answers, eval_out, eval_refusals, line_answers, route_answer}
+use Rattle.line_protocol.specs.Limits.{input_limit}
 use Rattle.ncroute_commands.specs.declared.code_line_fault.CodeLineFault.{CodeLineFault}
 
 -- The line of the code gets no answer where it is good: it leaves the code behind. A refusal ends the run.
@@ -29,7 +29,7 @@ pub record Evaluates (input : List ℕ) (left held holds : Option (List ℕ)) (r
   pub counted : refused ≡ eval_refusals input
   pub read : List ℕ
   pub consumed : Consumes (Some input) left read
-  pub within : length read ≤ INPUT_LIMIT
+  pub within : length read ≤ input_limit
   -- only behind a refused line of the code may something be left unread
   pub to_end : is_over (eval_answers input) ≡ false → left ≡ Some []
 
@@ -40,7 +40,8 @@ ReachesTo Read read given = text_of given ≡ text_of (line_answers (numbered (w
 ReachesTo Write read given = ⊤
 ReachesTo Memory read given = ⊤
 -- one byte more than the limit was read, and each line that ended within the limit is answered
-ReachesTo TooLong read given = (length read ≡ INPUT_LIMIT + 1) × (text_of given ≡ text_of (line_answers (numbered (whole_lines (take INPUT_LIMIT read)))))
+ReachesTo TooLong read given = (length read ≡ input_limit + 1) ×
+    (text_of given ≡ text_of (line_answers (numbered (whole_lines (take input_limit read)))))
 
 -- A fault ended a run: the first of the answers to the input are written, each whole, but for a writer that failed.
 pub record Breaks (fault : StreamFault) (input : List ℕ) (left held holds : Option (List ℕ)) : Type 0 where

@@ -2,10 +2,10 @@
 use Rattle.std.specs.Prelude.{ℕ, ◌&&◌, Bool, List, [], ◌∷◌, length, Option, Some, None, Result, Ok, Err, nat_le, nat_lt, if◌then◌else◌, codes}
 use Rattle.prefix_patterns.specs.Reading.{number_in, prefix_in}
 use Rattle.filter_code.specs.Announcement.{Announcement}
-use Rattle.filter_code.specs.declared.limits.TheConstants.{SMALLEST_SIZE, LARGEST_SIZE}
 use Rattle.line_protocol.specs.Words.{words}
-use Rattle.line_protocol.specs.declared.TheConstants.{LINE_LIMIT}
-use Rattle.ncroute_commands.specs.declared.TheConstants.{NUMBER_LIMIT}
+use Rattle.filter_code.specs.Limits.{smallest_size, largest_size}
+use Rattle.line_protocol.specs.Limits.{line_limit}
+use Rattle.ncroute_commands.specs.Limits.{number_limit}
 use Rattle.ncroute_commands.specs.declared.line_fault.LineFault.{LineFault}
 use Rattle.ncroute_commands.specs.declared.line_fault.LineFault.TheVariants.{Words, Numbers, Hexadecimal, TooLong, Network}
 
@@ -19,7 +19,7 @@ line_code Network = codes "O8"
 
 -- a domain has 2 to 64 nodes, and a metric is at most their number
 abbrev pub is_within_limits : ℕ → ℕ → Bool
-is_within_limits metric size = nat_le SMALLEST_SIZE size && nat_le size LARGEST_SIZE && nat_le metric size
+is_within_limits metric size = nat_le smallest_size size && nat_le size largest_size && nat_le metric size
 
 -- the route of a network, a metric and a size, where all three were read; the first fault from the left counts
 abbrev pub route_of_parts : Option (List Bool) → Option ℕ → Option ℕ → Result Announcement LineFault
@@ -40,8 +40,8 @@ three_of (a ∷ (b ∷ (c ∷ (d ∷ more)))) = None
 -- the route of the words of a line
 abbrev pub route_of_words : Option (List ℕ × List ℕ × List ℕ) → Result Announcement LineFault
 route_of_words None = Err Words
-route_of_words (Some (net, metric, size)) = route_of_parts (prefix_in net) (number_in NUMBER_LIMIT metric) (number_in NUMBER_LIMIT size)
+route_of_words (Some (net, metric, size)) = route_of_parts (prefix_in net) (number_in number_limit metric) (number_in number_limit size)
 
 -- the route that a line gives, `NETWORK METRIC SIZE`
 abbrev pub route_in : List ℕ → Result Announcement LineFault
-route_in line = if nat_lt LINE_LIMIT (length line) then Err TooLong else route_of_words (three_of (words line))
+route_in line = if nat_lt line_limit (length line) then Err TooLong else route_of_words (three_of (words line))

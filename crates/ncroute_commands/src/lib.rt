@@ -1,15 +1,20 @@
 //! What the commands of `ncroute` do: each is generic over its reader and writer, and its contract says what it reads and writes.
 #![tactic(auto)]
 
+mod check;
+mod checked;
 mod code_line;
 mod code_line_fault;
 mod eval;
 mod fault;
+mod laws;
 mod line_fault;
 mod route_line;
 
+pub use check::check_text;
 pub use eval::eval_lines;
 pub use fault::ProgramFault;
+pub use laws::{printed_code_is_checked_alike, verified_code_says_the_same};
 
 /// A number of a line is at most this.
 pub const NUMBER_LIMIT: u32 = 65_535;

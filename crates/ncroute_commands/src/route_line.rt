@@ -3,6 +3,7 @@ ghost use Rattle.std.specs.Prelude.{◌≡◌, ◌≤◌, length};
 ghost use Rattle.std.specs.Option.{option_map};
 ghost use Rattle.line_protocol.specs.Words.{words};
 ghost use Rattle.prefix_patterns.specs.Reading.{number_in, prefix_in};
+ghost use Rattle.ncroute_commands.specs.Limits.{number_limit};
 ghost use Rattle.ncroute_commands.specs.RouteLine.{route_in, route_of_parts, three_of};
 
 use crate::NUMBER_LIMIT;
@@ -26,7 +27,7 @@ fn three_words(line: &[u8]) -> Option<(&[u8], &[u8], &[u8])>
 
 /// The route of the texts of a network, a metric and a size.
 fn read_parts(network: &[u8], metric: &[u8], size: &[u8]) -> Result<Route, LineFault>
-    ensures { result ≡ route_of_parts (prefix_in network.now) (number_in NUMBER_LIMIT metric.now) (number_in NUMBER_LIMIT size.now) }
+    ensures { result ≡ route_of_parts (prefix_in network.now) (number_in number_limit metric.now) (number_in number_limit size.now) }
 {
     let Some(network) = read_prefix(network) else {
         return Err(LineFault::Network);

@@ -7,7 +7,8 @@ use Rattle.ncroute_commands.proofs.eval.evaluate.Goals.{else-refused-eq0-via-the
 
 pub returns-in-Err-clause-broken_off : goal.returns-in-Err-clause-broken_off
 returns-in-Err-clause-broken_off g c =
-    if_known _ (λ input f. breaks_off c.in-Err.fault (record { code = None }) c.answer_lines.new.service input _ _ _ refl f) c.in-Err.ensures.err
+    if_known _
+    (λ input f. breaks_off c.in-Err.fault (record { code = None }) c.answer_lines.new.service input _ _ _ refl f) c.in-Err.ensures.err
 
 pub returns-then-is_none-clause-finished : goal.returns-then-is_none-clause-finished
 returns-then-is_none-clause-finished g c =
@@ -15,11 +16,13 @@ returns-then-is_none-clause-finished g c =
     let held = g.W.Write.contents c.args.writer.now in
     let mid = g.W.Write.contents c.answer_lines.new.writer in
     let holds = g.W.Write.contents c.refuse_empty.new.writer in
+    let after = c.answer_lines.new.service in
     let none : c.answer_lines.new.service.code ≡ None = no_code_is_none _ c.if-is_none.ensures in
     if_answered c.refuse_empty.result
     (λ n w. if_known _
     (λ input f. subst (λ (k : ℕ). Evaluates input left held holds k) (sym w.0)
-    (ends_empty input left held mid holds (silent_run (record { code = None }) c.answer_lines.new.service input left held mid c.in-Ok.refused refl c.if-refused-eq0.true none f) w.1))
+    (ends_empty input left held mid holds
+    (silent_run (record { code = None }) after input left held mid c.in-Ok.refused refl c.if-refused-eq0.true none f) w.1))
     c.in-Ok.ensures.ok)
     c.refuse_empty.ensures.ok
 
@@ -29,15 +32,20 @@ returns-then-is_none-clause-broken_off g c =
     let held = g.W.Write.contents c.args.writer.now in
     let mid = g.W.Write.contents c.answer_lines.new.writer in
     let holds = g.W.Write.contents c.refuse_empty.new.writer in
+    let after = c.answer_lines.new.service in
     let none : c.answer_lines.new.service.code ≡ None = no_code_is_none _ c.if-is_none.ensures in
     if_refused c.refuse_empty.result
     (λ fault w. if_known _
-    (λ input f. breaks_at_refusal fault input left held mid holds (silent_run (record { code = None }) c.answer_lines.new.service input left held mid c.in-Ok.refused refl c.if-refused-eq0.true none f) w)
+    (λ input f. breaks_at_refusal fault input left held mid holds
+    (silent_run (record { code = None }) after input left held mid c.in-Ok.refused refl c.if-refused-eq0.true none f) w)
     c.in-Ok.ensures.ok)
     c.refuse_empty.ensures.err
 
 pub returns-clause-finished : goal.returns-clause-finished
 returns-clause-finished g c =
     if_known _ (λ input f. ends_well (record { code = None }) c.answer_lines.new.service input _ _ _ c.in-Ok.refused refl
-    (λ zero none. elim c.else-refused-eq0.branch [ else-refused-eq0-via-then-refused-eq0+else-is_none w ↦ some_code_is_some _ w.if-is_none.ensures none | else-refused-eq0-via-else-refused-eq0 w ↦ w.if-refused-eq0.false zero ])
+    (λ zero none. elim c.else-refused-eq0.branch [
+      | else-refused-eq0-via-then-refused-eq0+else-is_none w ↦ some_code_is_some _ w.if-is_none.ensures none
+      | else-refused-eq0-via-else-refused-eq0 w ↦ w.if-refused-eq0.false zero
+    ])
     f) c.in-Ok.ensures.ok

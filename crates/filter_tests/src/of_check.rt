@@ -1,13 +1,16 @@
 //! Runs of `check`: worked rows of filters and of code files, limits, and faults in mid-stream.
 
 use line_protocol::StreamFault;
-use ncroute_commands::{ProgramFault, check_text};
+use ncroute_commands::{ProgramFault, check_text, eval_lines};
 use std::alloc::Global;
 use std::io::{self, ErrorKind, Read, Write};
 use std::process::Abort;
 use std::test::Fail;
 
-/// Asserts what `check` answers to an input.
+/// The number of bytes that an input may have.
+const LIMIT: usize = 1_048_576;
+
+/// Asserts what `check` answers to an input, of which it reads no more than one byte over the limit.
 fn expect_lines(
     rt: &impl Abort,
     alloc: Global,
@@ -19,7 +22,8 @@ fn expect_lines(
     let mut reader = input;
     let mut writer = Vec::new(alloc);
     let refused = check_text(alloc, &mut reader, &mut writer, size, is_code)?;
-    assert_eq!(rt; writer.as_slice(), want.as_bytes(), "{input:?}");
+    assert_eq!(rt; writer.as_slice(), want.as_bytes());
+    assert_eq!(rt; reader.len(), input.len().saturating_sub(LIMIT + 1));
     assert_eq!(rt; refused, u32::from(want.contains("refused")));
     Ok(())
 }
@@ -31,7 +35,8 @@ fn filters_are_compiled_and_verified(rt: HostRuntime) -> Result<(), Fail> {
             "filter not_too_far int var; { if defined( rip_metric ) then var = rip_metric; else { var = 1; rip_metric = 1; } \
              if rip_metric > 10 then reject \"RIP metric is too big\"; else accept \"ok\"; }",
             16,
-            "code 4e4346310100001601000000001100020161000313110060000601000000011100010000000114241513010000000a3233610002716000017071\nverified 16 2\n",
+            "code 4e4346310100001601000000001100020161000313110060000601000000011100010000000114241513\
+             010000000a3233610002716000017071\nverified 16 2\n",
         ),
         (
             "filter up2 { rip_metric = rip_metric + 2; accept; }",
@@ -75,16 +80,15 @@ fn filters_are_compiled_and_verified(rt: HostRuntime) -> Result<(), Fail> {
              71\nrefused V3 4\n",
         ),
         (
-            "filter m { if true && false || true then accept; }",
+            "filter half { int k; k = 4; if 8 / k = 2 then accept; }",
             8,
-            "refused P6 28\n",
+            "code 4e4346310100000c010000000011000100000004110001000000081000230100000002306100017071\nverified 11 2\n",
         ),
-        ("filter q { print \"x\"; }", 8, "refused P10 11\n"),
-        ("filter q { accept }", 8, "refused P2 18\n"),
-        ("", 8, "refused P9 0\n"),
-        ("filter q { int a; a = true; }", 8, "refused Y3 22\n"),
-        ("filter q { net = 1; }", 8, "refused Y4 11\n"),
-        ("filter q { b = 1; }", 8, "refused Y1 11\n"),
+        (
+            "filter m { if (true && false) || true then accept; }",
+            8,
+            "code 4e4346310000000c020161000202006000010200610002020160000102016100017071\nverified 9 1\n",
+        ),
     ];
     for (text, size, want) in rows {
         expect_lines(&rt, rt.alloc(), text.as_bytes(), size, false, want)?;
@@ -93,8 +97,50 @@ fn filters_are_compiled_and_verified(rt: HostRuntime) -> Result<(), Fail> {
 }
 
 #[test]
+fn texts_are_refused(rt: HostRuntime) -> Result<(), Fail> {
+    let rows = [
+        ("", "refused P9 0\n"),
+        (
+            "filter m { if true && false || true then accept; }",
+            "refused P6 28\n",
+        ),
+        ("filter q { print \"x\"; }", "refused P10 11\n"),
+        ("filter q { accept }", "refused P2 18\n"),
+        ("filter q { accept;", "refused P9 18\n"),
+        ("filter q { accept; } ;", "refused P2 21\n"),
+        (
+            "filter q { rip_metric = 4294967296; accept; }",
+            "refused P3 24\n",
+        ),
+        ("filter q { rip_metric = 0x; }", "refused P1 24\n"),
+        (
+            "filter q { if net ~ [1.0.0.0/33] then accept; }",
+            "refused P4 21\n",
+        ),
+        (
+            "filter q { if 1 ~ [1..3] then accept; }",
+            "refused P10 19\n",
+        ),
+        ("filter q { case rip_metric { } }", "refused P10 11\n"),
+        ("filter q { b = 1; }", "refused Y1 11\n"),
+        ("filter q { int a; int a; }", "refused Y2 22\n"),
+        ("filter q { int a; a = true; }", "refused Y3 22\n"),
+        (
+            "filter q { ip a; if net ~ a then accept; }",
+            "refused Y3 26\n",
+        ),
+        ("filter q { if 1 = true then accept; }", "refused Y3 18\n"),
+        ("filter q { net = 1; }", "refused Y4 11\n"),
+    ];
+    for (text, want) in rows {
+        expect_lines(&rt, rt.alloc(), text.as_bytes(), 8, false, want)?;
+    }
+    Ok(())
+}
+
+#[test]
 fn code_files_are_verified(rt: HostRuntime) -> Result<(), Fail> {
-    let rows: [(&[u8], u32, &str); 17] = [
+    let rows: [(&[u8], u32, &str); 27] = [
         (
             b"4e434631000000051301ffffffff201570",
             8,
@@ -150,7 +196,33 @@ fn code_files_are_verified(rt: HostRuntime) -> Result<(), Fail> {
             1,
             "code 4e43463100000000\nrefused V8 0\n",
         ),
+        (
+            b"4e4346310000000113",
+            8,
+            "code 4e4346310000000113\nrefused V4 0\n",
+        ),
+        (
+            b"4e4346310000002213131313131313131313131313131313131313131313131313131313131313131370",
+            8,
+            "code 4e4346310000002213131313131313131313131313131313131313131313131313131313131313131370\nrefused V5 32\n",
+        ),
+        (
+            b"4e434631000000031361000070",
+            8,
+            "code 4e434631000000031361000070\nrefused V2 1\n",
+        ),
+        (
+            b"4e43463101000002100070",
+            8,
+            "code 4e43463101000002100070\nrefused V2 0\n",
+        ),
         (b"", 8, "refused C2 0\n"),
+        (b"\n", 8, "refused C2 0\n"),
+        (b"4e4346320000000170", 8, "refused C1 3\n"),
+        (b"4e43463100000001", 8, "refused C2 8\n"),
+        (b"4e4346310000000172", 8, "refused C3 8\n"),
+        (b"4e4346310000000204010203041070", 8, "refused C4 9\n"),
+        (b"4e43463111000000", 8, "refused C5 4\n"),
         (b"4e434631000000017000", 8, "refused C6 9\n"),
         (b" 4e43463100000000", 8, "refused O3 1\n"),
         (b"4e4", 8, "refused O3 1\n"),
@@ -167,6 +239,64 @@ fn code_files_are_verified(rt: HostRuntime) -> Result<(), Fail> {
     ];
     for (text, size, want) in rows {
         expect_lines(&rt, rt.alloc(), text, size, true, want)?;
+    }
+    Ok(())
+}
+
+/// The code that `check` prints of a filter, which `check --code` reads with the same lines, and the verdict that `eval` prints
+/// of a route under it.
+fn verdict_on(rt: &impl Abort, alloc: Global, text: &str, route: &str) -> Result<Vec<u8>, Fail> {
+    let mut lines = Vec::new(alloc);
+    check_text(alloc, &mut text.as_bytes(), &mut lines, 8, false)?;
+    let behind = lines
+        .as_slice()
+        .strip_prefix(b"code ")
+        .ok_or("a code line")?;
+    let code = behind.split(|byte| *byte == b'\n').next().ok_or("a line")?;
+    let mut again = Vec::new(alloc);
+    let mut digits = code;
+    check_text(alloc, &mut digits, &mut again, 8, true)?;
+    assert_eq!(rt; again.as_slice(), lines.as_slice());
+    let mut input = code.to_vec(alloc)?;
+    input.push(b'\n')?;
+    input.extend_from_slice(route.as_bytes())?;
+    let mut verdict = Vec::new(alloc);
+    eval_lines(alloc, &mut input.as_slice(), &mut verdict)?;
+    Ok(verdict)
+}
+
+#[test]
+fn checked_code_is_evaluated(rt: HostRuntime) -> Result<(), Fail> {
+    let half = "filter half { int k; k = 4; if 8 / k = 2 then accept; }";
+    let divided = "filter d { if 8 / rip_metric = 2 then accept; }";
+    let rows = [
+        (half, "10.0.0.0/8 3 8", "accept 3\n"),
+        (divided, "10.0.0.0/8 4 8", "accept 4\n"),
+        (divided, "10.0.0.0/8 0 8", "fault K3 2\n"),
+        (
+            "filter m { if (true && false) || true then accept; }",
+            "10.0.0.0/8 3 8",
+            "accept 3\n",
+        ),
+        (
+            "filter e { if false then if true then accept; else accept; }",
+            "10.0.0.0/8 3 8",
+            "reject\n",
+        ),
+        (
+            "filter z { if false && 1 / 0 = 1 then accept; else accept; }",
+            "10.0.0.0/8 3 8",
+            "accept 3\n",
+        ),
+        (
+            "filter up2 { rip_metric = rip_metric + 2; accept; }",
+            "10.0.0.0/8 7 8",
+            "accept 8\n",
+        ),
+    ];
+    for (text, route, want) in rows {
+        let verdict = verdict_on(&rt, rt.alloc(), text, route)?;
+        assert_eq!(rt; verdict.as_slice(), want.as_bytes());
     }
     Ok(())
 }
@@ -236,24 +366,20 @@ fn parentheses_use_the_stack(rt: HostRuntime) -> Result<(), Fail> {
 
 #[test]
 fn inputs_have_limits(rt: HostRuntime) -> Result<(), Fail> {
-    let alloc = rt.alloc();
-    let mut text = Vec::from_slice(alloc, b"filter q { accept; }")?;
-    text.resize(65_536, b' ')?;
-    expect_lines(
-        &rt,
-        alloc,
-        text.as_slice(),
-        8,
-        false,
-        "code 4e434631000000027071\nverified 1 0\n",
-    )?;
-    text.push(b' ')?;
-    expect_lines(&rt, alloc, text.as_slice(), 8, false, "refused P7 65536\n")?;
-    text.resize(1_048_576, b' ')?;
-    expect_lines(&rt, alloc, text.as_slice(), 8, false, "refused P7 65536\n")?;
-    text.push(b' ')?;
-    expect_lines(&rt, alloc, text.as_slice(), 8, false, "refused O7 1\n")?;
-    expect_lines(&rt, alloc, text.as_slice(), 8, true, "refused O7 1\n")?;
+    let rows = [
+        (65_536, false, "code 4e434631000000027071\nverified 1 0\n"),
+        (65_537, false, "refused P7 65536\n"),
+        (1_048_576, false, "refused P7 65536\n"),
+        (1_048_577, false, "refused O7 1\n"),
+        (1_048_600, false, "refused O7 1\n"),
+        (1_048_576, true, "refused O3 1\n"),
+        (1_048_577, true, "refused O7 1\n"),
+    ];
+    for (len, is_code, want) in rows {
+        let mut text = Vec::from_slice(rt.alloc(), b"filter q { accept; }")?;
+        text.resize(len, b' ')?;
+        expect_lines(&rt, rt.alloc(), text.as_slice(), 8, is_code, want)?;
+    }
     Ok(())
 }
 

@@ -3,13 +3,18 @@ ghost use Rattle.std.specs.Prelude.{◌≡◌, ◌++◌, ◌∷◌, [], codes, I
 ghost use Rattle.std.specs.Io.{StartsWith};
 ghost use Rattle.std.specs.Io.KnownBytes.{Appends};
 ghost use Rattle.code_file.specs.Reading.{file_of};
+ghost use Rattle.code_file.specs.Spelling.{IsProgram};
 ghost use Rattle.filter_compiler.specs.Translation.{code_of};
 ghost use Rattle.filter_parser.specs.SyntaxText.{view_filter};
+ghost use Rattle.filter_verifier.specs.Safe.{IsSafe};
 ghost use Rattle.hex.specs.Hex.{decode_of, encode_lower};
 ghost use Rattle.line_protocol.specs.Runs.{AppendsFront};
-ghost use Rattle.ncroute_commands.specs.Check.{IsFilterReport, IsReport, IsTextReport, IsTranslationReport, code_line, code_report, file_report, hexadecimal_report, is_white, refused_as, verified_line, without_white_end};
-ghost use Rattle.ncroute_commands.specs.Checking.{Checks, ChecksOff, report_of};
+ghost use Rattle.ncroute_commands.specs.Check.{IsFilterReport, IsOnSafeCode, IsReport, IsTextReport, IsTranslationReport};
+ghost use Rattle.ncroute_commands.specs.Check.{code_line, code_report, file_report, hexadecimal_report, is_white, refused_as};
+ghost use Rattle.ncroute_commands.specs.Check.{verified_line, without_white_end};
+ghost use Rattle.ncroute_commands.specs.Checking.{Checks, ChecksOff, IsAnswered, IsCutOff, report_of};
 ghost use Rattle.ncroute_commands.specs.Faults.{stream_fault};
+ghost use Rattle.ncroute_commands.specs.Saying.{SaysTheSame};
 
 use crate::checked::Checked;
 use crate::fault::ProgramFault;
@@ -51,7 +56,8 @@ fn line_of_bytes(alloc: Global, bytes: &[u8]) -> Result<Vec<u8>, AllocError>
 
 /// The line of a code: its file in hexadecimal.
 fn line_of_code(alloc: Global, code: &Code) -> Result<Vec<u8>, AllocError>
-    ensures { IfOk result (λ text. text.items ≡ code_line code.now) }
+    ensures line { IfOk result (λ text. text.items ≡ code_line code.now) }
+    ensures readable { OnOk result (IsProgram code.now) }
 {
     match write_code(alloc, code) {
         Ok(bytes) => line_of_bytes(alloc, bytes.as_slice()),
@@ -74,7 +80,10 @@ fn push_verified(text: &mut Vec<u8>, verified: &Verified) -> Result<(), AllocErr
 
 /// Both lines on a code.
 fn check_code(alloc: Global, code: Code, size: u32) -> Result<Checked, AllocError>
-    ensures { IfOk result (λ c. report_of c ≡ code_report size code) }
+    ensures report { IfOk result (λ c. report_of c ≡ code_report size code) }
+    ensures readable { OnOk result (IsProgram code) }
+    ensures verified { IfOk result (λ c. c.refusals ≡ 0 → IsSafe code size) }
+    ensures safe { IfOk result (λ c. IsOnSafeCode size (report_of c)) }
 {
     let mut text = line_of_code(alloc, &code)?;
     match verify(alloc, code, size) {
@@ -92,7 +101,8 @@ fn check_code(alloc: Global, code: Code, size: u32) -> Result<Checked, AllocErro
 
 /// The report on the bytes of a code file.
 fn check_bytes(alloc: Global, bytes: &[u8], size: u32) -> Result<Checked, AllocError>
-    ensures { IfOk result (λ c. report_of c ≡ file_report size (file_of bytes.now)) }
+    ensures report { IfOk result (λ c. report_of c ≡ file_report size (file_of bytes.now)) }
+    ensures safe { IfOk result (λ c. IsOnSafeCode size (report_of c)) }
 {
     match read_code(alloc, bytes) {
         Ok(code) => check_code(alloc, code, size),
@@ -121,7 +131,8 @@ fn trim_white_end(text: &[u8]) -> &[u8]
 
 /// The report on a code file in hexadecimal.
 fn check_hexadecimal(alloc: Global, input: &[u8], size: u32) -> Result<Checked, AllocError>
-    ensures { IfOk result (λ c. report_of c ≡ hexadecimal_report size (decode_of (without_white_end input.now))) }
+    ensures report { IfOk result (λ c. report_of c ≡ hexadecimal_report size (decode_of (without_white_end input.now))) }
+    ensures safe { IfOk result (λ c. IsOnSafeCode size (report_of c)) }
 {
     match hex::decode(alloc, trim_white_end(input)) {
         Ok(bytes) => check_bytes(alloc, bytes.as_slice(), size),
@@ -132,7 +143,9 @@ fn check_hexadecimal(alloc: Global, input: &[u8], size: u32) -> Result<Checked, 
 
 /// The report on the translation of a filter.
 fn check_translation(alloc: Global, typed: &Typed, size: u32) -> Result<Checked, AllocError>
-    ensures { IfOk result (λ c. IsTranslationReport size (code_of (view_filter typed.now)) (report_of c)) }
+    ensures report { IfOk result (λ c. IsTranslationReport size (code_of (view_filter typed.now)) (report_of c)) }
+    ensures means { IfOk result (λ c. c.refusals ≡ 0 → SaysTheSame (view_filter typed.now) (code_of (view_filter typed.now)) size) }
+    ensures safe { IfOk result (λ c. IsOnSafeCode size (report_of c)) }
 {
     match compile(alloc, typed) {
         Ok(code) => check_code(alloc, code, size),
@@ -143,7 +156,8 @@ fn check_translation(alloc: Global, typed: &Typed, size: u32) -> Result<Checked,
 
 /// The report on a filter.
 fn check_filter(alloc: Global, filter: Filter, size: u32) -> Result<Checked, AllocError>
-    ensures { IfOk result (λ c. IsFilterReport size (view_filter filter) (report_of c)) }
+    ensures report { IfOk result (λ c. IsFilterReport size (view_filter filter) (report_of c)) }
+    ensures safe { IfOk result (λ c. IsOnSafeCode size (report_of c)) }
 {
     match check(alloc, filter) {
         Ok(typed) => check_translation(alloc, &typed, size),
@@ -154,7 +168,8 @@ fn check_filter(alloc: Global, filter: Filter, size: u32) -> Result<Checked, All
 
 /// The report on a filter's text.
 fn check_source(alloc: Global, text: &[u8], size: u32) -> Result<Checked, AllocError>
-    ensures { IfOk result (λ c. IsTextReport size text.now (report_of c)) }
+    ensures report { IfOk result (λ c. IsTextReport size text.now (report_of c)) }
+    ensures safe { IfOk result (λ c. IsOnSafeCode size (report_of c)) }
 {
     match parse(alloc, text) {
         Ok(filter) => check_filter(alloc, filter, size),
@@ -165,7 +180,8 @@ fn check_source(alloc: Global, text: &[u8], size: u32) -> Result<Checked, AllocE
 
 /// The report on an input.
 fn check_input(alloc: Global, input: &[u8], size: u32, is_code: bool) -> Result<Checked, AllocError>
-    ensures { IfOk result (λ c. IsReport size is_code input.now (report_of c)) }
+    ensures report { IfOk result (λ c. IsReport size is_code input.now (report_of c)) }
+    ensures safe { IfOk result (λ c. IsOnSafeCode size (report_of c)) }
 {
     if input.len() > CHECK_LIMIT {
         return refuse(alloc, LineFault::TooLong.code(), 1);
@@ -223,8 +239,26 @@ fn check_stream<R: Read, W: Write>(
     ensures broken_off { IfErr result (λ fault. IfSome (R.remaining reader.old) (λ input.
         ChecksOff fault size is_code input (R.remaining reader.new) (W.contents writer.old) (W.contents writer.new))) }
 {
-    let input = read_input(alloc, reader, CHECK_LIMIT)?;
-    match check_input(alloc, input.as_slice(), size, is_code) {
+    match read_input(alloc, reader, CHECK_LIMIT) {
+        Ok(input) => answer_input(alloc, writer, input.as_slice(), size, is_code),
+        Err(fault) => Err(fault),
+    }
+}
+
+/// Writes the report on what was read, which is one byte over the limit where the input is longer. Gives the number of refusals.
+fn answer_input<W: Write>(
+    alloc: Global,
+    writer: &mut W,
+    input: &[u8],
+    size: u32,
+    is_code: bool,
+) -> Result<u32, StreamFault>
+    ensures finished { IfOk result (λ refused.
+        IsAnswered size is_code input.now (W.contents writer.old) (W.contents writer.new) refused) }
+    ensures broken_off { IfErr result (λ fault.
+        IsCutOff fault size is_code input.now (W.contents writer.old) (W.contents writer.new)) }
+{
+    match check_input(alloc, input, size, is_code) {
         Ok(checked) => write_report(writer, &checked),
         Err(_) => Err(StreamFault::Memory),
     }

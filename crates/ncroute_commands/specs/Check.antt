@@ -1,12 +1,12 @@
 -- What `check` writes for an input: the code of a filter's text, and whether it is verified, or a refusal. (This
 -- project's own choice.)
-use Rattle.std.specs.Prelude.{◌≡◌, ◌≢◌, ◌⊎◌, ℕ, ◌-◌, ◌==◌, nat_lt, Bool, true, false, ◌||◌, if◌then◌else◌, List, [], ◌∷◌, ◌++◌, Option, Some, None, Result, Ok, Err, length, take, codes, decimal}
+use Rattle.std.specs.Prelude.{◌≡◌, ◌≢◌, ◌⊎◌, ℕ, ◌-◌, ◌==◌, nat_lt, Bool, true, false, ◌||◌, List, [], ◌∷◌, ◌++◌, Option, Some, None, Result, Ok, Err, length, take, codes, decimal}
 use Rattle.std.specs.List.{suffix_len}
 use Rattle.hex.specs.Hex.{decode_of, encode_lower}
 use Rattle.hex.specs.declared.error.FromHexError.{FromHexError}
 use Rattle.code_file.specs.Codes.{fault_code as file_fault_code, fault_place as file_fault_place}
 use Rattle.code_file.specs.Reading.{file_of}
-use Rattle.code_file.specs.Spelling.{spelling}
+use Rattle.code_file.specs.Spelling.{IsProgram, spelling}
 use Rattle.code_file.specs.declared.fault.FileFault.{FileFault}
 use Rattle.filter_code.specs.Program.{Program}
 use Rattle.filter_compiler.specs.Codes.{fault_code as compile_fault_code}
@@ -24,14 +24,13 @@ use Rattle.filter_types.specs.declared.fault.TypeFault.TheVariants as no_kinds
 use Rattle.filter_verifier.specs.Arrivals.{the_fault}
 use Rattle.filter_verifier.specs.Bounds.{cost, peak}
 use Rattle.filter_verifier.specs.Faults.{fault_code as verify_fault_code, fault_place as verify_fault_place}
+use Rattle.filter_verifier.specs.Safe.{IsSafe}
 use Rattle.filter_verifier.specs.declared.fault.VerifyFault.{VerifyFault}
 use Rattle.line_protocol.specs.Answers.{refusal}
+use Rattle.ncroute_commands.specs.Limits.{check_limit}
 use Rattle.ncroute_commands.specs.RouteLine.{line_code}
+use Rattle.ncroute_commands.specs.Saying.{SaysTheSame}
 use Rattle.ncroute_commands.specs.declared.line_fault.LineFault.TheVariants as line
-
--- an input of more bytes than this is refused
-abbrev pub check_limit : ℕ
-check_limit = 1048576
 
 -- what is written, and how many of its lines are refusals
 pub record Report : Type 0 where
@@ -45,6 +44,10 @@ refused_as code at = record { text = refusal code at; refusals = 1 }
 -- the line of a code: its file in hexadecimal
 abbrev pub code_line : Program → List ℕ
 code_line program = codes "code " ++ encode_lower (spelling program) ++ 10 ∷ []
+
+-- the same digits on a line of their own, as `check --code` reads them
+abbrev pub printed : Program → List ℕ
+printed program = encode_lower (spelling program) ++ 10 ∷ []
 
 -- the line of verified code: its budget and its depth
 abbrev pub verified_line : Program → List ℕ
@@ -63,6 +66,10 @@ behind first report = record { text = first ++ report.text; refusals = report.re
 abbrev pub code_report : ℕ → Program → Report
 code_report size program = behind (code_line program) (verdict_on program (the_fault program size))
 
+-- Where nothing is refused, the report is that of a code which never goes wrong on a route of the size.
+abbrev pub IsOnSafeCode : ℕ → Report → Type 0
+IsOnSafeCode size report = report.refusals ≡ 0 → (program : Program) × IsSafe program size × (report ≡ code_report size program)
+
 -- the report on a code file
 abbrev pub file_report : ℕ → Result Program FileFault → Report
 file_report size (Ok program) = code_report size program
@@ -80,19 +87,21 @@ is_white byte = byte == 32 || byte == 9 || byte == 13 || byte == 10
 abbrev pub without_white_end : List ℕ → List ℕ
 without_white_end text = take (length text - suffix_len is_white text) text
 
--- the report on the translation of a filter
+-- the report on the translation of a filter, which has a file where it is within the limits
 abbrev pub IsTranslationReport : ℕ → Program → Report → Type 0
 IsTranslationReport size program report =
     (IsTooLong program × (report ≡ refused_as (compile_fault_code no_code.TooManyInstructions) 0))
     ⊎ (((IsTooLong program → ⊥) × HasTooMany program × (report ≡ refused_as (compile_fault_code no_code.TooManySets) 0))
-    ⊎ ((IsTooLong program → ⊥) × (HasTooMany program → ⊥) × (report ≡ code_report size program)))
+    ⊎ ((IsTooLong program → ⊥) × (HasTooMany program → ⊥) × IsProgram program × (report ≡ code_report size program)))
 
--- the report on a filter: refused where its names and kinds do not fit
+-- the report on a filter: refused where its names and kinds do not fit. Where no line is a refusal, the code says of each
+-- route of a network of the size just what the filter says.
 abbrev pub IsFilterReport : ℕ → syntax.Program → Report → Type 0
 IsFilterReport size filter report =
     ((why : TypeFault) × (why ≢ no_kinds.Memory) × (IsTyped filter → ⊥)
     × (report ≡ refused_as (type_fault_code why) (type_fault_place why)))
-    ⊎ (IsTyped filter × IsTranslationReport size (code_of filter) report)
+    ⊎ (IsTyped filter × IsTranslationReport size (code_of filter) report
+    × (report.refusals ≡ 0 → SaysTheSame filter (code_of filter) size))
 
 -- the report on a filter's text: refused where it spells no filter
 abbrev pub IsTextReport : ℕ → List ℕ → Report → Type 0

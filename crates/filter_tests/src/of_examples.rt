@@ -112,6 +112,7 @@ fn examples_answer_as_operators_mean_them(rt: HostRuntime) -> Result<(), Fail> {
             Some(distance) => Verdict::Accept(distance),
             None => Verdict::Reject,
         };
+        assert!(rt; metric <= verified.size());
         assert_eq!(rt; run(&verified, &net, metric).verdict, wanted);
     }
     Ok(())

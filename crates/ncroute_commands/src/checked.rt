@@ -1,5 +1,5 @@
 /// What `check` writes, and how many of its lines are refusals.
-#[derive(Debug, Drop)]
+#[derive(Drop)]
 pub struct Checked {
     /// The lines.
     pub text: Vec<u8>,

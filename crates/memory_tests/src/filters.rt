@@ -1,0 +1,147 @@
+//! A filter's text: read, judged and compiled, with memory and without.
+
+use filter_code::{Code, Instr};
+use filter_compiler::{CompileFault, compile};
+use filter_parser::{Filter, ParseFault, parse};
+use filter_types::{TypeFault, Typed, check};
+use prefix_patterns::{Ip, Pattern, Prefix};
+use std::fmt::{self, Write};
+use std::process::Abort;
+use std::test::Fail;
+
+/// Has what trees and code are built from: a declaration, an assignment, a sum, a suffix, parentheses, `!`, comparisons, a set, a
+/// block, and an `if` in an `if`.
+const TEXT: &str =
+    "filter f { int a; a = 1 + net.len; if !(a > 9) then if net ~ [10.0.0.0/8+] then { accept; } else reject; }";
+
+/// The variable of that text, as the tree is shown. Numbers in front are places in the text.
+const DECLS: &str = "[Decl { at: 15, kind: Int, name: [97] }]";
+
+/// The commands of that text.
+const BODY: &str =
+    "[Assign(18, Name([97]), Run(Number(22, 1), [(Add, Suffixed(Attribute(26, Net), [Len]))])), \
+    If(35, Not(38, Group(39, Run(Name(40, [97]), [(Greater, Number(44, 9))]))), \
+    If(52, Member(In, Attribute(55, Net), Set { at: 61, patterns: [OrLonger(62, Prefix { address: 167772160, len: 8 })] }), \
+    Block(80, [Accept(82, false)]), Some(Reject(97, false))), None)]";
+
+/// Holds what was shown. It needs no memory.
+#[derive(Drop)]
+struct Page {
+    held: [u8; 512],
+    len: usize,
+}
+
+impl Page {
+    fn new() -> Page {
+        Page {
+            held: [0; 512],
+            len: 0,
+        }
+    }
+
+    fn text(&self) -> &[u8] {
+        &self.held[..self.len.min(512)]
+    }
+}
+
+impl Write for Page {
+    fn write_str(&mut self, s: &str) -> fmt::Result {
+        let from = self.len.min(512);
+        if s.len() > 512 - from {
+            return Err(fmt::Error);
+        }
+        self.held[from..from + s.len()].copy_from_slice(s.as_bytes());
+        self.len = from + s.len();
+        Ok(())
+    }
+}
+
+/// Asserts that a filter is that of the text `TEXT`.
+fn expect_tree(rt: &impl Abort, filter: &Filter) -> Result<(), fmt::Error> {
+    let (mut decls, mut body) = (Page::new(), Page::new());
+    write!(decls, "{:?}", filter.decls())?;
+    write!(body, "{:?}", filter.body())?;
+    assert_eq!(rt; filter.name(), b"f".as_slice());
+    assert_eq!(rt; decls.text(), DECLS.as_bytes());
+    assert_eq!(rt; body.text(), BODY.as_bytes());
+    assert_eq!(rt; filter.tokens().len(), 38);
+    Ok(())
+}
+
+/// Asserts that a filter is that of the text `TEXT`, and that the variable of each of its uses is the first one.
+fn expect_typed(rt: &impl Abort, typed: &Typed) -> Result<(), fmt::Error> {
+    assert_eq!(rt; typed.numbers(), [0, 0].as_slice());
+    expect_tree(rt, typed.filter())
+}
+
+/// Asserts that a code is that of the text `TEXT`.
+fn expect_code(rt: &impl Abort, code: &Code) -> Result<(), Fail> {
+    let net = Prefix::new(Ip(0x0a00_0000), 8).ok_or("a prefix")?;
+    let pattern = Pattern::new(net, 8, 32).ok_or("a pattern")?;
+    let instrs = [
+        Instr::Int(0),
+        Instr::Store(0),
+        Instr::Int(1),
+        Instr::Net,
+        Instr::Len,
+        Instr::Add,
+        Instr::Store(0),
+        Instr::Load(0),
+        Instr::Int(9),
+        Instr::Le,
+        Instr::Not,
+        Instr::Not,
+        Instr::JumpIfNot(6),
+        Instr::Net,
+        Instr::Member(0),
+        Instr::JumpIfNot(2),
+        Instr::Accept,
+        Instr::Jump(1),
+        Instr::Reject,
+        Instr::Reject,
+    ];
+    assert_eq!(rt; code.locals(), 1);
+    assert_eq!(rt; code.sets().len(), 1);
+    for set in code.sets() {
+        assert_eq!(rt; set.patterns(), [pattern].as_slice());
+    }
+    assert_eq!(rt; code.instrs(), instrs.as_slice());
+    Ok(())
+}
+
+#[test]
+fn a_text_is_read_or_p11(rt: HostRuntime) -> Result<(), Fail> {
+    let read = parse(rt.alloc(), TEXT.as_bytes());
+    if let Err(fault) = &read {
+        assert_eq!(rt; *fault, ParseFault::Memory);
+        assert_eq!(rt; (fault.code(), fault.at()), ("P11", 0));
+        expect_tree(&rt, &parse(rt.alloc(), TEXT.as_bytes())?)?;
+    }
+    expect_tree(&rt, &read?)?;
+    Ok(())
+}
+
+#[test]
+fn a_filter_is_judged_or_y6(rt: HostRuntime) -> Result<(), Fail> {
+    let judged = check(rt.alloc(), parse(rt.alloc(), TEXT.as_bytes())?);
+    if let Err(fault) = &judged {
+        assert_eq!(rt; *fault, TypeFault::Memory);
+        assert_eq!(rt; (fault.code(), fault.at()), ("Y6", 0));
+        let again = parse(rt.alloc(), TEXT.as_bytes())?;
+        expect_typed(&rt, &check(rt.alloc(), again)?)?;
+    }
+    expect_typed(&rt, &judged?)?;
+    Ok(())
+}
+
+#[test]
+fn a_filter_is_compiled_or_g3(rt: HostRuntime) -> Result<(), Fail> {
+    let typed = check(rt.alloc(), parse(rt.alloc(), TEXT.as_bytes())?)?;
+    let compiled = compile(rt.alloc(), &typed);
+    if let Err(fault) = &compiled {
+        assert_eq!(rt; *fault, CompileFault::Memory);
+        assert_eq!(rt; (fault.code(), fault.at()), ("G3", 0));
+        expect_code(&rt, &compile(rt.alloc(), &typed)?)?;
+    }
+    expect_code(&rt, &compiled?)
+}
