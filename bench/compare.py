@@ -5,33 +5,42 @@ usage: compare.py PROVED PLAIN ROUNDS INPUT..
 
 Each program is started with the word `eval` and an input file as its standard input. Where the two differ in output or
 exit status, that is said and the status is 1; nothing is timed then. Otherwise they are run ROUNDS times each, by
-turns, and the least and the median time of each are printed with the ratio PROVED / PLAIN. A time is that of the whole
-process, from its start to its end, with its output to the null device.
+turns, and the least and the median time of each are printed with the ratio PROVED / PLAIN. A time is the processor time
+of the whole process, with its output to the null device.
 """
 import os
+import re
 import statistics
 import subprocess
 import sys
-import time
 
 
-def answer(program, path):
+def answer(command, path):
+    """What a command, a list of words, answers to an input, and its exit status."""
     with open(path, "rb") as given:
-        ran = subprocess.run([program, "eval"], stdin=given, stdout=subprocess.PIPE)
+        ran = subprocess.run(command, stdin=given, stdout=subprocess.PIPE)
     return ran.stdout, ran.returncode
 
 
-def seconds(program, path):
+def seconds(command, path):
+    """The processor time that a command takes, so that other work on the machine counts little."""
     with open(path, "rb") as given, open(os.devnull, "wb") as null:
         actions = [(os.POSIX_SPAWN_DUP2, given.fileno(), 0), (os.POSIX_SPAWN_DUP2, null.fileno(), 1)]
-        began = time.perf_counter()
-        started = os.posix_spawn(program, [program, "eval"], os.environ, file_actions=actions)
-        os.waitpid(started, 0)
-        return time.perf_counter() - began
+        started = os.posix_spawn(command[0], command, os.environ, file_actions=actions)
+        _, _, used = os.wait4(started, 0)
+        return used.ru_utime + used.ru_stime
+
+
+def instructions(command, path):
+    """The number of instructions that a command carries out, as valgrind counts them: the same in each run."""
+    counting = ["valgrind", "--tool=callgrind", "--callgrind-out-file=/dev/null", *command]
+    with open(path, "rb") as given:
+        ran = subprocess.run(counting, stdin=given, stdout=subprocess.DEVNULL, stderr=subprocess.PIPE, text=True)
+    return int(re.search(r"Collected : (\d+)", ran.stderr)[1])
 
 
 def agree(proved, plain, path):
-    first, second = answer(proved, path), answer(plain, path)
+    first, second = answer([proved, "eval"], path), answer([plain, "eval"], path)
     if first == second:
         return True
     print(f"{os.path.basename(path)}: the two programs differ, in output or exit status", file=sys.stderr)
@@ -57,7 +66,7 @@ def main(words):
         sys.exit(1)
     print(f"outputs are the same; {rounds} runs of each program by turns")
     for path in paths:
-        taken = [(seconds(proved, path), seconds(plain, path)) for _ in range(rounds)]
+        taken = [(seconds([proved, "eval"], path), seconds([plain, "eval"], path)) for _ in range(rounds)]
         report(path, *zip(*taken))
 
 

@@ -1,7 +1,7 @@
 #!/usr/bin/env python3
 """Writes an input of `ncroute eval`: a code file in hexadecimal, then route lines `NET METRIC SIZE`.
 
-usage: generate.py INPUT [ROUTES [SEED]]
+usage: generate.py INPUT [ROUTES [SEED [SIZE]]]
 
 INPUT is one of
 
@@ -11,7 +11,7 @@ INPUT is one of
     straight_filter    about 1,000 instructions of arithmetic, local variables, comparisons and branches forward
 
 or a code file in hexadecimal. ROUTES is the number of route lines (100,000 for `straight_filter`, 200,000 otherwise),
-SEED the seed of the generator (1). The same words give the same bytes on every machine: the numbers come from a small
+SEED the seed of the generator (1), SIZE the size of each network (2 to 64; without it sizes differ). The same words give the same bytes on every machine: the numbers come from a small
 generator of this file. One route line in 500 is one that `eval` refuses, and before every thousandth there is a comment
 line, which is no route line.
 """
@@ -216,15 +216,20 @@ def net_near(patterns):
     return net
 
 
-def route(numbers, net):
-    """A route line that is answered: a size of 2 to 64, a metric of 0 to the size."""
-    size = 2 + numbers.below(63)
+def size_within(numbers, size):
+    """The size that is given, or any from 2 to 64."""
+    return size or 2 + numbers.below(63)
+
+
+def route(numbers, net, size):
+    """A route line that is answered: a metric of 0 to the size."""
+    size = size_within(numbers, size)
     return f"{net(numbers)} {numbers.below(size + 1)} {size}"
 
 
-def refused(numbers):
+def refused(numbers, size):
     """A line that is refused: a length of 33, a metric over the size, a word too few, a metric that is no number."""
-    size = 2 + numbers.below(63)
+    size = size_within(numbers, size)
     net = any_net(numbers)
     return (
         f"{written_address(numbers.below(2**32))}/33 0 {size}",
@@ -234,13 +239,13 @@ def refused(numbers):
     )[numbers.below(4)]
 
 
-def lines(numbers, code, net, routes):
+def lines(numbers, code, net, routes, size):
     yield code
     for index in range(routes):
         if index % COMMENT_EVERY == 0:
             yield f"# route {index} and those after it"
         is_refused = numbers.below(REFUSED_ONE_IN) == 0
-        yield refused(numbers) if is_refused else route(numbers, net)
+        yield refused(numbers, size) if is_refused else route(numbers, net, size)
 
 
 def parts(name, numbers):
@@ -254,12 +259,13 @@ def parts(name, numbers):
 
 
 def main(words):
-    if not 1 <= len(words) <= 3:
+    if not 1 <= len(words) <= 4:
         sys.exit(__doc__)
     numbers = Numbers(int(words[2]) if len(words) > 2 else SEED)
     code, net, routes = parts(words[0], numbers)
     routes = int(words[1]) if len(words) > 1 else routes
-    sys.stdout.writelines(f"{line}\n" for line in lines(numbers, code, net, routes))
+    size = int(words[3]) if len(words) > 3 else None
+    sys.stdout.writelines(f"{line}\n" for line in lines(numbers, code, net, routes, size))
 
 
 if __name__ == "__main__":

@@ -1,30 +1,53 @@
 #!/usr/bin/env bash
-# Builds the proved program and the plain one, checks that both answer the same, and prints both times and their ratio.
+# Builds the proved programs and the plain one, checks that they answer the same, and prints their times and ratios:
+# first of `ncroute eval` as a whole, then of the machines alone.
 #
-# usage: bench/run.sh
-#   NCROUTE=PATH   a proved program that is built already: then none is built here
-#   ROUNDS=N       how often each program is run on each input (7)
-#   ROUTES=N       the number of route lines of each input (200,000, of straight_filter 100,000)
+# usage: bench/run.sh [eval|machines|instructions]     (without a word: eval and machines)
+#   instructions counts instructions of the machines with valgrind, in place of their time
+#   NCROUTE=PATH       a proved `ncroute` that is built already: then none is built here
+#   FILTER_BENCH=PATH  the same for `filter_bench`
+#   ROUNDS=N           how often each program is run on each input (7)
+#   ROUTES=N           the number of route lines of each input of `eval` (200,000, of straight_filter 100,000)
 set -eu
 bench="$(cd "$(dirname "$0")" && pwd)"
+wanted="${1:-both}"
 folder="$(mktemp -d)"
 trap 'rm -rf "$folder"' EXIT
 
-if [ -z "${NCROUTE:-}" ]; then
-    # Proves and builds the program, and has it print its help alone.
-    echo "proving and building ncroute" >&2
-    (cd "$bench/../crates/ncroute" && rt run -- --help </dev/null) >"$folder/build" 2>&1 || {
+# Proves and builds a program, and has it end at once.
+build() {
+    echo "proving and building $1" >&2
+    (cd "$bench/../crates/$1" && rt run -- "${@:2}" <stdin) >"$folder/build" 2>&1 || {
         cat "$folder/build" >&2
         exit 1
     }
-    NCROUTE="$bench/../crates/ncroute/out/ncroute"
-fi
+}
+
 rustc --edition 2021 -O -o "$folder/plain" "$bench/baseline/main.rs"
 
-inputs=()
-for name in accept_alone add_two_and_clip set_of_1024 straight_filter; do
-    "$bench/generate.py" "$name" ${ROUTES:+"$ROUTES"} >"$folder/$name"
-    inputs+=("$folder/$name")
-done
+if [ "$wanted" = both ] || [ "$wanted" = eval ]; then
+    if [ -z "${NCROUTE:-}" ]; then
+        build ncroute --help
+        NCROUTE="$bench/../crates/ncroute/out/ncroute"
+    fi
+    inputs=()
+    for name in accept_alone add_two_and_clip set_of_1024 straight_filter; do
+        "$bench/generate.py" "$name" ${ROUTES:+"$ROUTES"} >"$folder/$name"
+        inputs+=("$folder/$name")
+    done
+    "$bench/compare.py" "$NCROUTE" "$folder/plain" "${ROUNDS:-7}" "${inputs[@]}"
+fi
 
-"$bench/compare.py" "$NCROUTE" "$folder/plain" "${ROUNDS:-7}" "${inputs[@]}"
+if [ "$wanted" != eval ]; then
+    if [ -z "${FILTER_BENCH:-}" ]; then
+        build filter_bench verified 0
+        FILTER_BENCH="$bench/../crates/filter_bench/out/filter_bench"
+    fi
+    inputs=()
+    for name_rounds in accept_alone=1000 add_two_and_clip=500 set_of_1024=20 straight_filter=5; do
+        "$bench/generate.py" "${name_rounds%=*}" 20000 1 64 >"$folder/${name_rounds%=*}"
+        inputs+=("$folder/$name_rounds")
+    done
+    [ "$wanted" = instructions ] && measure=instructions || measure="${ROUNDS:-7}"
+    "$bench/machines.py" "$FILTER_BENCH" "$folder/plain" "$measure" "${inputs[@]}"
+fi

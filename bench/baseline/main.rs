@@ -7,14 +7,16 @@ mod code;
 mod lines;
 mod machine;
 mod patterns;
+mod rounds;
 mod route;
 
 use std::io;
 use std::process::ExitCode;
 
 use code::{decode_hexadecimal, read_code, Code};
-use lines::{answer_lines, push_decimal, push_refusal, trim_blanks, words, Reply, Service, LINE_LIMIT};
+use lines::{answer_lines, push_decimal, push_refusal, trim_blanks, words, Reply, Service, StreamFault, LINE_LIMIT};
 use machine::{run, Memory, Outcome};
+use rounds::{measured, Sums};
 use route::{read_prefix, read_route};
 
 /// Answers route lines with the code of the file line, once that was read.
@@ -96,18 +98,41 @@ impl Service for Eval {
     }
 }
 
-fn main() -> ExitCode {
-    if !std::env::args().skip(1).eq(["eval"]) {
-        eprintln!("usage: baseline eval");
-        return ExitCode::from(2);
-    }
+/// Answers standard input. Whether no line was refused.
+fn eval() -> Result<bool, StreamFault> {
     let mut eval = Eval { code: None, memory: Memory::new() };
-    match answer_lines(&mut io::stdin().lock(), &mut io::stdout().lock(), &mut eval) {
-        Ok(0) => ExitCode::SUCCESS,
-        Ok(_) => ExitCode::FAILURE,
+    Ok(answer_lines(&mut io::stdin().lock(), &mut io::stdout().lock(), &mut eval)? == 0)
+}
+
+/// Takes routes through the machine again and again, and prints what it said.
+fn measure(rounds: u32) -> Result<bool, StreamFault> {
+    let Sums { accepted, rejected, metrics } = measured(rounds)?;
+    println!("accepted {accepted} rejected {rejected} metrics {metrics}");
+    Ok(true)
+}
+
+fn main() -> ExitCode {
+    let words: Vec<String> = std::env::args().skip(1).collect();
+    let words: Vec<&str> = words.iter().map(String::as_str).collect();
+    let done = match words[..] {
+        ["eval"] => eval(),
+        ["rounds", number] => match number.parse() {
+            Ok(rounds) => measure(rounds),
+            Err(_) => return usage(),
+        },
+        _ => return usage(),
+    };
+    match done {
+        Ok(true) => ExitCode::SUCCESS,
+        Ok(false) => ExitCode::FAILURE,
         Err(fault) => {
             eprintln!("baseline: {}", fault.code());
             ExitCode::FAILURE
         }
     }
+}
+
+fn usage() -> ExitCode {
+    eprintln!("usage: baseline eval | rounds NUMBER");
+    ExitCode::from(2)
 }
