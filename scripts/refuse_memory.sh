@@ -1,5 +1,5 @@
 #!/usr/bin/env bash
-# Refuses each allocation of a crate's tests in turn, and prints a line a crate.
+# Refuses each allocation of a crate's tests in turn. Prints a line a crate, and a line a test: in how many runs it was refused.
 #
 # usage: scripts/refuse_memory.sh [CRATE..]     (without names: memory_tests, whose tests make each call that asks for memory once)
 #   JOBS=N    how many runs go side by side (2); a run takes some 40 seconds of processor time
@@ -52,9 +52,18 @@ show() {
     sed 's/^/    /' "$folder/$2.out" >&2
 }
 
+# A line a test: in how many runs it did not pass.
+show_tests() {
+    awk '
+        /^test .* \.\.\. / { refused[$2] += $NF == "FAILED" }
+        END { for (name in refused) printf "  %3d  %s\n", refused[name], name | "sort -k 2" }
+    ' "$folder"/*.out
+}
+
 # Refuses the allocations of one crate; 1 where a run faulted or hung.
 sweep() {
     local number=0 quiet=0 refused=0 faulted=0 number_run
+    rm -f "$folder"/*
     run "$1" 0
     if [ "$(verdict 0)" != quiet ]; then
         echo "$1: its tests do not pass with ample memory"
@@ -84,6 +93,7 @@ sweep() {
         echo "$1: no allocation noticed"
     else
         echo "$1: allocations refused in turn: $refused; runs that faulted or hung: $faulted"
+        show_tests
     fi
     [ "$faulted" = 0 ]
 }
