@@ -19,7 +19,6 @@ use Rattle.prefix_patterns.specs.Matching.{pattern_limit}
 use Rattle.filter_compiler.specs.Measures.{filter_measure}
 use Rattle.filter_compiler.specs.Translation.{acts_sets, code_of, instructions}
 use Rattle.filter_compiler.specs.Writing.{written_filter}
-use Rattle.filter_compiler.proofs.Masks.{AreMasked, filter_masked}
 use Rattle.filter_compiler.proofs.Within.{filter_counts, filter_written, largest}
 
 -- a set as large as the largest
@@ -114,12 +113,8 @@ small_sets f lists typed within e =
     let small = within.small in
     subst (All (λ list. length list ≤ pattern_limit)) (sym e) (all_small 1024 (acts_sets f.body) (omega arith))
 
-masked : (instrs : List Instr) → AreMasked instrs → All HasMask instrs
-masked [] h = All-nil HasMask
-masked (i ∷ rest) h = All-cons HasMask i rest h.0 (masked rest h.1)
-
-pub is_allowed : (f : syntax.Program) → IsTyped f → IsWithin (filter_measure f) → IsAllowed (code_of f)
-is_allowed f typed within =
+pub is_allowed : (f : syntax.Program) → IsTyped f → IsWithin (filter_measure f) → All HasMask (instructions f) → IsAllowed (code_of f)
+is_allowed f typed within masks =
     let variables : length f.decls ≤ 16 = typed.declared.few in
     let e1 = (measures f typed).instructions in
     let e2 = (measures f typed).sets in
@@ -129,7 +124,7 @@ is_allowed f typed within =
       locals = variables;
       sets = omega arith;
       instrs = omega arith;
-      masks = masked (instructions f) (filter_masked f);
+      masks = masks;
     }
 
 abbrev program_of : ℕ → List (List PrefixPattern) → List Instr → code.Program

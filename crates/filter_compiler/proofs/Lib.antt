@@ -1,7 +1,6 @@
 pub mod Answered
 pub mod CommandRuns
 pub mod ExpressionRuns
-pub mod Masks
 pub mod Measured
 pub mod Operators
 pub mod Parts

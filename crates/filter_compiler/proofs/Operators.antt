@@ -1,13 +1,9 @@
 -- The instructions of each operator: they put its result in the place of its operands.
-use Rattle.std.proofs.Common.{◌≡◌, ℕ, zero, suc, ◌+◌, ◌/◌, ◌==◌, ◌<◌, ◌≤◌, min, ◌⊎◌, inl, inr, Bool, true, false, not, List, [], ◌∷◌}
-use Rattle.std.proofs.Common.{length, map, Option, Some, None, refl, sym, ap, ◌∙◌, subst, arith}
+use Rattle.std.proofs.Common.{◌≡◌, ℕ, zero, suc, ◌+◌, ◌/◌, ◌==◌, ◌<◌, Bool, true, false, not, List, [], ◌∷◌}
+use Rattle.std.proofs.Common.{length, map, Option, Some, None, refl, subst, arith}
 use Rattle.std.specs.Prelude.{nat_lt, nat_le, slice_get}
-use Rattle.std.proofs.lemmas.Bool.{cases_lt}
 use Rattle.std.proofs.lemmas.Bool.Decides.{nat_tests}
 use Rattle.std.proofs.lemmas.Option.{slice_get_within}
-use Rattle.std.proofs.lemmas.List.{take_all}
-use Rattle.prefix_patterns.specs.declared.address.Ip.{Ip}
-use Rattle.prefix_patterns.specs.Bits.{bits, address_of, prefix_bits}
 use Rattle.prefix_patterns.specs.Matching.{matches_any, PrefixPattern}
 use Rattle.filter_code.specs.declared.instruction.Instr.{Instr}
 use Rattle.filter_code.specs.declared.instruction.Instr.TheVariants as instr
@@ -48,22 +44,6 @@ lt_is_not_ge a b = grind (arith, nat_tests)
 
 suc_is_not_zero : (n : ℕ) → (suc n == 0) ≡ false
 suc_is_not_zero n = grind (arith, nat_tests)
-
--- more bits than an address has are all of them
-length_of_bits : (count n : ℕ) → length (bits count n) ≡ count
-unfolding bits
-length_of_bits zero n = refl
-length_of_bits (suc count) n = ap (λ k. suc k) (length_of_bits count n)
-
-masked_from : (a n : ℕ) → (32 < n) ⊎ (n ≤ 32) → prefix_bits a (min n 32) ≡ prefix_bits a n
-masked_from a n (inr few) = let e : min n 32 ≡ n = omega arith in ap (prefix_bits a) e
-masked_from a n (inl many) =
-    let e : min n 32 ≡ 32 = omega arith in
-    let long = length_of_bits 32 a in
-    ap (prefix_bits a) e ∙ (take_all 32 (bits 32 a) (omega arith) ∙ sym (take_all n (bits 32 a) (omega arith)))
-
-masked_all : (a n : ℕ) → prefix_bits a (min n 32) ≡ prefix_bits a n
-masked_all a n = masked_from a n (cases_lt 32 n)
 
 module _ (program : Program) (route : Announcement) (scene : Scene) where
   -- a value of a kind stands on the stack, or the run has divided by zero
@@ -222,15 +202,6 @@ module _ (program : Program) (route : Announcement) (scene : Scene) where
   negation_runs pc stack (value.Bool b) k fits has s = (inverted pc stack b has.0 s, cc)
   negation_runs pc stack _ k fits has s = cc
 
-  -- MASK of at most 32 bits, which are all that an address has
-  mask_step : (pc : ℕ) (stack : List Value) (a : Ip) (n : ℕ)
-      → carry_out program route (config_in program route scene pc (value.Addr a ∷ stack)) (Some (instr.Mask (min n 32))) ≡ unless_full
-      (nat_lt 32 (suc (length stack))) pc (Going (config_in program route scene (pc + 1) (value.Addr (record {
-        0 = address_of
-            (prefix_bits a.0 n);
-      }) ∷ stack)))
-  mask_step pc stack a n = rw (masked_all a.0 n) refl
-
   -- a suffix
   pub suffix_runs : (s : Suffix) (pc : ℕ) (stack : List Value) (a : Value) (k : Kind) → suffixed_by s (kind_of_value a) ≡ Some k
       → HasAt program.instrs pc (suffix_code s ∷ []) → Stands program route scene pc (a ∷ stack) → Gives (pc + 1) stack k (suffix_of s a)
@@ -238,13 +209,8 @@ module _ (program : Program) (route : Announcement) (scene : Scene) where
       (replaced program route scene pc (value.Net p ∷ stack) stack instr.Addr _ has.0 (omega arith) refl s, cc)
   suffix_runs suffix.Len pc stack (value.Net p) k fits has s =
       (replaced program route scene pc (value.Net p ∷ stack) stack instr.Len _ has.0 (omega arith) refl s, cc)
-  suffix_runs (suffix.Mask n) pc stack (value.Addr a) k fits has s = (
-    replaced program route scene pc (value.Addr a ∷ stack) stack (instr.Mask (min n 32)) (value.Addr (record {
-      0 = address_of
-          (prefix_bits a.0 n);
-    })) has.0 (omega arith) (mask_step pc stack a n) s,
-    cc,
-  )
+  suffix_runs (suffix.Mask n) pc stack (value.Addr a) k fits has s =
+      (replaced program route scene pc (value.Addr a ∷ stack) stack (instr.Mask n) _ has.0 (omega arith) refl s, cc)
   suffix_runs suffix.Ip pc stack _ k fits has s = cc
   suffix_runs suffix.Len pc stack _ k fits has s = cc
   suffix_runs (suffix.Mask n) pc stack _ k fits has s = cc

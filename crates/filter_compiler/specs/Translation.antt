@@ -1,5 +1,5 @@
 -- The translation of filters: the code of each form. (This project's own choice.)
-use Rattle.std.specs.Prelude.{ℕ, ◌+◌, min, true, false, List, [], ◌∷◌, ◌++◌, length, map}
+use Rattle.std.specs.Prelude.{ℕ, ◌+◌, true, false, List, [], ◌∷◌, ◌++◌, length, map}
 use Rattle.prefix_patterns.specs.Matching.{PrefixPattern}
 use Rattle.filter_code.specs.declared.instruction.Instr.{Instr}
 use Rattle.filter_code.specs.declared.instruction.Instr.TheVariants as instr
@@ -73,11 +73,10 @@ abbrev pub member_code : Membership → ℕ → List Instr
 member_code membership.In set = instr.Member set ∷ []
 member_code membership.NotIn set = instr.Member set ∷ instr.Not ∷ []
 
--- an address has 32 bits, and no text has a mask of more
 abbrev pub suffix_code : Suffix → Instr
 suffix_code suffix.Ip = instr.Addr
 suffix_code suffix.Len = instr.Len
-suffix_code (suffix.Mask n) = instr.Mask (min n 32)
+suffix_code (suffix.Mask n) = instr.Mask n
 
 abbrev pub attribute_code : Attribute → Instr
 attribute_code attributes.Net = instr.Net

@@ -1,6 +1,7 @@
 //! The code of declarations and commands.
 
 ghost use Rattle.std.specs.Prelude.{◌≡◌, ◌≤◌, [], ◌∷◌, ◌++◌, OnOk, length, map};
+ghost use Rattle.filter_code.specs.Program.{HasMask};
 ghost use Rattle.filter_parser.specs.Syntax.{view};
 ghost use Rattle.filter_parser.specs.SyntaxCommands.{acts_of, view_command, view_decl, view_target};
 ghost use Rattle.filter_types.specs.Kinds.{names_in, names_of_act, names_of_acts, names_of_aim, variable_limit};
@@ -18,7 +19,8 @@ use std::alloc::AllocError;
 
 /// The instruction that puts a variable's first value on the stack.
 fn first_value(kind: Kind) -> Instr
-    ensures { result ≡ first_value kind }
+    ensures code { result ≡ first_value kind }
+    ensures mask { HasMask result }
 {
     match kind {
         Kind::Int => Instr::Int(0),
@@ -31,7 +33,7 @@ fn first_value(kind: Kind) -> Instr
 /// Writes the declarations: each gives its variable the first value.
 pub(crate) fn emit_declarations(variables: &[Decl], out: &mut Output) -> Result<(), AllocError>
     requires { length variables.now ≤ variable_limit }
-    ensures code { OnOk result (out.new.instrs.items ≡ out.old.instrs.items ++ declarations_code 0 (map view_decl variables.now)) }
+    ensures code { OnOk result (out.new.instrs ≡ out.old.instrs ++ declarations_code 0 (map view_decl variables.now)) }
     ensures sets { OnOk result (out.new.sets.items ≡ out.old.sets.items) }
     ensures uses { OnOk result (out.new.uses.now ≡ out.old.uses.now) }
 {
@@ -44,7 +46,7 @@ pub(crate) fn emit_declarations(variables: &[Decl], out: &mut Output) -> Result<
 
 /// Writes what sets the metric, which is at least the metric received.
 fn emit_metric(out: &mut Output) -> Result<(), AllocError>
-    ensures code { OnOk result (out.new.instrs.items ≡ out.old.instrs.items ++ metric_code) }
+    ensures code { OnOk result (out.new.instrs ≡ out.old.instrs ++ metric_code) }
     ensures sets { out.new.sets.items ≡ out.old.sets.items }
     ensures uses { out.new.uses.now ≡ out.old.uses.now }
 {
@@ -55,7 +57,7 @@ fn emit_metric(out: &mut Output) -> Result<(), AllocError>
 
 /// Writes an assignment, of which the name stands before the value.
 fn emit_assignment(target: &Target, value: &Expr, out: &mut Output) -> Result<(), AllocError>
-    ensures code { OnOk result (out.new.instrs.items ≡ out.old.instrs.items
+    ensures code { OnOk result (out.new.instrs ≡ out.old.instrs
         ++ (written (behind (names_of_aim (view_target target.now)) out.old.uses.now) (length out.old.sets.items) (view value.now)
         ++ written_aim out.old.uses.now (view_target target.now))) }
     ensures sets { OnOk result (out.new.sets.items ≡ out.old.sets.items ++ sets_of (view value.now)) }
@@ -87,7 +89,7 @@ fn size_of(command: &Command) -> u16
 /// Writes commands one after another.
 #[cycle(command)]
 pub(crate) fn emit_commands(commands: &[Command], out: &mut Output) -> Result<(), AllocError>
-    ensures code { OnOk result (out.new.instrs.items ≡ out.old.instrs.items
+    ensures code { OnOk result (out.new.instrs ≡ out.old.instrs
         ++ written_acts out.old.uses.now (length out.old.sets.items) (acts_of (map view_command commands.now))) }
     ensures sets { OnOk result (out.new.sets.items ≡ out.old.sets.items ++ acts_sets (acts_of (map view_command commands.now))) }
     ensures uses { OnOk result (out.new.uses.now ≡ behind (names_of_acts (acts_of (map view_command commands.now))) out.old.uses.now) }
@@ -101,7 +103,7 @@ pub(crate) fn emit_commands(commands: &[Command], out: &mut Output) -> Result<()
 /// Writes a command.
 #[cycle(command)]
 fn emit_command(command: &Command, out: &mut Output) -> Result<(), AllocError>
-    ensures code { OnOk result (out.new.instrs.items ≡ out.old.instrs.items
+    ensures code { OnOk result (out.new.instrs ≡ out.old.instrs
         ++ written_act out.old.uses.now (length out.old.sets.items) (view_command command.now)) }
     ensures sets { OnOk result (out.new.sets.items ≡ out.old.sets.items ++ act_sets (view_command command.now)) }
     ensures uses { OnOk result (out.new.uses.now ≡ behind (names_of_act (view_command command.now)) out.old.uses.now) }

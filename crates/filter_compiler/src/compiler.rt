@@ -22,7 +22,7 @@ use std::alloc::{AllocError, Global};
 
 /// The instructions of a filter, and the patterns of its sets, where they are within the limits.
 fn write_filter(alloc: Global, typed: &Typed) -> Result<Output, AllocError>
-    ensures code { IfOk result (λ out. out.instrs.items ≡ written_filter (numbers_of (view_filter typed.now)) (view_filter typed.now)) }
+    ensures code { IfOk result (λ out. out.instrs ≡ written_filter (numbers_of (view_filter typed.now)) (view_filter typed.now)) }
     ensures sets { IfOk result (λ out. out.sets.items ≡ acts_sets (view_filter typed.now).body) }
 {
     let filter = typed.filter();
@@ -49,7 +49,7 @@ fn write_code(alloc: Global, typed: &Typed) -> Result<Code, AllocError>
     let filter = typed.filter();
     let out = write_filter(alloc, typed)?;
     let sets = build_sets(alloc, &out.sets)?;
-    Ok(finished(filter.decls().len(), sets, out.instrs))
+    Ok(finished(filter.decls().len(), sets, out.instrs.into_vec()))
 }
 
 /// The code of a filter, which means what the filter means: for every route its outcome is what the filter says, or

@@ -1,6 +1,7 @@
 //! The code of expressions.
 
 ghost use Rattle.std.specs.Prelude.{◌≡◌, ◌+◌, ◌≤◌, [], ◌∷◌, ◌++◌, IfOk, OnOk, length, map};
+ghost use Rattle.filter_code.specs.Program.{HasMask};
 ghost use Rattle.filter_parser.specs.Syntax.{pattern_of, view, view_item};
 ghost use Rattle.filter_types.specs.Kinds.{names_in};
 ghost use Rattle.filter_types.specs.Turns.{names_behind};
@@ -17,7 +18,8 @@ use std::alloc::AllocError;
 
 /// The instruction that puts an attribute of the route on the stack.
 fn attribute_instr(attribute: Attribute) -> Instr
-    ensures { result ≡ attribute_code attribute }
+    ensures code { result ≡ attribute_code attribute }
+    ensures mask { HasMask result }
 {
     match attribute {
         Attribute::Net => Instr::Net,
@@ -25,14 +27,15 @@ fn attribute_instr(attribute: Attribute) -> Instr
     }
 }
 
-/// The instruction of a suffix. An address has 32 bits, and no text has a mask of more.
+/// The instruction of a suffix.
 fn suffix_instr(suffix: Suffix) -> Instr
-    ensures { result ≡ suffix_code suffix }
+    ensures code { result ≡ suffix_code suffix }
+    ensures mask { HasMask result }
 {
     match suffix {
         Suffix::Ip => Instr::Addr,
         Suffix::Len => Instr::Len,
-        Suffix::Mask(bits) => Instr::Mask(bits.min(32)),
+        Suffix::Mask(length) => Instr::Mask(length.bits()),
     }
 }
 
@@ -46,7 +49,8 @@ fn size_of(expr: &Expr) -> u16
 
 /// Writes an instruction, and NOT behind it.
 fn put_opposite(out: &mut Output, instr: Instr) -> Result<(), AllocError>
-    ensures code { OnOk result (out.new.instrs.items ≡ out.old.instrs.items ++ instr ∷ Instr.Not ∷ []) }
+    requires { HasMask instr }
+    ensures code { OnOk result (out.new.instrs ≡ out.old.instrs ++ instr ∷ Instr.Not ∷ []) }
     ensures sets { out.new.sets.items ≡ out.old.sets.items }
     ensures uses { out.new.uses.now ≡ out.old.uses.now }
 {
@@ -56,7 +60,7 @@ fn put_opposite(out: &mut Output, instr: Instr) -> Result<(), AllocError>
 
 /// Writes an operator that takes both operands.
 fn emit_operator(op: Op, out: &mut Output) -> Result<(), AllocError>
-    ensures code { OnOk result (out.new.instrs.items ≡ out.old.instrs.items ++ operator_code op) }
+    ensures code { OnOk result (out.new.instrs ≡ out.old.instrs ++ operator_code op) }
     ensures sets { out.new.sets.items ≡ out.old.sets.items }
     ensures uses { out.new.uses.now ≡ out.old.uses.now }
 {
@@ -79,7 +83,7 @@ fn emit_operator(op: Op, out: &mut Output) -> Result<(), AllocError>
 
 /// Writes suffixes from the left.
 fn emit_suffixes(suffixes: &[Suffix], out: &mut Output) -> Result<(), AllocError>
-    ensures code { OnOk result (out.new.instrs.items ≡ out.old.instrs.items ++ map suffix_code suffixes.now) }
+    ensures code { OnOk result (out.new.instrs ≡ out.old.instrs ++ map suffix_code suffixes.now) }
     ensures sets { OnOk result (out.new.sets.items ≡ out.old.sets.items) }
     ensures uses { OnOk result (out.new.uses.now ≡ out.old.uses.now) }
 {
@@ -94,7 +98,7 @@ fn keep_set(set: &Set, out: &mut Output) -> Result<u8, AllocError>
     ensures number { IfOk result (λ number. number ≡ set_number (length out.old.sets.items)) }
     ensures sets { IfOk result (λ _. out.new.sets.items
         ≡ out.old.sets.items ++ map pattern_of (map view_item set.now.patterns.items) ∷ []) }
-    ensures code { out.new.instrs.items ≡ out.old.instrs.items }
+    ensures code { out.new.instrs ≡ out.old.instrs }
     ensures uses { out.new.uses.now ≡ out.old.uses.now }
 {
     let number = out.sets.len().min(255) as u8;
@@ -105,7 +109,7 @@ fn keep_set(set: &Set, out: &mut Output) -> Result<u8, AllocError>
 
 /// Writes the question whether an operand matches a set.
 fn emit_member(op: Membership, set: &Set, out: &mut Output) -> Result<(), AllocError>
-    ensures code { OnOk result (out.new.instrs.items ≡ out.old.instrs.items ++ member_code op (set_number (length out.old.sets.items))) }
+    ensures code { OnOk result (out.new.instrs ≡ out.old.instrs ++ member_code op (set_number (length out.old.sets.items))) }
     ensures sets { OnOk result (out.new.sets.items ≡ out.old.sets.items ++ map pattern_of (map view_item set.now.patterns.items) ∷ []) }
     ensures uses { OnOk result (out.new.uses.now ≡ out.old.uses.now) }
 {
@@ -119,7 +123,7 @@ fn emit_member(op: Membership, set: &Set, out: &mut Output) -> Result<(), AllocE
 /// Writes an operator with the operand at its right.
 #[cycle(expressions)]
 fn emit_right(op: Op, right: &Expr, out: &mut Output) -> Result<(), AllocError>
-    ensures code { OnOk result (out.new.instrs.items ≡ out.old.instrs.items
+    ensures code { OnOk result (out.new.instrs ≡ out.old.instrs
         ++ right_part op (tree_measure (view right.now)).instructions
         (written out.old.uses.now (length out.old.sets.items) (view right.now))) }
     ensures sets { OnOk result (out.new.sets.items ≡ out.old.sets.items ++ sets_of (view right.now)) }
@@ -148,7 +152,7 @@ fn emit_right(op: Op, right: &Expr, out: &mut Output) -> Result<(), AllocError>
 /// Writes operators, each with the operand at its right.
 #[cycle(expressions)]
 fn emit_run(more: &[(Op, Expr)], out: &mut Output) -> Result<(), AllocError>
-    ensures code { OnOk result (out.new.instrs.items ≡ out.old.instrs.items
+    ensures code { OnOk result (out.new.instrs ≡ out.old.instrs
         ++ written_behind out.old.uses.now (length out.old.sets.items) (map (λ p. (p.0, view p.1)) more.now)) }
     ensures sets { OnOk result (out.new.sets.items ≡ out.old.sets.items ++ sets_behind (map (λ p. (p.0, view p.1)) more.now)) }
     ensures uses { OnOk result (out.new.uses.now ≡ behind (names_behind (map (λ p. (p.0, view p.1)) more.now)) out.old.uses.now) }
@@ -162,8 +166,8 @@ fn emit_run(more: &[(Op, Expr)], out: &mut Output) -> Result<(), AllocError>
 /// Writes an expression.
 #[cycle(expressions)]
 pub(crate) fn emit(expr: &Expr, out: &mut Output) -> Result<(), AllocError>
-    ensures code { OnOk result (out.new.instrs.items
-        ≡ out.old.instrs.items ++ written out.old.uses.now (length out.old.sets.items) (view expr.now)) }
+    ensures code { OnOk result (out.new.instrs
+        ≡ out.old.instrs ++ written out.old.uses.now (length out.old.sets.items) (view expr.now)) }
     ensures sets { OnOk result (out.new.sets.items ≡ out.old.sets.items ++ sets_of (view expr.now)) }
     ensures uses { OnOk result (out.new.uses.now ≡ behind (names_in (view expr.now)) out.old.uses.now) }
 {

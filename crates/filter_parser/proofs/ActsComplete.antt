@@ -1,14 +1,13 @@
 -- What commands are spelled as is read as those commands.
-use Rattle.std.proofs.Common.{◌≡◌, refl, ap, ◌∙◌, sym, ℕ, zero, suc, ◌+◌, ◌<◌, ◌≤◌, Bool, true, false, List, [], ◌∷◌, ◌++◌}
-use Rattle.std.proofs.Common.{length, Option, Some, None, ◌⊎◌, inl, inr, append_assoc, length-append, arith}
+use Rattle.std.proofs.Common.{◌≡◌, refl, ap, ◌∙◌, ℕ, zero, suc, ◌<◌, Bool, true, false, List, [], ◌∷◌, ◌++◌}
+use Rattle.std.proofs.Common.{length, Some, None, append_assoc, length-append, arith}
 use Rattle.filter_tokens.specs.Lexemes.{Lexeme}
-use Rattle.filter_tokens.specs.declared.mark.Mark.{Mark}
 use Rattle.filter_tokens.specs.declared.mark.Mark.TheVariants as m
-use Rattle.filter_parser.specs.Acting.{act_at, act_with, acts_from, acts_with, assign_with, block_at, block_with, choice_at}
-use Rattle.filter_parser.specs.Acting.{choice_with, end_of, other_with}
+use Rattle.filter_parser.specs.Acting.{act_at, acts_from, acts_with, assign_with, block_with}
+use Rattle.filter_parser.specs.Acting.{choice_with, end_of}
 use Rattle.filter_parser.specs.Reading.{Reads, expr_at}
-use Rattle.filter_parser.specs.Steps.{◌>>=◌, with_some, after_mark, after_quote}
-use Rattle.filter_parser.specs.Syntax.{Tree, Fits, one_less, spelling}
+use Rattle.filter_parser.specs.Steps.{after_mark}
+use Rattle.filter_parser.specs.Syntax.{Tree, Fits, spelling}
 use Rattle.filter_parser.specs.SyntaxCommands.{Aim, Act, Acts, FitsAct, FitsActs, is_open, spelling_act, spelling_acts}
 use Rattle.filter_parser.specs.SyntaxCommands.{spelling_aim, spelling_end}
 use Rattle.filter_parser.proofs.Bodies.{act_is}

@@ -1,17 +1,16 @@
 -- What is read of commands is spelled so, and fits.
-use Rattle.std.proofs.Common.{◌≡◌, refl, ap, subst, ◌∙◌, sym, ℕ, zero, suc, Bool, true, false, List, [], ◌∷◌, ◌++◌, length}
-use Rattle.std.proofs.Common.{Option, Some, None, inl, inr, append_assoc}
+use Rattle.std.proofs.Common.{◌≡◌, refl, ap, subst, ◌∙◌, ℕ, zero, suc, Bool, true, false, List, [], ◌∷◌, ◌++◌, length}
+use Rattle.std.proofs.Common.{Some, None, inl, inr}
 use Rattle.filter_tokens.specs.Lexemes.{Lexeme}
 use Rattle.filter_tokens.specs.declared.mark.Mark.{Mark}
 use Rattle.filter_tokens.specs.declared.mark.Mark.TheVariants as m
-use Rattle.filter_parser.specs.Acting.{accepts, act_at, act_by, act_with, acts_from, acts_with, assign_with, block_at, block_with}
-use Rattle.filter_parser.specs.Acting.{choice_at, choice_with, end_of, other_with, refuses, rejects}
+use Rattle.filter_parser.specs.Acting.{accepts, act_at, act_by, act_with, acts_from, acts_with, assign_with, block_with}
+use Rattle.filter_parser.specs.Acting.{choice_with, end_of, refuses, rejects}
 use Rattle.filter_parser.specs.Reading.{Reads, expr_at}
-use Rattle.filter_parser.specs.Steps.{◌>>=◌, with_some, after_mark, after_quote}
+use Rattle.filter_parser.specs.Steps.{after_mark, after_quote}
 use Rattle.filter_parser.specs.Syntax.{Tree, Fits, spelling}
 use Rattle.filter_parser.specs.SyntaxCommands.{Aim, Act, Acts, FitsAct, FitsActs, is_open, spelling_act, spelling_acts}
 use Rattle.filter_parser.specs.SyntaxCommands.{spelling_aim, spelling_end}
-use Rattle.filter_parser.proofs.Bodies.{act_is}
 use Rattle.filter_parser.proofs.Joined.{acts_joined, assign_joined, block_joined, choice_joined, else_joined, front_joined}
 use Rattle.filter_parser.proofs.Steps.{bind_some, mark_found, some_is, with_some_cases}
 

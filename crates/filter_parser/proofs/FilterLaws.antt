@@ -1,17 +1,17 @@
 -- What is read of a filter is spelled so, and what is spelled so is read.
-use Rattle.std.proofs.Common.{◌≡◌, refl, ap, subst, ◌∙◌, sym, ℕ, zero, suc, ◌≤◌, ◌<◌, List, [], ◌∷◌, ◌++◌, length, Option, Some}
-use Rattle.std.proofs.Common.{None, inl, inr, append_assoc, length-append, arith}
+use Rattle.std.proofs.Common.{◌≡◌, refl, ap, subst, ◌∙◌, sym, ℕ, zero, suc, ◌≤◌, List, [], ◌∷◌, ◌++◌, length, Some}
+use Rattle.std.proofs.Common.{None, inl, inr, append_assoc, arith}
 use Rattle.std.proofs.lemmas.List.{append-nil}
 use Rattle.filter_tokens.specs.Lexemes.{Lexeme}
 use Rattle.filter_tokens.specs.declared.mark.Mark.{Mark}
 use Rattle.filter_tokens.specs.declared.mark.Mark.TheVariants as m
 use Rattle.filter_parser.specs.declared.tree.decl.Kind.{Kind}
 use Rattle.filter_parser.specs.declared.tree.decl.Kind.TheVariants as kind
-use Rattle.filter_parser.specs.Acting.{Said, act_at, acts_with, body_of, decl_turn, decl_with, decls_after, filter_of, kind_first}
+use Rattle.filter_parser.specs.Acting.{Said, act_at, acts_with, decl_turn, decl_with, decls_after, filter_of, kind_first}
 use Rattle.filter_parser.specs.Acting.{kind_of, name_first, whole}
 use Rattle.filter_parser.specs.Reading.{turns, expr_at}
-use Rattle.filter_parser.specs.Steps.{◌>>=◌, with_some, after_mark}
-use Rattle.filter_parser.specs.Syntax.{Tree, Fits, nesting_limit, spelling}
+use Rattle.filter_parser.specs.Steps.{after_mark}
+use Rattle.filter_parser.specs.Syntax.{nesting_limit}
 use Rattle.filter_parser.specs.SyntaxCommands.{Aim, Act, Acts, Declared, FitsActs, kind_mark, spelling_act, spelling_acts}
 use Rattle.filter_parser.specs.SyntaxCommands.{spelling_decl, spelling_decls}
 use Rattle.filter_parser.specs.SyntaxText.{spelling_filter}

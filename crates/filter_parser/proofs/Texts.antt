@@ -1,12 +1,12 @@
 -- A text and its filter: what is read of the tokens of a text is the filter that the text spells.
-use Rattle.std.proofs.Common.{◌≡◌, refl, ap, sym, ◌∙◌, ℕ, ◌≤◌, List, ◌++◌, length, Some}
+use Rattle.std.proofs.Common.{◌≡◌, refl, ap, sym, ◌∙◌, ℕ, ◌≤◌, List, length, Some}
 use Rattle.filter_tokens.specs.Cutting.{Cuts}
-use Rattle.filter_tokens.specs.Lexemes.{Lexeme, lexemes}
+use Rattle.filter_tokens.specs.Lexemes.{lexemes}
 use Rattle.filter_tokens.specs.declared.token.Token.{Token}
 use Rattle.filter_tokens.proofs.Cuts.{cuts_once}
 use Rattle.filter_parser.specs.Acting.{Said, filter_of}
-use Rattle.filter_parser.specs.SyntaxCommands.{Acts, Declared}
-use Rattle.filter_parser.specs.SyntaxText.{IsText, Program, spelling_filter, text_limit}
+use Rattle.filter_parser.specs.SyntaxCommands.{Declared}
+use Rattle.filter_parser.specs.SyntaxText.{IsText, Program, text_limit}
 use Rattle.filter_parser.proofs.FilterLaws.{filter_complete, filter_sound}
 use Rattle.filter_parser.proofs.Steps.{some_is}
 

@@ -10,7 +10,7 @@ use crate::expected::Expected;
 use crate::expr_make::suffixed;
 use crate::fault::ParseFault;
 use crate::input::Input;
-use crate::tree::{Attribute, Expr, Suffix};
+use crate::tree::{Attribute, Expr, MaskLength, Suffix};
 use filter_tokens::{Mark, Word};
 use std::alloc::Global;
 
@@ -107,10 +107,9 @@ pub fn atom<'a>(alloc: Global, input: Input<'a>) -> Result<(Expr, Input<'a>), Pa
 fn mask_of_bits(n: u32) -> Option<Suffix>
     ensures { result ≡ mask_suffix n }
 {
-    if n <= 32 {
-        Some(Suffix::Mask(n as u8))
-    } else {
-        None
+    match MaskLength::new(n) {
+        Some(bits) => Some(Suffix::Mask(bits)),
+        None => None,
     }
 }
 

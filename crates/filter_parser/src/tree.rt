@@ -3,6 +3,7 @@ mod command;
 mod decl;
 mod expr;
 mod filter;
+mod mask_length;
 mod op;
 mod set;
 
@@ -10,5 +11,6 @@ pub use command::{Command, Target};
 pub use decl::{Decl, Kind};
 pub use expr::{Attribute, Expr};
 pub use filter::Filter;
+pub use mask_length::MaskLength;
 pub use op::{Membership, Op, Suffix};
 pub use set::{Set, SetPattern};

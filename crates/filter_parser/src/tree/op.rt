@@ -1,3 +1,5 @@
+use crate::tree::mask_length::MaskLength;
+
 /// An operator between two operands.
 #[derive(Clone, Copy, Debug, PartialEq, Eq)]
 pub enum Op {
@@ -47,6 +49,6 @@ pub enum Suffix {
     Ip,
     /// `.len`
     Len,
-    /// `.mask(n)`, where n is at most 32
-    Mask(u8),
+    /// `.mask(n)`
+    Mask(MaskLength),
 }

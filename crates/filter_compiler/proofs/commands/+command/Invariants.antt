@@ -8,9 +8,9 @@ use Rattle.filter_compiler.proofs.commands.+command.Given as goal
 -- with what is left it will be what all of it is
 abbrev pub invariant-emit_commands-loop-command : goal.invariant-emit_commands-loop-command
 invariant-emit_commands-loop-command l = record {
-  code : l.out.instrs.items ++ written_acts l.out.uses.now (length l.out.sets.items) (acts_of (map view_command
+  code : l.out.instrs ++ written_acts l.out.uses.now (length l.out.sets.items) (acts_of (map view_command
       (drop l.command-index l.commands)))
-      ≡ l.initial.out.instrs.items ++ written_acts l.initial.out.uses.now (length l.initial.out.sets.items) (acts_of
+      ≡ l.initial.out.instrs ++ written_acts l.initial.out.uses.now (length l.initial.out.sets.items) (acts_of
       (map view_command l.commands));
   sets : l.out.sets.items ++ acts_sets (acts_of (map view_command (drop l.command-index l.commands)))
       ≡ l.initial.out.sets.items ++ acts_sets (acts_of (map view_command l.commands));

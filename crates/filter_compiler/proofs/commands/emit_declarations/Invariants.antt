@@ -6,8 +6,8 @@ use Rattle.filter_compiler.proofs.commands.emit_declarations.Given as goal
 -- with what is left it will be what all of it is
 abbrev pub invariant-loop-number : goal.invariant-loop-number
 invariant-loop-number l = record {
-  code : l.out.instrs.items ++ declarations_code l.number (map view_decl (drop l.number l.variables))
-      ≡ l.initial.out.instrs.items ++ declarations_code 0 (map view_decl l.variables);
+  code : l.out.instrs ++ declarations_code l.number (map view_decl (drop l.number l.variables))
+      ≡ l.initial.out.instrs ++ declarations_code 0 (map view_decl l.variables);
   sets : l.out.sets.items ≡ l.initial.out.sets.items;
   uses : l.out.uses.now ≡ l.initial.out.uses.now;
 }

@@ -1,6 +1,7 @@
 use Rattle.std.proofs.Common.{◌≡◌, ap, sym, subst, ◌∙◌, length}
 use Rattle.std.proofs.lemmas.List.{length-map}
-use Rattle.filter_code.specs.Program.{IsAllowed}
+use Rattle.std.specs.Prelude.{All}
+use Rattle.filter_code.specs.Program.{HasMask, IsAllowed, Program}
 use Rattle.filter_parser.specs.SyntaxCommands.{view_decl}
 use Rattle.filter_parser.specs.SyntaxText.{view_filter}
 use Rattle.filter_parser.specs.declared.tree.filter.Filter.{Filter}
@@ -18,8 +19,8 @@ returns c =
     sym (length-map c.decls.result.now view_decl)
     ∙ ap length (c.decls.ensures ∙ ap (λ (x : Filter). (view_filter x).decls) c.filter-filter.ensures.value) in
     c.finished.ensures
-    ∙ is_code f (length c.decls.result.now) c.in_ok-sets.sets.items c.in_ok-out.out.instrs.items c.filter-filter.ensures.typed c.requires
-    decls (c.in_ok-sets.ensures ∙ (c.deref.ensures.value ∙ c.in_ok-out.ensures.sets)) c.in_ok-out.ensures.code
+    ∙ is_code f (length c.decls.result.now) c.in_ok-sets.sets.items c.into_vec.result.items c.filter-filter.ensures.typed c.requires
+    decls (c.in_ok-sets.ensures ∙ (c.deref.ensures.value ∙ c.in_ok-out.ensures.sets)) (c.into_vec.ensures.items ∙ c.in_ok-out.ensures.code)
 
 pub finished-requires : goal.finished-requires
 finished-requires c =
@@ -28,6 +29,7 @@ finished-requires c =
     sym (length-map c.decls.result.now view_decl)
     ∙ ap length (c.decls.ensures ∙ ap (λ (x : Filter). (view_filter x).decls) c.filter-filter.ensures.value) in
     let is =
-    is_code f (length c.decls.result.now) c.in_ok-sets.sets.items c.in_ok-out.out.instrs.items c.filter-filter.ensures.typed c.requires
-    decls (c.in_ok-sets.ensures ∙ (c.deref.ensures.value ∙ c.in_ok-out.ensures.sets)) c.in_ok-out.ensures.code in
-    subst IsAllowed (sym is) (is_allowed f c.filter-filter.ensures.typed c.requires)
+    is_code f (length c.decls.result.now) c.in_ok-sets.sets.items c.into_vec.result.items c.filter-filter.ensures.typed c.requires
+    decls (c.in_ok-sets.ensures ∙ (c.deref.ensures.value ∙ c.in_ok-out.ensures.sets)) (c.into_vec.ensures.items ∙ c.in_ok-out.ensures.code) in
+    let masks = subst (λ (p : Program). All HasMask p.instrs) is c.into_vec.ensures.masks in
+    subst IsAllowed (sym is) (is_allowed f c.filter-filter.ensures.typed c.requires masks)

@@ -11,7 +11,7 @@ emit-returns-in_ok-emit-in-Run-clause-code t c =
     let is = view_run c.args.expr.now c.in-Run.first c.in-Run.more c.deref-in-Run.result.now c.deref-in-Run-2.result.now c.in-Run.is
     c.deref-in-Run.ensures c.deref-in-Run-2.ensures.value in
     on_ok c.emit_run.result
-    (run_code c.args.out.now.instrs.items c.emit-in-Run.new.out.instrs.items c.emit_run.new.out.instrs.items
+    (run_code c.args.out.now.instrs c.emit-in-Run.new.out.instrs c.emit_run.new.out.instrs
     c.args.out.now.sets.items c.emit-in-Run.new.out.sets.items c.args.out.now.uses.now c.emit-in-Run.new.out.uses.now _
     (view c.deref-in-Run.result.now) (map (λ p. (p.0, view p.1)) c.deref-in-Run-2.result.now)
     is c.in_ok-emit-in-Run.ensures.code c.in_ok-emit-in-Run.ensures.sets c.in_ok-emit-in-Run.ensures.uses)
@@ -31,7 +31,7 @@ emit-returns-in_ok-emit-in-Member-clause-code t c =
     let is = view_member c.args.expr.now c.in-Member.op c.in-Member.left c.in-Member.set c.deref-in-Member.result.now c.in-Member.is
     c.deref-in-Member.ensures in
     on_ok c.emit_member.result
-    (member_written c.args.out.now.instrs.items c.emit-in-Member.new.out.instrs.items c.emit_member.new.out.instrs.items
+    (member_written c.args.out.now.instrs c.emit-in-Member.new.out.instrs c.emit_member.new.out.instrs
     c.args.out.now.sets.items c.emit-in-Member.new.out.sets.items c.args.out.now.uses.now _
     (view c.deref-in-Member.result.now) c.in-Member.op (map view_item c.in-Member.set.patterns.items)
     is c.in_ok-emit-in-Member.ensures.code c.in_ok-emit-in-Member.ensures.sets)
@@ -52,7 +52,7 @@ emit-returns-in_ok-emit-in-Suffixed-clause-code t c =
     let is = view_suffixed c.args.expr.now c.in-Suffixed.inner c.in-Suffixed.suffixes c.deref-in-Suffixed.result.now
     c.deref-in-Suffixed-2.result.now c.in-Suffixed.is c.deref-in-Suffixed.ensures c.deref-in-Suffixed-2.ensures.value in
     on_ok c.emit_suffixes.result
-    (suffixes_code c.args.out.now.instrs.items c.emit-in-Suffixed.new.out.instrs.items c.emit_suffixes.new.out.instrs.items
+    (suffixes_code c.args.out.now.instrs c.emit-in-Suffixed.new.out.instrs c.emit_suffixes.new.out.instrs
     c.args.out.now.sets.items c.args.out.now.uses.now _
     (view c.deref-in-Suffixed.result.now) c.deref-in-Suffixed-2.result.now is c.in_ok-emit-in-Suffixed.ensures.code)
     c.emit_suffixes.ensures.code
@@ -79,7 +79,7 @@ pub emit-returns-in_ok-emit-in-Not-clause-code : goal.emit-returns-in_ok-emit-in
 emit-returns-in_ok-emit-in-Not-clause-code t c =
     let is = view_not c.args.expr.now c.in-Not.field-0 c.in-Not.inner c.deref-in-Not.result.now c.in-Not.is c.deref-in-Not.ensures in
     on_ok c.put-in-Not.result
-    (not_code c.args.out.now.instrs.items c.emit-in-Not.new.out.instrs.items c.put-in-Not.new.out.instrs.items
+    (not_code c.args.out.now.instrs c.emit-in-Not.new.out.instrs c.put-in-Not.new.out.instrs
     c.args.out.now.uses.now (length c.args.out.now.sets.items) _ (view c.deref-in-Not.result.now) is c.in_ok-emit-in-Not.ensures.code)
     c.put-in-Not.ensures.code
 

@@ -7,8 +7,8 @@ use Rattle.filter_compiler.proofs.expressions.+expressions.Given as goal
 -- with what is left it will be what all of it is
 abbrev pub invariant-emit_run-loop-op : goal.invariant-emit_run-loop-op
 invariant-emit_run-loop-op l = record {
-  code : l.out.instrs.items ++ written_behind l.out.uses.now (length l.out.sets.items) (map (λ p. (p.0, view p.1)) (drop l.op-index l.more))
-      ≡ l.initial.out.instrs.items ++ written_behind l.initial.out.uses.now (length l.initial.out.sets.items) (map (λ p.
+  code : l.out.instrs ++ written_behind l.out.uses.now (length l.out.sets.items) (map (λ p. (p.0, view p.1)) (drop l.op-index l.more))
+      ≡ l.initial.out.instrs ++ written_behind l.initial.out.uses.now (length l.initial.out.sets.items) (map (λ p.
       (p.0, view p.1)) l.more);
   sets : l.out.sets.items ++ sets_behind (map (λ p. (p.0, view p.1)) (drop l.op-index l.more))
       ≡ l.initial.out.sets.items ++ sets_behind (map (λ p. (p.0, view p.1)) l.more);

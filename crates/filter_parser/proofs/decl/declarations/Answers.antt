@@ -1,5 +1,4 @@
 use Rattle.std.proofs.Common.{map}
-use Rattle.filter_parser.specs.Acting.{decls_after}
 use Rattle.filter_parser.specs.Steps.{left_of}
 use Rattle.filter_parser.specs.SyntaxCommands.{view_decl}
 use Rattle.filter_parser.proofs.Decls.{begins, goes_on, stops, ends}
