@@ -60,8 +60,9 @@ mark_bytes = 0x4E ∷ 0x43 ∷ 0x46 ∷ 0x31 ∷ []
 abbrev pub forms : List Instr
 forms =
     instr.Int 0 ∷ instr.Bool false ∷ instr.Ip (record { 0 = 0 }) ∷ instr.Prefix [] ∷ instr.Load 0 ∷ instr.Store 0 ∷ instr.Net ∷ instr.Metric
-    ∷ instr.Received ∷ instr.SetMetric ∷ instr.Add ∷ instr.Sub ∷ instr.Mul ∷ instr.Div ∷ instr.Max ∷ instr.Eq ∷ instr.Lt ∷ instr.Le ∷ instr.Not
-    ∷ instr.Addr ∷ instr.Len ∷ instr.Mask 0 ∷ instr.Within ∷ instr.Member 0 ∷ instr.Jump 0 ∷ instr.JumpIfNot 0 ∷ instr.Accept ∷ instr.Reject ∷ []
+    ∷ instr.Received ∷ instr.SetMetric ∷ instr.Add ∷ instr.Sub ∷ instr.Mul ∷ instr.Div ∷ instr.Max ∷ instr.Eq ∷ instr.Lt ∷ instr.Le
+    ∷ instr.Not ∷ instr.Addr ∷ instr.Len ∷ instr.Mask 0 ∷ instr.Within ∷ instr.Member 0 ∷ instr.Jump 0 ∷ instr.JumpIfNot 0
+    ∷ instr.Accept ∷ instr.Reject ∷ []
 
 -- the instruction that a byte stands for, its operand left open
 unfoldable pub form_of : ℕ → Option Instr

@@ -1,21 +1,18 @@
 -- The longest shape at the front of a text: what is found is there, and what is there is found or something longer.
-use Rattle.std.proofs.Common.{◌≡◌, ◌≢◌, ℕ, zero, suc, ◌+◌, ◌<◌, ◌≤◌, ◌⊎◌, Bool, true, false, cond, eqb, not, ◌||◌, ◌&&◌, List, []}
-use Rattle.std.proofs.Common.{◌∷◌, ◌++◌, length, take, drop, Option, Some, None, All, refl, sym, ◌∙◌, ap, arith, inl, inr, ⊎_elim}
-use Rattle.std.proofs.Common.{length-append}
+use Rattle.std.proofs.Common.{◌≡◌, ◌≢◌, ℕ, zero, suc, ◌+◌, ◌<◌, ◌≤◌, Bool, true, false, cond, eqb, not, List, []}
+use Rattle.std.proofs.Common.{◌∷◌, ◌++◌, length, Some, None, All, refl, sym, ◌∙◌, ap, arith}
 use Rattle.std.specs.Char.{IsAsciiDigit, is_ascii_digit, is_ascii_hexdigit}
 use Rattle.std.specs.List.{prefix_len, join_with_byte}
-use Rattle.std.specs.Option.{option_map}
-use Rattle.std.proofs.lemmas.Bool.{eqb-true, eq-eqb, ne_eqb, leb-true, le-leb, and_parts, and_from, or_parts, or_from, cases_Bool}
-use Rattle.std.proofs.lemmas.Bool.{false_from_ne_true, not-true}
+use Rattle.std.proofs.lemmas.Bool.{eqb-true, eq-eqb, ne_eqb, leb-true, le-leb, and_parts, and_from, or_parts, or_from}
+use Rattle.std.proofs.lemmas.Bool.{not-true}
 use Rattle.std.proofs.lemmas.List.{append_assoc}
-use Rattle.std.proofs.lemmas.List.Elements.{All-head, All-tail, All-weaker}
+use Rattle.std.proofs.lemmas.List.Elements.{All-head, All-weaker}
 use Rattle.prefix_patterns.specs.Number.{IsDigits}
-use Rattle.prefix_patterns.specs.Reading.{◌>>=◌}
 use Rattle.prefix_patterns.specs.Token.{dot, slash}
 use Rattle.filter_tokens.specs.Reading.{behind, after_byte, after_digits, after_address, after_prefix, after_hexadecimal, after_quoted}
 use Rattle.filter_tokens.specs.Runs.{is_quotable}
 use Rattle.filter_tokens.specs.Shapes.{line_feed, quote, zero_digit, small_x, HasFourGroups, HasLength, IsQuoted, AreHexadecimal}
-use Rattle.filter_tokens.proofs.Fronts.{bind_some, behind-append, behind-all, front, behind-length, split_length}
+use Rattle.filter_tokens.proofs.Fronts.{bind_some, behind-append, front, split_length}
 
 -- a front of the text, with what stands behind it
 pub record Stands (P : List ℕ → Type 0) (text rest : List ℕ) : Type 0 where

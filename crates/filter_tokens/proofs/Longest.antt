@@ -1,32 +1,30 @@
 -- The longest shape at the front of a text.
-use Rattle.std.proofs.Common.{◌≡◌, ◌≢◌, ℕ, ◌+◌, ◌<◌, ◌≤◌, ◌==◌, if◌then◌else◌, Bool, true, false, List, [], ◌∷◌, ◌++◌, length}
-use Rattle.std.proofs.Common.{take, drop, Option, Some, None, All, refl, sym, ◌∙◌, ap, subst, arith, append-nil, length-append}
+use Rattle.std.proofs.Common.{◌≡◌, ℕ, ◌+◌, ◌≤◌, ◌==◌, if◌then◌else◌, Bool, true, false, List, [], ◌∷◌, ◌++◌, length}
+use Rattle.std.proofs.Common.{drop, Option, Some, None, refl, sym, ◌∙◌, ap, subst, arith, append-nil, length-append}
 use Rattle.std.proofs.Common.{length-drop}
 use Rattle.std.specs.Char.{IsAsciiDigit, is_ascii_digit, is_ascii_hexdigit}
 use Rattle.std.specs.List.{prefix_len}
 use Rattle.std.specs.Option.{option_map}
-use Rattle.std.proofs.lemmas.Bool.{eqb-true, ne_eqb, lt-leb, and_left, or_from, cases_Bool}
+use Rattle.std.proofs.lemmas.Bool.{ne_eqb, lt-leb, and_left, or_from}
 use Rattle.std.proofs.lemmas.List.{drop_all}
 use Rattle.std.proofs.lemmas.List.Elements.{All-head, All-tail, All-weaker, All-same}
 use Rattle.std.proofs.lemmas.Option.{same_Some}
 use Rattle.prefix_patterns.specs.Number.{IsDigits}
-use Rattle.prefix_patterns.specs.Reading.{◌>>=◌}
-use Rattle.prefix_patterns.specs.Token.{dot, slash}
 use Rattle.filter_tokens.specs.declared.mark.Mark.{Mark}
 use Rattle.filter_tokens.specs.declared.mark.Mark.TheVariants as mark
 use Rattle.filter_tokens.specs.declared.shape.Shape.{Shape}
 use Rattle.filter_tokens.specs.declared.shape.Shape.TheVariants as shape
 use Rattle.filter_tokens.specs.Marks.{mark_text, is_sign}
-use Rattle.filter_tokens.specs.Reading.{behind, after_byte, after_digits, after_address, after_prefix, after_hexadecimal}
+use Rattle.filter_tokens.specs.Reading.{behind, after_digits, after_address, after_prefix, after_hexadecimal}
 use Rattle.filter_tokens.specs.Reading.{after_quoted, quoted_shape, or_shape, digits_shape, sign_in, sign_shape, longest_shape}
 use Rattle.filter_tokens.specs.Shapes.{quote, zero_digit, small_x, begins_word, goes_on_word, IsWord, HasFourGroups, HasLength}
 use Rattle.filter_tokens.specs.Shapes.{IsQuoted, AreHexadecimal, HasShape}
-use Rattle.filter_tokens.proofs.Forms.{Stands, behind_front, digit_fact, digits_pass, after_byte-found, after_digits-there}
+use Rattle.filter_tokens.proofs.Forms.{Stands, digit_fact, digits_pass, after_digits-there}
 use Rattle.filter_tokens.proofs.Forms.{after_digits-found, after_address-there, after_address-found, after_address-within}
 use Rattle.filter_tokens.proofs.Forms.{after_prefix-there, after_prefix-found, after_prefix-within, after_hexadecimal-there}
 use Rattle.filter_tokens.proofs.Forms.{after_hexadecimal-found, after_quoted-there, after_quoted-found}
-use Rattle.filter_tokens.proofs.Fronts.{Front, bind_some, map_some, behind-append, behind-all, front, behind-length, split_length}
-use Rattle.filter_tokens.proofs.Signs.{Covers, sign-itself, sign-covers, sign-found}
+use Rattle.filter_tokens.proofs.Fronts.{bind_some, map_some, behind-append, behind-all, front, behind-length, split_length}
+use Rattle.filter_tokens.proofs.Signs.{sign-itself, sign-covers, sign-found}
 
 -- a shape and what stands behind it
 abbrev pub Found : Type 0

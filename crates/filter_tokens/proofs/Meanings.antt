@@ -1,15 +1,14 @@
 -- What the bytes of a shape mean: what is read is meant, and what is meant is read.
-use Rattle.std.proofs.Common.{◌≡◌, ◌≢◌, ℕ, zero, suc, ◌+◌, ◌*◌, ◌^◌, ◌<◌, ◌≤◌, Bool, true, false, not, ◌&&◌, ◌||◌, ⊎_elim, nat_le}
-use Rattle.std.proofs.Common.{nat_lt, List, [], ◌∷◌, length, drop, Option, Some, None, All, refl, sym, ◌∙◌, ap, subst, arith}
+use Rattle.std.proofs.Common.{◌≡◌, ℕ, zero, suc, ◌+◌, ◌*◌, ◌^◌, ◌<◌, ◌≤◌, true, false, not, ◌&&◌, ◌||◌, ⊎_elim, nat_le}
+use Rattle.std.proofs.Common.{nat_lt, List, [], ◌∷◌, length, Option, Some, None, refl, sym, ◌∙◌, ap, subst, arith}
 use Rattle.std.specs.Char.{digit_value, is_ascii_hexdigit}
 use Rattle.std.specs.Int.{is_in_range}
 use Rattle.std.specs.Option.{option_map}
-use Rattle.std.proofs.lemmas.Bool.{leb-true, le-leb, ltb-true, lt-ltb, le-ltb, ltb-false, and_parts, and_from, not-true}
+use Rattle.std.proofs.lemmas.Bool.{leb-true, le-leb, le-ltb, and_parts, and_from, not-true}
 use Rattle.std.proofs.lemmas.Bool.{not_from_false, cond-true, or_cases, agree_below_at}
 use Rattle.std.proofs.lemmas.List.Elements.{All-head, All-tail, All-same}
 use Rattle.std.proofs.lemmas.Option.{cond_some, same_Some}
 use Rattle.std.proofs.Math.Nat.{mul-le-mul_left, pow-succ'}
-use Rattle.prefix_patterns.specs.Number.{decimal_value}
 use Rattle.prefix_patterns.specs.Reading.{◌>>=◌, number_in, address_in, prefix_in}
 use Rattle.prefix_patterns.proofs.Numbers.{number_in-some, number_in-found}
 use Rattle.prefix_patterns.proofs.Tokens.{address_in-found, address_in-only, prefix_in-found, prefix_in-only}

@@ -1,6 +1,6 @@
 -- The part at the front of a text: what is read is there, and what is there is read.
-use Rattle.std.proofs.Common.{◌≡◌, ◌⊎◌, ℕ, zero, suc, ◌+◌, ◌-◌, ◌<◌, ◌≤◌, ◌==◌, Bool, true, false, List, [], ◌∷◌, ◌++◌, length}
-use Rattle.std.proofs.Common.{take, drop, Option, Some, None, Result, Ok, Err, refl, sym, ◌∙◌, ap, subst, arith, length-append}
+use Rattle.std.proofs.Common.{◌≡◌, ℕ, zero, suc, ◌-◌, ◌<◌, ◌≤◌, ◌==◌, Bool, true, false, List, [], ◌∷◌, length}
+use Rattle.std.proofs.Common.{take, drop, Some, Result, Ok, Err, refl, sym, ◌∙◌, ap, subst, arith}
 use Rattle.std.proofs.Common.{length-drop, length-take}
 use Rattle.std.specs.Prelude.{IfOk}
 use Rattle.std.proofs.Math.Nat.{pos_of_ne-zero}
@@ -15,13 +15,12 @@ use Rattle.filter_tokens.specs.declared.part.Part.TheVariants as part
 use Rattle.filter_tokens.specs.declared.shape.Shape.{Shape}
 use Rattle.filter_tokens.specs.declared.word.Word.{Word}
 use Rattle.filter_tokens.specs.Cutting.{begins_gap, IsGap, IsToken, IsPart, part_len}
-use Rattle.filter_tokens.specs.Meaning.{Means}
 use Rattle.filter_tokens.specs.Reading.{Gives, gap_len, longest_shape, meaning_in, token_of, token_in, part_of, part_in}
 use Rattle.filter_tokens.specs.Shapes.{HasShape}
 use Rattle.filter_tokens.proofs.Forms.{Stands}
 use Rattle.filter_tokens.proofs.Fronts.{bind_some, map_some, split_length}
 use Rattle.filter_tokens.proofs.Spaces.{gap-zero, gap-none, gap-found, gap-there, gap-bounds}
-use Rattle.filter_tokens.proofs.Longest.{Found, a_shape, Within, longest-found, longest-within, longest-itself}
+use Rattle.filter_tokens.proofs.Longest.{Found, a_shape, longest-found, longest-within, longest-itself}
 use Rattle.filter_tokens.proofs.Meanings.{meaning-found, meaning-there}
 
 -- the front that has a shape, by its length

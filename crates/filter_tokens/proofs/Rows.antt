@@ -10,8 +10,7 @@ use Rattle.filter_tokens.specs.declared.part.Part.TheVariants as part
 use Rattle.filter_tokens.specs.declared.token.Token.{Token}
 use Rattle.filter_tokens.specs.declared.word.Word.TheVariants as word
 use Rattle.filter_tokens.specs.Cutting.{part_len, AreParts, Cuts}
-use Rattle.filter_tokens.specs.Meaning.{hexadecimal_value}
-use Rattle.filter_tokens.specs.Reading.{after_digits, after_address, after_prefix, after_hexadecimal, after_quoted, digits_shape}
+use Rattle.filter_tokens.specs.Reading.{after_digits, after_address, after_prefix, after_hexadecimal, digits_shape}
 use Rattle.filter_tokens.specs.Reading.{sign_in, sign_shape, longest_shape, keyword_in, is_left_out, word_in, hexadecimal_from}
 use Rattle.filter_tokens.specs.Reading.{hexadecimal_in, closing_len, gap_len, token_in, part_in}
 use Rattle.filter_tokens.proofs.Cuts.{lexes-start, lexes-stopped}

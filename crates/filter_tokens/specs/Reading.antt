@@ -1,7 +1,7 @@
 -- Reading a text from the left: what the lexer's functions answer (this project's own choice).
 -- No promise to a caller cites it: those cite Cutting, and proofs join the two.
-use Rattle.std.specs.Prelude.{◌≡◌, ℕ, zero, suc, ◌+◌, ◌-◌, ◌*◌, ◌≤◌, ◌==◌, ◌&&◌, ◌||◌, nat_le, nat_lt, if◌then◌else◌, Bool, true}
-use Rattle.std.specs.Prelude.{false, not, List, [], ◌∷◌, length, take, drop, map, find, Option, Some, None, Result, Ok, Err}
+use Rattle.std.specs.Prelude.{◌≡◌, ℕ, ◌+◌, ◌-◌, ◌*◌, ◌==◌, ◌&&◌, nat_le, nat_lt, if◌then◌else◌, Bool}
+use Rattle.std.specs.Prelude.{not, List, [], ◌∷◌, length, take, drop, find, Option, Some, None, Result, Ok, Err}
 use Rattle.std.specs.Char.{digit_value, is_ascii_digit, is_ascii_hexdigit}
 use Rattle.std.specs.List.{prefix_len, list_any}
 use Rattle.std.specs.Option.{option_map}

@@ -9,7 +9,8 @@ use Rattle.line_protocol.specs.declared.faults.StreamFault.TheVariants.{Read, Wr
 
 -- From one state of the service to the next these lines got these answers. `first` and `next` are the numbers of the lines
 -- before and behind them, `already` and `refused` the refusals counted before and with them; `over` says that one ended the stream.
-pub record Advances {S : Type 0} (answers : S → ℕ → List ℕ → Answer → S → Type 0) (before after : S) (all : List (List ℕ)) (given : List Answer) (first next already refused : ℕ) (over : Bool) : Type 0 where
+pub record Advances {S : Type 0} (answers : S → ℕ → List ℕ → Answer → S → Type 0) (before after : S)
+    (all : List (List ℕ)) (given : List Answer) (first next already refused : ℕ) (over : Bool) : Type 0 where
   pub run : Runs answers before (answerable_from first all) given after
   pub counted : refused ≡ already + refusals given
   pub ended : over ≡ is_over given
@@ -20,7 +21,8 @@ abbrev pub IsWhole : List ℕ → Type 0
 IsWhole text = (text ≡ []) ⊎ ((front : List ℕ) × (text ≡ front ++ 10 ∷ []))
 
 -- Of these bytes the first `at` are whole lines, and they got these answers. The other names are those of `Advances`.
-pub record AnswersFront {S : Type 0} (answers : S → ℕ → List ℕ → Answer → S → Type 0) (before after : S) (bytes : List ℕ) (at : ℕ) (given : List Answer) (first next already refused : ℕ) (over : Bool) : Type 0 where
+pub record AnswersFront {S : Type 0} (answers : S → ℕ → List ℕ → Answer → S → Type 0) (before after : S)
+    (bytes : List ℕ) (at : ℕ) (given : List Answer) (first next already refused : ℕ) (over : Bool) : Type 0 where
   pub advances : Advances answers before after (lines (take at bytes)) given first next already refused over
   pub within : at ≤ length bytes
   pub whole : IsWhole (take at bytes)
@@ -28,7 +30,8 @@ pub record AnswersFront {S : Type 0} (answers : S → ℕ → List ℕ → Answe
 
 -- The first lines of what begins with these bytes, of which the first has number `first`, got answers when the writer
 -- or the memory failed, and the writer got what it could of them.
-pub record BreaksOff {S : Type 0} (answers : S → ℕ → List ℕ → Answer → S → Type 0) (fault : StreamFault) (before : S) (bytes : List ℕ) (first : ℕ) (held holds : Option (List ℕ)) : Type 0 where
+pub record BreaksOff {S : Type 0} (answers : S → ℕ → List ℕ → Answer → S → Type 0) (fault : StreamFault)
+    (before : S) (bytes : List ℕ) (first : ℕ) (held holds : Option (List ℕ)) : Type 0 where
   pub given : List Answer
   pub after : S
   pub run : (left : List ℕ) → RunsFront answers before (answerable_from first (lines (bytes ++ left))) given after
@@ -36,7 +39,8 @@ pub record BreaksOff {S : Type 0} (answers : S → ℕ → List ℕ → Answer �
   pub kind : (fault ≡ Write) ⊎ (fault ≡ Memory)
 
 -- the same of a last line that no line feed ends, behind which nothing comes
-pub record EndsOff {S : Type 0} (answers : S → ℕ → List ℕ → Answer → S → Type 0) (fault : StreamFault) (before : S) (bytes : List ℕ) (first : ℕ) (held holds : Option (List ℕ)) : Type 0 where
+pub record EndsOff {S : Type 0} (answers : S → ℕ → List ℕ → Answer → S → Type 0) (fault : StreamFault)
+    (before : S) (bytes : List ℕ) (first : ℕ) (held holds : Option (List ℕ)) : Type 0 where
   pub given : List Answer
   pub after : S
   pub run : RunsFront answers before (answerable_from first (lines bytes)) given after

@@ -47,21 +47,24 @@ pub prefix-quotient : (address len : ℕ) → len ≤ 32 → prefix_bits address
 prefix-quotient address len limit = take-bits len 32 (32 - len) address (omega arith)
 
 -- the first address of a prefix is the address with zeros for the other digits
-pub address_of-prefix_bits : (address len : ℕ) → address < 2 ^ 32 → len ≤ 32 → address_of (prefix_bits address len) ≡ address / 2 ^ (32 - len) * 2 ^ (32 - len)
+pub address_of-prefix_bits : (address len : ℕ) → address < 2 ^ 32 → len ≤ 32 →
+    address_of (prefix_bits address len) ≡ address / 2 ^ (32 - len) * 2 ^ (32 - len)
 address_of-prefix_bits address len fits limit =
     let split : len + (32 - len) ≡ 32 = omega arith in
     let high : address / 2 ^ (32 - len) % 2 ^ len ≡ address / 2 ^ (32 - len) = shr_mod len (32 - len) (rw split fits) in
     rw (length-prefix_bits address len limit, prefix-quotient address len limit, number-bits len (address / 2 ^ (32 - len)), high) refl
 
 -- zeros for the other digits leave the prefix as it is
-pub prefix_bits-cleared : (address len : ℕ) → len ≤ 32 → prefix_bits (address / 2 ^ (32 - len) * 2 ^ (32 - len)) len ≡ prefix_bits address len
+pub prefix_bits-cleared : (address len : ℕ) → len ≤ 32 →
+    prefix_bits (address / 2 ^ (32 - len) * 2 ^ (32 - len)) len ≡ prefix_bits address len
 prefix_bits-cleared address len limit =
     prefix-quotient _ len limit
     ∙ ap (bits len) (shl-shr (address / 2 ^ (32 - len)) (32 - len))
     ∙ sym (prefix-quotient address len limit)
 
 -- the bits of a prefix give its fields back
-pub fields_again : (p : Inside) → HasNoBitPast p.len p.address → record { address = address_of (prefix_bits p.address p.len); len = length (prefix_bits p.address p.len) } ≡ p
+pub fields_again : (p : Inside) → HasNoBitPast p.len p.address →
+    record { address = address_of (prefix_bits p.address p.len); len = length (prefix_bits p.address p.len) } ≡ p
 fields_again p clear = rw (clear.clear, length-prefix_bits p.address p.len clear.limit) refl
 
 -- higher digits do not change the lowest
