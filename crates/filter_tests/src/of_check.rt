@@ -28,216 +28,222 @@ fn expect_lines(
     Ok(())
 }
 
+/// A filter's text, the size, and both lines.
+const FILTERS: [(&str, u32, &str); 11] = [
+    (
+        "filter not_too_far int var; { if defined( rip_metric ) then var = rip_metric; else { var = 1; rip_metric = 1; } \
+         if rip_metric > 10 then reject \"RIP metric is too big\"; else accept \"ok\"; }",
+        16,
+        "code 4e4346310100001601000000001100020161000313110060000601000000011100010000000114241513\
+         010000000a3233610002716000017071\nverified 16 2\n",
+    ),
+    (
+        "filter up2 { rip_metric = rip_metric + 2; accept; }",
+        8,
+        "code 4e43463100000008130100000002201424157071\nverified 7 2\n",
+    ),
+    (
+        "filter up2 { rip_metric = rip_metric + 2; accept; }",
+        1,
+        "code 4e43463100000008130100000002201424157071\nrefused V8 0\n",
+    ),
+    (
+        "filter low { rip_metric = 1; accept; }",
+        8,
+        "code 4e4346310000000601000000011424157071\nverified 5 2\n",
+    ),
+    (
+        "filter wrap { rip_metric = rip_metric + 4294967295; accept; }",
+        8,
+        "code 4e434631000000081301ffffffff201424157071\nverified 7 2\n",
+    ),
+    (
+        "filter s { if net ~ [1.0.0.0/8{15,17}] then accept; }",
+        8,
+        "code 4e4346310001000101000000080f1100051251006100017071\nverified 4 1\n",
+    ),
+    (
+        "filter d { if 8 / rip_metric = 2 then accept; }",
+        8,
+        "code 4e43463100000008010000000813230100000002306100017071\nrefused V3 2\n",
+    ),
+    (
+        "filter e { if false then if true then accept; else accept; }",
+        8,
+        "code 4e4346310000000802006100050201610002706000017071\nverified 5 1\n",
+    ),
+    (
+        "filter z { if false && 1 / 0 = 1 then accept; else accept; }",
+        8,
+        "code 4e4346310000000e0200610006010000000101000000002301000000013060000102006100027060000170\
+         71\nrefused V3 4\n",
+    ),
+    (
+        "filter half { int k; k = 4; if 8 / k = 2 then accept; }",
+        8,
+        "code 4e4346310100000c010000000011000100000004110001000000081000230100000002306100017071\nverified 11 2\n",
+    ),
+    (
+        "filter m { if (true && false) || true then accept; }",
+        8,
+        "code 4e4346310000000c020161000202006000010200610002020160000102016100017071\nverified 9 1\n",
+    ),
+];
+
 #[test]
 fn filters_are_compiled_and_verified(rt: HostRuntime) -> Result<(), Fail> {
-    let rows = [
-        (
-            "filter not_too_far int var; { if defined( rip_metric ) then var = rip_metric; else { var = 1; rip_metric = 1; } \
-             if rip_metric > 10 then reject \"RIP metric is too big\"; else accept \"ok\"; }",
-            16,
-            "code 4e4346310100001601000000001100020161000313110060000601000000011100010000000114241513\
-             010000000a3233610002716000017071\nverified 16 2\n",
-        ),
-        (
-            "filter up2 { rip_metric = rip_metric + 2; accept; }",
-            8,
-            "code 4e43463100000008130100000002201424157071\nverified 7 2\n",
-        ),
-        (
-            "filter up2 { rip_metric = rip_metric + 2; accept; }",
-            1,
-            "code 4e43463100000008130100000002201424157071\nrefused V8 0\n",
-        ),
-        (
-            "filter low { rip_metric = 1; accept; }",
-            8,
-            "code 4e4346310000000601000000011424157071\nverified 5 2\n",
-        ),
-        (
-            "filter wrap { rip_metric = rip_metric + 4294967295; accept; }",
-            8,
-            "code 4e434631000000081301ffffffff201424157071\nverified 7 2\n",
-        ),
-        (
-            "filter s { if net ~ [1.0.0.0/8{15,17}] then accept; }",
-            8,
-            "code 4e4346310001000101000000080f1100051251006100017071\nverified 4 1\n",
-        ),
-        (
-            "filter d { if 8 / rip_metric = 2 then accept; }",
-            8,
-            "code 4e43463100000008010000000813230100000002306100017071\nrefused V3 2\n",
-        ),
-        (
-            "filter e { if false then if true then accept; else accept; }",
-            8,
-            "code 4e4346310000000802006100050201610002706000017071\nverified 5 1\n",
-        ),
-        (
-            "filter z { if false && 1 / 0 = 1 then accept; else accept; }",
-            8,
-            "code 4e4346310000000e0200610006010000000101000000002301000000013060000102006100027060000170\
-             71\nrefused V3 4\n",
-        ),
-        (
-            "filter half { int k; k = 4; if 8 / k = 2 then accept; }",
-            8,
-            "code 4e4346310100000c010000000011000100000004110001000000081000230100000002306100017071\nverified 11 2\n",
-        ),
-        (
-            "filter m { if (true && false) || true then accept; }",
-            8,
-            "code 4e4346310000000c020161000202006000010200610002020160000102016100017071\nverified 9 1\n",
-        ),
-    ];
-    for (text, size, want) in rows {
+    for (text, size, want) in FILTERS {
         expect_lines(&rt, rt.alloc(), text.as_bytes(), size, false, want)?;
     }
     Ok(())
 }
 
+/// What is no filter, or does not fit, and the one line.
+const REFUSED_TEXTS: [(&str, &str); 17] = [
+    ("", "refused P9 0\n"),
+    (
+        "filter m { if true && false || true then accept; }",
+        "refused P6 28\n",
+    ),
+    ("filter q { print \"x\"; }", "refused P10 11\n"),
+    ("filter q { accept }", "refused P2 18\n"),
+    ("filter q { accept;", "refused P9 18\n"),
+    ("filter q { accept; } ;", "refused P2 21\n"),
+    (
+        "filter q { rip_metric = 4294967296; accept; }",
+        "refused P3 24\n",
+    ),
+    ("filter q { rip_metric = 0x; }", "refused P1 24\n"),
+    (
+        "filter q { if net ~ [1.0.0.0/33] then accept; }",
+        "refused P4 21\n",
+    ),
+    (
+        "filter q { if 1 ~ [1..3] then accept; }",
+        "refused P10 19\n",
+    ),
+    ("filter q { case rip_metric { } }", "refused P10 11\n"),
+    ("filter q { b = 1; }", "refused Y1 11\n"),
+    ("filter q { int a; int a; }", "refused Y2 22\n"),
+    ("filter q { int a; a = true; }", "refused Y3 22\n"),
+    (
+        "filter q { ip a; if net ~ a then accept; }",
+        "refused Y3 26\n",
+    ),
+    ("filter q { if 1 = true then accept; }", "refused Y3 18\n"),
+    ("filter q { net = 1; }", "refused Y4 11\n"),
+];
+
 #[test]
 fn texts_are_refused(rt: HostRuntime) -> Result<(), Fail> {
-    let rows = [
-        ("", "refused P9 0\n"),
-        (
-            "filter m { if true && false || true then accept; }",
-            "refused P6 28\n",
-        ),
-        ("filter q { print \"x\"; }", "refused P10 11\n"),
-        ("filter q { accept }", "refused P2 18\n"),
-        ("filter q { accept;", "refused P9 18\n"),
-        ("filter q { accept; } ;", "refused P2 21\n"),
-        (
-            "filter q { rip_metric = 4294967296; accept; }",
-            "refused P3 24\n",
-        ),
-        ("filter q { rip_metric = 0x; }", "refused P1 24\n"),
-        (
-            "filter q { if net ~ [1.0.0.0/33] then accept; }",
-            "refused P4 21\n",
-        ),
-        (
-            "filter q { if 1 ~ [1..3] then accept; }",
-            "refused P10 19\n",
-        ),
-        ("filter q { case rip_metric { } }", "refused P10 11\n"),
-        ("filter q { b = 1; }", "refused Y1 11\n"),
-        ("filter q { int a; int a; }", "refused Y2 22\n"),
-        ("filter q { int a; a = true; }", "refused Y3 22\n"),
-        (
-            "filter q { ip a; if net ~ a then accept; }",
-            "refused Y3 26\n",
-        ),
-        ("filter q { if 1 = true then accept; }", "refused Y3 18\n"),
-        ("filter q { net = 1; }", "refused Y4 11\n"),
-    ];
-    for (text, want) in rows {
+    for (text, want) in REFUSED_TEXTS {
         expect_lines(&rt, rt.alloc(), text.as_bytes(), 8, false, want)?;
     }
     Ok(())
 }
 
+/// A code file in hexadecimal, the size, and the lines.
+const CODE_FILES: [(&[u8], u32, &str); 27] = [
+    (
+        b"4e434631000000051301ffffffff201570",
+        8,
+        "code 4e434631000000051301ffffffff201570\nrefused V6 3\n",
+    ),
+    (
+        b"4e43463100000005130100000002201570\n",
+        8,
+        "code 4e43463100000005130100000002201570\nverified 5 2\n",
+    ),
+    (
+        b"4e43463100000005130100000002221570 \t\r\n",
+        8,
+        "code 4e43463100000005130100000002221570\nverified 5 2\n",
+    ),
+    (
+        b"4E43463100000005130100000000221570",
+        8,
+        "code 4e43463100000005130100000000221570\nrefused V6 3\n",
+    ),
+    (
+        b"4e4346310000000301000000081570",
+        8,
+        "code 4e4346310000000301000000081570\nverified 3 1\n",
+    ),
+    (
+        b"4e4346310000000301000000081570",
+        9,
+        "code 4e4346310000000301000000081570\nrefused V6 1\n",
+    ),
+    (
+        b"4e4346310100000902016100030100000001110060000202011100100070",
+        8,
+        "code 4e4346310100000902016100030100000001110060000202011100100070\nrefused V2 7\n",
+    ),
+    (
+        b"4e4346310000000501000000000201610001010000000170",
+        8,
+        "code 4e4346310000000501000000000201610001010000000170\nrefused V9 4\n",
+    ),
+    (
+        b"4e4346310000000260000170",
+        8,
+        "code 4e4346310000000260000170\nrefused V4 0\n",
+    ),
+    (
+        b"4e43463100000000",
+        8,
+        "code 4e43463100000000\nrefused V4 0\n",
+    ),
+    (
+        b"4e43463100000000",
+        1,
+        "code 4e43463100000000\nrefused V8 0\n",
+    ),
+    (
+        b"4e4346310000000113",
+        8,
+        "code 4e4346310000000113\nrefused V4 0\n",
+    ),
+    (
+        b"4e4346310000002213131313131313131313131313131313131313131313131313131313131313131370",
+        8,
+        "code 4e4346310000002213131313131313131313131313131313131313131313131313131313131313131370\nrefused V5 32\n",
+    ),
+    (
+        b"4e434631000000031361000070",
+        8,
+        "code 4e434631000000031361000070\nrefused V2 1\n",
+    ),
+    (
+        b"4e43463101000002100070",
+        8,
+        "code 4e43463101000002100070\nrefused V2 0\n",
+    ),
+    (b"", 8, "refused C2 0\n"),
+    (b"\n", 8, "refused C2 0\n"),
+    (b"4e4346320000000170", 8, "refused C1 3\n"),
+    (b"4e43463100000001", 8, "refused C2 8\n"),
+    (b"4e4346310000000172", 8, "refused C3 8\n"),
+    (b"4e4346310000000204010203041070", 8, "refused C4 9\n"),
+    (b"4e43463111000000", 8, "refused C5 4\n"),
+    (b"4e434631000000017000", 8, "refused C6 9\n"),
+    (b" 4e43463100000000", 8, "refused O3 1\n"),
+    (b"4e4", 8, "refused O3 1\n"),
+    (
+        b"4e43463100000002100070",
+        8,
+        "code 4e43463100000002100070\nrefused V7 0\n",
+    ),
+    (
+        b"4e434631000000022370",
+        8,
+        "code 4e434631000000022370\nrefused V1 0\n",
+    ),
+];
+
 #[test]
 fn code_files_are_verified(rt: HostRuntime) -> Result<(), Fail> {
-    let rows: [(&[u8], u32, &str); 27] = [
-        (
-            b"4e434631000000051301ffffffff201570",
-            8,
-            "code 4e434631000000051301ffffffff201570\nrefused V6 3\n",
-        ),
-        (
-            b"4e43463100000005130100000002201570\n",
-            8,
-            "code 4e43463100000005130100000002201570\nverified 5 2\n",
-        ),
-        (
-            b"4e43463100000005130100000002221570 \t\r\n",
-            8,
-            "code 4e43463100000005130100000002221570\nverified 5 2\n",
-        ),
-        (
-            b"4E43463100000005130100000000221570",
-            8,
-            "code 4e43463100000005130100000000221570\nrefused V6 3\n",
-        ),
-        (
-            b"4e4346310000000301000000081570",
-            8,
-            "code 4e4346310000000301000000081570\nverified 3 1\n",
-        ),
-        (
-            b"4e4346310000000301000000081570",
-            9,
-            "code 4e4346310000000301000000081570\nrefused V6 1\n",
-        ),
-        (
-            b"4e4346310100000902016100030100000001110060000202011100100070",
-            8,
-            "code 4e4346310100000902016100030100000001110060000202011100100070\nrefused V2 7\n",
-        ),
-        (
-            b"4e4346310000000501000000000201610001010000000170",
-            8,
-            "code 4e4346310000000501000000000201610001010000000170\nrefused V9 4\n",
-        ),
-        (
-            b"4e4346310000000260000170",
-            8,
-            "code 4e4346310000000260000170\nrefused V4 0\n",
-        ),
-        (
-            b"4e43463100000000",
-            8,
-            "code 4e43463100000000\nrefused V4 0\n",
-        ),
-        (
-            b"4e43463100000000",
-            1,
-            "code 4e43463100000000\nrefused V8 0\n",
-        ),
-        (
-            b"4e4346310000000113",
-            8,
-            "code 4e4346310000000113\nrefused V4 0\n",
-        ),
-        (
-            b"4e4346310000002213131313131313131313131313131313131313131313131313131313131313131370",
-            8,
-            "code 4e4346310000002213131313131313131313131313131313131313131313131313131313131313131370\nrefused V5 32\n",
-        ),
-        (
-            b"4e434631000000031361000070",
-            8,
-            "code 4e434631000000031361000070\nrefused V2 1\n",
-        ),
-        (
-            b"4e43463101000002100070",
-            8,
-            "code 4e43463101000002100070\nrefused V2 0\n",
-        ),
-        (b"", 8, "refused C2 0\n"),
-        (b"\n", 8, "refused C2 0\n"),
-        (b"4e4346320000000170", 8, "refused C1 3\n"),
-        (b"4e43463100000001", 8, "refused C2 8\n"),
-        (b"4e4346310000000172", 8, "refused C3 8\n"),
-        (b"4e4346310000000204010203041070", 8, "refused C4 9\n"),
-        (b"4e43463111000000", 8, "refused C5 4\n"),
-        (b"4e434631000000017000", 8, "refused C6 9\n"),
-        (b" 4e43463100000000", 8, "refused O3 1\n"),
-        (b"4e4", 8, "refused O3 1\n"),
-        (
-            b"4e43463100000002100070",
-            8,
-            "code 4e43463100000002100070\nrefused V7 0\n",
-        ),
-        (
-            b"4e434631000000022370",
-            8,
-            "code 4e434631000000022370\nrefused V1 0\n",
-        ),
-    ];
-    for (text, size, want) in rows {
+    for (text, size, want) in CODE_FILES {
         expect_lines(&rt, rt.alloc(), text, size, true, want)?;
     }
     Ok(())

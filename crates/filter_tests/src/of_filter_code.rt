@@ -86,97 +86,95 @@ fn each_fault_names_its_place(rt: HostRuntime) -> Result<(), Fail> {
     Ok(())
 }
 
+/// Three instructions, the fault that their run on metric 3 meets first, and its place.
+const FIRST_FAULTS: [([Instr; 3], FaultKind, usize); 15] = [
+    (
+        [Instr::Metric, Instr::JumpIfNot(0), Instr::Accept],
+        FaultKind::WrongKind,
+        1,
+    ),
+    (
+        [Instr::Load(2), Instr::Accept, Instr::Accept],
+        FaultKind::UnknownName,
+        0,
+    ),
+    (
+        [Instr::Load(1), Instr::Accept, Instr::Accept],
+        FaultKind::WrongKind,
+        0,
+    ),
+    (
+        [Instr::Store(2), Instr::Accept, Instr::Accept],
+        FaultKind::UnknownName,
+        0,
+    ),
+    (
+        [Instr::Store(1), Instr::Accept, Instr::Accept],
+        FaultKind::MissingOperand,
+        0,
+    ),
+    (
+        [Instr::Member(1), Instr::Accept, Instr::Accept],
+        FaultKind::UnknownName,
+        0,
+    ),
+    (
+        [Instr::Member(0), Instr::Accept, Instr::Accept],
+        FaultKind::MissingOperand,
+        0,
+    ),
+    (
+        [Instr::Div, Instr::Accept, Instr::Accept],
+        FaultKind::MissingOperand,
+        0,
+    ),
+    (
+        [Instr::Bool(true), Instr::Int(0), Instr::Div],
+        FaultKind::WrongKind,
+        2,
+    ),
+    (
+        [Instr::Int(8), Instr::Int(0), Instr::Div],
+        FaultKind::ZeroDivisor,
+        2,
+    ),
+    (
+        [Instr::Int(8), Instr::Bool(true), Instr::Eq],
+        FaultKind::WrongKind,
+        2,
+    ),
+    (
+        [Instr::Int(8), Instr::Ip(Ip(8)), Instr::Lt],
+        FaultKind::WrongKind,
+        2,
+    ),
+    (
+        [Instr::Bool(true), Instr::Bool(true), Instr::Le],
+        FaultKind::WrongKind,
+        2,
+    ),
+    (
+        [Instr::Net, Instr::Ip(Ip(8)), Instr::Within],
+        FaultKind::WrongKind,
+        2,
+    ),
+    (
+        [Instr::Jump(1), Instr::Accept, Instr::Jump(9)],
+        FaultKind::OutsideCode,
+        12,
+    ),
+];
+
 #[test]
 fn faults_come_in_their_order(rt: HostRuntime) -> Result<(), Fail> {
-    let net = Prefix::new(Ip(0x0a00_0000), 8).ok_or("a prefix of 8 bits")?;
-    let rows = [
-        (
-            [Instr::Metric, Instr::JumpIfNot(0), Instr::Accept],
-            FaultKind::WrongKind,
-            1,
-        ),
-        (
-            [Instr::Load(2), Instr::Accept, Instr::Accept],
-            FaultKind::UnknownName,
-            0,
-        ),
-        (
-            [Instr::Load(1), Instr::Accept, Instr::Accept],
-            FaultKind::WrongKind,
-            0,
-        ),
-        (
-            [Instr::Store(2), Instr::Accept, Instr::Accept],
-            FaultKind::UnknownName,
-            0,
-        ),
-        (
-            [Instr::Store(1), Instr::Accept, Instr::Accept],
-            FaultKind::MissingOperand,
-            0,
-        ),
-        (
-            [Instr::Member(1), Instr::Accept, Instr::Accept],
-            FaultKind::UnknownName,
-            0,
-        ),
-        (
-            [Instr::Member(0), Instr::Accept, Instr::Accept],
-            FaultKind::MissingOperand,
-            0,
-        ),
-        (
-            [Instr::Div, Instr::Accept, Instr::Accept],
-            FaultKind::MissingOperand,
-            0,
-        ),
-        (
-            [Instr::Bool(true), Instr::Int(0), Instr::Div],
-            FaultKind::WrongKind,
-            2,
-        ),
-        (
-            [Instr::Int(8), Instr::Int(0), Instr::Div],
-            FaultKind::ZeroDivisor,
-            2,
-        ),
-        (
-            [Instr::Int(8), Instr::Bool(true), Instr::Eq],
-            FaultKind::WrongKind,
-            2,
-        ),
-        (
-            [Instr::Int(8), Instr::Ip(Ip(8)), Instr::Lt],
-            FaultKind::WrongKind,
-            2,
-        ),
-        (
-            [Instr::Bool(true), Instr::Bool(true), Instr::Le],
-            FaultKind::WrongKind,
-            2,
-        ),
-        (
-            [Instr::Net, Instr::Ip(Ip(8)), Instr::Within],
-            FaultKind::WrongKind,
-            2,
-        ),
-        (
-            [Instr::Prefix(net), Instr::Mask(8), Instr::Accept],
-            FaultKind::WrongKind,
-            1,
-        ),
-        (
-            [Instr::Jump(1), Instr::Accept, Instr::Jump(9)],
-            FaultKind::OutsideCode,
-            12,
-        ),
-    ];
-    for (instrs, kind, at) in &rows {
-        assert_eq!(rt;
-            outcome_on(rt.alloc(), instrs, 3)?,
-            Outcome::Fault(*kind, *at)
-        );
+    for (instrs, kind, at) in &FIRST_FAULTS {
+        let fault = Outcome::Fault(*kind, *at);
+        assert_eq!(rt; outcome_on(rt.alloc(), instrs, 3)?, fault);
     }
+    let net = Prefix::new(Ip(0x0a00_0000), 8).ok_or("a prefix of 8 bits")?;
+    let no_address = [Instr::Prefix(net), Instr::Mask(8), Instr::Accept];
+    let fault = Outcome::Fault(FaultKind::WrongKind, 1);
+    assert_eq!(rt; outcome_on(rt.alloc(), &no_address, 3)?, fault);
     Ok(())
 }
 

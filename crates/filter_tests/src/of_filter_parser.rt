@@ -1,6 +1,6 @@
 //! Texts and what is answered on them: codes and places of faults are shown here, by tables.
 
-use filter_parser::{Attribute, Command, Expected, ParseFault, parse};
+use filter_parser::{Attribute, Command, Expected, MaskLength, ParseFault, parse};
 use filter_tokens::TokenFault;
 use std::alloc::Global;
 use std::process::Abort;
@@ -231,6 +231,21 @@ const PARTS_AND_SETS: [Row; 20] = [
 #[test]
 fn parts_and_sets(rt: HostRuntime) -> Result<(), ParseFault> {
     compare(&rt, rt.alloc(), &PARTS_AND_SETS)
+}
+
+#[test]
+fn lengths_of_masks(rt: HostRuntime) {
+    let rows: [(u32, Option<u8>); 6] = [
+        (0, Some(0)),
+        (8, Some(8)),
+        (32, Some(32)),
+        (33, None),
+        (256, None),
+        (u32::MAX, None),
+    ];
+    for (bits, wanted) in rows {
+        assert_eq!(rt; MaskLength::new(bits).map(MaskLength::bits), wanted);
+    }
 }
 
 const NUMBERS: [Row; 23] = [

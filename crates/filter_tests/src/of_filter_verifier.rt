@@ -455,7 +455,7 @@ fn operands(rt: HostRuntime) -> Result<(), Fail> {
 }
 
 #[test]
-fn ways_that_meet(rt: HostRuntime) -> Result<(), Fail> {
+fn unlike_stacks_where_ways_meet(rt: HostRuntime) -> Result<(), Fail> {
     let alloc = rt.alloc();
     let unlike_depths = [
         Instr::Int(0),
@@ -490,6 +490,12 @@ fn ways_that_meet(rt: HostRuntime) -> Result<(), Fail> {
         "refused V9 8",
         "the depths before the kinds"
     );
+    Ok(())
+}
+
+#[test]
+fn what_is_known_where_ways_meet(rt: HostRuntime) -> Result<(), Fail> {
+    let alloc = rt.alloc();
     let marked_on_one_way = [
         Instr::Bool(true),
         Instr::JumpIfNot(2),
