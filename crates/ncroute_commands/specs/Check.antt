@@ -41,13 +41,13 @@ pub record Report : Type 0 where
 abbrev pub refused_as : List ℕ → ℕ → Report
 refused_as code at = record { text = refusal code at; refusals = 1 }
 
--- the line of a code: its file in hexadecimal
-abbrev pub code_line : Program → List ℕ
-code_line program = codes "code " ++ encode_lower (spelling program) ++ 10 ∷ []
-
--- the same digits on a line of their own, as `check --code` reads them
+-- the file of a code in hexadecimal, on a line of its own, as `check --code` reads it
 abbrev pub printed : Program → List ℕ
 printed program = encode_lower (spelling program) ++ 10 ∷ []
+
+-- the line of a code
+abbrev pub code_line : Program → List ℕ
+code_line program = codes "code " ++ printed program
 
 -- the line of verified code: its budget and its depth
 abbrev pub verified_line : Program → List ℕ
