@@ -11,7 +11,7 @@ use Rattle.filter_code.specs.declared.instruction.Instr.{Instr}
 use Rattle.filter_code.specs.declared.instruction.Instr.TheVariants as instr
 use Rattle.filter_code.specs.Limits.{local_limit, set_limit, instruction_limit}
 use Rattle.filter_code.specs.Instruction.{opcode}
-use Rattle.filter_code.specs.Program.{Program}
+use Rattle.filter_code.specs.CodeView.{CodeView}
 use Rattle.code_file.specs.Fields.{FieldKind, width, number, mark_bytes, is_good, is_prefix, form_of, forms}
 use Rattle.code_file.specs.Fields.FieldKind.{Mark, Locals, Sets, Patterns, Pattern, Instructions, Opcode, WordOperand, TruthOperand, PrefixOperand, NameOperand, BitsOperand, DistanceOperand}
 use Rattle.code_file.specs.Spelling.{Field, field, mark_byte, prefix_bytes, pattern, counted, set, operand, instruction, fields, IsPattern, IsSet, IsInstruction, IsProgram}
@@ -189,20 +189,20 @@ instructions_limit = record {
   is_within = λ n fits good. let within : number Instructions (big_bytes 2 n) ≤ instruction_limit = leb-true _ _ good in omega (arith, within, number_of_field Instructions n fits);
 }
 
-abbrev program_of : ℕ → List (List PrefixPattern) → List Instr → Program
+abbrev program_of : ℕ → List (List PrefixPattern) → List Instr → CodeView
 program_of locals sets instrs = record { locals = locals; sets = sets; instrs = instrs }
 
-abbrev made : ℕ → List (List PrefixPattern) → List Instr → Format Program
+abbrev made : ℕ → List (List PrefixPattern) → List Instr → Format CodeView
 made locals sets instrs = Done (program_of locals sets instrs)
 
-abbrev from_instructions : ℕ → List (List PrefixPattern) → Format Program
+abbrev from_instructions : ℕ → List (List PrefixPattern) → Format CodeView
 from_instructions locals sets = a_count_of Instructions an_instruction >>= made locals sets
 
-abbrev from_sets : ℕ → Format Program
+abbrev from_sets : ℕ → Format CodeView
 from_sets locals = a_count_of Sets a_set >>= from_instructions locals
 
 -- the fields of a code follow the format
-pub put_file : (code : Program) → IsProgram code → Follows a_file (fields code) code
+pub put_file : (code : CodeView) → IsProgram code → Follows a_file (fields code) code
 unfolding a_file
 put_file code h =
     let fits : code.locals < 256 = let limit = h.locals in omega arith in
@@ -217,39 +217,39 @@ put_file code h =
     (refl, refl, refl, (refl, refl, refl, (refl, refl, refl, (refl, refl, refl, behind_mark))))
 
 -- the next byte of the mark, and the fields behind it
-record HasMark (place : ℕ) (later : Format Program) (fs : List Field) (code : Program) : Type 0 where
+record HasMark (place : ℕ) (later : Format CodeView) (fs : List Field) (code : CodeView) : Type 0 where
   others : List Field
   parts : fs ≡ mark_byte place ∷ others
   follows : Follows later others code
   are_bytes : AreBytes others
 
-take_mark : (place : ℕ) (later : Format Program) (fs : List Field) (code : Program) → AreBytes fs → Follows (a_number (Mark place) >>= λ n. later) fs code → HasMark place later fs code
+take_mark : (place : ℕ) (later : Format CodeView) (fs : List Field) (code : CodeView) → AreBytes fs → Follows (a_number (Mark place) >>= λ n. later) fs code → HasMark place later fs code
 take_mark place later fs code b h =
     let n = take_number (Mark place) (λ n. later) fs code bytes_again_1 b h in
     let value : n.value ≡ slice_index mark_bytes place = sym (number_of_field (Mark place) n.value n.fits) ∙ eqb-true _ _ n.good in
     record { others = n.others; parts = n.parts ∙ ap (λ (k : ℕ). field (Mark place) k ∷ n.others) value; follows = n.follows; are_bytes = n.are_bytes }
 
 -- the fields from some place on, and what they say of the code
-record IsFrom (spelled : Program → List Field) (says : Program → Type 0) (fs : List Field) (code : Program) : Type 0 where
+record IsFrom (spelled : CodeView → List Field) (says : CodeView → Type 0) (fs : List Field) (code : CodeView) : Type 0 where
   parts : fs ≡ spelled code
   is : says code
 
-abbrev SaysInstructions : ℕ → List (List PrefixPattern) → Program → Type 0
+abbrev SaysInstructions : ℕ → List (List PrefixPattern) → CodeView → Type 0
 SaysInstructions locals sets code = (code.locals ≡ locals) × (code.sets ≡ sets) × (length code.instrs ≤ instruction_limit) × AllByRecursion IsInstruction code.instrs
 
-take_instructions : (locals : ℕ) (sets : List (List PrefixPattern)) (fs : List Field) (code : Program) → AreBytes fs → Follows (from_instructions locals sets) fs code
+take_instructions : (locals : ℕ) (sets : List (List PrefixPattern)) (fs : List Field) (code : CodeView) → AreBytes fs → Follows (from_instructions locals sets) fs code
     → IsFrom (λ c. counted Instructions instruction c.instrs) (SaysInstructions locals sets) fs code
 take_instructions locals sets fs code b h =
     let both = follows_both (a_count_of Instructions an_instruction) (made locals sets) fs code b h in
     let all = take_counted Instructions instruction_limit instructions_limit an_instruction instruction IsInstruction take_instruction both.first both.made both.first_are_bytes both.follows_first in
     let parts : fs ≡ counted Instructions instruction both.made = both.parts ∙ ap (λ (gs : List Field). both.first ++ gs) both.follows_second.0 ∙ append-nil both.first ∙ all.parts in
-    subst (λ (c : Program). IsFrom (λ c. counted Instructions instruction c.instrs) (SaysInstructions locals sets) fs c) both.follows_second.1
+    subst (λ (c : CodeView). IsFrom (λ c. counted Instructions instruction c.instrs) (SaysInstructions locals sets) fs c) both.follows_second.1
     (record { parts = parts; is = (refl, refl, all.within_limit, all.each) })
 
-abbrev SaysSets : ℕ → Program → Type 0
+abbrev SaysSets : ℕ → CodeView → Type 0
 SaysSets locals code = (code.locals ≡ locals) × (length code.sets ≤ set_limit) × AllByRecursion IsSet code.sets × (length code.instrs ≤ instruction_limit) × AllByRecursion IsInstruction code.instrs
 
-take_sets : (locals : ℕ) (fs : List Field) (code : Program) → AreBytes fs → Follows (from_sets locals) fs code
+take_sets : (locals : ℕ) (fs : List Field) (code : CodeView) → AreBytes fs → Follows (from_sets locals) fs code
     → IsFrom (λ c. counted Sets set c.sets ++ counted Instructions instruction c.instrs) (SaysSets locals) fs code
 take_sets locals fs code b h =
     let both = follows_both (a_count_of Sets a_set) (from_instructions locals) fs code b h in
@@ -260,7 +260,7 @@ take_sets locals fs code b h =
     both.parts ∙ ap (λ (gs : List Field). gs ++ both.second) all.parts ∙ ap (λ (gs : List Field). counted Sets set both.made ++ gs) rest.parts ∙ ap (λ (sets : List (List PrefixPattern)). counted Sets set sets ++ counted Instructions instruction code.instrs) same in
     record { parts = parts; is = (rest.is.0, subst (λ (sets : List (List PrefixPattern)). length sets ≤ set_limit) same all.within_limit, subst (λ (sets : List (List PrefixPattern)). AllByRecursion IsSet sets) same all.each, rest.is.2, rest.is.3) }
 
-take_locals : (fs : List Field) (code : Program) → AreBytes fs → Follows (a_number Locals >>= from_sets) fs code
+take_locals : (fs : List Field) (code : CodeView) → AreBytes fs → Follows (a_number Locals >>= from_sets) fs code
     → IsFrom (λ c. field Locals c.locals ∷ counted Sets set c.sets ++ counted Instructions instruction c.instrs) IsProgram fs code
 take_locals fs code b h =
     let n = take_number Locals from_sets fs code bytes_again_1 b h in
@@ -277,7 +277,7 @@ in_front : (fs a b c d body : List Field) → fs ≡ mark_byte 0 ∷ a → a ≡
 in_front fs a b c d body p q r s t = rw (p, q, r, s, t) refl
 
 -- fields that follow the format are those of the code that they make
-pub take_file : (fs : List Field) (code : Program) → AreBytes fs → Follows a_file fs code → (fs ≡ fields code) × IsProgram code
+pub take_file : (fs : List Field) (code : CodeView) → AreBytes fs → Follows a_file fs code → (fs ≡ fields code) × IsProgram code
 unfolding a_file
 take_file fs code b h =
     let behind_mark = a_number Locals >>= from_sets in

@@ -1,6 +1,6 @@
 -- Reading is the grammar: a code is what is spelled so, and a fault is the one that the bytes have.
 use Rattle.std.proofs.Common.{refl, ◌≡◌, ℕ, ◌+◌, List, ◌∷◌, ◌++◌, length, Result, Ok, Err, sym, ap, subst, ◌∙◌, arith, inl, inr, ◌↔◌}
-use Rattle.filter_code.specs.Program.{Program}
+use Rattle.filter_code.specs.CodeView.{CodeView}
 use Rattle.code_file.specs.declared.fault.FileFault.{FileFault}
 use Rattle.code_file.specs.declared.fault.FileFault.TheVariants as fault
 use Rattle.code_file.specs.Fields.{fault_of}
@@ -12,12 +12,12 @@ use Rattle.code_file.proofs.Formats.{Follows, rest_at, from_start, read_again, w
 use Rattle.code_file.proofs.Files.{put_file, take_file}
 
 -- the file of a code is read
-pub file_of_spelling : (code : Program) → IsProgram code → file_of (spelling code) ≡ Ok code
+pub file_of_spelling : (code : CodeView) → IsProgram code → file_of (spelling code) ≡ Ok code
 unfolding file_of
 file_of_spelling code h = whole_again a_file (fields code) code (put_file code h)
 
 -- what was read is the file of the code
-pub spelling_of_file : (bytes : List ℕ) (code : Program) → IsBytes bytes → file_of bytes ≡ Ok code → IsProgram code × (bytes ≡ spelling code)
+pub spelling_of_file : (bytes : List ℕ) (code : CodeView) → IsBytes bytes → file_of bytes ≡ Ok code → IsProgram code × (bytes ≡ spelling code)
 unfolding file_of
 spelling_of_file bytes code h e =
     let all = whole_found a_file bytes code h e in
@@ -83,7 +83,7 @@ one_fault bytes a b p q =
     let also = file_of_fault bytes b q in
     cc
 
-pub no_fault : (code : Program) (found : FileFault) → IsProgram code → IsFault (spelling code) found → ⊥
+pub no_fault : (code : CodeView) (found : FileFault) → IsProgram code → IsFault (spelling code) found → ⊥
 no_fault code found h p =
     let read = file_of_spelling code h in
     let met = file_of_fault (spelling code) found p in
@@ -99,20 +99,20 @@ same_found {A} {B} r x y t u p q =
     (ap (λ (p : A × B). p.0) both, ap (λ (p : A × B). p.1) both)
 
 -- no file begins another, and each is that of one code
-pub one_file : (a b : Program) (x y : List ℕ) → IsProgram a → IsProgram b → spelling a ++ x ≡ spelling b ++ y → (a ≡ b) × (x ≡ y)
+pub one_file : (a b : CodeView) (x y : List ℕ) → IsProgram a → IsProgram b → spelling a ++ x ≡ spelling b ++ y → (a ≡ b) × (x ≡ y)
 one_file a b x y p q e =
     let left = read_again a_file (fields a) a 0 x (put_file a p) in
     let right = ap (λ (bytes : List ℕ). read a_file (from_start bytes)) e ∙ read_again a_file (fields b) b 0 y (put_file b q) in
     let same = same_found (read a_file (from_start (spelling a ++ x))) a b (rest_at (0 + length (spelling a)) x) (rest_at (0 + length (spelling b)) y) left right in
     (same.0, ap (λ (r : Rest). r.bytes) same.1)
 
-pub exact_code : (bytes : List ℕ) (code : Program) → IsBytes bytes → (file_of bytes ≡ Ok code) ↔ (IsProgram code × (bytes ≡ spelling code))
+pub exact_code : (bytes : List ℕ) (code : CodeView) → IsBytes bytes → (file_of bytes ≡ Ok code) ↔ (IsProgram code × (bytes ≡ spelling code))
 exact_code bytes code h = (spelling_of_file bytes code h, λ is. ap file_of is.1 ∙ file_of_spelling code is.0)
 
 pub exact_fault : (bytes : List ℕ) (found : FileFault) → IsBytes bytes → (file_of bytes ≡ Err found) ↔ IsFault bytes found
 exact_fault bytes found h = (fault_of_file bytes found h, file_of_fault bytes found)
 
-pub more_follows : (code : Program) (next : ℕ) (others : List ℕ) → IsProgram code → file_of (spelling code ++ next ∷ others) ≡ Err (fault.BytesAfterEnd (length (spelling code)))
+pub more_follows : (code : CodeView) (next : ℕ) (others : List ℕ) → IsProgram code → file_of (spelling code ++ next ∷ others) ≡ Err (fault.BytesAfterEnd (length (spelling code)))
 more_follows code next others h =
     file_of_fault (spelling code ++ next ∷ others) (fault.BytesAfterEnd (length (spelling code)))
     (inr (inr (record { code = code; is_program = h; next = next; others = others; parts = refl; fault = refl })))

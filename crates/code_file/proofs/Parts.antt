@@ -2,7 +2,7 @@
 use Rattle.std.proofs.Common.{◌≡◌, ℕ, ◌<◌, List, length, Result, Ok, Err, ap, ◌∙◌}
 use Rattle.prefix_patterns.specs.Matching.{PrefixPattern}
 use Rattle.filter_code.specs.declared.instruction.Instr.{Instr}
-use Rattle.filter_code.specs.Program.{Program}
+use Rattle.filter_code.specs.CodeView.{CodeView}
 use Rattle.code_file.specs.declared.fault.FileFault.{FileFault}
 use Rattle.code_file.specs.declared.fault.FileFault.TheVariants as fault
 use Rattle.code_file.specs.Fields.FieldKind.{Sets, Instructions}
@@ -11,19 +11,19 @@ use Rattle.code_file.specs.Reading.Format.{Done}
 use Rattle.code_file.proofs.Formats.{from_start}
 use Rattle.code_file.proofs.Steps.{reads_on, reads_no_more, more_behind, none_behind}
 
-abbrev program_of : ℕ → List (List PrefixPattern) → List Instr → Program
+abbrev program_of : ℕ → List (List PrefixPattern) → List Instr → CodeView
 program_of locals sets instrs = record { locals = locals; sets = sets; instrs = instrs }
 
-abbrev made : ℕ → List (List PrefixPattern) → List Instr → Format Program
+abbrev made : ℕ → List (List PrefixPattern) → List Instr → Format CodeView
 made locals sets instrs = Done (program_of locals sets instrs)
 
-abbrev from_instructions : ℕ → List (List PrefixPattern) → Format Program
+abbrev from_instructions : ℕ → List (List PrefixPattern) → Format CodeView
 from_instructions locals sets = a_count_of Instructions an_instruction >>= made locals sets
 
-abbrev from_sets : ℕ → Format Program
+abbrev from_sets : ℕ → Format CodeView
 from_sets locals = a_count_of Sets a_set >>= from_instructions locals
 
-abbrev all_of : Result (Program × Rest) FileFault → Result Program FileFault
+abbrev all_of : Result (CodeView × Rest) FileFault → Result CodeView FileFault
 all_of r = whole r
 
 pub header_refused : (bytes : List ℕ) (found : FileFault) → read a_header (from_start bytes) ≡ Err found → file_of bytes ≡ Err found

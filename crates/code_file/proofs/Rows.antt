@@ -3,7 +3,7 @@ use Rattle.std.proofs.Common.{◌≡◌, ℕ, List, [], ◌∷◌, ◌++◌, Ok,
 use Rattle.filter_code.specs.declared.instruction.Instr.{Instr}
 use Rattle.filter_code.specs.declared.instruction.Instr.TheVariants as instr
 use Rattle.prefix_patterns.specs.Bits.{bits, number as digits}
-use Rattle.filter_code.specs.Program.{Program}
+use Rattle.filter_code.specs.CodeView.{CodeView}
 use Rattle.code_file.specs.declared.fault.FileFault.TheVariants as fault
 use Rattle.code_file.specs.Spelling.{spelling}
 use Rattle.code_file.specs.Reading.{times, a_file, file_of}
@@ -13,7 +13,7 @@ use Rattle.code_file.specs.Fields.{form_of}
 abbrev mark : List ℕ
 mark = 0x4E ∷ (0x43 ∷ (0x46 ∷ (0x31 ∷ [])))
 
-abbrev program : List Instr → Program
+abbrev program : List Instr → CodeView
 program instrs = record { locals = 0; sets = []; instrs = instrs }
 
 -- the smallest file: one instruction, which accepts

@@ -9,7 +9,7 @@ use Rattle.byteorder.specs.Endian.{big_bytes}
 use Rattle.prefix_patterns.specs.Matching.{pattern_limit}
 use Rattle.prefix_patterns.specs.Matching.{PrefixPattern}
 use Rattle.filter_code.specs.Limits.{local_limit, set_limit, instruction_limit}
-use Rattle.filter_code.specs.Program.{Program}
+use Rattle.filter_code.specs.CodeView.{CodeView}
 use Rattle.code_file.specs.Spelling.{Field, bytes_of, pattern, set, counted, instruction, spelling, IsPattern, IsSet, IsInstruction, IsProgram}
 use Rattle.code_file.specs.Fields.FieldKind.{Instructions}
 
@@ -38,7 +38,7 @@ low_byte n h =
     ap (λ (b : ℕ). b ∷ []) e
 
 -- a whole file
-pub file_written : (code : Program) → code.locals ≤ local_limit → length code.sets ≤ set_limit
+pub file_written : (code : CodeView) → code.locals ≤ local_limit → length code.sets ≤ set_limit
     → (((((0x4E ∷ 0x43 ∷ 0x46 ∷ 0x31 ∷ []) ++ code.locals ∷ []) ++ length code.sets ∷ []) ++ flat_map (λ s. bytes_of (set s)) code.sets) ++ big_bytes 2 (length code.instrs)) ++ flat_map (λ i. bytes_of (instruction i)) code.instrs ≡ spelling code
 file_written code few_locals few_sets =
     let locals : big_bytes 1 code.locals ≡ code.locals ∷ [] = low_byte code.locals (omega arith) in
@@ -81,7 +81,7 @@ all_grown P xs i x lt is here so_far k d h =
     ]
 
 -- what was read of the parts makes it a code that has a file
-pub is_program : (code : Program) → code.locals ≤ local_limit → length code.sets ≤ set_limit → length code.instrs ≤ instruction_limit → All IsSet code.sets → All IsInstruction code.instrs → IsProgram code
+pub is_program : (code : CodeView) → code.locals ≤ local_limit → length code.sets ≤ set_limit → length code.instrs ≤ instruction_limit → All IsSet code.sets → All IsInstruction code.instrs → IsProgram code
 is_program code locals sets instrs each_set each_instr =
     record { locals = locals; sets = sets; each_set = recursion_from_All IsSet code.sets each_set; instrs = instrs; each_instr = recursion_from_All IsInstruction code.instrs each_instr }
 
@@ -89,7 +89,7 @@ pub is_set : (patterns : List PrefixPattern) → length patterns ≤ pattern_lim
 is_set patterns limit each = record { within_limit = limit; each = recursion_from_All IsPattern patterns each }
 
 -- what was written in parts
-pub file_joined : (code : Program) (one two three four five six : List ℕ) → code.locals ≤ local_limit → length code.sets ≤ set_limit
+pub file_joined : (code : CodeView) (one two three four five six : List ℕ) → code.locals ≤ local_limit → length code.sets ≤ set_limit
     → one ≡ 0x4E ∷ 0x43 ∷ 0x46 ∷ 0x31 ∷ [] → two ≡ one ++ code.locals ∷ [] → three ≡ two ++ length code.sets ∷ [] → four ≡ three ++ flat_map (λ s. bytes_of (set s)) code.sets
     → five ≡ four ++ big_bytes 2 (length code.instrs) → six ≡ five ++ flat_map (λ i. bytes_of (instruction i)) code.instrs → six ≡ spelling code
 file_joined code one two three four five six few_locals few_sets p q r s t u =

@@ -1,6 +1,6 @@
 -- What is wrong with bytes that are no code file: the first fault, at its place.
 use Rattle.std.specs.Prelude.{◌≡◌, ◌<◌, ◌≤◌, ◌⊎◌, ℕ, false, List, ◌∷◌, ◌++◌, length, take}
-use Rattle.filter_code.specs.Program.{Program}
+use Rattle.filter_code.specs.CodeView.{CodeView}
 use Rattle.code_file.specs.declared.fault.FileFault.{FileFault}
 use Rattle.code_file.specs.declared.fault.FileFault.TheVariants as fault
 use Rattle.code_file.specs.Fields.{width, is_good, fault_of}
@@ -9,7 +9,7 @@ use Rattle.code_file.specs.Spelling.{Field, fields, bytes_of, spelling, IsProgra
 -- The bytes begin with the first fields of some code, all of them good. A field of the same kind as `next` comes
 -- behind them in that code, and `rest` is what stands in the bytes for it and for all that follows.
 pub record IsReadUpTo (bytes : List ℕ) (front : List Field) (next : Field) (rest : List ℕ) : Type 0 where
-  pub code : Program
+  pub code : CodeView
   pub is_program : IsProgram code
   pub others : List Field
   pub in_order : fields code ≡ front ++ next ∷ others
@@ -36,7 +36,7 @@ pub record IsBad (bytes : List ℕ) (found : FileFault) : Type 0 where
 
 -- more bytes follow a whole file: the fault stands at the first of them
 pub record IsLong (bytes : List ℕ) (found : FileFault) : Type 0 where
-  pub code : Program
+  pub code : CodeView
   pub is_program : IsProgram code
   pub next : ℕ
   pub others : List ℕ

@@ -5,7 +5,7 @@ use Rattle.prefix_patterns.specs.Bits.{prefix_bits}
 use Rattle.prefix_patterns.specs.Matching.{PrefixPattern}
 use Rattle.filter_code.specs.declared.instruction.Instr.{Instr}
 use Rattle.filter_code.specs.declared.instruction.Instr.TheVariants as instr
-use Rattle.filter_code.specs.Program.{Program}
+use Rattle.filter_code.specs.CodeView.{CodeView}
 use Rattle.code_file.specs.declared.fault.FileFault.{FileFault}
 use Rattle.code_file.specs.declared.fault.FileFault.TheVariants as fault
 use Rattle.code_file.specs.Fields.{FieldKind, width, number, is_good, fault_of, form_of}
@@ -111,7 +111,7 @@ a_header = do
   a_number Locals
 
 -- a whole file
-unfoldable pub a_file : Format Program
+unfoldable pub a_file : Format CodeView
 a_file = do
   locals ← a_header
   sets ← a_count_of Sets a_set
@@ -141,7 +141,7 @@ whole (Err found) = Err found
 whole (Ok made) = if length made.1.bytes == 0 then Ok made.0 else Err (fault.BytesAfterEnd made.1.at)
 
 -- the code whose file the bytes are, or their first fault
-unfoldable pub file_of : List ℕ → Result Program FileFault
+unfoldable pub file_of : List ℕ → Result CodeView FileFault
 file_of bytes = whole (read a_file (record { at = 0; bytes = bytes }))
 
 -- What a reader gave, seen by view, and what it left are what reading in this format gives; and so is its fault.

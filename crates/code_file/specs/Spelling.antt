@@ -9,7 +9,7 @@ use Rattle.filter_code.specs.declared.instruction.Instr.{Instr}
 use Rattle.filter_code.specs.declared.instruction.Instr.TheVariants as instr
 use Rattle.filter_code.specs.Limits.{local_limit, set_limit, instruction_limit}
 use Rattle.filter_code.specs.Instruction.{opcode}
-use Rattle.filter_code.specs.Program.{Program}
+use Rattle.filter_code.specs.CodeView.{CodeView}
 use Rattle.code_file.specs.Fields.{FieldKind, width, mark_bytes}
 use Rattle.code_file.specs.Fields.FieldKind.{Mark, Locals, Sets, Patterns, Pattern, Instructions, Opcode, WordOperand, TruthOperand, PrefixOperand, NameOperand, BitsOperand, DistanceOperand}
 
@@ -66,13 +66,13 @@ abbrev pub instruction : Instr → List Field
 instruction i = field Opcode (opcode i) ∷ operand i
 
 -- a whole file: the mark, the number of locals, the sets counted, and the instructions counted
-abbrev pub fields : Program → List Field
+abbrev pub fields : CodeView → List Field
 fields code =
     mark_byte 0 ∷ mark_byte 1 ∷ mark_byte 2 ∷ mark_byte 3 ∷ field Locals code.locals
     ∷ counted Sets set code.sets ++ counted Instructions instruction code.instrs
 
 -- the bytes of the file of a code
-abbrev pub spelling : Program → List ℕ
+abbrev pub spelling : CodeView → List ℕ
 spelling code = bytes_of (fields code)
 
 -- bits of an address, and lengths in order
@@ -99,7 +99,7 @@ IsInstruction (instr.JumpIfNot k) = k < 2 ^ 16
 IsInstruction _ = Unit {0}
 
 -- a code that has a file
-pub record IsProgram (code : Program) : Type 0 where
+pub record IsProgram (code : CodeView) : Type 0 where
   pub locals : code.locals ≤ local_limit
   pub sets : length code.sets ≤ set_limit
   pub each_set : AllByRecursion IsSet code.sets

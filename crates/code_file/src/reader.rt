@@ -1,7 +1,7 @@
 //! Reading a file field by field.
 
 ghost use Rattle.std.specs.Prelude.{◌≡◌, ◌+◌, ◌<◌, ◌≤◌, true, false, length, take, MatchOption, MatchResult, IfOk};
-ghost use Rattle.filter_code.specs.Program.{HasMask};
+ghost use Rattle.filter_code.specs.CodeView.{HasMask};
 ghost use Rattle.code_file.specs.Fields.{form_of, is_prefix, is_pattern};
 ghost use Rattle.code_file.specs.Fields.FieldKind.{Mark, Locals, Sets, Patterns, Instructions};
 ghost use Rattle.code_file.specs.Reading.{behind, Reads, a_number, prefix_of, pattern_of, a_pattern, a_form, an_operand, an_instruction, a_header};

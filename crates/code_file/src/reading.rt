@@ -1,7 +1,7 @@
 //! Reading a whole file.
 
 ghost use Rattle.std.specs.Prelude.{◌≡◌, ◌≤◌, ◌⊎◌, length, All, Ok, Err, IfOk, IfErr, MatchResult};
-ghost use Rattle.filter_code.specs.Program.{Program, HasMask};
+ghost use Rattle.filter_code.specs.CodeView.{CodeView, HasMask};
 ghost use Rattle.code_file.specs.Fields.FieldKind.{Sets, Instructions};
 ghost use Rattle.code_file.specs.Spelling.{spelling, IsProgram};
 ghost use Rattle.code_file.specs.Fault.{IsFault};
@@ -106,7 +106,7 @@ pub fn read_code(alloc: Global, bytes: &[u8]) -> Result<Code, FileFault>
     // What is read is the code that is spelled so.
     ensures found { IfOk result (λ code. IsProgram code × (bytes.now ≡ spelling code)) }
     // What is spelled so is read, unless memory runs out.
-    ensures only { (code : Program) → IsProgram code → bytes.now ≡ spelling code →
+    ensures only { (code : CodeView) → IsProgram code → bytes.now ≡ spelling code →
         MatchResult result (λ read. read ≡ code) (λ fault. fault ≡ FileFault.OutOfMemory) }
     // What is refused has the fault that is answered, unless memory ran out.
     ensures refused { IfErr result (λ fault. (fault ≡ FileFault.OutOfMemory) ⊎ IsFault bytes.now fault) }

@@ -2,7 +2,7 @@
 
 ghost use Rattle.std.specs.Prelude.{◌≡◌, ◌≤◌, ◌++◌, ◌∷◌, [], List, All, length, OnOk, IfOk, IfErr};
 ghost use Rattle.std.specs.List.{flat_map};
-ghost use Rattle.filter_code.specs.Program.{HasMask};
+ghost use Rattle.filter_code.specs.CodeView.{HasMask};
 ghost use Rattle.code_file.specs.Spelling.{bytes_of, prefix_bytes, pattern as pattern_field, set as set_fields, instruction, spelling, IsPattern, IsSet, IsInstruction, IsProgram};
 
 use crate::fault::FileFault;

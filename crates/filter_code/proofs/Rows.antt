@@ -6,15 +6,15 @@ use Rattle.filter_code.specs.declared.instruction.Instr.TheVariants as instr
 use Rattle.filter_code.specs.declared.outcome.FaultKind.TheVariants as fault
 use Rattle.filter_code.specs.declared.outcome.Outcome.{Outcome}
 use Rattle.filter_code.specs.declared.outcome.Outcome.TheVariants as outcome
-use Rattle.filter_code.specs.Announcement.{Announcement}
+use Rattle.filter_code.specs.RouteView.{RouteView}
 use Rattle.filter_code.specs.Machine.{after, outcome_of}
-use Rattle.filter_code.specs.Program.{Program}
+use Rattle.filter_code.specs.CodeView.{CodeView}
 
 -- the outcome of instructions on a metric, in a network of 8
 abbrev outcome_on : List Instr → ℕ → Outcome
 outcome_on instrs metric =
-    let program : Program = record { locals = 0; sets = []; instrs = instrs } in
-    let route : Announcement = record { net = []; metric = metric; size = 8 } in
+    let program : CodeView = record { locals = 0; sets = []; instrs = instrs } in
+    let route : RouteView = record { net = []; metric = metric; size = 8 } in
     outcome_of program route
 
 -- the bits of 1.0.0.0/8
@@ -98,8 +98,8 @@ no_local = refl
 abbrev outcome_at : List Instr → List Bool → Outcome
 outcome_at instrs net =
     let pattern : PrefixPattern = record { bits = eight; low = 15; high = 17 } in
-    let program : Program = record { locals = 1; sets = (pattern ∷ []) ∷ []; instrs = instrs } in
-    let route : Announcement = record { net = net; metric = 3; size = 8 } in
+    let program : CodeView = record { locals = 1; sets = (pattern ∷ []) ∷ []; instrs = instrs } in
+    let route : RouteView = record { net = net; metric = 3; size = 8 } in
     outcome_of program route
 
 pub empty_local : outcome_at (instr.Load 0 ∷ (instr.Accept ∷ [])) eight ≡ outcome.Fault fault.WrongKind 0

@@ -1,9 +1,9 @@
-pub mod Announcement
+pub mod RouteView
 pub mod Instruction
 pub mod Limits
 pub mod Machine
 pub mod Outcomes
-pub mod Program
+pub mod CodeView
 pub mod Steps
 pub mod Table
 pub mod Values

@@ -1,7 +1,7 @@
 ghost use Rattle.std.specs.Prelude.{◌≡◌, ◌≤◌, All, length};
 ghost use Rattle.std.specs.Option.{SomeIff};
 ghost use Rattle.filter_code.specs.Limits.{local_limit, set_limit, instruction_limit};
-ghost use Rattle.filter_code.specs.Program.{HasMask};
+ghost use Rattle.filter_code.specs.CodeView.{HasMask};
 
 use crate::instruction::Instr;
 use crate::limits::{INSTRUCTION_LIMIT, LOCAL_LIMIT, SET_LIMIT};
@@ -10,7 +10,7 @@ use std::marker::Model;
 
 /// Filter code: how many local variables it has, its sets of patterns and its instructions, all within the limits.
 ///
-/// A contract sees a code as a `Program`.
+/// A contract sees a code as a `CodeView`.
 #[derive(Debug, Drop)]
 pub struct Code {
     locals: u8,
@@ -19,9 +19,9 @@ pub struct Code {
 }
 
 impl Model for Code {
-    ghost use Rattle.filter_code.specs.Program.{Program, IsAllowed};
+    ghost use Rattle.filter_code.specs.CodeView.{CodeView, IsAllowed};
 
-    ghost Value = { Program };
+    ghost Value = { CodeView };
 
     ghost view = { λ c. record { locals = c.locals; sets = c.sets.items; instrs = c.instrs.items } };
 
@@ -29,12 +29,12 @@ impl Model for Code {
 }
 
 impl Code {
-    ghost use Rattle.filter_code.specs.Program.{Program, IsAllowed};
+    ghost use Rattle.filter_code.specs.CodeView.{CodeView, IsAllowed};
 
     /// The code of these parts. None exactly where there are more than 16 local variables, 64 sets or
     /// 1,024 instructions, or a MASK of more than 32 bits.
     pub fn new(locals: u8, sets: Vec<PatternSet>, instrs: Vec<Instr>) -> Option<Code>
-        ensures { let program : Program = record { locals = locals; sets = sets.items; instrs = instrs.items } in
+        ensures { let program : CodeView = record { locals = locals; sets = sets.items; instrs = instrs.items } in
             SomeIff result (IsAllowed program) program }
     {
         let within_limits = usize::from(locals) <= LOCAL_LIMIT

@@ -69,7 +69,7 @@ pub enum Instr {
 }
 
 impl Instr {
-    ghost use Rattle.filter_code.specs.Program.{HasMask};
+    ghost use Rattle.filter_code.specs.CodeView.{HasMask};
 
     /// Whether it is no MASK of more than 32 bits.
     pub(crate) fn has_mask(&self) -> bool

@@ -4,9 +4,9 @@ ghost use Rattle.prefix_patterns.specs.Matching.{lies_within};
 ghost use Rattle.filter_code.specs.Limits.{stack_limit};
 ghost use Rattle.filter_code.specs.declared.outcome.FaultKind.TheVariants as fault;
 ghost use Rattle.filter_code.specs.declared.value.Value.TheVariants as value;
-ghost use Rattle.filter_code.specs.Announcement.{Announcement};
+ghost use Rattle.filter_code.specs.RouteView.{RouteView};
 ghost use Rattle.filter_code.specs.Machine.{Going, Ended, EndsAfter, IsOutcome, carry_out, on_two, outcome_of};
-ghost use Rattle.filter_code.specs.Program.{HasMask, Program};
+ghost use Rattle.filter_code.specs.CodeView.{HasMask, CodeView};
 ghost use Rattle.filter_code.specs.Steps.{config_of, stopped};
 ghost use Rattle.filter_code.specs.Table.{One, Two, Good, Bad, are_alike, are_nested, are_ordered, each_is, is_bool, is_int, is_ip, is_prefix, one_of, passing, two_of};
 ghost use Rattle.filter_code.specs.Values.{bits_of, is_same, kind_of, net_of, number_of};
@@ -368,9 +368,9 @@ pub fn run_checked(code: &Code, route: &Route) -> Outcome
 
 /// Each run of each code has one outcome, and is over after one step more than the code has instructions.
 pub fn one_outcome()
-    ensures exists { (program : Program) (route : Announcement) → IsOutcome program route (outcome_of program route) }
-    ensures only { (program : Program) (route : Announcement) (end : Outcome) →
+    ensures exists { (program : CodeView) (route : RouteView) → IsOutcome program route (outcome_of program route) }
+    ensures only { (program : CodeView) (route : RouteView) (end : Outcome) →
         IsOutcome program route end → end ≡ outcome_of program route }
-    ensures soon { (program : Program) (route : Announcement) (steps : ℕ) (end : Outcome) →
+    ensures soon { (program : CodeView) (route : RouteView) (steps : ℕ) (end : Outcome) →
         EndsAfter program route steps end → steps ≤ length program.instrs + 1 }
 {}

@@ -8,7 +8,7 @@ use std::marker::Model;
 /// A route as a filter is shown it: the prefix that it leads to, the metric that it was received with, and the
 /// number of nodes of the network, which is the metric of what cannot be reached.
 ///
-/// A contract sees a route as an `Announcement`.
+/// A contract sees a route as a `RouteView`.
 #[derive(Clone, Copy, Debug)]
 pub struct Route {
     net: Prefix,
@@ -17,9 +17,9 @@ pub struct Route {
 }
 
 impl Model for Route {
-    ghost use Rattle.filter_code.specs.Announcement.{Announcement, IsWithinLimits};
+    ghost use Rattle.filter_code.specs.RouteView.{RouteView, IsWithinLimits};
 
-    ghost Value = { Announcement };
+    ghost Value = { RouteView };
 
     ghost view = { λ r. record { net = r.net; metric = r.metric; size = r.size } };
 
@@ -29,7 +29,7 @@ impl Model for Route {
 }
 
 impl Route {
-    ghost use Rattle.filter_code.specs.Announcement.{IsWithinLimits};
+    ghost use Rattle.filter_code.specs.RouteView.{IsWithinLimits};
 
     /// The route to a prefix. None exactly where the size is not 2 to 64, or the metric is above the size.
     pub fn new(net: Prefix, metric: u32, size: u32) -> Option<Route>

@@ -7,8 +7,8 @@ use Rattle.std.proofs.lemmas.Bool.{cases_lt}
 use Rattle.std.proofs.lemmas.List.Elements.{All-cons, All-nil}
 use Rattle.prefix_patterns.specs.Matching.{PrefixPattern}
 use Rattle.filter_code.specs.declared.instruction.Instr.{Instr}
-use Rattle.filter_code.specs.Program as code
-use Rattle.filter_code.specs.Program.{HasMask, IsAllowed}
+use Rattle.filter_code.specs.CodeView as code
+use Rattle.filter_code.specs.CodeView.{HasMask, IsAllowed}
 use Rattle.filter_parser.specs.SyntaxText as syntax
 use Rattle.filter_types.specs.Kinds.{IsTyped, numbers_of}
 use Rattle.filter_compiler.specs.declared.measure.Measure.{Measure}
@@ -42,12 +42,12 @@ no_larger (s ∷ sets) zero set low at = let e : length s ≡ length set = ap le
 no_larger (s ∷ sets) (suc k) set low at = let rest : length set ≤ largest sets = no_larger sets k set (omega arith) at in omega arith
 
 -- what a filter's measure says
-record Measures (f : syntax.Program) : Type 0 where
+record Measures (f : syntax.FilterView) : Type 0 where
   instructions : (filter_measure f).instructions ≡ min (length (instructions f)) 1025
   sets : (filter_measure f).sets ≡ min (length (acts_sets f.body)) 65
   patterns : (filter_measure f).patterns ≡ largest (acts_sets f.body)
 
-measures : (f : syntax.Program) → IsTyped f → Measures f
+measures : (f : syntax.FilterView) → IsTyped f → Measures f
 measures f typed =
     let few : length f.decls ≤ 16 = typed.declared.few in
     let all = filter_counts f few in
@@ -58,13 +58,13 @@ measures f typed =
     }
 
 -- a filter within the limits has code that is not too long, and not too many sets or patterns
-pub not_too_long : (f : syntax.Program) → IsTyped f → IsWithin (filter_measure f) → IsTooLong (code_of f) → ⊥
+pub not_too_long : (f : syntax.FilterView) → IsTyped f → IsWithin (filter_measure f) → IsTooLong (code_of f) → ⊥
 not_too_long f typed within long =
     let e = (measures f typed).instructions in
     let short = within.short in
     omega arith
 
-pub not_too_many : (f : syntax.Program) → IsTyped f → IsWithin (filter_measure f) → HasTooMany (code_of f) → ⊥
+pub not_too_many : (f : syntax.FilterView) → IsTyped f → IsWithin (filter_measure f) → HasTooMany (code_of f) → ⊥
 not_too_many f typed within (inl many) =
     let e = (measures f typed).sets in
     let few = within.few in
@@ -77,25 +77,25 @@ not_too_many f typed within (inr large) =
     omega arith
 
 -- a refused filter is refused for what its code would have
-too_long : (f : syntax.Program) → IsTyped f → IsRefused fault.TooManyInstructions (filter_measure f) → IsTooLong (code_of f)
+too_long : (f : syntax.FilterView) → IsTyped f → IsRefused fault.TooManyInstructions (filter_measure f) → IsTooLong (code_of f)
 too_long f typed h = let e = (measures f typed).instructions in omega arith
 
-short_enough : (f : syntax.Program) → IsTyped f → (filter_measure f).instructions ≤ 1024 → IsTooLong (code_of f) → ⊥
+short_enough : (f : syntax.FilterView) → IsTyped f → (filter_measure f).instructions ≤ 1024 → IsTooLong (code_of f) → ⊥
 short_enough f typed h long = let e = (measures f typed).instructions in omega arith
 
-too_many : (f : syntax.Program) → IsTyped f → (64 < (filter_measure f).sets) ⊎ (1024 < (filter_measure f).patterns) → HasTooMany (code_of f)
+too_many : (f : syntax.FilterView) → IsTyped f → (64 < (filter_measure f).sets) ⊎ (1024 < (filter_measure f).patterns) → HasTooMany (code_of f)
 too_many f typed (inl h) = let e = (measures f typed).sets in inl (omega arith)
 too_many f typed (inr h) = let e = (measures f typed).patterns in inr (large_set 1024 (acts_sets f.body) (omega arith))
 
 -- a refusal is for the length exactly where the code would be too long
-pub refused_long : {T : Type 0} (f : syntax.Program) (r : Result T CompileFault) (why : CompileFault) → r ≡ Err why → IsTyped f
+pub refused_long : {T : Type 0} (f : syntax.FilterView) (r : Result T CompileFault) (why : CompileFault) → r ≡ Err why → IsTyped f
     → IsRefused why (filter_measure f) → IsErrOf r fault.TooManyInstructions ↔ IsTooLong (code_of f)
 refused_long f r fault.TooManyInstructions is typed h = (λ e. too_long f typed h, λ long. is)
 refused_long f r fault.TooManySets is typed h = (λ e. cc, λ long. absurd (short_enough f typed h.0 long))
 refused_long f r fault.Memory is typed h = absurd h
 
 -- and for the sets exactly where it would not be, and would have too many sets or patterns
-pub refused_many : {T : Type 0} (f : syntax.Program) (r : Result T CompileFault) (why : CompileFault) → r ≡ Err why → IsTyped f
+pub refused_many : {T : Type 0} (f : syntax.FilterView) (r : Result T CompileFault) (why : CompileFault) → r ≡ Err why → IsTyped f
     → IsRefused why (filter_measure f) → IsErrOf r fault.TooManySets ↔ (¬ IsTooLong (code_of f) × HasTooMany (code_of f))
 refused_many f r fault.TooManyInstructions is typed h = (λ e. cc, λ p. absurd (p.0 (too_long f typed h)))
 refused_many f r fault.TooManySets is typed h = (λ e. (short_enough f typed h.0, too_many f typed h.1), λ p. is)
@@ -106,14 +106,14 @@ all_small : (n : ℕ) (sets : List (List PrefixPattern)) → largest sets ≤ n 
 all_small n [] h = All-nil (λ (set : List PrefixPattern). length set ≤ n)
 all_small n (set ∷ sets) h = All-cons (λ (s : List PrefixPattern). length s ≤ n) set sets (omega arith) (all_small n sets (omega arith))
 
-pub small_sets : (f : syntax.Program) (lists : List (List PrefixPattern)) → IsTyped f → IsWithin (filter_measure f)
+pub small_sets : (f : syntax.FilterView) (lists : List (List PrefixPattern)) → IsTyped f → IsWithin (filter_measure f)
     → lists ≡ acts_sets f.body → All (λ list. length list ≤ pattern_limit) lists
 small_sets f lists typed within e =
     let p = (measures f typed).patterns in
     let small = within.small in
     subst (All (λ list. length list ≤ pattern_limit)) (sym e) (all_small 1024 (acts_sets f.body) (omega arith))
 
-pub is_allowed : (f : syntax.Program) → IsTyped f → IsWithin (filter_measure f) → All HasMask (instructions f) → IsAllowed (code_of f)
+pub is_allowed : (f : syntax.FilterView) → IsTyped f → IsWithin (filter_measure f) → All HasMask (instructions f) → IsAllowed (code_of f)
 is_allowed f typed within masks =
     let variables : length f.decls ≤ 16 = typed.declared.few in
     let e1 = (measures f typed).instructions in
@@ -127,11 +127,11 @@ is_allowed f typed within masks =
       masks = masks;
     }
 
-abbrev program_of : ℕ → List (List PrefixPattern) → List Instr → code.Program
+abbrev program_of : ℕ → List (List PrefixPattern) → List Instr → code.CodeView
 program_of locals sets instrs = record { locals = locals; sets = sets; instrs = instrs }
 
 -- what was written is the code
-pub is_code : (f : syntax.Program) (locals : ℕ) (sets : List (List PrefixPattern)) (instrs : List Instr) → IsTyped f
+pub is_code : (f : syntax.FilterView) (locals : ℕ) (sets : List (List PrefixPattern)) (instrs : List Instr) → IsTyped f
     → IsWithin (filter_measure f) → locals ≡ length f.decls → sets ≡ acts_sets f.body → instrs ≡ written_filter (numbers_of f) f
     → program_of locals sets instrs ≡ code_of f
 is_code f locals sets instrs typed within e1 e2 e3 =

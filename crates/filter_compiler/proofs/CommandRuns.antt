@@ -8,15 +8,15 @@ use Rattle.filter_code.specs.declared.instruction.Instr.TheVariants as instr
 use Rattle.filter_code.specs.declared.outcome.Outcome.TheVariants as outcome
 use Rattle.filter_code.specs.declared.value.Value.{Value}
 use Rattle.filter_code.specs.declared.value.Value.TheVariants as value
-use Rattle.filter_code.specs.Announcement.{Announcement}
+use Rattle.filter_code.specs.RouteView.{RouteView}
 use Rattle.filter_code.specs.Machine.{Going, carry_out, outcome_of}
-use Rattle.filter_code.specs.Program.{Program}
+use Rattle.filter_code.specs.CodeView.{CodeView}
 use Rattle.filter_compiler.proofs.Reaching.{carried_over}
 use Rattle.filter_parser.specs.declared.tree.decl.Kind.{Kind}
 use Rattle.filter_parser.specs.declared.tree.decl.Kind.TheVariants as kind
-use Rattle.filter_parser.specs.Syntax.{Tree}
-use Rattle.filter_parser.specs.SyntaxCommands.{Act, empty, block, choice, choice_else, assign, accept, reject, Acts, no_acts, act_then}
-use Rattle.filter_parser.specs.SyntaxCommands.{Aim, to_name, to_metric, to_net, Declared}
+use Rattle.filter_parser.specs.Syntax.{ExprView}
+use Rattle.filter_parser.specs.SyntaxCommands.{CommandView, empty, block, choice, choice_else, assign, accept, reject, Acts, no_acts, act_then}
+use Rattle.filter_parser.specs.SyntaxCommands.{TargetView, to_name, to_metric, to_net, DeclView}
 use Rattle.filter_types.specs.Kinds.{kind_in, kind_named, number_of, aim_kind, FitsKinds, FitsAct, FitsActs}
 use Rattle.filter_compiler.specs.Meaning.{Scene, value_of}
 use Rattle.filter_compiler.specs.Need.{expression_need, aim_need, act_need, acts_need}
@@ -34,7 +34,7 @@ use Rattle.filter_compiler.proofs.Steps.{not_jumped, jumped_if_not}
 not_lower : (n least : ℕ) → nat_lt (max n least) least ≡ false
 not_lower n least = grind (arith, nat_tests)
 
-module _ (program : Program) (route : Announcement) (decls : List Declared) where
+module _ (program : CodeView) (route : RouteView) (decls : List DeclView) where
   -- the run comes behind the code, with nothing on the stack, or has ended as the course says
   abbrev pub Leads : ℕ → Course → Type 0
   Leads pc (goes_on scene) = Stands program route scene pc [] × HaveKinds decls scene.variables
@@ -131,7 +131,7 @@ module _ (program : Program) (route : Announcement) (decls : List Declared) wher
   metric_from scene pc depth o have has (inr f) = inr f
 
   -- an assignment
-  assign_runs : (aim : Aim) (tree : Tree) (sets pc : ℕ) (scene : Scene) → FitsKinds (aim_kind decls aim) (kind_in decls tree)
+  assign_runs : (aim : TargetView) (tree : ExprView) (sets pc : ℕ) (scene : Scene) → FitsKinds (aim_kind decls aim) (kind_in decls tree)
       → HaveKinds decls scene.variables → HasAt program.instrs pc (expression_code decls sets tree ++ aim_code decls aim)
       → HasAt program.sets sets (sets_of tree) → Stands program route scene pc []
       → Runs (pc + length (expression_code decls sets tree ++ aim_code decls aim)) (aim_need aim (expression_need tree))
@@ -163,7 +163,7 @@ module _ (program : Program) (route : Announcement) (decls : List Declared) wher
 
   mutual
     -- a command's code does what the command says
-    pub act_runs : (act : Act) (sets pc : ℕ) (scene : Scene) → FitsAct decls act → HaveKinds decls scene.variables
+    pub act_runs : (act : CommandView) (sets pc : ℕ) (scene : Scene) → FitsAct decls act → HaveKinds decls scene.variables
         → HasAt program.instrs pc (act_code decls sets act) → HasAt program.sets sets (act_sets act) → Stands program route scene pc []
         → Runs (pc + length (act_code decls sets act)) (act_need act) (course_of route act scene)
     act_runs empty sets pc scene fits have has has_sets s =

@@ -8,18 +8,18 @@ use Rattle.filter_code.specs.declared.instruction.Instr.{Instr}
 use Rattle.filter_code.specs.declared.instruction.Instr.TheVariants as instr
 use Rattle.filter_code.specs.declared.value.Value.{Value}
 use Rattle.filter_code.specs.declared.value.Value.TheVariants as value
-use Rattle.filter_code.specs.Announcement.{Announcement}
+use Rattle.filter_code.specs.RouteView.{RouteView}
 use Rattle.filter_code.specs.Machine.{Going, unless_full, carry_out}
-use Rattle.filter_code.specs.Program.{Program}
+use Rattle.filter_code.specs.CodeView.{CodeView}
 use Rattle.filter_parser.specs.declared.tree.decl.Kind.{Kind}
 use Rattle.filter_parser.specs.declared.tree.decl.Kind.TheVariants as kind
 use Rattle.filter_parser.specs.declared.tree.expr.Attribute.{Attribute}
 use Rattle.filter_parser.specs.declared.tree.expr.Attribute.TheVariants as attributes
 use Rattle.filter_parser.specs.declared.tree.op.Op.{Op}
 use Rattle.filter_parser.specs.declared.tree.op.Op.TheVariants as o
-use Rattle.filter_parser.specs.Syntax.{Tree, number, address, prefix, truth, name, attribute, defined, group, negation, binary, member}
+use Rattle.filter_parser.specs.Syntax.{ExprView, number, address, prefix, truth, name, attribute, defined, group, negation, binary, member}
 use Rattle.filter_parser.specs.Syntax.{suffixed, pattern_of}
-use Rattle.filter_parser.specs.SyntaxCommands.{Declared}
+use Rattle.filter_parser.specs.SyntaxCommands.{DeclView}
 use Rattle.filter_types.specs.Kinds.{kind_in, of_one, of_two, number_of}
 use Rattle.filter_types.specs.Table.{operator, logic, attribute_kind, in_set, suffixed_by}
 use Rattle.filter_types.specs.Table as table
@@ -33,7 +33,7 @@ use Rattle.filter_compiler.proofs.Scenes.{HaveKinds, IsHeld, held, kind_of_value
 use Rattle.filter_compiler.proofs.Steps.{Stands, Fills, config_in, fills_more, same_place, pushed, put, jumped, not_jumped, jumped_if_not}
 
 -- an instruction that puts a value of a kind on the stack
-module _ (program : Program) (route : Announcement) (scene : Scene) where
+module _ (program : CodeView) (route : RouteView) (scene : Scene) where
   -- the run comes behind the code with the value, or has ended
   abbrev pub Comes : ℕ → List Value → Kind → ℕ → Option Value → Type 0
   Comes pc stack k depth o = Gives program route scene pc stack k o ⊎ Fills program route depth
@@ -52,7 +52,7 @@ module _ (program : Program) (route : Announcement) (scene : Scene) where
       → Comes (pc + 1) stack k (length stack + 1) (Some v)
   push_runs pc stack i k v is here e s = from_push pc stack k v is (pushed program route scene pc stack i v here e s)
 
-  attribute_runs : (a : Attribute) (pc : ℕ) (stack : List Value) (k : Kind) (sets : ℕ) (decls : List Declared)
+  attribute_runs : (a : Attribute) (pc : ℕ) (stack : List Value) (k : Kind) (sets : ℕ) (decls : List DeclView)
       → Some (attribute_kind a) ≡ Some k → HasAt program.instrs pc (attribute_code a ∷ []) → Stands program route scene pc stack
       → Comes (pc + 1) stack k (length stack + 1) (value_of route scene (attribute a))
   attribute_runs attributes.Net pc stack k sets decls fits has s = push_runs pc stack instr.Net k (value.Net route.net) (cc) has.0 refl s
@@ -68,7 +68,7 @@ module _ (program : Program) (route : Announcement) (scene : Scene) where
       let test : nat_lt i (length (locals_of scene.variables)) ≡ true = grind (arith, nat_tests) in
       rw (test, found) refl
 
-  name_runs : (decls : List Declared) (text : List ℕ) (pc : ℕ) (stack : List Value) (k : Kind) → IsHeld decls scene.variables text k
+  name_runs : (decls : List DeclView) (text : List ℕ) (pc : ℕ) (stack : List Value) (k : Kind) → IsHeld decls scene.variables text k
       → HasAt program.instrs pc (instr.Load (number_of decls text) ∷ []) → Stands program route scene pc stack
       → Comes (pc + 1) stack k (length stack + 1) (value_named scene.variables text)
   name_runs decls text pc stack k h has s =
@@ -227,7 +227,7 @@ are_bools None b k e = cc
 are_bools (Some x) None k e = cc
 are_bools (Some x) (Some y) k e = bools x y k e
 
-module _ (program : Program) (route : Announcement) (decls : List Declared) (scene : Scene) (have : HaveKinds decls scene.variables) where
+module _ (program : CodeView) (route : RouteView) (decls : List DeclView) (scene : Scene) (have : HaveKinds decls scene.variables) where
   -- the code of two operands and an operator that takes both
   strict_runs : (op : Op) (left right : List Instr) (ka kb : Option Kind) (pc : ℕ) (stack : List Value) (k : Kind) (need_a need_b : ℕ)
       (a b : Option Value) → TakesBoth op → of_two (operator op) ka kb ≡ Some k
@@ -254,7 +254,7 @@ module _ (program : Program) (route : Announcement) (decls : List Declared) (sce
       (kind_of_value y) ≡ Some k) (sym is_x) (subst (λ j. operator op f.left j ≡ Some k) (sym is_y) f.fits)) h2 s))
 
   -- an expression's code puts its value on the stack
-  pub expression_runs : (t : Tree) (sets pc : ℕ) (stack : List Value) (k : Kind) → kind_in decls t ≡ Some k
+  pub expression_runs : (t : ExprView) (sets pc : ℕ) (stack : List Value) (k : Kind) → kind_in decls t ≡ Some k
       → HasAt program.instrs pc (expression_code decls sets t) → HasAt program.sets sets (sets_of t)
       → Stands program route scene pc stack
       → Comes program route scene (pc + length (expression_code decls sets t)) stack k (length stack + expression_need t)

@@ -4,23 +4,23 @@ use Rattle.std.proofs.lemmas.List.{length-map}
 use Rattle.filter_parser.specs.declared.tree.op.Membership.{Membership}
 use Rattle.filter_parser.specs.declared.tree.op.Op.{Op}
 use Rattle.filter_parser.specs.declared.tree.op.Suffix.{Suffix}
-use Rattle.filter_parser.specs.Syntax.{Tree, number, address, prefix, truth, name, attribute, defined, group, negation, binary, member}
-use Rattle.filter_parser.specs.Syntax.{suffixed, Item, run_of, suffixes_of}
-use Rattle.filter_parser.specs.SyntaxCommands.{Act, empty, block, choice, choice_else, assign, accept, reject, Acts, no_acts, act_then}
+use Rattle.filter_parser.specs.Syntax.{ExprView, number, address, prefix, truth, name, attribute, defined, group, negation, binary, member}
+use Rattle.filter_parser.specs.Syntax.{suffixed, SetPatternView, run_of, suffixes_of}
+use Rattle.filter_parser.specs.SyntaxCommands.{CommandView, empty, block, choice, choice_else, assign, accept, reject, Acts, no_acts, act_then}
 use Rattle.filter_compiler.specs.declared.measure.Measure.{Measure}
 use Rattle.filter_compiler.specs.Measures.{tree_measure, act_measure, acts_measure, run_measure, suffixes_measure, member_count, plus}
 use Rattle.filter_compiler.specs.Measures.{with_set, instructions_alone}
 
-pub run_measured : (left : Tree) (xs : List (Op × Tree)) → tree_measure (run_of left xs) ≡ run_measure (tree_measure left) xs
+pub run_measured : (left : ExprView) (xs : List (Op × ExprView)) → tree_measure (run_of left xs) ≡ run_measure (tree_measure left) xs
 run_measured left [] = refl
 run_measured left (x ∷ xs) = run_measured (binary x.0 left x.1) xs
 
-pub suffixes_measured : (inner : Tree) (xs : List Suffix) → tree_measure (suffixes_of inner xs) ≡ suffixes_measure (tree_measure inner) xs
+pub suffixes_measured : (inner : ExprView) (xs : List Suffix) → tree_measure (suffixes_of inner xs) ≡ suffixes_measure (tree_measure inner) xs
 suffixes_measured inner [] = refl
 suffixes_measured inner (x ∷ xs) = suffixes_measured (suffixed inner x) xs
 
 -- no measure counts more than 1,025 instructions
-pub tree_is_small : (t : Tree) → (tree_measure t).instructions ≤ 1025
+pub tree_is_small : (t : ExprView) → (tree_measure t).instructions ≤ 1025
 tree_is_small (number n) = omega arith
 tree_is_small (address a) = omega arith
 tree_is_small (prefix bits) = omega arith
@@ -35,7 +35,7 @@ tree_is_small (member op left set) = omega arith
 tree_is_small (suffixed inner s) = omega arith
 
 mutual
-  pub act_is_small : (a : Act) → (act_measure a).instructions ≤ 1025
+  pub act_is_small : (a : CommandView) → (act_measure a).instructions ≤ 1025
   act_is_small empty = omega arith
   act_is_small (block body) = acts_are_small body (instructions_alone 0) (omega arith)
   act_is_small (choice test chosen) = omega arith
@@ -49,7 +49,7 @@ mutual
   acts_are_small (act_then first more) before low = acts_are_small more (plus before (act_measure first)) (omega arith)
 
 -- a question for a set, measured part by part
-pub member_measured : {A : Type 0} (t left : Tree) (op : Membership) (set : List A) (f : A → Item) (whole inner with own : Measure)
+pub member_measured : {A : Type 0} (t left : ExprView) (op : Membership) (set : List A) (f : A → SetPatternView) (whole inner with own : Measure)
     (count own_instrs : ℕ) → t ≡ member op left (map f set) → inner ≡ tree_measure left → count ≡ length set
     → with ≡ with_set inner count → own_instrs ≡ member_count op → own ≡ instructions_alone own_instrs → whole ≡ plus with own
     → whole ≡ tree_measure t

@@ -9,9 +9,9 @@ use Rattle.filter_code.specs.declared.instruction.Instr.{Instr}
 use Rattle.filter_code.specs.declared.instruction.Instr.TheVariants as instr
 use Rattle.filter_code.specs.declared.value.Value.{Value}
 use Rattle.filter_code.specs.declared.value.Value.TheVariants as value
-use Rattle.filter_code.specs.Announcement.{Announcement}
+use Rattle.filter_code.specs.RouteView.{RouteView}
 use Rattle.filter_code.specs.Machine.{Going, unless_full, carry_out}
-use Rattle.filter_code.specs.Program.{Program}
+use Rattle.filter_code.specs.CodeView.{CodeView}
 use Rattle.filter_compiler.proofs.Reaching.{carried_over}
 use Rattle.filter_parser.specs.declared.tree.decl.Kind.{Kind}
 use Rattle.filter_parser.specs.declared.tree.op.Membership.{Membership}
@@ -20,7 +20,7 @@ use Rattle.filter_parser.specs.declared.tree.op.Op.{Op}
 use Rattle.filter_parser.specs.declared.tree.op.Op.TheVariants as o
 use Rattle.filter_parser.specs.declared.tree.op.Suffix.{Suffix}
 use Rattle.filter_parser.specs.declared.tree.op.Suffix.TheVariants as suffix
-use Rattle.filter_parser.specs.Syntax.{Item, pattern_of}
+use Rattle.filter_parser.specs.Syntax.{SetPatternView, pattern_of}
 use Rattle.filter_types.specs.Table.{arithmetic, equality, order, within, operator, in_set, suffixed_by, negated}
 use Rattle.filter_compiler.specs.Meaning as meaning
 use Rattle.filter_compiler.specs.Meaning.{Scene, quotient, result_of, suffix_of, member_of}
@@ -45,7 +45,7 @@ lt_is_not_ge a b = grind (arith, nat_tests)
 suc_is_not_zero : (n : ℕ) → (suc n == 0) ≡ false
 suc_is_not_zero n = grind (arith, nat_tests)
 
-module _ (program : Program) (route : Announcement) (scene : Scene) where
+module _ (program : CodeView) (route : RouteView) (scene : Scene) where
   -- a value of a kind stands on the stack, or the run has divided by zero
   abbrev pub Gives : ℕ → List Value → Kind → Option Value → Type 0
   Gives pc stack k (Some v) = Stands program route scene pc (v ∷ stack) × (kind_of_value v ≡ k)
@@ -225,7 +225,7 @@ module _ (program : Program) (route : Announcement) (scene : Scene) where
       let test : nat_lt set (length program.sets) ≡ true = grind (arith, nat_tests) in
       rw (test, found) refl
 
-  pub member_runs : (op : Membership) (pc : ℕ) (stack : List Value) (number : ℕ) (set : List Item) (a : Value) (k : Kind)
+  pub member_runs : (op : Membership) (pc : ℕ) (stack : List Value) (number : ℕ) (set : List SetPatternView) (a : Value) (k : Kind)
       → in_set (kind_of_value a) ≡ Some k → slice_get program.sets number ≡ Some (map pattern_of set)
       → HasAt program.instrs pc (member_code op number) → Stands program route scene pc (a ∷ stack)
       → Gives (pc + length (member_code op number)) stack k (member_of op set a)

@@ -2,14 +2,14 @@
 use Rattle.std.proofs.Common.{◌≡◌, ℕ, List, [], ◌∷◌, ◌++◌, Bool, true, false, codes, refl}
 use Rattle.filter_code.specs.declared.instruction.Instr.{Instr}
 use Rattle.filter_code.specs.declared.instruction.Instr.TheVariants as instr
-use Rattle.filter_code.specs.Announcement.{Announcement}
-use Rattle.filter_code.specs.Program as code
+use Rattle.filter_code.specs.RouteView.{RouteView}
+use Rattle.filter_code.specs.CodeView as code
 use Rattle.filter_parser.specs.declared.tree.decl.Kind.TheVariants as kind
 use Rattle.filter_parser.specs.declared.tree.expr.Attribute.TheVariants as attributes
 use Rattle.filter_parser.specs.declared.tree.op.Membership.TheVariants as membership
 use Rattle.filter_parser.specs.declared.tree.op.Op.TheVariants as o
-use Rattle.filter_parser.specs.Syntax.{Tree, number, truth, name, attribute, defined, binary, member, group, between}
-use Rattle.filter_parser.specs.SyntaxCommands.{Act, block, choice, choice_else, assign, accept, reject, to_name, to_metric, Declared}
+use Rattle.filter_parser.specs.Syntax.{ExprView, number, truth, name, attribute, defined, binary, member, group, between}
+use Rattle.filter_parser.specs.SyntaxCommands.{CommandView, block, choice, choice_else, assign, accept, reject, to_name, to_metric, DeclView}
 use Rattle.filter_parser.specs.SyntaxCommands.{acts_of}
 use Rattle.filter_parser.specs.SyntaxText as syntax
 use Rattle.filter_compiler.specs.Need.{need}
@@ -17,23 +17,23 @@ use Rattle.filter_compiler.specs.Translation.{code_of}
 use Rattle.filter_compiler.specs.Verdicts.{accepted, rejected, divided, meaning}
 
 -- a filter of these declarations and commands
-abbrev filter_of : List Declared → List Act → syntax.Program
+abbrev filter_of : List DeclView → List CommandView → syntax.FilterView
 filter_of decls body = record { name = codes "f"; decls = decls; body = acts_of body; tokens = [] }
 
 -- code without sets
-abbrev without_sets : ℕ → List Instr → code.Program
+abbrev without_sets : ℕ → List Instr → code.CodeView
 without_sets locals instrs = record { locals = locals; sets = []; instrs = instrs }
 
 -- a route with a metric, in a network of this size, to a prefix of these bits
-abbrev route_of : List Bool → ℕ → ℕ → Announcement
+abbrev route_of : List Bool → ℕ → ℕ → RouteView
 route_of net metric size = record { net = net; metric = metric; size = size }
 
-abbrev metric_of_route : Tree
+abbrev metric_of_route : ExprView
 metric_of_route = attribute attributes.RipMetric
 
 -- `int var; if defined(rip_metric) then var = rip_metric; else { var = 1; rip_metric = 1; }
 -- if rip_metric > 10 then reject "RIP metric is too big"; else accept "ok";`
-abbrev not_too_far : syntax.Program
+abbrev not_too_far : syntax.FilterView
 not_too_far =
     filter_of (record { kind = kind.Int; name = codes "var" } ∷ [])
     (choice_else (defined attributes.RipMetric) (assign (to_name (codes "var")) metric_of_route)
@@ -57,7 +57,7 @@ pub far_need : need not_too_far ≡ 2
 far_need = refl
 
 -- `rip_metric = rip_metric + 2; accept;`: a metric is clipped at the size
-abbrev up2 : syntax.Program
+abbrev up2 : syntax.FilterView
 up2 = filter_of [] (assign to_metric (binary o.Add metric_of_route (number 2)) ∷ accept false ∷ [])
 
 pub up2_code : code_of up2 ≡ without_sets 0
@@ -68,7 +68,7 @@ pub up2_seven : meaning up2 (route_of [] 7 8) ≡ accepted 8
 up2_seven = refl
 
 -- `rip_metric = 1; accept;`: the metric received is the least
-abbrev low : syntax.Program
+abbrev low : syntax.FilterView
 low = filter_of [] (assign to_metric (number 1) ∷ accept false ∷ [])
 
 pub low_code : code_of low ≡ without_sets 0 (instr.Int 1 ∷ instr.Received ∷ instr.Max ∷ instr.SetMetric ∷ instr.Accept ∷ instr.Reject ∷ [])
@@ -78,7 +78,7 @@ pub low_five : meaning low (route_of [] 5 8) ≡ accepted 5
 low_five = refl
 
 -- `rip_metric = rip_metric + 4294967295; accept;`: a sum that wraps
-abbrev wrap : syntax.Program
+abbrev wrap : syntax.FilterView
 wrap = filter_of [] (assign to_metric (binary o.Add metric_of_route (number 4294967295)) ∷ accept false ∷ [])
 
 pub wrap_three : meaning wrap (route_of [] 3 8) ≡ accepted 3
@@ -92,10 +92,10 @@ abbrev sixteen : List Bool
 sixteen = eight ++ false ∷ false ∷ false ∷ false ∷ false ∷ false ∷ true ∷ false ∷ []
 
 -- `if net ~ [1.0.0.0/8{15,17}] then accept;`
-abbrev s : syntax.Program
+abbrev s : syntax.FilterView
 s = filter_of [] (choice (member membership.In (attribute attributes.Net) (between eight 15 17 ∷ [])) (accept false) ∷ [])
 
-abbrev s_code_wanted : code.Program
+abbrev s_code_wanted : code.CodeView
 s_code_wanted = record {
   locals = 0;
   sets = (record { bits = eight; low = 15; high = 17 } ∷ []) ∷ [];
@@ -112,7 +112,7 @@ pub s_too_short : meaning s (route_of eight 3 8) ≡ rejected
 s_too_short = refl
 
 -- `int k; k = 4; if 8 / k = 2 then accept;`
-abbrev half : syntax.Program
+abbrev half : syntax.FilterView
 half =
     filter_of (record { kind = kind.Int; name = codes "k" } ∷ [])
     (assign (to_name (codes "k")) (number 4)
@@ -122,7 +122,7 @@ pub half_three : meaning half (route_of [] 3 8) ≡ accepted 3
 half_three = refl
 
 -- `if 8 / rip_metric = 2 then accept;`
-abbrev d : syntax.Program
+abbrev d : syntax.FilterView
 d = filter_of [] (choice (binary o.Equal (binary o.Div (number 8) metric_of_route) (number 2)) (accept false) ∷ [])
 
 pub d_code : code_of d ≡ without_sets 0
@@ -139,14 +139,14 @@ pub d_zero : meaning d (route_of [] 0 8) ≡ divided
 d_zero = refl
 
 -- `if (true && false) || true then accept;`
-abbrev m : syntax.Program
+abbrev m : syntax.FilterView
 m = filter_of [] (choice (binary o.Or (group (binary o.And (truth true) (truth false))) (truth true)) (accept false) ∷ [])
 
 pub m_three : meaning m (route_of [] 3 8) ≡ accepted 3
 m_three = refl
 
 -- `if false then if true then accept; else accept;`: the `else` is that of the inner `if`
-abbrev e : syntax.Program
+abbrev e : syntax.FilterView
 e = filter_of [] (choice (truth false) (choice_else (truth true) (accept false) (accept false)) ∷ [])
 
 pub e_code : code_of e ≡ without_sets 0
@@ -158,7 +158,7 @@ pub e_three : meaning e (route_of [] 3 8) ≡ rejected
 e_three = refl
 
 -- `if false && 1 / 0 = 1 then accept; else accept;`: the right side is skipped
-abbrev z : syntax.Program
+abbrev z : syntax.FilterView
 z =
     filter_of []
     (choice_else (binary o.And (truth false) (binary o.Equal (binary o.Div (number 1) (number 0)) (number 1))) (accept false)

@@ -6,7 +6,7 @@ use Rattle.filter_code.specs.declared.value.Value.{Value}
 use Rattle.filter_code.specs.declared.value.Value.TheVariants as value
 use Rattle.filter_parser.specs.declared.tree.decl.Kind.{Kind}
 use Rattle.filter_parser.specs.declared.tree.decl.Kind.TheVariants as kind
-use Rattle.filter_parser.specs.SyntaxCommands.{Declared}
+use Rattle.filter_parser.specs.SyntaxCommands.{DeclView}
 use Rattle.filter_types.specs.Kinds.{kind_named, number_of}
 use Rattle.filter_compiler.specs.Meaning.{Bound, value_named}
 use Rattle.filter_compiler.specs.Verdicts.{assigned, declared_as, unassigned}
@@ -19,7 +19,7 @@ kind_of_value (value.Addr a) = kind.Ip
 kind_of_value (value.Net p) = kind.Prefix
 
 -- each variable has its name and a value of its kind
-abbrev pub HaveKinds : List Declared → List Bound → Type 0
+abbrev pub HaveKinds : List DeclView → List Bound → Type 0
 HaveKinds [] [] = Unit {0}
 HaveKinds (d ∷ decls) (b ∷ bound) = (b.name ≡ d.name) × (kind_of_value b.value ≡ d.kind) × HaveKinds decls bound
 HaveKinds [] (b ∷ bound) = ⊥
@@ -33,18 +33,18 @@ abbrev pub locals_of : List Bound → List (Option Value)
 locals_of bound = map local bound
 
 -- what is known of a variable with a name
-pub record IsHeld (decls : List Declared) (bound : List Bound) (text : List ℕ) (k : Kind) : Type 0 where
+pub record IsHeld (decls : List DeclView) (bound : List Bound) (text : List ℕ) (k : Kind) : Type 0 where
   pub value : Value
   pub named : value_named bound text ≡ Some value
   pub kind : kind_of_value value ≡ k
   pub in_local : slice_get (locals_of bound) (number_of decls text) ≡ Some (Some value)
 
 -- the number of a variable that is not the first one
-number_later : (d : Declared) (decls : List Declared) (text : List ℕ) → bytes_eq d.name text ≡ false
+number_later : (d : DeclView) (decls : List DeclView) (text : List ℕ) → bytes_eq d.name text ≡ false
     → number_of (d ∷ decls) text ≡ suc (number_of decls text)
 number_later d decls text found = rw found (omega arith)
 
-held_from : (d : Declared) (decls : List Declared) (b : Bound) (bound : List Bound) (text : List ℕ) (k : Kind) (found : Bool)
+held_from : (d : DeclView) (decls : List DeclView) (b : Bound) (bound : List Bound) (text : List ℕ) (k : Kind) (found : Bool)
     → bytes_eq d.name text ≡ found → b.name ≡ d.name → kind_of_value b.value ≡ d.kind → kind_named (d ∷ decls) text ≡ Some k
     → (kind_named decls text ≡ Some k → IsHeld decls bound text k) → IsHeld (d ∷ decls) (b ∷ bound) text k
 held_from d decls b bound text k true found name kind wanted later =
@@ -68,7 +68,7 @@ held_from d decls b bound text k false found name kind wanted later =
     }
 
 -- a variable that has a kind has a value of that kind, which stands in the local variable with its number
-pub held : (decls : List Declared) (bound : List Bound) (text : List ℕ) (k : Kind) → HaveKinds decls bound
+pub held : (decls : List DeclView) (bound : List Bound) (text : List ℕ) (k : Kind) → HaveKinds decls bound
     → kind_named decls text ≡ Some k → IsHeld decls bound text k
 held [] [] text k have wanted = cc
 held [] (b ∷ bound) text k have wanted = absurd have
@@ -77,11 +77,11 @@ held (d ∷ decls) (b ∷ bound) text k have wanted =
     held_from d decls b bound text k (bytes_eq d.name text) refl have.0 have.1 wanted (held decls bound text k have.2)
 
 -- what an assignment leaves
-pub record IsAssigned (decls : List Declared) (bound : List Bound) (text : List ℕ) (v : Value) : Type 0 where
+pub record IsAssigned (decls : List DeclView) (bound : List Bound) (text : List ℕ) (v : Value) : Type 0 where
   pub kinds : HaveKinds decls (assigned bound text v)
   pub locals : slice_set (locals_of bound) (number_of decls text) (Some v) ≡ locals_of (assigned bound text v)
 
-assigned_from : (d : Declared) (decls : List Declared) (b : Bound) (bound : List Bound) (text : List ℕ) (k : Kind) (v : Value)
+assigned_from : (d : DeclView) (decls : List DeclView) (b : Bound) (bound : List Bound) (text : List ℕ) (k : Kind) (v : Value)
     (found : Bool) → bytes_eq d.name text ≡ found → HaveKinds (d ∷ decls) (b ∷ bound) → kind_named (d ∷ decls) text ≡ Some k
     → kind_of_value v ≡ k → (kind_named decls text ≡ Some k → IsAssigned decls bound text v) → IsAssigned (d ∷ decls) (b ∷ bound) text v
 assigned_from d decls b bound text k v true found have wanted given later =
@@ -104,7 +104,7 @@ assigned_from d decls b bound text k v false found have wanted given later =
     }
 
 -- an assignment keeps the kinds, and sets the local variable with the variable's number
-pub is_assigned : (decls : List Declared) (bound : List Bound) (text : List ℕ) (k : Kind) (v : Value) → HaveKinds decls bound
+pub is_assigned : (decls : List DeclView) (bound : List Bound) (text : List ℕ) (k : Kind) (v : Value) → HaveKinds decls bound
     → kind_named decls text ≡ Some k → kind_of_value v ≡ k → IsAssigned decls bound text v
 is_assigned [] [] text k v have wanted given = cc
 is_assigned [] (b ∷ bound) text k v have wanted given = absurd have
@@ -120,6 +120,6 @@ unassigned_kind kind.Bool = refl
 unassigned_kind kind.Ip = refl
 unassigned_kind kind.Prefix = refl
 
-pub declared_kinds : (decls : List Declared) → HaveKinds decls (map declared_as decls)
+pub declared_kinds : (decls : List DeclView) → HaveKinds decls (map declared_as decls)
 declared_kinds [] = tt
 declared_kinds (d ∷ decls) = (refl, unassigned_kind d.kind, declared_kinds decls)

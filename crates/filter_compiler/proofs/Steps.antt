@@ -9,15 +9,15 @@ use Rattle.filter_code.specs.declared.outcome.FaultKind.TheVariants as fault
 use Rattle.filter_code.specs.declared.outcome.Outcome.TheVariants as outcome
 use Rattle.filter_code.specs.declared.value.Value.{Value}
 use Rattle.filter_code.specs.declared.value.Value.TheVariants as value
-use Rattle.filter_code.specs.Announcement.{Announcement}
+use Rattle.filter_code.specs.RouteView.{RouteView}
 use Rattle.filter_code.specs.Machine.{Config, Going, unless_full, carry_out, outcome_of}
-use Rattle.filter_code.specs.Program.{Program}
+use Rattle.filter_code.specs.CodeView.{CodeView}
 use Rattle.filter_code.specs.Steps.{config_of}
 use Rattle.filter_compiler.proofs.Reaching.{Reaches, carried_on, carried_over}
 use Rattle.filter_compiler.specs.Meaning.{Scene}
 use Rattle.filter_compiler.proofs.Scenes.{locals_of}
 
-module _ (program : Program) (route : Announcement) where
+module _ (program : CodeView) (route : RouteView) where
   -- a configuration with the variables and the metric of a scene
   abbrev pub config_in : Scene → ℕ → List Value → Config
   config_in scene pc stack = config_of pc stack (locals_of scene.variables) scene.metric

@@ -1,7 +1,7 @@
 -- The numbers at the uses of a part of a filter, at the front of a list of numbers.
 use Rattle.std.proofs.Common.{◌≡◌, ℕ, List, [], ◌∷◌, ◌++◌, length, map, drop, refl, sym, ap, ◌∙◌, append_assoc, length-append, drop-drop}
 use Rattle.std.proofs.lemmas.List.{append-nil, map-append}
-use Rattle.filter_parser.specs.SyntaxCommands.{Declared}
+use Rattle.filter_parser.specs.SyntaxCommands.{DeclView}
 use Rattle.filter_types.specs.Kinds.{number_of}
 use Rattle.filter_compiler.specs.Writing.{behind, next_number}
 
@@ -9,7 +9,7 @@ use Rattle.filter_compiler.specs.Writing.{behind, next_number}
 pub behind_both : (a b : List (List ℕ)) (uses : List ℕ) → behind (a ++ b) uses ≡ behind b (behind a uses)
 behind_both a b uses = ap (λ n. drop n uses) (length-append a b) ∙ sym (drop-drop (length b) (length a) uses)
 
-module _ (decls : List Declared) where
+module _ (decls : List DeclView) where
   -- the numbers of the variables of these names stand at the front
   abbrev pub HasUses : List ℕ → List (List ℕ) → Type 0
   HasUses uses names = (rest : List ℕ) × (uses ≡ map (number_of decls) names ++ rest)

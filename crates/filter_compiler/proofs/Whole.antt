@@ -6,14 +6,14 @@ use Rattle.std.proofs.Math.Seq.{set-append_seam}
 use Rattle.std.proofs.lemmas.Bool.Decides.{nat_tests}
 use Rattle.filter_code.specs.declared.instruction.Instr.TheVariants as instr
 use Rattle.filter_code.specs.declared.value.Value.{Value}
-use Rattle.filter_code.specs.Announcement.{Announcement}
+use Rattle.filter_code.specs.RouteView.{RouteView}
 use Rattle.filter_code.specs.Machine.{Going, carry_out, outcome_of}
-use Rattle.filter_code.specs.Program.{Program}
+use Rattle.filter_code.specs.CodeView.{CodeView}
 use Rattle.filter_code.specs.Steps.{config_of}
 use Rattle.filter_compiler.proofs.Reaching.{Reaches, begun, carried_on, carried_over}
 use Rattle.filter_parser.specs.declared.tree.decl.Kind.{Kind}
 use Rattle.filter_parser.specs.declared.tree.decl.Kind.TheVariants as kind
-use Rattle.filter_parser.specs.SyntaxCommands.{Declared}
+use Rattle.filter_parser.specs.SyntaxCommands.{DeclView}
 use Rattle.filter_parser.specs.SyntaxText as syntax
 use Rattle.filter_types.specs.Kinds.{IsTyped}
 use Rattle.filter_compiler.specs.Meaning.{Scene}
@@ -28,7 +28,7 @@ use Rattle.filter_compiler.proofs.Parts.{HasAt, has_front, has_back, has_all}
 use Rattle.filter_compiler.proofs.Scenes.{declared_kinds, locals_of}
 use Rattle.filter_compiler.proofs.Steps.{Stands}
 
-module _ (program : Program) (route : Announcement) (metric : ℕ) where
+module _ (program : CodeView) (route : RouteView) (metric : ℕ) where
   -- the first value of a variable
   first_pushed : (k : Kind) (pc : ℕ) (locals : List (Option Value)) → slice_get program.instrs pc ≡ Some (first_value k)
       → Reaches program route (config_of pc [] locals metric) → Reaches program route (config_of (pc + 1) (unassigned k ∷ []) locals metric)
@@ -53,7 +53,7 @@ module _ (program : Program) (route : Announcement) (metric : ℕ) where
       carried_on program route (config_of pc (v ∷ []) (before ++ None ∷ rest) metric) (instr.Store (length before)) _ r here step
 
   -- the declarations give each variable its first value
-  declared_run : (decls : List Declared) (before : List (Option Value)) (pc : ℕ)
+  declared_run : (decls : List DeclView) (before : List (Option Value)) (pc : ℕ)
       → HasAt program.instrs pc (declarations_code (length before) decls)
       → Reaches program route (config_of pc [] (before ++ replicate (length decls) None) metric)
       → Reaches program route (config_of (pc + length (declarations_code (length before) decls)) [] (before ++ locals_of
@@ -80,7 +80,7 @@ module _ (program : Program) (route : Announcement) (metric : ℕ) where
       subst (λ n. Reaches program route (config_of n [] (before ++ locals_of (map declared_as (d ∷ decls))) metric)) place r6
 
 -- what the end of a body means
-ends_so : (program : Program) (route : Announcement) (decls : List Declared) (pc depth operands : ℕ) (course : Course)
+ends_so : (program : CodeView) (route : RouteView) (decls : List DeclView) (pc depth operands : ℕ) (course : Course)
     → slice_get program.instrs pc ≡ Some instr.Reject → depth ≤ operands → Runs program route decls pc depth course
     → Agrees operands (verdict_of course) (outcome_of program route)
 ends_so program route decls pc depth operands (goes_on scene) here le (inl l) =
@@ -94,7 +94,7 @@ ends_so program route decls pc depth operands course here le (inr f) =
     subst (Agrees operands (verdict_of course)) f.ended over'
 
 -- for every route the outcome of a filter's code is what the filter says
-pub means_the_same : (filter : syntax.Program) → IsTyped filter → MeansTheSame filter (code_of filter)
+pub means_the_same : (filter : syntax.FilterView) → IsTyped filter → MeansTheSame filter (code_of filter)
 means_the_same filter typed = record {
   agrees = λ route.
       let program = code_of filter in

@@ -9,10 +9,10 @@ use Rattle.filter_parser.specs.declared.tree.op.Membership.{Membership}
 use Rattle.filter_parser.specs.declared.tree.op.Membership.TheVariants as membership
 use Rattle.filter_parser.specs.declared.tree.op.Op.{Op}
 use Rattle.filter_parser.specs.declared.tree.op.Op.TheVariants as o
-use Rattle.filter_parser.specs.Syntax.{Tree, number, address, prefix, truth, name, attribute, defined, group, negation, binary, member}
+use Rattle.filter_parser.specs.Syntax.{ExprView, number, address, prefix, truth, name, attribute, defined, group, negation, binary, member}
 use Rattle.filter_parser.specs.Syntax.{suffixed, pattern_of}
-use Rattle.filter_parser.specs.SyntaxCommands.{Act, empty, block, choice, choice_else, assign, accept, reject, Acts, no_acts, act_then}
-use Rattle.filter_parser.specs.SyntaxCommands.{Aim, to_name, to_metric, to_net, Declared}
+use Rattle.filter_parser.specs.SyntaxCommands.{CommandView, empty, block, choice, choice_else, assign, accept, reject, Acts, no_acts, act_then}
+use Rattle.filter_parser.specs.SyntaxCommands.{TargetView, to_name, to_metric, to_net, DeclView}
 use Rattle.filter_parser.specs.SyntaxText as syntax
 use Rattle.filter_types.specs.Kinds.{names_in, names_of_act, names_of_acts, names_of_aim, numbers_of}
 use Rattle.filter_compiler.specs.declared.measure.Measure.{Measure}
@@ -103,8 +103,8 @@ joined_length o.GreaterEqual l r =
 joined_length o.NotMatch l r =
     omega (arith, length-append l (r ++ instr.Within ∷ instr.Not ∷ []), length-append r (instr.Within ∷ instr.Not ∷ []))
 
-module _ (decls : List Declared) where
-  pub tree_counts : (t : Tree) (sets : ℕ) → tree_measure t ≡ measure_of (length (expression_code decls sets t)) (sets_of t)
+module _ (decls : List DeclView) where
+  pub tree_counts : (t : ExprView) (sets : ℕ) → tree_measure t ≡ measure_of (length (expression_code decls sets t)) (sets_of t)
   tree_counts (number n) sets = refl
   tree_counts (address a) sets = refl
   tree_counts (prefix bits) sets = refl
@@ -135,13 +135,13 @@ module _ (decls : List Declared) where
       let c = expression_code decls sets inner in
       plus_own _ _ (length c) 1 _ (sets_of inner) (tree_counts inner sets) refl (sym (length-append c (suffix_code s ∷ [])))
 
-  aim_counts : (aim : Aim) → instructions_alone (aim_count aim) ≡ measure_of (length (aim_code decls aim)) []
+  aim_counts : (aim : TargetView) → instructions_alone (aim_count aim) ≡ measure_of (length (aim_code decls aim)) []
   aim_counts (to_name text) = refl
   aim_counts to_metric = refl
   aim_counts to_net = refl
 
   mutual
-    pub act_counts : (a : Act) (sets : ℕ) → act_measure a ≡ measure_of (length (act_code decls sets a)) (act_sets a)
+    pub act_counts : (a : CommandView) (sets : ℕ) → act_measure a ≡ measure_of (length (act_code decls sets a)) (act_sets a)
     act_counts empty sets = refl
     act_counts (block body) sets =
         let e : 0 + length (acts_code decls sets body) ≡ length (acts_code decls sets body) = omega arith in
@@ -194,23 +194,23 @@ right_is o.And l r n e = ap (λ k. l ++ instr.JumpIfNot (k + 1) ∷ (r ++ instr.
 right_is o.Or l r n e = ap (λ k. l ++ instr.JumpIfNot 2 ∷ instr.Bool true ∷ instr.Jump k ∷ r) e
 right_is _ l r n e = refl
 
-module _ (decls : List Declared) where
-  tree_size : (t : Tree) (sets : ℕ) → length (expression_code decls sets t) ≤ 1024
+module _ (decls : List DeclView) where
+  tree_size : (t : ExprView) (sets : ℕ) → length (expression_code decls sets t) ≤ 1024
       → (tree_measure t).instructions ≡ length (expression_code decls sets t)
   tree_size t sets short =
       let e : (tree_measure t).instructions ≡ min (length (expression_code decls sets t)) 1025 =
       ap (λ (m : Measure). m.instructions) (tree_counts decls t sets) in
       omega arith
 
-  act_size : (a : Act) (sets : ℕ) → length (act_code decls sets a) ≤ 1024 → (act_measure a).instructions ≡ length (act_code decls sets a)
+  act_size : (a : CommandView) (sets : ℕ) → length (act_code decls sets a) ≤ 1024 → (act_measure a).instructions ≡ length (act_code decls sets a)
   act_size a sets short =
       let e : (act_measure a).instructions ≡ min (length (act_code decls sets a)) 1025 =
       ap (λ (m : Measure). m.instructions) (act_counts decls a sets) in
       omega arith
 
 -- what is written with the numbers of the uses
-module _ (decls : List Declared) where
-  pub tree_written : (t : Tree) (uses : List ℕ) (sets : ℕ) → HasUses decls uses (names_in t)
+module _ (decls : List DeclView) where
+  pub tree_written : (t : ExprView) (uses : List ℕ) (sets : ℕ) → HasUses decls uses (names_in t)
       → length (expression_code decls sets t) ≤ 1024 → sets + length (sets_of t) ≤ 255 → written uses sets t ≡ expression_code decls sets t
   tree_written (number n) uses sets has short few = refl
   tree_written (address a) uses sets has short few = refl
@@ -255,13 +255,13 @@ module _ (decls : List Declared) where
             (suffix_code s ∷ []),
       )) few)
 
-  aim_written : (aim : Aim) (uses : List ℕ) → HasUses decls uses (names_of_aim aim) → written_aim uses aim ≡ aim_code decls aim
+  aim_written : (aim : TargetView) (uses : List ℕ) → HasUses decls uses (names_of_aim aim) → written_aim uses aim ≡ aim_code decls aim
   aim_written (to_name text) uses has = ap (λ n. instr.Store n ∷ []) (use_is decls uses text has)
   aim_written to_metric uses has = refl
   aim_written to_net uses has = refl
 
   mutual
-    pub act_written : (a : Act) (uses : List ℕ) (sets : ℕ) → HasUses decls uses (names_of_act a) → length (act_code decls sets a) ≤ 1024
+    pub act_written : (a : CommandView) (uses : List ℕ) (sets : ℕ) → HasUses decls uses (names_of_act a) → length (act_code decls sets a) ≤ 1024
         → sets + length (act_sets a) ≤ 255 → written_act uses sets a ≡ act_code decls sets a
     act_written empty uses sets has short few = refl
     act_written (block body) uses sets has short few = acts_written body uses sets has short few
@@ -337,7 +337,7 @@ module _ (decls : List Declared) where
         ∙ ap (λ x. c ++ x) (acts_written more uses' sets' (later_uses decls uses (names_of_act first) (names_of_acts more) has)
         (omega arith) (omega arith))
 
-declarations_length : (before : ℕ) (decls : List Declared) → length (declarations_code before decls) ≡ length decls + length decls
+declarations_length : (before : ℕ) (decls : List DeclView) → length (declarations_code before decls) ≡ length decls + length decls
 declarations_length before [] = refl
 declarations_length before (d ∷ decls) = omega (arith, declarations_length (before + 1) decls)
 
@@ -345,7 +345,7 @@ alone : (n : ℕ) → n ≤ 1025 → instructions_alone n ≡ measure_of n []
 alone n low = three _ _ _ _ _ _ (omega arith) refl refl
 
 -- a filter's measure counts its code
-pub filter_counts : (f : syntax.Program) → length f.decls ≤ 16 → filter_measure f ≡ measure_of (length (instructions f)) (acts_sets f.body)
+pub filter_counts : (f : syntax.FilterView) → length f.decls ≤ 16 → filter_measure f ≡ measure_of (length (instructions f)) (acts_sets f.body)
 filter_counts f few =
     let d = declarations_code 0 f.decls in
     let body = acts_code f.decls 0 f.body in
@@ -357,7 +357,7 @@ filter_counts f few =
     acts_count f.decls f.body 0 (instructions_alone n) n [] (alone n (omega arith)) ∙ ap (λ k. measure_of k (acts_sets f.body)) e
 
 -- within the limits what is written with the numbers of a filter's uses is the code
-pub filter_written : (f : syntax.Program) → length (instructions f) ≤ 1024 → length (acts_sets f.body) ≤ 64
+pub filter_written : (f : syntax.FilterView) → length (instructions f) ≤ 1024 → length (acts_sets f.body) ≤ 64
     → written_filter (numbers_of f) f ≡ instructions f
 filter_written f short few =
     let d = declarations_code 0 f.decls in

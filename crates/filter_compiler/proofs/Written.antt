@@ -8,7 +8,7 @@ use Rattle.filter_code.specs.declared.instruction.Instr.TheVariants as instr
 use Rattle.filter_parser.specs.declared.tree.op.Membership.{Membership}
 use Rattle.filter_parser.specs.declared.tree.op.Op.{Op}
 use Rattle.filter_parser.specs.declared.tree.op.Suffix.{Suffix}
-use Rattle.filter_parser.specs.Syntax.{Tree, Item, binary, member, negation, suffixed, run_of, suffixes_of, pattern_of}
+use Rattle.filter_parser.specs.Syntax.{ExprView, SetPatternView, binary, member, negation, suffixed, run_of, suffixes_of, pattern_of}
 use Rattle.filter_types.specs.Kinds.{names_in}
 use Rattle.filter_types.specs.Turns.{names_behind}
 use Rattle.filter_types.proofs.Turns.{run_names, suffixes_names}
@@ -22,28 +22,28 @@ pub on_ok : {T E P Q : Type 0} (r : Result T E) → (P → Q) → OnOk r P → O
 on_ok (Ok x) f p = f p
 on_ok (Err e) f p = tt
 
-run_sets : (left : Tree) (xs : List (Op × Tree)) → sets_of (run_of left xs) ≡ sets_of left ++ sets_behind xs
+run_sets : (left : ExprView) (xs : List (Op × ExprView)) → sets_of (run_of left xs) ≡ sets_of left ++ sets_behind xs
 run_sets left [] = sym (append-nil (sets_of left))
 run_sets left (x ∷ xs) = run_sets (binary x.0 left x.1) xs ∙ append_assoc (sets_of left) (sets_of x.1) (sets_behind xs)
 
-suffixes_sets : (inner : Tree) (xs : List Suffix) → sets_of (suffixes_of inner xs) ≡ sets_of inner
+suffixes_sets : (inner : ExprView) (xs : List Suffix) → sets_of (suffixes_of inner xs) ≡ sets_of inner
 suffixes_sets inner [] = refl
 suffixes_sets inner (x ∷ xs) = suffixes_sets (suffixed inner x) xs
 
 -- the numbers behind those of a run and of an operand with suffixes
-pub run_behind : (uses after all : List ℕ) (t first : Tree) (xs : List (Op × Tree)) → t ≡ run_of first xs
+pub run_behind : (uses after all : List ℕ) (t first : ExprView) (xs : List (Op × ExprView)) → t ≡ run_of first xs
     → after ≡ behind (names_in first) uses → all ≡ behind (names_behind xs) after → all ≡ behind (names_in t) uses
 run_behind uses after all t first xs is e f =
     f ∙ (ap (behind (names_behind xs)) e
     ∙ (sym (behind_both (names_in first) (names_behind xs) uses)
     ∙ sym (ap (λ n. behind n uses) (ap names_in is ∙ run_names first xs))))
 
-pub suffixes_behind : (uses after all : List ℕ) (t inner : Tree) (xs : List Suffix) → t ≡ suffixes_of inner xs
+pub suffixes_behind : (uses after all : List ℕ) (t inner : ExprView) (xs : List Suffix) → t ≡ suffixes_of inner xs
     → after ≡ behind (names_in inner) uses → all ≡ after → all ≡ behind (names_in t) uses
 suffixes_behind uses after all t inner xs is e f =
     f ∙ (e ∙ sym (ap (λ n. behind n uses) (ap names_in is ∙ suffixes_names inner xs)))
 
-run_written : (uses : List ℕ) (sets : ℕ) (left : Tree) (xs : List (Op × Tree))
+run_written : (uses : List ℕ) (sets : ℕ) (left : ExprView) (xs : List (Op × ExprView))
     → written uses sets (run_of left xs) ≡ written uses sets left ++ written_behind (behind (names_in left) uses)
     (sets + length (sets_of left)) xs
 run_written uses sets left [] = sym (append-nil (written uses sets left))
@@ -60,7 +60,7 @@ run_written uses sets left (x ∷ xs) =
     ∙ append_assoc l part (written_behind (behind (names_in x.1) (behind (names_in left) uses)) (sets + length (sets_of left) + length
     (sets_of x.1)) xs)
 
-suffixes_written : (uses : List ℕ) (sets : ℕ) (inner : Tree) (xs : List Suffix)
+suffixes_written : (uses : List ℕ) (sets : ℕ) (inner : ExprView) (xs : List Suffix)
     → written uses sets (suffixes_of inner xs) ≡ written uses sets inner ++ map suffix_code xs
 suffixes_written uses sets inner [] = sym (append-nil (written uses sets inner))
 suffixes_written uses sets inner (x ∷ xs) =
@@ -76,8 +76,8 @@ more_sets s0 s1 s2 a b e f = f ∙ (ap (λ l. l ++ b) e ∙ append_assoc s0 a b)
 count_of : (s0 s1 a : List (List PrefixPattern)) → s1 ≡ s0 ++ a → length s1 ≡ length s0 + length a
 count_of s0 s1 a e = ap length e ∙ length-append s0 a
 
-pub run_code : (old mid new : List Instr) (s0 s1 : List (List PrefixPattern)) (uses after : List ℕ) (t first : Tree)
-    (xs : List (Op × Tree)) → t ≡ run_of first xs → mid ≡ old ++ written uses (length s0) first → s1 ≡ s0 ++ sets_of first
+pub run_code : (old mid new : List Instr) (s0 s1 : List (List PrefixPattern)) (uses after : List ℕ) (t first : ExprView)
+    (xs : List (Op × ExprView)) → t ≡ run_of first xs → mid ≡ old ++ written uses (length s0) first → s1 ≡ s0 ++ sets_of first
     → after ≡ behind (names_in first) uses → new ≡ mid ++ written_behind after (length s1) xs → new ≡ old ++ written uses (length s0) t
 run_code old mid new s0 s1 uses after t first xs is e s u f =
     let f' = f ∙ (ap (λ n. mid ++ written_behind n (length s1) xs) u
@@ -86,36 +86,36 @@ run_code old mid new s0 s1 uses after t first xs is e s u f =
     (sets_of first)) xs) e f'
     ∙ ap (λ l. old ++ l) (sym (ap (written uses (length s0)) is ∙ run_written uses (length s0) first xs))
 
-pub run_kept : (s0 s1 s2 : List (List PrefixPattern)) (t first : Tree) (xs : List (Op × Tree)) → t ≡ run_of first xs
+pub run_kept : (s0 s1 s2 : List (List PrefixPattern)) (t first : ExprView) (xs : List (Op × ExprView)) → t ≡ run_of first xs
     → s1 ≡ s0 ++ sets_of first → s2 ≡ s1 ++ sets_behind xs → s2 ≡ s0 ++ sets_of t
 run_kept s0 s1 s2 t first xs is e f =
     more_sets s0 s1 s2 (sets_of first) (sets_behind xs) e f ∙ ap (λ l. s0 ++ l) (sym (ap sets_of is ∙ run_sets first xs))
 
-pub suffixes_code : (old mid new : List Instr) (s0 : List (List PrefixPattern)) (uses : List ℕ) (t inner : Tree) (xs : List Suffix)
+pub suffixes_code : (old mid new : List Instr) (s0 : List (List PrefixPattern)) (uses : List ℕ) (t inner : ExprView) (xs : List Suffix)
     → t ≡ suffixes_of inner xs → mid ≡ old ++ written uses (length s0) inner → new ≡ mid ++ map suffix_code xs
     → new ≡ old ++ written uses (length s0) t
 suffixes_code old mid new s0 uses t inner xs is e f =
     behind_two old mid new (written uses (length s0) inner) (map suffix_code xs) e f
     ∙ ap (λ l. old ++ l) (sym (ap (written uses (length s0)) is ∙ suffixes_written uses (length s0) inner xs))
 
-pub suffixes_kept : (s0 s1 s2 : List (List PrefixPattern)) (t inner : Tree) (xs : List Suffix) → t ≡ suffixes_of inner xs
+pub suffixes_kept : (s0 s1 s2 : List (List PrefixPattern)) (t inner : ExprView) (xs : List Suffix) → t ≡ suffixes_of inner xs
     → s1 ≡ s0 ++ sets_of inner → s2 ≡ s1 → s2 ≡ s0 ++ sets_of t
 suffixes_kept s0 s1 s2 t inner xs is e f = f ∙ (e ∙ ap (λ l. s0 ++ l) (sym (ap sets_of is ∙ suffixes_sets inner xs)))
 
-pub not_code : (old mid new : List Instr) (uses : List ℕ) (sets : ℕ) (t inner : Tree) → t ≡ negation inner
+pub not_code : (old mid new : List Instr) (uses : List ℕ) (sets : ℕ) (t inner : ExprView) → t ≡ negation inner
     → mid ≡ old ++ written uses sets inner → new ≡ mid ++ instr.Not ∷ [] → new ≡ old ++ written uses sets t
 not_code old mid new uses sets t inner is e f =
     behind_two old mid new (written uses sets inner) (instr.Not ∷ []) e f ∙ ap (λ l. old ++ l) (sym (ap (written uses sets) is))
 
-pub member_written : (old mid new : List Instr) (s0 s1 : List (List PrefixPattern)) (uses : List ℕ) (t left : Tree) (op : Membership)
-    (set : List Item) → t ≡ member op left set → mid ≡ old ++ written uses (length s0) left → s1 ≡ s0 ++ sets_of left
+pub member_written : (old mid new : List Instr) (s0 s1 : List (List PrefixPattern)) (uses : List ℕ) (t left : ExprView) (op : Membership)
+    (set : List SetPatternView) → t ≡ member op left set → mid ≡ old ++ written uses (length s0) left → s1 ≡ s0 ++ sets_of left
     → new ≡ mid ++ member_code op (set_number (length s1)) → new ≡ old ++ written uses (length s0) t
 member_written old mid new s0 s1 uses t left op set is e s f =
     let f' = f ∙ ap (λ n. mid ++ member_code op (set_number n)) (count_of s0 s1 (sets_of left) s) in
     behind_two old mid new (written uses (length s0) left) (member_code op (set_number (length s0 + length (sets_of left)))) e f'
     ∙ ap (λ l. old ++ l) (sym (ap (written uses (length s0)) is))
 
-pub member_kept : (s0 s1 s2 : List (List PrefixPattern)) (t left : Tree) (op : Membership) (set : List Item) → t ≡ member op left set
+pub member_kept : (s0 s1 s2 : List (List PrefixPattern)) (t left : ExprView) (op : Membership) (set : List SetPatternView) → t ≡ member op left set
     → s1 ≡ s0 ++ sets_of left → s2 ≡ s1 ++ map pattern_of set ∷ [] → s2 ≡ s0 ++ sets_of t
 member_kept s0 s1 s2 t left op set is e f =
     more_sets s0 s1 s2 (sets_of left) (map pattern_of set ∷ []) e f ∙ ap (λ l. s0 ++ l) (sym (ap sets_of is))

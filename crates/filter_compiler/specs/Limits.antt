@@ -3,17 +3,17 @@ use Rattle.std.specs.Prelude.{◌<◌, ◌≤◌, ◌⊎◌, length}
 use Rattle.std.specs.List.{Any}
 use Rattle.prefix_patterns.specs.Matching.{pattern_limit}
 use Rattle.filter_code.specs.Limits.{instruction_limit, set_limit}
-use Rattle.filter_code.specs.Program as code
+use Rattle.filter_code.specs.CodeView as code
 use Rattle.filter_compiler.specs.declared.fault.CompileFault.{CompileFault}
 use Rattle.filter_compiler.specs.declared.fault.CompileFault.TheVariants as fault
 use Rattle.filter_compiler.specs.declared.measure.Measure.{Measure}
 
 -- there are too many instructions
-abbrev pub IsTooLong : code.Program → Type 0
+abbrev pub IsTooLong : code.CodeView → Type 0
 IsTooLong program = instruction_limit < length program.instrs
 
 -- there are too many sets, or too many patterns in one of them
-abbrev pub HasTooMany : code.Program → Type 0
+abbrev pub HasTooMany : code.CodeView → Type 0
 HasTooMany program = (set_limit < length program.sets) ⊎ Any (λ set. pattern_limit < length set) program.sets
 
 -- a part of this measure is within the limits

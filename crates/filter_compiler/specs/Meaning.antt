@@ -11,7 +11,7 @@ use Rattle.prefix_patterns.specs.Bits.{address_bits, address_of, prefix_bits}
 use Rattle.prefix_patterns.specs.Matching.{lies_within, matches_any}
 use Rattle.filter_code.specs.declared.value.Value.{Value}
 use Rattle.filter_code.specs.declared.value.Value.TheVariants as value
-use Rattle.filter_code.specs.Announcement.{Announcement}
+use Rattle.filter_code.specs.RouteView.{RouteView}
 use Rattle.filter_parser.specs.declared.tree.expr.Attribute.{Attribute}
 use Rattle.filter_parser.specs.declared.tree.expr.Attribute.TheVariants as attributes
 use Rattle.filter_parser.specs.declared.tree.op.Membership.{Membership}
@@ -20,8 +20,8 @@ use Rattle.filter_parser.specs.declared.tree.op.Op.{Op}
 use Rattle.filter_parser.specs.declared.tree.op.Op.TheVariants as o
 use Rattle.filter_parser.specs.declared.tree.op.Suffix.{Suffix}
 use Rattle.filter_parser.specs.declared.tree.op.Suffix.TheVariants as suffix
-use Rattle.filter_parser.specs.Syntax.{Tree, number, address, prefix, truth, name, attribute, defined, group, negation, binary, member}
-use Rattle.filter_parser.specs.Syntax.{suffixed, Item, pattern_of}
+use Rattle.filter_parser.specs.Syntax.{ExprView, number, address, prefix, truth, name, attribute, defined, group, negation, binary, member}
+use Rattle.filter_parser.specs.Syntax.{suffixed, SetPatternView, pattern_of}
 
 -- a variable and its value
 pub record Bound : Type 0 where
@@ -127,18 +127,18 @@ suffix_of (suffix.Mask n) (value.Addr a) = Some (value.Addr (record { 0 = addres
 suffix_of _ _ = None
 
 -- whether an operand matches one of the patterns of a set, or none
-abbrev pub member_of : Membership → List Item → Value → Option Value
+abbrev pub member_of : Membership → List SetPatternView → Value → Option Value
 member_of membership.In set (value.Net p) = Some (value.Bool (matches_any p (map pattern_of set)))
 member_of membership.NotIn set (value.Net p) = Some (value.Bool (not (matches_any p (map pattern_of set))))
 member_of _ set _ = None
 
 -- the route's prefix, and the current metric
-abbrev pub attribute_of : Announcement → Scene → Attribute → Value
+abbrev pub attribute_of : RouteView → Scene → Attribute → Value
 attribute_of route scene attributes.Net = value.Net route.net
 attribute_of route scene attributes.RipMetric = value.Int scene.metric
 
 -- the value of an expression; each route has what `defined` asks for
-abbrev pub value_of : Announcement → Scene → Tree → Option Value
+abbrev pub value_of : RouteView → Scene → ExprView → Option Value
 value_of route scene (number n) = Some (value.Int n)
 value_of route scene (address a) = Some (value.Addr (record { 0 = a }))
 value_of route scene (prefix bits) = Some (value.Net bits)

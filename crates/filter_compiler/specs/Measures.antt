@@ -5,10 +5,10 @@ use Rattle.filter_parser.specs.declared.tree.op.Membership.TheVariants as member
 use Rattle.filter_parser.specs.declared.tree.op.Op.{Op}
 use Rattle.filter_parser.specs.declared.tree.op.Op.TheVariants as o
 use Rattle.filter_parser.specs.declared.tree.op.Suffix.{Suffix}
-use Rattle.filter_parser.specs.Syntax.{Tree, number, address, prefix, truth, name, attribute, defined, group, negation, binary, member}
+use Rattle.filter_parser.specs.Syntax.{ExprView, number, address, prefix, truth, name, attribute, defined, group, negation, binary, member}
 use Rattle.filter_parser.specs.Syntax.{suffixed}
-use Rattle.filter_parser.specs.SyntaxCommands.{Act, empty, block, choice, choice_else, assign, accept, reject, Acts, no_acts, act_then}
-use Rattle.filter_parser.specs.SyntaxCommands.{Aim, to_name, to_metric, to_net}
+use Rattle.filter_parser.specs.SyntaxCommands.{CommandView, empty, block, choice, choice_else, assign, accept, reject, Acts, no_acts, act_then}
+use Rattle.filter_parser.specs.SyntaxCommands.{TargetView, to_name, to_metric, to_net}
 use Rattle.filter_parser.specs.SyntaxText as syntax
 use Rattle.filter_compiler.specs.declared.measure.Measure.{Measure}
 
@@ -47,7 +47,7 @@ abbrev pub with_right : Measure → Op → Measure → Measure
 with_right left op right = plus (plus left right) (instructions_alone (own_count op))
 
 -- the code of an expression
-abbrev pub tree_measure : Tree → Measure
+abbrev pub tree_measure : ExprView → Measure
 tree_measure (number n) = instructions_alone 1
 tree_measure (address a) = instructions_alone 1
 tree_measure (prefix bits) = instructions_alone 1
@@ -62,7 +62,7 @@ tree_measure (member op left set) = plus (with_set (tree_measure left) (length s
 tree_measure (suffixed inner s) = plus (tree_measure inner) (instructions_alone 1)
 
 -- a part with operators behind it, each with the operand at its right
-abbrev pub run_measure : Measure → List (Op × Tree) → Measure
+abbrev pub run_measure : Measure → List (Op × ExprView) → Measure
 run_measure left [] = left
 run_measure left (x ∷ xs) = run_measure (with_right left x.0 (tree_measure x.1)) xs
 
@@ -71,14 +71,14 @@ abbrev pub suffixes_measure : Measure → List Suffix → Measure
 suffixes_measure inner [] = inner
 suffixes_measure inner (x ∷ xs) = suffixes_measure (plus inner (instructions_alone 1)) xs
 
-abbrev pub aim_count : Aim → ℕ
+abbrev pub aim_count : TargetView → ℕ
 aim_count (to_name text) = 1
 aim_count to_metric = 3
 aim_count to_net = 0
 
 -- the code of a command, and a part with that of commands behind it
 abbrev mutual
-  pub act_measure : Act → Measure
+  pub act_measure : CommandView → Measure
   act_measure empty = instructions_alone 0
   act_measure (block body) = acts_measure (instructions_alone 0) body
   act_measure (choice test chosen) = plus (plus (tree_measure test) (act_measure chosen)) (instructions_alone 1)
@@ -93,5 +93,5 @@ abbrev mutual
   acts_measure before (act_then first more) = acts_measure (plus before (act_measure first)) more
 
 -- the code of a filter: two instructions for each variable, and a REJECT at the end
-abbrev pub filter_measure : syntax.Program → Measure
+abbrev pub filter_measure : syntax.FilterView → Measure
 filter_measure filter = acts_measure (instructions_alone (length filter.decls + length filter.decls + 1)) filter.body

@@ -3,9 +3,9 @@ use Rattle.std.specs.Prelude.{◌≡◌, ℕ, ◌<◌}
 use Rattle.filter_code.specs.declared.outcome.FaultKind.TheVariants as fault
 use Rattle.filter_code.specs.declared.outcome.Outcome.{Outcome}
 use Rattle.filter_code.specs.declared.outcome.Outcome.TheVariants as outcome
-use Rattle.filter_code.specs.Announcement.{Announcement}
+use Rattle.filter_code.specs.RouteView.{RouteView}
 use Rattle.filter_code.specs.Machine.{outcome_of}
-use Rattle.filter_code.specs.Program as code
+use Rattle.filter_code.specs.CodeView as code
 use Rattle.filter_parser.specs.SyntaxText as syntax
 use Rattle.filter_compiler.specs.Need.{need}
 use Rattle.filter_compiler.specs.Verdicts.{Verdict, accepted, rejected, divided, meaning}
@@ -24,5 +24,5 @@ Agrees operands verdict (outcome.Fault fault.FullStack at) = stack_limit < opera
 Agrees operands verdict (outcome.Fault _ at) = ⊥
 
 -- for every route the code's outcome is what the filter says
-pub record MeansTheSame (filter : syntax.Program) (program : code.Program) : Type 0 where
-  pub agrees : (route : Announcement) → Agrees (need filter) (meaning filter route) (outcome_of program route)
+pub record MeansTheSame (filter : syntax.FilterView) (program : code.CodeView) : Type 0 where
+  pub agrees : (route : RouteView) → Agrees (need filter) (meaning filter route) (outcome_of program route)

@@ -13,16 +13,16 @@ use Rattle.filter_parser.specs.declared.tree.op.Op.{Op}
 use Rattle.filter_parser.specs.declared.tree.op.Op.TheVariants as o
 use Rattle.filter_parser.specs.declared.tree.op.Suffix.{Suffix}
 use Rattle.filter_parser.specs.declared.tree.op.Suffix.TheVariants as suffix
-use Rattle.filter_parser.specs.Syntax.{Tree, number, address, prefix, truth, name, attribute, defined, group, negation, binary, member}
+use Rattle.filter_parser.specs.Syntax.{ExprView, number, address, prefix, truth, name, attribute, defined, group, negation, binary, member}
 use Rattle.filter_parser.specs.Syntax.{suffixed, pattern_of}
-use Rattle.filter_parser.specs.SyntaxCommands.{Act, empty, block, choice, choice_else, assign, accept, reject, Acts, no_acts, act_then}
-use Rattle.filter_parser.specs.SyntaxCommands.{Aim, to_name, to_metric, to_net, Declared}
+use Rattle.filter_parser.specs.SyntaxCommands.{CommandView, empty, block, choice, choice_else, assign, accept, reject, Acts, no_acts, act_then}
+use Rattle.filter_parser.specs.SyntaxCommands.{TargetView, to_name, to_metric, to_net, DeclView}
 use Rattle.filter_parser.specs.SyntaxText as syntax
-use Rattle.filter_code.specs.Program as code
+use Rattle.filter_code.specs.CodeView as code
 use Rattle.filter_types.specs.Kinds.{number_of}
 
 -- the sets of an expression, in the order of the text
-abbrev pub sets_of : Tree → List (List PrefixPattern)
+abbrev pub sets_of : ExprView → List (List PrefixPattern)
 sets_of (number n) = []
 sets_of (address a) = []
 sets_of (prefix bits) = []
@@ -83,7 +83,7 @@ attribute_code attributes.Net = instr.Net
 attribute_code attributes.RipMetric = instr.Metric
 
 -- the code of an expression among these declarations, where so many sets stand before it in the text
-abbrev pub expression_code : List Declared → ℕ → Tree → List Instr
+abbrev pub expression_code : List DeclView → ℕ → ExprView → List Instr
 expression_code decls sets (number n) = instr.Int n ∷ []
 expression_code decls sets (address a) = instr.Ip (record { 0 = a }) ∷ []
 expression_code decls sets (prefix bits) = instr.Prefix bits ∷ []
@@ -101,7 +101,7 @@ expression_code decls sets (suffixed inner s) = expression_code decls sets inner
 
 -- the sets of a command and of commands one after another
 abbrev mutual
-  pub act_sets : Act → List (List PrefixPattern)
+  pub act_sets : CommandView → List (List PrefixPattern)
   act_sets empty = []
   act_sets (block body) = acts_sets body
   act_sets (choice test chosen) = sets_of test ++ act_sets chosen
@@ -128,14 +128,14 @@ abbrev pub metric_code : List Instr
 metric_code = instr.Received ∷ instr.Max ∷ instr.SetMetric ∷ []
 
 -- what sets a variable, and the metric. `net` is never assigned
-abbrev pub aim_code : List Declared → Aim → List Instr
+abbrev pub aim_code : List DeclView → TargetView → List Instr
 aim_code decls (to_name text) = instr.Store (number_of decls text) ∷ []
 aim_code decls to_metric = metric_code
 aim_code decls to_net = []
 
 -- the code of a command, and of commands one after another
 abbrev mutual
-  pub act_code : List Declared → ℕ → Act → List Instr
+  pub act_code : List DeclView → ℕ → CommandView → List Instr
   act_code decls sets empty = []
   act_code decls sets (block body) = acts_code decls sets body
   act_code decls sets (choice test chosen) =
@@ -148,7 +148,7 @@ abbrev mutual
   act_code decls sets (accept has_text) = instr.Accept ∷ []
   act_code decls sets (reject has_text) = instr.Reject ∷ []
 
-  pub acts_code : List Declared → ℕ → Acts → List Instr
+  pub acts_code : List DeclView → ℕ → Acts → List Instr
   acts_code decls sets no_acts = []
   acts_code decls sets (act_then first more) =
       act_code decls sets first ++ acts_code decls (sets + length (act_sets first)) more
@@ -161,17 +161,17 @@ first_value kind.Ip = instr.Ip (record { 0 = 0 })
 first_value kind.Prefix = instr.Prefix []
 
 -- the declarations, where so many stand before them
-abbrev pub declarations_code : ℕ → List Declared → List Instr
+abbrev pub declarations_code : ℕ → List DeclView → List Instr
 declarations_code before [] = []
 declarations_code before (d ∷ rest) = first_value d.kind ∷ instr.Store before ∷ declarations_code (before + 1) rest
 
 -- the instructions of a filter: its declarations, its commands, and a REJECT at the end
-abbrev pub instructions : syntax.Program → List Instr
+abbrev pub instructions : syntax.FilterView → List Instr
 instructions filter =
     declarations_code 0 filter.decls ++ (acts_code filter.decls 0 filter.body ++ instr.Reject ∷ [])
 
 -- the code of a filter
-abbrev pub code_of : syntax.Program → code.Program
+abbrev pub code_of : syntax.FilterView → code.CodeView
 code_of filter = record {
   locals = length filter.decls;
   sets = acts_sets filter.body;

@@ -5,11 +5,11 @@ use Rattle.std.specs.Prelude.{ℕ, min, max, true, false, if◌then◌else◌, O
 use Rattle.std.specs.Str.{bytes_eq}
 use Rattle.filter_code.specs.declared.value.Value.{Value}
 use Rattle.filter_code.specs.declared.value.Value.TheVariants as value
-use Rattle.filter_code.specs.Announcement.{Announcement}
+use Rattle.filter_code.specs.RouteView.{RouteView}
 use Rattle.filter_parser.specs.declared.tree.decl.Kind.{Kind}
 use Rattle.filter_parser.specs.declared.tree.decl.Kind.TheVariants as kind
-use Rattle.filter_parser.specs.SyntaxCommands.{Act, empty, block, choice, choice_else, assign, accept, reject, Acts, no_acts, act_then}
-use Rattle.filter_parser.specs.SyntaxCommands.{Aim, to_name, to_metric, Declared}
+use Rattle.filter_parser.specs.SyntaxCommands.{CommandView, empty, block, choice, choice_else, assign, accept, reject, Acts, no_acts, act_then}
+use Rattle.filter_parser.specs.SyntaxCommands.{TargetView, to_name, to_metric, DeclView}
 use Rattle.filter_parser.specs.SyntaxText as syntax
 use Rattle.filter_compiler.specs.Meaning.{Bound, Scene, value_of}
 
@@ -31,7 +31,7 @@ unassigned kind.Bool = value.Bool false
 unassigned kind.Ip = value.Addr (record { 0 = 0 })
 unassigned kind.Prefix = value.Net []
 
-abbrev pub declared_as : Declared → Bound
+abbrev pub declared_as : DeclView → Bound
 declared_as d = record { name = d.name; value = unassigned d.kind }
 
 -- the variables after one of them is assigned
@@ -41,11 +41,11 @@ assigned (b ∷ rest) text v =
     if bytes_eq b.name text then record { name = b.name; value = v } ∷ rest else b ∷ assigned rest text v
 
 -- the metric that an int sets: at least the metric received, and at most the size
-abbrev pub kept_in_range : Announcement → ℕ → ℕ
+abbrev pub kept_in_range : RouteView → ℕ → ℕ
 kept_in_range route n = min (max n route.metric) route.size
 
 -- what a value sets; `net` is never assigned
-abbrev pub set_to : Announcement → Scene → Aim → Option Value → Course
+abbrev pub set_to : RouteView → Scene → TargetView → Option Value → Course
 set_to route scene (to_name text) (Some v) = goes_on (record { variables = assigned scene.variables text v; metric = scene.metric })
 set_to route scene to_metric (Some (value.Int n)) = goes_on (record { variables = scene.variables; metric = kept_in_range route n })
 set_to route scene _ _ = ends divided
@@ -63,7 +63,7 @@ then_do (ends verdict) more = ends verdict
 
 -- what a command comes to, and commands one after another
 abbrev mutual
-  pub course_of : Announcement → Act → Scene → Course
+  pub course_of : RouteView → CommandView → Scene → Course
   course_of route empty scene = goes_on scene
   course_of route (block body) scene = course_of_all route body scene
   course_of route (choice test chosen) scene =
@@ -74,7 +74,7 @@ abbrev mutual
   course_of route (accept has_text) scene = ends (accepted scene.metric)
   course_of route (reject has_text) scene = ends rejected
 
-  pub course_of_all : Announcement → Acts → Scene → Course
+  pub course_of_all : RouteView → Acts → Scene → Course
   course_of_all route no_acts scene = goes_on scene
   course_of_all route (act_then first more) scene = then_do (course_of route first scene) (course_of_all route more)
 
@@ -84,9 +84,9 @@ verdict_of (goes_on scene) = rejected
 verdict_of (ends verdict) = verdict
 
 -- what a filter begins with
-abbrev pub begun : syntax.Program → Announcement → Scene
+abbrev pub begun : syntax.FilterView → RouteView → Scene
 begun filter route = record { variables = map declared_as filter.decls; metric = route.metric }
 
 -- what a filter says of a route
-abbrev pub meaning : syntax.Program → Announcement → Verdict
+abbrev pub meaning : syntax.FilterView → RouteView → Verdict
 meaning filter route = verdict_of (course_of_all route filter.body (begun filter route))

@@ -7,10 +7,10 @@ use Rattle.filter_code.specs.declared.instruction.Instr.{Instr}
 use Rattle.filter_code.specs.declared.instruction.Instr.TheVariants as instr
 use Rattle.filter_parser.specs.declared.tree.op.Op.{Op}
 use Rattle.filter_parser.specs.declared.tree.op.Op.TheVariants as o
-use Rattle.filter_parser.specs.Syntax.{Tree, number, address, prefix, truth, name, attribute, defined, group, negation, binary, member}
+use Rattle.filter_parser.specs.Syntax.{ExprView, number, address, prefix, truth, name, attribute, defined, group, negation, binary, member}
 use Rattle.filter_parser.specs.Syntax.{suffixed}
-use Rattle.filter_parser.specs.SyntaxCommands.{Act, empty, block, choice, choice_else, assign, accept, reject, Acts, no_acts, act_then}
-use Rattle.filter_parser.specs.SyntaxCommands.{Aim, to_name, to_metric, to_net}
+use Rattle.filter_parser.specs.SyntaxCommands.{CommandView, empty, block, choice, choice_else, assign, accept, reject, Acts, no_acts, act_then}
+use Rattle.filter_parser.specs.SyntaxCommands.{TargetView, to_name, to_metric, to_net}
 use Rattle.filter_parser.specs.SyntaxText as syntax
 use Rattle.filter_types.specs.Kinds.{names_in, names_of_act, names_of_aim}
 use Rattle.filter_compiler.specs.Measures.{tree_measure, act_measure}
@@ -36,7 +36,7 @@ abbrev pub behind : List (List ℕ) → List ℕ → List ℕ
 behind names uses = drop (length names) uses
 
 -- an expression, with the numbers at its uses and those behind them, where so many sets stand before it in the text
-abbrev pub written : List ℕ → ℕ → Tree → List Instr
+abbrev pub written : List ℕ → ℕ → ExprView → List Instr
 written uses sets (number n) = instr.Int n ∷ []
 written uses sets (address a) = instr.Ip (record { 0 = a }) ∷ []
 written uses sets (prefix bits) = instr.Prefix bits ∷ []
@@ -54,25 +54,25 @@ written uses sets (member op left set) =
 written uses sets (suffixed inner s) = written uses sets inner ++ suffix_code s ∷ []
 
 -- the sets of operands at the right, and what is written of operators with them
-abbrev pub sets_behind : List (Op × Tree) → List (List PrefixPattern)
+abbrev pub sets_behind : List (Op × ExprView) → List (List PrefixPattern)
 sets_behind [] = []
 sets_behind (x ∷ xs) = sets_of x.1 ++ sets_behind xs
 
-abbrev pub written_behind : List ℕ → ℕ → List (Op × Tree) → List Instr
+abbrev pub written_behind : List ℕ → ℕ → List (Op × ExprView) → List Instr
 written_behind uses sets [] = []
 written_behind uses sets (x ∷ xs) =
     right_part x.0 (tree_measure x.1).instructions (written uses sets x.1)
     ++ written_behind (behind (names_in x.1) uses) (sets + length (sets_of x.1)) xs
 
 -- what sets a variable, of which the use stands before those of the value, and what sets the metric
-abbrev pub written_aim : List ℕ → Aim → List Instr
+abbrev pub written_aim : List ℕ → TargetView → List Instr
 written_aim uses (to_name text) = instr.Store (next_number uses) ∷ []
 written_aim uses to_metric = metric_code
 written_aim uses to_net = []
 
 -- a command, and commands one after another
 abbrev mutual
-  pub written_act : List ℕ → ℕ → Act → List Instr
+  pub written_act : List ℕ → ℕ → CommandView → List Instr
   written_act uses sets empty = []
   written_act uses sets (block body) = written_acts uses sets body
   written_act uses sets (choice test chosen) =
@@ -96,6 +96,6 @@ abbrev mutual
       written_act uses sets first ++ written_acts (behind (names_of_act first) uses) (sets + length (act_sets first)) more
 
 -- a filter
-abbrev pub written_filter : List ℕ → syntax.Program → List Instr
+abbrev pub written_filter : List ℕ → syntax.FilterView → List Instr
 written_filter uses filter =
     declarations_code 0 filter.decls ++ (written_acts uses 0 filter.body ++ instr.Reject ∷ [])

@@ -1,7 +1,7 @@
 //! The code of declarations and commands.
 
 ghost use Rattle.std.specs.Prelude.{◌≡◌, ◌≤◌, [], ◌∷◌, ◌++◌, OnOk, length, map};
-ghost use Rattle.filter_code.specs.Program.{HasMask};
+ghost use Rattle.filter_code.specs.CodeView.{HasMask};
 ghost use Rattle.filter_parser.specs.Syntax.{view};
 ghost use Rattle.filter_parser.specs.SyntaxCommands.{acts_of, view_command, view_decl, view_target};
 ghost use Rattle.filter_types.specs.Kinds.{names_in, names_of_act, names_of_acts, names_of_aim, variable_limit};

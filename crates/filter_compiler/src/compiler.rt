@@ -3,7 +3,7 @@
 ghost use Rattle.std.specs.Prelude.{◌≡◌, ◌↔◌, IfOk, IsErrOf};
 ghost use Rattle.filter_parser.specs.SyntaxText.{view_filter};
 ghost use Rattle.filter_types.specs.Kinds.{numbers_of};
-ghost use Rattle.filter_code.specs.Program.{IsAllowed, Program};
+ghost use Rattle.filter_code.specs.CodeView.{IsAllowed, CodeView};
 ghost use Rattle.filter_compiler.specs.Limits.{HasTooMany, IsTooLong, IsWithin};
 ghost use Rattle.filter_compiler.specs.Measures.{filter_measure};
 ghost use Rattle.filter_compiler.specs.Same.{MeansTheSame};
@@ -35,8 +35,8 @@ fn write_filter(alloc: Global, typed: &Typed) -> Result<Output, AllocError>
 
 /// The code of these parts, which are within the limits.
 fn finished(locals: usize, sets: Vec<PatternSet>, instrs: Vec<Instr>) -> Code
-    requires { let program : Program = record { locals = locals; sets = sets.items; instrs = instrs.items } in IsAllowed program }
-    ensures { let program : Program = record { locals = locals; sets = sets.items; instrs = instrs.items } in result ≡ program }
+    requires { let program : CodeView = record { locals = locals; sets = sets.items; instrs = instrs.items } in IsAllowed program }
+    ensures { let program : CodeView = record { locals = locals; sets = sets.items; instrs = instrs.items } in result ≡ program }
 {
     Code::new(locals as u8, sets, instrs).unwrap()
 }

@@ -1,7 +1,7 @@
 //! The code of expressions.
 
 ghost use Rattle.std.specs.Prelude.{◌≡◌, ◌+◌, ◌≤◌, [], ◌∷◌, ◌++◌, IfOk, OnOk, length, map};
-ghost use Rattle.filter_code.specs.Program.{HasMask};
+ghost use Rattle.filter_code.specs.CodeView.{HasMask};
 ghost use Rattle.filter_parser.specs.Syntax.{pattern_of, view, view_item};
 ghost use Rattle.filter_types.specs.Kinds.{names_in};
 ghost use Rattle.filter_types.specs.Turns.{names_behind};

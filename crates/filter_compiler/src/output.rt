@@ -1,7 +1,7 @@
 //! The code that is being written.
 
 ghost use Rattle.std.specs.Prelude.{◌≡◌, [], ◌∷◌, ◌++◌, All, OnOk, drop};
-ghost use Rattle.filter_code.specs.Program.{HasMask};
+ghost use Rattle.filter_code.specs.CodeView.{HasMask};
 ghost use Rattle.filter_compiler.specs.Writing.{next_number};
 
 use crate::sets::PatternList;
@@ -18,7 +18,7 @@ pub(crate) struct InstrList {
 impl Model for InstrList {
     ghost use Rattle.std.specs.Prelude.{List, All};
     ghost use Rattle.filter_code.specs.declared.instruction.Instr.{Instr};
-    ghost use Rattle.filter_code.specs.Program.{HasMask};
+    ghost use Rattle.filter_code.specs.CodeView.{HasMask};
 
     ghost Value = { List Instr };
 

@@ -8,25 +8,25 @@ use Rattle.filter_parser.specs.Acting.{accepts, act_at, act_by, act_with, acts_f
 use Rattle.filter_parser.specs.Acting.{choice_with, end_of, refuses, rejects}
 use Rattle.filter_parser.specs.Reading.{Reads, expr_at}
 use Rattle.filter_parser.specs.Steps.{after_mark, after_quote}
-use Rattle.filter_parser.specs.Syntax.{Tree, Fits, spelling}
-use Rattle.filter_parser.specs.SyntaxCommands.{Aim, Act, Acts, FitsAct, FitsActs, is_open, spelling_act, spelling_acts}
+use Rattle.filter_parser.specs.Syntax.{ExprView, Fits, spelling}
+use Rattle.filter_parser.specs.SyntaxCommands.{TargetView, CommandView, Acts, FitsAct, FitsActs, is_open, spelling_act, spelling_acts}
 use Rattle.filter_parser.specs.SyntaxCommands.{spelling_aim, spelling_end}
 use Rattle.filter_parser.proofs.Joined.{acts_joined, assign_joined, block_joined, choice_joined, else_joined, front_joined}
 use Rattle.filter_parser.proofs.Steps.{bind_some, mark_found, some_is, with_some_cases}
 
 -- what is read of expressions is spelled so, and fits
-pub record AreSound (depth : ℕ) (expr : Reads Tree) : Type 0 where
-  pub sound : (ws : List Lexeme) (x : Tree × List Lexeme) → expr ws ≡ Some x → (ws ≡ spelling x.0 ++ x.1) × Fits x.0 depth
+pub record AreSound (depth : ℕ) (expr : Reads ExprView) : Type 0 where
+  pub sound : (ws : List Lexeme) (x : ExprView × List Lexeme) → expr ws ≡ Some x → (ws ≡ spelling x.0 ++ x.1) × Fits x.0 depth
 
 -- what was read of a command: it is spelled so, fits, and where an `else` would belong to an `if` in it, none follows
-pub record FoundAct (depth : ℕ) (ws : List Lexeme) (x : Act × List Lexeme) : Type 0 where
+pub record FoundAct (depth : ℕ) (ws : List Lexeme) (x : CommandView × List Lexeme) : Type 0 where
   pub spelled : ws ≡ spelling_act x.0 ++ x.1
   pub fits : FitsAct x.0 depth
   pub settled : is_open x.0 ≡ true → after_mark m.Else x.1 ≡ None
 
 -- a reading function finds only such commands, of which these lexemes were read before
-pub record IsActSound (depth : ℕ) (before : List Lexeme) (act : Reads Act) : Type 0 where
-  pub sound : (ws : List Lexeme) (x : Act × List Lexeme) → act ws ≡ Some x → FoundAct depth (before ++ ws) x
+pub record IsActSound (depth : ℕ) (before : List Lexeme) (act : Reads CommandView) : Type 0 where
+  pub sound : (ws : List Lexeme) (x : CommandView × List Lexeme) → act ws ≡ Some x → FoundAct depth (before ++ ws) x
 
 -- a text was found
 pub quote_found : (ws rest : List Lexeme) → after_quote ws ≡ Some rest → ws ≡ Lexeme.quote ∷ rest
@@ -55,7 +55,7 @@ accepts_sound : (depth : ℕ) → IsActSound depth (Lexeme.mark m.Accept ∷ [])
 accepts_sound depth = record {
   sound = λ ws x e.
       let (read, first, same) = bind_some (end_of ws) _ x e in
-      let found : FoundAct depth (Lexeme.mark m.Accept ∷ ws) (Act.accept read.0, read.1) = record {
+      let found : FoundAct depth (Lexeme.mark m.Accept ∷ ws) (CommandView.accept read.0, read.1) = record {
         spelled = ap (λ (vs : List Lexeme). Lexeme.mark m.Accept ∷ vs) (end_sound ws read first);
         fits = tt;
         settled = λ opened. absurd (cc);
@@ -67,7 +67,7 @@ rejects_sound : (depth : ℕ) → IsActSound depth (Lexeme.mark m.Reject ∷ [])
 rejects_sound depth = record {
   sound = λ ws x e.
       let (read, first, same) = bind_some (end_of ws) _ x e in
-      let found : FoundAct depth (Lexeme.mark m.Reject ∷ ws) (Act.reject read.0, read.1) = record {
+      let found : FoundAct depth (Lexeme.mark m.Reject ∷ ws) (CommandView.reject read.0, read.1) = record {
         spelled = ap (λ (vs : List Lexeme). Lexeme.mark m.Reject ∷ vs) (end_sound ws read first);
         fits = tt;
         settled = λ opened. absurd (cc);
@@ -75,7 +75,7 @@ rejects_sound depth = record {
       subst (FoundAct depth (Lexeme.mark m.Reject ∷ ws)) (some_is same) found;
 }
 
-assign_sound : (depth : ℕ) (expr : Reads Tree) → AreSound depth expr → (aim : Aim)
+assign_sound : (depth : ℕ) (expr : Reads ExprView) → AreSound depth expr → (aim : TargetView)
     → IsActSound depth (spelling_aim aim ∷ []) (assign_with expr aim)
 assign_sound depth expr of aim = record {
   sound = λ ws x e.
@@ -83,7 +83,7 @@ assign_sound depth expr of aim = record {
       let (tree, e2, f2) = bind_some (expr value) _ x f1 in
       let (rest, e3, f3) = bind_some (after_mark m.Semicolon tree.1) _ x f2 in
       let read = of.sound value tree e2 in
-      let found : FoundAct depth (spelling_aim aim ∷ ws) (Act.assign aim tree.0, rest) = record {
+      let found : FoundAct depth (spelling_aim aim ∷ ws) (CommandView.assign aim tree.0, rest) = record {
         spelled = assign_joined (spelling_aim aim) (Lexeme.mark m.Equal) (Lexeme.mark m.Semicolon) ws value (spelling tree.0) tree.1 rest
             (mark_found m.Equal ws value e1) read.0 (mark_found m.Semicolon tree.1 rest e3);
         fits = read.1;
@@ -97,7 +97,7 @@ pub record FoundActs (depth : ℕ) (ws : List Lexeme) (x : Acts × List Lexeme) 
   pub spelled : ws ≡ spelling_acts x.0 ++ Lexeme.mark m.RightBrace ∷ x.1
   pub fits : FitsActs x.0 depth
 
-acts_sound : (depth : ℕ) (act : Reads Act) → IsActSound depth [] act → (n : ℕ) (ws : List Lexeme) (x : Acts × List Lexeme)
+acts_sound : (depth : ℕ) (act : Reads CommandView) → IsActSound depth [] act → (n : ℕ) (ws : List Lexeme) (x : Acts × List Lexeme)
     → acts_from act n ws ≡ Some x → FoundActs depth ws x
 acts_sound depth act of zero ws x e = absurd (cc)
 acts_sound depth act of (suc n) ws x e =
@@ -118,18 +118,18 @@ acts_sound depth act of (suc n) ws x e =
           subst (FoundActs depth ws) (some_is same) found
     ]
 
-pub acts_with_sound : (depth : ℕ) (act : Reads Act) → IsActSound depth [] act → (ws : List Lexeme) (x : Acts × List Lexeme)
+pub acts_with_sound : (depth : ℕ) (act : Reads CommandView) → IsActSound depth [] act → (ws : List Lexeme) (x : Acts × List Lexeme)
     → acts_with act ws ≡ Some x → FoundActs depth ws x
 unfolding acts_with
 acts_with_sound depth act of ws x e = acts_sound depth act of (suc (length ws)) ws x e
 
-block_sound : (depth : ℕ) (act : Reads Act) → IsActSound depth [] act
+block_sound : (depth : ℕ) (act : Reads CommandView) → IsActSound depth [] act
     → IsActSound (suc depth) (Lexeme.mark m.LeftBrace ∷ []) (block_with act)
 block_sound depth act of = record {
   sound = λ ws x e.
       let (body, e1, same) = bind_some (acts_with act ws) _ x e in
       let read = acts_with_sound depth act of ws body e1 in
-      let found : FoundAct (suc depth) (Lexeme.mark m.LeftBrace ∷ ws) (Act.block body.0, body.1) = record {
+      let found : FoundAct (suc depth) (Lexeme.mark m.LeftBrace ∷ ws) (CommandView.block body.0, body.1) = record {
         spelled = block_joined (Lexeme.mark m.LeftBrace) (Lexeme.mark m.RightBrace) ws (spelling_acts body.0) body.1 read.spelled;
         fits = read.fits;
         settled = λ opened. absurd (cc);
@@ -138,7 +138,7 @@ block_sound depth act of = record {
 }
 
 -- a command behind which an `else` was found is not open
-closed : (t : Act) (ws behind : List Lexeme) → (is_open t ≡ true → after_mark m.Else ws ≡ None) → after_mark m.Else ws ≡ Some behind
+closed : (t : CommandView) (ws behind : List Lexeme) → (is_open t ≡ true → after_mark m.Else ws ≡ None) → after_mark m.Else ws ≡ Some behind
     → is_open t ≡ false
 closed t ws behind settled found = go (is_open t) refl
   where
@@ -146,7 +146,7 @@ closed t ws behind settled found = go (is_open t) refl
     go false e = e
     go true e = let none : after_mark m.Else ws ≡ None = settled e in absurd (cc)
 
-choice_sound : (depth : ℕ) (expr : Reads Tree) (act : Reads Act) → AreSound depth expr → IsActSound depth [] act
+choice_sound : (depth : ℕ) (expr : Reads ExprView) (act : Reads CommandView) → AreSound depth expr → IsActSound depth [] act
     → IsActSound (suc depth) (Lexeme.mark m.If ∷ []) (choice_with expr act)
 choice_sound depth expr act tests of = record {
   sound = λ ws x e.
@@ -160,7 +160,7 @@ choice_sound depth expr act tests of = record {
       (mark_found m.Then test.1 behind e2) taken.spelled in
       elim (with_some_cases (after_mark m.Else chosen.1) _ _ x f3) [
         | inl (none, same) ↦
-            let found : FoundAct (suc depth) (Lexeme.mark m.If ∷ ws) (Act.choice test.0 chosen.0, chosen.1) = record {
+            let found : FoundAct (suc depth) (Lexeme.mark m.If ∷ ws) (CommandView.choice test.0 chosen.0, chosen.1) = record {
               spelled = choice_joined (Lexeme.mark m.If) (Lexeme.mark m.Then) ws (spelling test.0) (spelling_act chosen.0) chosen.1 front;
               fits = (asked.1, taken.fits);
               settled = λ opened. none;
@@ -169,7 +169,7 @@ choice_sound depth expr act tests of = record {
         | inr (others, some, read) ↦
             let (other, e4, same) = bind_some (act others) _ x read in
             let left = of.sound others other e4 in
-            let found : FoundAct (suc depth) (Lexeme.mark m.If ∷ ws) (Act.choice_else test.0 chosen.0 other.0, other.1) = record {
+            let found : FoundAct (suc depth) (Lexeme.mark m.If ∷ ws) (CommandView.choice_else test.0 chosen.0 other.0, other.1) = record {
               spelled = else_joined (Lexeme.mark m.If) (Lexeme.mark m.Then) (Lexeme.mark m.Else) ws (spelling test.0)
                   (spelling_act chosen.0) chosen.1 others
                   (spelling_act other.0) other.1 front (mark_found m.Else chosen.1 others some) left.spelled;
@@ -183,12 +183,12 @@ choice_sound depth expr act tests of = record {
 refuses_sound : (depth : ℕ) (before : List Lexeme) → IsActSound depth before refuses
 refuses_sound depth before = record { sound = λ ws x e. absurd (cc) }
 
-by_sound : (depth : ℕ) (expr : Reads Tree) (block choice : Reads Act) → AreSound depth expr
+by_sound : (depth : ℕ) (expr : Reads ExprView) (block choice : Reads CommandView) → AreSound depth expr
     → IsActSound depth (Lexeme.mark m.LeftBrace ∷ []) block
     → IsActSound depth (Lexeme.mark m.If ∷ []) choice → (k : Mark) → IsActSound depth (Lexeme.mark k ∷ []) (act_by expr block choice k)
 by_sound depth expr block choice of blocks choices m.Semicolon = record {
   sound = λ ws x e.
-      let found : FoundAct depth (Lexeme.mark m.Semicolon ∷ ws) (Act.empty, ws) =
+      let found : FoundAct depth (Lexeme.mark m.Semicolon ∷ ws) (CommandView.empty, ws) =
       record { spelled = refl; fits = tt; settled = λ opened. absurd (cc) } in
       subst (FoundAct depth (Lexeme.mark m.Semicolon ∷ ws)) (some_is e) found;
 }
@@ -196,17 +196,17 @@ by_sound depth expr block choice of blocks choices m.LeftBrace = blocks
 by_sound depth expr block choice of blocks choices m.If = choices
 by_sound depth expr block choice of blocks choices m.Accept = accepts_sound depth
 by_sound depth expr block choice of blocks choices m.Reject = rejects_sound depth
-by_sound depth expr block choice of blocks choices m.RipMetric = assign_sound depth expr of Aim.to_metric
-by_sound depth expr block choice of blocks choices m.Net = assign_sound depth expr of Aim.to_net
+by_sound depth expr block choice of blocks choices m.RipMetric = assign_sound depth expr of TargetView.to_metric
+by_sound depth expr block choice of blocks choices m.Net = assign_sound depth expr of TargetView.to_net
 by_sound depth expr block choice of blocks choices other = record { sound = λ ws x e. absurd (cc) }
 
-with_sound : (depth : ℕ) (expr : Reads Tree) (block choice : Reads Act) → AreSound depth expr
+with_sound : (depth : ℕ) (expr : Reads ExprView) (block choice : Reads CommandView) → AreSound depth expr
     → IsActSound depth (Lexeme.mark m.LeftBrace ∷ []) block
-    → IsActSound depth (Lexeme.mark m.If ∷ []) choice → (ws : List Lexeme) (x : Act × List Lexeme) → act_with expr block choice ws ≡ Some x
+    → IsActSound depth (Lexeme.mark m.If ∷ []) choice → (ws : List Lexeme) (x : CommandView × List Lexeme) → act_with expr block choice ws ≡ Some x
     → FoundAct depth ws x
 with_sound depth expr block choice of blocks choices [] x e = absurd (cc)
 with_sound depth expr block choice of blocks choices (Lexeme.name text ∷ ws) x e =
-    (assign_sound depth expr of (Aim.to_name text)).sound ws x e
+    (assign_sound depth expr of (TargetView.to_name text)).sound ws x e
 with_sound depth expr block choice of blocks choices (Lexeme.number n ∷ ws) x e = absurd (cc)
 with_sound depth expr block choice of blocks choices (Lexeme.address a ∷ ws) x e = absurd (cc)
 with_sound depth expr block choice of blocks choices (Lexeme.prefix bits ∷ ws) x e = absurd (cc)

@@ -11,7 +11,7 @@ use Rattle.filter_parser.specs.declared.tree.op.Op.TheVariants as o
 use Rattle.filter_parser.specs.Reading.{Reads, op_first, run_from, comparison_with, level_by, level_of, unmixed, expr_with, refused}
 use Rattle.filter_parser.specs.Reading.{neg_at, expr_at}
 use Rattle.filter_parser.specs.Steps.{◌>>=◌, with_some, after_mark}
-use Rattle.filter_parser.specs.Syntax.{Tree, Fits, rank, rank_of, sign, spelling}
+use Rattle.filter_parser.specs.Syntax.{ExprView, Fits, rank, rank_of, sign, spelling}
 use Rattle.filter_parser.proofs.Operators.{FitsLeft, left_cases, op_read, side, top}
 use Rattle.filter_parser.proofs.Stops.{Stops, binds_sign, op_stops, or_stops, stops_less}
 use Rattle.filter_parser.proofs.CompleteComparisons.{comparison_at, comparison_complete}
@@ -27,8 +27,8 @@ is_join l.And = Unit {0}
 is_join l.Or = Unit {0}
 
 -- behind the first operand of such a run stands one of its signs
-record First (neg : Reads Tree) (level : Level) (ws : List Lexeme) : Type 0 where
-  first : Tree
+record First (neg : Reads ExprView) (level : Level) (ws : List Lexeme) : Type 0 where
+  first : ExprView
   op : Op
   more : List Lexeme
   binds : rank_of op ≡ top level
@@ -41,11 +41,11 @@ join_side l.Comparison j = absurd j
 join_side l.And j = (refl, λ e. absurd (cc))
 join_side l.Or j = (refl, λ e. absurd (cc))
 
-first_binary : (depth : ℕ) (neg : Reads Tree) → IsComplete depth 1 neg → (level : Level) → is_join level →
-    (op : Op) (a b : Tree) (rest : List Lexeme) →
-    Fits (Tree.binary op a b) depth → rank_of op ≡ top level →
+first_binary : (depth : ℕ) (neg : Reads ExprView) → IsComplete depth 1 neg → (level : Level) → is_join level →
+    (op : Op) (a b : ExprView) (rest : List Lexeme) →
+    Fits (ExprView.binary op a b) depth → rank_of op ≡ top level →
     ((rest : List Lexeme) → rank a ≡ top level → First neg level (spelling a ++ rest)) →
-    First neg level (spelling (Tree.binary op a b) ++ rest)
+    First neg level (spelling (ExprView.binary op a b) ++ rest)
 first_binary depth neg s level j op a b rest f e again =
     let r = op_read level op e in
     let ws : List Lexeme = spelling b ++ rest in
@@ -71,22 +71,22 @@ not_join l.Comparison a j h e = j
 not_join l.And a j h e = omega arith
 not_join l.Or a j h e = omega arith
 
-first_is : (depth : ℕ) (neg : Reads Tree) → IsComplete depth 1 neg → (level : Level) → is_join level → (t : Tree) (rest : List Lexeme) →
+first_is : (depth : ℕ) (neg : Reads ExprView) → IsComplete depth 1 neg → (level : Level) → is_join level → (t : ExprView) (rest : List Lexeme) →
     Fits t depth →
     rank t ≡ top level → First neg level (spelling t ++ rest)
-first_is depth neg s level j (Tree.binary op a b) rest f e =
+first_is depth neg s level j (ExprView.binary op a b) rest f e =
     first_binary depth neg s level j op a b rest f e (λ rest. first_is depth neg s level j a rest f.1)
-first_is depth neg s level j (Tree.member k a xs) rest f e = absurd (not_join level 4 j (omega arith) e)
-first_is depth neg s level j (Tree.number n) rest f e = absurd (not_join level 0 j (omega arith) e)
-first_is depth neg s level j (Tree.address a) rest f e = absurd (not_join level 0 j (omega arith) e)
-first_is depth neg s level j (Tree.prefix p) rest f e = absurd (not_join level 0 j (omega arith) e)
-first_is depth neg s level j (Tree.truth b) rest f e = absurd (not_join level 0 j (omega arith) e)
-first_is depth neg s level j (Tree.name text) rest f e = absurd (not_join level 0 j (omega arith) e)
-first_is depth neg s level j (Tree.attribute a) rest f e = absurd (not_join level 0 j (omega arith) e)
-first_is depth neg s level j (Tree.defined a) rest f e = absurd (not_join level 0 j (omega arith) e)
-first_is depth neg s level j (Tree.group inner) rest f e = absurd (not_join level 0 j (omega arith) e)
-first_is depth neg s level j (Tree.negation inner) rest f e = absurd (not_join level 1 j (omega arith) e)
-first_is depth neg s level j (Tree.suffixed inner x) rest f e = absurd (not_join level 0 j (omega arith) e)
+first_is depth neg s level j (ExprView.member k a xs) rest f e = absurd (not_join level 4 j (omega arith) e)
+first_is depth neg s level j (ExprView.number n) rest f e = absurd (not_join level 0 j (omega arith) e)
+first_is depth neg s level j (ExprView.address a) rest f e = absurd (not_join level 0 j (omega arith) e)
+first_is depth neg s level j (ExprView.prefix p) rest f e = absurd (not_join level 0 j (omega arith) e)
+first_is depth neg s level j (ExprView.truth b) rest f e = absurd (not_join level 0 j (omega arith) e)
+first_is depth neg s level j (ExprView.name text) rest f e = absurd (not_join level 0 j (omega arith) e)
+first_is depth neg s level j (ExprView.attribute a) rest f e = absurd (not_join level 0 j (omega arith) e)
+first_is depth neg s level j (ExprView.defined a) rest f e = absurd (not_join level 0 j (omega arith) e)
+first_is depth neg s level j (ExprView.group inner) rest f e = absurd (not_join level 0 j (omega arith) e)
+first_is depth neg s level j (ExprView.negation inner) rest f e = absurd (not_join level 1 j (omega arith) e)
+first_is depth neg s level j (ExprView.suffixed inner x) rest f e = absurd (not_join level 0 j (omega arith) e)
 
 level_and : (op : Op) (ws : List Lexeme) → rank_of op ≡ 5 → level_of (Lexeme.mark (sign op) ∷ ws) ≡ l.And
 level_and o.And ws e = refl
@@ -104,18 +104,18 @@ level_is l.Comparison op ws j e = absurd j
 level_is l.And op ws j e = level_and op ws e
 level_is l.Or op ws j e = level_or op ws e
 
-unmixed_back : (t : Tree) (rest : List Lexeme) → Stops 6 rest → unmixed (t, rest) ≡ Some (t, rest)
+unmixed_back : (t : ExprView) (rest : List Lexeme) → Stops 6 rest → unmixed (t, rest) ≡ Some (t, rest)
 unmixed_back t rest stops =
     ap (λ r. with_some r (with_some (op_first l.Or rest) (Some (t, rest)) (λ _. None)) (λ _. None))
     (op_stops l.And rest (stops_less 5 6 rest (omega arith) stops))
     ∙ ap (λ r. with_some r (Some (t, rest)) (λ _. None)) (op_stops l.Or rest stops)
 
 -- what stands behind the first operand of an expression
-abbrev behind_first : Reads Tree → Tree × List Lexeme → Option (Tree × List Lexeme)
+abbrev behind_first : Reads ExprView → ExprView × List Lexeme → Option (ExprView × List Lexeme)
 behind_first neg first = run_from (comparison_with neg) (level_of first.1) first.0 first.1 >>= unmixed
 
 -- an expression whose first operand and level are known
-expr_from : (neg : Reads Tree) (level : Level) (ws : List Lexeme) (first : Tree × List Lexeme) (t : Tree) (rest : List Lexeme) →
+expr_from : (neg : Reads ExprView) (level : Level) (ws : List Lexeme) (first : ExprView × List Lexeme) (t : ExprView) (rest : List Lexeme) →
     comparison_with neg ws ≡ Some first → level_of first.1 ≡ level → starts_run (comparison_with neg) level ws ≡ Some (t, rest) →
     Stops 6 rest →
     expr_with neg ws ≡ Some (t, rest)
@@ -126,9 +126,9 @@ expr_from neg level ws first t rest e f g stops =
     ∙ (ap (λ k. run_from (comparison_with neg) k first.0 first.1 >>= unmixed) f
     ∙ (ap (λ r. r >>= unmixed) a ∙ unmixed_back t rest stops))
 
-expr_join : (depth : ℕ) (neg : Reads Tree) → IsComplete depth 1 neg → (level : Level) → is_join level → FitsLeft level (top level) →
+expr_join : (depth : ℕ) (neg : Reads ExprView) → IsComplete depth 1 neg → (level : Level) → is_join level → FitsLeft level (top level) →
     top level ≤ 6 →
-    (t : Tree) (rest : List Lexeme) → Fits t depth → rank t ≡ top level → Stops 6 rest → expr_with neg (spelling t ++ rest) ≡ Some (t, rest)
+    (t : ExprView) (rest : List Lexeme) → Fits t depth → rank t ≡ top level → Stops 6 rest → expr_with neg (spelling t ++ rest) ≡ Some (t, rest)
 expr_join depth neg s level j left most t rest f e stops =
     let a = first_is depth neg s level j t rest f e in
     let h = join_side level j in
@@ -141,7 +141,7 @@ expr_join depth neg s level j left most t rest f e stops =
     (stops_less (top level) 6 rest most stops)) stops
 
 -- an expression that is no run of `&&` or `||`
-expr_plain : (depth : ℕ) (neg : Reads Tree) → IsComplete depth 1 neg → (t : Tree) (rest : List Lexeme) → Fits t depth → rank t ≤ 4 →
+expr_plain : (depth : ℕ) (neg : Reads ExprView) → IsComplete depth 1 neg → (t : ExprView) (rest : List Lexeme) → Fits t depth → rank t ≤ 4 →
     Stops 6 rest →
     expr_with neg (spelling t ++ rest) ≡ Some (t, rest)
 expr_plain depth neg s t rest f low stops =
@@ -154,7 +154,7 @@ expr_plain depth neg s t rest f low stops =
     level_none : (rest : List Lexeme) → after_mark m.Or rest ≡ None → level_of rest ≡ l.And
     level_none rest e = ap level_by e
 
-pub expr_with_complete : (depth : ℕ) (neg : Reads Tree) → IsComplete depth 1 neg → IsComplete depth 6 (expr_with neg)
+pub expr_with_complete : (depth : ℕ) (neg : Reads ExprView) → IsComplete depth 1 neg → IsComplete depth 6 (expr_with neg)
 expr_with_complete depth neg s = record {
   complete = λ t rest f low stops. elim (eq-or-lt_of_le low) [
     | inl e ↦ expr_join depth neg s l.Or tt (omega arith, λ e. absurd (omega arith)) (omega arith) t rest f e stops

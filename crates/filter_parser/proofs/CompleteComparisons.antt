@@ -13,7 +13,7 @@ use Rattle.filter_parser.specs.declared.tree.op.Op.TheVariants as o
 use Rattle.filter_parser.specs.Reading.{Reads, op_first, set_of, sum_with, membership_of, bracket_of, member_of, right_with}
 use Rattle.filter_parser.specs.Reading.{comparison_with}
 use Rattle.filter_parser.specs.Steps.{◌>>=◌, with_some, after_mark}
-use Rattle.filter_parser.specs.Syntax.{Item, Tree, Fits, FitsSet, membership_sign, rank, rank_of, sign, spelling, spelling_item}
+use Rattle.filter_parser.specs.Syntax.{SetPatternView, ExprView, Fits, FitsSet, membership_sign, rank, rank_of, sign, spelling, spelling_item}
 use Rattle.filter_parser.specs.Syntax.{spelling_items, spelling_set, spelling_suffix}
 use Rattle.filter_parser.proofs.CompleteWords.{set_back}
 use Rattle.filter_parser.proofs.Operators.{op_read}
@@ -22,31 +22,31 @@ use Rattle.filter_parser.proofs.CompleteOperands.{IsComplete}
 use Rattle.filter_parser.proofs.CompleteRuns.{sum_complete}
 
 -- an operand begins with no `[`
-no_bracket : (t : Tree) (rest : List Lexeme) → after_mark m.LeftBracket (spelling t ++ rest) ≡ None
-no_bracket (Tree.number n) rest = refl
-no_bracket (Tree.address a) rest = refl
-no_bracket (Tree.prefix p) rest = refl
-no_bracket (Tree.truth true) rest = refl
-no_bracket (Tree.truth false) rest = refl
-no_bracket (Tree.name text) rest = refl
-no_bracket (Tree.attribute attributes.Net) rest = refl
-no_bracket (Tree.attribute attributes.RipMetric) rest = refl
-no_bracket (Tree.defined a) rest = refl
-no_bracket (Tree.group inner) rest = refl
-no_bracket (Tree.negation inner) rest = refl
-no_bracket (Tree.binary op a b) rest =
+no_bracket : (t : ExprView) (rest : List Lexeme) → after_mark m.LeftBracket (spelling t ++ rest) ≡ None
+no_bracket (ExprView.number n) rest = refl
+no_bracket (ExprView.address a) rest = refl
+no_bracket (ExprView.prefix p) rest = refl
+no_bracket (ExprView.truth true) rest = refl
+no_bracket (ExprView.truth false) rest = refl
+no_bracket (ExprView.name text) rest = refl
+no_bracket (ExprView.attribute attributes.Net) rest = refl
+no_bracket (ExprView.attribute attributes.RipMetric) rest = refl
+no_bracket (ExprView.defined a) rest = refl
+no_bracket (ExprView.group inner) rest = refl
+no_bracket (ExprView.negation inner) rest = refl
+no_bracket (ExprView.binary op a b) rest =
     ap (after_mark m.LeftBracket) (append_assoc (spelling a) (Lexeme.mark (sign op) ∷ spelling b) rest)
     ∙ no_bracket a (Lexeme.mark (sign op) ∷ (spelling b ++ rest))
-no_bracket (Tree.member op a xs) rest =
+no_bracket (ExprView.member op a xs) rest =
     ap (after_mark m.LeftBracket) (append_assoc (spelling a) (Lexeme.mark (membership_sign op) ∷ spelling_set xs) rest)
     ∙ no_bracket a (Lexeme.mark (membership_sign op) ∷ (spelling_set xs ++ rest))
-no_bracket (Tree.suffixed inner x) rest =
+no_bracket (ExprView.suffixed inner x) rest =
     ap (after_mark m.LeftBracket) (append_assoc (spelling inner) (spelling_suffix x) rest) ∙ no_bracket inner (spelling_suffix x ++ rest)
 
 abbrev behind_bracket : Membership → List Lexeme → Option (Membership × List Lexeme)
 behind_bracket k rest = Some (k, rest)
 
-bracket_none : (op : Op) (t : Tree) (rest : List Lexeme) → bracket_of op (spelling t ++ rest) ≡ None
+bracket_none : (op : Op) (t : ExprView) (rest : List Lexeme) → bracket_of op (spelling t ++ rest) ≡ None
 bracket_none op t rest = go (membership_of op)
   where
     go : (r : Option Membership) → (r >>= λ k. after_mark m.LeftBracket (spelling t ++ rest) >>= behind_bracket k) ≡ None
@@ -54,16 +54,16 @@ bracket_none op t rest = go (membership_of op)
     go (Some k) = ap (λ r. r >>= behind_bracket k) (no_bracket t rest)
 
 -- the right operand of a comparison
-right_back : (depth : ℕ) (sum : Reads Tree) → IsComplete depth 3 sum → (op : Op) (a b : Tree) (rest : List Lexeme) → Fits b depth →
+right_back : (depth : ℕ) (sum : Reads ExprView) → IsComplete depth 3 sum → (op : Op) (a b : ExprView) (rest : List Lexeme) → Fits b depth →
     rank b ≤ 3 →
-    Stops 3 rest → right_with sum a op (spelling b ++ rest) ≡ Some (Tree.binary op a b, rest)
+    Stops 3 rest → right_with sum a op (spelling b ++ rest) ≡ Some (ExprView.binary op a b, rest)
 right_back depth sum s op a b rest f low stops =
-    ap (λ r. with_some r (sum (spelling b ++ rest) >>= λ right. Some (Tree.binary op a right.0, right.1)) (λ k. member_of a k.0 k.1))
+    ap (λ r. with_some r (sum (spelling b ++ rest) >>= λ right. Some (ExprView.binary op a right.0, right.1)) (λ k. member_of a k.0 k.1))
     (bracket_none op b rest)
-    ∙ ap (λ r. r >>= λ right. Some (Tree.binary op a right.0, right.1)) (s.complete b rest f low stops)
+    ∙ ap (λ r. r >>= λ right. Some (ExprView.binary op a right.0, right.1)) (s.complete b rest f low stops)
 
 -- the set of a comparison
-set_found : (xs : List Item) (rest : List Lexeme) → FitsSet xs →
+set_found : (xs : List SetPatternView) (rest : List Lexeme) → FitsSet xs →
     (ws : List Lexeme) × (spelling_set xs ++ rest ≡ Lexeme.mark m.LeftBracket ∷ ws) × (set_of ws ≡ Some (xs, rest))
 set_found [] rest f = absurd f
 set_found (x ∷ more) rest f = ((spelling_item x ++ spelling_items more) ++ rest, refl, set_back x more rest f.0 f.1)
@@ -83,30 +83,30 @@ unfolding op_of_member
 member_bracket membership.In ws = refl
 member_bracket membership.NotIn ws = refl
 
-member_back : (sum : Reads Tree) (k : Membership) (a : Tree) (xs : List Item) (rest : List Lexeme) → FitsSet xs →
-    right_with sum a (op_of_member k) (spelling_set xs ++ rest) ≡ Some (Tree.member k a xs, rest)
+member_back : (sum : Reads ExprView) (k : Membership) (a : ExprView) (xs : List SetPatternView) (rest : List Lexeme) → FitsSet xs →
+    right_with sum a (op_of_member k) (spelling_set xs ++ rest) ≡ Some (ExprView.member k a xs, rest)
 member_back sum k a xs rest f =
     let s = set_found xs rest f in
     ap (right_with sum a (op_of_member k)) s.1
-    ∙ (ap (λ r. with_some r (sum (Lexeme.mark m.LeftBracket ∷ s.0) >>= λ right. Some (Tree.binary (op_of_member k) a right.0, right.1))
+    ∙ (ap (λ r. with_some r (sum (Lexeme.mark m.LeftBracket ∷ s.0) >>= λ right. Some (ExprView.binary (op_of_member k) a right.0, right.1))
     (λ k. member_of a k.0 k.1))
     (member_bracket k s.0)
-    ∙ ap (λ r. r >>= λ xs. Some (Tree.member k a xs.0, xs.1)) s.2)
+    ∙ ap (λ r. r >>= λ xs. Some (ExprView.member k a xs.0, xs.1)) s.2)
 
 -- a comparison so far: the sum at its left, and what is behind it
-abbrev behind_sum : Reads Tree → Tree × List Lexeme → Option (Tree × List Lexeme)
+abbrev behind_sum : Reads ExprView → ExprView × List Lexeme → Option (ExprView × List Lexeme)
 behind_sum neg left = with_some (op_first l.Comparison left.1) (Some left) (λ op. right_with (sum_with neg) left.0 op.0 op.1)
 
-comparison_plain : (depth : ℕ) (neg : Reads Tree) → IsComplete depth 1 neg → (t : Tree) (rest : List Lexeme) → Fits t depth →
+comparison_plain : (depth : ℕ) (neg : Reads ExprView) → IsComplete depth 1 neg → (t : ExprView) (rest : List Lexeme) → Fits t depth →
     rank t ≤ 3 → Stops 4 rest →
     comparison_with neg (spelling t ++ rest) ≡ Some (t, rest)
 comparison_plain depth neg s t rest f low stops =
     ap (λ r. r >>= behind_sum neg) ((sum_complete depth neg s).complete t rest f low (stops_less 3 4 rest (omega arith) stops))
     ∙ ap (λ r. with_some r (Some (t, rest)) (λ op. right_with (sum_with neg) t op.0 op.1)) (op_stops l.Comparison rest stops)
 
-comparison_binary : (depth : ℕ) (neg : Reads Tree) → IsComplete depth 1 neg → (op : Op) (a b : Tree) (rest : List Lexeme) →
-    Fits (Tree.binary op a b) depth →
-    rank_of op ≡ 4 → Stops 4 rest → comparison_with neg (spelling (Tree.binary op a b) ++ rest) ≡ Some (Tree.binary op a b, rest)
+comparison_binary : (depth : ℕ) (neg : Reads ExprView) → IsComplete depth 1 neg → (op : Op) (a b : ExprView) (rest : List Lexeme) →
+    Fits (ExprView.binary op a b) depth →
+    rank_of op ≡ 4 → Stops 4 rest → comparison_with neg (spelling (ExprView.binary op a b) ++ rest) ≡ Some (ExprView.binary op a b, rest)
 comparison_binary depth neg s op a b rest f e stops =
     let r = op_read l.Comparison op e in
     let ws : List Lexeme = spelling b ++ rest in
@@ -118,9 +118,9 @@ comparison_binary depth neg s op a b rest f e stops =
     ∙ (ap (λ r. with_some r (Some (a, Lexeme.mark (sign op) ∷ ws)) (λ op. right_with (sum_with neg) a op.0 op.1)) first
     ∙ right_back depth (sum_with neg) sum op a b rest f.2 (r.right (rank a) (rank b) f.0) (stops_less 3 4 rest (omega arith) stops)))
 
-comparison_member : (depth : ℕ) (neg : Reads Tree) → IsComplete depth 1 neg →
-    (k : Membership) (a : Tree) (xs : List Item) (rest : List Lexeme) →
-    Fits (Tree.member k a xs) depth → comparison_with neg (spelling (Tree.member k a xs) ++ rest) ≡ Some (Tree.member k a xs, rest)
+comparison_member : (depth : ℕ) (neg : Reads ExprView) → IsComplete depth 1 neg →
+    (k : Membership) (a : ExprView) (xs : List SetPatternView) (rest : List Lexeme) →
+    Fits (ExprView.member k a xs) depth → comparison_with neg (spelling (ExprView.member k a xs) ++ rest) ≡ Some (ExprView.member k a xs, rest)
 comparison_member depth neg s k a xs rest f =
     let ws : List Lexeme = spelling_set xs ++ rest in
     ap (comparison_with neg) (append_assoc (spelling a) (Lexeme.mark (membership_sign k) ∷ spelling_set xs) rest)
@@ -134,26 +134,26 @@ comparison_member depth neg s k a xs rest f =
     member_stops membership.In ws = omega arith
     member_stops membership.NotIn ws = omega arith
 
-pub comparison_at : (depth : ℕ) (neg : Reads Tree) → IsComplete depth 1 neg → (t : Tree) (rest : List Lexeme) → Fits t depth →
+pub comparison_at : (depth : ℕ) (neg : Reads ExprView) → IsComplete depth 1 neg → (t : ExprView) (rest : List Lexeme) → Fits t depth →
     rank t ≤ 4 → Stops 4 rest →
     comparison_with neg (spelling t ++ rest) ≡ Some (t, rest)
-comparison_at depth neg s (Tree.binary op a b) rest f low stops = elim (eq-or-lt_of_le low) [
+comparison_at depth neg s (ExprView.binary op a b) rest f low stops = elim (eq-or-lt_of_le low) [
   | inl e ↦ comparison_binary depth neg s op a b rest f e stops
-  | inr h ↦ comparison_plain depth neg s (Tree.binary op a b) rest f (omega arith) stops
+  | inr h ↦ comparison_plain depth neg s (ExprView.binary op a b) rest f (omega arith) stops
 ]
-comparison_at depth neg s (Tree.member k a xs) rest f low stops = comparison_member depth neg s k a xs rest f
-comparison_at depth neg s (Tree.number n) rest f low stops = comparison_plain depth neg s (Tree.number n) rest f (omega arith) stops
-comparison_at depth neg s (Tree.address a) rest f low stops = comparison_plain depth neg s (Tree.address a) rest f (omega arith) stops
-comparison_at depth neg s (Tree.prefix p) rest f low stops = comparison_plain depth neg s (Tree.prefix p) rest f (omega arith) stops
-comparison_at depth neg s (Tree.truth b) rest f low stops = comparison_plain depth neg s (Tree.truth b) rest f (omega arith) stops
-comparison_at depth neg s (Tree.name text) rest f low stops = comparison_plain depth neg s (Tree.name text) rest f (omega arith) stops
-comparison_at depth neg s (Tree.attribute a) rest f low stops = comparison_plain depth neg s (Tree.attribute a) rest f (omega arith) stops
-comparison_at depth neg s (Tree.defined a) rest f low stops = comparison_plain depth neg s (Tree.defined a) rest f (omega arith) stops
-comparison_at depth neg s (Tree.group inner) rest f low stops = comparison_plain depth neg s (Tree.group inner) rest f (omega arith) stops
-comparison_at depth neg s (Tree.negation inner) rest f low stops = comparison_plain depth neg s (Tree.negation inner) rest f
+comparison_at depth neg s (ExprView.member k a xs) rest f low stops = comparison_member depth neg s k a xs rest f
+comparison_at depth neg s (ExprView.number n) rest f low stops = comparison_plain depth neg s (ExprView.number n) rest f (omega arith) stops
+comparison_at depth neg s (ExprView.address a) rest f low stops = comparison_plain depth neg s (ExprView.address a) rest f (omega arith) stops
+comparison_at depth neg s (ExprView.prefix p) rest f low stops = comparison_plain depth neg s (ExprView.prefix p) rest f (omega arith) stops
+comparison_at depth neg s (ExprView.truth b) rest f low stops = comparison_plain depth neg s (ExprView.truth b) rest f (omega arith) stops
+comparison_at depth neg s (ExprView.name text) rest f low stops = comparison_plain depth neg s (ExprView.name text) rest f (omega arith) stops
+comparison_at depth neg s (ExprView.attribute a) rest f low stops = comparison_plain depth neg s (ExprView.attribute a) rest f (omega arith) stops
+comparison_at depth neg s (ExprView.defined a) rest f low stops = comparison_plain depth neg s (ExprView.defined a) rest f (omega arith) stops
+comparison_at depth neg s (ExprView.group inner) rest f low stops = comparison_plain depth neg s (ExprView.group inner) rest f (omega arith) stops
+comparison_at depth neg s (ExprView.negation inner) rest f low stops = comparison_plain depth neg s (ExprView.negation inner) rest f
     (omega arith) stops
-comparison_at depth neg s (Tree.suffixed inner x) rest f low stops = comparison_plain depth neg s (Tree.suffixed inner x) rest f
+comparison_at depth neg s (ExprView.suffixed inner x) rest f low stops = comparison_plain depth neg s (ExprView.suffixed inner x) rest f
     (omega arith) stops
 
-pub comparison_complete : (depth : ℕ) (neg : Reads Tree) → IsComplete depth 1 neg → IsComplete depth 4 (comparison_with neg)
+pub comparison_complete : (depth : ℕ) (neg : Reads ExprView) → IsComplete depth 1 neg → IsComplete depth 4 (comparison_with neg)
 comparison_complete depth neg s = record { complete = comparison_at depth neg s }

@@ -7,7 +7,7 @@ use Rattle.filter_parser.specs.declared.expr_level.Level.TheVariants as l
 use Rattle.filter_parser.specs.declared.tree.op.Op.{Op}
 use Rattle.filter_parser.specs.Reading.{Reads, op_first, joins, run_from, product_with, sum_with}
 use Rattle.filter_parser.specs.Steps.{◌>>=◌}
-use Rattle.filter_parser.specs.Syntax.{Tree, Fits, rank, rank_of, sign, spelling}
+use Rattle.filter_parser.specs.Syntax.{ExprView, Fits, rank, rank_of, sign, spelling}
 use Rattle.filter_parser.proofs.Operators.{FitsLeft, left_cases, op_read, side, top}
 use Rattle.filter_parser.proofs.Runs.{run_on, run_ends}
 use Rattle.filter_parser.proofs.Stops.{Stops, binds_sign, op_stops, stops_less}
@@ -15,15 +15,15 @@ use Rattle.filter_parser.proofs.Turns.{Goes, starts}
 use Rattle.filter_parser.proofs.CompleteOperands.{IsComplete}
 
 -- a first operand, and a run behind it
-abbrev pub starts_run : Reads Tree → Level → Reads Tree
+abbrev pub starts_run : Reads ExprView → Level → Reads ExprView
 starts_run next level ws = next ws >>= λ first. run_from next level first.0 first.1
 
 -- an operand that is no run of this level
-run_base : (depth : ℕ) (level : Level) (next : Reads Tree) → IsComplete depth (side level) next → (t : Tree) (rest : List Lexeme) →
+run_base : (depth : ℕ) (level : Level) (next : Reads ExprView) → IsComplete depth (side level) next → (t : ExprView) (rest : List Lexeme) →
     Fits t depth →
     rank t ≤ side level → Stops (side level) rest → Goes (joins next level) t rest (starts_run next level (spelling t ++ rest))
 run_base depth level next s t rest f low stops =
-    let P : Option (Tree × List Lexeme) → Type 0 = λ r. Goes (joins next level) t rest
+    let P : Option (ExprView × List Lexeme) → Type 0 = λ r. Goes (joins next level) t rest
     (r >>= λ first. run_from next level first.0 first.1) in
     subst P (sym (s.complete t rest f low stops)) (starts (joins next level) t rest)
 
@@ -53,12 +53,12 @@ sign_stops : (level : Level) (op : Op) (ws : List Lexeme) → rank_of op ≡ top
 sign_stops level op ws e = omega (arith, binds_sign op, side_top level)
 
 -- where the loop over a level's operators stands with a run in hand
-run_reach : (depth : ℕ) (level : Level) (next : Reads Tree) → level ≢ l.Comparison → IsComplete depth (side level) next →
-    (t : Tree) (rest : List Lexeme) →
+run_reach : (depth : ℕ) (level : Level) (next : Reads ExprView) → level ≢ l.Comparison → IsComplete depth (side level) next →
+    (t : ExprView) (rest : List Lexeme) →
     Fits t depth → FitsLeft level (rank t) → Stops (side level) rest →
     Goes (joins next level) t rest (starts_run next level (spelling t ++ rest))
-run_reach depth level next other s (Tree.binary op a b) rest f left stops = elim (left_cases level (rank_of op) other left) [
-  | inr h ↦ run_base depth level next s (Tree.binary op a b) rest f h stops
+run_reach depth level next other s (ExprView.binary op a b) rest f left stops = elim (left_cases level (rank_of op) other left) [
+  | inr h ↦ run_base depth level next s (ExprView.binary op a b) rest f h stops
   | inl e ↦
       let r = op_read level op e in
       let ws : List Lexeme = spelling b ++ rest in
@@ -66,47 +66,47 @@ run_reach depth level next other s (Tree.binary op a b) rest f left stops = elim
       (sign_stops level op ws e) in
       let first : op_first level (Lexeme.mark (sign op) ∷ ws) ≡ Some (op, ws) = ap (λ r. r >>= λ op. Some (op, ws)) r.reads in
       let shorter : length rest < length (Lexeme.mark (sign op) ∷ ws) = omega (arith, length-append (spelling b) rest) in
-      let P : List Lexeme → Type 0 = λ ws. Goes (joins next level) (Tree.binary op a b) rest (starts_run next level ws) in
+      let P : List Lexeme → Type 0 = λ ws. Goes (joins next level) (ExprView.binary op a b) rest (starts_run next level ws) in
       subst P (sym (append_assoc (spelling a) (Lexeme.mark (sign op) ∷ spelling b) rest))
       (run_on next level first (s.complete b rest f.2 (r.right (rank a) (rank b) f.0) stops) shorter g)
 ]
-run_reach depth level next other s (Tree.member op a xs) rest f left stops =
-    run_base depth level next s (Tree.member op a xs) rest f (member_side level left) stops
-run_reach depth level next other s (Tree.number n) rest f left stops =
-    run_base depth level next s (Tree.number n) rest f (atom_side level 0 (omega arith)) stops
-run_reach depth level next other s (Tree.address a) rest f left stops =
-    run_base depth level next s (Tree.address a) rest f (atom_side level 0 (omega arith)) stops
-run_reach depth level next other s (Tree.prefix p) rest f left stops =
-    run_base depth level next s (Tree.prefix p) rest f (atom_side level 0 (omega arith)) stops
-run_reach depth level next other s (Tree.truth b) rest f left stops = run_base depth level next s (Tree.truth b) rest f
+run_reach depth level next other s (ExprView.member op a xs) rest f left stops =
+    run_base depth level next s (ExprView.member op a xs) rest f (member_side level left) stops
+run_reach depth level next other s (ExprView.number n) rest f left stops =
+    run_base depth level next s (ExprView.number n) rest f (atom_side level 0 (omega arith)) stops
+run_reach depth level next other s (ExprView.address a) rest f left stops =
+    run_base depth level next s (ExprView.address a) rest f (atom_side level 0 (omega arith)) stops
+run_reach depth level next other s (ExprView.prefix p) rest f left stops =
+    run_base depth level next s (ExprView.prefix p) rest f (atom_side level 0 (omega arith)) stops
+run_reach depth level next other s (ExprView.truth b) rest f left stops = run_base depth level next s (ExprView.truth b) rest f
     (atom_side level 0 (omega arith)) stops
-run_reach depth level next other s (Tree.name text) rest f left stops =
-    run_base depth level next s (Tree.name text) rest f (atom_side level 0 (omega arith)) stops
-run_reach depth level next other s (Tree.attribute a) rest f left stops =
-    run_base depth level next s (Tree.attribute a) rest f (atom_side level 0 (omega arith)) stops
-run_reach depth level next other s (Tree.defined a) rest f left stops =
-    run_base depth level next s (Tree.defined a) rest f (atom_side level 0 (omega arith)) stops
-run_reach depth level next other s (Tree.group inner) rest f left stops =
-    run_base depth level next s (Tree.group inner) rest f (atom_side level 0 (omega arith)) stops
-run_reach depth level next other s (Tree.negation inner) rest f left stops =
-    run_base depth level next s (Tree.negation inner) rest f (atom_side level 1 (omega arith)) stops
-run_reach depth level next other s (Tree.suffixed inner x) rest f left stops =
-    run_base depth level next s (Tree.suffixed inner x) rest f (atom_side level 0 (omega arith)) stops
+run_reach depth level next other s (ExprView.name text) rest f left stops =
+    run_base depth level next s (ExprView.name text) rest f (atom_side level 0 (omega arith)) stops
+run_reach depth level next other s (ExprView.attribute a) rest f left stops =
+    run_base depth level next s (ExprView.attribute a) rest f (atom_side level 0 (omega arith)) stops
+run_reach depth level next other s (ExprView.defined a) rest f left stops =
+    run_base depth level next s (ExprView.defined a) rest f (atom_side level 0 (omega arith)) stops
+run_reach depth level next other s (ExprView.group inner) rest f left stops =
+    run_base depth level next s (ExprView.group inner) rest f (atom_side level 0 (omega arith)) stops
+run_reach depth level next other s (ExprView.negation inner) rest f left stops =
+    run_base depth level next s (ExprView.negation inner) rest f (atom_side level 1 (omega arith)) stops
+run_reach depth level next other s (ExprView.suffixed inner x) rest f left stops =
+    run_base depth level next s (ExprView.suffixed inner x) rest f (atom_side level 0 (omega arith)) stops
 
-pub run_complete : (depth : ℕ) (level : Level) (next : Reads Tree) → level ≢ l.Comparison → IsComplete depth (side level) next →
-    (t : Tree) (rest : List Lexeme) →
+pub run_complete : (depth : ℕ) (level : Level) (next : Reads ExprView) → level ≢ l.Comparison → IsComplete depth (side level) next →
+    (t : ExprView) (rest : List Lexeme) →
     Fits t depth → FitsLeft level (rank t) → Stops (top level) rest → starts_run next level (spelling t ++ rest) ≡ Some (t, rest)
 run_complete depth level next other s t rest f left stops =
     run_ends next level (op_stops level rest stops)
     (run_reach depth level next other s t rest f left (stops_less (side level) (top level) rest (omega (arith, side_top level)) stops))
 
-product_complete : (depth : ℕ) (neg : Reads Tree) → IsComplete depth 1 neg → IsComplete depth 2 (product_with neg)
+product_complete : (depth : ℕ) (neg : Reads ExprView) → IsComplete depth 1 neg → IsComplete depth 2 (product_with neg)
 product_complete depth neg s = record {
   complete = λ t rest f low stops. run_complete depth l.Product neg
       (λ e. absurd (cc)) s t rest f low stops;
 }
 
-pub sum_complete : (depth : ℕ) (neg : Reads Tree) → IsComplete depth 1 neg → IsComplete depth 3 (sum_with neg)
+pub sum_complete : (depth : ℕ) (neg : Reads ExprView) → IsComplete depth 1 neg → IsComplete depth 3 (sum_with neg)
 sum_complete depth neg s = record {
   complete = λ t rest f low stops.
       run_complete depth l.Sum (product_with neg) (λ e. absurd (cc)) (product_complete depth neg s) t rest f low stops;

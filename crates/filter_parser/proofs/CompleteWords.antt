@@ -7,7 +7,7 @@ use Rattle.filter_parser.specs.declared.tree.op.Suffix.{Suffix}
 use Rattle.filter_parser.specs.declared.tree.op.Suffix.TheVariants as suffix
 use Rattle.filter_parser.specs.Reading.{suffix_of, item_of, items, items_from, set_behind, set_of}
 use Rattle.filter_parser.specs.Steps.{◌>>=◌, after_mark}
-use Rattle.filter_parser.specs.Syntax.{Item, FitsItem, FitsItems, FitsSuffix, spelling_item, spelling_items, spelling_suffix}
+use Rattle.filter_parser.specs.Syntax.{SetPatternView, FitsItem, FitsItems, FitsSuffix, spelling_item, spelling_items, spelling_suffix}
 use Rattle.filter_parser.proofs.Runs.{item_on, item_ends}
 use Rattle.filter_parser.proofs.Turns.{Goes, starts}
 
@@ -32,18 +32,18 @@ suffix_back (suffix.Mask n) rest f = record {
 }
 
 -- a pattern is read where a comma or the set's bracket follows
-item_back : (x : Item) (more : List Item) (rest : List Lexeme) → FitsItem x →
+item_back : (x : SetPatternView) (more : List SetPatternView) (rest : List Lexeme) → FitsItem x →
     item_of (spelling_item x ++ (spelling_items more ++ rest)) ≡ Some (x, spelling_items more ++ rest)
-item_back (Item.exact p) [] rest f = refl
-item_back (Item.exact p) (y ∷ ys) rest f = refl
-item_back (Item.or_longer p) more rest f = refl
-item_back (Item.or_shorter p) more rest f = refl
-item_back (Item.between p l h) more rest f = rw (le_true l h f.order, le_true h 32 f.limit) refl
+item_back (SetPatternView.exact p) [] rest f = refl
+item_back (SetPatternView.exact p) (y ∷ ys) rest f = refl
+item_back (SetPatternView.or_longer p) more rest f = refl
+item_back (SetPatternView.or_shorter p) more rest f = refl
+item_back (SetPatternView.between p l h) more rest f = rw (le_true l h f.order, le_true h 32 f.limit) refl
 
-items_back : (xs more : List Item) (rest : List Lexeme) (answer : Option (List Item × List Lexeme)) → FitsItems more →
+items_back : (xs more : List SetPatternView) (rest : List Lexeme) (answer : Option (List SetPatternView × List Lexeme)) → FitsItems more →
     Goes items xs (spelling_items more ++ rest) answer → Goes items (xs ++ more) (Lexeme.mark m.RightBracket ∷ rest) answer
 items_back xs [] rest answer f g =
-    let P : List Item → Type 0 = λ v. Goes items v (Lexeme.mark m.RightBracket ∷ rest) answer in subst P (sym (append-nil xs)) g
+    let P : List SetPatternView → Type 0 = λ v. Goes items v (Lexeme.mark m.RightBracket ∷ rest) answer in subst P (sym (append-nil xs)) g
 items_back xs (x ∷ more) rest answer f g =
     let same : (spelling_item x ++ spelling_items more) ++ rest ≡ spelling_item x ++ (spelling_items more ++ rest) =
     append_assoc (spelling_item x) (spelling_items more) rest in
@@ -52,10 +52,10 @@ items_back xs (x ∷ more) rest answer f g =
     let t : Goes items (xs ++ (x ∷ [])) (spelling_items more ++ rest) answer =
     item_on {ws = spelling_items (x ∷ more) ++ rest} {rest = (spelling_item x ++ spelling_items more) ++ rest} refl
     (ap item_of same ∙ item_back x more rest f.0) h g in
-    let P : List Item → Type 0 = λ v. Goes items v (Lexeme.mark m.RightBracket ∷ rest) answer in
+    let P : List SetPatternView → Type 0 = λ v. Goes items v (Lexeme.mark m.RightBracket ∷ rest) answer in
     subst P (append_assoc xs (x ∷ []) more) (items_back (xs ++ (x ∷ [])) more rest answer f.1 t)
 
-behind_back : (x : Item) (more : List Item) (rest : List Lexeme) → FitsItems more →
+behind_back : (x : SetPatternView) (more : List SetPatternView) (rest : List Lexeme) → FitsItems more →
     set_behind x (spelling_items more ++ rest) ≡ Some (x ∷ more, rest)
 behind_back x more rest f =
     let g = items_back (x ∷ []) more rest (items_from (x ∷ []) (spelling_items more ++ rest)) f
@@ -64,7 +64,7 @@ behind_back x more rest f =
     ap (λ r. r >>= λ xs. after_mark m.RightBracket xs.1 >>= λ rest. Some (xs.0, rest)) e
 
 -- a set is read behind its bracket
-pub set_back : (x : Item) (more : List Item) (rest : List Lexeme) → FitsItem x → FitsItems more →
+pub set_back : (x : SetPatternView) (more : List SetPatternView) (rest : List Lexeme) → FitsItem x → FitsItems more →
     set_of ((spelling_item x ++ spelling_items more) ++ rest) ≡ Some (x ∷ more, rest)
 set_back x more rest f g =
     ap set_of (append_assoc (spelling_item x) (spelling_items more) rest)

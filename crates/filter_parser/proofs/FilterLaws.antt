@@ -12,7 +12,7 @@ use Rattle.filter_parser.specs.Acting.{kind_of, name_first, whole}
 use Rattle.filter_parser.specs.Reading.{turns, expr_at}
 use Rattle.filter_parser.specs.Steps.{after_mark}
 use Rattle.filter_parser.specs.Syntax.{nesting_limit}
-use Rattle.filter_parser.specs.SyntaxCommands.{Aim, Act, Acts, Declared, FitsActs, kind_mark, spelling_act, spelling_acts}
+use Rattle.filter_parser.specs.SyntaxCommands.{TargetView, CommandView, Acts, DeclView, FitsActs, kind_mark, spelling_act, spelling_acts}
 use Rattle.filter_parser.specs.SyntaxCommands.{spelling_decl, spelling_decls}
 use Rattle.filter_parser.specs.SyntaxText.{spelling_filter}
 use Rattle.filter_parser.proofs.ActsComplete.{AreComplete, act_complete, acts_with_complete}
@@ -61,36 +61,36 @@ name_found (Lexeme.name text ∷ ws) x e =
     subst P (some_is e) refl
 name_found (_ ∷ ws) x e = absurd (cc)
 
-decl_found : (k : Kind) (w : Lexeme) (ws : List Lexeme) (x : Declared × List Lexeme) → w ≡ Lexeme.mark (kind_mark k)
+decl_found : (k : Kind) (w : Lexeme) (ws : List Lexeme) (x : DeclView × List Lexeme) → w ≡ Lexeme.mark (kind_mark k)
     → decl_with k ws ≡ Some x → w ∷ ws ≡ spelling_decl x.0 ++ x.1
 decl_found k w ws x first e =
     let (name, e1, f1) = bind_some (name_first ws) _ x e in
     let (rest, e2, f2) = bind_some (after_mark m.Semicolon name.1) _ x f1 in
-    let P : Declared × List Lexeme → Type 0 = λ y. w ∷ ws ≡ spelling_decl y.0 ++ y.1 in
+    let P : DeclView × List Lexeme → Type 0 = λ y. w ∷ ws ≡ spelling_decl y.0 ++ y.1 in
     let a : ws ≡ Lexeme.name name.0 ∷ name.1 = name_found ws name e1 in
     let b : name.1 ≡ Lexeme.mark m.Semicolon ∷ rest = mark_found m.Semicolon name.1 rest e2 in
     let c : w ∷ ws ≡ Lexeme.mark (kind_mark k) ∷ Lexeme.name name.0 ∷ Lexeme.mark m.Semicolon ∷ rest = cc in
     subst P (some_is f2) c
 
 -- declarations that were read behind others
-pub record FoundDecls (front : List Declared) (ws : List Lexeme) (x : List Declared × List Lexeme) : Type 0 where
-  pub more : List Declared
+pub record FoundDecls (front : List DeclView) (ws : List Lexeme) (x : List DeclView × List Lexeme) : Type 0 where
+  pub more : List DeclView
   pub all : x.0 ≡ front ++ more
   pub spelled : ws ≡ spelling_decls more ++ x.1
 
-turn_found : (front : List Declared) (ws : List Lexeme) (y : List Declared × List Lexeme) → decl_turn front ws ≡ Some (Some y)
-    → (d : Declared) × (y.0 ≡ front ++ d ∷ []) × (ws ≡ spelling_decl d ++ y.1)
+turn_found : (front : List DeclView) (ws : List Lexeme) (y : List DeclView × List Lexeme) → decl_turn front ws ≡ Some (Some y)
+    → (d : DeclView) × (y.0 ≡ front ++ d ∷ []) × (ws ≡ spelling_decl d ++ y.1)
 turn_found front ws y e =
     elim (with_some_cases (kind_first ws) _ _ (Some y) e) [
       | inl (none, same) ↦ absurd (cc)
       | inr (k, e1, read) ↦
           let (d, e2, same) = bind_some (decl_with k.0 k.1) _ (Some y) read in
           let is : (front ++ d.0 ∷ [], d.1) ≡ y = some_is (some_is same) in
-          let P : List Declared × List Lexeme → Type 0 = λ z. (d : Declared) × (z.0 ≡ front ++ d ∷ []) × (ws ≡ spelling_decl d ++ z.1) in
+          let P : List DeclView × List Lexeme → Type 0 = λ z. (d : DeclView) × (z.0 ≡ front ++ d ∷ []) × (ws ≡ spelling_decl d ++ z.1) in
           subst P is (d.0, refl, kind_found ws k e1 ∙ decl_found k.0 (Lexeme.mark (kind_mark k.0)) k.1 d refl e2)
     ]
 
-turns_found : (n : ℕ) (front : List Declared) (ws : List Lexeme) (x : List Declared × List Lexeme) → turns decl_turn n front ws ≡ Some x
+turns_found : (n : ℕ) (front : List DeclView) (ws : List Lexeme) (x : List DeclView × List Lexeme) → turns decl_turn n front ws ≡ Some x
     → FoundDecls front ws x
 turns_found zero front ws x e =
     let found : FoundDecls front ws (front, ws) = record { more = []; all = sym (append-nil front); spelled = refl } in
@@ -111,33 +111,33 @@ turns_found (suc n) front ws x e =
           }
     ]
   where
-    all_joined : (front : List Declared) (d : Declared) (more next all : List Declared) → next ≡ front ++ d ∷ [] → all ≡ next ++ more
+    all_joined : (front : List DeclView) (d : DeclView) (more next all : List DeclView) → next ≡ front ++ d ∷ [] → all ≡ next ++ more
         → all ≡ front ++ d ∷ more
-    all_joined front d more next all a b = b ∙ ap (λ (xs : List Declared). xs ++ more) a ∙ append_assoc front (d ∷ []) more
+    all_joined front d more next all a b = b ∙ ap (λ (xs : List DeclView). xs ++ more) a ∙ append_assoc front (d ∷ []) more
 
     joined : (ws a b r s : List Lexeme) → ws ≡ a ++ r → r ≡ b ++ s → ws ≡ (a ++ b) ++ s
     joined ws a b r s e f = rw (e, f) (simp append_assoc)
 
-decls_found : (front : List Declared) (ws : List Lexeme) (x : List Declared × List Lexeme) → decls_after front ws ≡ Some x
+decls_found : (front : List DeclView) (ws : List Lexeme) (x : List DeclView × List Lexeme) → decls_after front ws ≡ Some x
     → FoundDecls front ws x
 unfolding decls_after
 decls_found front ws x e = turns_found (length ws) front ws x e
 
-turn_again : (front : List Declared) (d : Declared) (rest : List Lexeme)
+turn_again : (front : List DeclView) (d : DeclView) (rest : List Lexeme)
     → decl_turn front (spelling_decl d ++ rest) ≡ Some (Some (front ++ d ∷ [], rest))
 turn_again front d rest = rw (kind_again d.kind) refl
 
-turns_again : (ds : List Declared) (n : ℕ) (front : List Declared) (rest : List Lexeme) → kind_first rest ≡ None
+turns_again : (ds : List DeclView) (n : ℕ) (front : List DeclView) (rest : List Lexeme) → kind_first rest ≡ None
     → length (spelling_decls ds ++ rest) ≤ n
     → turns decl_turn n front (spelling_decls ds ++ rest) ≡ Some (front ++ ds, rest)
-turns_again [] zero front rest none le = ap (λ (xs : List Declared). Some (xs, rest)) (sym (append-nil front))
-turns_again [] (suc n) front rest none le = rw none (ap (λ (xs : List Declared). Some (xs, rest)) (sym (append-nil front)))
+turns_again [] zero front rest none le = ap (λ (xs : List DeclView). Some (xs, rest)) (sym (append-nil front))
+turns_again [] (suc n) front rest none le = rw none (ap (λ (xs : List DeclView). Some (xs, rest)) (sym (append-nil front)))
 turns_again (d ∷ ds) zero front rest none le = absurd (omega arith)
 turns_again (d ∷ ds) (suc n) front rest none le =
     rw (kind_again d.kind) (turns_again ds n (front ++ d ∷ []) rest none (omega arith)
-    ∙ ap (λ (xs : List Declared). Some (xs, rest)) (append_assoc front (d ∷ []) ds))
+    ∙ ap (λ (xs : List DeclView). Some (xs, rest)) (append_assoc front (d ∷ []) ds))
 
-decls_again : (ds front : List Declared) (rest : List Lexeme) → kind_first rest ≡ None
+decls_again : (ds front : List DeclView) (rest : List Lexeme) → kind_first rest ≡ None
     → decls_after front (spelling_decls ds ++ rest) ≡ Some (front ++ ds, rest)
 unfolding decls_after
 decls_again ds front rest none = turns_again ds (length (spelling_decls ds ++ rest)) front rest none (omega arith)
@@ -145,16 +145,16 @@ decls_again ds front rest none = turns_again ds (length (spelling_decls ds ++ re
 -- ---- a filter
 
 -- no declaration begins as a command, or as the end of commands
-no_kind : (t : Act) (rest : List Lexeme) → kind_first (spelling_act t ++ rest) ≡ None
-no_kind Act.empty rest = refl
-no_kind (Act.block body) rest = refl
-no_kind (Act.choice test chosen) rest = refl
-no_kind (Act.choice_else test chosen other) rest = refl
-no_kind (Act.assign (Aim.to_name text) value) rest = refl
-no_kind (Act.assign Aim.to_metric value) rest = refl
-no_kind (Act.assign Aim.to_net value) rest = refl
-no_kind (Act.accept has_text) rest = refl
-no_kind (Act.reject has_text) rest = refl
+no_kind : (t : CommandView) (rest : List Lexeme) → kind_first (spelling_act t ++ rest) ≡ None
+no_kind CommandView.empty rest = refl
+no_kind (CommandView.block body) rest = refl
+no_kind (CommandView.choice test chosen) rest = refl
+no_kind (CommandView.choice_else test chosen other) rest = refl
+no_kind (CommandView.assign (TargetView.to_name text) value) rest = refl
+no_kind (CommandView.assign TargetView.to_metric value) rest = refl
+no_kind (CommandView.assign TargetView.to_net value) rest = refl
+no_kind (CommandView.accept has_text) rest = refl
+no_kind (CommandView.reject has_text) rest = refl
 
 no_kind_acts : (body : Acts) (rest : List Lexeme) → kind_first (spelling_acts body ++ Lexeme.mark m.RightBrace ∷ rest) ≡ None
 no_kind_acts Acts.no_acts rest = refl
@@ -168,8 +168,8 @@ whole_found x (w ∷ ws) y e = absurd (cc)
 
 -- what was read of a filter: it is spelled so, and fits
 pub record FoundFilter (ws : List Lexeme) (x : Said) : Type 0 where
-  pub head : List Declared
-  pub inner : List Declared
+  pub head : List DeclView
+  pub inner : List DeclView
   pub declared : x.decls ≡ head ++ inner
   pub spelled : ws ≡ spelling_filter x.name head inner x.body
   pub fits : FitsActs x.body nesting_limit
@@ -194,7 +194,7 @@ filter_sound ws x e =
     let found : FoundFilter ws (record { name = name.0; decls = all.0; body = body.0 }) = record {
       head = front.more;
       inner = inner.more;
-      declared = inner.all ∙ ap (λ (xs : List Declared). xs ++ inner.more) front.all;
+      declared = inner.all ∙ ap (λ (xs : List DeclView). xs ++ inner.more) front.all;
       spelled = filter_joined ws a name.1 head.1 d all.1 (Lexeme.mark m.Filter) (Lexeme.mark m.LeftBrace) (Lexeme.mark m.LeftBrace)
           (Lexeme.mark m.RightBrace) (Lexeme.name name.0)
           (spelling_decls front.more) (spelling_decls inner.more) (spelling_acts body.0) (mark_found m.Filter ws a e1)
@@ -205,7 +205,7 @@ filter_sound ws x e =
     } in
     subst (FoundFilter ws) is found
 
-pub filter_complete : (name : List ℕ) (head inner : List Declared) (body : Acts) → FitsActs body nesting_limit
+pub filter_complete : (name : List ℕ) (head inner : List DeclView) (body : Acts) → FitsActs body nesting_limit
     → filter_of (spelling_filter name head inner body) ≡ Some (record { name = name; decls = head ++ inner; body = body })
 filter_complete name head inner body fits =
     rw (

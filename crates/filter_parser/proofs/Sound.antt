@@ -14,21 +14,21 @@ use Rattle.filter_parser.specs.Reading.{prim_with, post_with, not_with, neg_with
 use Rattle.filter_parser.specs.Reading.{member_of, right_with, comparison_with, level_by, level_of, unmixed, expr_with, refused, neg_at}
 use Rattle.filter_parser.specs.Reading.{expr_at}
 use Rattle.filter_parser.specs.Steps.{after_mark}
-use Rattle.filter_parser.specs.Syntax.{Tree, Fits, membership_sign, rank, rank_of, sign, spelling, spelling_set, spelling_suffix}
+use Rattle.filter_parser.specs.Syntax.{ExprView, Fits, membership_sign, rank, rank_of, sign, spelling, spelling_set, spelling_suffix}
 use Rattle.filter_parser.proofs.Operators.{FitsLeft, IsOp, op_found, side, top}
 use Rattle.filter_parser.proofs.SoundSets.{atom_sound, set_sound}
 use Rattle.filter_parser.proofs.SoundWords.{suffix_sound}
 use Rattle.filter_parser.proofs.Steps.{bind_some, mark_found, some_is, with_some_cases}
 
 -- what was read: it is spelled so, fits where so many levels may still nest, and binds at most so loosely
-pub record Found (depth most : ℕ) (ws : List Lexeme) (x : Tree × List Lexeme) : Type 0 where
+pub record Found (depth most : ℕ) (ws : List Lexeme) (x : ExprView × List Lexeme) : Type 0 where
   pub spelled : ws ≡ spelling x.0 ++ x.1
   pub fits : Fits x.0 depth
   pub low : rank x.0 ≤ most
 
 -- a reading function finds only such trees
-pub record IsSound (depth most : ℕ) (next : Reads Tree) : Type 0 where
-  pub sound : (ws : List Lexeme) (x : Tree × List Lexeme) → next ws ≡ Some x → Found depth most ws x
+pub record IsSound (depth most : ℕ) (next : Reads ExprView) : Type 0 where
+  pub sound : (ws : List Lexeme) (x : ExprView × List Lexeme) → next ws ≡ Some x → Found depth most ws x
 
 -- the sign of an operator that was found
 pub op_first_found : (level : Level) (ws : List Lexeme) (x : Op × List Lexeme) → op_first level ws ≡ Some x →
@@ -43,7 +43,7 @@ op_first_found level (Lexeme.mark k ∷ ws) x e =
 op_first_found level (_ ∷ ws) x e = absurd (cc)
 
 -- a run so far, with what is left behind it
-record Run (depth : ℕ) (level : Level) (all : List Lexeme) (x : Tree × List Lexeme) : Type 0 where
+record Run (depth : ℕ) (level : Level) (all : List Lexeme) (x : ExprView × List Lexeme) : Type 0 where
   spelled : all ≡ spelling x.0 ++ x.1
   fits : Fits x.0 depth
   left : FitsLeft level (rank x.0)
@@ -65,12 +65,12 @@ left_again l.Comparison op n e = absurd (n refl)
 left_again l.And op n e = (omega arith, omega arith)
 left_again l.Or op n e = ((omega arith, λ f. absurd (omega arith)), omega arith)
 
-run_sound : (depth : ℕ) (level : Level) (next : Reads Tree) → level ≢ l.Comparison → IsSound depth (side level) next →
+run_sound : (depth : ℕ) (level : Level) (next : Reads ExprView) → level ≢ l.Comparison → IsSound depth (side level) next →
     (n : ℕ) (all : List Lexeme)
-    (x y : Tree × List Lexeme) → Run depth level all x → turns (joins next level) n x.0 x.1 ≡ Some y → Run depth level all y
-run_sound depth level next other s zero all x y r e = let P : (Tree × List Lexeme) → Type 0 = Run depth level all in subst P (some_is e) r
+    (x y : ExprView × List Lexeme) → Run depth level all x → turns (joins next level) n x.0 x.1 ≡ Some y → Run depth level all y
+run_sound depth level next other s zero all x y r e = let P : (ExprView × List Lexeme) → Type 0 = Run depth level all in subst P (some_is e) r
 run_sound depth level next other s (suc n) all x y r e =
-    let P : (Tree × List Lexeme) → Type 0 = Run depth level all in
+    let P : (ExprView × List Lexeme) → Type 0 = Run depth level all in
     let (t, e1, e2) = bind_some (joins next level x.0 x.1) _ y e in
     elim (with_some_cases t _ _ y e2) [
       | inl p ↦ subst P (some_is p.1) r
@@ -81,7 +81,7 @@ run_sound depth level next other s (suc n) all x y r e =
             let a = op_first_found level x.1 q.0 q.1 in
             let b = s.sound q.0.1 right e3 in
             let again = left_again level q.0.0 other a.1.binds in
-            let z : Tree × List Lexeme = (Tree.binary q.0.0 x.0 right.0, right.1) in
+            let z : ExprView × List Lexeme = (ExprView.binary q.0.0 x.0 right.0, right.1) in
             let same : z ≡ p.0 = some_is (some_is e4 ∙ p.1) in
             let R : Run depth level all z = record {
               spelled = r.spelled ∙ (ap (λ v. spelling x.0 ++ v) (a.0 ∙ ap (λ v. Lexeme.mark (sign q.0.0) ∷ v) b.spelled)
@@ -95,8 +95,8 @@ run_sound depth level next other s (suc n) all x y r e =
     ]
 
 -- a first operand, and a run behind it
-level_sound : (depth : ℕ) (level : Level) (next : Reads Tree) → level ≢ l.Comparison → IsSound depth (side level) next → (ws : List Lexeme)
-    (first x : Tree × List Lexeme) → Found depth (side level) ws first → run_from next level first.0 first.1 ≡ Some x →
+level_sound : (depth : ℕ) (level : Level) (next : Reads ExprView) → level ≢ l.Comparison → IsSound depth (side level) next → (ws : List Lexeme)
+    (first x : ExprView × List Lexeme) → Found depth (side level) ws first → run_from next level first.0 first.1 ≡ Some x →
     Found depth (top level) ws x
 level_sound depth level next other s ws first x f e =
     let a = run_found level (rank first.0) f.low in
@@ -104,14 +104,14 @@ level_sound depth level next other s ws first x f e =
     (record { spelled = f.spelled; fits = f.fits; left = a.0; low = a.1 }) e in
     record { spelled = r.spelled; fits = r.fits; low = r.low }
 
-product_sound : (depth : ℕ) (neg : Reads Tree) → IsSound depth 1 neg → IsSound depth 2 (product_with neg)
+product_sound : (depth : ℕ) (neg : Reads ExprView) → IsSound depth 1 neg → IsSound depth 2 (product_with neg)
 product_sound depth neg s = record {
   sound = λ ws x e.
       let (first, e1, e2) = bind_some (neg ws) _ x e in
       level_sound depth l.Product neg (λ e. absurd (cc)) s ws first x (s.sound ws first e1) e2;
 }
 
-sum_sound : (depth : ℕ) (neg : Reads Tree) → IsSound depth 1 neg → IsSound depth 3 (sum_with neg)
+sum_sound : (depth : ℕ) (neg : Reads ExprView) → IsSound depth 1 neg → IsSound depth 3 (sum_with neg)
 sum_sound depth neg s =
     let p = product_sound depth neg s in
     record {
@@ -134,13 +134,13 @@ bracket_found op ws x e =
     subst P (some_is e4) (membership_found op k e1, mark_found m.LeftBracket ws rest e3)
 
 -- an operand and a set
-member_sound : (depth : ℕ) (all : List Lexeme) (left : Tree) (k : Membership) (ws : List Lexeme) (x : Tree × List Lexeme) →
+member_sound : (depth : ℕ) (all : List Lexeme) (left : ExprView) (k : Membership) (ws : List Lexeme) (x : ExprView × List Lexeme) →
     all ≡ spelling left ++ (Lexeme.mark (membership_sign k) ∷ Lexeme.mark m.LeftBracket ∷ ws) → Fits left depth → rank left ≤ 3 →
     member_of left k ws ≡ Some x → Found depth 4 all x
 member_sound depth all left k ws x a f low e =
     let (xs, e1, e2) = bind_some (set_of ws) _ x e in
     let s = set_sound ws xs e1 in
-    let P : (Tree × List Lexeme) → Type 0 = Found depth 4 all in
+    let P : (ExprView × List Lexeme) → Type 0 = Found depth 4 all in
     subst P (some_is e2) (record {
       spelled = a ∙ (ap (λ v. spelling left ++ (Lexeme.mark (membership_sign k) ∷ v)) s.spelled
           ∙ sym (append_assoc (spelling left) (Lexeme.mark (membership_sign k) ∷ spelling_set xs.0) xs.1));
@@ -149,8 +149,8 @@ member_sound depth all left k ws x a f low e =
     })
 
 -- what stands behind the sign of a comparison
-right_sound : (depth : ℕ) (sum : Reads Tree) → IsSound depth 3 sum → (all : List Lexeme) (left : Tree) (op : Op) (ws : List Lexeme)
-    (x : Tree × List Lexeme) → all ≡ spelling left ++ (Lexeme.mark (sign op) ∷ ws) → Fits left depth → rank left ≤ 3 →
+right_sound : (depth : ℕ) (sum : Reads ExprView) → IsSound depth 3 sum → (all : List Lexeme) (left : ExprView) (op : Op) (ws : List Lexeme)
+    (x : ExprView × List Lexeme) → all ≡ spelling left ++ (Lexeme.mark (sign op) ∷ ws) → Fits left depth → rank left ≤ 3 →
     IsOp l.Comparison (sign op) op → right_with sum left op ws ≡ Some x → Found depth 4 all x
 right_sound depth sum s all left op ws x a f low is e = elim (with_some_cases (bracket_of op ws) _ _ x e) [
   | inr p ↦
@@ -162,7 +162,7 @@ right_sound depth sum s all left op ws x a f low is e = elim (with_some_cases (b
   | inl p ↦
       let (right, e1, e2) = bind_some (sum ws) _ x p.1 in
       let b = s.sound ws right e1 in
-      let P : (Tree × List Lexeme) → Type 0 = Found depth 4 all in
+      let P : (ExprView × List Lexeme) → Type 0 = Found depth 4 all in
       let most : rank_of op ≤ 4 = omega (arith, is.binds) in
       subst P (some_is e2) (record {
         spelled = a ∙ (ap (λ v. spelling left ++ (Lexeme.mark (sign op) ∷ v)) b.spelled
@@ -172,14 +172,14 @@ right_sound depth sum s all left op ws x a f low is e = elim (with_some_cases (b
       })
 ]
 
-comparison_sound : (depth : ℕ) (neg : Reads Tree) → IsSound depth 1 neg → IsSound depth 4 (comparison_with neg)
+comparison_sound : (depth : ℕ) (neg : Reads ExprView) → IsSound depth 1 neg → IsSound depth 4 (comparison_with neg)
 comparison_sound depth neg s =
     let p = sum_sound depth neg s in
     record {
       sound = λ ws x e.
           let (left, e1, e2) = bind_some (sum_with neg ws) _ x e in
           let f = p.sound ws left e1 in
-          let P : (Tree × List Lexeme) → Type 0 = Found depth 4 ws in
+          let P : (ExprView × List Lexeme) → Type 0 = Found depth 4 ws in
           elim (with_some_cases (op_first l.Comparison left.1) _ _ x e2) [
             | inl q ↦ subst P (some_is q.1) (record { spelled = f.spelled; fits = f.fits; low = omega (arith, f.low) })
             | inr q ↦
@@ -189,8 +189,8 @@ comparison_sound depth neg s =
           ];
     }
 
-join_sound : (depth : ℕ) (neg : Reads Tree) → IsSound depth 1 neg → (r : Option (List Lexeme)) (ws : List Lexeme)
-    (first x : Tree × List Lexeme) →
+join_sound : (depth : ℕ) (neg : Reads ExprView) → IsSound depth 1 neg → (r : Option (List Lexeme)) (ws : List Lexeme)
+    (first x : ExprView × List Lexeme) →
     Found depth 4 ws first → run_from (comparison_with neg) (level_by r) first.0 first.1 ≡ Some x → Found depth 6 ws x
 join_sound depth neg s None ws first x f e =
     let g = level_sound depth l.And (comparison_with neg) (λ e. absurd (cc)) (comparison_sound depth neg s) ws first x f e in
@@ -198,29 +198,29 @@ join_sound depth neg s None ws first x f e =
 join_sound depth neg s (Some rest) ws first x f e =
     level_sound depth l.Or (comparison_with neg) (λ e. absurd (cc)) (comparison_sound depth neg s) ws first x f e
 
-unmixed_found : (x y : Tree × List Lexeme) → unmixed x ≡ Some y → x ≡ y
+unmixed_found : (x y : ExprView × List Lexeme) → unmixed x ≡ Some y → x ≡ y
 unmixed_found x y e = elim (with_some_cases (op_first l.And x.1) _ _ y e) [
   | inr p ↦ absurd (cc (p.2))
   | inl p ↦ elim (with_some_cases (op_first l.Or x.1) _ _ y p.1) [ inr q ↦ absurd (cc (q.2)) | inl q ↦ some_is q.1 ]
 ]
 
-pub expr_with_sound : (depth : ℕ) (neg : Reads Tree) → IsSound depth 1 neg → IsSound depth 6 (expr_with neg)
+pub expr_with_sound : (depth : ℕ) (neg : Reads ExprView) → IsSound depth 1 neg → IsSound depth 6 (expr_with neg)
 expr_with_sound depth neg s = record {
   sound = λ ws x e.
       let (first, e1, e2) = bind_some (comparison_with neg ws) _ x e in
       let (whole, e3, e4) = bind_some (run_from (comparison_with neg) (level_of first.1) first.0 first.1) unmixed x e2 in
-      let P : (Tree × List Lexeme) → Type 0 = Found depth 6 ws in
+      let P : (ExprView × List Lexeme) → Type 0 = Found depth 6 ws in
       subst P (unmixed_found whole x e4)
       (join_sound depth neg s (after_mark m.Or first.1) ws first whole ((comparison_sound depth neg s).sound ws first e1) e3);
 }
 
 -- an operand so far, and its suffixes behind it
-suffixes_sound : (depth : ℕ) (n : ℕ) (all : List Lexeme) (x y : Tree × List Lexeme) → Found depth 0 all x →
+suffixes_sound : (depth : ℕ) (n : ℕ) (all : List Lexeme) (x y : ExprView × List Lexeme) → Found depth 0 all x →
     turns suffixes n x.0 x.1 ≡ Some y →
     Found depth 0 all y
-suffixes_sound depth zero all x y r e = let P : (Tree × List Lexeme) → Type 0 = Found depth 0 all in subst P (some_is e) r
+suffixes_sound depth zero all x y r e = let P : (ExprView × List Lexeme) → Type 0 = Found depth 0 all in subst P (some_is e) r
 suffixes_sound depth (suc n) all x y r e =
-    let P : (Tree × List Lexeme) → Type 0 = Found depth 0 all in
+    let P : (ExprView × List Lexeme) → Type 0 = Found depth 0 all in
     let (t, e1, e2) = bind_some (suffixes x.0 x.1) _ y e in
     elim (with_some_cases t _ _ y e2) [
       | inl p ↦ subst P (some_is p.1) r
@@ -229,7 +229,7 @@ suffixes_sound depth (suc n) all x y r e =
         | inr q ↦
             let (found, e3, e4) = bind_some (suffix_of q.0) _ t q.2 in
             let b = suffix_sound q.0 found e3 in
-            let z : Tree × List Lexeme = (Tree.suffixed x.0 found.0, found.1) in
+            let z : ExprView × List Lexeme = (ExprView.suffixed x.0 found.0, found.1) in
             let same : z ≡ p.0 = some_is (some_is e4 ∙ p.1) in
             let R : Found depth 0 all z = record {
               spelled = r.spelled ∙ (ap (λ v. spelling x.0 ++ v) (mark_found m.Dot x.1 q.0 q.1 ∙ b.spelled)
@@ -242,19 +242,19 @@ suffixes_sound depth (suc n) all x y r e =
     ]
 
 -- an expression in parentheses
-record IsGroup (depth : ℕ) (expr : Reads Tree) : Type 0 where
-  groups : (ws : List Lexeme) (x : Tree × List Lexeme) → group_with expr ws ≡ Some x → Found depth 0 (Lexeme.mark m.LeftParen ∷ ws) x
+record IsGroup (depth : ℕ) (expr : Reads ExprView) : Type 0 where
+  groups : (ws : List Lexeme) (x : ExprView × List Lexeme) → group_with expr ws ≡ Some x → Found depth 0 (Lexeme.mark m.LeftParen ∷ ws) x
 
 no_group : (depth : ℕ) → IsGroup depth refused
 no_group depth = record { groups = λ ws x e. absurd (cc) }
 
-group_sound : (depth : ℕ) (expr : Reads Tree) → IsSound depth 6 expr → IsGroup (suc depth) expr
+group_sound : (depth : ℕ) (expr : Reads ExprView) → IsSound depth 6 expr → IsGroup (suc depth) expr
 group_sound depth expr s = record {
   groups = λ ws x e.
       let (inner, e1, e2) = bind_some (expr ws) _ x e in
       let (rest, e3, e4) = bind_some (after_mark m.RightParen inner.1) _ x e2 in
       let f = s.sound ws inner e1 in
-      let P : (Tree × List Lexeme) → Type 0 = Found (suc depth) 0 (Lexeme.mark m.LeftParen ∷ ws) in
+      let P : (ExprView × List Lexeme) → Type 0 = Found (suc depth) 0 (Lexeme.mark m.LeftParen ∷ ws) in
       subst P (some_is e4) (record {
         spelled = ap (λ v. Lexeme.mark m.LeftParen ∷ v) (f.spelled ∙ (ap (λ v. spelling inner.0 ++ v)
             (mark_found m.RightParen inner.1 rest e3)
@@ -264,7 +264,7 @@ group_sound depth expr s = record {
       });
 }
 
-post_sound : (depth : ℕ) (expr : Reads Tree) → IsGroup depth expr → IsSound depth 0 (post_with expr)
+post_sound : (depth : ℕ) (expr : Reads ExprView) → IsGroup depth expr → IsSound depth 0 (post_with expr)
 post_sound depth expr s = record {
   sound = λ ws x e.
       let (first, e1, e2) = bind_some (prim_with expr ws) _ x e in
@@ -278,22 +278,22 @@ post_sound depth expr s = record {
 }
 
 -- an operand behind `!`
-record IsNot (depth : ℕ) (neg : Reads Tree) : Type 0 where
-  negates : (ws : List Lexeme) (x : Tree × List Lexeme) → not_with neg ws ≡ Some x → Found depth 1 (Lexeme.mark m.Not ∷ ws) x
+record IsNot (depth : ℕ) (neg : Reads ExprView) : Type 0 where
+  negates : (ws : List Lexeme) (x : ExprView × List Lexeme) → not_with neg ws ≡ Some x → Found depth 1 (Lexeme.mark m.Not ∷ ws) x
 
 no_not : (depth : ℕ) → IsNot depth refused
 no_not depth = record { negates = λ ws x e. absurd (cc) }
 
-not_sound : (depth : ℕ) (neg : Reads Tree) → IsSound depth 1 neg → IsNot (suc depth) neg
+not_sound : (depth : ℕ) (neg : Reads ExprView) → IsSound depth 1 neg → IsNot (suc depth) neg
 not_sound depth neg s = record {
   negates = λ ws x e.
       let (inner, e1, e2) = bind_some (neg ws) _ x e in
       let f = s.sound ws inner e1 in
-      let P : (Tree × List Lexeme) → Type 0 = Found (suc depth) 1 (Lexeme.mark m.Not ∷ ws) in
+      let P : (ExprView × List Lexeme) → Type 0 = Found (suc depth) 1 (Lexeme.mark m.Not ∷ ws) in
       subst P (some_is e2) (record { spelled = ap (λ v. Lexeme.mark m.Not ∷ v) f.spelled; fits = (f.low, f.fits); low = omega arith });
 }
 
-neg_with_sound : (depth : ℕ) (expr neg : Reads Tree) → IsGroup depth expr → IsNot depth neg → IsSound depth 1 (neg_with expr neg)
+neg_with_sound : (depth : ℕ) (expr neg : Reads ExprView) → IsGroup depth expr → IsNot depth neg → IsSound depth 1 (neg_with expr neg)
 neg_with_sound depth expr neg g n = record {
   sound = λ ws x e.
       elim (with_some_cases (after_mark m.Not ws) _ _ x e) [

@@ -13,7 +13,7 @@ use Rattle.filter_parser.specs.declared.tree.op.Suffix.TheVariants as suffix
 use Rattle.filter_parser.specs.Reading.{attribute_of, attribute_first, mask_suffix, mask_of, suffix_of, between_of, braces_of, lengths_of}
 use Rattle.filter_parser.specs.Reading.{item_of}
 use Rattle.filter_parser.specs.Steps.{after_mark, after_name, number_first, prefix_first}
-use Rattle.filter_parser.specs.Syntax.{Item, FitsItem, FitsSuffix, attribute_mark, spelling_item, spelling_suffix}
+use Rattle.filter_parser.specs.Syntax.{SetPatternView, FitsItem, FitsSuffix, attribute_mark, spelling_item, spelling_suffix}
 use Rattle.filter_parser.proofs.Steps.{bind_some, mark_found, some_is, with_some_cases}
 
 -- what a word was found before
@@ -101,20 +101,20 @@ suffix_sound ws x e =
     ]
 
 -- a pattern
-pub record IsItem (ws : List Lexeme) (x : Item × List Lexeme) : Type 0 where
+pub record IsItem (ws : List Lexeme) (x : SetPatternView × List Lexeme) : Type 0 where
   pub spelled : ws ≡ spelling_item x.0 ++ x.1
   pub fits : FitsItem x.0
 
-between_found : (p : List Bool) (l h : ℕ) (x : Item) → between_of p l h ≡ Some x → (x ≡ Item.between p l h) × HasOrderedLengths l h
+between_found : (p : List Bool) (l h : ℕ) (x : SetPatternView) → between_of p l h ≡ Some x → (x ≡ SetPatternView.between p l h) × HasOrderedLengths l h
 between_found p l h x e = go (nat_le l h) (nat_le h 32) refl refl e
   where
-    go : (a b : Bool) → nat_le l h ≡ a → nat_le h 32 ≡ b → (if a && b then Some (Item.between p l h) else None) ≡ Some x →
-        (x ≡ Item.between p l h) × HasOrderedLengths l h
+    go : (a b : Bool) → nat_le l h ≡ a → nat_le h 32 ≡ b → (if a && b then Some (SetPatternView.between p l h) else None) ≡ Some x →
+        (x ≡ SetPatternView.between p l h) × HasOrderedLengths l h
     go true true s t k = (sym (some_is k), record { order = grind arith; limit = grind arith })
     go true false s t k = absurd (cc)
     go false b s t k = absurd (cc)
 
-braces_sound : (p : List Bool) (ws : List Lexeme) (x : Item × List Lexeme) → braces_of p ws ≡ Some x →
+braces_sound : (p : List Bool) (ws : List Lexeme) (x : SetPatternView × List Lexeme) → braces_of p ws ≡ Some x →
     IsItem (Lexeme.prefix p ∷ Lexeme.mark m.LeftBrace ∷ ws) x
 braces_sound p ws x e =
     let (low, first, e1) = bind_some (number_first ws) _ x e in
@@ -126,14 +126,14 @@ braces_sound p ws x e =
     let b : low.1 ≡ Lexeme.mark m.Comma ∷ comma = mark_found m.Comma low.1 comma second in
     let d : comma ≡ Lexeme.number high.0 ∷ high.1 = number_found comma high third in
     let g : high.1 ≡ Lexeme.mark m.RightBrace ∷ rest = mark_found m.RightBrace high.1 rest fourth in
-    let f : (found ≡ Item.between p low.0 high.0) × HasOrderedLengths low.0 high.0 = between_found p low.0 high.0 found fifth in
-    let P : (Item × List Lexeme) → Type 0 = IsItem (Lexeme.prefix p ∷ Lexeme.mark m.LeftBrace ∷ ws) in
-    let Q : Item → Type 0 = λ s. IsItem (Lexeme.prefix p ∷ Lexeme.mark m.LeftBrace ∷ ws) (s, rest) in
+    let f : (found ≡ SetPatternView.between p low.0 high.0) × HasOrderedLengths low.0 high.0 = between_found p low.0 high.0 found fifth in
+    let P : (SetPatternView × List Lexeme) → Type 0 = IsItem (Lexeme.prefix p ∷ Lexeme.mark m.LeftBrace ∷ ws) in
+    let Q : SetPatternView → Type 0 = λ s. IsItem (Lexeme.prefix p ∷ Lexeme.mark m.LeftBrace ∷ ws) (s, rest) in
     subst P (some_is e5) (subst Q (sym f.0) (record { spelled = cc; fits = f.1 }))
 
-lengths_sound : (p : List Bool) (ws : List Lexeme) (x : Item × List Lexeme) → lengths_of p ws ≡ Some x → IsItem (Lexeme.prefix p ∷ ws) x
+lengths_sound : (p : List Bool) (ws : List Lexeme) (x : SetPatternView × List Lexeme) → lengths_of p ws ≡ Some x → IsItem (Lexeme.prefix p ∷ ws) x
 lengths_sound p ws x e =
-    let P : (Item × List Lexeme) → Type 0 = IsItem (Lexeme.prefix p ∷ ws) in
+    let P : (SetPatternView × List Lexeme) → Type 0 = IsItem (Lexeme.prefix p ∷ ws) in
     elim (with_some_cases (after_mark m.Plus ws) _ _ x e) [
       | inr f ↦ subst P (some_is f.2) (record { spelled = ap (λ v. Lexeme.prefix p ∷ v) (mark_found m.Plus ws f.0 f.1); fits = tt })
       | inl g ↦ elim (with_some_cases (after_mark m.Minus ws) _ _ x g.1) [
@@ -147,7 +147,7 @@ lengths_sound p ws x e =
       ]
     ]
 
-pub item_sound : (ws : List Lexeme) (x : Item × List Lexeme) → item_of ws ≡ Some x → IsItem ws x
+pub item_sound : (ws : List Lexeme) (x : SetPatternView × List Lexeme) → item_of ws ≡ Some x → IsItem ws x
 item_sound ws x e =
     let (p, first, e1) = bind_some (prefix_first ws) _ x e in
     let Q : List Lexeme → Type 0 = λ v. IsItem v x in

@@ -5,16 +5,16 @@ use Rattle.filter_tokens.specs.Lexemes.{lexemes}
 use Rattle.filter_tokens.specs.declared.token.Token.{Token}
 use Rattle.filter_tokens.proofs.Cuts.{cuts_once}
 use Rattle.filter_parser.specs.Acting.{Said, filter_of}
-use Rattle.filter_parser.specs.SyntaxCommands.{Declared}
-use Rattle.filter_parser.specs.SyntaxText.{IsText, Program, text_limit}
+use Rattle.filter_parser.specs.SyntaxCommands.{DeclView}
+use Rattle.filter_parser.specs.SyntaxText.{IsText, FilterView, text_limit}
 use Rattle.filter_parser.proofs.FilterLaws.{filter_complete, filter_sound}
 use Rattle.filter_parser.proofs.Steps.{some_is}
 
 -- what a filter says without its tokens, and with tokens
-abbrev pub said : Program → Said
+abbrev pub said : FilterView → Said
 said t = record { name = t.name; decls = t.decls; body = t.body }
 
-abbrev pub program : Said → List Token → Program
+abbrev pub program : Said → List Token → FilterView
 program x tokens = record { name = x.name; decls = x.decls; body = x.body; tokens = tokens }
 
 -- what is read of the tokens that a text is cut into, the text spells
@@ -34,15 +34,15 @@ text_found text tokens x size cut read =
     }
 
 -- what a text spells is read of its tokens
-pub text_only : (text : List ℕ) (tokens : List Token) (t : Program) → IsText text t → tokens ≡ t.tokens
+pub text_only : (text : List ℕ) (tokens : List Token) (t : FilterView) → IsText text t → tokens ≡ t.tokens
     → filter_of (lexemes text tokens) ≡ Some (said t)
 text_only text tokens t is same =
     ap (λ (ts : List Token). filter_of (lexemes text ts)) same ∙ ap filter_of is.spelled
     ∙ filter_complete t.name is.head is.inner t.body is.fits
-    ∙ ap (λ (ds : List Declared). let x : Said = record { name = t.name; decls = ds; body = t.body } in Some x) (sym is.declared)
+    ∙ ap (λ (ds : List DeclView). let x : Said = record { name = t.name; decls = ds; body = t.body } in Some x) (sym is.declared)
 
 -- a text spells one filter
-pub text_once : (text : List ℕ) (tokens : List Token) (x : Said) (t : Program) → filter_of (lexemes text tokens) ≡ Some x → IsText text t
+pub text_once : (text : List ℕ) (tokens : List Token) (x : Said) (t : FilterView) → filter_of (lexemes text tokens) ≡ Some x → IsText text t
     → tokens ≡ t.tokens
     → t ≡ program x tokens
 text_once text tokens x t read is same =
@@ -50,7 +50,7 @@ text_once text tokens x t read is same =
     ap (λ (ts : List Token). program (said t) ts) (sym same) ∙ ap (λ (y : Said). program y tokens) e
 
 -- no text spells two filters
-pub text_one : (text : List ℕ) (t u : Program) → IsText text t → IsText text u → t ≡ u
+pub text_one : (text : List ℕ) (t u : FilterView) → IsText text t → IsText text u → t ≡ u
 text_one text t u is other =
     let same : u.tokens ≡ t.tokens = cuts_once text u.tokens t.tokens other.cut is.cut in
     let read = text_only text t.tokens t is refl in

@@ -14,54 +14,54 @@ use Rattle.filter_parser.specs.declared.tree.op.Membership.{Membership}
 use Rattle.filter_parser.specs.declared.tree.op.Op.{Op}
 use Rattle.filter_parser.specs.declared.tree.op.Suffix.{Suffix}
 use Rattle.filter_parser.specs.declared.tree.set.Set.{Set}
-use Rattle.filter_parser.specs.Syntax.{Tree, run_of, suffixes_of, view, view_expr_step, view_item, view_more}
-use Rattle.filter_parser.specs.SyntaxCommands.{Act, acts_of, view_command, view_step}
+use Rattle.filter_parser.specs.Syntax.{ExprView, run_of, suffixes_of, view, view_expr_step, view_item, view_more}
+use Rattle.filter_parser.specs.SyntaxCommands.{CommandView, acts_of, view_command, view_step}
 
 -- a run with one more operator behind it
-pub run_more : (left : Tree) (xs : List (Op × Tree)) (op : Op) (right : Tree) →
-    run_of left (xs ++ ((op, right) ∷ [])) ≡ Tree.binary op (run_of left xs) right
+pub run_more : (left : ExprView) (xs : List (Op × ExprView)) (op : Op) (right : ExprView) →
+    run_of left (xs ++ ((op, right) ∷ [])) ≡ ExprView.binary op (run_of left xs) right
 run_more left [] op right = refl
-run_more left (x ∷ xs) op right = run_more (Tree.binary x.0 left x.1) xs op right
+run_more left (x ∷ xs) op right = run_more (ExprView.binary x.0 left x.1) xs op right
 
 -- one more suffix
-pub suffixes_more : (inner : Tree) (xs : List Suffix) (s : Suffix) →
-    suffixes_of inner (xs ++ (s ∷ [])) ≡ Tree.suffixed (suffixes_of inner xs) s
+pub suffixes_more : (inner : ExprView) (xs : List Suffix) (s : Suffix) →
+    suffixes_of inner (xs ++ (s ∷ [])) ≡ ExprView.suffixed (suffixes_of inner xs) s
 suffixes_more inner [] s = refl
-suffixes_more inner (x ∷ xs) s = suffixes_more (Tree.suffixed inner x) xs s
+suffixes_more inner (x ∷ xs) s = suffixes_more (ExprView.suffixed inner x) xs s
 
 -- an expression with another one in a box
-pub view_group : (at : ℕ) (inner : Box Expr Global) → view (e.Group at inner) ≡ Tree.group (view inner.value)
-view_group at inner = ap view (sym (e.rolls-Group at inner)) ∙ fold-roll-Expr Tree view_expr_step (Expr-F.Group at inner)
+pub view_group : (at : ℕ) (inner : Box Expr Global) → view (e.Group at inner) ≡ ExprView.group (view inner.value)
+view_group at inner = ap view (sym (e.rolls-Group at inner)) ∙ fold-roll-Expr ExprView view_expr_step (Expr-F.Group at inner)
 
-pub view_not : (at : ℕ) (inner : Box Expr Global) → view (e.Not at inner) ≡ Tree.negation (view inner.value)
-view_not at inner = ap view (sym (e.rolls-Not at inner)) ∙ fold-roll-Expr Tree view_expr_step (Expr-F.Not at inner)
+pub view_not : (at : ℕ) (inner : Box Expr Global) → view (e.Not at inner) ≡ ExprView.negation (view inner.value)
+view_not at inner = ap view (sym (e.rolls-Not at inner)) ∙ fold-roll-Expr ExprView view_expr_step (Expr-F.Not at inner)
 
 pub view_run : (first : Box Expr Global) (more : Vec (Op × Expr) Global) →
     view (e.Run first more) ≡ run_of (view first.value) (view_more more.items)
-view_run first more = ap view (sym (e.rolls-Run first more)) ∙ fold-roll-Expr Tree view_expr_step (Expr-F.Run first more)
+view_run first more = ap view (sym (e.rolls-Run first more)) ∙ fold-roll-Expr ExprView view_expr_step (Expr-F.Run first more)
 
 pub view_member : (op : Membership) (left : Box Expr Global) (set : Set) →
-    view (e.Member op left set) ≡ Tree.member op (view left.value) (map view_item set.patterns.items)
-view_member op left set = ap view (sym (e.rolls-Member op left set)) ∙ fold-roll-Expr Tree view_expr_step (Expr-F.Member op left set)
+    view (e.Member op left set) ≡ ExprView.member op (view left.value) (map view_item set.patterns.items)
+view_member op left set = ap view (sym (e.rolls-Member op left set)) ∙ fold-roll-Expr ExprView view_expr_step (Expr-F.Member op left set)
 
 pub view_suffixed : (inner : Box Expr Global) (suffixes : Vec Suffix Global) →
     view (e.Suffixed inner suffixes) ≡ suffixes_of (view inner.value) suffixes.items
 view_suffixed inner suffixes = ap view (sym (e.rolls-Suffixed inner suffixes))
-    ∙ fold-roll-Expr Tree view_expr_step (Expr-F.Suffixed inner suffixes)
+    ∙ fold-roll-Expr ExprView view_expr_step (Expr-F.Suffixed inner suffixes)
 
 -- a block, and an `if` without and with `else`
-pub view_block : (at : ℕ) (body : Vec Command Global) → view_command (command.Block at body) ≡ Act.block
+pub view_block : (at : ℕ) (body : Vec Command Global) → view_command (command.Block at body) ≡ CommandView.block
     (acts_of (map view_command body.items))
-view_block at body = ap view_command (sym (command.rolls-Block at body)) ∙ fold-roll-Command Act view_step (Command-F.Block at body)
+view_block at body = ap view_command (sym (command.rolls-Block at body)) ∙ fold-roll-Command CommandView view_step (Command-F.Block at body)
 
 pub view_choice : (at : ℕ) (test : Expr) (chosen : Box Command Global) →
-    view_command (command.If at test chosen None) ≡ Act.choice (view test) (view_command chosen.value)
+    view_command (command.If at test chosen None) ≡ CommandView.choice (view test) (view_command chosen.value)
 view_choice at test chosen =
-    ap view_command (sym (command.rolls-If at test chosen None)) ∙ fold-roll-Command Act view_step (Command-F.If at test chosen None)
+    ap view_command (sym (command.rolls-If at test chosen None)) ∙ fold-roll-Command CommandView view_step (Command-F.If at test chosen None)
 
 pub view_choice_else : (at : ℕ) (test : Expr) (chosen other : Box Command Global) →
-    view_command (command.If at test chosen (Some other)) ≡ Act.choice_else (view test) (view_command chosen.value)
+    view_command (command.If at test chosen (Some other)) ≡ CommandView.choice_else (view test) (view_command chosen.value)
     (view_command other.value)
 view_choice_else at test chosen other =
     ap view_command (sym (command.rolls-If at test chosen (Some other)))
-    ∙ fold-roll-Command Act view_step (Command-F.If at test chosen (Some other))
+    ∙ fold-roll-Command CommandView view_step (Command-F.If at test chosen (Some other))

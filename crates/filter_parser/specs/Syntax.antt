@@ -20,46 +20,46 @@ use Rattle.filter_parser.specs.declared.tree.set.SetPattern.{SetPattern}
 use Rattle.filter_parser.specs.declared.tree.set.SetPattern.TheVariants as written
 
 -- a pattern as a set has it: `a/len`, `a/len+`, `a/len-`, `a/len{low,high}`
-pub data Item : Type 0 where
-  exact : (bits : List Bool) → Item
-  or_longer : (bits : List Bool) → Item
-  or_shorter : (bits : List Bool) → Item
-  between : (bits : List Bool) (low high : ℕ) → Item
+pub data SetPatternView : Type 0 where
+  exact : (bits : List Bool) → SetPatternView
+  or_longer : (bits : List Bool) → SetPatternView
+  or_shorter : (bits : List Bool) → SetPatternView
+  between : (bits : List Bool) (low high : ℕ) → SetPatternView
 
 -- an expression; parentheses are a part of the tree
-pub data Tree : Type 0 where
-  number : (n : ℕ) → Tree
-  address : (a : ℕ) → Tree
-  prefix : (bits : List Bool) → Tree
-  truth : (b : Bool) → Tree
-  name : (text : List ℕ) → Tree
-  attribute : (a : Attribute) → Tree
-  defined : (a : Attribute) → Tree
-  group : (inner : Tree) → Tree
-  negation : (inner : Tree) → Tree
-  binary : (op : Op) (left right : Tree) → Tree
-  member : (op : Membership) (left : Tree) (set : List Item) → Tree
-  suffixed : (inner : Tree) (s : Suffix) → Tree
+pub data ExprView : Type 0 where
+  number : (n : ℕ) → ExprView
+  address : (a : ℕ) → ExprView
+  prefix : (bits : List Bool) → ExprView
+  truth : (b : Bool) → ExprView
+  name : (text : List ℕ) → ExprView
+  attribute : (a : Attribute) → ExprView
+  defined : (a : Attribute) → ExprView
+  group : (inner : ExprView) → ExprView
+  negation : (inner : ExprView) → ExprView
+  binary : (op : Op) (left right : ExprView) → ExprView
+  member : (op : Membership) (left : ExprView) (set : List SetPatternView) → ExprView
+  suffixed : (inner : ExprView) (s : Suffix) → ExprView
 
 -- a set's pattern without its place
-abbrev pub view_item : SetPattern → Item
+abbrev pub view_item : SetPattern → SetPatternView
 view_item (written.Exact at bits) = exact bits
 view_item (written.OrLonger at bits) = or_longer bits
 view_item (written.OrShorter at bits) = or_shorter bits
 view_item (written.Between at pattern) = between pattern.bits pattern.low pattern.high
 
 -- a run from the left: `a op b op c` is `(a op b) op c`
-abbrev pub run_of : Tree → List (Op × Tree) → Tree
+abbrev pub run_of : ExprView → List (Op × ExprView) → ExprView
 run_of left [] = left
 run_of left (x ∷ xs) = run_of (binary x.0 left x.1) xs
 
 -- an operand with suffixes, from the left
-abbrev pub suffixes_of : Tree → List Suffix → Tree
+abbrev pub suffixes_of : ExprView → List Suffix → ExprView
 suffixes_of inner [] = inner
 suffixes_of inner (x ∷ xs) = suffixes_of (suffixed inner x) xs
 
 -- an expression without its places, where the expressions in it are already so
-abbrev pub view_expr_step : Expr-F Tree → Tree
+abbrev pub view_expr_step : Expr-F ExprView → ExprView
 view_expr_step (Expr-F.Number at n) = number n
 view_expr_step (Expr-F.Address at a) = address a.0
 view_expr_step (Expr-F.Prefix at bits) = prefix bits
@@ -74,15 +74,15 @@ view_expr_step (Expr-F.Member op left set) = member op left.value (map view_item
 view_expr_step (Expr-F.Suffixed inner suffixes) = suffixes_of inner.value suffixes.items
 
 -- an expression without its places
-abbrev pub view : Expr → Tree
-view = fold-Expr Tree view_expr_step
+abbrev pub view : Expr → ExprView
+view = fold-Expr ExprView view_expr_step
 
 -- the operators and operands of a run behind its first operand, without their places
-abbrev pub view_more : List (Op × Expr) → List (Op × Tree)
+abbrev pub view_more : List (Op × Expr) → List (Op × ExprView)
 view_more xs = map (λ p. (p.0, view p.1)) xs
 
 -- the pattern that is meant: `+` takes the longer prefixes too, `-` the shorter ones
-abbrev pub pattern_of : Item → PrefixPattern
+abbrev pub pattern_of : SetPatternView → PrefixPattern
 pattern_of (exact p) = record { bits = p; low = length p; high = length p }
 pattern_of (or_longer p) = record { bits = p; low = length p; high = 32 }
 pattern_of (or_shorter p) = record { bits = p; low = 0; high = length p }
@@ -128,7 +128,7 @@ spelling_suffix (suffix.Mask n) =
     Lexeme.mark m.Dot ∷ Lexeme.name (codes "mask") ∷ Lexeme.mark m.LeftParen ∷ Lexeme.number n ∷ Lexeme.mark m.RightParen ∷ []
 
 -- a pattern: a prefix, and behind it the lengths that it takes
-abbrev pub spelling_item : Item → List Lexeme
+abbrev pub spelling_item : SetPatternView → List Lexeme
 spelling_item (exact p) = Lexeme.prefix p ∷ []
 spelling_item (or_longer p) = Lexeme.prefix p ∷ Lexeme.mark m.Plus ∷ []
 spelling_item (or_shorter p) = Lexeme.prefix p ∷ Lexeme.mark m.Minus ∷ []
@@ -136,17 +136,17 @@ spelling_item (between p l h) =
     Lexeme.prefix p ∷ Lexeme.mark m.LeftBrace ∷ Lexeme.number l ∷ Lexeme.mark m.Comma ∷ Lexeme.number h ∷ Lexeme.mark m.RightBrace ∷ []
 
 -- the patterns of a set after its first, each behind a comma, and the bracket that ends it
-abbrev pub spelling_items : List Item → List Lexeme
+abbrev pub spelling_items : List SetPatternView → List Lexeme
 spelling_items [] = Lexeme.mark m.RightBracket ∷ []
 spelling_items (x ∷ xs) = Lexeme.mark m.Comma ∷ (spelling_item x ++ spelling_items xs)
 
 -- a set in its brackets; a set without a pattern has no spelling that fits
-abbrev pub spelling_set : List Item → List Lexeme
+abbrev pub spelling_set : List SetPatternView → List Lexeme
 spelling_set [] = Lexeme.mark m.LeftBracket ∷ Lexeme.mark m.RightBracket ∷ []
 spelling_set (x ∷ xs) = Lexeme.mark m.LeftBracket ∷ (spelling_item x ++ spelling_items xs)
 
 -- the lexemes of an expression
-abbrev pub spelling : Tree → List Lexeme
+abbrev pub spelling : ExprView → List Lexeme
 spelling (number n) = Lexeme.number n ∷ []
 spelling (address a) = Lexeme.address a ∷ []
 spelling (prefix p) = Lexeme.prefix p ∷ []
@@ -179,7 +179,7 @@ rank_of o.And = 5
 rank_of o.Or = 6
 
 -- how loosely a tree binds: 0 what a suffix may follow, 1 `!`, then as its operator
-abbrev pub rank : Tree → ℕ
+abbrev pub rank : ExprView → ℕ
 rank (number n) = 0
 rank (address a) = 0
 rank (prefix p) = 0
@@ -222,19 +222,19 @@ FitsSuffix suffix.Len = Unit {0}
 FitsSuffix (suffix.Mask n) = n ≤ mask_limit
 
 -- the lengths in a pattern's braces are in order, and at most 32
-abbrev pub FitsItem : Item → Type 0
+abbrev pub FitsItem : SetPatternView → Type 0
 FitsItem (exact p) = Unit {0}
 FitsItem (or_longer p) = Unit {0}
 FitsItem (or_shorter p) = Unit {0}
 FitsItem (between p l h) = HasOrderedLengths l h
 
 -- each of these patterns fits
-abbrev pub FitsItems : List Item → Type 0
+abbrev pub FitsItems : List SetPatternView → Type 0
 FitsItems [] = Unit {0}
 FitsItems (x ∷ xs) = FitsItem x × FitsItems xs
 
 -- a set has at least one pattern
-abbrev pub FitsSet : List Item → Type 0
+abbrev pub FitsSet : List SetPatternView → Type 0
 FitsSet [] = ⊥
 FitsSet (x ∷ xs) = FitsItem x × FitsItems xs
 
@@ -248,7 +248,7 @@ one_less zero P = ⊥
 one_less (suc n) P = P n
 
 -- an expression fits the grammar where so many levels may still nest
-abbrev pub Fits : Tree → ℕ → Type 0
+abbrev pub Fits : ExprView → ℕ → Type 0
 Fits (number n) depth = Unit {0}
 Fits (address a) depth = Unit {0}
 Fits (prefix p) depth = Unit {0}

@@ -12,48 +12,48 @@ use Rattle.filter_parser.specs.declared.tree.command.Target.TheVariants as targe
 use Rattle.filter_parser.specs.declared.tree.decl.Decl.{Decl}
 use Rattle.filter_parser.specs.declared.tree.decl.Kind.{Kind}
 use Rattle.filter_parser.specs.declared.tree.decl.Kind.TheVariants as kind
-use Rattle.filter_parser.specs.Syntax.{Tree, view, spelling, Fits, one_less}
+use Rattle.filter_parser.specs.Syntax.{ExprView, view, spelling, Fits, one_less}
 
 -- what an assignment sets: a variable, `rip_metric`, `net`
-pub data Aim : Type 0 where
-  to_name : (text : List ℕ) → Aim
-  to_metric : Aim
-  to_net : Aim
+pub data TargetView : Type 0 where
+  to_name : (text : List ℕ) → TargetView
+  to_metric : TargetView
+  to_net : TargetView
 
 -- a command: `;`, a block, `if` without and with `else`, an assignment, `accept` and `reject` without and with a text
 mutual
-  pub data Act : Type 0 where
-    empty : Act
-    block : (body : Acts) → Act
-    choice : (test : Tree) (chosen : Act) → Act
-    choice_else : (test : Tree) (chosen other : Act) → Act
-    assign : (aim : Aim) (value : Tree) → Act
-    accept : (has_text : Bool) → Act
-    reject : (has_text : Bool) → Act
+  pub data CommandView : Type 0 where
+    empty : CommandView
+    block : (body : Acts) → CommandView
+    choice : (test : ExprView) (chosen : CommandView) → CommandView
+    choice_else : (test : ExprView) (chosen other : CommandView) → CommandView
+    assign : (aim : TargetView) (value : ExprView) → CommandView
+    accept : (has_text : Bool) → CommandView
+    reject : (has_text : Bool) → CommandView
 
   -- commands one after another
   pub data Acts : Type 0 where
     no_acts : Acts
-    act_then : (first : Act) (more : Acts) → Acts
+    act_then : (first : CommandView) (more : Acts) → Acts
 
 -- a declaration without its place
-pub record Declared : Type 0 where
+pub record DeclView : Type 0 where
   pub kind : Kind
   pub name : List ℕ
 
 -- commands one after another, from a list of them
-abbrev pub acts_of : List Act → Acts
+abbrev pub acts_of : List CommandView → Acts
 acts_of [] = no_acts
 acts_of (x ∷ xs) = act_then x (acts_of xs)
 
 -- what an assignment sets, without its place
-abbrev pub view_target : Target → Aim
+abbrev pub view_target : Target → TargetView
 view_target (target.Name text) = to_name text.items
 view_target target.RipMetric = to_metric
 view_target target.Net = to_net
 
 -- a command without its places, where the commands in it are already so
-abbrev pub view_step : Command-F Act → Act
+abbrev pub view_step : Command-F CommandView → CommandView
 view_step (Command-F.Empty at) = empty
 view_step (Command-F.Block at body) = block (acts_of body.items)
 view_step (Command-F.If at test chosen None) = choice (view test) chosen.value
@@ -63,11 +63,11 @@ view_step (Command-F.Accept at has_text) = accept has_text
 view_step (Command-F.Reject at has_text) = reject has_text
 
 -- a command without its places
-abbrev pub view_command : Command → Act
-view_command = fold-Command Act view_step
+abbrev pub view_command : Command → CommandView
+view_command = fold-Command CommandView view_step
 
 -- a declaration without its place
-abbrev pub view_decl : Decl → Declared
+abbrev pub view_decl : Decl → DeclView
 view_decl d = record { kind = d.kind; name = d.name.items }
 
 -- the keyword of a kind
@@ -78,16 +78,16 @@ kind_mark kind.Ip = m.Ip
 kind_mark kind.Prefix = m.Prefix
 
 -- `type name ;`
-abbrev pub spelling_decl : Declared → List Lexeme
+abbrev pub spelling_decl : DeclView → List Lexeme
 spelling_decl d = Lexeme.mark (kind_mark d.kind) ∷ Lexeme.name d.name ∷ Lexeme.mark m.Semicolon ∷ []
 
 -- declarations one after another
-abbrev pub spelling_decls : List Declared → List Lexeme
+abbrev pub spelling_decls : List DeclView → List Lexeme
 spelling_decls [] = []
 spelling_decls (d ∷ ds) = spelling_decl d ++ spelling_decls ds
 
 -- the lexeme of what is set
-abbrev pub spelling_aim : Aim → Lexeme
+abbrev pub spelling_aim : TargetView → Lexeme
 spelling_aim (to_name text) = Lexeme.name text
 spelling_aim to_metric = Lexeme.mark m.RipMetric
 spelling_aim to_net = Lexeme.mark m.Net
@@ -99,7 +99,7 @@ spelling_end false = Lexeme.mark m.Semicolon ∷ []
 
 -- the lexemes of a command, and of commands one after another
 abbrev mutual
-  pub spelling_act : Act → List Lexeme
+  pub spelling_act : CommandView → List Lexeme
   spelling_act empty = Lexeme.mark m.Semicolon ∷ []
   spelling_act (block body) = Lexeme.mark m.LeftBrace ∷ (spelling_acts body ++ Lexeme.mark m.RightBrace ∷ [])
   spelling_act (choice test chosen) = Lexeme.mark m.If ∷ (spelling test ++ Lexeme.mark m.Then ∷ spelling_act chosen)
@@ -114,7 +114,7 @@ abbrev mutual
   spelling_acts (act_then first more) = spelling_act first ++ spelling_acts more
 
 -- an `else` behind the command would belong to an `if` in it
-abbrev pub is_open : Act → Bool
+abbrev pub is_open : CommandView → Bool
 is_open empty = false
 is_open (block body) = false
 is_open (choice test chosen) = true
@@ -125,7 +125,7 @@ is_open (reject has_text) = false
 
 -- a command fits the grammar where so many levels may still nest: an `else` belongs to the nearest `if`
 abbrev mutual
-  pub FitsAct : Act → ℕ → Type 0
+  pub FitsAct : CommandView → ℕ → Type 0
   FitsAct empty depth = Unit {0}
   FitsAct (block body) depth = one_less depth (FitsActs body)
   FitsAct (choice test chosen) depth = one_less depth (λ n. Fits test n × FitsAct chosen n)

@@ -9,7 +9,7 @@ ghost use Rattle.filter_parser.specs.Reading.{expr_at};
 ghost use Rattle.filter_parser.specs.Steps.{Gives, first_place, left_of};
 ghost use Rattle.filter_parser.specs.Syntax.{view};
 ghost use Rattle.filter_parser.specs.SyntaxCommands.{view_command, view_target};
-ghost use Rattle.filter_parser.specs.SyntaxCommands.Act.{choice, choice_else};
+ghost use Rattle.filter_parser.specs.SyntaxCommands.CommandView.{choice, choice_else};
 
 use crate::expected::Expected;
 use crate::expr::expr;

@@ -1,13 +1,13 @@
 ghost use Rattle.std.specs.Prelude.{◌≡◌, IfOk, map};
 ghost use Rattle.filter_parser.specs.Places.{expr_place};
-ghost use Rattle.filter_parser.specs.Syntax.{Tree, run_of, suffixes_of, view, view_item, view_more};
+ghost use Rattle.filter_parser.specs.Syntax.{ExprView, run_of, suffixes_of, view, view_item, view_more};
 
 use crate::tree::{Expr, Membership, Op, Set, Suffix};
 use std::alloc::{AllocError, Global};
 
 /// An expression in parentheses, the first of which has the place `at`.
 pub fn group(alloc: Global, at: usize, inner: Expr) -> Result<Expr, AllocError>
-    ensures is { IfOk result (λ t. view t ≡ Tree.group (view inner)) }
+    ensures is { IfOk result (λ t. view t ≡ ExprView.group (view inner)) }
     ensures placed { IfOk result (λ t. expr_place t ≡ at) }
 {
     Ok(Expr::Group(at, Box::new(alloc, inner)?))
@@ -15,7 +15,7 @@ pub fn group(alloc: Global, at: usize, inner: Expr) -> Result<Expr, AllocError>
 
 /// `!`, which has the place `at`, and its operand.
 pub fn negation(alloc: Global, at: usize, inner: Expr) -> Result<Expr, AllocError>
-    ensures is { IfOk result (λ t. view t ≡ Tree.negation (view inner)) }
+    ensures is { IfOk result (λ t. view t ≡ ExprView.negation (view inner)) }
     ensures placed { IfOk result (λ t. expr_place t ≡ at) }
 {
     Ok(Expr::Not(at, Box::new(alloc, inner)?))
@@ -34,7 +34,7 @@ pub fn run(alloc: Global, first: Expr, more: Vec<(Op, Expr)>) -> Result<Expr, Al
 
 /// Two operands and the operator between them.
 pub fn binary(alloc: Global, op: Op, left: Expr, right: Expr) -> Result<Expr, AllocError>
-    ensures is { IfOk result (λ t. view t ≡ Tree.binary op (view left) (view right)) }
+    ensures is { IfOk result (λ t. view t ≡ ExprView.binary op (view left) (view right)) }
     ensures placed { IfOk result (λ t. expr_place t ≡ expr_place left) }
 {
     let mut more = Vec::new(alloc);
@@ -44,7 +44,7 @@ pub fn binary(alloc: Global, op: Op, left: Expr, right: Expr) -> Result<Expr, Al
 
 /// An operand and a set.
 pub fn member(alloc: Global, op: Membership, left: Expr, set: Set) -> Result<Expr, AllocError>
-    ensures is { IfOk result (λ t. view t ≡ Tree.member op (view left) (map view_item set.patterns.items)) }
+    ensures is { IfOk result (λ t. view t ≡ ExprView.member op (view left) (map view_item set.patterns.items)) }
     ensures placed { IfOk result (λ t. expr_place t ≡ expr_place left) }
 {
     Ok(Expr::Member(op, Box::new(alloc, left)?, set))

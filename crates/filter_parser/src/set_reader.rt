@@ -4,7 +4,7 @@ ghost use Rattle.filter_parser.specs.Reading.{item_read_of, items_read_of, set_r
 ghost use Rattle.filter_parser.specs.Reading.{set_behind, set_of};
 ghost use Rattle.filter_parser.specs.Reading.{items_from as the_items_from};
 ghost use Rattle.filter_parser.specs.Steps.{Finds, Gives, first_place, left_of};
-ghost use Rattle.filter_parser.specs.Syntax.{Item, view_item};
+ghost use Rattle.filter_parser.specs.Syntax.{SetPatternView, view_item};
 
 use crate::expected::Expected;
 use crate::fault::ParseFault;
@@ -16,7 +16,7 @@ use std::alloc::Global;
 
 /// The pattern with these lengths, where they are in order.
 fn between(prefix: Prefix, low: u32, high: u32) -> Option<Pattern>
-    ensures { Finds (λ p. Item.between p.bits p.low p.high) result (between_of prefix low high) }
+    ensures { Finds (λ p. SetPatternView.between p.bits p.low p.high) result (between_of prefix low high) }
 {
     if low > 32 || high > 32 {
         return None;

@@ -3,7 +3,7 @@
 ghost use Rattle.std.specs.Prelude.{◌≡◌, ◌≢◌, ◌≤◌, List, None, IfOk, IfErr, length};
 ghost use Rattle.filter_tokens.specs.Cutting.{AreInOrder, Cuts};
 ghost use Rattle.filter_tokens.specs.declared.token.Token.{Token as TheToken};
-ghost use Rattle.filter_parser.specs.SyntaxText.{IsText, Program, text_limit, view_filter};
+ghost use Rattle.filter_parser.specs.SyntaxText.{IsText, FilterView, text_limit, view_filter};
 ghost use Rattle.filter_parser.specs.declared.fault.ParseFault.TheVariants.{Memory};
 
 use crate::fault::{ParseFault, TEXT_LIMIT};
@@ -25,8 +25,8 @@ fn filter_of_tokens(
     requires cut { fault ≡ None → Cuts tokens.items 0 text.now }
     requires only { (all : List TheToken) → Cuts all 0 text.now → (fault ≡ None) × (tokens.items ≡ all) }
     ensures found { IfOk result (λ f. IsText text.now (view_filter f)) }
-    ensures unique { IfOk result (λ f. (t : Program) → IsText text.now t → t ≡ view_filter f) }
-    ensures refused { IfErr result (λ e. e ≢ Memory → (t : Program) → IsText text.now t → ⊥) }
+    ensures unique { IfOk result (λ f. (t : FilterView) → IsText text.now t → t ≡ view_filter f) }
+    ensures refused { IfErr result (λ e. e ≢ Memory → (t : FilterView) → IsText text.now t → ⊥) }
     ensures spans { IfOk result (λ f. AreInOrder 0 (view_filter f).tokens (length text.now)) }
 {
     let read = filter(
@@ -59,11 +59,11 @@ pub fn parse(alloc: Global, text: &[u8]) -> Result<Filter, ParseFault>
     // The text spells the filter that is answered.
     ensures found { IfOk result (λ f. IsText text.now (view_filter f)) }
     // It spells no other.
-    ensures unique { IfOk result (λ f. (t : Program) → IsText text.now t → t ≡ view_filter f) }
+    ensures unique { IfOk result (λ f. (t : FilterView) → IsText text.now t → t ≡ view_filter f) }
     // No text spells two filters.
-    ensures one { (t u : Program) → IsText text.now t → IsText text.now u → t ≡ u }
+    ensures one { (t u : FilterView) → IsText text.now t → IsText text.now u → t ≡ u }
     // A text that is refused spells no filter, unless memory ran out.
-    ensures refused { IfErr result (λ e. e ≢ Memory → (t : Program) → IsText text.now t → ⊥) }
+    ensures refused { IfErr result (λ e. e ≢ Memory → (t : FilterView) → IsText text.now t → ⊥) }
     // The tokens stand in order in the text.
     ensures spans { IfOk result (λ f. AreInOrder 0 (view_filter f).tokens (length text.now)) }
 {

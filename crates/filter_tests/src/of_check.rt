@@ -1,7 +1,7 @@
 //! Runs of `check`: worked rows of filters and of code files, limits, and faults in mid-stream.
 
+use filter_commands::{ProgramFault, check_text, eval_lines};
 use line_protocol::StreamFault;
-use ncroute_commands::{ProgramFault, check_text, eval_lines};
 use std::alloc::Global;
 use std::io::{self, ErrorKind, Read, Write};
 use std::process::Abort;

@@ -1,7 +1,7 @@
 //! Runs of `eval`: worked rows, the rules of lines, faults in mid-stream, and the texts that people see.
 
+use filter_commands::{ProgramFault, eval_lines};
 use line_protocol::StreamFault;
-use ncroute_commands::{ProgramFault, eval_lines};
 use std::alloc::Global;
 use std::io::{self, ErrorKind, Read, Write};
 use std::process::Abort;

@@ -10,7 +10,7 @@ use Rattle.std.proofs.lemmas.List.Quantifiers.{all_pairs_push}
 use Rattle.std.proofs.lemmas.List.Sums.{fails_before_first, passes_at_first}
 use Rattle.std.proofs.lemmas.Option.{slice_get-map, slice_get_past, slice_get_read}
 use Rattle.std.proofs.lemmas.Slice.Eq.{bytes_eq-Decides}
-use Rattle.filter_parser.specs.SyntaxCommands.{Declared, view_decl}
+use Rattle.filter_parser.specs.SyntaxCommands.{DeclView, view_decl}
 use Rattle.filter_parser.specs.declared.tree.decl.Decl.{Decl}
 use Rattle.filter_types.specs.Kinds.{AreDeclaredOnce, kind_named, number_of}
 use Rattle.filter_types.proofs.Lists.{map_next}
@@ -41,37 +41,37 @@ number_none (v ∷ vs) text none =
 
 -- the kind of a name is that of the variable with its number
 kind_at : (vs : List Decl) (text : List ℕ) (n : ℕ) → n ≡ number_of (map view_decl vs) text
-    → kind_named (map view_decl vs) text ≡ option_map (λ (d : Declared). d.kind) (option_map view_decl (slice_get vs n))
+    → kind_named (map view_decl vs) text ≡ option_map (λ (d : DeclView). d.kind) (option_map view_decl (slice_get vs n))
 kind_at vs text n is =
-    ap (option_map (λ (d : Declared). d.kind)) (find_at (λ (d : Declared). bytes_eq d.name text) (map view_decl vs)
+    ap (option_map (λ (d : DeclView). d.kind)) (find_at (λ (d : DeclView). bytes_eq d.name text) (map view_decl vs)
     ∙ ap (slice_get (map view_decl vs)) (sym is) ∙ slice_get-map view_decl vs n)
 
 -- a name whose number is no variable's has no kind
 pub unknown_kind : (vs : List Decl) (text : List ℕ) (n : ℕ) → n ≡ number_of (map view_decl vs) text → length vs ≤ n
     → kind_named (map view_decl vs) text ≡ None
 unknown_kind vs text n is high =
-    kind_at vs text n is ∙ ap (λ o. option_map (λ (d : Declared). d.kind) (option_map view_decl o)) (slice_get_past vs n high)
+    kind_at vs text n is ∙ ap (λ o. option_map (λ (d : DeclView). d.kind) (option_map view_decl o)) (slice_get_past vs n high)
 
 -- a name whose number is a variable's has its kind
 pub known_kind : (vs : List Decl) (text : List ℕ) (n : ℕ) (v : Decl) → n ≡ number_of (map view_decl vs) text → n < length vs
     → v ≡ get_or vs n v → kind_named (map view_decl vs) text ≡ Some v.kind
 known_kind vs text n v is low at =
     kind_at vs text n is
-    ∙ ap (λ o. option_map (λ (d : Declared). d.kind) (option_map view_decl o)) (slice_get_read vs (length vs) n v refl low at)
+    ∙ ap (λ o. option_map (λ (d : DeclView). d.kind) (option_map view_decl o)) (slice_get_read vs (length vs) n v refl low at)
 
 -- one more variable with a name that none before it has
 pub once_next : (vs : List Decl) (i : ℕ) (v : Decl) → i < length vs → v ≡ get_or vs i v
     → AreDeclaredOnce (map view_decl (take i vs)) → i ≤ number_of (map view_decl (take i vs)) v.name.items
     → AreDeclaredOnce (map view_decl (take (i + 1) vs))
 once_next vs i v low is before high =
-    let front : List Declared = map view_decl (take i vs) in
+    let front : List DeclView = map view_decl (take i vs) in
     let len : length front ≡ i = length-map (take i vs) view_decl ∙ length-take-le i vs (omega arith) in
     let all : AreDeclaredOnce (front ++ view_decl v ∷ []) =
     all_pairs_push (λ c d. c.name ≢ d.name) front (view_decl v) before
     (λ k d lt same.
     let below : k < number_of front v.name.items = omega (arith, len, high) in
     let f : bytes_eq (get_or front k d).name v.name.items ≡ false =
-    fails_before_first (λ (x : Declared). bytes_eq x.name v.name.items) front k d below in
+    fails_before_first (λ (x : DeclView). bytes_eq x.name v.name.items) front k d below in
     let t : bytes_eq (get_or front k d).name v.name.items ≡ true = (bytes_eq-Decides _ _).1 same in cc) in
     subst AreDeclaredOnce (sym (map_next view_decl vs i v low is)) all
 
@@ -79,16 +79,16 @@ once_next vs i v low is before high =
 pub twice : (vs : List Decl) (i : ℕ) (v : Decl) → i < length vs → v ≡ get_or vs i v
     → number_of (map view_decl (take i vs)) v.name.items < i → AreDeclaredOnce (map view_decl vs) → ⊥
 twice vs i v low is below once =
-    let front : List Declared = map view_decl (take i vs) in
+    let front : List DeclView = map view_decl (take i vs) in
     let n : ℕ = number_of front v.name.items in
-    let d : Declared = view_decl v in
+    let d : DeclView = view_decl v in
     let len : length front ≡ i = length-map (take i vs) view_decl ∙ length-take-le i vs (omega arith) in
     let within : n < length front = omega (arith, len, below) in
     let t : bytes_eq (get_or front n d).name v.name.items ≡ true =
-    passes_at_first (λ (x : Declared). bytes_eq x.name v.name.items) front d within in
+    passes_at_first (λ (x : DeclView). bytes_eq x.name v.name.items) front d within in
     let same : (get_or front n d).name ≡ v.name.items = (bytes_eq-Decides _ _).0 t in
     let early : get_or (map view_decl vs) n d ≡ get_or front n d =
     sym (get_or-take i (map view_decl vs) n d below) ∙ ap (λ l. get_or l n d) (take-map view_decl i vs) in
     let here : get_or (map view_decl vs) i d ≡ d = get_or-map view_decl vs i v d low ∙ ap view_decl (sym is) in
     let fits : i < length (map view_decl vs) = omega (arith, length-map vs view_decl, low) in
-    once n i d below fits (ap (λ (x : Declared). x.name) early ∙ same ∙ sym (ap (λ (x : Declared). x.name) here))
+    once n i d below fits (ap (λ (x : DeclView). x.name) early ∙ same ∙ sym (ap (λ (x : DeclView). x.name) here))

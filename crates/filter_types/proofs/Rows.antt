@@ -1,9 +1,9 @@
 -- Worked rows: the definitions say of these filters what is wanted of them.
 use Rattle.std.proofs.Common.{◌≡◌, ℕ, true, false, Some, None, List, [], ◌∷◌, refl, arith}
 use Rattle.std.specs.Prelude.{codes}
-use Rattle.filter_parser.specs.Syntax.{Tree}
-use Rattle.filter_parser.specs.SyntaxCommands.{Act, Acts, Aim, Declared}
-use Rattle.filter_parser.specs.SyntaxText.{Program}
+use Rattle.filter_parser.specs.Syntax.{ExprView}
+use Rattle.filter_parser.specs.SyntaxCommands.{CommandView, Acts, TargetView, DeclView}
+use Rattle.filter_parser.specs.SyntaxText.{FilterView}
 use Rattle.filter_parser.specs.declared.tree.decl.Kind.TheVariants as kind
 use Rattle.filter_parser.specs.declared.tree.expr.Attribute.TheVariants as attributes
 use Rattle.filter_parser.specs.declared.tree.op.Membership.TheVariants as membership
@@ -12,66 +12,66 @@ use Rattle.filter_parser.specs.declared.tree.op.Suffix.TheVariants as suffix
 use Rattle.filter_types.specs.Kinds.{FitsAct, IsTyped, kind_in, number_of, numbers_of}
 
 -- `int a; ip b; int c;`
-abbrev variables : List Declared
+abbrev variables : List DeclView
 variables =
     record { kind = kind.Int; name = codes "a" } ∷ record { kind = kind.Ip; name = codes "b" } ∷ record { kind = kind.Int; name = codes "c" } ∷ []
 
-abbrev named : List ℕ → Tree
-named text = Tree.name text
+abbrev named : List ℕ → ExprView
+named text = ExprView.name text
 
 -- `a + 1` is an int, `a + true` nothing
-pub sum : kind_in variables (Tree.binary o.Add (named (codes "a")) (Tree.number 1)) ≡ Some kind.Int
+pub sum : kind_in variables (ExprView.binary o.Add (named (codes "a")) (ExprView.number 1)) ≡ Some kind.Int
 sum = refl
 
-pub sum_of_a_bool : kind_in variables (Tree.binary o.Add (named (codes "a")) (Tree.truth true)) ≡ None
+pub sum_of_a_bool : kind_in variables (ExprView.binary o.Add (named (codes "a")) (ExprView.truth true)) ≡ None
 sum_of_a_bool = refl
 
 -- `1 = true` is nothing, `b = 10.0.0.1` a bool
-pub unlike : kind_in variables (Tree.binary o.Equal (Tree.number 1) (Tree.truth true)) ≡ None
+pub unlike : kind_in variables (ExprView.binary o.Equal (ExprView.number 1) (ExprView.truth true)) ≡ None
 unlike = refl
 
-pub alike : kind_in variables (Tree.binary o.Equal (named (codes "b")) (Tree.address 167772161)) ≡ Some kind.Bool
+pub alike : kind_in variables (ExprView.binary o.Equal (named (codes "b")) (ExprView.address 167772161)) ≡ Some kind.Bool
 alike = refl
 
 -- `net < net` is nothing, `a < c` a bool
-pub no_order : kind_in variables (Tree.binary o.Less (Tree.attribute attributes.Net) (Tree.attribute attributes.Net)) ≡ None
+pub no_order : kind_in variables (ExprView.binary o.Less (ExprView.attribute attributes.Net) (ExprView.attribute attributes.Net)) ≡ None
 no_order = refl
 
-pub order : kind_in variables (Tree.binary o.Less (named (codes "a")) (named (codes "c"))) ≡ Some kind.Bool
+pub order : kind_in variables (ExprView.binary o.Less (named (codes "a")) (named (codes "c"))) ≡ Some kind.Bool
 order = refl
 
 -- `net ~ b` is nothing, `b ~ net` a bool; `b ~ [..]` is nothing, `net ~ [..]` a bool
-pub in_an_ip : kind_in variables (Tree.binary o.Match (Tree.attribute attributes.Net) (named (codes "b"))) ≡ None
+pub in_an_ip : kind_in variables (ExprView.binary o.Match (ExprView.attribute attributes.Net) (named (codes "b"))) ≡ None
 in_an_ip = refl
 
-pub in_a_prefix : kind_in variables (Tree.binary o.Match (named (codes "b")) (Tree.attribute attributes.Net)) ≡ Some kind.Bool
+pub in_a_prefix : kind_in variables (ExprView.binary o.Match (named (codes "b")) (ExprView.attribute attributes.Net)) ≡ Some kind.Bool
 in_a_prefix = refl
 
-pub ip_in_a_set : kind_in variables (Tree.member membership.In (named (codes "b")) []) ≡ None
+pub ip_in_a_set : kind_in variables (ExprView.member membership.In (named (codes "b")) []) ≡ None
 ip_in_a_set = refl
 
-pub prefix_in_a_set : kind_in variables (Tree.member membership.In (Tree.attribute attributes.Net) []) ≡ Some kind.Bool
+pub prefix_in_a_set : kind_in variables (ExprView.member membership.In (ExprView.attribute attributes.Net) []) ≡ Some kind.Bool
 prefix_in_a_set = refl
 
 -- `!a` is nothing, `!defined(net)` a bool
-pub no_negation : kind_in variables (Tree.negation (named (codes "a"))) ≡ None
+pub no_negation : kind_in variables (ExprView.negation (named (codes "a"))) ≡ None
 no_negation = refl
 
-pub negation : kind_in variables (Tree.negation (Tree.defined attributes.Net)) ≡ Some kind.Bool
+pub negation : kind_in variables (ExprView.negation (ExprView.defined attributes.Net)) ≡ Some kind.Bool
 negation = refl
 
 -- `net.ip.mask(8)` is an ip, `net.mask(8)` and `b.len` nothing
-pub masked : kind_in variables (Tree.suffixed (Tree.suffixed (Tree.attribute attributes.Net) suffix.Ip) (suffix.Mask 8)) ≡ Some kind.Ip
+pub masked : kind_in variables (ExprView.suffixed (ExprView.suffixed (ExprView.attribute attributes.Net) suffix.Ip) (suffix.Mask 8)) ≡ Some kind.Ip
 masked = refl
 
-pub mask_of_a_prefix : kind_in variables (Tree.suffixed (Tree.attribute attributes.Net) (suffix.Mask 8)) ≡ None
+pub mask_of_a_prefix : kind_in variables (ExprView.suffixed (ExprView.attribute attributes.Net) (suffix.Mask 8)) ≡ None
 mask_of_a_prefix = refl
 
-pub length_of_an_ip : kind_in variables (Tree.suffixed (named (codes "b")) suffix.Len) ≡ None
+pub length_of_an_ip : kind_in variables (ExprView.suffixed (named (codes "b")) suffix.Len) ≡ None
 length_of_an_ip = refl
 
 -- a name that is not declared has no kind, also where the left side decides
-pub unknown : kind_in variables (Tree.binary o.And (Tree.truth false) (named (codes "z"))) ≡ None
+pub unknown : kind_in variables (ExprView.binary o.And (ExprView.truth false) (named (codes "z"))) ≡ None
 unknown = refl
 
 -- variables are numbered from 0
@@ -82,29 +82,29 @@ pub third : number_of variables (codes "c") ≡ 2
 third = refl
 
 -- `c = a;` fits, `a = true;`, `net = 1;` and `rip_metric = true;` do not
-pub assigned : FitsAct variables (Act.assign (Aim.to_name (codes "c")) (named (codes "a")))
+pub assigned : FitsAct variables (CommandView.assign (TargetView.to_name (codes "c")) (named (codes "a")))
 assigned = (kind.Int, refl, refl)
 
-pub of_another_kind : FitsAct variables (Act.assign (Aim.to_name (codes "a")) (Tree.truth true)) → ⊥
+pub of_another_kind : FitsAct variables (CommandView.assign (TargetView.to_name (codes "a")) (ExprView.truth true)) → ⊥
 of_another_kind h = let p : Some kind.Int ≡ Some h.0 = h.1 in let q : Some kind.Bool ≡ Some h.0 = h.2 in cc
 
-pub net_assigned : FitsAct variables (Act.assign Aim.to_net (Tree.number 1)) → ⊥
+pub net_assigned : FitsAct variables (CommandView.assign TargetView.to_net (ExprView.number 1)) → ⊥
 net_assigned h = let p : None ≡ Some h.0 = h.1 in cc
 
-pub metric_of_a_bool : FitsAct variables (Act.assign Aim.to_metric (Tree.truth true)) → ⊥
+pub metric_of_a_bool : FitsAct variables (CommandView.assign TargetView.to_metric (ExprView.truth true)) → ⊥
 metric_of_a_bool h = let p : Some kind.Int ≡ Some h.0 = h.1 in let q : Some kind.Bool ≡ Some h.0 = h.2 in cc
 
 -- `if a then accept;` does not fit
-pub if_of_an_int : FitsAct variables (Act.choice (named (codes "a")) (Act.accept false)) → ⊥
+pub if_of_an_int : FitsAct variables (CommandView.choice (named (codes "a")) (CommandView.accept false)) → ⊥
 if_of_an_int h = let p : Some kind.Int ≡ Some kind.Bool = h.0 in cc
 
 -- `filter q { int a; ip b; int c; c = a; }`
-abbrev small : Program
+abbrev small : FilterView
 small =
     record {
       name = codes "q";
       decls = variables;
-      body = Acts.act_then (Act.assign (Aim.to_name (codes "c")) (named (codes "a"))) Acts.no_acts;
+      body = Acts.act_then (CommandView.assign (TargetView.to_name (codes "c")) (named (codes "a"))) Acts.no_acts;
       tokens = [];
     }
 
@@ -113,7 +113,7 @@ pub numbers : numbers_of small ≡ 2 ∷ (0 ∷ [])
 numbers = refl
 
 -- `filter q { int a; int a; }` does not fit
-abbrev twice : Program
+abbrev twice : FilterView
 twice =
     record {
       name = codes "q";

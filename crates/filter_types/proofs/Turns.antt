@@ -1,8 +1,8 @@
 -- Runs and operands with suffixes, judged part by part, have the kinds and names that their trees have.
 use Rattle.std.proofs.Common.{◌≡◌, Option, Some, None, List, [], ◌∷◌, ◌++◌, Result, refl, sym, ap, subst, ◌∙◌, append_assoc}
 use Rattle.std.proofs.lemmas.List.{append-nil}
-use Rattle.filter_parser.specs.Syntax.{Tree, run_of, suffixes_of}
-use Rattle.filter_parser.specs.SyntaxCommands.{Declared}
+use Rattle.filter_parser.specs.Syntax.{ExprView, run_of, suffixes_of}
+use Rattle.filter_parser.specs.SyntaxCommands.{DeclView}
 use Rattle.filter_parser.specs.declared.tree.decl.Kind.{Kind}
 use Rattle.filter_parser.specs.declared.tree.op.Op.{Op}
 use Rattle.filter_parser.specs.declared.tree.op.Suffix.{Suffix}
@@ -27,43 +27,43 @@ some_is None = refl
 some_is (Some a) = refl
 
 -- the kind of a run is that of its first operand with what stands behind it
-run_kind : (vs : List Declared) (left : Tree) (xs : List (Op × Tree))
+run_kind : (vs : List DeclView) (left : ExprView) (xs : List (Op × ExprView))
     → kind_in vs (run_of left xs) ≡ of_one (λ k. kind_with vs k xs) (kind_in vs left)
 run_kind vs left [] = sym (some_is (kind_in vs left))
 run_kind vs left (x ∷ xs) =
-    run_kind vs (Tree.binary x.0 left x.1) xs
+    run_kind vs (ExprView.binary x.0 left x.1) xs
     ∙ two_is (operator x.0) (kind_in vs left) (kind_in vs x.1) (λ k. kind_with vs k xs)
 
-pub run_names : (left : Tree) (xs : List (Op × Tree)) → names_in (run_of left xs) ≡ names_in left ++ names_behind xs
+pub run_names : (left : ExprView) (xs : List (Op × ExprView)) → names_in (run_of left xs) ≡ names_in left ++ names_behind xs
 run_names left [] = sym (append-nil (names_in left))
-run_names left (x ∷ xs) = run_names (Tree.binary x.0 left x.1) xs ∙ append_assoc (names_in left) _ _
+run_names left (x ∷ xs) = run_names (ExprView.binary x.0 left x.1) xs ∙ append_assoc (names_in left) _ _
 
 -- the kind of an operand with suffixes is that of the operand with what stands behind it
-suffixes_kind : (vs : List Declared) (inner : Tree) (xs : List Suffix)
+suffixes_kind : (vs : List DeclView) (inner : ExprView) (xs : List Suffix)
     → kind_in vs (suffixes_of inner xs) ≡ of_one (λ k. kind_after k xs) (kind_in vs inner)
 suffixes_kind vs inner [] = sym (some_is (kind_in vs inner))
 suffixes_kind vs inner (x ∷ xs) =
-    suffixes_kind vs (Tree.suffixed inner x) xs ∙ one_is (suffixed_by x) (λ k. kind_after k xs) (kind_in vs inner)
+    suffixes_kind vs (ExprView.suffixed inner x) xs ∙ one_is (suffixed_by x) (λ k. kind_after k xs) (kind_in vs inner)
 
-pub suffixes_names : (inner : Tree) (xs : List Suffix) → names_in (suffixes_of inner xs) ≡ names_in inner
+pub suffixes_names : (inner : ExprView) (xs : List Suffix) → names_in (suffixes_of inner xs) ≡ names_in inner
 suffixes_names inner [] = refl
-suffixes_names inner (x ∷ xs) = suffixes_names (Tree.suffixed inner x) xs
+suffixes_names inner (x ∷ xs) = suffixes_names (ExprView.suffixed inner x) xs
 
 -- what is known of the first operand
-pub run_gives : (vs : List Declared) (t left : Tree) (xs : List (Op × Tree)) (k : Kind) (answer : Result Kind TypeFault)
+pub run_gives : (vs : List DeclView) (t left : ExprView) (xs : List (Op × ExprView)) (k : Kind) (answer : Result Kind TypeFault)
     → t ≡ run_of left xs → kind_in vs left ≡ Some k → Gives answer (kind_with vs k xs) → Gives answer (kind_in vs t)
 run_gives vs t left xs k answer is found given =
     subst (Gives answer) (sym (ap (kind_in vs) is ∙ run_kind vs left xs ∙ ap (of_one (λ j. kind_with vs j xs)) found)) given
 
-pub run_none : (vs : List Declared) (t left : Tree) (xs : List (Op × Tree)) → t ≡ run_of left xs → kind_in vs left ≡ None
+pub run_none : (vs : List DeclView) (t left : ExprView) (xs : List (Op × ExprView)) → t ≡ run_of left xs → kind_in vs left ≡ None
     → kind_in vs t ≡ None
 run_none vs t left xs is none = ap (kind_in vs) is ∙ run_kind vs left xs ∙ ap (of_one (λ j. kind_with vs j xs)) none
 
-pub suffixes_give : (vs : List Declared) (t inner : Tree) (xs : List Suffix) (k : Kind) (answer : Result Kind TypeFault)
+pub suffixes_give : (vs : List DeclView) (t inner : ExprView) (xs : List Suffix) (k : Kind) (answer : Result Kind TypeFault)
     → t ≡ suffixes_of inner xs → kind_in vs inner ≡ Some k → Gives answer (kind_after k xs) → Gives answer (kind_in vs t)
 suffixes_give vs t inner xs k answer is found given =
     subst (Gives answer) (sym (ap (kind_in vs) is ∙ suffixes_kind vs inner xs ∙ ap (of_one (λ j. kind_after j xs)) found)) given
 
-pub suffixes_none : (vs : List Declared) (t inner : Tree) (xs : List Suffix) → t ≡ suffixes_of inner xs
+pub suffixes_none : (vs : List DeclView) (t inner : ExprView) (xs : List Suffix) → t ≡ suffixes_of inner xs
     → kind_in vs inner ≡ None → kind_in vs t ≡ None
 suffixes_none vs t inner xs is none = ap (kind_in vs) is ∙ suffixes_kind vs inner xs ∙ ap (of_one (λ j. kind_after j xs)) none

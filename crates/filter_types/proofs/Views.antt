@@ -1,6 +1,6 @@
 -- What is seen at a run and at an operand with suffixes.
 use Rattle.std.proofs.Common.{◌≡◌, Box, Global, List, Vec, ap, sym, ◌∙◌, map}
-use Rattle.filter_parser.specs.Syntax.{Tree, run_of, suffixes_of, view, view_expr_step}
+use Rattle.filter_parser.specs.Syntax.{ExprView, run_of, suffixes_of, view, view_expr_step}
 use Rattle.filter_parser.specs.declared.tree.expr.Expr.{Expr}
 use Rattle.filter_parser.specs.declared.tree.expr.Expr.TheFolds.{fold-roll-Expr}
 use Rattle.filter_parser.specs.declared.tree.expr.Expr.TheOpen.{Expr-F}
@@ -13,7 +13,7 @@ pub view_run : (x : Expr) (first : Box Expr Global) (more : Vec (Op × Expr) Glo
     → view x ≡ run_of (view y) (map (λ p. (p.0, view p.1)) ys)
 view_run x first more y ys is is_first is_more =
     ap view (is ∙ sym (e.rolls-Run first more))
-    ∙ fold-roll-Expr Tree view_expr_step (Expr-F.Run first more)
+    ∙ fold-roll-Expr ExprView view_expr_step (Expr-F.Run first more)
     ∙ ap (λ z. run_of (view z) (map (λ p. (p.0, view p.1)) more.items)) (sym is_first)
     ∙ ap (λ zs. run_of (view y) (map (λ p. (p.0, view p.1)) zs)) (sym is_more)
 
@@ -21,6 +21,6 @@ pub view_suffixed : (x : Expr) (inner : Box Expr Global) (suffixes : Vec Suffix 
     → x ≡ e.Suffixed inner suffixes → y ≡ inner.value → ys ≡ suffixes.items → view x ≡ suffixes_of (view y) ys
 view_suffixed x inner suffixes y ys is is_inner is_suffixes =
     ap view (is ∙ sym (e.rolls-Suffixed inner suffixes))
-    ∙ fold-roll-Expr Tree view_expr_step (Expr-F.Suffixed inner suffixes)
+    ∙ fold-roll-Expr ExprView view_expr_step (Expr-F.Suffixed inner suffixes)
     ∙ ap (λ z. suffixes_of (view z) suffixes.items) (sym is_inner)
     ∙ ap (suffixes_of (view y)) (sym is_suffixes)

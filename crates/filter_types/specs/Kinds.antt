@@ -5,11 +5,11 @@ use Rattle.std.specs.Prelude.{◌≡◌, ◌≢◌, ℕ, ◌≤◌, Option, Some
 use Rattle.std.specs.List.{position_or_len, find}
 use Rattle.std.specs.Option.{option_map}
 use Rattle.std.specs.Str.{bytes_eq}
-use Rattle.filter_parser.specs.Syntax.{Tree, number, address, prefix, truth, name, attribute, defined}
+use Rattle.filter_parser.specs.Syntax.{ExprView, number, address, prefix, truth, name, attribute, defined}
 use Rattle.filter_parser.specs.Syntax.{group, negation, binary, member, suffixed}
-use Rattle.filter_parser.specs.SyntaxCommands.{Act, Acts, Aim, Declared, to_name, to_metric, to_net}
+use Rattle.filter_parser.specs.SyntaxCommands.{CommandView, Acts, TargetView, DeclView, to_name, to_metric, to_net}
 use Rattle.filter_parser.specs.SyntaxCommands.{empty, block, choice, choice_else, assign, accept, reject, no_acts, act_then}
-use Rattle.filter_parser.specs.SyntaxText.{Program}
+use Rattle.filter_parser.specs.SyntaxText.{FilterView}
 use Rattle.filter_parser.specs.declared.tree.decl.Kind.{Kind}
 use Rattle.filter_parser.specs.declared.tree.decl.Kind.TheVariants as kind
 use Rattle.filter_parser.specs.declared.tree.expr.Attribute.TheVariants as attributes
@@ -20,11 +20,11 @@ abbrev pub variable_limit : ℕ
 variable_limit = 16
 
 -- the number of a variable: variables are numbered from 0 in the order of declaration, and a name that none has gets their count
-abbrev pub number_of : List Declared → List ℕ → ℕ
+abbrev pub number_of : List DeclView → List ℕ → ℕ
 number_of variables text = position_or_len (λ d. bytes_eq d.name text) variables
 
 -- the kind of the variable of a name, if there is one
-abbrev pub kind_named : List Declared → List ℕ → Option Kind
+abbrev pub kind_named : List DeclView → List ℕ → Option Kind
 kind_named variables text = option_map (λ d. d.kind) (find (λ d. bytes_eq d.name text) variables)
 
 -- a form of one operand, and a form of two, where each operand has a kind
@@ -37,7 +37,7 @@ of_two row None b = None
 of_two row (Some a) b = of_one (row a) b
 
 -- the kind of an expression under these variables; None where its names or kinds do not fit
-abbrev pub kind_in : List Declared → Tree → Option Kind
+abbrev pub kind_in : List DeclView → ExprView → Option Kind
 kind_in variables (number n) = Some kind.Int
 kind_in variables (address a) = Some kind.Ip
 kind_in variables (prefix bits) = Some kind.Prefix
@@ -52,7 +52,7 @@ kind_in variables (member op left set) = of_one in_set (kind_in variables left)
 kind_in variables (suffixed inner s) = of_one (suffixed_by s) (kind_in variables inner)
 
 -- the kind of what an assignment sets; `net` is not assigned
-abbrev pub aim_kind : List Declared → Aim → Option Kind
+abbrev pub aim_kind : List DeclView → TargetView → Option Kind
 aim_kind variables (to_name text) = kind_named variables text
 aim_kind variables to_metric = Some (attribute_kind attributes.RipMetric)
 aim_kind variables to_net = None
@@ -63,7 +63,7 @@ FitsKinds aim value = (k : Kind) × (aim ≡ Some k) × (value ≡ Some k)
 
 -- the names and kinds of a command fit, and those of commands one after another
 abbrev mutual
-  pub FitsAct : List Declared → Act → Type 0
+  pub FitsAct : List DeclView → CommandView → Type 0
   FitsAct variables empty = Unit {0}
   FitsAct variables (block body) = FitsActs variables body
   FitsAct variables (choice test chosen) = (kind_in variables test ≡ Some tested) × FitsAct variables chosen
@@ -73,27 +73,27 @@ abbrev mutual
   FitsAct variables (accept has_text) = Unit {0}
   FitsAct variables (reject has_text) = Unit {0}
 
-  pub FitsActs : List Declared → Acts → Type 0
+  pub FitsActs : List DeclView → Acts → Type 0
   FitsActs variables no_acts = Unit {0}
   FitsActs variables (act_then first more) = FitsAct variables first × FitsActs variables more
 
 -- no two variables have one name
-abbrev pub AreDeclaredOnce : List Declared → Type 0
+abbrev pub AreDeclaredOnce : List DeclView → Type 0
 AreDeclaredOnce variables = AllPairs (λ c d. c.name ≢ d.name) variables
 
 -- each variable is declared once, and there are at most so many
-pub record AreDeclared (variables : List Declared) : Type 0 where
+pub record AreDeclared (variables : List DeclView) : Type 0 where
   pub once : AreDeclaredOnce variables
   pub few : length variables ≤ variable_limit
 
 -- A filter's names and kinds fit. Each variable is declared before it is used, since all declarations stand before the
 -- first command.
-pub record IsTyped (filter : Program) : Type 0 where
+pub record IsTyped (filter : FilterView) : Type 0 where
   pub declared : AreDeclared filter.decls
   pub body : FitsActs filter.decls filter.body
 
 -- the names that an expression uses, in the order of the text
-abbrev pub names_in : Tree → List (List ℕ)
+abbrev pub names_in : ExprView → List (List ℕ)
 names_in (number n) = []
 names_in (address a) = []
 names_in (prefix bits) = []
@@ -108,14 +108,14 @@ names_in (member op left set) = names_in left
 names_in (suffixed inner s) = names_in inner
 
 -- the name that an assignment sets, if it sets a variable
-abbrev pub names_of_aim : Aim → List (List ℕ)
+abbrev pub names_of_aim : TargetView → List (List ℕ)
 names_of_aim (to_name text) = text ∷ []
 names_of_aim to_metric = []
 names_of_aim to_net = []
 
 -- the names that a command uses or sets, in the order of the text, and those of commands one after another
 abbrev mutual
-  pub names_of_act : Act → List (List ℕ)
+  pub names_of_act : CommandView → List (List ℕ)
   names_of_act empty = []
   names_of_act (block body) = names_of_acts body
   names_of_act (choice test chosen) = names_in test ++ names_of_act chosen
@@ -129,5 +129,5 @@ abbrev mutual
   names_of_acts (act_then first more) = names_of_act first ++ names_of_acts more
 
 -- the number of the variable at each use, in the order of the text
-abbrev pub numbers_of : Program → List ℕ
+abbrev pub numbers_of : FilterView → List ℕ
 numbers_of filter = map (number_of filter.decls) (names_of_acts filter.body)

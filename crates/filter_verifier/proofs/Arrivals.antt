@@ -7,7 +7,7 @@ use Rattle.filter_code.specs.declared.instruction.Instr.{Instr}
 use Rattle.filter_code.specs.declared.instruction.Instr.TheVariants as instr
 use Rattle.filter_code.specs.declared.outcome.FaultKind.{FaultKind}
 use Rattle.filter_code.specs.Machine.{locals_after, overfills}
-use Rattle.filter_code.specs.Program.{Program}
+use Rattle.filter_code.specs.CodeView.{CodeView}
 use Rattle.filter_code.specs.Table.{Frame, Operands, Zero, One, Two, Drawn, Bad, Good, draw, leads}
 use Rattle.filter_verifier.specs.declared.fact.Fact.{Fact}
 use Rattle.filter_verifier.specs.declared.fault.VerifyFault.{VerifyFault}
@@ -57,35 +57,35 @@ wide_judged width instrs size at locals i (Bad why) w = tt
 wide_judged width instrs size at locals i (Good operands rest) w =
     judged (WideVisit width) (λ why. tt) instrs size at locals i operands rest (λ none fits within. locals_width locals i operands ∙ w)
 
-wide_known : (width : ℕ) (program : Program) (size at : ℕ) (locals : List (Option Fact)) (stack : List Fact) (found : Option Instr) →
+wide_known : (width : ℕ) (program : CodeView) (size at : ℕ) (locals : List (Option Fact)) (stack : List Fact) (found : Option Instr) →
     length locals ≡ width → WideVisit width (visit_known program size at locals stack found)
 wide_known width program size at locals stack None w = tt
 wide_known width program size at locals stack (Some i) w =
     let frame : Frame Fact = record { stack = stack; locals = locals } in
     wide_judged width (length program.instrs) size at locals i (draw kind_of_fact (length program.sets) i frame) w
 
-wide_places : (width : ℕ) (program : Program) (size at : ℕ) (locals : List (Option Fact)) (known : Option (List Fact)) →
+wide_places : (width : ℕ) (program : CodeView) (size at : ℕ) (locals : List (Option Fact)) (known : Option (List Fact)) →
     length locals ≡ width → WideVisit width (visit_places program size at locals known)
 wide_places width program size at locals None w = tt
 wide_places width program size at locals (Some stack) w = wide_known width program size at locals stack (slice_get program.instrs at) w
 
-wide_visited : (width : ℕ) (program : Program) (size at : ℕ) (a : Arrival) → Wide width a → WideVisit width (visit program size at a)
+wide_visited : (width : ℕ) (program : CodeView) (size at : ℕ) (a : Arrival) → Wide width a → WideVisit width (visit program size at a)
 wide_visited width program size at Unreached w = tt
 wide_visited width program size at Unlike w = tt
 wide_visited width program size at (Arrived stack locals) w = wide_places width program size at locals (all_known stack) w
 
-wide_handed : (width : ℕ) (program : Program) (at : ℕ) (v : Visit) (target : ℕ) → WideVisit width v →
+wide_handed : (width : ℕ) (program : CodeView) (at : ℕ) (v : Visit) (target : ℕ) → WideVisit width v →
     Wide width (hand_on program at v target)
 wide_handed width program at Skipped target w = tt
 wide_handed width program at (Refused why) target w = tt
 wide_handed width program at (Passed next) target w =
     cond_both (leads_to at target (leads_of (slice_get program.instrs at))) next Unreached (Wide width) (λ e. w) (λ e. tt)
 
-wide_beginning : (program : Program) (index : ℕ) → Wide program.locals (beginning program index)
+wide_beginning : (program : CodeView) (index : ℕ) → Wide program.locals (beginning program index)
 wide_beginning program zero = length-replicate program.locals None
 wide_beginning program (suc index) = tt
 
-pub wide_arriving : (program : Program) (size n index : ℕ) → Wide program.locals (arriving program size n index)
+pub wide_arriving : (program : CodeView) (size n index : ℕ) → Wide program.locals (arriving program size n index)
 unfolding arriving
 wide_arriving program size zero index = wide_beginning program index
 wide_arriving program size (suc n) index =
@@ -99,7 +99,7 @@ pub below_or_at : (k n : ℕ) → k < suc n → (k < n) ⊎ (k ≡ n)
 below_or_at k n h = grind arith
 
 -- a property of what an index hands on, that each side of a meeting keeps, is one of what arrives
-module _ (program : Program) (size : ℕ) (P : Arrival → Type 0) (left : (a b : Arrival) → P a → P (meet a b))
+module _ (program : CodeView) (size : ℕ) (P : Arrival → Type 0) (left : (a b : Arrival) → P a → P (meet a b))
     (right : (a b : Arrival) → Wide program.locals a → Wide program.locals b → P b → P (meet a b)) where
   pub arrives : (n k target : ℕ) → k < n → P (hand_on program k (verdict program size k) target) → P (arriving program size n target)
   unfolding arriving

@@ -4,7 +4,7 @@ use Rattle.std.specs.Prelude.{slice_get}
 use Rattle.std.proofs.lemmas.Bool.{cond_both}
 use Rattle.std.proofs.lemmas.Bool.Decides.{nat_tests}
 use Rattle.filter_code.specs.declared.instruction.Instr.{Instr}
-use Rattle.filter_code.specs.Program.{Program}
+use Rattle.filter_code.specs.CodeView.{CodeView}
 use Rattle.filter_code.specs.Table.{height_after, leads}
 use Rattle.filter_verifier.specs.Arrivals.{Arrival, Unreached, Unlike, Arrived, Visit, Skipped, Refused, Passed, meet, leads_to, leads_of, hand_on, visit, beginning, arriving, facts, verdict, refused_by, first_fault, the_fault}
 use Rattle.filter_verifier.specs.Bounds.{peak}
@@ -45,7 +45,7 @@ low_next instrs at target height (Arrived stack locals) h low led =
     let falls = peak_falls instrs at target height (slice_get instrs at) refl led in
     subst (λ n. IsLow instrs target n) (sym high) (record { peak = omega (arith, low.peak); fits = h.fits low.fits })
 
-low_handed : (program : Program) (at target height : ℕ) (v : Visit) →
+low_handed : (program : CodeView) (at target height : ℕ) (v : Visit) →
     Passes (length program.instrs) at height (slice_get program.instrs at) v → IsLow program.instrs at height →
     ArrivesLow program.instrs target (hand_on program at v target)
 low_handed program at target height Skipped h low = tt
@@ -54,7 +54,7 @@ low_handed program at target height (Passed next) h low =
     cond_both (leads_to at target (leads_of (slice_get program.instrs at))) next Unreached (ArrivesLow program.instrs target)
     (λ led. low_next program.instrs at target height next h low led) (λ e. tt)
 
-low_visited : (program : Program) (size at target : ℕ) (a : Arrival) → ArrivesLow program.instrs at a →
+low_visited : (program : CodeView) (size at target : ℕ) (a : Arrival) → ArrivesLow program.instrs at a →
     ArrivesLow program.instrs target (hand_on program at (visit program size at a) target)
 low_visited program size at target Unreached low = tt
 low_visited program size at target Unlike low = tt
@@ -62,11 +62,11 @@ low_visited program size at target (Arrived stack locals) low =
     low_handed program at target (length stack) (visit program size at (Arrived stack locals))
     (passes_on program size at (length stack) stack locals refl) low
 
-low_beginning : (program : Program) (index : ℕ) → ArrivesLow program.instrs index (beginning program index)
+low_beginning : (program : CodeView) (index : ℕ) → ArrivesLow program.instrs index (beginning program index)
 low_beginning program zero = record { peak = omega arith; fits = omega arith }
 low_beginning program (suc index) = tt
 
-low_arriving : (program : Program) (size n index : ℕ) → ArrivesLow program.instrs index (arriving program size n index)
+low_arriving : (program : CodeView) (size n index : ℕ) → ArrivesLow program.instrs index (arriving program size n index)
 unfolding arriving
 low_arriving program size zero index = low_beginning program index
 low_arriving program size (suc n) index =
@@ -87,7 +87,7 @@ height_fits instrs index Unreached low = omega arith
 height_fits instrs index Unlike low = omega arith
 height_fits instrs index (Arrived stack locals) low = low.fits
 
-highest_low : (program : Program) (size n : ℕ) → highest program size n ≤ peak program.instrs 0 0
+highest_low : (program : CodeView) (size n : ℕ) → highest program size n ≤ peak program.instrs 0 0
 unfolding highest
 highest_low program size zero = omega arith
 highest_low program size (suc n) =
@@ -95,7 +95,7 @@ highest_low program size (suc n) =
     let here = height_low program.instrs n (facts program size n) (low_arriving program size n n) in
     omega arith
 
-highest_has : (program : Program) (size n k : ℕ) → k < n → height_of (facts program size k) ≤ highest program size n
+highest_has : (program : CodeView) (size n k : ℕ) → k < n → height_of (facts program size k) ≤ highest program size n
 unfolding highest
 highest_has program size zero k h = absurd (omega arith)
 highest_has program size (suc n) k h =
@@ -130,7 +130,7 @@ high_has height Unreached h = absurd h
 high_has height Unlike h = tt
 high_has height (Arrived stack locals) h = h
 
-pub height_next : (program : Program) (size at target height : ℕ) (next : Arrival) → verdict program size at ≡ Passed next →
+pub height_next : (program : CodeView) (size at target height : ℕ) (next : Arrival) → verdict program size at ≡ Passed next →
     at < target → leads_to at target (leads_of (slice_get program.instrs at)) ≡ true → IsHigh height next →
     HasHeight height (facts program size target)
 height_next program size at target height next passed later led h =
@@ -138,7 +138,7 @@ height_next program size at target height next passed later led h =
     (λ a b w v p. height_right height a b p) at target next passed later led (high_has height next h)
 
 -- from an index that arrives at a height, the peak is no more than any bound on all heights
-module _ (program : Program) (size limit : ℕ) (none : first_fault program size (length program.instrs) ≡ None)
+module _ (program : CodeView) (size limit : ℕ) (none : first_fault program size (length program.instrs) ≡ None)
     (each : (k : ℕ) → k < length program.instrs → height_of (facts program size k) ≤ limit) where
   peak_found : (at height : ℕ) (found : Option Instr) → slice_get program.instrs at ≡ found → at < length program.instrs →
       height ≤ limit →
@@ -189,7 +189,7 @@ module _ (program : Program) (size limit : ℕ) (none : first_fault program size
   peak_bounded some = peak_within (length program.instrs) 0 0 (omega arith) some refl
 
 -- where nothing is unknown, the greatest height is the peak
-pub depth_is : (program : Program) (size : ℕ) → the_fault program size ≡ None →
+pub depth_is : (program : CodeView) (size : ℕ) → the_fault program size ≡ None →
     highest program size (length program.instrs) ≡ peak program.instrs 0 0
 depth_is program size e =
     let good = faultless program size e in
@@ -199,7 +199,7 @@ depth_is program size e =
     omega arith
 
 -- and no more than the stack holds
-pub depth_limit : (program : Program) (size : ℕ) → the_fault program size ≡ None → peak program.instrs 0 0 ≤ 32
+pub depth_limit : (program : CodeView) (size : ℕ) → the_fault program size ≡ None → peak program.instrs 0 0 ≤ 32
 depth_limit program size e =
     let good = faultless program size e in
     peak_bounded program size 32 good.none

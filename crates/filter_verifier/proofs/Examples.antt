@@ -2,7 +2,7 @@
 use Rattle.std.proofs.Common.{◌≡◌, ℕ, List, [], ◌∷◌, true, false, Option, Some, None, refl}
 use Rattle.filter_code.specs.declared.instruction.Instr.{Instr}
 use Rattle.filter_code.specs.declared.instruction.Instr.TheVariants as instr
-use Rattle.filter_code.specs.Program.{Program}
+use Rattle.filter_code.specs.CodeView.{CodeView}
 use Rattle.filter_verifier.specs.declared.fault.VerifyFault.{VerifyFault}
 use Rattle.filter_verifier.specs.declared.fault.VerifyFault.TheVariants as refusal
 use Rattle.filter_verifier.specs.Arrivals.{arriving, first_fault, the_fault}
@@ -11,7 +11,7 @@ use Rattle.filter_verifier.specs.Bounds.{cost, peak}
 -- what is not known of instructions with one local variable and one empty set, in a network of a size
 abbrev fault_at : ℕ → List Instr → Option VerifyFault
 fault_at size instrs =
-    let program : Program = record { locals = 1; sets = [] ∷ []; instrs = instrs } in
+    let program : CodeView = record { locals = 1; sets = [] ∷ []; instrs = instrs } in
     the_fault program size
 
 -- the metric times a number

@@ -11,9 +11,9 @@ use Rattle.filter_code.specs.declared.outcome.FaultKind.{FaultKind}
 use Rattle.filter_code.specs.declared.outcome.FaultKind.TheVariants as fault
 use Rattle.filter_code.specs.declared.value.Value.{Value}
 use Rattle.filter_code.specs.declared.value.Value.TheVariants as value
-use Rattle.filter_code.specs.Announcement.{Announcement}
+use Rattle.filter_code.specs.RouteView.{RouteView}
 use Rattle.filter_code.specs.Machine.{on_one, on_two, whole, fault_where, value_given, value_fault}
-use Rattle.filter_code.specs.Program.{Program}
+use Rattle.filter_code.specs.CodeView.{CodeView}
 use Rattle.filter_code.specs.Table.{Operands, Zero, One, Two}
 use Rattle.filter_code.specs.Values.{int_of, bool_of, ip_of, net_of, number_of, bits_of, is_same}
 use Rattle.filter_code.proofs.Metrics.{IsInRange}
@@ -74,7 +74,7 @@ module _ (received size : ℕ) (limit : received ≤ size) where
   quotient_given _ _ e p = absurd p
 
 -- the value given is as is known of it: one line for each instruction
-module _ (program : Program) (route : Announcement) (size metric : ℕ) (of_size : IsRouteOf size route) (small : size ≤ 64)
+module _ (program : CodeView) (route : RouteView) (size metric : ℕ) (of_size : IsRouteOf size route) (small : size ≤ 64)
     (here : IsInRange route metric) where
   -- ints that are calculated, and what tests and other parts give
   calculated : (f : ℕ → ℕ → ℕ) (g : Span → Span → Span) →
@@ -162,7 +162,7 @@ not_lower : (received v : ℕ) (s : Span) → InRange received s v → not s.mar
 not_lower received v s p e = let least : received ≤ v = p.marked (marked_where s.mark e) in grind (arith, nat_tests)
 
 -- operands of which no fault is known have none
-pub no_value_fault : (route : Announcement) (i : Instr) (operands : Operands Value) (facts : Operands Fact) →
+pub no_value_fault : (route : RouteView) (i : Instr) (operands : Operands Value) (facts : Operands Fact) →
     fact_fault i facts ≡ None → OperandsAre route.metric operands facts → value_fault route i operands ≡ None
 no_value_fault route instr.SetMetric operands facts e p =
     no_fault_alike fault.LowerMetric _ _

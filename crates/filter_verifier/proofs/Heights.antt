@@ -8,7 +8,7 @@ use Rattle.filter_code.specs.declared.instruction.Instr.{Instr}
 use Rattle.filter_code.specs.declared.instruction.Instr.TheVariants as instr
 use Rattle.filter_code.specs.declared.outcome.FaultKind.TheVariants as fault
 use Rattle.filter_code.specs.Machine.{on_one, on_two, whole, overfills, with_given}
-use Rattle.filter_code.specs.Program.{Program}
+use Rattle.filter_code.specs.CodeView.{CodeView}
 use Rattle.filter_code.specs.Table.{Frame, Source, Nowhere, Top, TopTwo, Local, Operands, Zero, One, Two, Drawn, Bad, Good, each_is, both_are, is_int, is_bool, is_ip, is_prefix, are_ordered, are_nested, fits_kinds, names_exist, one_of, two_of, value_in, taken, passing, source_of, draw, taken_off, gives, height_after}
 use Rattle.filter_verifier.specs.declared.fact.Fact.{Fact}
 use Rattle.filter_verifier.specs.declared.fact.Fact.TheVariants as fact
@@ -205,7 +205,7 @@ passes_judged instrs size at locals stack i (Good operands rest) p =
       within = within;
     }
 
-passes_known : (program : Program) (size at : ℕ) (locals : List (Option Fact)) (stack : List Fact) (found : Option Instr) →
+passes_known : (program : CodeView) (size at : ℕ) (locals : List (Option Fact)) (stack : List Fact) (found : Option Instr) →
     Passes (length program.instrs) at (length stack) found (visit_known program size at locals stack found)
 passes_known program size at locals stack None = tt
 passes_known program size at locals stack (Some i) =
@@ -228,7 +228,7 @@ known_length [] = refl
 known_length (None ∷ places) = tt
 known_length (Some f ∷ places) = one_longer f (length places) (all_known places) (known_length places)
 
-passes_places : (program : Program) (size at height : ℕ) (locals : List (Option Fact)) (known : Option (List Fact)) →
+passes_places : (program : CodeView) (size at height : ℕ) (locals : List (Option Fact)) (known : Option (List Fact)) →
     HasLength height known →
     Passes (length program.instrs) at height (slice_get program.instrs at) (visit_places program size at locals known)
 passes_places program size at height locals None p = tt
@@ -238,7 +238,7 @@ passes_places program size at height locals (Some stack) p =
     (passes_known program size at locals stack (slice_get program.instrs at))
 
 -- an index at which so many operands arrive
-pub passes_on : (program : Program) (size at height : ℕ) (stack locals : List (Option Fact)) → length stack ≡ height →
+pub passes_on : (program : CodeView) (size at height : ℕ) (stack locals : List (Option Fact)) → length stack ≡ height →
     Passes (length program.instrs) at height (slice_get program.instrs at) (visit program size at (Arrived stack locals))
 passes_on program size at height stack locals e =
     passes_places program size at height locals (all_known stack) (subst (λ n. HasLength n (all_known stack)) e (known_length stack))

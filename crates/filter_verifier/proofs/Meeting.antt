@@ -4,7 +4,7 @@ use Rattle.std.proofs.lemmas.Bool.{cond_both}
 use Rattle.std.proofs.lemmas.Bool.Decides.{nat_tests}
 use Rattle.filter_code.specs.declared.value.Value.{Value}
 use Rattle.filter_code.specs.declared.value.Value.TheVariants as value
-use Rattle.filter_code.specs.Announcement.{Announcement}
+use Rattle.filter_code.specs.RouteView.{RouteView}
 use Rattle.filter_code.specs.Machine.{Config}
 use Rattle.filter_code.proofs.Metrics.{IsInRange}
 use Rattle.filter_verifier.specs.declared.fact.Fact.{Fact}
@@ -15,13 +15,13 @@ use Rattle.filter_verifier.proofs.Arithmetic.{both_left, both_right}
 use Rattle.filter_verifier.proofs.Fits.{IsAs, PlaceIsAs, Pairwise}
 
 -- a stack and local variables are as is known of their places, and the metric is in range
-pub record Holds (route : Announcement) (c : Config) (stack locals : List (Option Fact)) : Type 0 where
+pub record Holds (route : RouteView) (c : Config) (stack locals : List (Option Fact)) : Type 0 where
   pub on_stack : Pairwise (λ v place. PlaceIsAs route.metric (Some v) place) c.frame.stack stack
   pub in_locals : Pairwise (PlaceIsAs route.metric) c.frame.locals locals
   pub metric : IsInRange route c.metric
 
 -- a configuration agrees with what arrives where it stands
-abbrev pub Agrees : Announcement → Config → Arrival → Type 0
+abbrev pub Agrees : RouteView → Config → Arrival → Type 0
 Agrees route c Unreached = ⊥
 Agrees route c Unlike = Unit {0}
 Agrees route c (Arrived stack locals) = Holds route c stack locals
@@ -100,7 +100,7 @@ module _ {X : Type 0} (related : X → Option Fact → Type 0) (unknown : (x : X
 lengths_same : (m n : ℕ) → (m == n) ≡ true → m ≡ n
 lengths_same m n e = grind (arith, nat_tests)
 
-holds_first : (route : Announcement) (c : Config) (stack locals others more : List (Option Fact)) → Holds route c stack locals →
+holds_first : (route : RouteView) (c : Config) (stack locals others more : List (Option Fact)) → Holds route c stack locals →
     Holds route c (common_places stack others) (common_places locals more)
 holds_first route c stack locals others more p = record {
   on_stack =
@@ -111,7 +111,7 @@ holds_first route c stack locals others more p = record {
   metric = p.metric;
 }
 
-holds_second : (route : Announcement) (c : Config) (stack locals others more : List (Option Fact)) → length stack ≡ length others →
+holds_second : (route : RouteView) (c : Config) (stack locals others more : List (Option Fact)) → length stack ≡ length others →
     length locals ≡ length more → Holds route c others more → Holds route c (common_places stack others) (common_places locals more)
 holds_second route c stack locals others more deep wide p = record {
   on_stack =
@@ -124,7 +124,7 @@ holds_second route c stack locals others more deep wide p = record {
 }
 
 -- what agrees with one side agrees with the meeting; for the second, both tell of as many local variables
-pub agrees_left : (route : Announcement) (c : Config) (a b : Arrival) → Agrees route c a → Agrees route c (meet a b)
+pub agrees_left : (route : RouteView) (c : Config) (a b : Arrival) → Agrees route c a → Agrees route c (meet a b)
 agrees_left route c Unreached b p = absurd p
 agrees_left route c Unlike b p = tt
 agrees_left route c (Arrived stack locals) Unreached p = p
@@ -132,7 +132,7 @@ agrees_left route c (Arrived stack locals) Unlike p = tt
 agrees_left route c (Arrived stack locals) (Arrived others more) p =
     cond_both (length stack == length others) _ _ (Agrees route c) (λ e. holds_first route c stack locals others more p) (λ e. tt)
 
-pub agrees_right : (route : Announcement) (c : Config) (width : ℕ) (a b : Arrival) → Wide width a → Wide width b → Agrees route c b →
+pub agrees_right : (route : RouteView) (c : Config) (width : ℕ) (a b : Arrival) → Wide width a → Wide width b → Agrees route c b →
     Agrees route c (meet a b)
 agrees_right route c width Unreached b w v p = p
 agrees_right route c width Unlike b w v p = tt

@@ -6,7 +6,7 @@ use Rattle.std.specs.Prelude.{◌==◌, if◌then◌else◌, slice_get}
 use native.Mathlib.Numerals.{unary_clauses}
 use Rattle.filter_code.specs.Limits.{stack_limit, smallest_size, largest_size}
 use Rattle.filter_code.specs.declared.instruction.Instr.{Instr}
-use Rattle.filter_code.specs.Program.{Program}
+use Rattle.filter_code.specs.CodeView.{CodeView}
 use Rattle.filter_code.specs.Table.{leads}
 use Rattle.filter_verifier.specs.declared.fault.VerifyFault.{VerifyFault}
 use Rattle.filter_verifier.specs.declared.waiting.Waiting.{Waiting}
@@ -15,41 +15,41 @@ use Rattle.filter_verifier.specs.Arrivals.{Arrival, Unreached, Visit, Passed, is
 use Rattle.filter_verifier.specs.Pieces.{arrival_of, waiting_at, height_of, highest}
 
 -- before the visit of an index: what waits, the greatest height so far, and nothing is unknown below
-pub record Before (program : Program) (size n : ℕ) (pending : List Waiting) (depth : ℕ) : Type 0 where
+pub record Before (program : CodeView) (size n : ℕ) (pending : List Waiting) (depth : ℕ) : Type 0 where
   pub wide : length pending ≡ length program.instrs
   pub none : first_fault program size n ≡ None
   pub waits : (k : ℕ) → waiting_at pending k ≡ arriving program size n k
   pub deepest : depth ≡ highest program size n
   pub limit : depth ≤ stack_limit
 
-arriving_next : (program : Program) (size n k : ℕ) → arriving program size (n + 1) k
+arriving_next : (program : CodeView) (size n k : ℕ) → arriving program size (n + 1) k
     ≡ meet (arriving program size n k) (hand_on program n (visit program size n (arriving program size n n)) k)
 unfolding arriving
 arriving_next program size n k = rw add-one refl
 
-fault_next : (program : Program) (size n : ℕ) → first_fault program size (n + 1)
+fault_next : (program : CodeView) (size n : ℕ) → first_fault program size (n + 1)
     ≡ or_else (first_fault program size n) (refused_by (verdict program size n))
 unfolding first_fault
 fault_next program size n = rw add-one refl
 
-highest_next : (program : Program) (size n : ℕ) → highest program size (n + 1)
+highest_next : (program : CodeView) (size n : ℕ) → highest program size (n + 1)
     ≡ max (highest program size n) (height_of (facts program size n))
 unfolding highest
 highest_next program size n = rw add-one refl
 
 -- before the first visit
-pub begun : (program : Program) (size : ℕ) (pending : List Waiting) → length pending ≡ length program.instrs →
+pub begun : (program : CodeView) (size : ℕ) (pending : List Waiting) → length pending ≡ length program.instrs →
     ((k : ℕ) → waiting_at pending k ≡ beginning program k) → Before program size 0 pending 0
 unfolding arriving first_fault highest
 begun program size pending wide waits = record { wide = wide; none = refl; waits = waits; deepest = refl; limit = omega arith }
 
 -- what becomes of an index is the verdict on it
-pub judged : (program : Program) (size n : ℕ) (pending : List Waiting) (depth : ℕ) →
+pub judged : (program : CodeView) (size n : ℕ) (pending : List Waiting) (depth : ℕ) →
     Before program size n pending depth → visit program size n (waiting_at pending n) ≡ verdict program size n
 judged program size n pending depth before = ap (visit program size n) (before.waits n)
 
 -- an index where nothing is unknown
-pub advanced : (program : Program) (size n : ℕ) (pending next : List Waiting) (depth height : ℕ) →
+pub advanced : (program : CodeView) (size n : ℕ) (pending next : List Waiting) (depth height : ℕ) →
     Before program size n pending depth →
     length next ≡ length pending →
     refused_by (visit program size n (waiting_at pending n)) ≡ None →
@@ -74,7 +74,7 @@ advanced program size n pending next depth height before wide none waits height_
     }
 
 -- what is unknown at some index stays the first such thing
-first_stays : (program : Program) (size n more : ℕ) (why : VerifyFault) → first_fault program size n ≡ Some why →
+first_stays : (program : CodeView) (size n more : ℕ) (why : VerifyFault) → first_fault program size n ≡ Some why →
     first_fault program size (n + more) ≡ Some why
 unfolding first_fault
 first_stays program size n zero why e = simp unary_clauses e
@@ -82,7 +82,7 @@ first_stays program size n (suc more) why e = simp unary_clauses
     (ap (λ (o : Option VerifyFault). or_else o (refused_by (verdict program size (n + more))))
     (first_stays program size n more why e))
 
-pub refused : (program : Program) (size n : ℕ) (pending : List Waiting) (depth : ℕ) (why : VerifyFault) →
+pub refused : (program : CodeView) (size n : ℕ) (pending : List Waiting) (depth : ℕ) (why : VerifyFault) →
     Before program size n pending depth →
     refused_by (visit program size n (waiting_at pending n)) ≡ Some why →
     n < length program.instrs →
@@ -108,7 +108,7 @@ pub waiting_is : (pending : List Waiting) (at : ℕ) (w : Waiting) → at < leng
 waiting_is pending at w inside is = ap arrival_of (is ∙ get_or_default pending at w waiting.Unreached inside)
 
 -- what is handed on where a visit passed
-pub handed : (program : Program) (size at target : ℕ) (w next old new : Arrival) (i : Instr) (distances : List ℕ) →
+pub handed : (program : CodeView) (size at target : ℕ) (w next old new : Arrival) (i : Instr) (distances : List ℕ) →
     slice_get program.instrs at ≡ Some i →
     distances ≡ leads i →
     visit program size at w ≡ Passed next →
@@ -120,7 +120,7 @@ handed program size at target w next old new i distances is ways passed met =
     ∙ sym (ap (λ (v : Visit). meet old (hand_on program at v target)) passed)))
 
 -- code of which nothing is unknown
-pub nothing_unknown : (program : Program) (size : ℕ) → smallest_size ≤ size → size ≤ largest_size →
+pub nothing_unknown : (program : CodeView) (size : ℕ) → smallest_size ≤ size → size ≤ largest_size →
     (length program.instrs == 0) ≡ false → first_fault program size (length program.instrs) ≡ None →
     the_fault program size ≡ None
 nothing_unknown program size low high full none =

@@ -2,7 +2,7 @@
 use Rattle.std.proofs.Common.{◌≡◌, ℕ, List, [], ◌∷◌, ◌++◌, replicate, true, false, Option, Some, None, refl}
 use Rattle.filter_code.specs.declared.instruction.Instr.{Instr}
 use Rattle.filter_code.specs.declared.instruction.Instr.TheVariants as instr
-use Rattle.filter_code.specs.Program.{Program}
+use Rattle.filter_code.specs.CodeView.{CodeView}
 use Rattle.filter_verifier.specs.declared.fault.VerifyFault.{VerifyFault}
 use Rattle.filter_verifier.specs.declared.fault.VerifyFault.TheVariants as refusal
 use Rattle.filter_verifier.specs.Arrivals.{arriving, first_fault, the_fault}
@@ -11,7 +11,7 @@ use Rattle.filter_verifier.specs.Bounds.{cost, peak}
 -- what is not known of instructions with some local variables and without sets, in a network of a size
 abbrev fault_of : ℕ → List Instr → ℕ → Option VerifyFault
 fault_of locals instrs size =
-    let program : Program = record { locals = locals; sets = []; instrs = instrs } in
+    let program : CodeView = record { locals = locals; sets = []; instrs = instrs } in
     the_fault program size
 
 -- the metric raised by 2 is known to be at least the one received

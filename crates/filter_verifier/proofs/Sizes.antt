@@ -5,7 +5,7 @@ use Rattle.filter_code.specs.declared.instruction.Instr.{Instr}
 use Rattle.filter_code.specs.Limits.{smallest_size, largest_size}
 use Rattle.filter_code.specs.declared.outcome.FaultKind.{FaultKind}
 use Rattle.filter_code.specs.declared.outcome.FaultKind.TheVariants as fault
-use Rattle.filter_code.specs.Program.{Program}
+use Rattle.filter_code.specs.CodeView.{CodeView}
 use Rattle.filter_code.specs.Table.{Drawn, Bad, Good, draw, leads}
 use Rattle.std.specs.Prelude.{length, slice_get}
 use Rattle.filter_code.specs.Machine.{overfills}
@@ -54,18 +54,18 @@ judged_at_place count size at locals i (Good operands rest) =
     refused_at_place (fact_fault i operands) at _ (over_at_place (overfills (fact_given size i operands) rest) at _
     (inside_at_place (leads_below at count (leads i)) at (handed_on size locals i operands rest)))
 
-known_at_place : (program : Program) (size at : ℕ) (locals : List (Option Fact)) (stack : List Fact)
+known_at_place : (program : CodeView) (size at : ℕ) (locals : List (Option Fact)) (stack : List Fact)
     (found : Option Instr) → VisitAtPlace (visit_known program size at locals stack found)
 known_at_place program size at locals stack None = tt
 known_at_place program size at locals stack (Some i) = judged_at_place (length program.instrs) size at locals i
     (draw kind_of_fact (length program.sets) i (frame_of stack locals))
 
-places_at_place : (program : Program) (size at : ℕ) (locals : List (Option Fact)) (known : Option (List Fact)) →
+places_at_place : (program : CodeView) (size at : ℕ) (locals : List (Option Fact)) (known : Option (List Fact)) →
     VisitAtPlace (visit_places program size at locals known)
 places_at_place program size at locals None = tt
 places_at_place program size at locals (Some stack) = known_at_place program size at locals stack (slice_get program.instrs at)
 
-visit_at_place : (program : Program) (size at : ℕ) (a : Arrival) → VisitAtPlace (visit program size at a)
+visit_at_place : (program : CodeView) (size at : ℕ) (a : Arrival) → VisitAtPlace (visit program size at a)
 visit_at_place program size at Unreached = tt
 visit_at_place program size at Unlike = tt
 visit_at_place program size at (Arrived stack locals) = places_at_place program size at locals (all_known stack)
@@ -83,7 +83,7 @@ either_at_place : (o p : Option VerifyFault) → FoundAtPlace o → FoundAtPlace
 either_at_place None p h g = g
 either_at_place (Some why) p h g = h
 
-first_at_place : (program : Program) (size n : ℕ) → FoundAtPlace (first_fault program size n)
+first_at_place : (program : CodeView) (size n : ℕ) → FoundAtPlace (first_fault program size n)
 unfolding first_fault
 first_at_place program size zero = tt
 first_at_place program size (suc n) = either_at_place (first_fault program size n)
@@ -91,7 +91,7 @@ first_at_place program size (suc n) = either_at_place (first_fault program size 
     (found_at_place (verdict program size n) (visit_at_place program size n (facts program size n)))
 
 -- what is first unknown at an index is not the size
-pub not_the_size : (program : Program) (size n : ℕ) → first_fault program size n ≡ Some refusal.BadSize → ⊥
+pub not_the_size : (program : CodeView) (size n : ℕ) → first_fault program size n ≡ Some refusal.BadSize → ⊥
 not_the_size program size n e = subst FoundAtPlace e (first_at_place program size n)
 
 -- the sizes that networks have, and no others

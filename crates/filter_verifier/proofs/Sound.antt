@@ -7,9 +7,9 @@ use Rattle.std.proofs.lemmas.Bool.Decides.{nat_tests}
 use Rattle.std.proofs.lemmas.Option.{slice_get_within, get_or_from_slice_get}
 use Rattle.filter_code.specs.declared.instruction.Instr.{Instr}
 use Rattle.filter_code.specs.declared.outcome.Outcome.TheVariants as outcome
-use Rattle.filter_code.specs.Announcement.{Announcement}
+use Rattle.filter_code.specs.RouteView.{RouteView}
 use Rattle.filter_code.specs.Machine.{Config, State, Going, Ended, start, next, after, step}
-use Rattle.filter_code.specs.Program.{Program}
+use Rattle.filter_code.specs.CodeView.{CodeView}
 use Rattle.filter_code.proofs.Metrics.{IsInRange}
 use Rattle.filter_verifier.specs.declared.fault.VerifyFault.{VerifyFault}
 use Rattle.filter_verifier.specs.Arrivals.{Arrival, Unreached, Unlike, Arrived, Visit, Skipped, Refused, Passed, leads_of, visit, arriving, facts, verdict, refused_by, or_else, first_fault, is_size, the_fault}
@@ -28,7 +28,7 @@ neither None p e = (refl, e)
 neither (Some why) p e = cc
 
 -- where nothing is unknown below an index, nothing is at any index below it
-pub none_refused : (program : Program) (size n k : ℕ) → first_fault program size n ≡ None → k < n →
+pub none_refused : (program : CodeView) (size n k : ℕ) → first_fault program size n ≡ None → k < n →
     refused_by (verdict program size k) ≡ None
 unfolding first_fault
 none_refused program size zero k e h = absurd (omega arith)
@@ -40,7 +40,7 @@ none_refused program size (suc n) k e h =
     ]
 
 -- a stack that agrees with what is handed on is as high
-high_as : (route : Announcement) (d : Config) (height : ℕ) (a : Arrival) → Agrees route d a → IsHigh height a →
+high_as : (route : RouteView) (d : Config) (height : ℕ) (a : Arrival) → Agrees route d a → IsHigh height a →
     length d.frame.stack ≡ height
 high_as route d height Unreached p q = absurd p
 high_as route d height Unlike p q = absurd q
@@ -67,7 +67,7 @@ literal_at : (instrs : List Instr) → All HasLiteral instrs → (at : ℕ) (i :
 literal_at instrs all at i e = subst HasLiteral (get_or_from_slice_get instrs at i i e) (all at i (slice_get_within instrs at i e))
 
 -- where a run stands after some steps
-pub record Stands (program : Program) (route : Announcement) (size n : ℕ) (c : Config) : Type 0 where
+pub record Stands (program : CodeView) (route : RouteView) (size n : ℕ) (c : Config) : Type 0 where
   pub inside : c.pc < length program.instrs
   pub agrees : Agrees route c (facts program size c.pc)
   pub soon : n + cost program.instrs c.pc ≤ cost program.instrs 0
@@ -75,11 +75,11 @@ pub record Stands (program : Program) (route : Announcement) (size n : ℕ) (c :
   pub fits : length c.frame.stack ≤ 32
 
 -- a run goes on so, or has ended well
-abbrev pub IsWell : Program → Announcement → ℕ → ℕ → State → Type 0
+abbrev pub IsWell : CodeView → RouteView → ℕ → ℕ → State → Type 0
 IsWell program route size n (Going c) = Stands program route size n c
 IsWell program route size n (Ended end) = EndsWell route end
 
-module _ (program : Program) (size : ℕ) (route : Announcement) (literals : All HasLiteral program.instrs)
+module _ (program : CodeView) (size : ℕ) (route : RouteView) (literals : All HasLiteral program.instrs)
     (some : 0 < length program.instrs) (small : size ≤ 64) (none : first_fault program size (length program.instrs) ≡ None)
     (of_size : IsRouteOf size route) where
   stack_passes : (c : Config) (a : Arrival) → Agrees route c a →
@@ -168,12 +168,12 @@ largest size e =
     grind (arith, nat_tests)
 
 -- what is known of a code of which nothing is unknown
-pub record Faultless (program : Program) (size : ℕ) : Type 0 where
+pub record Faultless (program : CodeView) (size : ℕ) : Type 0 where
   pub some : 0 < length program.instrs
   pub small : size ≤ 64
   pub none : first_fault program size (length program.instrs) ≡ None
 
-pub faultless : (program : Program) (size : ℕ) → the_fault program size ≡ None → Faultless program size
+pub faultless : (program : CodeView) (size : ℕ) → the_fault program size ≡ None → Faultless program size
 faultless program size e =
     let parts = verdict_parts (is_size size) (length program.instrs == 0) _ _ (first_fault program size (length program.instrs)) e in
     record {
@@ -183,7 +183,7 @@ faultless program size e =
     }
 
 -- code of which nothing is unknown never goes wrong
-pub safe_code : (program : Program) (size : ℕ) → All HasLiteral program.instrs → the_fault program size ≡ None → IsSafe program size
+pub safe_code : (program : CodeView) (size : ℕ) → All HasLiteral program.instrs → the_fault program size ≡ None → IsSafe program size
 safe_code program size literals e =
     let good = faultless program size e in
     record {

@@ -9,9 +9,9 @@ use Rattle.filter_code.specs.declared.outcome.FaultKind.{FaultKind}
 use Rattle.filter_code.specs.declared.outcome.Outcome.{Outcome}
 use Rattle.filter_code.specs.declared.outcome.Outcome.TheVariants as outcome
 use Rattle.filter_code.specs.declared.value.Value.{Value}
-use Rattle.filter_code.specs.Announcement.{Announcement}
+use Rattle.filter_code.specs.RouteView.{RouteView}
 use Rattle.filter_code.specs.Machine.{Config, State, Going, Ended, value_given, value_fault, locals_after, distance, on_one, ending_of, overfills, with_given, moved_on, unless_fault, unless_full, unless_ended, act, carry_out, step}
-use Rattle.filter_code.specs.Program.{Program}
+use Rattle.filter_code.specs.CodeView.{CodeView}
 use Rattle.filter_code.specs.Table.{Frame, Operands, Zero, One, Two, Drawn, Bad, Good, draw, leads}
 use Rattle.filter_code.specs.Values.{bool_of, kind_of}
 use Rattle.filter_code.proofs.Metrics.{IsInRange, metric_in_range}
@@ -26,22 +26,22 @@ use Rattle.filter_verifier.proofs.Parts.{Alike}
 use Rattle.filter_verifier.proofs.Meeting.{Agrees}
 
 -- the ends that are wanted: accepted at a metric in range, or rejected
-abbrev pub EndsWell : Announcement → Outcome → Type 0
+abbrev pub EndsWell : RouteView → Outcome → Type 0
 EndsWell route (outcome.Accept metric) = IsInRange route metric
 EndsWell route outcome.Reject = Unit {0}
 EndsWell route (outcome.Fault why at) = ⊥
 
 -- from a configuration to one where the text leads, and that agrees with what is handed on
-pub record Moves (route : Announcement) (at : ℕ) (found : Option Instr) (next : Arrival) (d : Config) : Type 0 where
+pub record Moves (route : RouteView) (at : ℕ) (found : Option Instr) (next : Arrival) (d : Config) : Type 0 where
   pub led : leads_to at d.pc (leads_of found) ≡ true
   pub agrees : Agrees route d next
 
-abbrev pub GoesWell : Announcement → ℕ → Option Instr → Arrival → State → Type 0
+abbrev pub GoesWell : RouteView → ℕ → Option Instr → Arrival → State → Type 0
 GoesWell route at found next (Ended end) = EndsWell route end
 GoesWell route at found next (Going d) = Moves route at found next d
 
 -- a step, by what becomes of the index where it is made
-abbrev pub StepIs : Announcement → ℕ → Option Instr → State → Visit → Type 0
+abbrev pub StepIs : RouteView → ℕ → Option Instr → State → Visit → Type 0
 StepIs route at found state Skipped = ⊥
 StepIs route at found state (Refused why) = Unit {0}
 StepIs route at found state (Passed next) = GoesWell route at found next state
@@ -124,7 +124,7 @@ let_through P None true pc state none room p = absurd (cc)
 let_through P (Some why) full pc state none room p = absurd (cc)
 
 -- the end of a run, or the way on
-ended_or_on : (route : Announcement) (at : ℕ) (found : Option Instr) (next : Arrival) (metric : ℕ) (i : Instr) (d : Config) →
+ended_or_on : (route : RouteView) (at : ℕ) (found : Option Instr) (next : Arrival) (metric : ℕ) (i : Instr) (d : Config) →
     IsInRange route metric → (ending_of metric i ≡ None → Moves route at found next d) →
     GoesWell route at found next (unless_ended (ending_of metric i) (Going d))
 ended_or_on route at found next metric instr.Accept d here p = here
@@ -132,7 +132,7 @@ ended_or_on route at found next metric instr.Reject d here p = tt
 ended_or_on route at found next metric _ d here p = p refl
 
 -- a step with its premises: a route of the size, and a configuration in range
-module _ (program : Program) (route : Announcement) (size : ℕ) (of_size : IsRouteOf size route) (small : size ≤ 64) where
+module _ (program : CodeView) (route : RouteView) (size : ℕ) (of_size : IsRouteOf size route) (small : size ≤ 64) where
   performed : (c : Config) (locals : List (Option Fact)) (i : Instr) (operands : Operands Value) (rest : List Value)
       (facts : Operands Fact) (left : List Fact) →
       HasLiteral i → Pairwise (PlaceIsAs route.metric) c.frame.locals locals → IsInRange route c.metric →

@@ -5,7 +5,7 @@ use Rattle.prefix_patterns.specs.Matching.{PrefixPattern}
 use Rattle.std.specs.Prelude.{slice_get}
 use Rattle.filter_code.specs.declared.instruction.Instr.{Instr}
 use Rattle.filter_code.specs.declared.outcome.FaultKind.{FaultKind}
-use Rattle.filter_code.specs.Program.{Program}
+use Rattle.filter_code.specs.CodeView.{CodeView}
 use Rattle.filter_code.specs.Table.{Drawn, Bad, Good, draw, leads}
 use Rattle.filter_verifier.specs.declared.fact.Fact.{Fact}
 use Rattle.filter_verifier.specs.Arrivals.{Arrival, Unreached, Unlike, Arrived, Visit, Passed, unless_refused, unless_over, if_inside, judge, leads_below, visit, visit_known, visit_places}
@@ -31,7 +31,7 @@ judged_inside count size at locals i (Bad why) next e = cc
 judged_inside count size at locals i (Good operands rest) next e = inside_passed _ at _ next
     (over_passed _ at _ next (refused_passed _ at _ next e))
 
-known_inside : (program : Program) (size at : ℕ) (locals : List (Option Fact)) (stack : List Fact)
+known_inside : (program : CodeView) (size at : ℕ) (locals : List (Option Fact)) (stack : List Fact)
     (found : Option Instr) (i : Instr) (next : Arrival) → found ≡ Some i →
     visit_known program size at locals stack found ≡ Passed next → leads_below at (length program.instrs) (leads i) ≡ true
 known_inside program size at locals stack None i next is e = cc
@@ -41,14 +41,14 @@ known_inside program size at locals stack (Some j) i next is e =
     (sym (ap (λ (x : Instr). judge (length program.instrs) size at locals x
     (draw kind_of_fact (length program.sets) x (frame_of stack locals))) same) ∙ e)
 
-placed_inside : (program : Program) (size at : ℕ) (locals : List (Option Fact)) (known : Option (List Fact))
+placed_inside : (program : CodeView) (size at : ℕ) (locals : List (Option Fact)) (known : Option (List Fact))
     (i : Instr) (next : Arrival) → slice_get program.instrs at ≡ Some i →
     visit_places program size at locals known ≡ Passed next → leads_below at (length program.instrs) (leads i) ≡ true
 placed_inside program size at locals None i next is e = cc
 placed_inside program size at locals (Some stack) i next is e = known_inside program size at locals stack
     (slice_get program.instrs at) i next is e
 
-pub passed_inside : (program : Program) (size at : ℕ) (a : Arrival) (i : Instr) (next : Arrival) →
+pub passed_inside : (program : CodeView) (size at : ℕ) (a : Arrival) (i : Instr) (next : Arrival) →
     slice_get program.instrs at ≡ Some i → visit program size at a ≡ Passed next →
     leads_below at (length program.instrs) (leads i) ≡ true
 passed_inside program size at Unreached i next is e = cc
@@ -56,7 +56,7 @@ passed_inside program size at Unlike i next is e = cc
 passed_inside program size at (Arrived stack locals) i next is e = placed_inside program size at locals (all_known stack) i next is e
 
 -- an instruction that has passed the tests of its operands and of the stack, and goes on inside the code
-gone : (program : Program) (size at : ℕ) (locals after : List (Option Fact)) (stack above : List Fact) (i : Instr) (places : Layout) →
+gone : (program : CodeView) (size at : ℕ) (locals after : List (Option Fact)) (stack above : List Fact) (i : Instr) (places : Layout) →
     slice_get program.instrs at ≡ Some i →
     leads_below at (length program.instrs) (leads i) ≡ true →
     judge (length program.instrs) size at locals i
@@ -70,7 +70,7 @@ gone program size at locals after stack above i places is inside judged laid =
     ∙ (judged ∙ ap (λ (b : Bool). if_inside b at (Passed (Arrived (map (λ f. Some f) above) after))) inside))
 
 -- the same with what the code holds: a copy of the local variables, the sets, and the variables as a part of a list
-pub gone_on : (program : Program) (size at width : ℕ) (locals held after more : List (Option Fact))
+pub gone_on : (program : CodeView) (size at width : ℕ) (locals held after more : List (Option Fact))
     (stack above : List Fact) (sets : List (List PrefixPattern)) (i : Instr) (places : Layout) →
     held ≡ locals → sets ≡ program.sets → width ≡ length after →
     slice_get program.instrs at ≡ Some i →

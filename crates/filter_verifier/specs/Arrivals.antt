@@ -4,7 +4,7 @@ use Rattle.std.specs.Prelude.{ℕ, zero, suc, ◌+◌, ◌==◌, nat_lt, nat_le,
 use Rattle.filter_code.specs.declared.instruction.Instr.{Instr}
 use Rattle.filter_code.specs.declared.outcome.FaultKind.{FaultKind}
 use Rattle.filter_code.specs.Machine.{locals_after, overfills, with_given}
-use Rattle.filter_code.specs.Program.{Program}
+use Rattle.filter_code.specs.CodeView.{CodeView}
 use Rattle.filter_code.specs.Table.{Frame, Operands, Drawn, Bad, Good, draw, leads}
 use Rattle.filter_code.specs.Limits.{smallest_size, largest_size}
 use Rattle.filter_verifier.specs.declared.fact.Fact.{Fact}
@@ -78,20 +78,20 @@ judge count size at locals i (Good operands rest) =
     (Passed (handed_on size locals i operands rest))))
 
 -- an instruction at a stack whose kinds are known
-abbrev pub visit_known : Program → ℕ → ℕ → List (Option Fact) → List Fact → Option Instr → Visit
+abbrev pub visit_known : CodeView → ℕ → ℕ → List (Option Fact) → List Fact → Option Instr → Visit
 visit_known program size at locals stack None = Refused (refusal.OutsideCode at)
 visit_known program size at locals stack (Some i) =
     let frame : Frame Fact = record { stack = stack; locals = locals } in
     judge (length program.instrs) size at locals i (draw kind_of_fact (length program.sets) i frame)
 
 -- a stack on which unlike kinds met at some place is refused
-abbrev pub visit_places : Program → ℕ → ℕ → List (Option Fact) → Option (List Fact) → Visit
+abbrev pub visit_places : CodeView → ℕ → ℕ → List (Option Fact) → Option (List Fact) → Visit
 visit_places program size at locals None = Refused (refusal.WrongKind at)
 visit_places program size at locals (Some stack) = visit_known program size at locals stack (slice_get program.instrs at)
 
 -- an index with what arrives there: first the tests of the meeting, the depths before the kinds, and then the
 -- instruction's in their order
-abbrev pub visit : Program → ℕ → ℕ → Arrival → Visit
+abbrev pub visit : CodeView → ℕ → ℕ → Arrival → Visit
 visit program size at Unreached = Skipped
 visit program size at Unlike = Refused (refusal.UnlikeDepths at)
 visit program size at (Arrived stack locals) = visit_places program size at locals (all_known stack)
@@ -103,28 +103,28 @@ leads_of (Some i) = leads i
 
 -- what an index hands on to another one, by what becomes of it. Where something is not known it hands on nothing: below
 -- the least such index this makes no difference, and no other one is answered.
-abbrev pub hand_on : Program → ℕ → Visit → ℕ → Arrival
+abbrev pub hand_on : CodeView → ℕ → Visit → ℕ → Arrival
 hand_on program at (Passed next) target =
     if leads_to at target (leads_of (slice_get program.instrs at)) then next else Unreached
 hand_on program at _ target = Unreached
 
 -- a run begins at index 0, with nothing on the stack and empty local variables
-abbrev pub beginning : Program → ℕ → Arrival
+abbrev pub beginning : CodeView → ℕ → Arrival
 beginning program zero = Arrived [] (replicate program.locals None)
 beginning program (suc index) = Unreached
 
 -- the meeting of the beginning and of all that the indices below n hand on to an index
-unfoldable pub arriving : Program → ℕ → ℕ → ℕ → Arrival
+unfoldable pub arriving : CodeView → ℕ → ℕ → ℕ → Arrival
 arriving program size zero index = beginning program index
 arriving program size (suc n) index =
     meet (arriving program size n index) (hand_on program n (visit program size n (arriving program size n n)) index)
 
 -- what is known at an index: only indices below it hand on to it
-abbrev pub facts : Program → ℕ → ℕ → Arrival
+abbrev pub facts : CodeView → ℕ → ℕ → Arrival
 facts program size index = arriving program size index index
 
 -- what becomes of an index
-abbrev pub verdict : Program → ℕ → ℕ → Visit
+abbrev pub verdict : CodeView → ℕ → ℕ → Visit
 verdict program size index = visit program size index (facts program size index)
 
 -- what is not known at an index
@@ -138,7 +138,7 @@ or_else (Some why) other = Some why
 or_else None other = other
 
 -- what is not known at the least index below n where something is not
-unfoldable pub first_fault : Program → ℕ → ℕ → Option VerifyFault
+unfoldable pub first_fault : CodeView → ℕ → ℕ → Option VerifyFault
 first_fault program size zero = None
 first_fault program size (suc n) = or_else (first_fault program size n) (refused_by (verdict program size n))
 
@@ -148,7 +148,7 @@ is_size size = nat_le smallest_size size && nat_le size largest_size
 
 -- what is not known of a code in a network of a size: the size is judged first, and code without instructions leads
 -- outside at once
-abbrev pub the_fault : Program → ℕ → Option VerifyFault
+abbrev pub the_fault : CodeView → ℕ → Option VerifyFault
 the_fault program size =
     if is_size size
     then (if length program.instrs == 0

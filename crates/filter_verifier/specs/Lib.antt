@@ -1,6 +1,6 @@
 pub mod Arrivals
 pub mod Bounds
-pub mod Checked
+pub mod VerifiedView
 pub mod Facts
 pub mod Faults
 pub mod Layout

@@ -1,7 +1,7 @@
 -- The pieces of a pass over the code.
 use Rattle.std.specs.Prelude.{ℕ, zero, suc, max, Option, Some, None, List, [], ◌∷◌, length, map, slice_index_or}
 use Rattle.filter_code.specs.declared.instruction.Instr.{Instr}
-use Rattle.filter_code.specs.Program.{Program}
+use Rattle.filter_code.specs.CodeView.{CodeView}
 use Rattle.filter_code.specs.Table.{Frame, leads}
 use Rattle.filter_verifier.specs.declared.fact.Fact.{Fact}
 use Rattle.filter_verifier.specs.declared.following.Following.{Following}
@@ -57,6 +57,6 @@ height_of (Arrived stack locals) = length stack
 height_of _ = 0
 
 -- the greatest height at an index below n
-unfoldable pub highest : Program → ℕ → ℕ → ℕ
+unfoldable pub highest : CodeView → ℕ → ℕ → ℕ
 highest program size zero = 0
 highest program size (suc n) = max (highest program size n) (height_of (facts program size n))

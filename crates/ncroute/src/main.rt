@@ -5,7 +5,7 @@
 mod tests;
 mod words;
 
-use ncroute_commands::{ProgramFault, check_text, eval_lines};
+use filter_commands::{ProgramFault, check_text, eval_lines};
 use std::io;
 use std::process::ExitCode;
 use words::Request;

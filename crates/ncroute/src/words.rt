@@ -1,7 +1,7 @@
 //! The words of the command line.
 use clap::error::ErrorKind;
 use clap::{Arg, ArgAction, ArgMatches, Command, Error};
-use ncroute_commands::ProgramFault;
+use filter_commands::ProgramFault;
 use std::alloc::{AllocError, Global};
 use std::convert::AsStr;
 use std::rt::Env;

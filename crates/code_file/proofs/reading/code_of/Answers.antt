@@ -1,6 +1,6 @@
 use Rattle.std.proofs.Common.{◌≡◌, Ok, Err, inl, inr, subst, ◌∙◌, sym, ap, arith}
 use Rattle.std.proofs.lemmas.Result.{err_from_is_err_and}
-use Rattle.filter_code.specs.Program.{Program}
+use Rattle.filter_code.specs.CodeView.{CodeView}
 use Rattle.code_file.specs.Reading.{Rest, read, a_header}
 use Rattle.code_file.proofs.Formats.{from_start}
 use Rattle.code_file.proofs.Parts.{header_refused, sets_refused, AreRead, instructions_refused, bytes_follow, no_bytes_follow}
@@ -43,4 +43,4 @@ returns c =
     let front : AreRead c.args.bytes.now c.in_ok-locals.locals c.in_ok-sets.sets.items c.counted_sets.new.reader = record { left = c.header.new.self; header = start; sets_read = c.in_ok-sets.ensures.value } in
     let made = rw c.unwrap.ensures at c.new.ensures in
     no_bytes_follow c.args.bytes.now c.in_ok-locals.locals c.in_ok-sets.sets.items c.counted_sets.new.reader c.in_ok-instrs.instrs.items c.counted_instructions.new.reader front c.in_ok-instrs.ensures.value (omega (arith, c.left.ensures, c.if-left-gt0.false))
-    ∙ ap (λ (code : Program). Ok code) (sym made.1)
+    ∙ ap (λ (code : CodeView). Ok code) (sym made.1)

@@ -1,6 +1,6 @@
 use Rattle.std.proofs.Common.{rules, inr}
 use Rattle.std.proofs.lemmas.List.Elements.{All-push}
-use Rattle.filter_code.specs.Program.{HasMask}
+use Rattle.filter_code.specs.CodeView.{HasMask}
 use Rattle.std.proofs.lemmas.Result.{err_from_is_err_and}
 use Rattle.code_file.specs.Reading.{an_instruction, times, read}
 use Rattle.code_file.proofs.Steps.{goes_on, stops, ends}

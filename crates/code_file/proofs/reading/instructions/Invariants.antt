@@ -1,5 +1,5 @@
 use Rattle.std.proofs.Common.{◌≡◌, ◌-◌, length, All}
-use Rattle.filter_code.specs.Program.{HasMask}
+use Rattle.filter_code.specs.CodeView.{HasMask}
 use Rattle.code_file.specs.Reading.{an_instruction, times, read}
 use Rattle.code_file.proofs.Steps.{with_front}
 use Rattle.code_file.proofs.reading.instructions.Given as goal

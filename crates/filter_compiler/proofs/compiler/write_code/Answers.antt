@@ -1,7 +1,7 @@
 use Rattle.std.proofs.Common.{◌≡◌, ap, sym, subst, ◌∙◌, length}
 use Rattle.std.proofs.lemmas.List.{length-map}
 use Rattle.std.specs.Prelude.{All}
-use Rattle.filter_code.specs.Program.{HasMask, IsAllowed, Program}
+use Rattle.filter_code.specs.CodeView.{HasMask, IsAllowed, CodeView}
 use Rattle.filter_parser.specs.SyntaxCommands.{view_decl}
 use Rattle.filter_parser.specs.SyntaxText.{view_filter}
 use Rattle.filter_parser.specs.declared.tree.filter.Filter.{Filter}
@@ -31,5 +31,5 @@ finished-requires c =
     let is =
     is_code f (length c.decls.result.now) c.in_ok-sets.sets.items c.into_vec.result.items c.filter-filter.ensures.typed c.requires
     decls (c.in_ok-sets.ensures ∙ (c.deref.ensures.value ∙ c.in_ok-out.ensures.sets)) (c.into_vec.ensures.items ∙ c.in_ok-out.ensures.code) in
-    let masks = subst (λ (p : Program). All HasMask p.instrs) is c.into_vec.ensures.masks in
+    let masks = subst (λ (p : CodeView). All HasMask p.instrs) is c.into_vec.ensures.masks in
     subst IsAllowed (sym is) (is_allowed f c.filter-filter.ensures.typed c.requires masks)

@@ -4,11 +4,11 @@ use Rattle.filter_parser.specs.declared.tree.command.Command.TheFolds.{fold-roll
 use Rattle.filter_parser.specs.declared.tree.command.Command.TheOpen.{Command-F}
 use Rattle.filter_parser.specs.declared.tree.command.Command.{Command}
 use Rattle.filter_parser.specs.Syntax.{view}
-use Rattle.filter_parser.specs.SyntaxCommands.{Act, view_command, view_step}
+use Rattle.filter_parser.specs.SyntaxCommands.{CommandView, view_command, view_step}
 use Rattle.filter_parser.proofs.command.chooses.Goals as goal
 
 pub returns-clause-is : goal.returns-clause-is
 returns-clause-is c =
     ap view_command (sym (rolls-If c.args.at c.args.test c.in_ok-new.field-0 None))
-    ∙ fold-roll-Command Act view_step (Command-F.If c.args.at c.args.test c.in_ok-new.field-0 None)
-    ∙ ap (λ (x : Command). Act.choice (view c.args.test) (view_command x)) c.in_ok-new.ensures.ok
+    ∙ fold-roll-Command CommandView view_step (Command-F.If c.args.at c.args.test c.in_ok-new.field-0 None)
+    ∙ ap (λ (x : Command). CommandView.choice (view c.args.test) (view_command x)) c.in_ok-new.ensures.ok

@@ -1,0 +1,144 @@
+-- The file of a code is made of bytes, and of so few that `check` reads it in hexadecimal.
+use Rattle.std.proofs.Common.{Bool, ℕ, zero, suc, ◌+◌, ◌*◌, ◌<◌, ◌≤◌, List, [], ◌∷◌, ◌++◌, length, slice_index, sym, subst, arith, lit<, lit≤, length-append, append-nil, if◌then◌else◌}
+use Rattle.std.specs.List.{AllByRecursion, flat_map}
+use Rattle.prefix_patterns.specs.Bits.{address_of}
+use Rattle.prefix_patterns.specs.Matching.{PrefixPattern}
+use Rattle.filter_code.specs.Instruction.{opcode}
+use Rattle.filter_code.specs.CodeView.{CodeView}
+use Rattle.filter_code.specs.declared.instruction.Instr.{Instr}
+use Rattle.filter_code.specs.declared.instruction.Instr.TheVariants as instr
+use Rattle.code_file.proofs.Written.{bytes_of-append, bytes_of-flat_map}
+use Rattle.code_file.specs.Fields.{FieldKind, IsBytes, mark_bytes, width}
+use Rattle.code_file.specs.Fields.FieldKind.{Instructions, Locals, Mark, Patterns, Sets}
+use Rattle.code_file.specs.Spelling.{Field, IsInstruction, IsPattern, IsProgram, IsSet, bytes_of, counted, field, instruction, mark_byte, operand, pattern, prefix_bytes, set, spelling}
+use Rattle.std.specs.Int.{byte_at, bytes_high_first as big_bytes}
+
+-- at most so many bytes
+pub record AreBytes (limit : ℕ) (bytes : List ℕ) : Type 0 where
+  pub few : length bytes ≤ limit
+  pub each : IsBytes bytes
+
+-- both parts together
+joined_bytes : (xs ys : List ℕ) → IsBytes xs → IsBytes ys → IsBytes (xs ++ ys)
+joined_bytes [] ys a b i = b i
+joined_bytes (x ∷ xs) ys a b zero = a zero
+joined_bytes (x ∷ xs) ys a b (suc i) = joined_bytes xs ys (λ k. a (suc k)) b i
+
+joined : (m n : ℕ) (xs ys : List ℕ) → AreBytes m xs → AreBytes n ys → AreBytes (m + n) (xs ++ ys)
+joined m n xs ys a b =
+    let sum = length-append xs ys in
+    let first = a.few in
+    let second = b.few in
+    record { few = omega arith; each = joined_bytes xs ys a.each b.each }
+
+-- more are allowed
+relaxed : (m n : ℕ) (xs : List ℕ) → m ≤ n → AreBytes m xs → AreBytes n xs
+relaxed m n xs le a = record { few = let p = a.few in omega arith; each = a.each }
+
+none : AreBytes 0 []
+none = record { few = lit≤ tt; each = λ i. lit< tt }
+
+one : (b : ℕ) → b < 256 → AreBytes 1 (b ∷ [])
+one b h = record { few = lit≤ tt; each = each }
+  where
+    each : IsBytes (b ∷ [])
+    each zero = h
+    each (suc i) = lit< tt
+
+-- the bytes of a number
+number : (n x : ℕ) → AreBytes n (big_bytes n x)
+number zero x = none
+number (suc n) x = relaxed (1 + n) (suc n) (byte_at n x ∷ big_bytes n x) (omega arith)
+    (joined 1 n (byte_at n x ∷ []) (big_bytes n x) (one (byte_at n x) (a_byte n x)) (number n x))
+  where
+    a_byte : (n x : ℕ) → byte_at n x < 256
+    a_byte zero x = omega arith
+    a_byte (suc n) x = omega arith
+
+-- of each item the same
+flat : {A : Type 0} (P : A → Type 0) (k : ℕ) (f : A → List ℕ) → ((x : A) → P x → AreBytes k (f x)) → (xs : List A)
+    → AllByRecursion P xs → AreBytes (k * length xs) (flat_map f xs)
+flat P k f each [] all = relaxed 0 (k * 0) [] (omega arith) none
+flat P k f each (x ∷ xs) all =
+    relaxed (k + k * length xs) (k * length (x ∷ xs)) (f x ++ flat_map f xs) (omega arith)
+    (joined k (k * length xs) (f x) (flat_map f xs) (each x all.0) (flat P k f each xs all.1))
+
+-- a field of a number, and those behind it
+behind : {n : ℕ} (kind : FieldKind) (x : ℕ) (fs : List Field) → AreBytes n (bytes_of fs)
+    → AreBytes (width kind + n) (bytes_of (field kind x ∷ fs))
+behind {n} kind x fs a = joined (width kind) n (big_bytes (width kind) x) (bytes_of fs) (number (width kind) x) a
+
+-- items that are counted
+all_counted : {A : Type 0} (kind : FieldKind) (P : A → Type 0) (k limit : ℕ) (fields_of : A → List Field)
+    → ((x : A) → P x → AreBytes k (bytes_of (fields_of x))) → (xs : List A) → AllByRecursion P xs → k * length xs ≤ limit
+    → AreBytes (width kind + limit) (bytes_of (counted kind fields_of xs))
+all_counted kind P k limit fields_of each xs all le =
+    behind kind (length xs) (flat_map fields_of xs)
+    (subst (AreBytes limit) (sym (bytes_of-flat_map fields_of xs))
+    (relaxed (k * length xs) limit (flat_map (λ x. bytes_of (fields_of x)) xs) le
+    (flat P k (λ x. bytes_of (fields_of x)) each xs all)))
+
+-- a field with none behind it
+alone : (n : ℕ) (bytes : List ℕ) → AreBytes n bytes → AreBytes n (bytes ++ [])
+alone n bytes a = subst (AreBytes n) (sym (append-nil bytes)) a
+
+a_prefix : (bits : List Bool) → length bits ≤ 32 → AreBytes 5 (prefix_bytes bits)
+a_prefix bits le = joined 4 1 (big_bytes 4 (address_of bits)) (length bits ∷ []) (number 4 (address_of bits))
+    (one (length bits) (omega arith))
+
+a_pattern : (p : PrefixPattern) → IsPattern p → AreBytes 7 (bytes_of (pattern p ∷ []))
+a_pattern p h =
+    let order = h.lengths.order in
+    let limit = h.lengths.limit in
+    alone 7 (pattern p).bytes
+    (joined 5 2 (prefix_bytes p.bits) (p.low ∷ p.high ∷ []) (a_prefix p.bits h.prefix)
+    (joined 1 1 (p.low ∷ []) (p.high ∷ []) (one p.low (omega arith)) (one p.high (omega arith))))
+
+a_set : (patterns : List PrefixPattern) → IsSet patterns → AreBytes 7170 (bytes_of (set patterns))
+a_set patterns h =
+    let le = h.within_limit in
+    all_counted Patterns IsPattern 7 7168 (λ p. pattern p ∷ []) a_pattern patterns h.each (omega arith)
+
+-- the operand of an instruction takes at most five bytes
+a_number : (n x : ℕ) → n ≤ 5 → AreBytes 5 (big_bytes n x ++ [])
+a_number n x le = relaxed n 5 (big_bytes n x ++ []) le (alone n (big_bytes n x) (number n x))
+
+an_operand : (i : Instr) → IsInstruction i → AreBytes 5 (bytes_of (operand i))
+an_operand (instr.Int n) h = a_number 4 n (lit≤ tt)
+an_operand (instr.Bool b) h = a_number 1 (if b then 1 else 0) (lit≤ tt)
+an_operand (instr.Ip a) h = a_number 4 a.0 (lit≤ tt)
+an_operand (instr.Prefix bits) h = alone 5 (prefix_bytes bits) (a_prefix bits h)
+an_operand (instr.Load i) h = a_number 1 i (lit≤ tt)
+an_operand (instr.Store i) h = a_number 1 i (lit≤ tt)
+an_operand (instr.Mask n) h = a_number 1 n (lit≤ tt)
+an_operand (instr.Member i) h = a_number 1 i (lit≤ tt)
+an_operand (instr.Jump k) h = a_number 2 k (lit≤ tt)
+an_operand (instr.JumpIfNot k) h = a_number 2 k (lit≤ tt)
+an_operand _ h = relaxed 0 5 [] (lit≤ tt) none
+
+an_instruction : (i : Instr) → IsInstruction i → AreBytes 6 (bytes_of (instruction i))
+an_instruction i h = joined 1 5 (big_bytes 1 (opcode i)) (bytes_of (operand i)) (number 1 (opcode i)) (an_operand i h)
+
+-- the mark
+a_mark : {n : ℕ} (place : ℕ) (fs : List Field) → AreBytes n (bytes_of fs) → AreBytes (1 + n) (bytes_of (mark_byte place ∷ fs))
+a_mark place fs a = behind (Mark place) (slice_index mark_bytes place) fs a
+
+behind_mark : (n : ℕ) (fs : List Field) → AreBytes n (bytes_of fs)
+    → AreBytes (1 + (1 + (1 + (1 + n)))) (bytes_of (mark_byte 0 ∷ mark_byte 1 ∷ mark_byte 2 ∷ mark_byte 3 ∷ fs))
+behind_mark n fs a =
+    let third = mark_byte 3 ∷ fs in
+    let second = mark_byte 2 ∷ third in
+    a_mark 0 (mark_byte 1 ∷ second) (a_mark 1 second (a_mark 2 third (a_mark 3 fs a)))
+
+-- a file has at most 465,032 bytes
+pub a_file : (code : CodeView) → IsProgram code → AreBytes 465032 (spelling code)
+a_file code h =
+    let sets_limit = h.sets in
+    let instrs_limit = h.instrs in
+    let sets = all_counted Sets IsSet 7170 458880 set a_set code.sets h.each_set (omega arith) in
+    let instrs = all_counted Instructions IsInstruction 6 6144 instruction an_instruction code.instrs h.each_instr (omega arith) in
+    let locals = behind Locals code.locals (counted Sets set code.sets) sets in
+    let front = mark_byte 0 ∷ mark_byte 1 ∷ mark_byte 2 ∷ mark_byte 3 ∷ field Locals code.locals ∷ counted Sets set code.sets in
+    subst (AreBytes 465032) (sym (bytes_of-append front (counted Instructions instruction code.instrs)))
+    (joined 458886 6146 (bytes_of front) (bytes_of (counted Instructions instruction code.instrs))
+    (behind_mark 458882 (field Locals code.locals ∷ counted Sets set code.sets) locals) instrs)

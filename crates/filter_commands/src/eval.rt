@@ -1,0 +1,174 @@
+//! `ncroute eval`: routes through a code file.
+ghost use Rattle.std.specs.Prelude.{◌≡◌, ◌++◌, OnOk, IfOk, IfErr, IfSome, OnErr};
+ghost use Rattle.std.specs.Io.{StartsWith};
+ghost use Rattle.std.specs.Io.KnownBytes.{Appends};
+ghost use Rattle.filter_commands.specs.Eval.{no_code, route_answer, verdict};
+ghost use Rattle.filter_commands.specs.Evaluation.{Breaks, Evaluates, IsCut};
+ghost use Rattle.filter_commands.specs.Faults.{stream_fault};
+
+use crate::code_line::{push_code_refusal, read_code_line};
+use crate::fault::ProgramFault;
+use crate::line_fault::LineFault;
+use crate::route_line::read_route;
+use filter_code::{Code, Outcome, run_checked};
+use line_protocol::{
+    Reply, Service, StreamFault, answer_lines, push_decimal, push_refusal, write_text,
+};
+use std::alloc::{AllocError, Global};
+use std::io::{Read, Write};
+
+/// The service that answers the lines of `eval`.
+#[derive(Drop)]
+struct Evaluator {
+    /// The code of the filter, once its line has come.
+    code: Option<Code>,
+}
+
+impl Service for Evaluator {
+    ghost use Rattle.filter_commands.specs.Evaluation.{AnswersLine};
+
+    ghost answers = { λ before number line answer after. AnswersLine before.code number line answer after.code };
+
+    fn answer(
+        &mut self,
+        alloc: Global,
+        number: u32,
+        line: &[u8],
+        out: &mut Vec<u8>,
+    ) -> Result<Reply, AllocError> {
+        match &self.code {
+            Some(code) => answer_route(code, number, line, out),
+            None => match read_code_line(alloc, line)? {
+                Ok(code) => {
+                    self.code = Some(code);
+                    Ok(Reply::Answered)
+                }
+                Err(fault) => {
+                    push_code_refusal(out, number, fault)?;
+                    Ok(Reply::Ended)
+                }
+            },
+        }
+    }
+}
+
+/// Answers a route line under a filter's code.
+fn answer_route(
+    code: &Code,
+    number: u32,
+    line: &[u8],
+    out: &mut Vec<u8>,
+) -> Result<Reply, AllocError>
+    ensures ok { IfOk result (λ reply. (out.new.items ≡ out.old.items ++ (route_answer code.now (number, line.now)).text)
+        × (reply ≡ (route_answer code.now (number, line.now)).reply)) }
+    ensures err { OnErr result (StartsWith out.new.items out.old.items) }
+{
+    match read_route(line) {
+        Ok(route) => {
+            push_verdict(out, run_checked(code, &route))?;
+            Ok(Reply::Answered)
+        }
+        Err(fault) => {
+            push_refusal(out, fault.code(), u64::from(number))?;
+            Ok(Reply::Refused)
+        }
+    }
+}
+
+/// Puts the line of a verdict behind what `out` holds.
+fn push_verdict(out: &mut Vec<u8>, outcome: Outcome) -> Result<(), AllocError>
+    ensures ok { OnOk result (out.new.items ≡ out.old.items ++ verdict outcome) }
+    ensures err { OnErr result (StartsWith out.new.items out.old.items) }
+{
+    match outcome {
+        Outcome::Accept(distance) => {
+            out.extend_from_slice(b"accept ")?;
+            push_decimal(out, u64::from(distance))?;
+        }
+        Outcome::Reject => out.extend_from_slice(b"reject")?,
+        Outcome::Fault(kind, at) => {
+            out.extend_from_slice(b"fault ")?;
+            out.extend_from_slice(kind.code().as_bytes())?;
+            out.push(b' ')?;
+            push_decimal(out, at as u64)?;
+        }
+    }
+    out.push(b'\n')?;
+    Ok(())
+}
+
+/// Answers the lines of `reader` on `writer`: the first has a code file, each other a route. Gives the number of lines that
+/// were refused. What was answered is written before more is read.
+pub fn eval_lines<R: Read, W: Write>(
+    alloc: Global,
+    reader: &mut R,
+    writer: &mut W,
+) -> Result<u32, ProgramFault>
+    ensures finished { IfOk result (λ refused. IfSome (R.remaining reader.old) (λ input.
+        Evaluates input (R.remaining reader.new) (W.contents writer.old) (W.contents writer.new) refused)) }
+    ensures broken_off { IfErr result (λ fault. IfSome (R.remaining reader.old) (λ input.
+        Breaks (stream_fault fault) input (R.remaining reader.new) (W.contents writer.old) (W.contents writer.new))) }
+{
+    match evaluate(alloc, reader, writer) {
+        Ok(refused) => Ok(refused),
+        Err(fault) => Err(ProgramFault::Stream(fault)),
+    }
+}
+
+/// The same, with the fault of the stream itself.
+fn evaluate<R: Read, W: Write>(
+    alloc: Global,
+    reader: &mut R,
+    writer: &mut W,
+) -> Result<u32, StreamFault>
+    ensures finished { IfOk result (λ refused. IfSome (R.remaining reader.old) (λ input.
+        Evaluates input (R.remaining reader.new) (W.contents writer.old) (W.contents writer.new) refused)) }
+    ensures broken_off { IfErr result (λ fault. IfSome (R.remaining reader.old) (λ input.
+        Breaks fault input (R.remaining reader.new) (W.contents writer.old) (W.contents writer.new))) }
+{
+    let mut evaluator = Evaluator { code: None };
+    match answer_lines(alloc, reader, writer, &mut evaluator) {
+        Err(fault) => Err(fault),
+        Ok(refused) => {
+            if refused == 0 && evaluator.code.is_none() {
+                return refuse_empty(alloc, writer);
+            }
+            Ok(refused)
+        }
+    }
+}
+
+/// Answers an input in which no line has a code, by the one refusal that it counts.
+fn refuse_empty<W: Write>(alloc: Global, writer: &mut W) -> Result<u32, StreamFault>
+    ensures ok { IfOk result (λ refused. (refused ≡ 1)
+        × Appends (W.contents writer.old) (W.contents writer.new) no_code.text) }
+    ensures err { IfErr result (λ fault.
+        IsCut fault (W.contents writer.old) (W.contents writer.new) no_code.text) }
+{
+    match empty_refusal(alloc) {
+        Err(_) => Err(StreamFault::Memory),
+        Ok(text) => write_one(writer, text.as_slice()),
+    }
+}
+
+/// The answer to an input in which no line has a code.
+fn empty_refusal(alloc: Global) -> Result<Vec<u8>, AllocError>
+    ensures { IfOk result (λ text. text.items ≡ no_code.text) }
+{
+    let mut text = Vec::new(alloc);
+    push_refusal(&mut text, LineFault::Words.code(), 0)?;
+    Ok(text)
+}
+
+/// Writes the text of one refusal, and counts it.
+fn write_one<W: Write>(writer: &mut W, text: &[u8]) -> Result<u32, StreamFault>
+    ensures ok { IfOk result (λ refused. (refused ≡ 1)
+        × Appends (W.contents writer.old) (W.contents writer.new) text.now) }
+    ensures err { IfErr result (λ fault.
+        IsCut fault (W.contents writer.old) (W.contents writer.new) text.now) }
+{
+    match write_text(writer, text) {
+        Ok(()) => Ok(1),
+        Err(fault) => Err(fault),
+    }
+}

@@ -1,0 +1,55 @@
+//! A route line: `NETWORK METRIC SIZE`.
+ghost use Rattle.std.specs.Prelude.{◌≡◌, ◌≤◌, length};
+ghost use Rattle.std.specs.Option.{option_map};
+ghost use Rattle.line_protocol.specs.Words.{words};
+ghost use Rattle.prefix_patterns.specs.Reading.{number_in, prefix_in};
+ghost use Rattle.filter_commands.specs.Limits.{number_limit};
+ghost use Rattle.filter_commands.specs.RouteLine.{route_in, route_of_parts, three_of};
+
+use crate::NUMBER_LIMIT;
+use crate::line_fault::LineFault;
+use filter_code::Route;
+use line_protocol::{LINE_LIMIT, next_word};
+use prefix_patterns::{read_number, read_prefix};
+
+/// The three words of a line of just three.
+fn three_words(line: &[u8]) -> Option<(&[u8], &[u8], &[u8])>
+    ensures { three_of (words line.now) ≡ option_map (λ all. (all.0.now, all.1.now, all.2.now)) result }
+{
+    let (first, rest) = next_word(line)?;
+    let (second, rest) = next_word(rest)?;
+    let (third, rest) = next_word(rest)?;
+    match next_word(rest) {
+        None => Some((first, second, third)),
+        Some(_) => None,
+    }
+}
+
+/// The route of the texts of a network, a metric and a size.
+fn read_parts(network: &[u8], metric: &[u8], size: &[u8]) -> Result<Route, LineFault>
+    ensures { result ≡ route_of_parts (prefix_in network.now) (number_in number_limit metric.now) (number_in number_limit size.now) }
+{
+    let Some(network) = read_prefix(network) else {
+        return Err(LineFault::Network);
+    };
+    let Some(metric) = read_number(metric, NUMBER_LIMIT) else {
+        return Err(LineFault::Numbers);
+    };
+    let Some(size) = read_number(size, NUMBER_LIMIT) else {
+        return Err(LineFault::Numbers);
+    };
+    Route::new(network, metric, size).ok_or(LineFault::Numbers)
+}
+
+/// Reads a route line, which is at most as long as a line may be.
+pub fn read_route(line: &[u8]) -> Result<Route, LineFault>
+    ensures { result ≡ route_in line.now }
+{
+    if line.len() > LINE_LIMIT {
+        return Err(LineFault::TooLong);
+    }
+    match three_words(line) {
+        None => Err(LineFault::Words),
+        Some((network, metric, size)) => read_parts(network, metric, size),
+    }
+}

@@ -1,5 +1,0 @@
-use Rattle.ncroute_commands.proofs.Printed.{printed_again, translation_again}
-use Rattle.ncroute_commands.proofs.laws.printed_code_is_checked_alike.Goals as goal
-
-pub returns : goal.returns
-returns c = record { codes = printed_again; filters = translation_again }
