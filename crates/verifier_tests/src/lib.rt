@@ -1,0 +1,7 @@
+//! Tests of the verifier, and of the machine that runs verified code.
+#![tactic(auto)]
+
+#[cfg(test)]
+mod filter_machine_tests;
+#[cfg(test)]
+mod filter_verifier_tests;
