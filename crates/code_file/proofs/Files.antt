@@ -13,8 +13,8 @@ use Rattle.filter_code.specs.Limits.{local_limit, set_limit, instruction_limit}
 use Rattle.filter_code.specs.Instruction.{opcode}
 use Rattle.filter_code.specs.CodeView.{CodeView}
 use Rattle.code_file.specs.Fields.{FieldKind, width, number, mark_bytes, is_good, is_prefix, form_of, forms}
-use Rattle.code_file.specs.Fields.FieldKind.{Mark, Locals, Sets, Patterns, Pattern, Instructions, Opcode, WordOperand, TruthOperand, PrefixOperand, NameOperand, BitsOperand, DistanceOperand}
-use Rattle.code_file.specs.Spelling.{Field, field, mark_byte, prefix_bytes, pattern, counted, set, operand, instruction, fields, IsPattern, IsSet, IsInstruction, IsProgram}
+use Rattle.code_file.specs.Fields.FieldKind.{Mark, Locals, Sets, Patterns, Pattern, Instructions, Opcode, WordOperand, TruthOperand, PrefixOperand, NameOperand, BitsOperand, SkipOperand}
+use Rattle.code_file.specs.Spelling.{Field, field, mark_byte, prefix_bytes, pattern, counted, set, operand, instruction, fields, IsPattern, IsSet, IsInstruction, IsCode}
 use Rattle.code_file.specs.Reading.{Format, ◌>>=◌, a_number, prefix_of, a_pattern, a_count_of, a_set, an_operand, an_instruction, a_file}
 use Rattle.code_file.specs.Reading.Format.{Done}
 use Rattle.code_file.proofs.Bytes.{GivesBytesBack, bytes_again_1, bytes_again_2, bytes_again_4}
@@ -107,8 +107,8 @@ put_instruction (instr.Mask n) h =
     let good : leb (number BitsOperand (big_bytes 1 n)) 32 ≡ true = le-leb _ _ (omega (arith, h, number_of_field BitsOperand n fits)) in
     (refl, refl, refl, (refl, refl, good, (refl, ap (λ (k : ℕ). instr.Mask k) (number_of_field BitsOperand n fits))))
 put_instruction (instr.Member i) h = (refl, refl, refl, (refl, refl, refl, (refl, ap (λ (k : ℕ). instr.Member k) (number_of_field NameOperand i h))))
-put_instruction (instr.Jump k) h = (refl, refl, refl, (refl, refl, refl, (refl, ap (λ (n : ℕ). instr.Jump n) (number_of_field DistanceOperand k h))))
-put_instruction (instr.JumpIfNot k) h = (refl, refl, refl, (refl, refl, refl, (refl, ap (λ (n : ℕ). instr.JumpIfNot n) (number_of_field DistanceOperand k h))))
+put_instruction (instr.Jump k) h = (refl, refl, refl, (refl, refl, refl, (refl, ap (λ (n : ℕ). instr.Jump n) (number_of_field SkipOperand k h))))
+put_instruction (instr.JumpIfNot k) h = (refl, refl, refl, (refl, refl, refl, (refl, ap (λ (n : ℕ). instr.JumpIfNot n) (number_of_field SkipOperand k h))))
 put_instruction i h = (refl, refl, refl, (refl, refl))
 
 -- an operand that was read stands in the spelling of what it made
@@ -157,8 +157,8 @@ take_operand (instr.Load any) fs i b h = number_operand NameOperand (instr.Load 
 take_operand (instr.Store any) fs i b h = number_operand NameOperand (instr.Store any) (λ n. instr.Store n) bytes_again_1 (λ n fits good. record { parts = refl; same = refl; fits = fits }) fs i b h
 take_operand (instr.Mask any) fs i b h = number_operand BitsOperand (instr.Mask any) (λ n. instr.Mask n) bytes_again_1 (bits_operand any) fs i b h
 take_operand (instr.Member any) fs i b h = number_operand NameOperand (instr.Member any) (λ n. instr.Member n) bytes_again_1 (λ n fits good. record { parts = refl; same = refl; fits = fits }) fs i b h
-take_operand (instr.Jump any) fs i b h = number_operand DistanceOperand (instr.Jump any) (λ n. instr.Jump n) bytes_again_2 (λ n fits good. record { parts = refl; same = refl; fits = fits }) fs i b h
-take_operand (instr.JumpIfNot any) fs i b h = number_operand DistanceOperand (instr.JumpIfNot any) (λ n. instr.JumpIfNot n) bytes_again_2 (λ n fits good. record { parts = refl; same = refl; fits = fits }) fs i b h
+take_operand (instr.Jump any) fs i b h = number_operand SkipOperand (instr.Jump any) (λ n. instr.Jump n) bytes_again_2 (λ n fits good. record { parts = refl; same = refl; fits = fits }) fs i b h
+take_operand (instr.JumpIfNot any) fs i b h = number_operand SkipOperand (instr.JumpIfNot any) (λ n. instr.JumpIfNot n) bytes_again_2 (λ n fits good. record { parts = refl; same = refl; fits = fits }) fs i b h
 take_operand form fs i b h = subst (λ (j : Instr). IsOperandOf form j fs) h.1 (record { parts = h.0; same = refl; fits = tt })
 
 take_instruction : (fs : List Field) (i : Instr) → AreBytes fs → Follows an_instruction fs i → (fs ≡ instruction i) × IsInstruction i
@@ -202,7 +202,7 @@ abbrev from_sets : ℕ → Format CodeView
 from_sets locals = a_count_of Sets a_set >>= from_instructions locals
 
 -- the fields of a code follow the format
-pub put_file : (code : CodeView) → IsProgram code → Follows a_file (fields code) code
+pub put_file : (code : CodeView) → IsCode code → Follows a_file (fields code) code
 unfolding a_file
 put_file code h =
     let fits : code.locals < 256 = let limit = h.locals in omega arith in
@@ -261,7 +261,7 @@ take_sets locals fs code b h =
     record { parts = parts; is = (rest.is.0, subst (λ (sets : List (List PrefixPattern)). length sets ≤ set_limit) same all.within_limit, subst (λ (sets : List (List PrefixPattern)). AllByRecursion IsSet sets) same all.each, rest.is.2, rest.is.3) }
 
 take_locals : (fs : List Field) (code : CodeView) → AreBytes fs → Follows (a_number Locals >>= from_sets) fs code
-    → IsFrom (λ c. field Locals c.locals ∷ counted Sets set c.sets ++ counted Instructions instruction c.instrs) IsProgram fs code
+    → IsFrom (λ c. field Locals c.locals ∷ counted Sets set c.sets ++ counted Instructions instruction c.instrs) IsCode fs code
 take_locals fs code b h =
     let n = take_number Locals from_sets fs code bytes_again_1 b h in
     let rest = take_sets n.value n.others code n.are_bytes n.follows in
@@ -277,7 +277,7 @@ in_front : (fs a b c d body : List Field) → fs ≡ mark_byte 0 ∷ a → a ≡
 in_front fs a b c d body p q r s t = rw (p, q, r, s, t) refl
 
 -- fields that follow the format are those of the code that they make
-pub take_file : (fs : List Field) (code : CodeView) → AreBytes fs → Follows a_file fs code → (fs ≡ fields code) × IsProgram code
+pub take_file : (fs : List Field) (code : CodeView) → AreBytes fs → Follows a_file fs code → (fs ≡ fields code) × IsCode code
 unfolding a_file
 take_file fs code b h =
     let behind_mark = a_number Locals >>= from_sets in

@@ -6,7 +6,7 @@ use Rattle.code_file.specs.declared.fault.FileFault.{FileFault}
 use Rattle.code_file.specs.declared.fault.FileFault.TheVariants as fault
 use Rattle.code_file.proofs.Bytes.{IsBytes-drop, IsBytes-take, one_byte, zeros_are_bytes}
 use Rattle.code_file.specs.Fields.{FieldKind, width, is_good, fault_of, mark_bytes, form_of}
-use Rattle.code_file.specs.Fields.FieldKind.{Mark, Locals, Sets, Patterns, Pattern, Instructions, Opcode, WordOperand, TruthOperand, PrefixOperand, NameOperand, BitsOperand, DistanceOperand}
+use Rattle.code_file.specs.Fields.FieldKind.{Mark, Locals, Sets, Patterns, Pattern, Instructions, Opcode, WordOperand, TruthOperand, PrefixOperand, NameOperand, BitsOperand, SkipOperand}
 use Rattle.prefix_patterns.specs.Bits.{bits, number}
 use Rattle.code_file.specs.Spelling.{Field, bytes_of}
 use Rattle.code_file.specs.Fields.{IsBytes}
@@ -184,7 +184,7 @@ good_example TruthOperand = 0 ∷ []
 good_example PrefixOperand = 0 ∷ 0 ∷ 0 ∷ 0 ∷ 0 ∷ []
 good_example NameOperand = 0 ∷ []
 good_example BitsOperand = 0 ∷ []
-good_example DistanceOperand = 0 ∷ 0 ∷ []
+good_example SkipOperand = 0 ∷ 0 ∷ []
 
 mark_is_bytes : IsBytes mark_bytes
 mark_is_bytes zero = lit< tt
@@ -212,7 +212,7 @@ example_is_good TruthOperand = record { len = refl; good = refl; are_bytes = zer
 example_is_good PrefixOperand = record { len = refl; good = refl; are_bytes = zeros_are_bytes 5 }
 example_is_good NameOperand = record { len = refl; good = refl; are_bytes = zeros_are_bytes 1 }
 example_is_good BitsOperand = record { len = refl; good = refl; are_bytes = zeros_are_bytes 1 }
-example_is_good DistanceOperand = record { len = refl; good = refl; are_bytes = zeros_are_bytes 2 }
+example_is_good SkipOperand = record { len = refl; good = refl; are_bytes = zeros_are_bytes 2 }
 
 pub record IsFollowed {A : Type 0} (s : Format A) : Type 0 where
   pub fields : List Field

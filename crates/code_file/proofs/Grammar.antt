@@ -4,7 +4,7 @@ use Rattle.filter_code.specs.CodeView.{CodeView}
 use Rattle.code_file.specs.declared.fault.FileFault.{FileFault}
 use Rattle.code_file.specs.declared.fault.FileFault.TheVariants as fault
 use Rattle.code_file.specs.Fields.{fault_of}
-use Rattle.code_file.specs.Spelling.{Field, bytes_of, fields, spelling, IsProgram}
+use Rattle.code_file.specs.Spelling.{Field, bytes_of, fields, spelling, IsCode}
 use Rattle.code_file.specs.Fault.{IsReadUpTo, IsFault}
 use Rattle.code_file.specs.Fields.{IsBytes}
 use Rattle.code_file.specs.Reading.{Rest, a_file, read, whole, file_of}
@@ -12,12 +12,12 @@ use Rattle.code_file.proofs.Formats.{Follows, rest_at, from_start, read_again, w
 use Rattle.code_file.proofs.Files.{put_file, take_file}
 
 -- the file of a code is read
-pub file_of_spelling : (code : CodeView) → IsProgram code → file_of (spelling code) ≡ Ok code
+pub file_of_spelling : (code : CodeView) → IsCode code → file_of (spelling code) ≡ Ok code
 unfolding file_of
 file_of_spelling code h = whole_again a_file (fields code) code (put_file code h)
 
 -- what was read is the file of the code
-pub spelling_of_file : (bytes : List ℕ) (code : CodeView) → IsBytes bytes → file_of bytes ≡ Ok code → IsProgram code × (bytes ≡ spelling code)
+pub spelling_of_file : (bytes : List ℕ) (code : CodeView) → IsBytes bytes → file_of bytes ≡ Ok code → IsCode code × (bytes ≡ spelling code)
 unfolding file_of
 spelling_of_file bytes code h e =
     let all = whole_found a_file bytes code h e in
@@ -26,7 +26,7 @@ spelling_of_file bytes code h e =
 
 -- where a code begins with some fields, these and the others follow the format
 follows_up_to : (bytes : List ℕ) (front : List Field) (next : Field) (rest : List ℕ) (up_to : IsReadUpTo bytes front next rest) → Follows a_file (front ++ next ∷ up_to.others) up_to.code
-follows_up_to bytes front next rest up_to = subst (λ (fs : List Field). Follows a_file fs up_to.code) up_to.in_order (put_file up_to.code up_to.is_program)
+follows_up_to bytes front next rest up_to = subst (λ (fs : List Field). Follows a_file fs up_to.code) up_to.in_order (put_file up_to.code up_to.is_code)
 
 -- the fault of bytes is met
 pub file_of_fault : (bytes : List ℕ) (found : FileFault) → IsFault bytes found → file_of bytes ≡ Err found
@@ -40,14 +40,14 @@ file_of_fault bytes found (inr (inl bad)) =
     let met = whole_bad a_file bad.front bad.next up_to.others up_to.code bad.rest (follows_up_to bytes bad.front bad.next bad.rest up_to) bad.whole bad.bad in
     ap (λ (b : List ℕ). whole (read a_file (from_start b))) up_to.parts ∙ met ∙ ap (λ (f : FileFault). Err f) (sym bad.fault)
 file_of_fault bytes found (inr (inr long)) =
-    let met = whole_long a_file (fields long.code) long.code long.next long.others (put_file long.code long.is_program) in
+    let met = whole_long a_file (fields long.code) long.code long.next long.others (put_file long.code long.is_code) in
     ap (λ (b : List ℕ). whole (read a_file (from_start b))) long.parts ∙ met ∙ ap (λ (f : FileFault). Err f) (sym long.fault)
 
 -- the fault that is met is that of the bytes
 stopped_is_fault : (bytes : List ℕ) (found : FileFault) → Stopped a_file (from_start bytes) found → IsFault bytes found
 stopped_is_fault bytes found stopped =
     let is = take_file (stopped.front ++ stopped.next ∷ stopped.others) stopped.made stopped.fields_are_bytes stopped.follows in
-    let up_to : IsReadUpTo bytes stopped.front stopped.next stopped.tail = record { code = stopped.made; is_program = is.1; others = stopped.others; in_order = sym is.0; parts = stopped.parts } in
+    let up_to : IsReadUpTo bytes stopped.front stopped.next stopped.tail = record { code = stopped.made; is_code = is.1; others = stopped.others; in_order = sym is.0; parts = stopped.parts } in
     let end : 0 + length bytes ≡ length bytes = omega arith in
     let place : 0 + length (bytes_of stopped.front) ≡ length (bytes_of stopped.front) = omega arith in
     elim stopped.why [
@@ -60,7 +60,7 @@ long_is_fault bytes found long =
     let is = take_file long.fields long.made long.fields_are_bytes long.follows in
     inr (inr (record {
       code = long.made;
-      is_program = is.1;
+      is_code = is.1;
       next = long.next;
       others = long.others;
       parts = long.parts ∙ ap (λ (fs : List Field). bytes_of fs ++ long.next ∷ long.others) is.0;
@@ -83,7 +83,7 @@ one_fault bytes a b p q =
     let also = file_of_fault bytes b q in
     cc
 
-pub no_fault : (code : CodeView) (found : FileFault) → IsProgram code → IsFault (spelling code) found → ⊥
+pub no_fault : (code : CodeView) (found : FileFault) → IsCode code → IsFault (spelling code) found → ⊥
 no_fault code found h p =
     let read = file_of_spelling code h in
     let met = file_of_fault (spelling code) found p in
@@ -99,20 +99,20 @@ same_found {A} {B} r x y t u p q =
     (ap (λ (p : A × B). p.0) both, ap (λ (p : A × B). p.1) both)
 
 -- no file begins another, and each is that of one code
-pub one_file : (a b : CodeView) (x y : List ℕ) → IsProgram a → IsProgram b → spelling a ++ x ≡ spelling b ++ y → (a ≡ b) × (x ≡ y)
+pub one_file : (a b : CodeView) (x y : List ℕ) → IsCode a → IsCode b → spelling a ++ x ≡ spelling b ++ y → (a ≡ b) × (x ≡ y)
 one_file a b x y p q e =
     let left = read_again a_file (fields a) a 0 x (put_file a p) in
     let right = ap (λ (bytes : List ℕ). read a_file (from_start bytes)) e ∙ read_again a_file (fields b) b 0 y (put_file b q) in
     let same = same_found (read a_file (from_start (spelling a ++ x))) a b (rest_at (0 + length (spelling a)) x) (rest_at (0 + length (spelling b)) y) left right in
     (same.0, ap (λ (r : Rest). r.bytes) same.1)
 
-pub exact_code : (bytes : List ℕ) (code : CodeView) → IsBytes bytes → (file_of bytes ≡ Ok code) ↔ (IsProgram code × (bytes ≡ spelling code))
+pub exact_code : (bytes : List ℕ) (code : CodeView) → IsBytes bytes → (file_of bytes ≡ Ok code) ↔ (IsCode code × (bytes ≡ spelling code))
 exact_code bytes code h = (spelling_of_file bytes code h, λ is. ap file_of is.1 ∙ file_of_spelling code is.0)
 
 pub exact_fault : (bytes : List ℕ) (found : FileFault) → IsBytes bytes → (file_of bytes ≡ Err found) ↔ IsFault bytes found
 exact_fault bytes found h = (fault_of_file bytes found h, file_of_fault bytes found)
 
-pub more_follows : (code : CodeView) (next : ℕ) (others : List ℕ) → IsProgram code → file_of (spelling code ++ next ∷ others) ≡ Err (fault.BytesAfterEnd (length (spelling code)))
+pub more_follows : (code : CodeView) (next : ℕ) (others : List ℕ) → IsCode code → file_of (spelling code ++ next ∷ others) ≡ Err (fault.BytesAfterEnd (length (spelling code)))
 more_follows code next others h =
     file_of_fault (spelling code ++ next ∷ others) (fault.BytesAfterEnd (length (spelling code)))
-    (inr (inr (record { code = code; is_program = h; next = next; others = others; parts = refl; fault = refl })))
+    (inr (inr (record { code = code; is_code = h; next = next; others = others; parts = refl; fault = refl })))

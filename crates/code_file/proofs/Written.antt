@@ -10,7 +10,7 @@ use Rattle.prefix_patterns.specs.Matching.{pattern_limit}
 use Rattle.prefix_patterns.specs.Matching.{PrefixPattern}
 use Rattle.filter_code.specs.Limits.{local_limit, set_limit, instruction_limit}
 use Rattle.filter_code.specs.CodeView.{CodeView}
-use Rattle.code_file.specs.Spelling.{Field, bytes_of, pattern, set, counted, instruction, spelling, IsPattern, IsSet, IsInstruction, IsProgram}
+use Rattle.code_file.specs.Spelling.{Field, bytes_of, pattern, set, counted, instruction, spelling, IsPattern, IsSet, IsInstruction, IsCode}
 use Rattle.code_file.specs.Fields.FieldKind.{Instructions}
 
 pub bytes_of-append : (fs gs : List Field) → bytes_of (fs ++ gs) ≡ bytes_of fs ++ bytes_of gs
@@ -81,8 +81,8 @@ all_grown P xs i x lt is here so_far k d h =
     ]
 
 -- what was read of the parts makes it a code that has a file
-pub is_program : (code : CodeView) → code.locals ≤ local_limit → length code.sets ≤ set_limit → length code.instrs ≤ instruction_limit → All IsSet code.sets → All IsInstruction code.instrs → IsProgram code
-is_program code locals sets instrs each_set each_instr =
+pub is_code : (code : CodeView) → code.locals ≤ local_limit → length code.sets ≤ set_limit → length code.instrs ≤ instruction_limit → All IsSet code.sets → All IsInstruction code.instrs → IsCode code
+is_code code locals sets instrs each_set each_instr =
     record { locals = locals; sets = sets; each_set = recursion_from_All IsSet code.sets each_set; instrs = instrs; each_instr = recursion_from_All IsInstruction code.instrs each_instr }
 
 pub is_set : (patterns : List PrefixPattern) → length patterns ≤ pattern_limit → All IsPattern patterns → IsSet patterns

@@ -11,7 +11,7 @@ fault_code (fault.UnknownOpcode at) = codes "C3"
 fault_code (fault.BadOperand at) = codes "C4"
 fault_code (fault.OverLimit at) = codes "C5"
 fault_code (fault.BytesAfterEnd at) = codes "C6"
-fault_code fault.OutOfMemory = codes "C7"
+fault_code fault.Memory = codes "C7"
 
 -- the place, and 0 where there is none
 abbrev pub fault_place : FileFault → ℕ
@@ -21,4 +21,4 @@ fault_place (fault.UnknownOpcode at) = at
 fault_place (fault.BadOperand at) = at
 fault_place (fault.OverLimit at) = at
 fault_place (fault.BytesAfterEnd at) = at
-fault_place fault.OutOfMemory = 0
+fault_place fault.Memory = 0

@@ -4,13 +4,13 @@ use Rattle.filter_code.specs.CodeView.{CodeView}
 use Rattle.code_file.specs.declared.fault.FileFault.{FileFault}
 use Rattle.code_file.specs.declared.fault.FileFault.TheVariants as fault
 use Rattle.code_file.specs.Fields.{width, is_good, fault_of}
-use Rattle.code_file.specs.Spelling.{Field, fields, bytes_of, spelling, IsProgram}
+use Rattle.code_file.specs.Spelling.{Field, fields, bytes_of, spelling, IsCode}
 
 -- The bytes begin with the first fields of some code, all of them good. A field of the same kind as `next` comes
 -- behind them in that code, and `rest` is what stands in the bytes for it and for all that follows.
 pub record IsReadUpTo (bytes : List ℕ) (front : List Field) (next : Field) (rest : List ℕ) : Type 0 where
   pub code : CodeView
-  pub is_program : IsProgram code
+  pub is_code : IsCode code
   pub others : List Field
   pub in_order : fields code ≡ front ++ next ∷ others
   pub parts : bytes ≡ bytes_of front ++ rest
@@ -37,7 +37,7 @@ pub record IsBad (bytes : List ℕ) (found : FileFault) : Type 0 where
 -- more bytes follow a whole file: the fault stands at the first of them
 pub record IsLong (bytes : List ℕ) (found : FileFault) : Type 0 where
   pub code : CodeView
-  pub is_program : IsProgram code
+  pub is_code : IsCode code
   pub next : ℕ
   pub others : List ℕ
   pub parts : bytes ≡ spelling code ++ next ∷ others

@@ -30,7 +30,7 @@ pub data FieldKind : Type 0 where
   PrefixOperand : FieldKind
   NameOperand : FieldKind
   BitsOperand : FieldKind
-  DistanceOperand : FieldKind
+  SkipOperand : FieldKind
 
 -- how many bytes a field has
 abbrev pub width : FieldKind → ℕ
@@ -46,7 +46,7 @@ width TruthOperand = 1
 width PrefixOperand = 5
 width NameOperand = 1
 width BitsOperand = 1
-width DistanceOperand = 2
+width SkipOperand = 2
 
 -- the number in the bytes of a field, the highest byte first
 abbrev pub number : FieldKind → List ℕ → ℕ
@@ -93,7 +93,7 @@ is_good TruthOperand bytes = nat_le (number TruthOperand bytes) 1
 is_good PrefixOperand bytes = is_prefix bytes
 is_good NameOperand bytes = true
 is_good BitsOperand bytes = nat_le (number BitsOperand bytes) 32
-is_good DistanceOperand bytes = true
+is_good SkipOperand bytes = true
 
 -- the fault of a whole field with other bytes, by the place of its first byte
 abbrev pub fault_of : FieldKind → ℕ → FileFault
@@ -109,4 +109,4 @@ fault_of TruthOperand at = fault.BadOperand at
 fault_of PrefixOperand at = fault.BadOperand at
 fault_of NameOperand at = fault.BadOperand at
 fault_of BitsOperand at = fault.BadOperand at
-fault_of DistanceOperand at = fault.BadOperand at
+fault_of SkipOperand at = fault.BadOperand at

@@ -9,7 +9,7 @@ use Rattle.filter_code.specs.CodeView.{CodeView}
 use Rattle.code_file.specs.declared.fault.FileFault.{FileFault}
 use Rattle.code_file.specs.declared.fault.FileFault.TheVariants as fault
 use Rattle.code_file.specs.Fields.{FieldKind, width, number, is_good, fault_of, form_of}
-use Rattle.code_file.specs.Fields.FieldKind.{Mark, Locals, Sets, Patterns, Pattern, Instructions, Opcode, WordOperand, TruthOperand, PrefixOperand, NameOperand, BitsOperand, DistanceOperand}
+use Rattle.code_file.specs.Fields.FieldKind.{Mark, Locals, Sets, Patterns, Pattern, Instructions, Opcode, WordOperand, TruthOperand, PrefixOperand, NameOperand, BitsOperand, SkipOperand}
 
 -- which fields are to be read, each of which may depend on the bytes of those before, and what they make
 pub data Format (A : Type 0) : Type 0 where
@@ -81,10 +81,10 @@ an_operand (instr.Member any) = do
   i ← a_number NameOperand
   Done (instr.Member i)
 an_operand (instr.Jump any) = do
-  k ← a_number DistanceOperand
+  k ← a_number SkipOperand
   Done (instr.Jump k)
 an_operand (instr.JumpIfNot any) = do
-  k ← a_number DistanceOperand
+  k ← a_number SkipOperand
   Done (instr.JumpIfNot k)
 an_operand form = Done form
 
@@ -152,4 +152,4 @@ Reads view format old new (Err found) = read format old ≡ Err found
 -- The same of a reader that needs memory, which may be refused.
 abbrev pub ReadsInto : {A X : Type 0} → (X → A) → Format A → Rest → Rest → Result X FileFault → Type 0
 ReadsInto view format old new (Ok x) = read format old ≡ Ok (view x, new)
-ReadsInto view format old new (Err found) = (found ≡ fault.OutOfMemory) ⊎ (read format old ≡ Err found)
+ReadsInto view format old new (Err found) = (found ≡ fault.Memory) ⊎ (read format old ≡ Err found)

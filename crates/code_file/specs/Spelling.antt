@@ -11,7 +11,7 @@ use Rattle.filter_code.specs.Limits.{local_limit, set_limit, instruction_limit}
 use Rattle.filter_code.specs.Instruction.{opcode}
 use Rattle.filter_code.specs.CodeView.{CodeView}
 use Rattle.code_file.specs.Fields.{FieldKind, width, mark_bytes}
-use Rattle.code_file.specs.Fields.FieldKind.{Mark, Locals, Sets, Patterns, Pattern, Instructions, Opcode, WordOperand, TruthOperand, PrefixOperand, NameOperand, BitsOperand, DistanceOperand}
+use Rattle.code_file.specs.Fields.FieldKind.{Mark, Locals, Sets, Patterns, Pattern, Instructions, Opcode, WordOperand, TruthOperand, PrefixOperand, NameOperand, BitsOperand, SkipOperand}
 
 -- a field with its bytes
 pub record Field : Type 0 where
@@ -57,8 +57,8 @@ operand (instr.Load i) = field NameOperand i ∷ []
 operand (instr.Store i) = field NameOperand i ∷ []
 operand (instr.Mask n) = field BitsOperand n ∷ []
 operand (instr.Member i) = field NameOperand i ∷ []
-operand (instr.Jump k) = field DistanceOperand k ∷ []
-operand (instr.JumpIfNot k) = field DistanceOperand k ∷ []
+operand (instr.Jump k) = field SkipOperand k ∷ []
+operand (instr.JumpIfNot k) = field SkipOperand k ∷ []
 operand _ = []
 
 -- an instruction: its opcode, and behind it the operand
@@ -99,7 +99,7 @@ IsInstruction (instr.JumpIfNot k) = k < 2 ^ 16
 IsInstruction _ = Unit {0}
 
 -- a code that has a file
-pub record IsProgram (code : CodeView) : Type 0 where
+pub record IsCode (code : CodeView) : Type 0 where
   pub locals : code.locals ≤ local_limit
   pub sets : length code.sets ≤ set_limit
   pub each_set : AllByRecursion IsSet code.sets

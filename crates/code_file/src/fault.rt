@@ -1,7 +1,7 @@
 //! Why bytes are no code file.
 
 ghost use Rattle.std.specs.Prelude.{◌≡◌};
-ghost use Rattle.code_file.specs.declared.fault.FileFault.TheVariants.{OutOfMemory};
+ghost use Rattle.code_file.specs.declared.fault.FileFault.TheVariants.{Memory};
 
 use std::alloc::{AllocError, AllocFailed};
 use thiserror::Error;
@@ -31,7 +31,7 @@ pub enum FileFault {
     BytesAfterEnd(usize),
     /// C7: the memory for the code was refused.
     #[error("out of memory")]
-    OutOfMemory,
+    Memory,
 }
 
 impl FileFault {
@@ -48,7 +48,7 @@ impl FileFault {
             FileFault::BadOperand(_) => "C4",
             FileFault::OverLimit(_) => "C5",
             FileFault::BytesAfterEnd(_) => "C6",
-            FileFault::OutOfMemory => "C7",
+            FileFault::Memory => "C7",
         }
     }
 
@@ -63,23 +63,23 @@ impl FileFault {
             | FileFault::BadOperand(at)
             | FileFault::OverLimit(at)
             | FileFault::BytesAfterEnd(at) => at,
-            FileFault::OutOfMemory => 0,
+            FileFault::Memory => 0,
         }
     }
 }
 
 impl From<AllocError> for FileFault {
-    ghost from_gives = { λ _ e. e ≡ OutOfMemory };
+    ghost from_gives = { λ _ e. e ≡ Memory };
 
     fn from(_e: AllocError) -> FileFault {
-        FileFault::OutOfMemory
+        FileFault::Memory
     }
 }
 
 impl<T: Drop> From<AllocFailed<T>> for FileFault {
-    ghost from_gives = { λ _ e. e ≡ OutOfMemory };
+    ghost from_gives = { λ _ e. e ≡ Memory };
 
     fn from(_e: AllocFailed<T>) -> FileFault {
-        FileFault::OutOfMemory
+        FileFault::Memory
     }
 }

@@ -5,31 +5,31 @@ ghost use Rattle.filter_code.specs.CodeView.{CodeView};
 ghost use Rattle.code_file.specs.declared.fault.FileFault.{FileFault as Fault};
 ghost use Rattle.code_file.specs.declared.fault.FileFault.TheVariants.{BytesAfterEnd};
 ghost use Rattle.code_file.specs.Fields.{IsBytes};
-ghost use Rattle.code_file.specs.Spelling.{spelling, IsProgram};
+ghost use Rattle.code_file.specs.Spelling.{spelling, IsCode};
 ghost use Rattle.code_file.specs.Fault.{IsFault};
 ghost use Rattle.code_file.specs.Reading.{file_of};
 
 /// Bytes have one fault at most, at one place, and the file of a code has none.
 pub fn one_fault()
     ensures one { (bytes : List ℕ) (a b : Fault) → IsFault bytes a → IsFault bytes b → a ≡ b }
-    ensures none { (code : CodeView) (found : Fault) → IsProgram code → IsFault (spelling code) found → ⊥ }
+    ensures none { (code : CodeView) (found : Fault) → IsCode code → IsFault (spelling code) found → ⊥ }
 {}
 
 /// No file begins another, and each is the file of one code.
 pub fn one_file()
-    ensures { (a b : CodeView) (x y : List ℕ) → IsProgram a → IsProgram b → spelling a ++ x ≡ spelling b ++ y → (a ≡ b) × (x ≡ y) }
+    ensures { (a b : CodeView) (x y : List ℕ) → IsCode a → IsCode b → spelling a ++ x ≡ spelling b ++ y → (a ≡ b) × (x ≡ y) }
 {}
 
 /// Reading from the left gives the code whose file the bytes are, or else the fault that they have.
 pub fn reading_is_exact()
     ensures code { (bytes : List ℕ) (code : CodeView) → IsBytes bytes →
-        (file_of bytes ≡ Ok code) ↔ (IsProgram code × (bytes ≡ spelling code)) }
+        (file_of bytes ≡ Ok code) ↔ (IsCode code × (bytes ≡ spelling code)) }
     ensures fault { (bytes : List ℕ) (found : Fault) → IsBytes bytes → (file_of bytes ≡ Err found) ↔ IsFault bytes found }
 {}
 
 /// The file of a code is read as that code, and what follows it is a fault at its first byte.
 pub fn written_is_read()
-    ensures again { (code : CodeView) → IsProgram code → file_of (spelling code) ≡ Ok code }
-    ensures more { (code : CodeView) (next : ℕ) (others : List ℕ) → IsProgram code →
+    ensures again { (code : CodeView) → IsCode code → file_of (spelling code) ≡ Ok code }
+    ensures more { (code : CodeView) (next : ℕ) (others : List ℕ) → IsCode code →
         file_of (spelling code ++ next ∷ others) ≡ Err (BytesAfterEnd (length (spelling code))) }
 {}

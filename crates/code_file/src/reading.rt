@@ -3,7 +3,7 @@
 ghost use Rattle.std.specs.Prelude.{◌≡◌, ◌≤◌, ◌⊎◌, length, All, Ok, Err, IfOk, IfErr, MatchResult};
 ghost use Rattle.filter_code.specs.CodeView.{CodeView, HasMask};
 ghost use Rattle.code_file.specs.Fields.FieldKind.{Sets, Instructions};
-ghost use Rattle.code_file.specs.Spelling.{spelling, IsProgram};
+ghost use Rattle.code_file.specs.Spelling.{spelling, IsCode};
 ghost use Rattle.code_file.specs.Fault.{IsFault};
 ghost use Rattle.code_file.specs.Reading.{a_pattern, a_set, an_instruction, a_count_of, times, file_of, ReadsInto};
 
@@ -34,7 +34,7 @@ fn set(alloc: Global, reader: &mut Reader<'_>) -> Result<PatternSet, FileFault>
     let patterns = patterns(alloc, reader, count)?;
     match PatternSet::build(alloc, &patterns) {
         Ok(set) => Ok(set),
-        Err(_) => Err(FileFault::OutOfMemory),
+        Err(_) => Err(FileFault::Memory),
     }
 }
 
@@ -68,7 +68,7 @@ fn instructions(alloc: Global, reader: &mut Reader<'_>, count: u16) -> Result<Ve
 /// The code of a whole file.
 fn code_of(alloc: Global, bytes: &[u8]) -> Result<Code, FileFault>
     ensures { MatchResult result (λ code. file_of bytes.now ≡ Ok code)
-        (λ fault. (fault ≡ FileFault.OutOfMemory) ⊎ (file_of bytes.now ≡ Err fault)) }
+        (λ fault. (fault ≡ FileFault.Memory) ⊎ (file_of bytes.now ≡ Err fault)) }
 {
     let mut reader = Reader::new(bytes);
     let locals = reader.header()?;
@@ -104,15 +104,15 @@ fn counted_instructions(alloc: Global, reader: &mut Reader<'_>) -> Result<Vec<In
 /// Otherwise the first fault from the left, or want of memory, which may come in place of a fault.
 pub fn read_code(alloc: Global, bytes: &[u8]) -> Result<Code, FileFault>
     // What is read is the code that is spelled so.
-    ensures found { IfOk result (λ code. IsProgram code × (bytes.now ≡ spelling code)) }
+    ensures found { IfOk result (λ code. IsCode code × (bytes.now ≡ spelling code)) }
     // What is spelled so is read, unless memory runs out.
-    ensures only { (code : CodeView) → IsProgram code → bytes.now ≡ spelling code →
-        MatchResult result (λ read. read ≡ code) (λ fault. fault ≡ FileFault.OutOfMemory) }
+    ensures only { (code : CodeView) → IsCode code → bytes.now ≡ spelling code →
+        MatchResult result (λ read. read ≡ code) (λ fault. fault ≡ FileFault.Memory) }
     // What is refused has the fault that is answered, unless memory ran out.
-    ensures refused { IfErr result (λ fault. (fault ≡ FileFault.OutOfMemory) ⊎ IsFault bytes.now fault) }
+    ensures refused { IfErr result (λ fault. (fault ≡ FileFault.Memory) ⊎ IsFault bytes.now fault) }
     // Code and fault as a function of the bytes.
     ensures exact { MatchResult result (λ code. file_of bytes.now ≡ Ok code)
-        (λ fault. (fault ≡ FileFault.OutOfMemory) ⊎ (file_of bytes.now ≡ Err fault)) }
+        (λ fault. (fault ≡ FileFault.Memory) ⊎ (file_of bytes.now ≡ Err fault)) }
 {
     code_of(alloc, bytes)
 }

@@ -3,7 +3,7 @@
 ghost use Rattle.std.specs.Prelude.{◌≡◌, ◌≤◌, ◌++◌, ◌∷◌, [], List, All, length, OnOk, IfOk, IfErr};
 ghost use Rattle.std.specs.List.{flat_map};
 ghost use Rattle.filter_code.specs.CodeView.{HasMask};
-ghost use Rattle.code_file.specs.Spelling.{bytes_of, prefix_bytes, pattern as pattern_field, set as set_fields, instruction, spelling, IsPattern, IsSet, IsInstruction, IsProgram};
+ghost use Rattle.code_file.specs.Spelling.{bytes_of, prefix_bytes, pattern as pattern_field, set as set_fields, instruction, spelling, IsPattern, IsSet, IsInstruction, IsCode};
 
 use crate::fault::FileFault;
 use crate::reader::MARK;
@@ -46,8 +46,8 @@ fn put_instruction(out: &mut Vec<u8>, instr: &Instr) -> Result<(), AllocError>
         Instr::Load(byte) | Instr::Store(byte) | Instr::Mask(byte) | Instr::Member(byte) => {
             out.push(*byte)?;
         }
-        Instr::Jump(distance) | Instr::JumpIfNot(distance) => {
-            out.extend_from_slice(&distance.to_be_bytes())?;
+        Instr::Jump(skipped) | Instr::JumpIfNot(skipped) => {
+            out.extend_from_slice(&skipped.to_be_bytes())?;
         }
         _ => {}
     }
@@ -98,8 +98,8 @@ fn put_instructions(out: &mut Vec<u8>, instrs: &[Instr]) -> Result<(), AllocErro
 /// The file of a code. There is one for each code; only memory can be wanting.
 pub fn write_code(alloc: Global, code: &Code) -> Result<Vec<u8>, FileFault>
     ensures written { IfOk result (λ bytes. bytes.items ≡ spelling code.now) }
-    ensures readable { OnOk result (IsProgram code.now) }
-    ensures refused { IfErr result (λ fault. fault ≡ FileFault.OutOfMemory) }
+    ensures readable { OnOk result (IsCode code.now) }
+    ensures refused { IfErr result (λ fault. fault ≡ FileFault.Memory) }
 {
     let sets = code.sets();
     let instrs = code.instrs();

@@ -233,7 +233,7 @@ fn the_texts(rt: HostRuntime) -> Result<(), Fail> {
             FileFault::BytesAfterEnd(9),
             "C6 9 the code ends before 9, and more bytes follow",
         ),
-        (FileFault::OutOfMemory, "C7 0 out of memory"),
+        (FileFault::Memory, "C7 0 out of memory"),
     ];
     for (fault, wanted) in rows {
         let shown = text(alloc, fault)?;

@@ -6,7 +6,7 @@ use line_protocol::{Reply, Service, next_word, trim_blanks};
 use prefix_patterns::{read_number, read_prefix};
 use std::alloc::{AllocError, Global};
 
-/// The number of nodes of the network whose routes are taken.
+/// The number of nodes of the domain whose routes are taken.
 pub const SIZE: u32 = 64;
 
 /// What was read: the code of the first line, and the routes behind it.
@@ -22,7 +22,7 @@ fn code_in(alloc: Global, line: &[u8]) -> Option<Code> {
     read_code(alloc, bytes.as_slice()).ok()
 }
 
-/// The route that a line has, if it is one of that network.
+/// The route that a line has, if it is one of that domain.
 fn route_in(line: &[u8]) -> Option<Route> {
     let (net, rest) = next_word(line)?;
     let (metric, rest) = next_word(rest)?;

@@ -1,7 +1,7 @@
 //! `filter_bench MACHINE ROUNDS`: takes routes through a filter's code again and again, for its time to be measured from outside.
 //!
 //! MACHINE is `verified`, the machine for verified code, or `checked`, the one that tests each step. Standard input is as for
-//! `ncroute eval`: a code file in hexadecimal, then routes. Those of a network of 64 nodes are taken, other lines are left out.
+//! `ncroute eval`: a code file in hexadecimal, then routes. Those of a domain of 64 nodes are taken, other lines are left out.
 //! It prints how many runs accept and how many do not, the sum of the metrics, and under `verified` the number of all steps.
 #![tactic(auto)]
 

@@ -10,7 +10,7 @@ use Rattle.filter_code.specs.RouteView.{RouteView}
 use Rattle.filter_code.specs.Machine.{after, outcome_of}
 use Rattle.filter_code.specs.CodeView.{CodeView}
 
--- the outcome of instructions on a metric, in a network of 8
+-- the outcome of instructions on a metric, in a domain of 8
 abbrev outcome_on : List Instr → ℕ → Outcome
 outcome_on instrs metric =
     let program : CodeView = record { locals = 0; sets = []; instrs = instrs } in

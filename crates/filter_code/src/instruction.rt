@@ -27,7 +27,7 @@ pub enum Instr {
     Metric,
     /// to int: the metric that the route was received with.
     Received,
-    /// int to none: the current metric becomes this number, or the network's size where that is less. It is a fault
+    /// int to none: the current metric becomes this number, or the domain's size where that is less. It is a fault
     /// to go below the metric received.
     SetMetric,
     /// int int to int: the sum modulo 2^32.
@@ -145,8 +145,8 @@ impl fmt::Display for Instr {
             Instr::Mask(bits) => write!(f, "MASK {bits}"),
             Instr::Within => write!(f, "WITHIN"),
             Instr::Member(set) => write!(f, "MEMBER {set}"),
-            Instr::Jump(passed) => write!(f, "JUMP {passed}"),
-            Instr::JumpIfNot(passed) => write!(f, "JUMPIFNOT {passed}"),
+            Instr::Jump(skipped) => write!(f, "JUMP {skipped}"),
+            Instr::JumpIfNot(skipped) => write!(f, "JUMPIFNOT {skipped}"),
             Instr::Accept => write!(f, "ACCEPT"),
             Instr::Reject => write!(f, "REJECT"),
         }

@@ -10,8 +10,8 @@ pub const INSTRUCTION_LIMIT: usize = 1024;
 /// How many values the stack may hold.
 pub const STACK_LIMIT: usize = 32;
 
-/// The smallest number of nodes that a network may have.
+/// The smallest number of nodes that a domain may have.
 pub const SMALLEST_SIZE: u32 = 2;
 
-/// The largest number of nodes that a network may have.
+/// The largest number of nodes that a domain may have.
 pub const LARGEST_SIZE: u32 = 64;

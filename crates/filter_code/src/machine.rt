@@ -280,9 +280,9 @@ fn carry_out(
         let before = config_of pc stack.old locals.old metric.old in
         let state = carry_out code.now route.now before (Some instr) in
         MatchResult result
-        (λ distance. state ≡ Going (config_of (pc + distance) stack.new locals.new metric.new))
+        (λ advance. state ≡ Going (config_of (pc + advance) stack.new locals.new metric.new))
         (λ stop. state ≡ Ended (stopped stop pc)) }
-    ensures on { IfOk result (λ distance. (0 < distance) × (distance ≤ 65536)) }
+    ensures on { IfOk result (λ advance. (0 < advance) × (advance ≤ 65536)) }
 {
     match instr {
         Instr::Int(number) => give(Value::Int(number), stack)?,
@@ -343,7 +343,7 @@ pub fn run_counted(code: &Code, route: &Route) -> Counted
     while let Some(instr) = instrs.get(pc) {
         steps += 1;
         match carry_out(*instr, code, route, &mut stack, &mut locals, &mut metric) {
-            Ok(distance) => pc += distance,
+            Ok(advance) => pc += advance,
             Err(stop) => {
                 return Counted {
                     outcome: stop.at(pc),

@@ -6,7 +6,7 @@ use prefix_patterns::Prefix;
 use std::marker::Model;
 
 /// A route as a filter is shown it: the prefix that it leads to, the metric that it was received with, and the
-/// number of nodes of the network, which is the metric of what cannot be reached.
+/// number of nodes of the domain, which is the metric of what cannot be reached.
 ///
 /// A contract sees a route as a `RouteView`.
 #[derive(Clone, Copy, Debug)]
@@ -56,7 +56,7 @@ impl Route {
         self.metric
     }
 
-    /// The number of nodes of the network.
+    /// The number of nodes of the domain.
     pub fn size(&self) -> u32
         ensures value { result ≡ self.now.size }
         ensures limits { IsWithinLimits self.now.metric self.now.size }

@@ -10,7 +10,7 @@ use Rattle.filter_code.specs.declared.instruction.Instr.TheVariants as instr
 use Rattle.code_file.proofs.Written.{bytes_of-append, bytes_of-flat_map}
 use Rattle.code_file.specs.Fields.{FieldKind, IsBytes, mark_bytes, width}
 use Rattle.code_file.specs.Fields.FieldKind.{Instructions, Locals, Mark, Patterns, Sets}
-use Rattle.code_file.specs.Spelling.{Field, IsInstruction, IsPattern, IsProgram, IsSet, bytes_of, counted, field, instruction, mark_byte, operand, pattern, prefix_bytes, set, spelling}
+use Rattle.code_file.specs.Spelling.{Field, IsInstruction, IsPattern, IsCode, IsSet, bytes_of, counted, field, instruction, mark_byte, operand, pattern, prefix_bytes, set, spelling}
 use Rattle.std.specs.Int.{byte_at, bytes_high_first as big_bytes}
 
 -- at most so many bytes
@@ -131,7 +131,7 @@ behind_mark n fs a =
     a_mark 0 (mark_byte 1 ∷ second) (a_mark 1 second (a_mark 2 third (a_mark 3 fs a)))
 
 -- a file has at most 465,032 bytes
-pub a_file : (code : CodeView) → IsProgram code → AreBytes 465032 (spelling code)
+pub a_file : (code : CodeView) → IsCode code → AreBytes 465032 (spelling code)
 a_file code h =
     let sets_limit = h.sets in
     let instrs_limit = h.instrs in

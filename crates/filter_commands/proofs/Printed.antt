@@ -11,7 +11,7 @@ use Rattle.hex.specs.Hex.{decode_of, encode_lower, encode_with, lower_digits}
 use Rattle.filter_code.specs.CodeView.{CodeView}
 use Rattle.filter_compiler.specs.Limits.{HasTooMany, IsTooLong}
 use Rattle.code_file.proofs.Grammar.{file_of_spelling}
-use Rattle.code_file.specs.Spelling.{IsProgram, spelling}
+use Rattle.code_file.specs.Spelling.{IsCode, spelling}
 use Rattle.filter_commands.proofs.FileBytes.{AreBytes, a_file}
 use Rattle.filter_commands.specs.Limits.{check_limit}
 use Rattle.filter_commands.specs.Check.{IsReport, IsReportBy, IsTranslationReport, Report, code_report, file_report, hexadecimal_report, is_white, printed, without_white_end}
@@ -46,7 +46,7 @@ trimmed bytes =
     ∙ take_all (length text) text (omega arith)
 
 -- what `check` prints of a code, read by `check --code`, has the report on that code
-pub printed_again : (size : ℕ) (program : CodeView) → IsProgram program → IsReport size true (printed program) (code_report size program)
+pub printed_again : (size : ℕ) (program : CodeView) → IsCode program → IsReport size true (printed program) (code_report size program)
 printed_again size program h =
     let bytes : AreBytes 465032 (spelling program) = a_file program h in
     let few = bytes.few in

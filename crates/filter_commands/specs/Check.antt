@@ -6,7 +6,7 @@ use Rattle.hex.specs.Hex.{decode_of, encode_lower}
 use Rattle.hex.specs.declared.error.FromHexError.{FromHexError}
 use Rattle.code_file.specs.Codes.{fault_code as file_fault_code, fault_place as file_fault_place}
 use Rattle.code_file.specs.Reading.{file_of}
-use Rattle.code_file.specs.Spelling.{IsProgram, spelling}
+use Rattle.code_file.specs.Spelling.{IsCode, spelling}
 use Rattle.code_file.specs.declared.fault.FileFault.{FileFault}
 use Rattle.filter_code.specs.CodeView.{CodeView}
 use Rattle.filter_compiler.specs.Codes.{fault_code as compile_fault_code}
@@ -92,7 +92,7 @@ abbrev pub IsTranslationReport : ℕ → CodeView → Report → Type 0
 IsTranslationReport size program report =
     (IsTooLong program × (report ≡ refused_as (compile_fault_code no_code.TooManyInstructions) 0))
     ⊎ (((IsTooLong program → ⊥) × HasTooMany program × (report ≡ refused_as (compile_fault_code no_code.TooManySets) 0))
-    ⊎ ((IsTooLong program → ⊥) × (HasTooMany program → ⊥) × IsProgram program × (report ≡ code_report size program)))
+    ⊎ ((IsTooLong program → ⊥) × (HasTooMany program → ⊥) × IsCode program × (report ≡ code_report size program)))
 
 -- the report on a filter: refused where its names and kinds do not fit. Where no line is a refusal, the code says of each
 -- route of a network of the size just what the filter says.

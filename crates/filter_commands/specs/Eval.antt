@@ -28,7 +28,7 @@ Line = ℕ × List ℕ
 
 -- a verdict as it is printed
 abbrev pub verdict : Outcome → List ℕ
-verdict (outcome.Accept distance) = codes "accept " ++ decimal distance ++ 10 ∷ []
+verdict (outcome.Accept metric) = codes "accept " ++ decimal metric ++ 10 ∷ []
 verdict outcome.Reject = codes "reject" ++ 10 ∷ []
 verdict (outcome.Fault kind at) = codes "fault " ++ fault_code kind ++ 32 ∷ decimal at ++ 10 ∷ []
 

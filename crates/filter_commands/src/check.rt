@@ -3,7 +3,7 @@ ghost use Rattle.std.specs.Prelude.{◌≡◌, ◌++◌, ◌∷◌, [], codes, I
 ghost use Rattle.std.specs.Io.{StartsWith};
 ghost use Rattle.std.specs.Io.KnownBytes.{Appends};
 ghost use Rattle.code_file.specs.Reading.{file_of};
-ghost use Rattle.code_file.specs.Spelling.{IsProgram};
+ghost use Rattle.code_file.specs.Spelling.{IsCode};
 ghost use Rattle.filter_compiler.specs.Translation.{code_of};
 ghost use Rattle.filter_parser.specs.SyntaxText.{view_filter};
 ghost use Rattle.filter_verifier.specs.Safe.{IsSafe};
@@ -57,7 +57,7 @@ fn line_of_bytes(alloc: Global, bytes: &[u8]) -> Result<Vec<u8>, AllocError>
 /// The line of a code: its file in hexadecimal.
 fn line_of_code(alloc: Global, code: &Code) -> Result<Vec<u8>, AllocError>
     ensures line { IfOk result (λ text. text.items ≡ code_line code.now) }
-    ensures readable { OnOk result (IsProgram code.now) }
+    ensures readable { OnOk result (IsCode code.now) }
 {
     match write_code(alloc, code) {
         Ok(bytes) => line_of_bytes(alloc, bytes.as_slice()),
@@ -81,7 +81,7 @@ fn push_verified(text: &mut Vec<u8>, verified: &Verified) -> Result<(), AllocErr
 /// Both lines on a code.
 fn check_code(alloc: Global, code: Code, size: u32) -> Result<Checked, AllocError>
     ensures report { IfOk result (λ c. report_of c ≡ code_report size code) }
-    ensures readable { OnOk result (IsProgram code) }
+    ensures readable { OnOk result (IsCode code) }
     ensures verified { IfOk result (λ c. c.refusals ≡ 0 → IsSafe code size) }
     ensures safe { IfOk result (λ c. IsOnSafeCode size (report_of c)) }
 {
@@ -106,7 +106,7 @@ fn check_bytes(alloc: Global, bytes: &[u8], size: u32) -> Result<Checked, AllocE
 {
     match read_code(alloc, bytes) {
         Ok(code) => check_code(alloc, code, size),
-        Err(FileFault::OutOfMemory) => Err(AllocError),
+        Err(FileFault::Memory) => Err(AllocError),
         Err(fault) => refuse(alloc, fault.code(), fault.at()),
     }
 }

@@ -32,7 +32,7 @@ fn read_file(alloc: Global, bytes: &[u8]) -> Result<Result<Code, CodeLineFault>,
 {
     match read_code(alloc, bytes) {
         Ok(code) => Ok(Ok(code)),
-        Err(FileFault::OutOfMemory) => Err(AllocError),
+        Err(FileFault::Memory) => Err(AllocError),
         Err(fault) => Ok(Err(CodeLineFault::File(fault))),
     }
 }

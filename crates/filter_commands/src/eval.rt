@@ -81,9 +81,9 @@ fn push_verdict(out: &mut Vec<u8>, outcome: Outcome) -> Result<(), AllocError>
     ensures err { OnErr result (StartsWith out.new.items out.old.items) }
 {
     match outcome {
-        Outcome::Accept(distance) => {
+        Outcome::Accept(metric) => {
             out.extend_from_slice(b"accept ")?;
-            push_decimal(out, u64::from(distance))?;
+            push_decimal(out, u64::from(metric))?;
         }
         Outcome::Reject => out.extend_from_slice(b"reject")?,
         Outcome::Fault(kind, at) => {

@@ -1,5 +1,5 @@
 //! Laws on what the commands write and rest on, each the contract of a function with an empty body.
-ghost use Rattle.code_file.specs.Spelling.{IsProgram};
+ghost use Rattle.code_file.specs.Spelling.{IsCode};
 ghost use Rattle.filter_code.specs.CodeView.{CodeView};
 ghost use Rattle.filter_compiler.specs.Limits.{HasTooMany, IsTooLong};
 ghost use Rattle.filter_compiler.specs.Same.{MeansTheSame};
@@ -13,7 +13,7 @@ ghost use Rattle.filter_commands.specs.Saying.{SaysTheSame};
 /// again has the same verdicts.
 pub fn printed_code_is_checked_alike()
     // Any code that has a file.
-    ensures codes { (size : ℕ) (program : CodeView) → IsProgram program → IsReport size true (printed program) (code_report size program) }
+    ensures codes { (size : ℕ) (program : CodeView) → IsCode program → IsReport size true (printed program) (code_report size program) }
     // The translation of a filter, where it is within the limits.
     ensures filters { (size : ℕ) (program : CodeView) (report : Report) → IsTranslationReport size program report
         → ¬ IsTooLong program → ¬ HasTooMany program → IsReport size true (printed program) report }

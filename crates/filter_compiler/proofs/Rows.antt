@@ -24,7 +24,7 @@ filter_of decls body = record { name = codes "f"; decls = decls; body = acts_of 
 abbrev without_sets : ℕ → List Instr → code.CodeView
 without_sets locals instrs = record { locals = locals; sets = []; instrs = instrs }
 
--- a route with a metric, in a network of this size, to a prefix of these bits
+-- a route with a metric, in a domain of this size, to a prefix of these bits
 abbrev route_of : List Bool → ℕ → ℕ → RouteView
 route_of net metric size = record { net = net; metric = metric; size = size }
 

@@ -10,7 +10,7 @@ use Rattle.filter_code.specs.declared.outcome.Outcome.{Outcome}
 use Rattle.filter_code.specs.declared.outcome.Outcome.TheVariants as outcome
 use Rattle.filter_code.specs.declared.value.Value.{Value}
 use Rattle.filter_code.specs.RouteView.{RouteView}
-use Rattle.filter_code.specs.Machine.{Config, State, Going, Ended, value_given, value_fault, locals_after, distance, on_one, ending_of, overfills, with_given, moved_on, unless_fault, unless_full, unless_ended, act, carry_out, step}
+use Rattle.filter_code.specs.Machine.{Config, State, Going, Ended, value_given, value_fault, locals_after, advance, on_one, ending_of, overfills, with_given, moved_on, unless_fault, unless_full, unless_ended, act, carry_out, step}
 use Rattle.filter_code.specs.CodeView.{CodeView}
 use Rattle.filter_code.specs.Table.{Frame, Operands, Zero, One, Two, Drawn, Bad, Good, draw, leads}
 use Rattle.filter_code.specs.Values.{bool_of, kind_of}
@@ -60,7 +60,7 @@ either_branch at k false = second_led (at + 1 == at + (1 + k)) (at + (1 + k))
 
 -- the machine goes on where the text leads
 branch_among : (metric at : ℕ) (i : Instr) (operands : Operands Value) → ending_of metric i ≡ None →
-    leads_to at (at + distance i operands) (leads i) ≡ true
+    leads_to at (at + advance i operands) (leads i) ≡ true
 branch_among metric at (instr.Jump k) operands e = reaches_itself (at + (1 + k)) false
 branch_among metric at (instr.JumpIfNot k) operands e = either_branch at k (unwrap_or (on_one bool_of (λ b. b) operands) true)
 branch_among metric at instr.Accept operands e = cc

@@ -57,7 +57,7 @@ fn a_file_is_read_or_c7(rt: HostRuntime) -> Result<(), Fail> {
     let patterns = patterns().ok_or("two patterns")?;
     let read = read_code(rt.alloc(), &FILE);
     if let Err(fault) = &read {
-        assert_eq!(rt; *fault, FileFault::OutOfMemory);
+        assert_eq!(rt; *fault, FileFault::Memory);
         let code = read_code(rt.alloc(), &FILE)?;
         expect_code(&rt, &code, &patterns);
     }
@@ -72,7 +72,7 @@ fn a_file_is_written_or_c7(rt: HostRuntime) -> Result<(), Fail> {
     let code = read_code(rt.alloc(), &FILE)?;
     let written = write_code(rt.alloc(), &code);
     if let Err(fault) = &written {
-        assert_eq!(rt; *fault, FileFault::OutOfMemory);
+        assert_eq!(rt; *fault, FileFault::Memory);
         expect_code(&rt, &code, &patterns);
         let bytes = write_code(rt.alloc(), &code)?;
         assert_eq!(rt; bytes.as_slice(), FILE.as_slice());

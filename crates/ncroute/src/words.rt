@@ -145,7 +145,7 @@ the network, the metric that a neighbour sent, and the number of nodes (2 to 64)
 Empty lines and lines that begin with # are skipped.
 
 Each route is answered on standard output:
-  accept D         the filter accepts it at distance D
+  accept D         the filter accepts it with the metric D
   reject           the filter rejects it
   fault K AT       the code went wrong at instruction AT (K1 to K7)
   refused O AT     line AT is no route (O1 words, O2 numbers, O7 length, O8 network)

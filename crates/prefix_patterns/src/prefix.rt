@@ -53,9 +53,9 @@ impl Prefix {
         ensures { result ≡ prefix_bits ip.0 len }
     {
         let host_bits = 32 - len;
-        let network = u64::from(ip.0) >> host_bits << host_bits;
+        let cleared = u64::from(ip.0) >> host_bits << host_bits;
         Prefix {
-            address: network as u32,
+            address: cleared as u32,
             len,
         }
     }

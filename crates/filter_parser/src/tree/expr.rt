@@ -10,7 +10,7 @@ use prefix_patterns::{Ip, Prefix};
 pub enum Attribute {
     /// `net`, the route's prefix
     Net,
-    /// `rip_metric`, the route's distance
+    /// `rip_metric`, the route's metric
     RipMetric,
 }
 

@@ -5,7 +5,7 @@ use Rattle.prefix_patterns.specs.Matching.{PrefixPattern}
 use Rattle.filter_code.specs.declared.instruction.Instr.{Instr}
 use Rattle.filter_code.specs.Limits.{local_limit, set_limit, instruction_limit}
 use Rattle.code_file.specs.Spelling.{bytes_of, set, instruction, IsSet, IsInstruction}
-use Rattle.code_file.proofs.Written.{file_joined, is_program}
+use Rattle.code_file.proofs.Written.{file_joined, is_code}
 use Rattle.code_file.proofs.writing.write_code.Goals as goal
 
 pub returns-clause-written : goal.returns-clause-written
@@ -35,4 +35,4 @@ returns-clause-readable c =
     let few_instrs : length code.instrs ≤ instruction_limit = subst (λ (i : List Instr). length i ≤ instruction_limit) c.instrs-instrs.ensures.value c.instrs-instrs.ensures.limit in
     let each_set : All IsSet code.sets = subst (λ (s : List (List PrefixPattern)). All IsSet s) c.sets-sets.ensures.value c.in_ok-put_sets.ensures.fits in
     let each_instr : All IsInstruction code.instrs = subst (λ (i : List Instr). All IsInstruction i) c.instrs-instrs.ensures.value c.in_ok-put_instructions.ensures.fits in
-    is_program code few_locals few_sets few_instrs each_set each_instr
+    is_code code few_locals few_sets few_instrs each_set each_instr
