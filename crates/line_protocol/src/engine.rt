@@ -1,5 +1,5 @@
 // The engine: blocks of bytes in, the answers to their lines out.
-ghost use Rattle.std.specs.Prelude.{◌≡◌, ℕ, ◌+◌, ◌-◌, ◌^◌, ◌<◌, ◌≤◌, List, [], ◌∷◌, ◌++◌, true, false, length, take, drop, slice_index, vec_len, IfOk, IfErr, IfSome, OnOk, OnErr};
+ghost use Rattle.std.specs.Prelude.{◌≡◌, ℕ, ◌+◌, ◌-◌, ◌^◌, ◌<◌, ◌≤◌, ◌↔◌, List, [], ◌∷◌, ◌++◌, true, false, length, take, drop, slice_index, vec_len, IfOk, IfErr, IfSome, OnOk, OnErr};
 ghost use Rattle.std.specs.Io.KnownBytes.{Appends, Consumes, IsAtEnd, Keeps};
 ghost use Rattle.std.specs.Str.Lines.{lines, strip_carriage_return};
 ghost use Rattle.line_protocol.specs.Answers.{Answer, text_of};
@@ -264,6 +264,8 @@ pub(crate) fn read_block<R: Read>(
     ensures bytes { IfOk result (λ n.
         Consumes (R.remaining reader.old) (R.remaining reader.new) (take n (drop begun buffer.new.items))) }
     ensures end { IfOk result (λ n. n ≡ 0 → IsAtEnd (R.remaining reader.new)) }
+    // The fault is want of memory if and only if the buffer did not grow.
+    ensures cause { IfErr result (λ fault. (fault ≡ StreamFault.Memory) ↔ (vec_len buffer.new < begun + most)) }
     ensures err { IfErr result (λ fault. IsReadFault fault
         × Keeps (R.remaining reader.old) (R.remaining reader.new)) }
 {

@@ -1,13 +1,16 @@
 // Bytes from a reader and to a writer, with each failure as a `StreamFault`.
-ghost use Rattle.std.specs.Prelude.{◌≡◌, ◌<◌, ◌≤◌, length, take, IfOk, OnOk, IfErr};
+ghost use Rattle.std.specs.IoError.{error_kind};
+ghost use Rattle.std.specs.Prelude.{◌≡◌, ◌<◌, ◌≤◌, ◌↔◌, IsTrue, length, take, IfOk, OnOk, IfErr};
 ghost use Rattle.std.specs.Io.KnownBytes.{Appends, Consumes, IsAtEnd, Keeps};
 ghost use Rattle.line_protocol.specs.Runs.{AppendsFront};
 
 use crate::faults::StreamFault;
 use std::io::{Error, ErrorKind, Read, Write};
 
-// A signal came before a byte did, so the call is made again.
-fn is_interrupted(error: &Error) -> bool {
+/// Whether a signal interrupted the call before it did anything, so that it is made again.
+fn is_interrupted(error: &Error) -> bool
+    ensures { IsTrue result ↔ (error_kind error.now ≡ ErrorKind.Interrupted) }
+{
     matches!(error.kind(), ErrorKind::Interrupted)
 }
 
