@@ -1,0 +1,8 @@
+use Rattle.filter_source.proofs.Translations.{none, one}
+use Rattle.filter_source.proofs.laws.one_translation.Goals as goal
+
+pub returns-clause-one : goal.returns-clause-one
+returns-clause-one c = one
+
+pub returns-clause-none : goal.returns-clause-none
+returns-clause-none c = none

@@ -1,0 +1,5 @@
+-- What callers cite.
+pub mod Limits
+pub mod Refusals
+pub mod Failures
+pub mod Sources

@@ -1,0 +1,69 @@
+-- Which code a source gives, and when it is refused. (This project's own choice.)
+use Rattle.std.specs.Prelude.{◌≡◌, ◌≢◌, ℕ, List, Some, Result, Ok, Err}
+use Rattle.hex.specs.Hex.{decode_of}
+use Rattle.hex.specs.declared.error.FromHexError.{FromHexError}
+use Rattle.code_file.specs.Reading.{file_of}
+use Rattle.code_file.specs.declared.fault.FileFault.{FileFault}
+use Rattle.filter_code.specs.CodeView.{CodeView}
+use Rattle.filter_compiler.specs.Limits.{HasTooMany, IsTooLong}
+use Rattle.filter_compiler.specs.Same.{MeansTheSame}
+use Rattle.filter_compiler.specs.Translation.{code_of}
+use Rattle.filter_compiler.specs.declared.fault.CompileFault.{CompileFault}
+use Rattle.filter_compiler.specs.declared.fault.CompileFault.TheVariants as compile
+use Rattle.filter_parser.specs.SyntaxText.{FilterView, IsText}
+use Rattle.filter_parser.specs.declared.fault.ParseFault.TheVariants as parse
+use Rattle.filter_types.specs.Kinds.{IsTyped}
+use Rattle.filter_types.specs.declared.fault.TypeFault.TheVariants as types
+use Rattle.filter_verifier.specs.Arrivals.{the_fault}
+use Rattle.filter_verifier.specs.declared.fault.VerifyFault.{VerifyFault}
+use Rattle.filter_source.specs.declared.refusal.Refusal.{Refusal}
+use Rattle.filter_source.specs.declared.refusal.Refusal.TheVariants.{TooLong, Hexadecimal, File, Parse, Typing, Compile, Verify}
+
+-- The text spells this filter and no other, its names and kinds fit, and this is its translation, which is within the limits of
+-- code and means what the filter means.
+pub record Translates (text : List ℕ) (filter : FilterView) (program : CodeView) : Type 0 where
+  pub spelled : IsText text filter
+  pub only : (other : FilterView) → IsText text other → other ≡ filter
+  pub typed : IsTyped filter
+  pub short : ¬ IsTooLong (code_of filter)
+  pub few : ¬ HasTooMany (code_of filter)
+  pub code : program ≡ code_of filter
+  pub means : MeansTheSame filter program
+
+-- A translation is over a limit, and this is the fault: the number of instructions counts before the sets.
+abbrev pub IsOverLimit : CodeView → CompileFault → Type 0
+IsOverLimit program compile.TooManyInstructions = IsTooLong program
+IsOverLimit program compile.TooManySets = ¬ IsTooLong program × HasTooMany program
+IsOverLimit program compile.Memory = ⊥
+
+-- A text has no code, and this may be why: it spells no filter, or a filter whose names and kinds do not fit, or one whose
+-- translation is over a limit. Which fault of a text or of its names and kinds is answered, and its place, is left open.
+abbrev pub IsRefusedText : List ℕ → Refusal → Type 0
+IsRefusedText text (Parse why) = (why ≢ parse.Memory) × ((filter : FilterView) → IsText text filter → ⊥)
+IsRefusedText text (Typing why) = (filter : FilterView) × IsText text filter × (why ≢ types.Memory) × ¬ IsTyped filter
+IsRefusedText text (Compile why) =
+    (filter : FilterView) × IsText text filter × IsTyped filter × IsOverLimit (code_of filter) why
+IsRefusedText text TooLong = ⊥
+IsRefusedText text Hexadecimal = ⊥
+IsRefusedText text (File why) = ⊥
+IsRefusedText text (Verify why) = ⊥
+
+-- the code of a file, or the fault of its bytes
+abbrev pub code_or_fault : Result CodeView FileFault → Result CodeView Refusal
+code_or_fault (Ok program) = Ok program
+code_or_fault (Err why) = Err (File why)
+
+abbrev pub code_in_file : List ℕ → Result CodeView Refusal
+code_in_file bytes = code_or_fault (file_of bytes)
+
+-- the code of a file in hexadecimal
+abbrev pub code_in_bytes : Result (List ℕ) FromHexError → Result CodeView Refusal
+code_in_bytes (Ok bytes) = code_in_file bytes
+code_in_bytes (Err why) = Err Hexadecimal
+
+abbrev pub code_in_hexadecimal : List ℕ → Result CodeView Refusal
+code_in_hexadecimal digits = code_in_bytes (decode_of digits)
+
+-- the first thing that is not known of the code, and nothing else, refuses it
+abbrev pub IsUnsafe : CodeView → ℕ → Refusal → Type 0
+IsUnsafe program size why = (fault : VerifyFault) × (why ≡ Verify fault) × (the_fault program size ≡ Some fault)

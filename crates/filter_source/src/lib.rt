@@ -1,0 +1,15 @@
+//! From a source to code: a filter's text is parsed, checked and compiled, or a code file is read, and the code is verified.
+//! A source that is refused has one `Refusal`, whichever step refused it.
+#![tactic(auto)]
+
+mod failure;
+mod laws;
+mod refusal;
+mod source;
+
+pub use failure::Failure;
+pub use laws::one_translation;
+pub use refusal::Refusal;
+pub use source::{
+    SOURCE_LIMIT, check_length, compile_text, read_file, read_hexadecimal, verify_code,
+};

@@ -1,0 +1,72 @@
+//! A filter's text, or a code file, becomes code, and code is verified.
+ghost use Rattle.std.specs.Prelude.{◌≡◌, ◌<◌, ◌≤◌, ◌↔◌, Ok, Err, None, false, IfOk, IfErr, MatchResult, OnOk, length};
+ghost use Rattle.filter_parser.specs.SyntaxText.{FilterView};
+ghost use Rattle.filter_verifier.specs.Arrivals.{is_size, the_fault};
+ghost use Rattle.filter_verifier.specs.Safe.{IsSafe};
+ghost use Rattle.filter_verifier.specs.declared.fault.VerifyFault.TheVariants as fault;
+ghost use Rattle.filter_source.specs.Failures.{OnRefusal};
+ghost use Rattle.filter_source.specs.Limits.{source_limit};
+ghost use Rattle.filter_source.specs.Sources as spec;
+ghost use Rattle.filter_source.specs.declared.failure.Failure.TheVariants as failure;
+ghost use Rattle.filter_source.specs.declared.refusal.Refusal.TheVariants as refusal;
+
+use crate::failure::Failure;
+use crate::refusal::Refusal;
+use code_file::read_code;
+use filter_code::Code;
+use filter_compiler::compile;
+use filter_parser::parse;
+use filter_types::check;
+use filter_verifier::{Verified, verify};
+use std::alloc::Global;
+
+/// A source of more bytes than this is refused.
+pub const SOURCE_LIMIT: usize = 1_048_576;
+
+/// Refuses a source that is longer than its limit.
+pub fn check_length(source: &[u8]) -> Result<(), Failure>
+    ensures ok { OnOk result (length source.now ≤ source_limit) }
+    ensures long { IfErr result (λ e. (e ≡ failure.Refused refusal.TooLong) × (source_limit < length source.now)) }
+{
+    if source.len() > SOURCE_LIMIT {
+        return Err(Failure::Refused(Refusal::TooLong));
+    }
+    Ok(())
+}
+
+/// The code of the filter that a text spells: the text is parsed, its names and kinds are checked, and the filter is compiled.
+pub fn compile_text(alloc: Global, text: &[u8]) -> Result<Code, Failure>
+    ensures code { IfOk result (λ code. (filter : FilterView) × spec.Translates text.now filter code) }
+    ensures refused { IfErr result (OnRefusal (spec.IsRefusedText text.now)) }
+{
+    let filter = parse(alloc, text)?;
+    let typed = check(alloc, filter)?;
+    Ok(compile(alloc, &typed)?)
+}
+
+/// The code of a code file.
+pub fn read_file(alloc: Global, bytes: &[u8]) -> Result<Code, Failure>
+    ensures { MatchResult result (λ code. spec.code_in_file bytes.now ≡ Ok code)
+        (OnRefusal (λ why. spec.code_in_file bytes.now ≡ Err why)) }
+{
+    Ok(read_code(alloc, bytes)?)
+}
+
+/// The code of a code file in hexadecimal, in letters of either case.
+pub fn read_hexadecimal(alloc: Global, digits: &[u8]) -> Result<Code, Failure>
+    ensures { MatchResult result (λ code. spec.code_in_hexadecimal digits.now ≡ Ok code)
+        (OnRefusal (λ why. spec.code_in_hexadecimal digits.now ≡ Err why)) }
+{
+    let bytes = hex::decode(alloc, digits)?;
+    read_file(alloc, bytes.as_slice())
+}
+
+/// Verifies code for domains of a size, 2 to 64 nodes. Code that is refused is dropped; `verify` hands it back.
+pub fn verify_code(alloc: Global, code: Code, size: u32) -> Result<Verified, Failure>
+    ensures verified { IfOk result (λ v. (v ≡ record { program = code; size = size }) × (the_fault code size ≡ None)) }
+    ensures safe { OnOk result (IsSafe code size) }
+    ensures refused { IfErr result (OnRefusal (spec.IsUnsafe code size)) }
+    ensures bad_size { IfErr result (λ e. (e ≡ failure.Refused (refusal.Verify fault.BadSize)) ↔ (is_size size ≡ false)) }
+{
+    Ok(verify(alloc, code, size)?)
+}
