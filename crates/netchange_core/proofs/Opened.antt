@@ -1,0 +1,57 @@
+-- The tables of an opening.
+use Rattle.std.proofs.Common.{◌≡◌, ℕ, ◌+◌, ◌<◌, ◌≤◌, All, map, length, get_or, sym, subst, zero, suc, min, cond, nat_lt, nat_eq, List, [], ◌∷◌, replicate, refl, ap, ◌∙◌, arith, eq-eqb, ne_eqb, le-ltb}
+use Rattle.std.proofs.lemmas.List.{length-replicate, get_or-replicate}
+use Rattle.netchange_core.specs.declared.best_route.BestRoute.{BestRoute}
+use Rattle.netchange_core.specs.declared.reply.Via.TheVariants.{Local, Node, Nowhere}
+use Rattle.netchange_core.specs.Best.{best_by, least, nearest, neighbour_distance, first_at, route_of}
+use Rattle.netchange_core.specs.declared.destination.Destination.{Destination}
+use Rattle.netchange_core.specs.Calls.{newcomer}
+use Rattle.netchange_core.specs.Kept.{AreDestinations, AreKept, IsNeighbour}
+use Rattle.netchange_core.specs.World.{NeighbourView}
+use Rattle.netchange_core.proofs.Lists.{below_repeated, map_replicate}
+use Rattle.netchange_core.specs.OpeningView.{OpeningView}
+
+-- the router's own node, and others
+pub own_route : (o : OpeningView) (v : ℕ) (xs : List ℕ) → v ≡ o.me → best_by o v xs ≡ route_of 0 Local
+unfolding best_by
+own_route o v xs e = ap (λ b. cond b (route_of 0 Local) (nearest o.size xs)) (eq-eqb v o.me e)
+
+pub other_route : (o : OpeningView) (v : ℕ) (xs : List ℕ) → (v ≡ o.me → ⊥) → best_by o v xs ≡ nearest o.size xs
+unfolding best_by
+other_route o v xs e = ap (λ b. cond b (route_of 0 Local) (nearest o.size xs)) (ne_eqb v o.me e)
+
+least_none : (n size : ℕ) → least size (replicate n size) ≡ size
+least_none zero size = refl
+least_none (suc n) size = ap (λ m. min size m) (least_none n size) ∙ omega arith
+
+-- where no neighbour is up no node is reached
+pub none_near : (n size : ℕ) → nearest size (replicate n size) ≡ route_of size Nowhere
+none_near n size =
+    let d = least size (replicate n size) in
+    let e : d ≡ size = least_none n size in
+    ap (λ b. cond b (route_of (d + 1) (Node (first_at d (replicate n size)))) (route_of size Nowhere)) (le-ltb (d + 1) size (omega (arith, e)))
+
+new_neighbour : (o : OpeningView) → IsNeighbour o.size (newcomer o)
+new_neighbour o = record {
+  one_a_node = length-replicate o.size o.size;
+  reachable = below_repeated o.size o.size;
+  imports = tt;
+  exports = tt;
+}
+
+-- what the tables keep while no neighbour was ever up
+pub kept_first : (o : OpeningView) (ns : List NeighbourView) (ds : List Destination) → ns ≡ replicate o.size (newcomer o) →
+    AreDestinations o ds →
+    ((v : ℕ) (d : Destination) → v < o.size → (get_or ds v d).distances.items ≡ replicate o.size o.size) →
+    AreKept o ns ds
+kept_first o ns ds e right none =
+    let P : List NeighbourView → Type 0 = λ ms. AreKept o ms ds in
+    subst P (sym e) (record {
+      one_a_node = length-replicate o.size (newcomer o);
+      neighbours = λ k d h.
+          let short : k < o.size = omega (arith, length-replicate o.size (newcomer o)) in
+          let Q : NeighbourView → Type 0 = IsNeighbour o.size in
+          subst Q (sym (get_or-replicate o.size k (newcomer o) d short)) (new_neighbour o);
+      destinations = right;
+      distances = λ v d h. none v d h ∙ sym (map_replicate (neighbour_distance o v) o.size (newcomer o));
+    })

@@ -1,0 +1,73 @@
+-- Worked rows: the definitions compute the worlds and replies that are wanted of them.
+use Rattle.std.proofs.Common.{◌≡◌, ℕ, List, [], ◌∷◌, Option, Some, None, replicate, refl}
+use Rattle.filter_verifier.specs.VerifiedView.{VerifiedView}
+use Rattle.netchange_core.specs.declared.event.Event.{Event}
+use Rattle.netchange_core.specs.declared.event.Event.TheVariants as event
+use Rattle.netchange_core.specs.declared.message.Message.{Message}
+use Rattle.netchange_core.specs.declared.reply.Refusal.TheVariants as refusal
+use Rattle.netchange_core.specs.declared.reply.Reply.{Reply}
+use Rattle.netchange_core.specs.declared.reply.Reply.TheVariants as reply
+use Rattle.netchange_core.specs.declared.reply.Via.TheVariants.{Local, Node, Nowhere}
+use Rattle.netchange_core.specs.Best.{best_by}
+use Rattle.netchange_core.specs.Calls.{opened}
+use Rattle.netchange_core.specs.Next.{next}
+use Rattle.netchange_core.specs.OpeningView.{OpeningView}
+use Rattle.netchange_core.specs.Pass.{pass}
+use Rattle.netchange_core.specs.World.{World}
+
+-- node 0 of four
+abbrev node_0 : OpeningView
+node_0 = record { size = 4; me = 0; prefixes = replicate 4 [] }
+
+-- the replies to events, one after another
+abbrev replies_from : World → List Event → List Reply
+replies_from w [] = []
+replies_from w (e ∷ es) = (next w e).reply ∷ replies_from (next w e).world es
+
+abbrev replies : List Event → List Reply
+replies es = replies_from (opened node_0) es
+
+abbrev told : ℕ → ℕ → Message
+told v d = record { dest = v; dist = d }
+
+-- what a neighbour is told when it joins the router that reaches no other node yet
+abbrev nothing_reached : List Message
+nothing_reached = told 0 0 ∷ (told 1 4 ∷ (told 2 4 ∷ (told 3 4 ∷ [])))
+
+-- a neighbour joins, is told all distances, and nothing twice
+pub joins : replies (event.Up 1 ∷ (event.Take 1 9 ∷ (event.Take 1 9 ∷ [])))
+    ≡ reply.Opened 1 ∷ (reply.Messages nothing_reached ∷ (reply.Messages [] ∷ []))
+unfolding best_by pass
+joins = refl
+
+-- a neighbour that is near is the next hop; what it reaches at distance 3 is out of reach here
+pub hears : replies (event.Up 1 ∷ (event.Take 1 9 ∷ (event.Receive 1 1 0 ∷ (event.Show 1 ∷ (event.Take 1 9
+    ∷ (event.Receive 1 2 3 ∷ (event.Show 2 ∷ [])))))))
+    ≡ reply.Opened 1 ∷ (reply.Messages nothing_reached ∷ (reply.Done 1 ∷ (reply.Route 1 (Node 1)
+    ∷ (reply.Messages (told 1 1 ∷ []) ∷ (reply.Done 0 ∷ (reply.Route 4 Nowhere ∷ []))))))
+unfolding best_by pass
+hears = refl
+
+-- of two neighbours that are as near the least is the next hop, and a changed next hop alone is not told
+pub ties : replies (event.Up 1 ∷ (event.Up 2 ∷ (event.Receive 2 3 1 ∷ (event.Show 3 ∷ (event.Receive 1 3 1
+    ∷ (event.Show 3 ∷ (event.Take 1 9 ∷ [])))))))
+    ≡ reply.Opened 1 ∷ (reply.Opened 2 ∷ (reply.Done 1 ∷ (reply.Route 2 (Node 2) ∷ (reply.Done 0
+    ∷ (reply.Route 2 (Node 1)
+    ∷ (reply.Messages (told 0 0 ∷ (told 1 4 ∷ (told 2 4 ∷ (told 3 4 ∷ (told 3 2 ∷ []))))) ∷ []))))))
+unfolding best_by pass
+ties = refl
+
+-- refusals, and a session that is over
+pub refuses : replies (event.Up 1 ∷ (event.Receive 1 9 0 ∷ (event.Receive 1 2 5 ∷ (event.Up 1 ∷ (event.Down 1
+    ∷ (event.Receive 1 1 0 ∷ (event.Up 1 ∷ (event.Up 0 ∷ (event.Receive 1 1 0 ∷ [])))))))))
+    ≡ reply.Opened 1 ∷ (reply.Refused refusal.BadDest ∷ (reply.Refused refusal.BadDist
+    ∷ (reply.Refused refusal.AlreadyUp ∷ (reply.Done 0 ∷ (reply.Refused refusal.Stale ∷ (reply.Opened 2
+    ∷ (reply.Refused refusal.NoNode ∷ (reply.Refused refusal.Stale ∷ []))))))))
+unfolding best_by pass
+refuses = refl
+
+-- the router itself, and a node out of reach
+pub shows : replies (event.Up 1 ∷ (event.Show 0 ∷ (event.Show 1 ∷ (event.Show 4 ∷ []))))
+    ≡ reply.Opened 1 ∷ (reply.Route 0 Local ∷ (reply.Route 4 Nowhere ∷ (reply.Refused refusal.BadDest ∷ [])))
+unfolding best_by pass
+shows = refl

@@ -1,0 +1,52 @@
+-- What the tables keep beside the world.
+use Rattle.std.specs.Prelude.{◌≡◌, ℕ, ◌<◌, ◌≤◌, All, IfSome, Option, List, length, map, slice_index, slice_index_or}
+use Rattle.std.specs.Option.{option_map}
+use Rattle.std.specs.declared.sync.Arc.{Arc}
+use Rattle.filter_verifier.specs.VerifiedView.{VerifiedView}
+use Rattle.netchange_core.specs.declared.destination.Destination.{Destination}
+use Rattle.netchange_core.specs.declared.neighbour.Neighbour.{Neighbour}
+use Rattle.netchange_core.specs.Best.{best_by, neighbour_distance}
+use Rattle.netchange_core.specs.OpeningView.{OpeningView}
+use Rattle.netchange_core.specs.World.{NeighbourView, World}
+
+-- a neighbour as the world has it
+abbrev pub view_of : Neighbour → NeighbourView
+view_of n = record {
+  session = n.session;
+  raw = n.raw.items;
+  imports = option_map (λ f. f.value) n.imports;
+  exports = option_map (λ f. f.value) n.exports;
+  queue = n.queue.items;
+}
+
+abbrev pub world_of : OpeningView → ℕ → List Neighbour → World
+world_of o sessions ns = record { opening = o; sessions = sessions; neighbours = map view_of ns }
+
+-- a filter, if there is one, was verified for this size
+abbrev pub FitsSize : ℕ → Option VerifiedView → Type 0
+FitsSize size filter = IfSome filter (λ f. f.size ≡ size)
+
+-- a neighbour in a domain of this size: it told a distance for each node, and its filters fit
+pub record IsNeighbour (size : ℕ) (n : NeighbourView) : Type 0 where
+  pub one_a_node : length n.raw ≡ size
+  pub reachable : (v : ℕ) → slice_index n.raw v ≤ size
+  pub imports : FitsSize size n.imports
+  pub exports : FitsSize size n.exports
+
+-- a destination has a distance from each neighbour, and the route that is best by these
+pub record IsDestination (o : OpeningView) (v : ℕ) (d : Destination) : Type 0 where
+  pub one_a_node : length d.distances.items ≡ o.size
+  pub best : d.route ≡ best_by o v d.distances.items
+
+pub record AreDestinations (o : OpeningView) (ds : List Destination) : Type 0 where
+  pub one_a_node : length ds ≡ o.size
+  pub right : (v : ℕ) (d : Destination) → v < o.size → IsDestination o v (slice_index_or ds v d)
+
+-- what the tables keep: each node stands there as a neighbour and as a destination, and the distances kept there are those
+-- that the world gives
+pub record AreKept (o : OpeningView) (ns : List NeighbourView) (ds : List Destination) : Type 0 where
+  pub one_a_node : length ns ≡ o.size
+  pub neighbours : All (IsNeighbour o.size) ns
+  pub destinations : AreDestinations o ds
+  pub distances : (v : ℕ) (d : Destination) → v < o.size →
+      (slice_index_or ds v d).distances.items ≡ map (neighbour_distance o v) ns

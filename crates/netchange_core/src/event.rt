@@ -1,0 +1,26 @@
+//! What happens at a router.
+
+use filter_verifier::Verified;
+use std::sync::Arc;
+
+/// What happens at a router: at its channels to neighbours, at its filters, or a look at a route.
+///
+/// Nodes are named by number, and sessions by theirs. A distance is 0 to the size of the domain, which says that a node
+/// cannot be reached.
+#[derive(Debug, Drop)]
+pub enum Event {
+    /// The channel to a node is there: it becomes an up neighbour, in a session of its own.
+    Up(u16),
+    /// The channel of a session failed: its node is no up neighbour any more.
+    Down(u32),
+    /// In a session, a message came: the node that it is about, and the distance.
+    Receive(u32, u16, u16),
+    /// Of a session, the first messages that wait to be sent leave the queue, at most so many.
+    Take(u32, u16),
+    /// The distances that a node tells pass this filter from now on, also those that it told before.
+    SetImport(u16, Arc<Verified>),
+    /// The distances that a node is told pass this filter from now on.
+    SetExport(u16, Arc<Verified>),
+    /// A look at the route to a node.
+    Show(u16),
+}

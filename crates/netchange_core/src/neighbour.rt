@@ -1,0 +1,78 @@
+//! A node as a neighbour.
+
+ghost use Rattle.std.specs.Prelude.{◌≡◌, ℕ, ◌==◌, nat_le, ◌||◌, IfOk, map, position, replicate};
+ghost use Rattle.netchange_core.specs.Calls.{newcomer};
+ghost use Rattle.netchange_core.specs.Kept.{view_of};
+ghost use Rattle.netchange_core.specs.Next.{is_no_neighbour};
+ghost use Rattle.netchange_core.specs.World.{has_session};
+
+use crate::message::Message;
+use crate::opening::Opening;
+use filter_verifier::Verified;
+use std::alloc::{AllocError, Global};
+use std::collections::VecDeque;
+use std::sync::Arc;
+
+/// A node as a neighbour.
+#[derive(Debug, Drop)]
+pub(crate) struct Neighbour {
+    /// Its present session, or 0 while it is down.
+    pub(crate) session: u32,
+    /// The distance to each node that it told last in this session.
+    pub(crate) raw: Vec<u16>,
+    /// The filter of what it tells.
+    pub(crate) imports: Option<Arc<Verified>>,
+    /// The filter of what it is told.
+    pub(crate) exports: Option<Arc<Verified>>,
+    /// The messages that wait to be sent to it, the oldest first.
+    pub(crate) queue: VecDeque<Message>,
+}
+
+/// A neighbour that never was up.
+fn make_newcomer(alloc: Global, opening: &Opening) -> Result<Neighbour, AllocError>
+    ensures { IfOk result (λ n. view_of n ≡ newcomer opening.now) }
+{
+    let size = opening.size();
+    Ok(Neighbour {
+        session: 0,
+        raw: vec![in alloc; size; usize::from(size)]?,
+        imports: None,
+        exports: None,
+        queue: VecDeque::new(alloc),
+    })
+}
+
+/// As many neighbours that never were up as there are nodes.
+pub(crate) fn make_newcomers(alloc: Global, opening: &Opening) -> Result<Vec<Neighbour>, AllocError>
+    ensures { IfOk result (λ ns. map view_of ns.items ≡ replicate opening.now.size (newcomer opening.now)) }
+{
+    let mut neighbours = Vec::with_capacity(alloc, usize::from(opening.size()))?;
+    for _ in 0..opening.size() {
+        neighbours.push(make_newcomer(alloc, opening)?)?;
+    }
+    Ok(neighbours)
+}
+
+/// Whether no neighbour has this number: it is the router's own, or no node's.
+pub(crate) fn is_no_neighbour(opening: &Opening, node: u16) -> bool
+    ensures { result ≡ is_no_neighbour opening.now node }
+{
+    opening.size() <= node || node == opening.me()
+}
+
+/// The neighbour for which a test of the session holds.
+fn find(neighbours: &[Neighbour], session: u32) -> Option<usize>
+    ensures { result ≡ position (λ n. has_session session (view_of n)) neighbours.now }
+{
+    neighbours
+        .iter()
+        .position(|n| 0 < n.session && n.session == session)
+}
+
+/// The up neighbour whose present session this is.
+#[tactic(auto, using(crate::proofs::Lists::position_map))]
+pub(crate) fn holder(neighbours: &[Neighbour], session: u32) -> Option<usize>
+    ensures { result ≡ position (has_session session) (map view_of neighbours.now) }
+{
+    find(neighbours, session)
+}

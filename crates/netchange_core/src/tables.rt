@@ -1,0 +1,95 @@
+//! The tables of a router.
+
+ghost use Rattle.std.specs.Prelude.{◌≡◌, ◌≤◌, IfOk, OnErr, length};
+ghost use Rattle.netchange_core.specs.Calls.{MayNeedMemory, carried, opened, queued_of, room_of, session_of};
+ghost use Rattle.netchange_core.specs.Next.{answered, next};
+
+use crate::destination::{Destination, make_destinations};
+use crate::event::Event;
+use crate::handle::handle;
+use crate::neighbour::{Neighbour, holder, make_newcomers};
+use crate::opening::Opening;
+use crate::reply::Reply;
+use std::alloc::{AllocError, Global};
+use std::marker::Model;
+
+/// The tables of a router. A contract sees them as the `World`.
+#[derive(Debug, Drop)]
+pub struct Tables {
+    opening: Opening,
+    sessions: u32,
+    neighbours: Vec<Neighbour>,
+    destinations: Vec<Destination>,
+}
+
+impl Model for Tables {
+    ghost use Rattle.std.specs.Prelude.{map};
+    ghost use Rattle.netchange_core.specs.Kept.{AreKept, view_of, world_of};
+    ghost use Rattle.netchange_core.specs.World.{World};
+
+    ghost Value = { World };
+
+    ghost view = { λ t. world_of t.opening t.sessions t.neighbours.items };
+
+    ghost invariant = { λ t. AreKept t.opening (map view_of t.neighbours.items) t.destinations.items };
+}
+
+impl Tables {
+    /// The tables of a router whose neighbours were never up.
+    pub fn open(alloc: Global, opening: Opening) -> Result<Tables, AllocError>
+        ensures { IfOk result (λ t. t ≡ opened opening) }
+    {
+        let neighbours = make_newcomers(alloc, &opening)?;
+        let destinations = make_destinations(alloc, &opening)?;
+        Ok(Tables {
+            opening,
+            sessions: 0,
+            neighbours,
+            destinations,
+        })
+    }
+
+    /// Applies an event. After an error nothing is changed, since all growth is made before the first change.
+    pub fn apply(&mut self, event: &Event) -> Result<Reply, AllocError>
+        ensures done { IfOk result (λ r. next self.old event.now ≡ answered self.new r) }
+        ensures same { OnErr result (self.new ≡ self.old) }
+        ensures memory { OnErr result (MayNeedMemory (next self.old event.now).reply) }
+        ensures opening { self.new.opening ≡ self.old.opening }
+        ensures fits { IfOk result (λ r. length (carried r) ≤ room_of self.old event.now) }
+    {
+        handle(
+            &self.opening,
+            &mut self.sessions,
+            &mut self.neighbours,
+            &mut self.destinations,
+            event,
+        )
+    }
+
+    /// How many messages wait for the up neighbour whose present session this is; 0 where there is none.
+    pub fn queued(&self, session: u32) -> usize
+        ensures { result ≡ queued_of self.now session }
+    {
+        match holder(&self.neighbours, session) {
+            Some(node) => self.neighbours[node].queue.len(),
+            None => 0,
+        }
+    }
+
+    /// The present session of a node; 0 where it is no up neighbour.
+    pub fn session(&self, node: u16) -> u32
+        ensures { result ≡ session_of self.now node }
+    {
+        match self.neighbours.get(usize::from(node)) {
+            Some(neighbour) => neighbour.session,
+            None => 0,
+        }
+    }
+
+    /// What the router was opened with.
+    pub fn opening(&self) -> &Opening
+        ensures { result.now ≡ self.now.opening }
+    {
+        &self.opening
+    }
+}
