@@ -27,7 +27,7 @@ of_digits digits.OutOfMemory = Memory
 of_digits fault = Refused Hexadecimal
 
 abbrev pub of_file : FileFault → Failure
-of_file file.OutOfMemory = Memory
+of_file file.Memory = Memory
 of_file fault = Refused (File fault)
 
 abbrev pub of_parse : ParseFault → Failure

@@ -57,7 +57,7 @@ impl From<FileFault> for Failure {
 
     fn from(fault: FileFault) -> Failure {
         match fault {
-            FileFault::OutOfMemory => Failure::Memory,
+            FileFault::Memory => Failure::Memory,
             _ => Failure::Refused(Refusal::File(fault)),
         }
     }
