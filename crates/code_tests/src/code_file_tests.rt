@@ -5,6 +5,7 @@ use filter_code::{Code, Instr};
 use prefix_patterns::{Ip, Pattern, PatternSet, Prefix};
 use std::alloc::Global;
 use std::test::Fail;
+use worked_rows::{FILTERS, code_of_file, listing};
 
 /// The fault of bytes that are no code file.
 fn fault_of(alloc: Global, bytes: &[u8]) -> Option<FileFault> {
@@ -18,6 +19,24 @@ fn fault_of(alloc: Global, bytes: &[u8]) -> Option<FileFault> {
 fn the_smallest_file(rt: HostRuntime) -> Result<(), Fail> {
     let code = read_code(rt.alloc(), b"NCF1\0\0\0\x01\x70")?;
     assert_eq!(rt; code.instrs(), [Instr::Accept].as_slice());
+    Ok(())
+}
+
+#[test]
+fn files_of_worked_filters(rt: HostRuntime) -> Result<(), Fail> {
+    let alloc = rt.alloc();
+    for row in FILTERS {
+        let code = code_of_file(alloc, row.file)?;
+        assert_eq!(rt;
+            listing(alloc, &code)?.as_str(),
+            row.listing,
+            "{}",
+            row.text
+        );
+        let written = write_code(alloc, &code)?;
+        let digits = hex::encode(alloc, &written)?;
+        assert_eq!(rt; digits.as_str(), row.file, "{}", row.text);
+    }
     Ok(())
 }
 

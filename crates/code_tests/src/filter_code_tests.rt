@@ -1,9 +1,12 @@
 //! The machine on short codes, and the limits of codes and routes.
 
-use filter_code::{Code, FaultKind, Instr, Kind, Outcome, Route, Value, run_checked};
+use filter_code::{
+    Code, Counted, FaultKind, Instr, Kind, Outcome, Route, Value, run_checked, run_counted,
+};
 use prefix_patterns::{Ip, Pattern, PatternSet, Prefix};
 use std::alloc::Global;
 use std::test::Fail;
+use worked_rows::{FILTERS, answer, code_of_file, route_in};
 
 /// The route to 10.0.0.0/8.
 fn route(metric: u32, size: u32) -> Result<Route, Fail> {
@@ -25,33 +28,22 @@ fn outcome_on(alloc: Global, instrs: &[Instr], metric: u32) -> Result<Outcome, F
 }
 
 #[test]
-fn a_raised_metric_is_clipped_at_the_size(rt: HostRuntime) -> Result<(), Fail> {
-    let instrs = [
-        Instr::Metric,
-        Instr::Int(2),
-        Instr::Add,
-        Instr::Received,
-        Instr::Max,
-        Instr::SetMetric,
-        Instr::Accept,
-        Instr::Reject,
-    ];
-    assert_eq!(rt; outcome_on(rt.alloc(), &instrs, 7)?, Outcome::Accept(8));
-    assert_eq!(rt; outcome_on(rt.alloc(), &instrs, 3)?, Outcome::Accept(5));
-    Ok(())
-}
-
-#[test]
-fn the_metric_received_is_the_least(rt: HostRuntime) -> Result<(), Fail> {
-    let instrs = [
-        Instr::Int(1),
-        Instr::Received,
-        Instr::Max,
-        Instr::SetMetric,
-        Instr::Accept,
-        Instr::Reject,
-    ];
-    assert_eq!(rt; outcome_on(rt.alloc(), &instrs, 5)?, Outcome::Accept(5));
+fn worked_filters(rt: HostRuntime) -> Result<(), Fail> {
+    let alloc = rt.alloc();
+    for row in FILTERS {
+        let code = code_of_file(alloc, row.file)?;
+        for line in row.routes {
+            let route = route_in(line, row.size).ok_or("a route within the limits")?;
+            let Counted { outcome, steps } = run_counted(&code, &route);
+            assert_eq!(rt;
+                answer(alloc, outcome)?.as_str(),
+                line.answer,
+                "{}",
+                row.text
+            );
+            assert_eq!(rt; steps, line.steps, "{}", row.text);
+        }
+    }
     Ok(())
 }
 

@@ -1,11 +1,12 @@
 //! Runs of `check`: worked rows of filters and of code files, limits, and faults in mid-stream.
 
-use filter_commands::{ProgramFault, check_text, eval_lines};
+use crate::streams::{FailingReader, FailingWriter};
+use filter_commands::{ProgramFault, check_text};
 use line_protocol::StreamFault;
 use std::alloc::Global;
-use std::io::{self, ErrorKind, Read, Write};
 use std::process::Abort;
 use std::test::Fail;
+use worked_rows::FILTERS;
 
 /// The number of bytes that an input may have.
 const LIMIT: usize = 1_048_576;
@@ -28,72 +29,30 @@ fn expect_lines(
     Ok(())
 }
 
-/// A filter's text, the size, and both lines.
-const FILTERS: [(&str, u32, &str); 11] = [
-    (
-        "filter not_too_far int var; { if defined( rip_metric ) then var = rip_metric; else { var = 1; rip_metric = 1; } \
-         if rip_metric > 10 then reject \"RIP metric is too big\"; else accept \"ok\"; }",
-        16,
-        "code 4e4346310100001601000000001100020161000313110060000601000000011100010000000114241513\
-         010000000a3233610002716000017071\nverified 16 2\n",
-    ),
-    (
-        "filter up2 { rip_metric = rip_metric + 2; accept; }",
-        8,
-        "code 4e43463100000008130100000002201424157071\nverified 7 2\n",
-    ),
-    (
-        "filter up2 { rip_metric = rip_metric + 2; accept; }",
-        1,
-        "code 4e43463100000008130100000002201424157071\nrefused V8 0\n",
-    ),
-    (
-        "filter low { rip_metric = 1; accept; }",
-        8,
-        "code 4e4346310000000601000000011424157071\nverified 5 2\n",
-    ),
-    (
-        "filter wrap { rip_metric = rip_metric + 4294967295; accept; }",
-        8,
-        "code 4e434631000000081301ffffffff201424157071\nverified 7 2\n",
-    ),
-    (
-        "filter s { if net ~ [1.0.0.0/8{15,17}] then accept; }",
-        8,
-        "code 4e4346310001000101000000080f1100051251006100017071\nverified 4 1\n",
-    ),
-    (
-        "filter d { if 8 / rip_metric = 2 then accept; }",
-        8,
-        "code 4e43463100000008010000000813230100000002306100017071\nrefused V3 2\n",
-    ),
-    (
-        "filter e { if false then if true then accept; else accept; }",
-        8,
-        "code 4e4346310000000802006100050201610002706000017071\nverified 5 1\n",
-    ),
-    (
-        "filter z { if false && 1 / 0 = 1 then accept; else accept; }",
-        8,
-        "code 4e4346310000000e0200610006010000000101000000002301000000013060000102006100027060000170\
-         71\nrefused V3 4\n",
-    ),
-    (
-        "filter half { int k; k = 4; if 8 / k = 2 then accept; }",
-        8,
-        "code 4e4346310100000c010000000011000100000004110001000000081000230100000002306100017071\nverified 11 2\n",
-    ),
-    (
-        "filter m { if (true && false) || true then accept; }",
-        8,
-        "code 4e4346310000000c020161000202006000010200610002020160000102016100017071\nverified 9 1\n",
-    ),
-];
-
 #[test]
 fn filters_are_compiled_and_verified(rt: HostRuntime) -> Result<(), Fail> {
-    for (text, size, want) in FILTERS {
-        expect_lines(&rt, rt.alloc(), text.as_bytes(), size, false, want)?;
+    let alloc = rt.alloc();
+    for row in FILTERS {
+        let want = format!(in alloc; "code {}\n{}\n", row.file, row.verdict)?;
+        expect_lines(
+            &rt,
+            alloc,
+            row.text.as_bytes(),
+            row.size,
+            false,
+            want.as_str(),
+        )?;
+        // The code that was printed is checked alike.
+        expect_lines(
+            &rt,
+            alloc,
+            row.file.as_bytes(),
+            row.size,
+            true,
+            want.as_str(),
+        )?;
+        let want = format!(in alloc; "code {}\nrefused V8 0\n", row.file)?;
+        expect_lines(&rt, alloc, row.text.as_bytes(), 1, false, want.as_str())?;
     }
     Ok(())
 }
@@ -249,64 +208,6 @@ fn code_files_are_verified(rt: HostRuntime) -> Result<(), Fail> {
     Ok(())
 }
 
-/// The code that `check` prints of a filter, which `check --code` reads with the same lines, and the verdict that `eval` prints
-/// of a route under it.
-fn verdict_on(rt: &impl Abort, alloc: Global, text: &str, route: &str) -> Result<Vec<u8>, Fail> {
-    let mut lines = Vec::new(alloc);
-    check_text(alloc, &mut text.as_bytes(), &mut lines, 8, false)?;
-    let behind = lines
-        .as_slice()
-        .strip_prefix(b"code ")
-        .ok_or("a code line")?;
-    let code = behind.split(|byte| *byte == b'\n').next().ok_or("a line")?;
-    let mut again = Vec::new(alloc);
-    let mut digits = code;
-    check_text(alloc, &mut digits, &mut again, 8, true)?;
-    assert_eq!(rt; again.as_slice(), lines.as_slice());
-    let mut input = code.to_vec(alloc)?;
-    input.push(b'\n')?;
-    input.extend_from_slice(route.as_bytes())?;
-    let mut verdict = Vec::new(alloc);
-    eval_lines(alloc, &mut input.as_slice(), &mut verdict)?;
-    Ok(verdict)
-}
-
-#[test]
-fn checked_code_is_evaluated(rt: HostRuntime) -> Result<(), Fail> {
-    let half = "filter half { int k; k = 4; if 8 / k = 2 then accept; }";
-    let divided = "filter d { if 8 / rip_metric = 2 then accept; }";
-    let rows = [
-        (half, "10.0.0.0/8 3 8", "accept 3\n"),
-        (divided, "10.0.0.0/8 4 8", "accept 4\n"),
-        (divided, "10.0.0.0/8 0 8", "fault K3 2\n"),
-        (
-            "filter m { if (true && false) || true then accept; }",
-            "10.0.0.0/8 3 8",
-            "accept 3\n",
-        ),
-        (
-            "filter e { if false then if true then accept; else accept; }",
-            "10.0.0.0/8 3 8",
-            "reject\n",
-        ),
-        (
-            "filter z { if false && 1 / 0 = 1 then accept; else accept; }",
-            "10.0.0.0/8 3 8",
-            "accept 3\n",
-        ),
-        (
-            "filter up2 { rip_metric = rip_metric + 2; accept; }",
-            "10.0.0.0/8 7 8",
-            "accept 8\n",
-        ),
-    ];
-    for (text, route, want) in rows {
-        let verdict = verdict_on(&rt, rt.alloc(), text, route)?;
-        assert_eq!(rt; verdict.as_slice(), want.as_bytes());
-    }
-    Ok(())
-}
-
 /// A filter whose body is one text again and again.
 fn repeated(alloc: Global, part: &[u8], count: usize) -> Result<Vec<u8>, Fail> {
     let mut text = Vec::from_slice(alloc, b"filter q { ")?;
@@ -408,53 +309,10 @@ fn long_runs_are_answered(rt: HostRuntime) -> Result<(), Fail> {
     Ok(())
 }
 
-/// A reader that gives a text, and fails behind it.
-#[derive(Drop)]
-struct FailingReader<'a> {
-    text: &'a [u8],
-}
-
-impl Read for FailingReader<'_> {
-    fn read(&mut self, buf: &mut [u8]) -> io::Result<usize> {
-        if self.text.is_empty() {
-            return Err(io::Error::from(ErrorKind::BrokenPipe));
-        }
-        let mut rest = self.text;
-        let count = rest.read(buf)?;
-        self.text = rest;
-        Ok(count)
-    }
-}
-
-/// A writer that takes some bytes, and fails behind them.
-#[derive(Drop)]
-struct FailingWriter {
-    room: usize,
-    text: Vec<u8>,
-}
-
-impl Write for FailingWriter {
-    fn write(&mut self, buf: &[u8]) -> io::Result<usize> {
-        let count = buf.len().min(self.room);
-        if count == 0 {
-            return Err(io::Error::from(ErrorKind::BrokenPipe));
-        }
-        self.text.extend_from_slice(&buf[..count])?;
-        self.room -= count;
-        Ok(count)
-    }
-
-    fn flush(&mut self) -> io::Result<()> {
-        Ok(())
-    }
-}
-
 #[test]
 fn faults_of_streams_are_told(rt: HostRuntime) -> Result<(), Fail> {
     let alloc = rt.alloc();
-    let mut failing = FailingReader {
-        text: b"filter q { accept; }",
-    };
+    let mut failing = FailingReader::new(b"filter q { accept; }");
     let mut written = Vec::new(alloc);
     let read = ProgramFault::Stream(StreamFault::Read);
     assert_eq!(&rt;
@@ -462,18 +320,14 @@ fn faults_of_streams_are_told(rt: HostRuntime) -> Result<(), Fail> {
         Err(read)
     );
     assert_eq!(&rt; written.len(), 0);
-    for room in [0, 5, 30] {
+    // The last one takes all 39 bytes, and fails when it is flushed.
+    for room in [0, 5, 30, 39] {
         let mut reader: &[u8] = b"filter q { accept; }";
-        let mut writer = FailingWriter {
-            room,
-            text: Vec::new(alloc),
-        };
+        let mut writer = FailingWriter::new(alloc, room);
         let result = check_text(alloc, &mut reader, &mut writer, 8, false);
         assert_eq!(&rt; result, Err(ProgramFault::WRITE));
-        assert_eq!(&rt; writer.text.len(), room);
-        assert!(&rt;
-            b"code 4e434631000000027071\nverified 1 0\n".starts_with(writer.text.as_slice())
-        );
+        assert_eq!(&rt; writer.text().len(), room);
+        assert!(&rt; b"code 4e434631000000027071\nverified 1 0\n".starts_with(writer.text()));
     }
     Ok(())
 }

@@ -7,6 +7,7 @@ use filter_types::check;
 use prefix_patterns::{Ip, Prefix};
 use std::alloc::Global;
 use std::test::Fail;
+use worked_rows::{FILTERS, answer, listing, route_in};
 
 /// What a filter's text is compiled to.
 fn compiled(alloc: Global, text: &str) -> Result<Result<Code, CompileFault>, Fail> {
@@ -20,16 +21,6 @@ fn code_of(alloc: Global, text: &str) -> Result<Code, Fail> {
     Ok(compiled(alloc, text)??)
 }
 
-/// The instructions of a code, each with a `;` behind it.
-fn listing(alloc: Global, code: &Code) -> Result<String, Fail> {
-    let mut text = String::new(alloc);
-    for instr in code.instrs() {
-        let shown = format!(in alloc; "{instr};")?;
-        text.push_str(&shown)?;
-    }
-    Ok(text)
-}
-
 /// What a code says of the route to 10.0.0.0/8 with a metric, in a network of a size.
 fn outcome(code: &Code, metric: u32, size: u32) -> Result<Outcome, Fail> {
     let net = Prefix::new(Ip(0x0a00_0000), 8).ok_or("a prefix of 8 bits")?;
@@ -37,72 +28,28 @@ fn outcome(code: &Code, metric: u32, size: u32) -> Result<Outcome, Fail> {
     Ok(run_checked(code, &route))
 }
 
-const NOT_TOO_FAR: &str =
-    "filter not_too_far int var; { if defined( rip_metric ) then var = rip_metric; \
-    else { var = 1; rip_metric = 1; } \
-    if rip_metric > 10 then reject \"RIP metric is too big\"; else accept \"ok\"; }";
-
 #[test]
-fn a_metric_above_ten_is_too_far(rt: HostRuntime) -> Result<(), Fail> {
-    let code = code_of(rt.alloc(), NOT_TOO_FAR)?;
-    assert_eq!(rt;
-        listing(rt.alloc(), &code)?.as_str(),
-        "INT 0;STORE 0;BOOL true;JUMPIFNOT 3;METRIC;STORE 0;JUMP 6;\
-        INT 1;STORE 0;INT 1;RECEIVED;MAX;SETMETRIC;METRIC;INT 10;LE;NOT;JUMPIFNOT 2;REJECT;JUMP 1;ACCEPT;REJECT;"
-    );
-    assert_eq!(rt; outcome(&code, 11, 16)?, Outcome::Reject);
-    assert_eq!(rt; outcome(&code, 10, 16)?, Outcome::Accept(10));
-    Ok(())
-}
-
-#[test]
-fn a_metric_is_set_within_its_range(rt: HostRuntime) -> Result<(), Fail> {
-    let up = code_of(
-        rt.alloc(),
-        "filter up2 { rip_metric = rip_metric + 2; accept; }",
-    )?;
-    assert_eq!(rt; outcome(&up, 7, 8)?, Outcome::Accept(8));
-    let low = code_of(rt.alloc(), "filter low { rip_metric = 1; accept; }")?;
-    assert_eq!(rt; outcome(&low, 5, 8)?, Outcome::Accept(5));
-    let wrap = code_of(
-        rt.alloc(),
-        "filter wrap { rip_metric = rip_metric + 4294967295; accept; }",
-    )?;
-    assert_eq!(rt; outcome(&wrap, 3, 8)?, Outcome::Accept(3));
-    Ok(())
-}
-
-#[test]
-fn the_else_belongs_to_the_nearest_if(rt: HostRuntime) -> Result<(), Fail> {
-    let code = code_of(
-        rt.alloc(),
-        "filter e { if false then if true then accept; else accept; }",
-    )?;
-    assert_eq!(rt;
-        listing(rt.alloc(), &code)?.as_str(),
-        "BOOL false;JUMPIFNOT 5;BOOL true;JUMPIFNOT 2;ACCEPT;JUMP 1;ACCEPT;REJECT;"
-    );
-    assert_eq!(rt; outcome(&code, 3, 8)?, Outcome::Reject);
-    Ok(())
-}
-
-#[test]
-fn what_is_skipped_divides_by_nothing(rt: HostRuntime) -> Result<(), Fail> {
-    let skipped = code_of(
-        rt.alloc(),
-        "filter z { if false && 1 / 0 = 1 then accept; else accept; }",
-    )?;
-    assert_eq!(rt; skipped.instrs().len(), 14);
-    assert_eq!(rt; outcome(&skipped, 3, 8)?, Outcome::Accept(3));
-    let divided = code_of(
-        rt.alloc(),
-        "filter d { if 8 / rip_metric = 2 then accept; }",
-    )?;
-    assert_eq!(rt; outcome(&divided, 4, 8)?, Outcome::Accept(4));
-    assert_eq!(rt;
-        outcome(&divided, 0, 8)?,
-        Outcome::Fault(FaultKind::ZeroDivisor, 2)
-    );
+fn worked_filters(rt: HostRuntime) -> Result<(), Fail> {
+    let alloc = rt.alloc();
+    for row in FILTERS {
+        let code = code_of(alloc, row.text)?;
+        assert_eq!(rt;
+            listing(alloc, &code)?.as_str(),
+            row.listing,
+            "{}",
+            row.text
+        );
+        for line in row.routes {
+            let route = route_in(line, row.size).ok_or("a route within the limits")?;
+            let outcome = run_checked(&code, &route);
+            assert_eq!(rt;
+                answer(alloc, outcome)?.as_str(),
+                line.answer,
+                "{}",
+                row.text
+            );
+        }
+    }
     Ok(())
 }
 
@@ -194,10 +141,10 @@ fn sets_are_numbered_in_the_order_of_the_text(rt: HostRuntime) -> Result<(), Fai
     let code = code_of(rt.alloc(), text)?;
     assert_eq!(rt;
         listing(rt.alloc(), &code)?.as_str(),
-        "NET;MEMBER 0;JUMPIFNOT 2;BOOL true;JUMP 3;NET;MEMBER 1;NOT;\
-        JUMPIFNOT 2;REJECT;JUMP 20;\
-        NET;ADDR;MASK 8;IP 10.0.0.0;EQ;JUMPIFNOT 5;NET;LEN;INT 8;LE;JUMP 1;BOOL false;\
-        JUMPIFNOT 4;NET;PREFIX 10.0.0.0/8;WITHIN;JUMP 1;BOOL false;JUMPIFNOT 1;ACCEPT;REJECT;"
+        "NET; MEMBER 0; JUMPIFNOT 2; BOOL true; JUMP 3; NET; MEMBER 1; NOT; \
+        JUMPIFNOT 2; REJECT; JUMP 20; \
+        NET; ADDR; MASK 8; IP 10.0.0.0; EQ; JUMPIFNOT 5; NET; LEN; INT 8; LE; JUMP 1; BOOL false; \
+        JUMPIFNOT 4; NET; PREFIX 10.0.0.0/8; WITHIN; JUMP 1; BOOL false; JUMPIFNOT 1; ACCEPT; REJECT"
     );
     assert_eq!(rt; code.sets().len(), 2);
     assert_eq!(rt; outcome(&code, 3, 8)?, Outcome::Accept(3));

@@ -1,5 +1,6 @@
 //! Texts and what is answered on them: codes and places of faults are shown here, by tables.
 
+use crate::left_out::LEFT_OUT_WORDS;
 use filter_parser::{Attribute, Command, Expected, MaskLength, ParseFault, parse};
 use filter_tokens::TokenFault;
 use std::alloc::Global;
@@ -434,31 +435,6 @@ const LEFT_OUT: [Row; 20] = [
 fn left_out(rt: HostRuntime) -> Result<(), ParseFault> {
     compare(&rt, rt.alloc(), &LEFT_OUT)
 }
-
-const LEFT_OUT_WORDS: [&str; 22] = [
-    "case",
-    "function",
-    "define",
-    "print",
-    "printn",
-    "return",
-    "include",
-    "string",
-    "pair",
-    "quad",
-    "ec",
-    "lc",
-    "bgppath",
-    "bgpmask",
-    "clist",
-    "eclist",
-    "lclist",
-    "set",
-    "from",
-    "proto",
-    "preference",
-    "source",
-];
 
 /// A front, a part so many times, and an end.
 fn repeated(

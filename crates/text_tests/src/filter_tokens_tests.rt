@@ -1,5 +1,6 @@
 //! Texts with their tokens and faults.
 
+use crate::left_out::LEFT_OUT_WORDS;
 use filter_tokens::{Lexed, TokenFault, lex};
 use std::alloc::{AllocError, Global};
 use std::process::Abort;
@@ -302,31 +303,7 @@ fn names(rt: HostRuntime) -> Result<(), Fail> {
 /// Each word that is left out. No token stands before it, and so no memory is taken.
 #[test]
 fn words_left_out(rt: HostRuntime) -> Result<(), Fail> {
-    let words = [
-        "case",
-        "function",
-        "define",
-        "print",
-        "printn",
-        "return",
-        "include",
-        "string",
-        "pair",
-        "quad",
-        "ec",
-        "lc",
-        "bgppath",
-        "bgpmask",
-        "clist",
-        "eclist",
-        "lclist",
-        "set",
-        "from",
-        "proto",
-        "preference",
-        "source",
-    ];
-    for word in &words {
+    for word in LEFT_OUT_WORDS {
         let Lexed { tokens, fault } = lex(rt.alloc(), word.as_bytes())?;
         assert_eq!(rt; fault, Some(TokenFault::WordLeftOut(0)), "at {word}");
         assert_eq!(rt; tokens.len(), 0);

@@ -9,3 +9,5 @@ mod filter_parser_tests;
 mod filter_tokens_tests;
 #[cfg(test)]
 mod filter_types_tests;
+#[cfg(test)]
+mod left_out;
