@@ -1,5 +1,8 @@
 //! What happens at a router.
 
+ghost use Rattle.std.specs.Prelude.{◌≡◌};
+
+use crate::tables::Tables;
 use filter_verifier::Verified;
 use std::sync::Arc;
 
@@ -23,4 +26,18 @@ pub enum Event {
     SetExport(u16, Arc<Verified>),
     /// A look at the route to a node.
     Show(u16),
+}
+
+impl Event {
+    ghost use Rattle.netchange_core.specs.Calls.{room_of};
+
+    /// At most how many messages the tables' reply to the event has.
+    pub fn room(&self, tables: &Tables) -> usize
+        ensures { result ≡ room_of tables.now self.now }
+    {
+        match self {
+            Event::Take(session, max) => usize::from(*max).min(tables.queued(*session)),
+            _ => 0,
+        }
+    }
 }

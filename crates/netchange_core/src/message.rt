@@ -1,6 +1,6 @@
 //! What routers tell one another.
 
-ghost use Rattle.std.specs.Prelude.{◌≡◌};
+ghost use Rattle.std.specs.Prelude.{◌≡◌, ◌≤◌, ◌↔◌, IsTrue, [], length, vec_capacity};
 
 use std::marker::Model;
 
@@ -49,4 +49,41 @@ impl Messages {
     {
         self.items
     }
+}
+
+impl Messages {
+    /// The same messages, in a vector that has room for them.
+    pub fn copy_into(&self, room: Vec<Message>) -> Messages
+        requires fits { length self.now ≤ vec_capacity room }
+        requires empty { room.items ≡ [] }
+        ensures { result ≡ self.now }
+    {
+        let mut items = room;
+        for message in self.as_slice() {
+            items.push_reserved(*message);
+        }
+        Messages { items }
+    }
+
+    /// Whether the messages are the same, in the same order.
+    pub fn is_same(&self, other: &Messages) -> bool
+        ensures { IsTrue result ↔ (self.now ≡ other.now) }
+    {
+        are_same(self.as_slice(), other.as_slice())
+    }
+}
+
+/// Whether two lists of messages are the same.
+fn are_same(one: &[Message], two: &[Message]) -> bool
+    ensures { IsTrue result ↔ (one.now ≡ two.now) }
+{
+    if one.len() != two.len() {
+        return false;
+    }
+    for i in 0..one.len() {
+        if one[i] != two[i] {
+            return false;
+        }
+    }
+    true
 }

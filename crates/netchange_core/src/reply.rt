@@ -1,8 +1,8 @@
 //! What a router replies to an event.
 
-ghost use Rattle.std.specs.Prelude.{◌≡◌};
+ghost use Rattle.std.specs.Prelude.{◌≡◌, ◌≤◌, ◌↔◌, IsTrue, [], length, vec_capacity};
 
-use crate::message::Messages;
+use crate::message::{Message, Messages};
 use thiserror::Error;
 
 /// Through whom a route goes.
@@ -82,4 +82,40 @@ pub enum Reply {
     },
     /// The event was refused.
     Refused(Refusal),
+}
+
+impl Reply {
+    ghost use Rattle.netchange_core.specs.Calls.{carried};
+
+    /// The same reply. Its messages, if it has any, are put into a vector that has room for them.
+    pub fn copy_into(&self, room: Vec<Message>) -> Reply
+        requires fits { length (carried self.now) ≤ vec_capacity room }
+        requires empty { room.items ≡ [] }
+        ensures { result ≡ self.now }
+    {
+        match self {
+            Reply::Opened(session) => Reply::Opened(*session),
+            Reply::Done { changed } => Reply::Done { changed: *changed },
+            Reply::Messages(messages) => Reply::Messages(messages.copy_into(room)),
+            Reply::Route { dist, via } => Reply::Route {
+                dist: *dist,
+                via: *via,
+            },
+            Reply::Refused(why) => Reply::Refused(*why),
+        }
+    }
+
+    /// Whether two replies are the same, with the same messages in the same order.
+    pub fn is_same(&self, other: &Reply) -> bool
+        ensures { IsTrue result ↔ (self.now ≡ other.now) }
+    {
+        match (self, other) {
+            (Reply::Opened(one), Reply::Opened(two)) => one == two,
+            (Reply::Done { changed: one }, Reply::Done { changed: two }) => one == two,
+            (Reply::Messages(one), Reply::Messages(two)) => one.is_same(two),
+            (Reply::Route { dist, via }, Reply::Route { dist: d, via: v }) => dist == d && via == v,
+            (Reply::Refused(one), Reply::Refused(two)) => one == two,
+            _ => false,
+        }
+    }
 }
