@@ -3,7 +3,7 @@
 use Rattle.std.specs.Prelude.{ℕ, ◌<◌, ◌==◌, ◌&&◌, Bool, true, false, List, [], ◌∷◌, slice_index, nat_le, Option, is_some, find}
 use Rattle.byteorder.specs.Endian.{big_number}
 use Rattle.prefix_patterns.specs.Matching.{pattern_limit}
-use Rattle.prefix_patterns.specs.Bits.{prefix_bits, address_of}
+use Rattle.prefix_patterns.specs.Bits.{address_length, prefix_bits, address_of}
 use Rattle.filter_code.specs.declared.instruction.Instr.{Instr}
 use Rattle.filter_code.specs.declared.instruction.Instr.TheVariants as instr
 use Rattle.filter_code.specs.Limits.{local_limit, set_limit, instruction_limit}
@@ -73,11 +73,11 @@ abbrev pub is_prefix : List ℕ → Bool
 is_prefix bytes =
     let address = big_number 4 bytes in
     let len = slice_index bytes 4 in
-    nat_le len 32 && (address_of (prefix_bits address len) == address)
+    nat_le len address_length && (address_of (prefix_bits address len) == address)
 
--- behind a prefix, the least and the greatest length are in order and at most 32
+-- behind a prefix, the least and the greatest length are in order and at most that of an address
 abbrev pub is_pattern : List ℕ → Bool
-is_pattern bytes = is_prefix bytes && (nat_le (slice_index bytes 5) (slice_index bytes 6) && nat_le (slice_index bytes 6) 32)
+is_pattern bytes = is_prefix bytes && (nat_le (slice_index bytes 5) (slice_index bytes 6) && nat_le (slice_index bytes 6) address_length)
 
 -- whether these bytes may stand in a field
 abbrev pub is_good : FieldKind → List ℕ → Bool
@@ -92,7 +92,7 @@ is_good WordOperand bytes = true
 is_good TruthOperand bytes = nat_le (number TruthOperand bytes) 1
 is_good PrefixOperand bytes = is_prefix bytes
 is_good NameOperand bytes = true
-is_good BitsOperand bytes = nat_le (number BitsOperand bytes) 32
+is_good BitsOperand bytes = nat_le (number BitsOperand bytes) address_length
 is_good SkipOperand bytes = true
 
 -- the fault of a whole field with other bytes, by the place of its first byte

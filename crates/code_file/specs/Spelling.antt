@@ -3,7 +3,7 @@ use Rattle.std.specs.Prelude.{ℕ, ◌<◌, ◌≤◌, ◌^◌, if◌then◌else
 use Rattle.std.specs.List.{flat_map, AllByRecursion}
 use Rattle.byteorder.specs.Endian.{big_bytes}
 use Rattle.prefix_patterns.specs.Matching.{pattern_limit}
-use Rattle.prefix_patterns.specs.Bits.{address_of}
+use Rattle.prefix_patterns.specs.Bits.{address_length, address_of}
 use Rattle.prefix_patterns.specs.Matching.{PrefixPattern, HasOrderedLengths}
 use Rattle.filter_code.specs.declared.instruction.Instr.{Instr}
 use Rattle.filter_code.specs.declared.instruction.Instr.TheVariants as instr
@@ -77,7 +77,7 @@ spelling code = bytes_of (fields code)
 
 -- bits of an address, and lengths in order
 pub record IsPattern (p : PrefixPattern) : Type 0 where
-  pub prefix : length p.bits ≤ 32
+  pub prefix : length p.bits ≤ address_length
   pub lengths : HasOrderedLengths p.low p.high
 
 -- a set within the limit
@@ -89,10 +89,10 @@ pub record IsSet (patterns : List PrefixPattern) : Type 0 where
 abbrev pub IsInstruction : Instr → Type 0
 IsInstruction (instr.Int n) = n < 2 ^ 32
 IsInstruction (instr.Ip a) = a.0 < 2 ^ 32
-IsInstruction (instr.Prefix bits) = length bits ≤ 32
+IsInstruction (instr.Prefix bits) = length bits ≤ address_length
 IsInstruction (instr.Load i) = i < 256
 IsInstruction (instr.Store i) = i < 256
-IsInstruction (instr.Mask n) = n ≤ 32
+IsInstruction (instr.Mask n) = n ≤ address_length
 IsInstruction (instr.Member i) = i < 256
 IsInstruction (instr.Jump k) = k < 2 ^ 16
 IsInstruction (instr.JumpIfNot k) = k < 2 ^ 16

@@ -9,14 +9,11 @@ ghost use Rattle.code_file.specs.Reading.{behind, Reads, a_number, prefix_of, pa
 use crate::fault::FileFault;
 use byteorder::{BigEndian, ByteOrder};
 use filter_code::{INSTRUCTION_LIMIT, Instr, LOCAL_LIMIT, SET_LIMIT};
-use prefix_patterns::{Ip, MAX_PATTERNS, Pattern, Prefix};
+use prefix_patterns::{ADDRESS_LENGTH, Ip, PATTERN_LIMIT, Pattern, Prefix};
 use std::marker::Model;
 
 /// The bytes with which each file begins.
 pub const MARK: [u8; 4] = *b"NCF1";
-
-/// The bits that a MASK may keep.
-const ADDRESS_BITS: u8 = 32;
 
 /// The bytes that are left of a file, and how many stood before them.
 #[derive(Drop)]
@@ -126,11 +123,11 @@ impl<'a> Reader<'a> {
     /// The number of patterns of a set.
     pub fn pattern_count(&mut self) -> Result<u16, FileFault>
         ensures value { Reads (λ n. n) (a_number Patterns) self.old self.new result }
-        ensures limit { IfOk result (λ n. n ≤ MAX_PATTERNS) }
+        ensures limit { IfOk result (λ n. n ≤ PATTERN_LIMIT) }
     {
         let at = self.at;
         let number = BigEndian::read_u16(self.field(2)?);
-        if number as usize > MAX_PATTERNS {
+        if number as usize > PATTERN_LIMIT {
             return Err(FileFault::OverLimit(at));
         }
         Ok(number)
@@ -199,7 +196,7 @@ impl<'a> Reader<'a> {
             Instr::Load(_) => Ok(Instr::Load(self.field(1)?[0])),
             Instr::Store(_) => Ok(Instr::Store(self.field(1)?[0])),
             Instr::Mask(_) => match self.field(1)?[0] {
-                bits if bits <= ADDRESS_BITS => Ok(Instr::Mask(bits)),
+                bits if bits <= ADDRESS_LENGTH => Ok(Instr::Mask(bits)),
                 _ => Err(FileFault::BadOperand(at)),
             },
             Instr::Member(_) => Ok(Instr::Member(self.field(1)?[0])),

@@ -10,7 +10,7 @@ ghost use Rattle.code_file.specs.Reading.{a_pattern, a_set, an_instruction, a_co
 use crate::fault::FileFault;
 use crate::reader::Reader;
 use filter_code::{Code, INSTRUCTION_LIMIT, Instr, SET_LIMIT};
-use prefix_patterns::{MAX_PATTERNS, Pattern, PatternSet};
+use prefix_patterns::{PATTERN_LIMIT, Pattern, PatternSet};
 use std::alloc::Global;
 
 /// So many patterns.

@@ -2,6 +2,7 @@
 
 ghost use Rattle.std.specs.Prelude.{◌≡◌, ◌≤◌, ◌++◌, ◌∷◌, [], List, All, length, OnOk, IfOk, IfErr};
 ghost use Rattle.std.specs.List.{flat_map};
+ghost use Rattle.prefix_patterns.specs.Bits.{address_length};
 ghost use Rattle.filter_code.specs.CodeView.{HasMask};
 ghost use Rattle.code_file.specs.Spelling.{bytes_of, prefix_bytes, pattern as pattern_field, set as set_fields, instruction, spelling, IsPattern, IsSet, IsInstruction, IsCode};
 
@@ -13,7 +14,7 @@ use std::alloc::{AllocError, Global};
 
 fn put_prefix(out: &mut Vec<u8>, prefix: Prefix) -> Result<(), AllocError>
     ensures written { OnOk result (out.new.items ≡ out.old.items ++ prefix_bytes prefix) }
-    ensures fits { length prefix ≤ 32 }
+    ensures fits { length prefix ≤ address_length }
 {
     let len = prefix.len();
     out.extend_from_slice(&prefix.address().0.to_be_bytes())?;

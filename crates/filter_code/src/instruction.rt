@@ -1,7 +1,7 @@
 ghost use Rattle.std.specs.Prelude.{◌≡◌, ◌↔◌, IsTrue};
 ghost use Rattle.filter_code.specs.Instruction.{opcode};
 
-use prefix_patterns::{Ip, Prefix};
+use prefix_patterns::{ADDRESS_LENGTH, Ip, Prefix};
 use std::fmt;
 
 /// One instruction of filter code.
@@ -76,7 +76,7 @@ impl Instr {
         ensures { IsTrue result ↔ HasMask self.now }
     {
         match self {
-            Instr::Mask(bits) => *bits <= 32,
+            Instr::Mask(bits) => *bits <= ADDRESS_LENGTH,
             _ => true,
         }
     }

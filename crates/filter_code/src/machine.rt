@@ -1,5 +1,5 @@
 ghost use Rattle.std.specs.Prelude.{◌≡◌, ℕ, ◌+◌, ◌-◌, ◌*◌, ◌/◌, ◌%◌, ◌^◌, ◌<◌, ◌≤◌, true, false, List, ◌∷◌, Some, length, max, min, nat_le, nat_lt, slice_get, IfOk, MatchResult};
-ghost use Rattle.prefix_patterns.specs.Bits.{address_of, prefix_bits};
+ghost use Rattle.prefix_patterns.specs.Bits.{address_length, address_of, prefix_bits};
 ghost use Rattle.prefix_patterns.specs.Matching.{lies_within};
 ghost use Rattle.filter_code.specs.Limits.{stack_limit};
 ghost use Rattle.filter_code.specs.declared.outcome.FaultKind.TheVariants as fault;
@@ -232,7 +232,7 @@ fn within(operands: (Value, Value)) -> Result<Value, FaultKind>
 /// The address with its first bits kept and the others cleared.
 #[inline(always)]
 fn masked(ip: Ip, bits: u8) -> Ip
-    requires { bits ≤ 32 }
+    requires { bits ≤ address_length }
     ensures { result.0 ≡ address_of (prefix_bits ip.0 bits) }
 {
     Prefix::new(ip, bits).unwrap().address()

@@ -1,9 +1,8 @@
 -- What a route line says (this project's own choice).
-use Rattle.std.specs.Prelude.{ℕ, ◌&&◌, Bool, List, [], ◌∷◌, length, Option, Some, None, Result, Ok, Err, nat_le, nat_lt, if◌then◌else◌, codes}
+use Rattle.std.specs.Prelude.{ℕ, Bool, List, [], ◌∷◌, length, Option, Some, None, Result, Ok, Err, nat_lt, if◌then◌else◌, codes}
 use Rattle.prefix_patterns.specs.Reading.{number_in, prefix_in}
-use Rattle.filter_code.specs.RouteView.{RouteView}
+use Rattle.filter_code.specs.RouteView.{RouteView, is_within_limits}
 use Rattle.line_protocol.specs.Words.{words}
-use Rattle.filter_code.specs.Limits.{smallest_size, largest_size}
 use Rattle.line_protocol.specs.Limits.{line_limit}
 use Rattle.filter_commands.specs.Limits.{number_limit}
 use Rattle.filter_commands.specs.declared.line_fault.LineFault.{LineFault}
@@ -16,10 +15,6 @@ line_code Numbers = codes "O2"
 line_code Hexadecimal = codes "O3"
 line_code TooLong = codes "O7"
 line_code Network = codes "O8"
-
--- a domain has 2 to 64 nodes, and a metric is at most their number
-abbrev pub is_within_limits : ℕ → ℕ → Bool
-is_within_limits metric size = nat_le smallest_size size && nat_le size largest_size && nat_le metric size
 
 -- the route of a network, a metric and a size, where all three were read; the first fault from the left counts
 abbrev pub route_of_parts : Option (List Bool) → Option ℕ → Option ℕ → Result RouteView LineFault

@@ -6,7 +6,7 @@ ghost use Rattle.filter_compiler.specs.Measures.{instructions_alone, plus, with_
 
 use crate::fault::CompileFault;
 use filter_code::{INSTRUCTION_LIMIT, SET_LIMIT};
-use prefix_patterns::MAX_PATTERNS;
+use prefix_patterns::PATTERN_LIMIT;
 
 /// How large a part of a filter's code is.
 #[derive(Clone, Copy, Debug, PartialEq, Eq)]
@@ -63,7 +63,7 @@ impl Measure {
         if self.instructions > INSTRUCTION_LIMIT {
             return Err(CompileFault::TooManyInstructions);
         }
-        if self.sets > SET_LIMIT || self.patterns > MAX_PATTERNS {
+        if self.sets > SET_LIMIT || self.patterns > PATTERN_LIMIT {
             return Err(CompileFault::TooManySets);
         }
         Ok(())

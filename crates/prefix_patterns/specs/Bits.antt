@@ -11,9 +11,13 @@ unfoldable pub number : List Bool → ℕ
 number [] = 0
 number (digit ∷ digits) = (if digit then 2 ^ length digits else 0) + number digits
 
--- an address is its 32 bits
+-- how many bits an address has
+abbrev pub address_length : ℕ
+address_length = 32
+
+-- an address as its bits
 abbrev pub address_bits : ℕ → List Bool
-address_bits address = bits 32 address
+address_bits address = bits address_length address
 
 -- a prefix is the first bits of an address
 abbrev pub prefix_bits : ℕ → ℕ → List Bool
@@ -21,9 +25,9 @@ prefix_bits address len = take len (address_bits address)
 
 -- the first address that begins with the bits: zeros follow them
 abbrev pub address_of : List Bool → ℕ
-address_of bits = number bits * 2 ^ (32 - length bits)
+address_of bits = number bits * 2 ^ (address_length - length bits)
 
 -- an address that is the first of the prefix of a length: no bit past the length is set
 pub record HasNoBitPast (len address : ℕ) : Type 0 where
-  pub limit : len ≤ 32
+  pub limit : len ≤ address_length
   pub clear : address_of (prefix_bits address len) ≡ address

@@ -3,6 +3,7 @@ use Rattle.std.specs.Prelude.{◌≡◌, ℕ, ◌≤◌, ◌&&◌, nat_le, min, 
 use Rattle.std.specs.Bool.{beq}
 use Rattle.std.specs.Cmp.Lexicographic.{pointwise}
 use Rattle.std.specs.List.{Any, list_any}
+use Rattle.prefix_patterns.specs.Bits.{address_length}
 
 -- the bits begin with those of a prefix: the address or the prefix that has them lies within it, or is that prefix
 abbrev pub LiesWithin : List Bool → List Bool → Type 0
@@ -20,7 +21,7 @@ pub record PrefixPattern : Type 0 where
 -- a pattern's lengths are in order, and within those of an address
 pub record HasOrderedLengths (low high : ℕ) : Type 0 where
   pub order : low ≤ high
-  pub limit : high ≤ 32
+  pub limit : high ≤ address_length
 
 -- how many bits two lists both have
 abbrev pub shared_length : List Bool → List Bool → ℕ

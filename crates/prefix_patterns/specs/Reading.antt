@@ -3,7 +3,7 @@ use Rattle.std.specs.Prelude.{ℕ, ◌+◌, ◌==◌, ◌&&◌, if◌then◌else
 use Rattle.std.specs.Int.{w32, from_be_bytes}
 use Rattle.std.specs.Option.{option_map}
 use Rattle.std.specs.Str.{all_ascii_digits}
-use Rattle.prefix_patterns.specs.Bits.{prefix_bits}
+use Rattle.prefix_patterns.specs.Bits.{address_length, prefix_bits}
 use Rattle.prefix_patterns.specs.Number.{decimal_value}
 use Rattle.prefix_patterns.specs.Token.{dot, slash}
 
@@ -49,5 +49,5 @@ unfoldable pub prefix_in : List ℕ → Option (List Bool)
 prefix_in text = do
   parts ← parts_at slash text
   address ← address_in parts.0
-  len ← number_in 32 parts.1
+  len ← number_in address_length parts.1
   Some (prefix_bits address len)

@@ -1,4 +1,5 @@
 ghost use Rattle.std.specs.Prelude.{◌<◌, ◌≤◌, ◌^◌, ℕ, Bool, List, Some, length};
+ghost use Rattle.prefix_patterns.specs.Bits.{address_length};
 ghost use Rattle.prefix_patterns.specs.Spelling.{address_text, prefix_text};
 ghost use Rattle.prefix_patterns.specs.Token.{IsAddress, IsPrefix};
 
@@ -27,6 +28,6 @@ impl fmt::Display for Prefix {
 
 /// What is displayed of an address or a prefix is a text that writes it, so reading the text gives it back.
 pub fn displayed_text_is_read()
-    ensures address { (address : ℕ) → address < 2 ^ 32 → IsAddress (address_text address) address }
-    ensures prefix { (prefix : List Bool) → length prefix ≤ 32 → IsPrefix (prefix_text prefix) prefix }
+    ensures address { (address : ℕ) → address < 2 ^ address_length → IsAddress (address_text address) address }
+    ensures prefix { (prefix : List Bool) → length prefix ≤ address_length → IsPrefix (prefix_text prefix) prefix }
 {}

@@ -9,10 +9,10 @@ mod prefix;
 mod set;
 mod token;
 
-pub use address::Ip;
+pub use address::{ADDRESS_LENGTH, Ip};
 pub use display::displayed_text_is_read;
 pub use number::read_number;
 pub use pattern::Pattern;
 pub use prefix::Prefix;
-pub use set::{MAX_PATTERNS, PatternSet, SetFault};
+pub use set::{PATTERN_LIMIT, PatternSet, SetFault};
 pub use token::{read_ip, read_prefix};

@@ -2,6 +2,7 @@ ghost use Rattle.std.specs.Prelude.{◌≡◌, ◌≤◌, ◌&&◌, IsTrue, ◌�
 ghost use Rattle.std.specs.Option.{SomeIff};
 ghost use Rattle.prefix_patterns.specs.Matching.{HasOrderedLengths, Matches, matches};
 
+use crate::address::ADDRESS_LENGTH;
 use crate::prefix::Prefix;
 use std::marker::Model;
 
@@ -33,7 +34,7 @@ impl Pattern {
     pub fn new(prefix: Prefix, low: u8, high: u8) -> Option<Pattern>
         ensures { SomeIff result (HasOrderedLengths low high) (record { bits = prefix; low = low; high = high }) }
     {
-        if low <= high && high <= 32 {
+        if low <= high && high <= ADDRESS_LENGTH {
             Some(Pattern { prefix, low, high })
         } else {
             None

@@ -4,10 +4,10 @@ ghost use Rattle.std.specs.Cmp.{bool_eq_equiv, partial_equiv_from_equiv};
 ghost use Rattle.std.specs.Cmp.Lexicographic.{pointwise};
 ghost use Rattle.std.specs.Prelude.{◌≡◌, ◌≤◌, ◌↔◌, IsTrue, length, take};
 ghost use Rattle.std.specs.Option.{SomeIff};
-ghost use Rattle.prefix_patterns.specs.Bits.{address_bits, prefix_bits, address_of};
+ghost use Rattle.prefix_patterns.specs.Bits.{address_bits, address_length, address_of, prefix_bits};
 ghost use Rattle.prefix_patterns.specs.Matching.{LiesWithin, lies_within, has_same_bits};
 
-use crate::address::Ip;
+use crate::address::{ADDRESS_LENGTH, Ip};
 use std::marker::Model;
 
 /// An IPv4 prefix: the addresses that begin with its bits, of which there are 0 to 32.
@@ -39,9 +39,9 @@ impl Prefix {
     /// The prefix of the first `len` bits of an address, whose other bits are left out.
     /// None exactly where `len` is above 32.
     pub fn new(ip: Ip, len: u8) -> Option<Prefix>
-        ensures { SomeIff result (len ≤ 32) (prefix_bits ip.0 len) }
+        ensures { SomeIff result (len ≤ address_length) (prefix_bits ip.0 len) }
     {
-        if len > 32 {
+        if len > ADDRESS_LENGTH {
             return None;
         }
         Some(Prefix::masked(ip, len))
@@ -49,10 +49,10 @@ impl Prefix {
 
     /// The prefix of the first `len` bits of an address, whose other bits are left out.
     pub(crate) fn masked(ip: Ip, len: u8) -> Prefix
-        requires { len ≤ 32 }
+        requires { len ≤ address_length }
         ensures { result ≡ prefix_bits ip.0 len }
     {
-        let host_bits = 32 - len;
+        let host_bits = ADDRESS_LENGTH - len;
         let cleared = u64::from(ip.0) >> host_bits << host_bits;
         Prefix {
             address: cleared as u32,
@@ -102,7 +102,7 @@ impl Prefix {
     /// The number of the prefix's bits.
     pub fn len(&self) -> u8
         ensures bits { result ≡ length self.now }
-        ensures limit { result ≤ 32 }
+        ensures limit { result ≤ address_length }
     {
         self.len
     }

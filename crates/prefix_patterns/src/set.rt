@@ -9,7 +9,7 @@ use std::marker::Model;
 use thiserror::Error;
 
 /// The greatest number of patterns in a set.
-pub const MAX_PATTERNS: usize = 1024;
+pub const PATTERN_LIMIT: usize = 1024;
 
 /// A set of patterns. A contract sees it as the list of its patterns, in the order given.
 #[derive(Debug, Drop)]
@@ -62,7 +62,7 @@ impl PatternSet {
         ensures built { IfOk result (λ set. set ≡ patterns.now) }
         ensures too_many { IsErrOf result SetFault.TooManyPatterns ↔ (pattern_limit < length patterns.now) }
     {
-        if patterns.len() > MAX_PATTERNS {
+        if patterns.len() > PATTERN_LIMIT {
             return Err(SetFault::TooManyPatterns);
         }
         match Vec::from_slice(alloc, patterns) {

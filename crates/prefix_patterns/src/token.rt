@@ -3,7 +3,7 @@ ghost use Rattle.std.specs.Option.{IsSomeAnd, option_map};
 ghost use Rattle.prefix_patterns.specs.Reading.{number_in, parts_at, groups_in, address_in, prefix_in};
 ghost use Rattle.prefix_patterns.specs.Token.{IsAddress, IsPrefix};
 
-use crate::address::Ip;
+use crate::address::{ADDRESS_LENGTH, Ip};
 use crate::number::read_number;
 use crate::prefix::Prefix;
 
@@ -18,7 +18,7 @@ pub fn read_prefix(text: &[u8]) -> Option<Prefix>
 {
     let (address, len) = cut(text, b'/')?;
     let ip = read_ip(address)?;
-    let len = read_number(len, 32)?;
+    let len = read_number(len, u32::from(ADDRESS_LENGTH))?;
     Some(Prefix::masked(ip, len as u8))
 }
 
