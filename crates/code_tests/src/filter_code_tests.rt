@@ -5,8 +5,9 @@ use filter_code::{
 };
 use prefix_patterns::{Ip, Pattern, PatternSet, Prefix};
 use std::alloc::Global;
+use std::process::Abort;
 use std::test::Fail;
-use worked_rows::{FILTERS, answer, code_of_file, route_in};
+use worked_rows::{FILTERS, WorkedFilter, answer, code_of_file, route_in};
 
 /// The route to 10.0.0.0/8.
 fn route(metric: u32, size: u32) -> Result<Route, Fail> {
@@ -27,22 +28,27 @@ fn outcome_on(alloc: Global, instrs: &[Instr], metric: u32) -> Result<Outcome, F
     Ok(run_checked(&code, &route(metric, 8)?))
 }
 
+/// Compares the outcomes of a filter's routes, and the steps of their runs.
+fn compare(rt: &impl Abort, alloc: Global, row: &WorkedFilter) -> Result<(), Fail> {
+    let code = code_of_file(alloc, row.file)?;
+    for line in row.routes {
+        let route = route_in(line, row.size).ok_or("a route within the limits")?;
+        let Counted { outcome, steps } = run_counted(&code, &route);
+        assert_eq!(rt;
+            answer(alloc, outcome)?.as_str(),
+            line.answer,
+            "{}",
+            row.text
+        );
+        assert_eq!(rt; steps, line.steps, "{}", row.text);
+    }
+    Ok(())
+}
+
 #[test]
 fn worked_filters(rt: HostRuntime) -> Result<(), Fail> {
-    let alloc = rt.alloc();
-    for row in FILTERS {
-        let code = code_of_file(alloc, row.file)?;
-        for line in row.routes {
-            let route = route_in(line, row.size).ok_or("a route within the limits")?;
-            let Counted { outcome, steps } = run_counted(&code, &route);
-            assert_eq!(rt;
-                answer(alloc, outcome)?.as_str(),
-                line.answer,
-                "{}",
-                row.text
-            );
-            assert_eq!(rt; steps, line.steps, "{}", row.text);
-        }
+    for row in &FILTERS {
+        compare(&rt, rt.alloc(), row)?;
     }
     Ok(())
 }

@@ -6,7 +6,7 @@ use line_protocol::StreamFault;
 use std::alloc::Global;
 use std::process::Abort;
 use std::test::Fail;
-use worked_rows::FILTERS;
+use worked_rows::{FILTERS, WorkedFilter};
 
 /// ACCEPT alone.
 const ACCEPT: &str = "4e4346310000000170";
@@ -45,14 +45,19 @@ fn expect_verdict(
     expect_answers(rt, alloc, input.as_slice(), answer.as_slice(), refused)
 }
 
+/// Compares the answers to a filter's routes.
+fn compare(rt: &impl Abort, alloc: Global, row: &WorkedFilter) -> Result<(), Fail> {
+    for line in row.routes {
+        let route = format!(in alloc; "{} {} {}", line.prefix, line.metric, row.size)?;
+        expect_verdict(rt, alloc, row.file, route.as_str(), line.answer)?;
+    }
+    Ok(())
+}
+
 #[test]
 fn answers_routes_under_worked_filters(rt: HostRuntime) -> Result<(), Fail> {
-    let alloc = rt.alloc();
-    for row in FILTERS {
-        for line in row.routes {
-            let route = format!(in alloc; "{} {} {}", line.prefix, line.metric, row.size)?;
-            expect_verdict(&rt, alloc, row.file, route.as_str(), line.answer)?;
-        }
+    for row in &FILTERS {
+        compare(&rt, rt.alloc(), row)?;
     }
     Ok(())
 }

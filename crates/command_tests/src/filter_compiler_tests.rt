@@ -6,8 +6,9 @@ use filter_parser::parse;
 use filter_types::check;
 use prefix_patterns::{Ip, Prefix};
 use std::alloc::Global;
+use std::process::Abort;
 use std::test::Fail;
-use worked_rows::{FILTERS, answer, listing, route_in};
+use worked_rows::{FILTERS, WorkedFilter, answer, listing, route_in};
 
 /// What a filter's text is compiled to.
 fn compiled(alloc: Global, text: &str) -> Result<Result<Code, CompileFault>, Fail> {
@@ -28,27 +29,32 @@ fn outcome(code: &Code, metric: u32, size: u32) -> Result<Outcome, Fail> {
     Ok(run_checked(code, &route))
 }
 
-#[test]
-fn worked_filters(rt: HostRuntime) -> Result<(), Fail> {
-    let alloc = rt.alloc();
-    for row in FILTERS {
-        let code = code_of(alloc, row.text)?;
+/// Compares a filter's code, and its outcomes on routes.
+fn compare(rt: &impl Abort, alloc: Global, row: &WorkedFilter) -> Result<(), Fail> {
+    let code = code_of(alloc, row.text)?;
+    assert_eq!(rt;
+        listing(alloc, &code)?.as_str(),
+        row.listing,
+        "{}",
+        row.text
+    );
+    for line in row.routes {
+        let route = route_in(line, row.size).ok_or("a route within the limits")?;
+        let outcome = run_checked(&code, &route);
         assert_eq!(rt;
-            listing(alloc, &code)?.as_str(),
-            row.listing,
+            answer(alloc, outcome)?.as_str(),
+            line.answer,
             "{}",
             row.text
         );
-        for line in row.routes {
-            let route = route_in(line, row.size).ok_or("a route within the limits")?;
-            let outcome = run_checked(&code, &route);
-            assert_eq!(rt;
-                answer(alloc, outcome)?.as_str(),
-                line.answer,
-                "{}",
-                row.text
-            );
-        }
+    }
+    Ok(())
+}
+
+#[test]
+fn worked_filters(rt: HostRuntime) -> Result<(), Fail> {
+    for row in &FILTERS {
+        compare(&rt, rt.alloc(), row)?;
     }
     Ok(())
 }

@@ -5,8 +5,9 @@ use filter_machine::{Ran, Verdict, run};
 use filter_verifier::verify;
 use prefix_patterns::{Ip, Prefix};
 use std::alloc::Global;
+use std::process::Abort;
 use std::test::Fail;
-use worked_rows::{FILTERS, answer, code_of_file, route_in};
+use worked_rows::{FILTERS, WorkedFilter, answer, code_of_file, route_in};
 
 /// How a route goes through verified code: the run, and the outcome of the checked machine.
 fn both(alloc: Global, code: Code, route: &Route) -> Result<(Ran, Outcome), Fail> {
@@ -31,24 +32,28 @@ fn outcome_of(verdict: Verdict) -> Outcome {
     }
 }
 
+/// Compares the runs of a filter's routes.
+fn compare(rt: &impl Abort, alloc: Global, row: &WorkedFilter) -> Result<(), Fail> {
+    for line in row.routes {
+        let route = route_in(line, row.size).ok_or("a route within the limits")?;
+        let (ran, outcome) = both(alloc, code_of_file(alloc, row.file)?, &route)?;
+        assert_eq!(rt; outcome_of(ran.verdict), outcome, "{}", row.text);
+        assert_eq!(rt;
+            answer(alloc, outcome)?.as_str(),
+            line.answer,
+            "{}",
+            row.text
+        );
+        assert_eq!(rt; ran.steps, line.steps, "{}", row.text);
+    }
+    Ok(())
+}
+
 #[test]
 fn worked_filters(rt: HostRuntime) -> Result<(), Fail> {
-    let alloc = rt.alloc();
-    for row in FILTERS {
-        if !row.verdict.starts_with("verified") {
-            continue;
-        }
-        for line in row.routes {
-            let route = route_in(line, row.size).ok_or("a route within the limits")?;
-            let (ran, outcome) = both(alloc, code_of_file(alloc, row.file)?, &route)?;
-            assert_eq!(rt; outcome_of(ran.verdict), outcome, "{}", row.text);
-            assert_eq!(rt;
-                answer(alloc, outcome)?.as_str(),
-                line.answer,
-                "{}",
-                row.text
-            );
-            assert_eq!(rt; ran.steps, line.steps, "{}", row.text);
+    for row in &FILTERS {
+        if row.verdict.starts_with("verified") {
+            compare(&rt, rt.alloc(), row)?;
         }
     }
     Ok(())
