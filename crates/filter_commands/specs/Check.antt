@@ -21,7 +21,7 @@ use Rattle.filter_types.specs.Codes.{fault_code as type_fault_code, fault_place 
 use Rattle.filter_types.specs.Kinds.{IsTyped}
 use Rattle.filter_types.specs.declared.fault.TypeFault.{TypeFault}
 use Rattle.filter_types.specs.declared.fault.TypeFault.TheVariants as no_kinds
-use Rattle.filter_verifier.specs.Arrivals.{the_fault}
+use Rattle.filter_verifier.specs.FirstFault.{the_fault}
 use Rattle.filter_verifier.specs.Bounds.{cost, peak}
 use Rattle.filter_verifier.specs.Faults.{fault_code as verify_fault_code, fault_place as verify_fault_place}
 use Rattle.filter_verifier.specs.Safe.{IsSafe}

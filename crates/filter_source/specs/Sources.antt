@@ -14,7 +14,7 @@ use Rattle.filter_parser.specs.SyntaxText.{FilterView, IsText}
 use Rattle.filter_parser.specs.declared.fault.ParseFault.TheVariants as parse
 use Rattle.filter_types.specs.Kinds.{IsTyped}
 use Rattle.filter_types.specs.declared.fault.TypeFault.TheVariants as types
-use Rattle.filter_verifier.specs.Arrivals.{the_fault}
+use Rattle.filter_verifier.specs.FirstFault.{the_fault}
 use Rattle.filter_verifier.specs.declared.fault.VerifyFault.{VerifyFault}
 use Rattle.filter_source.specs.declared.refusal.Refusal.{Refusal}
 use Rattle.filter_source.specs.declared.refusal.Refusal.TheVariants.{TooLong, Hexadecimal, File, Parse, Typing, Compile, Verify}

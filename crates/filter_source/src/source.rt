@@ -1,7 +1,7 @@
 //! A filter's text, or a code file, becomes code, and code is verified.
 ghost use Rattle.std.specs.Prelude.{◌≡◌, ◌<◌, ◌≤◌, ◌↔◌, Ok, Err, None, false, IfOk, IfErr, MatchResult, OnOk, length};
 ghost use Rattle.filter_parser.specs.SyntaxText.{FilterView};
-ghost use Rattle.filter_verifier.specs.Arrivals.{is_size, the_fault};
+ghost use Rattle.filter_verifier.specs.FirstFault.{is_size, the_fault};
 ghost use Rattle.filter_verifier.specs.Safe.{IsSafe};
 ghost use Rattle.filter_verifier.specs.declared.fault.VerifyFault.TheVariants as fault;
 ghost use Rattle.filter_source.specs.Failures.{OnRefusal};

@@ -7,22 +7,22 @@ use Rattle.std.proofs.lemmas.Bool.Decides.{nat_tests}
 use Rattle.filter_code.specs.declared.instruction.Instr.{Instr}
 use Rattle.filter_code.specs.declared.instruction.Instr.TheVariants as instr
 use Rattle.filter_code.specs.Table.{height_after, leads}
-use Rattle.filter_verifier.specs.Arrivals.{leads_to, leads_below, leads_of}
+use Rattle.filter_verifier.specs.InStates.{leads_to, leads_below, leads_of}
 use Rattle.filter_verifier.specs.Bounds.{greatest_at, costs, cost, highest_at, peaks, peak}
 
 -- the greatest cost at some distances from an index, and the highest peak from a height there
 abbrev pub greatest_cost : List Instr → ℕ → List ℕ → ℕ
 greatest_cost instrs at [] = 0
-greatest_cost instrs at (d ∷ distances) = max (cost instrs (at + d)) (greatest_cost instrs at distances)
+greatest_cost instrs at (d ∷ offsets) = max (cost instrs (at + d)) (greatest_cost instrs at offsets)
 
 abbrev pub highest_peak : List Instr → ℕ → List ℕ → ℕ → ℕ
 highest_peak instrs at [] height = 0
-highest_peak instrs at (d ∷ distances) height = max (peak instrs (at + d) height) (highest_peak instrs at distances height)
+highest_peak instrs at (d ∷ offsets) height = max (peak instrs (at + d) height) (highest_peak instrs at offsets height)
 
 -- all of them lead on
 abbrev pub LeadOn : List ℕ → Type 0
 LeadOn [] = Unit {0}
-LeadOn (d ∷ distances) = (0 < d) × LeadOn distances
+LeadOn (d ∷ offsets) = (0 < d) × LeadOn offsets
 
 pub leads_on : (i : Instr) → LeadOn (leads i)
 leads_on (instr.Jump k) = (omega arith, tt)
@@ -36,9 +36,9 @@ either_led here target true e = inr refl
 either_led here target false e = inl (grind (arith, nat_tests))
 
 -- the first of some distances leads to an index, or a later one
-pub led_here_or_later : (at target d : ℕ) (distances : List ℕ) → leads_to at target (d ∷ distances) ≡ true →
-    (at + d ≡ target) ⊎ (leads_to at target distances ≡ true)
-led_here_or_later at target d distances led = either_led (at + d) target (leads_to at target distances) led
+pub led_here_or_later : (at target d : ℕ) (offsets : List ℕ) → leads_to at target (d ∷ offsets) ≡ true →
+    (at + d ≡ target) ⊎ (leads_to at target offsets ≡ true)
+led_here_or_later at target d offsets led = either_led (at + d) target (leads_to at target offsets) led
 
 -- sums on the left
 suc_plus : (at d : ℕ) → suc at + d ≡ suc (at + d)
@@ -49,18 +49,18 @@ cost_ahead : (own : ℕ) (later : List ℕ) (d : ℕ) → 0 < d → slice_index 
 cost_ahead own later zero h = absurd (omega arith)
 cost_ahead own later (suc d) h = ap (λ k. slice_index (own ∷ later) k) (sym (zero-add (suc d)))
 
-greatest_ahead : (i : Instr) (instrs : List Instr) (distances : List ℕ) → LeadOn distances →
-    greatest_at (costs instrs) distances ≡ greatest_cost (i ∷ instrs) 0 distances
+greatest_ahead : (i : Instr) (instrs : List Instr) (offsets : List ℕ) → LeadOn offsets →
+    greatest_at (costs instrs) offsets ≡ greatest_cost (i ∷ instrs) 0 offsets
 greatest_ahead i instrs [] on = refl
-greatest_ahead i instrs (d ∷ distances) on =
-    cc (cost_ahead (1 + greatest_at (costs instrs) (leads i)) (costs instrs) d on.0, greatest_ahead i instrs distances on.1)
+greatest_ahead i instrs (d ∷ offsets) on =
+    cc (cost_ahead (1 + greatest_at (costs instrs) (leads i)) (costs instrs) d on.0, greatest_ahead i instrs offsets on.1)
 
-greatest_behind : (i : Instr) (instrs : List Instr) (at : ℕ) (distances : List ℕ) →
-    greatest_cost (i ∷ instrs) (suc at) distances ≡ greatest_cost instrs at distances
+greatest_behind : (i : Instr) (instrs : List Instr) (at : ℕ) (offsets : List ℕ) →
+    greatest_cost (i ∷ instrs) (suc at) offsets ≡ greatest_cost instrs at offsets
 greatest_behind i instrs at [] = refl
-greatest_behind i instrs at (d ∷ distances) =
+greatest_behind i instrs at (d ∷ offsets) =
     let here : cost (i ∷ instrs) (suc at + d) ≡ cost instrs (at + d) = ap (λ k. cost (i ∷ instrs) k) (suc_plus at d) in
-    cc (here, greatest_behind i instrs at distances)
+    cc (here, greatest_behind i instrs at offsets)
 
 -- the cost of an index is one more than the greatest cost of those that may follow
 pub cost_is : (instrs : List Instr) (at : ℕ) (i : Instr) → slice_get instrs at ≡ Some i →
@@ -78,13 +78,13 @@ cost_outside [] at h = refl
 cost_outside (i ∷ instrs) zero h = absurd (omega arith)
 cost_outside (i ∷ instrs) (suc at) h = cost_outside instrs at (omega arith)
 
-greatest_has : (instrs : List Instr) (at target : ℕ) (distances : List ℕ) → leads_to at target distances ≡ true →
-    cost instrs target ≤ greatest_cost instrs at distances
+greatest_has : (instrs : List Instr) (at target : ℕ) (offsets : List ℕ) → leads_to at target offsets ≡ true →
+    cost instrs target ≤ greatest_cost instrs at offsets
 greatest_has instrs at target [] led = cc
-greatest_has instrs at target (d ∷ distances) led =
-    elim (led_here_or_later at target d distances led) [
-      | inl here ↦ subst (λ k. cost instrs k ≤ max (cost instrs (at + d)) (greatest_cost instrs at distances)) here (omega arith)
-      | inr more ↦ let h = greatest_has instrs at target distances more in omega arith
+greatest_has instrs at target (d ∷ offsets) led =
+    elim (led_here_or_later at target d offsets led) [
+      | inl here ↦ subst (λ k. cost instrs k ≤ max (cost instrs (at + d)) (greatest_cost instrs at offsets)) here (omega arith)
+      | inr more ↦ let h = greatest_has instrs at target offsets more in omega arith
     ]
 
 -- with each step the cost falls
@@ -102,20 +102,20 @@ peak_ahead : (own : ℕ → ℕ) (later : List (ℕ → ℕ)) (d height : ℕ) �
 peak_ahead own later zero height h = absurd (omega arith)
 peak_ahead own later (suc d) height h = ap (λ k. slice_index_or (own ∷ later) k (λ x. x) height) (sym (zero-add (suc d)))
 
-highest_ahead : (i : Instr) (instrs : List Instr) (distances : List ℕ) (height : ℕ) → LeadOn distances →
-    highest_at (peaks instrs) distances height ≡ highest_peak (i ∷ instrs) 0 distances height
+highest_ahead : (i : Instr) (instrs : List Instr) (offsets : List ℕ) (height : ℕ) → LeadOn offsets →
+    highest_at (peaks instrs) offsets height ≡ highest_peak (i ∷ instrs) 0 offsets height
 highest_ahead i instrs [] height on = refl
-highest_ahead i instrs (d ∷ distances) height on =
+highest_ahead i instrs (d ∷ offsets) height on =
     let here : slice_index_or ((λ h. h) ∷ peaks instrs) d (λ h. h) height ≡ peak (i ∷ instrs) (0 + d) height =
     peak_ahead (λ h. max h (highest_at (peaks instrs) (leads i) (height_after i h))) (peaks instrs) d height on.0 in
-    cc (here, highest_ahead i instrs distances height on.1)
+    cc (here, highest_ahead i instrs offsets height on.1)
 
-highest_behind : (i : Instr) (instrs : List Instr) (at : ℕ) (distances : List ℕ) (height : ℕ) →
-    highest_peak (i ∷ instrs) (suc at) distances height ≡ highest_peak instrs at distances height
+highest_behind : (i : Instr) (instrs : List Instr) (at : ℕ) (offsets : List ℕ) (height : ℕ) →
+    highest_peak (i ∷ instrs) (suc at) offsets height ≡ highest_peak instrs at offsets height
 highest_behind i instrs at [] height = refl
-highest_behind i instrs at (d ∷ distances) height =
+highest_behind i instrs at (d ∷ offsets) height =
     let here : peak (i ∷ instrs) (suc at + d) height ≡ peak instrs (at + d) height = ap (λ k. peak (i ∷ instrs) k height) (suc_plus at d) in
-    cc (here, highest_behind i instrs at distances height)
+    cc (here, highest_behind i instrs at offsets height)
 
 -- the peak of an index is the height there, or the highest peak of those that may follow
 pub peak_is : (instrs : List Instr) (at : ℕ) (i : Instr) (height : ℕ) → slice_get instrs at ≡ Some i →
@@ -134,14 +134,14 @@ peak_outside [] at height h = refl
 peak_outside (i ∷ instrs) zero height h = absurd (omega arith)
 peak_outside (i ∷ instrs) (suc at) height h = peak_outside instrs at height (omega arith)
 
-pub highest_has : (instrs : List Instr) (at target : ℕ) (distances : List ℕ) (height : ℕ) → leads_to at target distances ≡ true →
-    peak instrs target height ≤ highest_peak instrs at distances height
+pub highest_has : (instrs : List Instr) (at target : ℕ) (offsets : List ℕ) (height : ℕ) → leads_to at target offsets ≡ true →
+    peak instrs target height ≤ highest_peak instrs at offsets height
 highest_has instrs at target [] height led = cc
-highest_has instrs at target (d ∷ distances) height led =
-    elim (led_here_or_later at target d distances led) [
-      | inl here ↦ subst (λ k. peak instrs k height ≤ max (peak instrs (at + d) height) (highest_peak instrs at distances height)) here
+highest_has instrs at target (d ∷ offsets) height led =
+    elim (led_here_or_later at target d offsets led) [
+      | inl here ↦ subst (λ k. peak instrs k height ≤ max (peak instrs (at + d) height) (highest_peak instrs at offsets height)) here
           (omega arith)
-      | inr more ↦ let h = highest_has instrs at target distances height more in omega arith
+      | inr more ↦ let h = highest_has instrs at target offsets height more in omega arith
     ]
 
 -- the height after an instruction, if there is one
@@ -172,23 +172,23 @@ peak_least instrs at height None e =
 peak_least instrs at height (Some i) e = let is = peak_is instrs at i height e in omega arith
 
 -- where all distances lead below a limit, each index that they lead to is below it
-pub led_below : (at limit target : ℕ) (distances : List ℕ) → leads_below at limit distances ≡ true →
-    leads_to at target distances ≡ true → target < limit
+pub led_below : (at limit target : ℕ) (offsets : List ℕ) → leads_below at limit offsets ≡ true →
+    leads_to at target offsets ≡ true → target < limit
 led_below at limit target [] below led = cc
-led_below at limit target (d ∷ distances) below led =
-    let parts = and_parts (nat_lt (at + d) limit) (leads_below at limit distances) below in
+led_below at limit target (d ∷ offsets) below led =
+    let parts = and_parts (nat_lt (at + d) limit) (leads_below at limit offsets) below in
     let near : nat_lt (at + d) limit ≡ true = parts.0 in
-    elim (led_here_or_later at target d distances led) [
+    elim (led_here_or_later at target d offsets led) [
       | inl here ↦ grind (arith, nat_tests)
-      | inr more ↦ led_below at limit target distances parts.1 more
+      | inr more ↦ led_below at limit target offsets parts.1 more
     ]
 
 -- instructions that lead on lead to later ones
-pub led_later : (at target : ℕ) (distances : List ℕ) → LeadOn distances → leads_to at target distances ≡ true → at < target
+pub led_later : (at target : ℕ) (offsets : List ℕ) → LeadOn offsets → leads_to at target offsets ≡ true → at < target
 led_later at target [] on led = cc
-led_later at target (d ∷ distances) on led =
+led_later at target (d ∷ offsets) on led =
     let positive : 0 < d = on.0 in
-    elim (led_here_or_later at target d distances led) [
+    elim (led_here_or_later at target d offsets led) [
       | inl here ↦ omega arith
-      | inr more ↦ led_later at target distances on.1 more
+      | inr more ↦ led_later at target offsets on.1 more
     ]

@@ -6,13 +6,14 @@ use Rattle.std.proofs.lemmas.Bool.Decides.{nat_tests}
 use Rattle.filter_code.specs.declared.instruction.Instr.{Instr}
 use Rattle.filter_code.specs.CodeView.{CodeView}
 use Rattle.filter_code.specs.Table.{height_after, leads}
-use Rattle.filter_verifier.specs.Arrivals.{Arrival, Unreached, Unlike, Arrived, Visit, Skipped, Refused, Passed, meet, leads_to, leads_of, hand_on, visit, beginning, arriving, facts, verdict, refused_by, first_fault, the_fault}
+use Rattle.filter_verifier.specs.FirstFault.{refused_by, first_fault, the_fault}
+use Rattle.filter_verifier.specs.InStates.{InStateView, Unreached, UnlikeDepths, Known, OutStateView, Skipped, Refused, Passed, join_states, leads_to, leads_of, propagated, out_state, entry, joined_below, in_state, out_state_at}
 use Rattle.filter_verifier.specs.Bounds.{peak}
-use Rattle.filter_verifier.specs.Pieces.{height_of, highest}
-use Rattle.filter_verifier.proofs.Arrivals.{below_or_at, arrives_at}
+use Rattle.filter_verifier.specs.Pass.{height_of, highest}
+use Rattle.filter_verifier.proofs.Propagation.{below_or_at, arrives_at}
 use Rattle.filter_verifier.proofs.Costs.{highest_peak, height_behind, none_past, peak_is, peak_falls, peak_least, led_below, led_later}
 use Rattle.filter_verifier.proofs.Heights.{IsHigh, HandsOn, Passes, passes_on}
-use Rattle.filter_verifier.proofs.Meeting.{HasHeight, height_left, height_right, common_length}
+use Rattle.filter_verifier.proofs.Joins.{HasHeight, height_left, height_right, common_length}
 use Rattle.filter_verifier.proofs.Sound.{none_refused, lead_on_from, faultless}
 
 -- what arrives at an index goes no higher from there than the code from its beginning, and fits
@@ -20,88 +21,88 @@ pub record IsLow (instrs : List Instr) (index height : ℕ) : Type 0 where
   pub peak : peak instrs index height ≤ peak instrs 0 0
   pub fits : height ≤ 32
 
-abbrev ArrivesLow : List Instr → ℕ → Arrival → Type 0
-ArrivesLow instrs index (Arrived stack locals) = IsLow instrs index (length stack)
+abbrev ArrivesLow : List Instr → ℕ → InStateView → Type 0
+ArrivesLow instrs index (Known stack locals) = IsLow instrs index (length stack)
 ArrivesLow instrs index _ = Unit {0}
 
-low_met : (instrs : List Instr) (index : ℕ) (a b : Arrival) → ArrivesLow instrs index a → ArrivesLow instrs index b →
-    ArrivesLow instrs index (meet a b)
+low_met : (instrs : List Instr) (index : ℕ) (a b : InStateView) → ArrivesLow instrs index a → ArrivesLow instrs index b →
+    ArrivesLow instrs index (join_states a b)
 low_met instrs index Unreached b p q = q
-low_met instrs index Unlike b p q = tt
-low_met instrs index (Arrived stack locals) Unreached p q = p
-low_met instrs index (Arrived stack locals) Unlike p q = tt
-low_met instrs index (Arrived stack locals) (Arrived others more) p q =
+low_met instrs index UnlikeDepths b p q = tt
+low_met instrs index (Known stack locals) Unreached p q = p
+low_met instrs index (Known stack locals) UnlikeDepths p q = tt
+low_met instrs index (Known stack locals) (Known others more) p q =
     cond_both (length stack == length others) _ _ (ArrivesLow instrs index)
     (λ e. subst (λ n. IsLow instrs index n) (sym (common_length stack others)) p) (λ e. tt)
 
 -- from an index that is low to one where the text leads
-low_next : (instrs : List Instr) (at target height : ℕ) (next : Arrival) →
+low_next : (instrs : List Instr) (at target height : ℕ) (next : InStateView) →
     HandsOn (length instrs) at height (slice_get instrs at) next → IsLow instrs at height →
     leads_to at target (leads_of (slice_get instrs at)) ≡ true → ArrivesLow instrs target next
 low_next instrs at target height Unreached h low led = tt
-low_next instrs at target height Unlike h low led = tt
-low_next instrs at target height (Arrived stack locals) h low led =
+low_next instrs at target height UnlikeDepths h low led = tt
+low_next instrs at target height (Known stack locals) h low led =
     let high : length stack ≡ height_behind (slice_get instrs at) height = h.high in
     let falls = peak_falls instrs at target height (slice_get instrs at) refl led in
     subst (λ n. IsLow instrs target n) (sym high) (record { peak = omega (arith, low.peak); fits = h.fits low.fits })
 
-low_handed : (program : CodeView) (at target height : ℕ) (v : Visit) →
+low_handed : (program : CodeView) (at target height : ℕ) (v : OutStateView) →
     Passes (length program.instrs) at height (slice_get program.instrs at) v → IsLow program.instrs at height →
-    ArrivesLow program.instrs target (hand_on program at v target)
+    ArrivesLow program.instrs target (propagated program at v target)
 low_handed program at target height Skipped h low = tt
 low_handed program at target height (Refused why) h low = tt
 low_handed program at target height (Passed next) h low =
     cond_both (leads_to at target (leads_of (slice_get program.instrs at))) next Unreached (ArrivesLow program.instrs target)
     (λ led. low_next program.instrs at target height next h low led) (λ e. tt)
 
-low_visited : (program : CodeView) (size at target : ℕ) (a : Arrival) → ArrivesLow program.instrs at a →
-    ArrivesLow program.instrs target (hand_on program at (visit program size at a) target)
+low_visited : (program : CodeView) (size at target : ℕ) (a : InStateView) → ArrivesLow program.instrs at a →
+    ArrivesLow program.instrs target (propagated program at (out_state program size at a) target)
 low_visited program size at target Unreached low = tt
-low_visited program size at target Unlike low = tt
-low_visited program size at target (Arrived stack locals) low =
-    low_handed program at target (length stack) (visit program size at (Arrived stack locals))
+low_visited program size at target UnlikeDepths low = tt
+low_visited program size at target (Known stack locals) low =
+    low_handed program at target (length stack) (out_state program size at (Known stack locals))
     (passes_on program size at (length stack) stack locals refl) low
 
-low_beginning : (program : CodeView) (index : ℕ) → ArrivesLow program.instrs index (beginning program index)
+low_beginning : (program : CodeView) (index : ℕ) → ArrivesLow program.instrs index (entry program index)
 low_beginning program zero = record { peak = omega arith; fits = omega arith }
 low_beginning program (suc index) = tt
 
-low_arriving : (program : CodeView) (size n index : ℕ) → ArrivesLow program.instrs index (arriving program size n index)
-unfolding arriving
+low_arriving : (program : CodeView) (size n index : ℕ) → ArrivesLow program.instrs index (joined_below program size n index)
+unfolding joined_below
 low_arriving program size zero index = low_beginning program index
 low_arriving program size (suc n) index =
-    low_met program.instrs index (arriving program size n index) (hand_on program n (verdict program size n) index)
+    low_met program.instrs index (joined_below program size n index) (propagated program n (out_state_at program size n) index)
     (low_arriving program size n index)
-    (low_visited program size n index (arriving program size n n) (low_arriving program size n n))
+    (low_visited program size n index (joined_below program size n n) (low_arriving program size n n))
 
 -- so each height is no more than the peak, and fits
-height_low : (instrs : List Instr) (index : ℕ) (a : Arrival) → ArrivesLow instrs index a → height_of a ≤ peak instrs 0 0
+height_low : (instrs : List Instr) (index : ℕ) (a : InStateView) → ArrivesLow instrs index a → height_of a ≤ peak instrs 0 0
 height_low instrs index Unreached low = omega arith
-height_low instrs index Unlike low = omega arith
-height_low instrs index (Arrived stack locals) low =
+height_low instrs index UnlikeDepths low = omega arith
+height_low instrs index (Known stack locals) low =
     let least = peak_least instrs index (length stack) (slice_get instrs index) refl in
     omega (arith, low.peak)
 
-height_fits : (instrs : List Instr) (index : ℕ) (a : Arrival) → ArrivesLow instrs index a → height_of a ≤ 32
+height_fits : (instrs : List Instr) (index : ℕ) (a : InStateView) → ArrivesLow instrs index a → height_of a ≤ 32
 height_fits instrs index Unreached low = omega arith
-height_fits instrs index Unlike low = omega arith
-height_fits instrs index (Arrived stack locals) low = low.fits
+height_fits instrs index UnlikeDepths low = omega arith
+height_fits instrs index (Known stack locals) low = low.fits
 
 highest_low : (program : CodeView) (size n : ℕ) → highest program size n ≤ peak program.instrs 0 0
 unfolding highest
 highest_low program size zero = omega arith
 highest_low program size (suc n) =
     let before = highest_low program size n in
-    let here = height_low program.instrs n (facts program size n) (low_arriving program size n n) in
+    let here = height_low program.instrs n (in_state program size n) (low_arriving program size n n) in
     omega arith
 
-highest_has : (program : CodeView) (size n k : ℕ) → k < n → height_of (facts program size k) ≤ highest program size n
+highest_has : (program : CodeView) (size n k : ℕ) → k < n → height_of (in_state program size k) ≤ highest program size n
 unfolding highest
 highest_has program size zero k h = absurd (omega arith)
 highest_has program size (suc n) k h =
     elim (below_or_at k n h) [
       | inl before ↦ let rest = highest_has program size n k before in omega arith
-      | inr same ↦ subst (λ m. height_of (facts program size m) ≤ max (highest program size n) (height_of (facts program size n)))
+      | inr same ↦ subst (λ m. height_of (in_state program size m) ≤ max (highest program size n) (height_of (in_state program size n)))
           (sym same) (omega arith)
     ]
 
@@ -114,32 +115,32 @@ leads_rest true more e = refl
 leads_rest false more e = e
 
 -- a bound on the peaks at some distances
-highest_within : (instrs : List Instr) (at height limit : ℕ) (distances : List ℕ) →
-    ((target : ℕ) → leads_to at target distances ≡ true → peak instrs target height ≤ limit) →
-    highest_peak instrs at distances height ≤ limit
+highest_within : (instrs : List Instr) (at height limit : ℕ) (offsets : List ℕ) →
+    ((target : ℕ) → leads_to at target offsets ≡ true → peak instrs target height ≤ limit) →
+    highest_peak instrs at offsets height ≤ limit
 highest_within instrs at height limit [] each = omega arith
-highest_within instrs at height limit (d ∷ distances) each =
-    let first = each (at + d) (leads_first (at + d) (leads_to at (at + d) distances)) in
-    let rest = highest_within instrs at height limit distances
-    (λ target led. each target (leads_rest (at + d == target) (leads_to at target distances) led)) in
+highest_within instrs at height limit (d ∷ offsets) each =
+    let first = each (at + d) (leads_first (at + d) (leads_to at (at + d) offsets)) in
+    let rest = highest_within instrs at height limit offsets
+    (λ target led. each target (leads_rest (at + d == target) (leads_to at target offsets) led)) in
     omega arith
 
 -- what is handed on arrives at its height
-high_has : (height : ℕ) (a : Arrival) → IsHigh height a → HasHeight height a
+high_has : (height : ℕ) (a : InStateView) → IsHigh height a → HasHeight height a
 high_has height Unreached h = absurd h
-high_has height Unlike h = tt
-high_has height (Arrived stack locals) h = h
+high_has height UnlikeDepths h = tt
+high_has height (Known stack locals) h = h
 
-pub height_next : (program : CodeView) (size at target height : ℕ) (next : Arrival) → verdict program size at ≡ Passed next →
+pub height_next : (program : CodeView) (size at target height : ℕ) (next : InStateView) → out_state_at program size at ≡ Passed next →
     at < target → leads_to at target (leads_of (slice_get program.instrs at)) ≡ true → IsHigh height next →
-    HasHeight height (facts program size target)
+    HasHeight height (in_state program size target)
 height_next program size at target height next passed later led h =
     arrives_at program size (HasHeight height) (height_left height)
     (λ a b w v p. height_right height a b p) at target next passed later led (high_has height next h)
 
 -- from an index that arrives at a height, the peak is no more than any bound on all heights
 module _ (program : CodeView) (size limit : ℕ) (none : first_fault program size (length program.instrs) ≡ None)
-    (each : (k : ℕ) → k < length program.instrs → height_of (facts program size k) ≤ limit) where
+    (each : (k : ℕ) → k < length program.instrs → height_of (in_state program size k) ≤ limit) where
   peak_found : (at height : ℕ) (found : Option Instr) → slice_get program.instrs at ≡ found → at < length program.instrs →
       height ≤ limit →
       ((target : ℕ) → leads_to at target (leads_of found) ≡ true → peak program.instrs target (height_behind found height) ≤ limit) →
@@ -150,9 +151,9 @@ module _ (program : CodeView) (size limit : ℕ) (none : first_fault program siz
       let rest = highest_within program.instrs at (height_after i height) limit (leads i) all in
       omega arith
 
-  peak_passed : (at height : ℕ) (v : Visit) → verdict program size at ≡ v → refused_by v ≡ None →
+  peak_passed : (at height : ℕ) (v : OutStateView) → out_state_at program size at ≡ v → refused_by v ≡ None →
       Passes (length program.instrs) at height (slice_get program.instrs at) v → at < length program.instrs → height ≤ limit →
-      ((target height : ℕ) → at < target → target < length program.instrs → HasHeight height (facts program size target) →
+      ((target height : ℕ) → at < target → target < length program.instrs → HasHeight height (in_state program size target) →
       peak program.instrs target height ≤ limit) →
       peak program.instrs at height ≤ limit
   peak_passed at height Skipped e q h inside low later = absurd h
@@ -165,27 +166,27 @@ module _ (program : CodeView) (size limit : ℕ) (none : first_fault program siz
       (led_below at (length program.instrs) target (leads_of (slice_get program.instrs at)) h.within led)
       (height_next program size at target (height_behind (slice_get program.instrs at) height) next e on led h.high)
 
-  peak_arrived : (at height : ℕ) (a : Arrival) → facts program size at ≡ a → refused_by (visit program size at a) ≡ None →
+  peak_arrived : (at height : ℕ) (a : InStateView) → in_state program size at ≡ a → refused_by (out_state program size at a) ≡ None →
       HasHeight height a → at < length program.instrs →
-      ((target height : ℕ) → at < target → target < length program.instrs → HasHeight height (facts program size target) →
+      ((target height : ℕ) → at < target → target < length program.instrs → HasHeight height (in_state program size target) →
       peak program.instrs target height ≤ limit) →
       peak program.instrs at height ≤ limit
   peak_arrived at height Unreached e q h inside later = absurd h
-  peak_arrived at height Unlike e q h inside later = absurd (cc)
-  peak_arrived at height (Arrived stack locals) e q h inside later =
+  peak_arrived at height UnlikeDepths e q h inside later = absurd (cc)
+  peak_arrived at height (Known stack locals) e q h inside later =
       let low : length stack ≤ limit = subst (λ a. height_of a ≤ limit) e (each at inside) in
-      peak_passed at height (visit program size at (Arrived stack locals)) (ap (visit program size at) e) q
+      peak_passed at height (out_state program size at (Known stack locals)) (ap (out_state program size at) e) q
       (passes_on program size at height stack locals h) inside (subst (λ n. n ≤ limit) h low) later
 
   peak_within : (fuel at height : ℕ) → length program.instrs ≤ at + fuel → at < length program.instrs →
-      HasHeight height (facts program size at) → peak program.instrs at height ≤ limit
+      HasHeight height (in_state program size at) → peak program.instrs at height ≤ limit
   peak_within zero at height enough inside h = absurd (omega arith)
   peak_within (suc fuel) at height enough inside h =
-      peak_arrived at height (facts program size at) refl (none_refused program size (length program.instrs) at none inside) h inside
+      peak_arrived at height (in_state program size at) refl (none_refused program size (length program.instrs) at none inside) h inside
       λ target next on within arrived. peak_within fuel target next (omega arith) within arrived
 
   peak_bounded : 0 < length program.instrs → peak program.instrs 0 0 ≤ limit
-  unfolding arriving
+  unfolding joined_below
   peak_bounded some = peak_within (length program.instrs) 0 0 (omega arith) some refl
 
 -- where nothing is unknown, the greatest height is the peak
@@ -203,4 +204,4 @@ pub depth_limit : (program : CodeView) (size : ℕ) → the_fault program size �
 depth_limit program size e =
     let good = faultless program size e in
     peak_bounded program size 32 good.none
-    (λ k inside. height_fits program.instrs k (facts program size k) (low_arriving program size k k)) good.some
+    (λ k inside. height_fits program.instrs k (in_state program size k) (low_arriving program size k k)) good.some

@@ -19,9 +19,9 @@ use Rattle.filter_code.specs.Values.{int_of, bool_of, ip_of, net_of, number_of, 
 use Rattle.filter_code.proofs.Metrics.{IsInRange}
 use Rattle.filter_verifier.specs.declared.fact.Fact.{Fact}
 use Rattle.filter_verifier.specs.declared.fact.Fact.TheVariants as fact
-use Rattle.filter_verifier.specs.Facts.{span_of, known_bool, known_ip, known_prefix, known_number, known_bits, fact_given, fact_fault}
+use Rattle.filter_verifier.specs.Facts.{range_of, known_bool, known_ip, known_prefix, known_number, known_bits, fact_given, fact_fault}
 use Rattle.filter_verifier.specs.Safe.{HasLiteral, IsRouteOf}
-use Rattle.filter_verifier.specs.Spans.{Span, span_of_length, span_of_sum, span_of_difference, span_of_product, span_of_quotient, span_of_greater}
+use Rattle.filter_verifier.specs.Ranges.{RangeView, range_of_length, range_of_sum, range_of_difference, range_of_product, range_of_quotient, range_of_greater}
 use Rattle.filter_verifier.proofs.Arithmetic.{InRange, number_fits, metric_fits, length_fits, sum_fits, difference_fits, product_fits, quotient_fits, greater_fits}
 use Rattle.filter_verifier.proofs.Fits.{IsAs, OperandsAre}
 use Rattle.filter_verifier.proofs.Parts.{Alike, Any, LiesIn, IsShort, PartsAre, one_alike, two_alike, ints_are, bools_are, ips_are, nets_are, numbers_are, bits_are, wholes_are}
@@ -50,10 +50,10 @@ divisor_positive zero e = cc
 divisor_positive (suc low) e = omega arith
 
 module _ (received size : ℕ) (limit : received ≤ size) where
-  divided : (o p : Option ℕ) (k l : Option Span) → Alike (LiesIn received) o k → Alike (LiesIn received) p l →
+  divided : (o p : Option ℕ) (k l : Option RangeView) → Alike (LiesIn received) o k → Alike (LiesIn received) p l →
       fault_where fault.ZeroDivisor (option_and_then (λ x. option_map (λ t. t.low == 0) l) k) ≡ None →
       Alike (IsAs received) (option_and_then (λ a. option_map (λ b. value.Int (a / b)) p) o)
-      (option_and_then (λ s. option_map (λ t. fact.Int (span_of_quotient size s t)) l) k)
+      (option_and_then (λ s. option_map (λ t. fact.Int (range_of_quotient size s t)) l) k)
   divided None p None l one two e = tt
   divided None p (Some s) l one two e = absurd one
   divided (Some a) p None l one two e = absurd one
@@ -66,24 +66,24 @@ module _ (received size : ℕ) (limit : received ≤ size) where
   quotient_given : (operands : Operands Value) (facts : Operands Fact) → fact_fault instr.Div facts ≡ None →
       OperandsAre received operands facts →
       Alike (IsAs received) (on_two int_of int_of (λ a b. value.Int (a / b)) operands)
-      (on_two span_of span_of (λ s t. fact.Int (span_of_quotient size s t)) facts)
+      (on_two range_of range_of (λ s t. fact.Int (range_of_quotient size s t)) facts)
   quotient_given Zero Zero e p = tt
   quotient_given (One a) (One k) e p = tt
   quotient_given (Two a b) (Two k l) e p =
-      divided (int_of a) (int_of b) (span_of k) (span_of l) (ints_are received a k p.0) (ints_are received b l p.1) e
+      divided (int_of a) (int_of b) (range_of k) (range_of l) (ints_are received a k p.0) (ints_are received b l p.1) e
   quotient_given _ _ e p = absurd p
 
 -- the value given is as is known of it: one line for each instruction
 module _ (program : CodeView) (route : RouteView) (size metric : ℕ) (of_size : IsRouteOf size route) (small : size ≤ 64)
     (here : IsInRange route metric) where
   -- ints that are calculated, and what tests and other parts give
-  calculated : (f : ℕ → ℕ → ℕ) (g : Span → Span → Span) →
-      ((a b : ℕ) (s t : Span) → InRange route.metric s a → InRange route.metric t b → InRange route.metric (g s t) (f a b)) →
+  calculated : (f : ℕ → ℕ → ℕ) (g : RangeView → RangeView → RangeView) →
+      ((a b : ℕ) (s t : RangeView) → InRange route.metric s a → InRange route.metric t b → InRange route.metric (g s t) (f a b)) →
       (operands : Operands Value) (facts : Operands Fact) → OperandsAre route.metric operands facts →
       Alike (IsAs route.metric) (on_two int_of int_of (λ a b. value.Int (f a b)) operands)
-      (on_two span_of span_of (λ s t. fact.Int (g s t)) facts)
+      (on_two range_of range_of (λ s t. fact.Int (g s t)) facts)
   calculated f g fits =
-      two_alike route.metric (LiesIn route.metric) (LiesIn route.metric) (IsAs route.metric) int_of span_of int_of span_of _ _
+      two_alike route.metric (LiesIn route.metric) (LiesIn route.metric) (IsAs route.metric) int_of range_of int_of range_of _ _
       (ints_are route.metric) (ints_are route.metric) (λ a s b t p q. fits a b s t p q)
 
   compared : {A B C D : Type 0} (first : A → B → Type 0) (second : C → D → Type 0) (part : Value → Option A) (known : Fact → Option B)
@@ -115,15 +115,15 @@ module _ (program : CodeView) (route : RouteView) (size metric : ℕ) (of_size :
       metric_fits route.metric size metric small here.least (omega (arith, here.most, of_size.size_is))
   given_is instr.Received operands facts literal none p = metric_fits route.metric size route.metric small (omega arith) of_size.reachable
   given_is instr.Add operands facts literal none p =
-      calculated (λ a b. (a + b) % 2 ^ 32) (span_of_sum size) (sum_fits route.metric size of_size.reachable) operands facts p
+      calculated (λ a b. (a + b) % 2 ^ 32) (range_of_sum size) (sum_fits route.metric size of_size.reachable) operands facts p
   given_is instr.Sub operands facts literal none p =
-      calculated (λ a b. (a + (2 ^ 32 - b)) % 2 ^ 32) (span_of_difference size)
+      calculated (λ a b. (a + (2 ^ 32 - b)) % 2 ^ 32) (range_of_difference size)
       (difference_fits route.metric size of_size.reachable) operands facts p
   given_is instr.Mul operands facts literal none p =
-      calculated (λ a b. (a * b) % 2 ^ 32) (span_of_product size) (product_fits route.metric size of_size.reachable) operands facts p
+      calculated (λ a b. (a * b) % 2 ^ 32) (range_of_product size) (product_fits route.metric size of_size.reachable) operands facts p
   given_is instr.Div operands facts literal none p = quotient_given route.metric size of_size.reachable operands facts none p
   given_is instr.Max operands facts literal none p =
-      calculated max (span_of_greater size) (greater_fits route.metric size of_size.reachable) operands facts p
+      calculated max (range_of_greater size) (greater_fits route.metric size of_size.reachable) operands facts p
   given_is instr.Eq operands facts literal none p =
       compared (IsAs route.metric) (IsAs route.metric) whole whole whole whole
       (wholes_are route.metric) (wholes_are route.metric) is_same operands facts p
@@ -138,7 +138,7 @@ module _ (program : CodeView) (route : RouteView) (size metric : ℕ) (of_size :
   given_is instr.Addr operands facts literal none p =
       of_net (λ bits. value.Addr (record { 0 = address_of bits })) fact.Ip (λ bits short. tt) operands facts p
   given_is instr.Len operands facts literal none p =
-      of_net (λ bits. value.Int (length bits)) (fact.Int (span_of_length size))
+      of_net (λ bits. value.Int (length bits)) (fact.Int (range_of_length size))
       (λ bits short. length_fits route.metric size (length bits) of_size.reachable short) operands facts p
   given_is (instr.Mask n) operands facts literal none p =
       one_alike route.metric Any (IsAs route.metric) ip_of known_ip _ _ (ips_are route.metric) (λ a u q. tt) operands facts p
@@ -150,27 +150,27 @@ module _ (program : CodeView) (route : RouteView) (size metric : ℕ) (of_size :
   given_is _ operands facts literal none p = tt
 
 -- a divisor that is known not to be 0 is not
-divisor_is : (received b : ℕ) (t : Span) → InRange received t b → (t.low == 0) ≡ false → (b == 0) ≡ false
+divisor_is : (received b : ℕ) (t : RangeView) → InRange received t b → (t.low == 0) ≡ false → (b == 0) ≡ false
 divisor_is received b t p e = grind (arith, nat_tests, p.above)
 
-marked_where : (mark : Bool) → not mark ≡ false → mark ≡ true
+marked_where : (at_least_received : Bool) → not at_least_received ≡ false → at_least_received ≡ true
 marked_where true e = refl
 marked_where false e = cc
 
 -- a number with the mark does not lower the metric
-not_lower : (received v : ℕ) (s : Span) → InRange received s v → not s.mark ≡ false → nat_lt v received ≡ false
-not_lower received v s p e = let least : received ≤ v = p.marked (marked_where s.mark e) in grind (arith, nat_tests)
+not_lower : (received v : ℕ) (s : RangeView) → InRange received s v → not s.at_least_received ≡ false → nat_lt v received ≡ false
+not_lower received v s p e = let least : received ≤ v = p.marked (marked_where s.at_least_received e) in grind (arith, nat_tests)
 
 -- operands of which no fault is known have none
 pub no_value_fault : (route : RouteView) (i : Instr) (operands : Operands Value) (facts : Operands Fact) →
     fact_fault i facts ≡ None → OperandsAre route.metric operands facts → value_fault route i operands ≡ None
 no_value_fault route instr.SetMetric operands facts e p =
     no_fault_alike fault.LowerMetric _ _
-    (one_alike route.metric (LiesIn route.metric) Implies int_of span_of (λ v. nat_lt v route.metric) (λ s. not s.mark)
+    (one_alike route.metric (LiesIn route.metric) Implies int_of range_of (λ v. nat_lt v route.metric) (λ s. not s.at_least_received)
     (ints_are route.metric) (λ v s q m. not_lower route.metric v s q m) operands facts p) e
 no_value_fault route instr.Div operands facts e p =
     no_fault_alike fault.ZeroDivisor _ _
-    (two_alike route.metric (LiesIn route.metric) (LiesIn route.metric) Implies int_of span_of int_of span_of
+    (two_alike route.metric (LiesIn route.metric) (LiesIn route.metric) Implies int_of range_of int_of range_of
     (λ a b. b == 0) (λ s t. t.low == 0) (ints_are route.metric) (ints_are route.metric)
     (λ a s b t q r m. divisor_is route.metric b t r m) operands facts p) e
 no_value_fault route _ operands facts e p = refl

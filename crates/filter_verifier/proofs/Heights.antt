@@ -12,10 +12,10 @@ use Rattle.filter_code.specs.CodeView.{CodeView}
 use Rattle.filter_code.specs.Table.{Frame, Source, Nowhere, Top, TopTwo, Local, Operands, Zero, One, Two, Drawn, Bad, Good, each_is, both_are, is_int, is_bool, is_ip, is_prefix, are_ordered, are_nested, fits_kinds, names_exist, one_of, two_of, value_in, taken, passing, source_of, draw, taken_off, gives, height_after}
 use Rattle.filter_verifier.specs.declared.fact.Fact.{Fact}
 use Rattle.filter_verifier.specs.declared.fact.Fact.TheVariants as fact
-use Rattle.filter_verifier.specs.Arrivals.{Arrival, Arrived, Visit, Skipped, Refused, Passed, leads_below, judge, visit_known, visit_places, visit, leads_of}
-use Rattle.filter_verifier.specs.Facts.{kind_of_fact, span_of, known_bool, known_ip, known_prefix, known_number, known_bits, fact_given, all_known}
-use Rattle.filter_verifier.specs.Spans.{Span}
-use Rattle.filter_verifier.proofs.Arrivals.{judged}
+use Rattle.filter_verifier.specs.InStates.{InStateView, Known, OutStateView, Skipped, Refused, Passed, leads_below, judge, out_state_of_known, out_state_of_frame, out_state, leads_of}
+use Rattle.filter_verifier.specs.Facts.{kind_of_fact, range_of, known_bool, known_ip, known_prefix, known_number, known_bits, fact_given, all_known}
+use Rattle.filter_verifier.specs.Ranges.{RangeView}
+use Rattle.filter_verifier.proofs.Propagation.{judged}
 use Rattle.filter_verifier.proofs.Costs.{height_behind}
 
 -- as many operands as a source has
@@ -32,8 +32,8 @@ IsThere None = ⊥
 IsThere (Some x) = Unit {0}
 
 -- operands of the right kinds give something
-ints_give : (f : Span → Span → Fact) (operands : Operands Fact) → IsTakenFrom TopTwo operands →
-    each_is (λ x. is_int (kind_of_fact x)) operands ≡ true → IsThere (on_two span_of span_of f operands)
+ints_give : (f : RangeView → RangeView → Fact) (operands : Operands Fact) → IsTakenFrom TopTwo operands →
+    each_is (λ x. is_int (kind_of_fact x)) operands ≡ true → IsThere (on_two range_of range_of f operands)
 ints_give f Zero t e = absurd t
 ints_give f (One a) t e = absurd t
 ints_give f (Two (fact.Int a) (fact.Int b)) t e = tt
@@ -170,16 +170,16 @@ drawn_for sets i frame =
     (λ e. passed_for i frame.stack (taken (source_of i) frame) (taken_from (source_of i) frame)) (λ e. tt)
 
 -- what is handed on has as many operands as the table says, no more than fit, and goes to indices of the code
-abbrev pub IsHigh : ℕ → Arrival → Type 0
-IsHigh height (Arrived stack locals) = length stack ≡ height
+abbrev pub IsHigh : ℕ → InStateView → Type 0
+IsHigh height (Known stack locals) = length stack ≡ height
 IsHigh height _ = ⊥
 
-pub record HandsOn (instrs at height : ℕ) (found : Option Instr) (next : Arrival) : Type 0 where
+pub record HandsOn (instrs at height : ℕ) (found : Option Instr) (next : InStateView) : Type 0 where
   pub high : IsHigh (height_behind found height) next
   pub fits : height ≤ 32 → height_behind found height ≤ 32
   pub within : leads_below at instrs (leads_of found) ≡ true
 
-abbrev pub Passes : ℕ → ℕ → ℕ → Option Instr → Visit → Type 0
+abbrev pub Passes : ℕ → ℕ → ℕ → Option Instr → OutStateView → Type 0
 Passes instrs at height found (Passed next) = HandsOn instrs at height found next
 Passes instrs at height found (Refused why) = Unit {0}
 Passes instrs at height found Skipped = ⊥
@@ -206,7 +206,7 @@ passes_judged instrs size at locals stack i (Good operands rest) p =
     }
 
 passes_known : (program : CodeView) (size at : ℕ) (locals : List (Option Fact)) (stack : List Fact) (found : Option Instr) →
-    Passes (length program.instrs) at (length stack) found (visit_known program size at locals stack found)
+    Passes (length program.instrs) at (length stack) found (out_state_of_known program size at locals stack found)
 passes_known program size at locals stack None = tt
 passes_known program size at locals stack (Some i) =
     let frame : Frame Fact = record { stack = stack; locals = locals } in
@@ -230,15 +230,15 @@ known_length (Some f ∷ places) = one_longer f (length places) (all_known place
 
 passes_places : (program : CodeView) (size at height : ℕ) (locals : List (Option Fact)) (known : Option (List Fact)) →
     HasLength height known →
-    Passes (length program.instrs) at height (slice_get program.instrs at) (visit_places program size at locals known)
+    Passes (length program.instrs) at height (slice_get program.instrs at) (out_state_of_frame program size at locals known)
 passes_places program size at height locals None p = tt
 passes_places program size at height locals (Some stack) p =
     subst (λ n. Passes (length program.instrs) at n (slice_get program.instrs at)
-    (visit_known program size at locals stack (slice_get program.instrs at))) p
+    (out_state_of_known program size at locals stack (slice_get program.instrs at))) p
     (passes_known program size at locals stack (slice_get program.instrs at))
 
 -- an index at which so many operands arrive
 pub passes_on : (program : CodeView) (size at height : ℕ) (stack locals : List (Option Fact)) → length stack ≡ height →
-    Passes (length program.instrs) at height (slice_get program.instrs at) (visit program size at (Arrived stack locals))
+    Passes (length program.instrs) at height (slice_get program.instrs at) (out_state program size at (Known stack locals))
 passes_on program size at height stack locals e =
     passes_places program size at height locals (all_known stack) (subst (λ n. HasLength n (all_known stack)) e (known_length stack))

@@ -1,5 +1,4 @@
 pub mod Arithmetic
-pub mod Arrivals
 pub mod Budgets
 pub mod Costs
 pub mod Depths
@@ -8,12 +7,13 @@ pub mod Examples
 pub mod Fits
 pub mod Given
 pub mod Heights
-pub mod Meeting
+pub mod JoinedPlaces
+pub mod Joins
+pub mod OutStates
 pub mod Parts
 pub mod Passes
-pub mod Placed
+pub mod Propagation
 mod Rows
 pub mod Sizes
 pub mod Sound
 pub mod Steps
-pub mod Visits

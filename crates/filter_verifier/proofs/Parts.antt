@@ -9,8 +9,8 @@ use Rattle.filter_code.specs.Table.{Operands, Zero, One, Two}
 use Rattle.filter_code.specs.Values.{int_of, bool_of, ip_of, net_of, number_of, bits_of}
 use Rattle.filter_verifier.specs.declared.fact.Fact.{Fact}
 use Rattle.filter_verifier.specs.declared.fact.Fact.TheVariants as fact
-use Rattle.filter_verifier.specs.Facts.{span_of, known_bool, known_ip, known_prefix, known_number, known_bits}
-use Rattle.filter_verifier.specs.Spans.{Span}
+use Rattle.filter_verifier.specs.Facts.{range_of, known_bool, known_ip, known_prefix, known_number, known_bits}
+use Rattle.filter_verifier.specs.Ranges.{RangeView}
 use Rattle.filter_verifier.proofs.Arithmetic.{InRange}
 use Rattle.filter_verifier.proofs.Fits.{IsAs, OperandsAre}
 
@@ -70,7 +70,7 @@ abbrev pub Any : {A B : Type 0} → A → B → Type 0
 Any a b = Unit {0}
 
 -- an int in a range
-abbrev pub LiesIn : ℕ → ℕ → Span → Type 0
+abbrev pub LiesIn : ℕ → ℕ → RangeView → Type 0
 LiesIn received x span = InRange received span x
 
 -- the bits of a prefix, of which there are at most 32
@@ -78,7 +78,7 @@ abbrev pub IsShort : List Bool → Unit {0} → Type 0
 IsShort bits known = length bits ≤ 32
 
 -- the parts of values
-pub ints_are : (received : ℕ) → PartsAre received (LiesIn received) int_of span_of
+pub ints_are : (received : ℕ) → PartsAre received (LiesIn received) int_of range_of
 ints_are received (value.Int x) (fact.Int span) p = p
 ints_are received (value.Bool b) fact.Bool p = tt
 ints_are received (value.Addr a) fact.Ip p = tt

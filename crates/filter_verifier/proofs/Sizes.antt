@@ -12,17 +12,18 @@ use Rattle.filter_code.specs.Machine.{overfills}
 use Rattle.filter_verifier.specs.declared.fact.Fact.{Fact}
 use Rattle.filter_verifier.specs.declared.fault.VerifyFault.{VerifyFault}
 use Rattle.filter_verifier.specs.declared.fault.VerifyFault.TheVariants as refusal
-use Rattle.filter_verifier.specs.Arrivals.{Arrival, Unreached, Unlike, Arrived, Visit, Skipped, Refused, Passed, facts, first_fault, handed_on, if_inside, is_size, judge, leads_below, or_else, refused_by, unless_over, unless_refused, verdict, visit, visit_known, visit_places}
+use Rattle.filter_verifier.specs.FirstFault.{first_fault, is_size, or_else, refused_by}
+use Rattle.filter_verifier.specs.InStates.{InStateView, Unreached, UnlikeDepths, Known, OutStateView, Skipped, Refused, Passed, in_state, frame_after, if_inside, judge, leads_below, unless_over, unless_refused, out_state_at, out_state, out_state_of_known, out_state_of_frame}
 use Rattle.filter_verifier.specs.Facts.{all_known, fact_fault, fact_given, kind_of_fact}
 use Rattle.filter_verifier.specs.Faults.{refusal_of}
-use Rattle.filter_verifier.specs.Pieces.{frame_of}
+use Rattle.filter_verifier.specs.Pass.{frame_of}
 
 -- not refused as a size
 abbrev AtPlace : VerifyFault → Type 0
 AtPlace refusal.BadSize = ⊥
 AtPlace _ = Unit {0}
 
-abbrev VisitAtPlace : Visit → Type 0
+abbrev VisitAtPlace : OutStateView → Type 0
 VisitAtPlace (Refused why) = AtPlace why
 VisitAtPlace _ = Unit {0}
 
@@ -35,15 +36,15 @@ refusal_at_place fault.FullStack at = tt
 refusal_at_place fault.LowerMetric at = tt
 refusal_at_place fault.UnknownName at = tt
 
-refused_at_place : (why : Option FaultKind) (at : ℕ) (v : Visit) → VisitAtPlace v → VisitAtPlace (unless_refused why at v)
+refused_at_place : (why : Option FaultKind) (at : ℕ) (v : OutStateView) → VisitAtPlace v → VisitAtPlace (unless_refused why at v)
 refused_at_place None at v h = h
 refused_at_place (Some why) at v h = refusal_at_place why at
 
-over_at_place : (over : Bool) (at : ℕ) (v : Visit) → VisitAtPlace v → VisitAtPlace (unless_over over at v)
+over_at_place : (over : Bool) (at : ℕ) (v : OutStateView) → VisitAtPlace v → VisitAtPlace (unless_over over at v)
 over_at_place true at v h = tt
 over_at_place false at v h = h
 
-inside_at_place : (inside : Bool) (at : ℕ) (next : Arrival) → VisitAtPlace (if_inside inside at (Passed next))
+inside_at_place : (inside : Bool) (at : ℕ) (next : InStateView) → VisitAtPlace (if_inside inside at (Passed next))
 inside_at_place true at next = tt
 inside_at_place false at next = tt
 
@@ -52,29 +53,29 @@ judged_at_place : (count size at : ℕ) (locals : List (Option Fact)) (i : Instr
 judged_at_place count size at locals i (Bad why) = refusal_at_place why at
 judged_at_place count size at locals i (Good operands rest) =
     refused_at_place (fact_fault i operands) at _ (over_at_place (overfills (fact_given size i operands) rest) at _
-    (inside_at_place (leads_below at count (leads i)) at (handed_on size locals i operands rest)))
+    (inside_at_place (leads_below at count (leads i)) at (frame_after size locals i operands rest)))
 
 known_at_place : (program : CodeView) (size at : ℕ) (locals : List (Option Fact)) (stack : List Fact)
-    (found : Option Instr) → VisitAtPlace (visit_known program size at locals stack found)
+    (found : Option Instr) → VisitAtPlace (out_state_of_known program size at locals stack found)
 known_at_place program size at locals stack None = tt
 known_at_place program size at locals stack (Some i) = judged_at_place (length program.instrs) size at locals i
     (draw kind_of_fact (length program.sets) i (frame_of stack locals))
 
 places_at_place : (program : CodeView) (size at : ℕ) (locals : List (Option Fact)) (known : Option (List Fact)) →
-    VisitAtPlace (visit_places program size at locals known)
+    VisitAtPlace (out_state_of_frame program size at locals known)
 places_at_place program size at locals None = tt
 places_at_place program size at locals (Some stack) = known_at_place program size at locals stack (slice_get program.instrs at)
 
-visit_at_place : (program : CodeView) (size at : ℕ) (a : Arrival) → VisitAtPlace (visit program size at a)
+visit_at_place : (program : CodeView) (size at : ℕ) (a : InStateView) → VisitAtPlace (out_state program size at a)
 visit_at_place program size at Unreached = tt
-visit_at_place program size at Unlike = tt
-visit_at_place program size at (Arrived stack locals) = places_at_place program size at locals (all_known stack)
+visit_at_place program size at UnlikeDepths = tt
+visit_at_place program size at (Known stack locals) = places_at_place program size at locals (all_known stack)
 
 abbrev FoundAtPlace : Option VerifyFault → Type 0
 FoundAtPlace None = Unit {0}
 FoundAtPlace (Some why) = AtPlace why
 
-found_at_place : (v : Visit) → VisitAtPlace v → FoundAtPlace (refused_by v)
+found_at_place : (v : OutStateView) → VisitAtPlace v → FoundAtPlace (refused_by v)
 found_at_place Skipped h = tt
 found_at_place (Refused why) h = h
 found_at_place (Passed next) h = tt
@@ -87,8 +88,8 @@ first_at_place : (program : CodeView) (size n : ℕ) → FoundAtPlace (first_fau
 unfolding first_fault
 first_at_place program size zero = tt
 first_at_place program size (suc n) = either_at_place (first_fault program size n)
-    (refused_by (verdict program size n)) (first_at_place program size n)
-    (found_at_place (verdict program size n) (visit_at_place program size n (facts program size n)))
+    (refused_by (out_state_at program size n)) (first_at_place program size n)
+    (found_at_place (out_state_at program size n) (visit_at_place program size n (in_state program size n)))
 
 -- what is first unknown at an index is not the size
 pub not_the_size : (program : CodeView) (size n : ℕ) → first_fault program size n ≡ Some refusal.BadSize → ⊥

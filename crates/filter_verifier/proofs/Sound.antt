@@ -12,14 +12,15 @@ use Rattle.filter_code.specs.Machine.{Config, State, Going, Ended, start, next, 
 use Rattle.filter_code.specs.CodeView.{CodeView}
 use Rattle.filter_code.proofs.Metrics.{IsInRange}
 use Rattle.filter_verifier.specs.declared.fault.VerifyFault.{VerifyFault}
-use Rattle.filter_verifier.specs.Arrivals.{Arrival, Unreached, Unlike, Arrived, Visit, Skipped, Refused, Passed, leads_of, visit, arriving, facts, verdict, refused_by, or_else, first_fault, is_size, the_fault}
+use Rattle.filter_verifier.specs.FirstFault.{refused_by, or_else, first_fault, is_size, the_fault}
+use Rattle.filter_verifier.specs.InStates.{InStateView, Unreached, UnlikeDepths, Known, OutStateView, Skipped, Refused, Passed, leads_of, out_state, joined_below, in_state, out_state_at}
 use Rattle.filter_verifier.specs.Bounds.{cost, peak}
 use Rattle.filter_verifier.specs.Safe.{HasLiteral, IsRouteOf, IsSafe}
-use Rattle.filter_verifier.proofs.Arrivals.{below_or_at, arrives_at}
+use Rattle.filter_verifier.proofs.Propagation.{below_or_at, arrives_at}
 use Rattle.filter_verifier.proofs.Costs.{LeadOn, leads_on, cost_is, cost_falls, peak_falls, peak_least, none_past, led_below, led_later, height_behind}
 use Rattle.filter_verifier.proofs.Fits.{PlaceIsAs, Pairwise, pairwise_length}
 use Rattle.filter_verifier.proofs.Heights.{IsHigh, Passes, passes_on}
-use Rattle.filter_verifier.proofs.Meeting.{Agrees, agrees_left, agrees_right}
+use Rattle.filter_verifier.proofs.Joins.{Agrees, agrees_left, agrees_right}
 use Rattle.filter_verifier.proofs.Steps.{EndsWell, StepIs, stepped}
 
 -- neither of two is there
@@ -29,22 +30,22 @@ neither (Some why) p e = cc
 
 -- where nothing is unknown below an index, nothing is at any index below it
 pub none_refused : (program : CodeView) (size n k : ℕ) → first_fault program size n ≡ None → k < n →
-    refused_by (verdict program size k) ≡ None
+    refused_by (out_state_at program size k) ≡ None
 unfolding first_fault
 none_refused program size zero k e h = absurd (omega arith)
 none_refused program size (suc n) k e h =
-    let both = neither (first_fault program size n) (refused_by (verdict program size n)) e in
+    let both = neither (first_fault program size n) (refused_by (out_state_at program size n)) e in
     elim (below_or_at k n h) [
       | inl before ↦ none_refused program size n k both.0 before
-      | inr same ↦ subst (λ m. refused_by (verdict program size m) ≡ None) (sym same) both.1
+      | inr same ↦ subst (λ m. refused_by (out_state_at program size m) ≡ None) (sym same) both.1
     ]
 
 -- a stack that agrees with what is handed on is as high
-high_as : (route : RouteView) (d : Config) (height : ℕ) (a : Arrival) → Agrees route d a → IsHigh height a →
+high_as : (route : RouteView) (d : Config) (height : ℕ) (a : InStateView) → Agrees route d a → IsHigh height a →
     length d.frame.stack ≡ height
 high_as route d height Unreached p q = absurd p
-high_as route d height Unlike p q = absurd q
-high_as route d height (Arrived stack locals) p q =
+high_as route d height UnlikeDepths p q = absurd q
+high_as route d height (Known stack locals) p q =
     pairwise_length (λ v place. PlaceIsAs route.metric (Some v) place) d.frame.stack stack p.on_stack ∙ q
 
 pub lead_on_from : (found : Option Instr) → LeadOn (leads_of found)
@@ -69,7 +70,7 @@ literal_at instrs all at i e = subst HasLiteral (get_or_from_slice_get instrs at
 -- where a run stands after some steps
 pub record Stands (program : CodeView) (route : RouteView) (size n : ℕ) (c : Config) : Type 0 where
   pub inside : c.pc < length program.instrs
-  pub agrees : Agrees route c (facts program size c.pc)
+  pub agrees : Agrees route c (in_state program size c.pc)
   pub soon : n + cost program.instrs c.pc ≤ cost program.instrs 0
   pub low : peak program.instrs c.pc (length c.frame.stack) ≤ peak program.instrs 0 0
   pub fits : length c.frame.stack ≤ 32
@@ -82,16 +83,16 @@ IsWell program route size n (Ended end) = EndsWell route end
 module _ (program : CodeView) (size : ℕ) (route : RouteView) (literals : All HasLiteral program.instrs)
     (some : 0 < length program.instrs) (small : size ≤ 64) (none : first_fault program size (length program.instrs) ≡ None)
     (of_size : IsRouteOf size route) where
-  stack_passes : (c : Config) (a : Arrival) → Agrees route c a →
-      Passes (length program.instrs) c.pc (length c.frame.stack) (slice_get program.instrs c.pc) (visit program size c.pc a)
+  stack_passes : (c : Config) (a : InStateView) → Agrees route c a →
+      Passes (length program.instrs) c.pc (length c.frame.stack) (slice_get program.instrs c.pc) (out_state program size c.pc a)
   stack_passes c Unreached p = absurd p
-  stack_passes c Unlike p = tt
-  stack_passes c (Arrived stack locals) p =
+  stack_passes c UnlikeDepths p = tt
+  stack_passes c (Known stack locals) p =
       passes_on program size c.pc (length c.frame.stack) stack locals
       (sym (pairwise_length (λ v place. PlaceIsAs route.metric (Some v) place) c.frame.stack stack p.on_stack))
 
   -- where something passes, the run stands well again
-  moved : (n : ℕ) (c : Config) (v : Visit) (state : State) → Stands program route size n c → verdict program size c.pc ≡ v →
+  moved : (n : ℕ) (c : Config) (v : OutStateView) (state : State) → Stands program route size n c → out_state_at program size c.pc ≡ v →
       refused_by v ≡ None → StepIs route c.pc (slice_get program.instrs c.pc) state v →
       Passes (length program.instrs) c.pc (length c.frame.stack) (slice_get program.instrs c.pc) v →
       IsWell program route size (suc n) state
@@ -119,17 +120,17 @@ module _ (program : CodeView) (size : ℕ) (route : RouteView) (literals : All H
 
   step_stands : (n : ℕ) (c : Config) → Stands program route size n c → IsWell program route size (suc n) (step program route c)
   step_stands n c here =
-      moved n c (verdict program size c.pc) (step program route c) here refl
+      moved n c (out_state_at program size c.pc) (step program route c) here refl
       (none_refused program size (length program.instrs) c.pc none here.inside)
-      (stepped program route size of_size small c (facts program size c.pc) (literal_at program.instrs literals c.pc) here.agrees)
-      (stack_passes c (facts program size c.pc) here.agrees)
+      (stepped program route size of_size small c (in_state program size c.pc) (literal_at program.instrs literals c.pc) here.agrees)
+      (stack_passes c (in_state program size c.pc) here.agrees)
 
   next_stands : (n : ℕ) (state : State) → IsWell program route size n state → IsWell program route size (suc n) (next program route state)
   next_stands n (Going c) here = step_stands n c here
   next_stands n (Ended end) here = here
 
   begun : Stands program route size 0 (start program route)
-  unfolding arriving
+  unfolding joined_below
   begun = record {
     inside = some;
     agrees = record {

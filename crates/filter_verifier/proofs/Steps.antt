@@ -16,14 +16,14 @@ use Rattle.filter_code.specs.Table.{Frame, Operands, Zero, One, Two, Drawn, Bad,
 use Rattle.filter_code.specs.Values.{bool_of, kind_of}
 use Rattle.filter_code.proofs.Metrics.{IsInRange, metric_in_range}
 use Rattle.filter_verifier.specs.declared.fact.Fact.{Fact}
-use Rattle.filter_verifier.specs.Arrivals.{Arrival, Unreached, Unlike, Arrived, Visit, Skipped, Refused, Passed, leads_to, handed_on, judge, visit_known, visit_places, visit, leads_of}
+use Rattle.filter_verifier.specs.InStates.{InStateView, Unreached, UnlikeDepths, Known, OutStateView, Skipped, Refused, Passed, leads_to, frame_after, judge, out_state_of_known, out_state_of_frame, out_state, leads_of}
 use Rattle.filter_verifier.specs.Facts.{kind_of_fact, fact_given, fact_fault, all_known}
 use Rattle.filter_verifier.specs.Safe.{HasLiteral, IsRouteOf}
-use Rattle.filter_verifier.proofs.Arrivals.{judged}
+use Rattle.filter_verifier.proofs.Propagation.{judged}
 use Rattle.filter_verifier.proofs.Fits.{IsAs, PlaceIsAs, Pairwise, OperandsAre, DrawnAre, drawn_are, pairwise_length}
 use Rattle.filter_verifier.proofs.Given.{given_is, no_value_fault}
 use Rattle.filter_verifier.proofs.Parts.{Alike}
-use Rattle.filter_verifier.proofs.Meeting.{Agrees}
+use Rattle.filter_verifier.proofs.Joins.{Agrees}
 
 -- the ends that are wanted: accepted at a metric in range, or rejected
 abbrev pub EndsWell : RouteView → Outcome → Type 0
@@ -32,16 +32,16 @@ EndsWell route outcome.Reject = Unit {0}
 EndsWell route (outcome.Fault why at) = ⊥
 
 -- from a configuration to one where the text leads, and that agrees with what is handed on
-pub record Moves (route : RouteView) (at : ℕ) (found : Option Instr) (next : Arrival) (d : Config) : Type 0 where
+pub record Moves (route : RouteView) (at : ℕ) (found : Option Instr) (next : InStateView) (d : Config) : Type 0 where
   pub led : leads_to at d.pc (leads_of found) ≡ true
   pub agrees : Agrees route d next
 
-abbrev pub GoesWell : RouteView → ℕ → Option Instr → Arrival → State → Type 0
+abbrev pub GoesWell : RouteView → ℕ → Option Instr → InStateView → State → Type 0
 GoesWell route at found next (Ended end) = EndsWell route end
 GoesWell route at found next (Going d) = Moves route at found next d
 
 -- a step, by what becomes of the index where it is made
-abbrev pub StepIs : RouteView → ℕ → Option Instr → State → Visit → Type 0
+abbrev pub StepIs : RouteView → ℕ → Option Instr → State → OutStateView → Type 0
 StepIs route at found state Skipped = ⊥
 StepIs route at found state (Refused why) = Unit {0}
 StepIs route at found state (Passed next) = GoesWell route at found next state
@@ -124,7 +124,7 @@ let_through P None true pc state none room p = absurd (cc)
 let_through P (Some why) full pc state none room p = absurd (cc)
 
 -- the end of a run, or the way on
-ended_or_on : (route : RouteView) (at : ℕ) (found : Option Instr) (next : Arrival) (metric : ℕ) (i : Instr) (d : Config) →
+ended_or_on : (route : RouteView) (at : ℕ) (found : Option Instr) (next : InStateView) (metric : ℕ) (i : Instr) (d : Config) →
     IsInRange route metric → (ending_of metric i ≡ None → Moves route at found next d) →
     GoesWell route at found next (unless_ended (ending_of metric i) (Going d))
 ended_or_on route at found next metric instr.Accept d here p = here
@@ -138,17 +138,17 @@ module _ (program : CodeView) (route : RouteView) (size : ℕ) (of_size : IsRout
       HasLiteral i → Pairwise (PlaceIsAs route.metric) c.frame.locals locals → IsInRange route c.metric →
       OperandsAre route.metric operands facts → Pairwise (IsAs route.metric) rest left → fact_fault i facts ≡ None →
       overfills (fact_given size i facts) left ≡ false →
-      GoesWell route c.pc (Some i) (handed_on size locals i facts left) (act program route c i (Good operands rest))
+      GoesWell route c.pc (Some i) (frame_after size locals i facts left) (act program route c i (Good operands rest))
   performed c locals i operands rest facts left literal in_locals here p q none room =
       let given = given_is program route size c.metric of_size small here i operands facts literal none p in
       let no_fault = no_value_fault route i operands facts none p in
       let limit : route.metric ≤ route.size = omega (arith, of_size.reachable, of_size.size_is) in
-      let_through (GoesWell route c.pc (Some i) (handed_on size locals i facts left))
+      let_through (GoesWell route c.pc (Some i) (frame_after size locals i facts left))
       (value_fault route i operands) (overfills (value_given program route c.metric i operands) rest) c.pc
       (unless_ended (ending_of c.metric i) (Going (moved_on program route c i operands rest)))
       no_fault
       (over_same route.metric (value_given program route c.metric i operands) (fact_given size i facts) rest left given q ∙ room)
-      (ended_or_on route c.pc (Some i) (handed_on size locals i facts left) c.metric i
+      (ended_or_on route c.pc (Some i) (frame_after size locals i facts left) c.metric i
       (moved_on program route c i operands rest) here λ on.
       record {
         led = branch_among c.metric c.pc i operands on;
@@ -176,7 +176,7 @@ module _ (program : CodeView) (route : RouteView) (size : ℕ) (of_size : IsRout
   known_step : (c : Config) (at : ℕ) (locals : List (Option Fact)) (stack : List Fact) (found : Option Instr) →
       ((i : Instr) → found ≡ Some i → HasLiteral i) → Pairwise (IsAs route.metric) c.frame.stack stack →
       Pairwise (PlaceIsAs route.metric) c.frame.locals locals → IsInRange route c.metric →
-      StepIs route c.pc found (carry_out program route c found) (visit_known program size at locals stack found)
+      StepIs route c.pc found (carry_out program route c found) (out_state_of_known program size at locals stack found)
   known_step c at locals stack None literal on_stack in_locals here = tt
   known_step c at locals stack (Some i) literal on_stack in_locals here =
       let frame : Frame Fact = record { stack = stack; locals = locals } in
@@ -205,17 +205,17 @@ module _ (program : CodeView) (route : RouteView) (size : ℕ) (of_size : IsRout
   places_step : (c : Config) (at : ℕ) (locals : List (Option Fact)) (known : Option (List Fact)) →
       ((i : Instr) → slice_get program.instrs at ≡ Some i → HasLiteral i) → at ≡ c.pc → KnownIs c.frame.stack known →
       Pairwise (PlaceIsAs route.metric) c.frame.locals locals → IsInRange route c.metric →
-      StepIs route c.pc (slice_get program.instrs c.pc) (step program route c) (visit_places program size at locals known)
+      StepIs route c.pc (slice_get program.instrs c.pc) (step program route c) (out_state_of_frame program size at locals known)
   places_step c at locals None literal same on_stack in_locals here = tt
   places_step c at locals (Some stack) literal same on_stack in_locals here =
       subst (λ k. StepIs route c.pc (slice_get program.instrs k) (carry_out program route c (slice_get program.instrs k))
-      (visit_known program size at locals stack (slice_get program.instrs at))) same
+      (out_state_of_known program size at locals stack (slice_get program.instrs at))) same
       (known_step c at locals stack (slice_get program.instrs at) literal on_stack in_locals here)
 
   -- a step from a configuration that agrees with what arrives where it stands
-  pub stepped : (c : Config) (a : Arrival) → ((i : Instr) → slice_get program.instrs c.pc ≡ Some i → HasLiteral i) → Agrees route c a →
-      StepIs route c.pc (slice_get program.instrs c.pc) (step program route c) (visit program size c.pc a)
+  pub stepped : (c : Config) (a : InStateView) → ((i : Instr) → slice_get program.instrs c.pc ≡ Some i → HasLiteral i) → Agrees route c a →
+      StepIs route c.pc (slice_get program.instrs c.pc) (step program route c) (out_state program size c.pc a)
   stepped c Unreached literal p = absurd p
-  stepped c Unlike literal p = tt
-  stepped c (Arrived stack locals) literal p =
+  stepped c UnlikeDepths literal p = tt
+  stepped c (Known stack locals) literal p =
       places_step c c.pc locals (all_known stack) literal refl (known_is c.frame.stack stack p.on_stack) p.in_locals p.metric

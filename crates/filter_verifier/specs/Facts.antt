@@ -1,4 +1,4 @@
--- What is known of a value, and how an instruction carries it on. (This project's own choice.)
+-- What is known of a value, and the facts that an instruction gives. (This project's own choice.)
 use Rattle.std.specs.Prelude.{ℕ, ◌==◌, not, Option, Some, None, option_and_then, List, [], ◌∷◌}
 use Rattle.filter_code.specs.declared.instruction.Instr.{Instr}
 use Rattle.filter_code.specs.declared.instruction.Instr.TheVariants as instr
@@ -10,9 +10,10 @@ use Rattle.filter_code.specs.Machine.{fault_where, on_one, on_two, whole}
 use Rattle.filter_code.specs.Table.{Operands}
 use Rattle.filter_verifier.specs.declared.fact.Fact.{Fact}
 use Rattle.filter_verifier.specs.declared.fact.Fact.TheVariants as fact
-use Rattle.filter_verifier.specs.Spans.{Span, span_of_number, span_of_metric, span_of_length, span_of_sum, span_of_difference, span_of_product, span_of_quotient, span_of_greater, span_of_both}
+use Rattle.filter_verifier.specs.Ranges.{RangeView, join_ranges, range_of_number, range_of_metric, range_of_length, range_of_sum}
+use Rattle.filter_verifier.specs.Ranges.{range_of_difference, range_of_product, range_of_quotient, range_of_greater}
 
--- the kind that is known
+-- the kind of the value
 abbrev pub kind_of_fact : Fact → Kind
 kind_of_fact (fact.Int span) = kind.Int
 kind_of_fact fact.Bool = kind.Bool
@@ -20,9 +21,9 @@ kind_of_fact fact.Ip = kind.Ip
 kind_of_fact fact.Prefix = kind.Prefix
 
 -- the range of an int
-abbrev pub span_of : Fact → Option Span
-span_of (fact.Int span) = Some span
-span_of _ = None
+abbrev pub range_of : Fact → Option RangeView
+range_of (fact.Int span) = Some span
+range_of _ = None
 
 -- that it is a bool, an ip, a prefix; that it is an int or an ip, which have an order; that it is an ip or a prefix,
 -- which have bits
@@ -48,58 +49,58 @@ known_bits fact.Ip = Some tt
 known_bits fact.Prefix = Some tt
 known_bits _ = None
 
--- what is known of the value that an instruction puts on the stack, in a network of a size
+-- the fact of the value that an instruction pushes, in a domain of a size
 abbrev pub fact_given : ℕ → Instr → Operands Fact → Option Fact
-fact_given size (instr.Int k) = λ _. Some (fact.Int (span_of_number size k))
+fact_given size (instr.Int k) = λ _. Some (fact.Int (range_of_number size k))
 fact_given size (instr.Bool b) = λ _. Some fact.Bool
 fact_given size (instr.Ip a) = λ _. Some fact.Ip
 fact_given size (instr.Prefix bits) = λ _. Some fact.Prefix
 fact_given size (instr.Load i) = on_one whole (λ f. f)
 fact_given size instr.Net = λ _. Some fact.Prefix
-fact_given size instr.Metric = λ _. Some (fact.Int (span_of_metric size))
-fact_given size instr.Received = λ _. Some (fact.Int (span_of_metric size))
-fact_given size instr.Add = on_two span_of span_of (λ a b. fact.Int (span_of_sum size a b))
-fact_given size instr.Sub = on_two span_of span_of (λ a b. fact.Int (span_of_difference size a b))
-fact_given size instr.Mul = on_two span_of span_of (λ a b. fact.Int (span_of_product size a b))
-fact_given size instr.Div = on_two span_of span_of (λ a b. fact.Int (span_of_quotient size a b))
-fact_given size instr.Max = on_two span_of span_of (λ a b. fact.Int (span_of_greater size a b))
+fact_given size instr.Metric = λ _. Some (fact.Int (range_of_metric size))
+fact_given size instr.Received = λ _. Some (fact.Int (range_of_metric size))
+fact_given size instr.Add = on_two range_of range_of (λ a b. fact.Int (range_of_sum size a b))
+fact_given size instr.Sub = on_two range_of range_of (λ a b. fact.Int (range_of_difference size a b))
+fact_given size instr.Mul = on_two range_of range_of (λ a b. fact.Int (range_of_product size a b))
+fact_given size instr.Div = on_two range_of range_of (λ a b. fact.Int (range_of_quotient size a b))
+fact_given size instr.Max = on_two range_of range_of (λ a b. fact.Int (range_of_greater size a b))
 fact_given size instr.Eq = on_two whole whole (λ a b. fact.Bool)
 fact_given size instr.Lt = on_two known_number known_number (λ a b. fact.Bool)
 fact_given size instr.Le = on_two known_number known_number (λ a b. fact.Bool)
 fact_given size instr.Not = on_one known_bool (λ b. fact.Bool)
 fact_given size instr.Addr = on_one known_prefix (λ p. fact.Ip)
-fact_given size instr.Len = on_one known_prefix (λ p. fact.Int (span_of_length size))
+fact_given size instr.Len = on_one known_prefix (λ p. fact.Int (range_of_length size))
 fact_given size (instr.Mask n) = on_one known_ip (λ a. fact.Ip)
 fact_given size instr.Within = on_two known_bits known_prefix (λ a p. fact.Bool)
 fact_given size (instr.Member s) = on_one known_prefix (λ p. fact.Bool)
 fact_given size _ = λ _. None
 
--- the fault that operands of the right kinds are not known to be free of
+-- the fault that operands of the right kinds may cause
 abbrev pub fact_fault : Instr → Operands Fact → Option FaultKind
-fact_fault instr.SetMetric operands = fault_where fault.LowerMetric (on_one span_of (λ v. not v.mark) operands)
-fact_fault instr.Div operands = fault_where fault.ZeroDivisor (on_two span_of span_of (λ a b. b.low == 0) operands)
+fact_fault instr.SetMetric operands = fault_where fault.LowerMetric (on_one range_of (λ v. not v.at_least_received) operands)
+fact_fault instr.Div operands = fault_where fault.ZeroDivisor (on_two range_of range_of (λ a b. b.low == 0) operands)
 fact_fault _ operands = None
 
--- what is known of a value that is as the one fact says or as the other: nothing where their kinds differ
-abbrev pub common : Fact → Fact → Option Fact
-common (fact.Int a) (fact.Int b) = Some (fact.Int (span_of_both a b))
-common fact.Bool fact.Bool = Some fact.Bool
-common fact.Ip fact.Ip = Some fact.Ip
-common fact.Prefix fact.Prefix = Some fact.Prefix
-common _ _ = None
+-- the join of two facts: what holds of a value if one or the other does; None if their kinds differ
+abbrev pub join_facts : Fact → Fact → Option Fact
+join_facts (fact.Int a) (fact.Int b) = Some (fact.Int (join_ranges a b))
+join_facts fact.Bool fact.Bool = Some fact.Bool
+join_facts fact.Ip fact.Ip = Some fact.Ip
+join_facts fact.Prefix fact.Prefix = Some fact.Prefix
+join_facts _ _ = None
 
--- the same at one place of the stack or of the local variables; of some places nothing is known
-abbrev pub common_at : Option Fact → Option Fact → Option Fact
-common_at (Some a) (Some b) = common a b
-common_at _ _ = None
+-- the join of what is known at one place of the stack or of the local variables
+abbrev pub join_place : Option Fact → Option Fact → Option Fact
+join_place (Some a) (Some b) = join_facts a b
+join_place _ _ = None
 
 -- place by place, as far as the first list goes
-abbrev pub common_places : List (Option Fact) → List (Option Fact) → List (Option Fact)
-common_places [] ys = []
-common_places (x ∷ xs) [] = None ∷ common_places xs []
-common_places (x ∷ xs) (y ∷ ys) = common_at x y ∷ common_places xs ys
+abbrev pub join_places : List (Option Fact) → List (Option Fact) → List (Option Fact)
+join_places [] ys = []
+join_places (x ∷ xs) [] = None ∷ join_places xs []
+join_places (x ∷ xs) (y ∷ ys) = join_place x y ∷ join_places xs ys
 
--- the facts of places, if something is known of each
+-- the facts of places, if each place is known
 abbrev pub all_known : List (Option Fact) → Option (List Fact)
 all_known [] = Some []
 all_known (None ∷ places) = None

@@ -1,4 +1,4 @@
--- The codes and places of what is not known, and what a run may meet there. (This project's own choice.)
+-- The codes and places of refusals, and the machine's fault that each one stands for. (This project's own choice.)
 use Rattle.std.specs.Prelude.{ℕ, List, codes}
 use Rattle.filter_code.specs.declared.outcome.FaultKind.{FaultKind}
 use Rattle.filter_code.specs.declared.outcome.FaultKind.TheVariants as fault
@@ -31,7 +31,7 @@ fault_place refusal.BadSize = 0
 fault_place (refusal.UnlikeDepths at) = at
 fault_place refusal.Memory = 0
 
--- the refusal of code of which it is not known that it never meets a fault at a place
+-- the refusal of code that may meet a fault at a place
 abbrev pub refusal_of : FaultKind → ℕ → VerifyFault
 refusal_of fault.MissingOperand at = refusal.MissingOperand at
 refusal_of fault.WrongKind at = refusal.WrongKind at

@@ -1,9 +1,10 @@
-pub mod Arrivals
+pub mod AbstractFrameView
 pub mod Bounds
-pub mod VerifiedView
 pub mod Facts
 pub mod Faults
-pub mod Layout
-pub mod Pieces
+pub mod FirstFault
+pub mod InStates
+pub mod Pass
+pub mod Ranges
 pub mod Safe
-pub mod Spans
+pub mod VerifiedView

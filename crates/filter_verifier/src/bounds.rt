@@ -1,38 +1,38 @@
-//! The most instructions on any way.
+//! The most instructions on any path.
 
 ghost use Rattle.std.specs.Prelude.{◌≡◌, ◌<◌, ◌≤◌, ◌∷◌, All, IfOk, length, slice_index};
 ghost use Rattle.filter_code.specs.Limits.{instruction_limit};
 ghost use Rattle.filter_verifier.specs.Bounds.{cost, greatest_at};
-ghost use Rattle.filter_verifier.specs.Pieces.{distances};
+ghost use Rattle.filter_verifier.specs.Pass.{offsets};
 
-use crate::following::{Following, leads};
+use crate::successors::Successors;
 use filter_code::Instr;
 use std::alloc::{AllocError, Global};
 
-/// The cost of the instruction so far on, where the costs of the next instructions stand in order.
-fn cost_at(costs: &[u32], distance: usize) -> u32
-    requires { 0 < distance }
-    ensures { result ≡ slice_index (0 ∷ costs.now) distance }
+/// The cost of the instruction at an offset, from the costs of the next instructions in order. 0 outside the code.
+fn cost_at(costs: &[u32], offset: usize) -> u32
+    requires { 0 < offset }
+    ensures { result ≡ slice_index (0 ∷ costs.now) offset }
 {
-    match costs.get(distance - 1) {
+    match costs.get(offset - 1) {
         Some(cost) => *cost,
         None => 0,
     }
 }
 
-/// The greatest of the costs of the instructions that may follow.
-fn greatest(costs: &[u32], leads: Following) -> u32
-    requires { All (λ distance. (0 < distance) × (distance ≤ 65536)) (distances leads) }
-    ensures { result ≡ greatest_at costs.now (distances leads) }
+/// The greatest cost of some successors.
+fn greatest(costs: &[u32], successors: Successors) -> u32
+    requires { All (λ offset. (0 < offset) × (offset ≤ 65536)) (offsets successors) }
+    ensures { result ≡ greatest_at costs.now (offsets successors) }
 {
-    match leads {
-        Following::Nowhere => 0,
-        Following::To(distance) => cost_at(costs, distance),
-        Following::ToEither(a, b) => cost_at(costs, a).max(cost_at(costs, b)),
+    match successors {
+        Successors::Nowhere => 0,
+        Successors::One(offset) => cost_at(costs, offset),
+        Successors::Either(a, b) => cost_at(costs, a).max(cost_at(costs, b)),
     }
 }
 
-/// The most instructions on any way from the first one to an end.
+/// The most instructions on any path from the first one to ACCEPT or REJECT.
 #[tactic(auto, using(crate::proofs::Budgets::costs_at))]
 pub fn budget_of(alloc: Global, instrs: &[Instr]) -> Result<u32, AllocError>
     requires { length instrs.now ≤ instruction_limit }
@@ -40,7 +40,7 @@ pub fn budget_of(alloc: Global, instrs: &[Instr]) -> Result<u32, AllocError>
 {
     let mut costs = vec![in alloc; 0; instrs.len()]?;
     for at in (0..instrs.len()).rev() {
-        costs[at] = 1 + greatest(&costs[at + 1..], leads(instrs[at]));
+        costs[at] = 1 + greatest(&costs[at + 1..], Successors::of(instrs[at]));
     }
     Ok(cost_at(&costs, 1))
 }

@@ -1,11 +1,11 @@
 //! What is known of a value.
 
 ghost use Rattle.std.specs.Prelude.{◌≡◌};
-ghost use Rattle.filter_verifier.specs.Facts.{common, common_at};
+ghost use Rattle.filter_verifier.specs.Facts.{join_facts, join_place};
 
 use crate::range::Range;
 
-/// What is known of a value: its kind, and of an int the range.
+/// What is known of a value: its kind, and the range of an int.
 #[derive(Clone, Copy, Debug)]
 pub enum Fact {
     Int(Range),
@@ -20,31 +20,33 @@ impl Default for Fact {
 
     ghost is_default = { λ f. f ≡ fact.Bool };
 
-    /// A bool, which stands in the unused places of a stack.
+    /// A bool, which fills the unused places of a `Stack`.
     fn default() -> Fact {
         Fact::Bool
     }
 }
 
-/// What is known of a value that is as the one says or as the other. None where their kinds differ.
-fn common(a: &Fact, b: &Fact) -> Option<Fact>
-    ensures { result ≡ common a.now b.now }
-{
-    match (a, b) {
-        (Fact::Int(a), Fact::Int(b)) => Some(Fact::Int(Range::both(*a, *b))),
-        (Fact::Bool, Fact::Bool) => Some(Fact::Bool),
-        (Fact::Ip, Fact::Ip) => Some(Fact::Ip),
-        (Fact::Prefix, Fact::Prefix) => Some(Fact::Prefix),
-        _ => None,
+impl Fact {
+    /// The join of two facts: what holds of a value if one or the other does. None if their kinds differ.
+    pub fn join(&self, other: &Fact) -> Option<Fact>
+        ensures { result ≡ join_facts self.now other.now }
+    {
+        match (self, other) {
+            (Fact::Int(a), Fact::Int(b)) => Some(Fact::Int(Range::join(*a, *b))),
+            (Fact::Bool, Fact::Bool) => Some(Fact::Bool),
+            (Fact::Ip, Fact::Ip) => Some(Fact::Ip),
+            (Fact::Prefix, Fact::Prefix) => Some(Fact::Prefix),
+            _ => None,
+        }
     }
 }
 
-/// The same of two places, of which nothing may be known.
-pub fn common_at(a: &Option<Fact>, b: &Option<Fact>) -> Option<Fact>
-    ensures { result ≡ common_at a.now b.now }
+/// The join of what is known at a place on two paths. None if it is not known on one of them, or if the kinds differ.
+pub fn join_place(a: &Option<Fact>, b: &Option<Fact>) -> Option<Fact>
+    ensures { result ≡ join_place a.now b.now }
 {
     match (a, b) {
-        (Some(a), Some(b)) => common(a, b),
+        (Some(a), Some(b)) => a.join(b),
         _ => None,
     }
 }

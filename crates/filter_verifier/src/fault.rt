@@ -6,40 +6,40 @@ ghost use Rattle.filter_verifier.specs.declared.fault.VerifyFault.TheVariants.{M
 use std::alloc::{AllocError, AllocFailed};
 use thiserror::Error;
 
-/// The first thing that the verifier does not know of a code.
+/// Why code was refused: the first test that failed.
 ///
 /// A place is the index of an instruction.
 #[derive(Clone, Copy, Debug, PartialEq, Eq, Error)]
 pub enum VerifyFault {
-    /// V1: the instruction takes more operands than the stack holds.
-    #[error("the stack does not hold as many operands as instruction {0} takes")]
+    /// V1: the instruction needs more operands than the stack holds.
+    #[error("instruction {0}: too few operands on the stack")]
     MissingOperand(usize),
-    /// V2: the instruction takes an operand whose kind is another, or differs between the ways that lead here, or a
-    /// local variable that is empty on some way.
-    #[error("the kinds of the values that instruction {0} finds are not known, or not the ones that it takes")]
+    /// V2: an operand has the wrong type for the instruction, paths with different types at a stack place meet here, or
+    /// LOAD reads a local variable that may be empty.
+    #[error("instruction {0}: an operand has an unknown or wrong type")]
     WrongKind(usize),
-    /// V3: the instruction divides by a number that may be 0.
-    #[error("the divisor of instruction {0} is not known to be above 0")]
+    /// V3: the divisor may be 0.
+    #[error("instruction {0}: the divisor may be 0")]
     ZeroDivisor(usize),
-    /// V4: no instruction stands where the code goes on.
-    #[error("no instruction is known to stand where the code goes on from instruction {0}")]
+    /// V4: a successor of the instruction is outside the code.
+    #[error("instruction {0}: execution may continue outside the code")]
     OutsideCode(usize),
-    /// V5: the stack would hold more than its limit.
-    #[error("the stack is not known to have room for what instruction {0} gives")]
+    /// V5: the stack would hold more than 32 values.
+    #[error("instruction {0}: the stack may overflow")]
     FullStack(usize),
-    /// V6: the metric may go below the one received.
-    #[error("the metric that instruction {0} sets is not known to be at least the one received")]
+    /// V6: the new metric may be lower than the one received.
+    #[error("instruction {0}: the new metric may be lower than the one received")]
     LowerMetric(usize),
-    /// V7: there is no such local variable or set.
-    #[error("the local variable or set that instruction {0} names is not known")]
+    /// V7: the code has no such local variable or set.
+    #[error("instruction {0}: no such local variable or set")]
     UnknownName(usize),
-    /// V8: the network's size is not one that networks have.
-    #[error("a network has 2 to 64 nodes")]
+    /// V8: the size is not 2 to 64.
+    #[error("the size of a domain must be 2 to 64")]
     BadSize,
-    /// V9: ways meet on which the stack holds unlike numbers of values.
-    #[error("the ways to instruction {0} leave unlike numbers of values on the stack, so it is not known how many there are")]
+    /// V9: paths meet here whose stacks differ in depth.
+    #[error("instruction {0}: the stack depth differs between the paths that lead here")]
     UnlikeDepths(usize),
-    /// V10: the memory for the work was refused.
+    /// V10: out of memory.
     #[error("out of memory")]
     Memory,
 }
@@ -65,7 +65,7 @@ impl VerifyFault {
         }
     }
 
-    /// The fault's place, and 0 for a bad size and for want of memory, which have none.
+    /// The fault's place; 0 for a bad size and for a lack of memory, which have none.
     pub fn at(self) -> usize
         ensures { result ≡ fault_place self }
     {

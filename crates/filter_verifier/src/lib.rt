@@ -1,18 +1,20 @@
-//! The verifier: it takes filter code of which it knows that it never goes wrong, and refuses all other code.
+//! The verifier: an abstract interpretation of filter code, in one forward pass.
+//!
+//! Code that it accepts never faults, on any route in a domain of the size that it was verified for.
 #![tactic(auto)]
 
+mod abstract_frame;
 mod bounds;
-mod effect;
 mod fact;
 mod fault;
-mod following;
+mod in_state;
 mod literals;
+mod out_state;
 mod pass;
-mod places;
 mod range;
+mod successors;
+mod transfer;
 mod verified;
-mod visit;
-mod waiting;
 
 pub use fault::VerifyFault;
 pub use verified::{Verified, verify};

@@ -1,11 +1,11 @@
-//! What instructions carry.
+//! The literals of instructions.
 
 ghost use Rattle.std.specs.Prelude.{All};
 ghost use Rattle.filter_verifier.specs.Safe.{HasLiteral};
 
 use filter_code::Instr;
 
-/// Reads the number or the prefix that an instruction carries, so that it is known to fit its type.
+/// Reads the literal of an instruction, so that the proof learns that it fits its type.
 fn read_literal(instr: &Instr)
     ensures { HasLiteral instr.now }
 {
@@ -20,7 +20,7 @@ fn read_literal(instr: &Instr)
     }
 }
 
-/// Reads what each instruction carries.
+/// Reads the literal of each instruction.
 pub fn read_literals(instrs: &[Instr])
     ensures { All HasLiteral instrs.now }
 {

@@ -1,105 +1,118 @@
-//! One pass over the code, which carries forward what is known.
+//! The pass over a code: it visits each instruction once, in order, and propagates what is known to the successors.
 
-ghost use Rattle.std.specs.Prelude.{◌≡◌, ◌⊎◌, ◌<◌, ◌≤◌, ◌==◌, ◌≢◌, ℕ, true, None, Some, IfErr, IfOk, MatchResult, length, slice_get, if◌then◌else◌};
-ghost use Rattle.filter_verifier.specs.declared.fault.VerifyFault.TheVariants as refusal;
-ghost use Rattle.filter_verifier.specs.Arrivals.{Passed, Unreached, beginning, first_fault, hand_on, leads_below, leads_to, meet, refused_by, visit};
-ghost use Rattle.filter_verifier.specs.Pieces.{arrival_of_places, distances, highest, waiting_at};
+ghost use Rattle.std.specs.Prelude.{◌≡◌, ◌⊎◌, ◌<◌, ◌≤◌, ◌==◌, ◌≢◌, ℕ, true, None, Some, IfErr, IfOk, MatchResult};
+ghost use Rattle.std.specs.Prelude.{length, slice_get, if◌then◌else◌};
 ghost use Rattle.filter_code.specs.Limits.{stack_limit};
+ghost use Rattle.filter_verifier.specs.declared.fault.VerifyFault.TheVariants as refusal;
+ghost use Rattle.filter_verifier.specs.FirstFault.{first_fault};
+ghost use Rattle.filter_verifier.specs.InStates.{Passed, Unreached, entry, join_states, leads_below, leads_to};
+ghost use Rattle.filter_verifier.specs.FirstFault.{refused_by};
+ghost use Rattle.filter_verifier.specs.InStates.{out_state, propagated};
+ghost use Rattle.filter_verifier.specs.Pass.{highest, known_frame, offsets, state_at};
 
+use crate::abstract_frame::AbstractFrame;
 use crate::fault::VerifyFault;
-use crate::following::{Following, leads};
-use crate::places::Places;
-use crate::visit::{Visited, visit};
-use crate::waiting::Waiting;
+use crate::in_state::InState;
+use crate::out_state::{OutState, out_state};
+use crate::successors::Successors;
 use filter_code::Code;
 use std::alloc::{AllocError, Global};
 
-/// What waits at each index before the pass.
-fn begin(alloc: Global, code: &Code) -> Result<Vec<Waiting>, AllocError>
+/// The in-states before the pass: only the first instruction is reached.
+fn entry_states(alloc: Global, code: &Code) -> Result<Vec<InState>, AllocError>
     requires { 0 < length code.now.instrs }
     ensures wide { IfOk result (λ v. length v.items ≡ length code.now.instrs) }
-    ensures waiting { IfOk result (λ v. (k : ℕ) → waiting_at v.items k ≡ beginning code.now k) }
+    ensures entry { IfOk result (λ v. (k : ℕ) → state_at v.items k ≡ entry code.now k) }
 {
     let count = code.instrs().len();
-    let mut pending = Vec::with_capacity(alloc, count)?;
-    pending.push(Waiting::Arrived(Places::at_the_start(alloc, code.locals())?))?;
+    let mut in_states = Vec::with_capacity(alloc, count)?;
+    in_states.push(InState::Known(AbstractFrame::at_entry(alloc, code.locals())?))?;
     for _ in 1..count {
-        pending.push(Waiting::Unreached)?;
+        in_states.push(InState::Unreached)?;
     }
-    Ok(pending)
+    Ok(in_states)
 }
 
-/// Hands places on to one index.
-fn arrive(
+/// Joins a frame into the in-state of one instruction.
+fn join_into(
     alloc: Global,
-    pending: &mut Vec<Waiting>,
+    in_states: &mut Vec<InState>,
     target: usize,
-    next: &Places,
+    next: &AbstractFrame,
 ) -> Result<(), AllocError>
-    requires { target < length pending.old.items }
-    ensures wide { IfOk result (λ _. length pending.new.items ≡ length pending.old.items) }
-    ensures arrived { IfOk result (λ _. (k : ℕ) → waiting_at pending.new.items k
-        ≡ (if target == k then meet (waiting_at pending.old.items k) (arrival_of_places next.now) else waiting_at pending.old.items k)) }
+    requires { target < length in_states.old.items }
+    ensures wide { IfOk result (λ _. length in_states.new.items ≡ length in_states.old.items) }
+    ensures joined { IfOk result (λ _. (k : ℕ) → state_at in_states.new.items k
+        ≡ (if target == k
+        then join_states (state_at in_states.old.items k) (known_frame next.now)
+        else state_at in_states.old.items k)) }
 {
-    let met = pending[target].meet(alloc, next)?;
-    pending[target] = met;
+    let joined = in_states[target].join(alloc, next)?;
+    in_states[target] = joined;
     Ok(())
 }
 
-/// Hands places on to the instructions that may follow the one at a place.
-fn hand_on(
+/// Propagates a frame to the successors of the instruction at an index.
+fn propagate(
     alloc: Global,
-    pending: &mut Vec<Waiting>,
+    in_states: &mut Vec<InState>,
     at: usize,
-    leads: Following,
-    next: &Places,
+    successors: Successors,
+    next: &AbstractFrame,
 ) -> Result<(), AllocError>
-    requires { leads_below at (length pending.old.items) (distances leads) ≡ true }
-    ensures wide { IfOk result (λ _. length pending.new.items ≡ length pending.old.items) }
-    ensures handed_on { IfOk result (λ _. (k : ℕ) → waiting_at pending.new.items k
-        ≡ meet (waiting_at pending.old.items k) (if leads_to at k (distances leads) then arrival_of_places next.now else Unreached)) }
+    requires { leads_below at (length in_states.old.items) (offsets successors) ≡ true }
+    ensures wide { IfOk result (λ _. length in_states.new.items ≡ length in_states.old.items) }
+    ensures propagated { IfOk result (λ _. (k : ℕ) → state_at in_states.new.items k
+        ≡ join_states (state_at in_states.old.items k)
+        (if leads_to at k (offsets successors) then known_frame next.now else Unreached)) }
 {
-    match leads {
-        Following::Nowhere => Ok(()),
-        Following::To(distance) => arrive(alloc, pending, at + distance, next),
-        Following::ToEither(a, b) => {
-            arrive(alloc, pending, at + a, next)?;
+    match successors {
+        Successors::Nowhere => Ok(()),
+        Successors::One(offset) => join_into(alloc, in_states, at + offset, next),
+        Successors::Either(a, b) => {
+            join_into(alloc, in_states, at + a, next)?;
             if a == b {
                 return Ok(());
             }
-            arrive(alloc, pending, at + b, next)
+            join_into(alloc, in_states, at + b, next)
         }
     }
 }
 
-/// Visits one index, and answers what is not known there.
-fn advance(
+/// Visits one instruction. The fault of the first test that fails there.
+fn visit(
     alloc: Global,
     code: &Code,
     size: u32,
     at: usize,
-    pending: &mut Vec<Waiting>,
+    in_states: &mut Vec<InState>,
 ) -> Result<Option<VerifyFault>, AllocError>
     requires inside { at < length code.now.instrs }
-    requires wide { length pending.old.items ≡ length code.now.instrs }
-    ensures wide { IfOk result (λ _. length pending.new.items ≡ length pending.old.items) }
-    ensures refused { IfOk result (λ found. found ≡ refused_by (visit code.now size at (waiting_at pending.old.items at))) }
-    ensures handed_on { IfOk result (λ _. (k : ℕ) → waiting_at pending.new.items k
-        ≡ meet (waiting_at pending.old.items k) (hand_on code.now at (visit code.now size at (waiting_at pending.old.items at)) k)) }
+    requires wide { length in_states.old.items ≡ length code.now.instrs }
+    ensures wide { IfOk result (λ _. length in_states.new.items ≡ length in_states.old.items) }
+    ensures refused { IfOk result (λ found. found ≡ refused_by (out_state code.now size at (state_at in_states.old.items at))) }
+    ensures propagated { IfOk result (λ _. (k : ℕ) → state_at in_states.new.items k
+        ≡ join_states (state_at in_states.old.items k)
+        (propagated code.now at (out_state code.now size at (state_at in_states.old.items at)) k)) }
 {
-    match visit(alloc, code, size, at, &pending[at])? {
-        Visited::Skipped => Ok(None),
-        Visited::Refused(fault) => Ok(Some(fault)),
-        Visited::Passed(next) => {
-            hand_on(alloc, pending, at, leads(code.instrs()[at]), &next)?;
+    match out_state(alloc, code, size, at, &in_states[at])? {
+        OutState::Skipped => Ok(None),
+        OutState::Refused(fault) => Ok(Some(fault)),
+        OutState::Passed(next) => {
+            propagate(
+                alloc,
+                in_states,
+                at,
+                Successors::of(code.instrs()[at]),
+                &next,
+            )?;
             Ok(None)
         }
     }
 }
 
-/// Visits each index in order, and answers the greatest height that a stack has. A refusal exactly where something is not
-/// known, want of memory aside.
-pub fn walk(alloc: Global, code: &Code, size: u32) -> Result<u32, VerifyFault>
+/// Visits each instruction in order. The greatest depth of a stack, or the first fault.
+pub fn analyze(alloc: Global, code: &Code, size: u32) -> Result<u32, VerifyFault>
     requires { 0 < length code.now.instrs }
     ensures outcome { MatchResult result
         (λ depth. (first_fault code.now size (length code.now.instrs) ≡ None)
@@ -108,11 +121,11 @@ pub fn walk(alloc: Global, code: &Code, size: u32) -> Result<u32, VerifyFault>
     ensures limit { IfOk result (λ depth. depth ≤ stack_limit) }
     ensures not_the_size { IfErr result (λ e. e ≢ refusal.BadSize) }
 {
-    let mut pending = begin(alloc, code)?;
+    let mut in_states = entry_states(alloc, code)?;
     let mut depth = 0;
     for at in 0..code.instrs().len() {
-        depth = depth.max(pending[at].height());
-        if let Some(fault) = advance(alloc, code, size, at, &mut pending)? {
+        depth = depth.max(in_states[at].height());
+        if let Some(fault) = visit(alloc, code, size, at, &mut in_states)? {
             return Err(fault);
         }
     }

@@ -2,92 +2,99 @@
 
 ghost use Rattle.std.specs.Prelude.{◌≡◌, ◌<◌, ◌≤◌};
 ghost use Rattle.std.specs.Option.{SomeIff};
-ghost use Rattle.filter_verifier.specs.Spans.{any_number, spanning, span_of_both, span_of_difference, span_of_greater, span_of_length, span_of_metric, span_of_number, span_of_product, span_of_quotient, span_of_sum};
+ghost use Rattle.filter_verifier.specs.Ranges.{any_number, join_ranges, range_in, range_of_difference, range_of_greater};
+ghost use Rattle.filter_verifier.specs.Ranges.{range_of_length, range_of_metric, range_of_number, range_of_product};
+ghost use Rattle.filter_verifier.specs.Ranges.{range_of_quotient, range_of_sum};
 
 use std::marker::Model;
 
-/// The range of the values that an int may have, and a mark: whether it is known to be at least the metric received.
+/// The values that an int may have, and whether it is known to be at least the metric received.
 ///
-/// A contract sees a range as a `Span`.
+/// A contract sees a range as a `RangeView`.
 #[derive(Clone, Copy, Debug)]
 pub struct Range {
     low: u32,
     high: u32,
-    mark: bool,
+    at_least_received: bool,
 }
 
 impl Model for Range {
     ghost use Rattle.std.specs.Prelude.{◌≤◌};
-    ghost use Rattle.filter_verifier.specs.Spans.{Span};
+    ghost use Rattle.filter_verifier.specs.Ranges.{RangeView};
 
-    ghost Value = { Span };
+    ghost Value = { RangeView };
 
-    ghost view = { λ r. record { low = r.low; high = r.high; mark = r.mark } };
+    ghost view = { λ r. record { low = r.low; high = r.high; at_least_received = r.at_least_received } };
 
     ghost invariant = { λ r. r.low ≤ r.high };
 
-    ghost inverse = { λ s. record { low = s.low; high = s.high; mark = s.mark } };
+    ghost inverse = { λ s. record { low = s.low; high = s.high; at_least_received = s.at_least_received } };
 }
 
 impl Range {
-    /// A range in a network of a size: from the size on it always has the mark.
-    fn spanning(size: u32, low: u32, high: u32, mark: bool) -> Range
+    /// A range in a domain of a size. No metric received is above the size, so an int from the size up is at least it.
+    fn new(size: u32, low: u32, high: u32, at_least_received: bool) -> Range
         requires { low ≤ high }
-        ensures { result ≡ spanning size low high mark }
+        ensures { result ≡ range_in size low high at_least_received }
     {
         Range {
             low,
             high,
-            mark: mark || size <= low,
+            at_least_received: at_least_received || size <= low,
         }
     }
 
-    /// All numbers.
+    /// Any int.
     fn any(size: u32) -> Range
         ensures { result ≡ any_number size }
     {
-        Range::spanning(size, 0, u32::MAX, false)
+        Range::new(size, 0, u32::MAX, false)
     }
 
-    /// One number.
+    /// A literal.
     pub fn of_number(size: u32, number: u32) -> Range
-        ensures { result ≡ span_of_number size number }
+        ensures { result ≡ range_of_number size number }
     {
-        Range::spanning(size, number, number, false)
+        Range::new(size, number, number, false)
     }
 
     /// The current metric, and the one received.
     pub fn of_metric(size: u32) -> Range
-        ensures { result ≡ span_of_metric size }
+        ensures { result ≡ range_of_metric size }
     {
-        Range::spanning(size, 0, size, true)
+        Range::new(size, 0, size, true)
     }
 
     /// The length of a prefix.
     pub fn of_length(size: u32) -> Range
-        ensures { result ≡ span_of_length size }
+        ensures { result ≡ range_of_length size }
     {
-        Range::spanning(size, 0, 32, false)
+        Range::new(size, 0, 32, false)
     }
 
     /// The sum of two ints, modulo 2^32.
     pub fn sum(size: u32, operands: (Range, Range)) -> Range
-        ensures { result ≡ span_of_sum size operands.0 operands.1 }
+        ensures { result ≡ range_of_sum size operands.0 operands.1 }
     {
         let (a, b) = operands;
         match a.high.checked_add(b.high) {
-            Some(high) => Range::spanning(size, a.low + b.low, high, a.mark || b.mark),
+            Some(high) => Range::new(
+                size,
+                a.low + b.low,
+                high,
+                a.at_least_received || b.at_least_received,
+            ),
             None => Range::any(size),
         }
     }
 
-    /// The first of two ints less the second, modulo 2^32.
+    /// The difference of two ints, modulo 2^32.
     pub fn difference(size: u32, operands: (Range, Range)) -> Range
-        ensures { result ≡ span_of_difference size operands.0 operands.1 }
+        ensures { result ≡ range_of_difference size operands.0 operands.1 }
     {
         let (a, b) = operands;
         if b.high <= a.low {
-            Range::spanning(size, a.low - b.high, a.high - b.low, false)
+            Range::new(size, a.low - b.high, a.high - b.low, false)
         } else {
             Range::any(size)
         }
@@ -95,52 +102,58 @@ impl Range {
 
     /// The product of two ints, modulo 2^32.
     pub fn product(size: u32, operands: (Range, Range)) -> Range
-        ensures { result ≡ span_of_product size operands.0 operands.1 }
+        ensures { result ≡ range_of_product size operands.0 operands.1 }
     {
         let (a, b) = operands;
         match a.high.checked_mul(b.high) {
             Some(high) => {
-                let mark = (a.mark && 1 <= b.low) || (b.mark && 1 <= a.low);
-                Range::spanning(size, a.low * b.low, high, mark)
+                let at_least_received = (a.at_least_received && 1 <= b.low)
+                    || (b.at_least_received && 1 <= a.low);
+                Range::new(size, a.low * b.low, high, at_least_received)
             }
             None => Range::any(size),
         }
     }
 
-    /// The first of two ints divided by the second, the rest dropped. None exactly where the second may be 0.
+    /// The quotient of two ints, rounded down. None if and only if the divisor may be 0.
     pub fn quotient(size: u32, operands: (Range, Range)) -> Option<Range>
-        ensures { SomeIff result (0 < operands.1.low) (span_of_quotient size operands.0 operands.1) }
+        ensures { SomeIff result (0 < operands.1.low) (range_of_quotient size operands.0 operands.1) }
     {
         let (a, b) = operands;
         if b.low == 0 {
             return None;
         }
-        Some(Range::spanning(size, a.low / b.high, a.high / b.low, false))
+        Some(Range::new(size, a.low / b.high, a.high / b.low, false))
     }
 
     /// The greater of two ints.
     pub fn greater(size: u32, operands: (Range, Range)) -> Range
-        ensures { result ≡ span_of_greater size operands.0 operands.1 }
+        ensures { result ≡ range_of_greater size operands.0 operands.1 }
     {
         let (a, b) = operands;
-        Range::spanning(size, a.low.max(b.low), a.high.max(b.high), a.mark || b.mark)
+        Range::new(
+            size,
+            a.low.max(b.low),
+            a.high.max(b.high),
+            a.at_least_received || b.at_least_received,
+        )
     }
 
     /// Whether the int is known to be at least the metric received.
-    pub fn mark(self) -> bool
-        ensures { result ≡ self.mark }
+    pub fn is_at_least_received(self) -> bool
+        ensures { result ≡ self.at_least_received }
     {
-        self.mark
+        self.at_least_received
     }
 
-    /// The smallest range that holds both, with the mark where both have it.
-    pub fn both(a: Range, b: Range) -> Range
-        ensures { result ≡ span_of_both a b }
+    /// The join of two ranges: the smallest that holds both, at least the metric received if both are.
+    pub fn join(a: Range, b: Range) -> Range
+        ensures { result ≡ join_ranges a b }
     {
         Range {
             low: a.low.min(b.low),
             high: a.high.max(b.high),
-            mark: a.mark && b.mark,
+            at_least_received: a.at_least_received && b.at_least_received,
         }
     }
 }

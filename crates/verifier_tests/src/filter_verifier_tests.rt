@@ -403,42 +403,42 @@ fn texts(rt: HostRuntime) -> Result<(), Fail> {
         (
             VerifyFault::MissingOperand(3),
             "V1",
-            "the stack does not hold as many operands as instruction 3 takes",
+            "instruction 3: too few operands on the stack",
         ),
         (
             VerifyFault::WrongKind(3),
             "V2",
-            "the kinds of the values that instruction 3 finds are not known, or not the ones that it takes",
+            "instruction 3: an operand has an unknown or wrong type",
         ),
         (
             VerifyFault::ZeroDivisor(3),
             "V3",
-            "the divisor of instruction 3 is not known to be above 0",
+            "instruction 3: the divisor may be 0",
         ),
         (
             VerifyFault::OutsideCode(3),
             "V4",
-            "no instruction is known to stand where the code goes on from instruction 3",
+            "instruction 3: execution may continue outside the code",
         ),
         (
             VerifyFault::FullStack(3),
             "V5",
-            "the stack is not known to have room for what instruction 3 gives",
+            "instruction 3: the stack may overflow",
         ),
         (
             VerifyFault::LowerMetric(3),
             "V6",
-            "the metric that instruction 3 sets is not known to be at least the one received",
+            "instruction 3: the new metric may be lower than the one received",
         ),
         (
             VerifyFault::UnknownName(3),
             "V7",
-            "the local variable or set that instruction 3 names is not known",
+            "instruction 3: no such local variable or set",
         ),
         (
             VerifyFault::UnlikeDepths(3),
             "V9",
-            "the ways to instruction 3 leave unlike numbers of values on the stack, so it is not known how many there are",
+            "instruction 3: the stack depth differs between the paths that lead here",
         ),
     ] {
         assert_eq!(rt; fault.code(), code);
@@ -446,7 +446,7 @@ fn texts(rt: HostRuntime) -> Result<(), Fail> {
         assert_eq!(rt; format!(in rt.alloc(); "{fault}")?.as_str(), text);
     }
     for (fault, code, text) in [
-        (VerifyFault::BadSize, "V8", "a network has 2 to 64 nodes"),
+        (VerifyFault::BadSize, "V8", "the size of a domain must be 2 to 64"),
         (VerifyFault::Memory, "V10", "out of memory"),
     ] {
         assert_eq!(rt; fault.code(), code);

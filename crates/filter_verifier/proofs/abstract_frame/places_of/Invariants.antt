@@ -1,0 +1,8 @@
+use Rattle.std.proofs.Common.{◌≡◌, ◌++◌, Some, length, map}
+use Rattle.filter_verifier.proofs.abstract_frame.places_of.Given as goal
+
+abbrev pub invariant-loop-fact : goal.invariant-loop-fact
+invariant-loop-fact l = l.places.items ++ map (λ f. Some f) l.stack ≡ map (λ f. Some f) l.fn.stack
+
+abbrev pub decreases-loop-fact : goal.decreases-loop-fact
+decreases-loop-fact l = length l.stack

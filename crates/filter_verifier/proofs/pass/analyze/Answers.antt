@@ -1,0 +1,34 @@
+use Rattle.std.proofs.Common.{rules, ◌≡◌, ◌<◌, max, Some, length, sym, ◌∙◌, ap, inr, arith}
+use Rattle.std.proofs.lemmas.Grind.{common_steps}
+use Rattle.filter_verifier.specs.Pass.{height_of}
+use Rattle.filter_verifier.proofs.Passes.{advanced, begun, refused, state_is}
+use Rattle.filter_verifier.specs.declared.fault.VerifyFault.{VerifyFault}
+use Rattle.filter_verifier.proofs.Sizes.{not_the_size}
+use Rattle.filter_verifier.proofs.pass.analyze.Goals as goal
+
+pub loop-at-init : goal.loop-at-init
+loop-at-init c = begun c.args.code.now c.args.size c.in_ok-in_states.in_states.items c.in_ok-in_states.ensures.wide
+    c.in_ok-in_states.ensures.entry
+
+pub returns-in-Some-clause-outcome : goal.returns-in-Some-clause-outcome
+returns-in-Some-clause-outcome c =
+    let inside : c.loop-at.at < length c.args.code.now.instrs = rw (← c.instrs-at-end.ensures.value) c.loop-at-test.true in
+    inr (refused c.args.code.now c.args.size c.loop-at.at c.loop-at.in_states.items c.loop-at.depth c.in-Some.fault
+    c.loop-at.invariant (sym c.in_ok-fault.ensures.refused ∙ c.in-Some.is) inside)
+
+pub returns-in-Some-clause-not_the_size : goal.returns-in-Some-clause-not_the_size
+returns-in-Some-clause-not_the_size c = λ e.
+    let inside : c.loop-at.at < length c.args.code.now.instrs = rw (← c.instrs-at-end.ensures.value) c.loop-at-test.true in
+    let found = refused c.args.code.now c.args.size c.loop-at.at c.loop-at.in_states.items c.loop-at.depth
+    c.in-Some.fault c.loop-at.invariant (sym c.in_ok-fault.ensures.refused ∙ c.in-Some.is) inside in
+    not_the_size c.args.code.now c.args.size (length c.args.code.now.instrs) (found ∙ ap (λ (why : VerifyFault). Some why) e)
+
+pub loop-at-preserved : goal.loop-at-preserved
+loop-at-preserved c =
+    let inside : c.loop-at.at < length c.args.code.now.instrs = rw (← c.instrs-at-end.ensures.value) c.loop-at-test.true in
+    let here = state_is c.loop-at.in_states.items c.loop-at.at c.index.result.now (rw c.loop-at.invariant.wide inside) c.index.ensures in
+    let deeper : c.max-depth.result ≡ max c.loop-at.depth c.height.result = first_of (search rules, grind (arith, common_steps)) in
+    rw deeper (advanced c.args.code.now c.args.size c.loop-at.at c.loop-at.in_states.items c.visit.new.in_states.items
+    c.loop-at.depth c.height.result c.loop-at.invariant
+    c.in_ok-fault.ensures.wide (sym c.in_ok-fault.ensures.refused ∙ c.in_default.is) c.in_ok-fault.ensures.propagated
+    (c.height.ensures.value ∙ ap height_of here) c.height.ensures.limit)

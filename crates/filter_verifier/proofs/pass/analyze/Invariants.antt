@@ -1,0 +1,6 @@
+use Rattle.filter_verifier.proofs.Passes.{Before}
+use Rattle.filter_verifier.proofs.pass.analyze.Given as goal
+
+-- all that the indices below hand on has arrived
+abbrev pub invariant-loop-at : goal.invariant-loop-at
+invariant-loop-at l = Before l.code l.size l.at l.in_states.items l.depth

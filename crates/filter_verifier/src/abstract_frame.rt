@@ -1,0 +1,149 @@
+//! What is known of a stack and of the local variables.
+
+ghost use Rattle.std.specs.Prelude.{◌≡◌, ◌≤◌, None, Some, [], IfOk, MatchOption, length, map, replicate};
+ghost use Rattle.filter_code.specs.Limits.{stack_limit};
+ghost use Rattle.filter_verifier.specs.Facts.{all_known, join_places};
+ghost use Rattle.filter_verifier.specs.Pass.{fact_at};
+
+use crate::fact::{Fact, join_place};
+use filter_code::Stack;
+use std::alloc::{AllocError, Global};
+use std::marker::Model;
+
+/// What is known of each place of a stack, its top first, and of each local variable: None where kinds differ between
+/// the paths that lead here, and for a local variable also where it may be empty.
+///
+/// A contract sees a frame as an `AbstractFrameView`.
+#[derive(Drop)]
+pub struct AbstractFrame {
+    stack: Vec<Option<Fact>>,
+    locals: Vec<Option<Fact>>,
+}
+
+impl Model for AbstractFrame {
+    ghost use Rattle.std.specs.Prelude.{◌≤◌, length};
+    ghost use Rattle.filter_code.specs.Limits.{stack_limit};
+    ghost use Rattle.filter_verifier.specs.AbstractFrameView.{AbstractFrameView};
+
+    ghost Value = { AbstractFrameView };
+
+    ghost view = { λ f. record { stack = f.stack.items; locals = f.locals.items } };
+
+    ghost invariant = { λ f. length f.stack.items ≤ stack_limit };
+}
+
+/// The facts of a stack, the top first, as places.
+fn places_of(alloc: Global, mut stack: Stack<Fact>) -> Result<Vec<Option<Fact>>, AllocError>
+    ensures value { IfOk result (λ v. v.items ≡ map (λ f. Some f) stack) }
+    ensures limit { IfOk result (λ v. length v.items ≤ stack_limit) }
+{
+    let mut places = Vec::with_capacity(alloc, stack.len())?;
+    while let Ok(fact) = stack.take_one() {
+        places.push(Some(fact))?;
+    }
+    Ok(places)
+}
+
+/// What is known at one place. None where there is no such place.
+fn fact_at(places: &[Option<Fact>], at: usize) -> Option<Fact>
+    ensures { result ≡ fact_at places.now at }
+{
+    match places.get(at) {
+        Some(place) => *place,
+        None => None,
+    }
+}
+
+/// The join of two lists of places, place by place.
+fn join_places(
+    alloc: Global,
+    places: &[Option<Fact>],
+    others: &[Option<Fact>],
+) -> Result<Vec<Option<Fact>>, AllocError>
+    ensures { IfOk result (λ v. v.items ≡ join_places places.now others.now) }
+{
+    let mut joined = Vec::with_capacity(alloc, places.len())?;
+    for (at, place) in places.iter().enumerate() {
+        joined.push(join_place(place, &fact_at(others, at)))?;
+    }
+    Ok(joined)
+}
+
+impl AbstractFrame {
+    /// The frame at the entry of a code: an empty stack, and this many empty local variables.
+    pub fn at_entry(alloc: Global, locals: u8) -> Result<AbstractFrame, AllocError>
+        ensures { IfOk result (λ f. f ≡ record { stack = []; locals = replicate locals None }) }
+    {
+        Ok(AbstractFrame {
+            stack: Vec::new(alloc),
+            locals: vec![in alloc; None; usize::from(locals)]?,
+        })
+    }
+
+    /// The facts of a stack and of the local variables.
+    pub fn of_facts(
+        alloc: Global,
+        stack: Stack<Fact>,
+        locals: Vec<Option<Fact>>,
+    ) -> Result<AbstractFrame, AllocError>
+        ensures { IfOk result (λ f. f ≡ record { stack = map (λ f. Some f) stack; locals = locals.items }) }
+    {
+        Ok(AbstractFrame {
+            stack: places_of(alloc, stack)?,
+            locals,
+        })
+    }
+
+    /// The depth of the stack.
+    pub fn height(&self) -> u32
+        ensures value { result ≡ length self.now.stack }
+        ensures limit { result ≤ stack_limit }
+    {
+        self.stack.len() as u32
+    }
+
+    /// What is known of the local variables.
+    pub fn locals(&self) -> &[Option<Fact>]
+        ensures { result.now ≡ self.now.locals }
+    {
+        &self.locals
+    }
+
+    /// The stack. None if and only if one of its places is not known.
+    pub fn known_stack(&self) -> Option<Stack<Fact>>
+        ensures { MatchOption result (all_known self.now.stack ≡ None) (λ s. all_known self.now.stack ≡ Some s) }
+    {
+        let mut stack = Stack::new();
+        for at in (0..self.stack.len()).rev() {
+            match self.stack[at] {
+                Some(fact) => stack.push(fact).unwrap(),
+                None => return None,
+            }
+        }
+        Some(stack)
+    }
+
+    /// A copy of the frame.
+    pub fn copy(&self, alloc: Global) -> Result<AbstractFrame, AllocError>
+        ensures { IfOk result (λ f. f ≡ self.now) }
+    {
+        Ok(AbstractFrame {
+            stack: Vec::from_slice(alloc, &self.stack)?,
+            locals: Vec::from_slice(alloc, &self.locals)?,
+        })
+    }
+
+    /// The join of two frames whose stacks are equally deep.
+    #[tactic(auto, using(crate::proofs::JoinedPlaces::length_joined))]
+    pub fn join(&self, alloc: Global, other: &AbstractFrame) -> Result<AbstractFrame, AllocError>
+        ensures { IfOk result (λ f. f ≡ record {
+          stack = join_places self.now.stack other.now.stack;
+          locals = join_places self.now.locals other.now.locals;
+        }) }
+    {
+        Ok(AbstractFrame {
+            stack: join_places(alloc, &self.stack, &other.stack)?,
+            locals: join_places(alloc, &self.locals, &other.locals)?,
+        })
+    }
+}

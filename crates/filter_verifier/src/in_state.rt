@@ -1,0 +1,58 @@
+//! What is known before an instruction runs.
+
+ghost use Rattle.std.specs.Prelude.{◌≡◌, ◌≤◌, IfOk};
+ghost use Rattle.filter_code.specs.Limits.{stack_limit};
+ghost use Rattle.filter_verifier.specs.InStates.{join_states};
+ghost use Rattle.filter_verifier.specs.Pass.{height_of, in_state_view, known_frame};
+
+use crate::abstract_frame::AbstractFrame;
+use std::alloc::{AllocError, Global};
+
+/// The join of all that was propagated to an instruction.
+#[derive(Drop)]
+pub enum InState {
+    /// No path leads here.
+    Unreached,
+    /// Paths meet here whose stacks differ in depth.
+    UnlikeDepths,
+    /// What is known of the stack and of the local variables.
+    Known(AbstractFrame),
+}
+
+impl InState {
+    /// The depth of the stack; 0 where it is not known.
+    pub fn height(&self) -> u32
+        ensures value { result ≡ height_of (in_state_view self.now) }
+        ensures limit { result ≤ stack_limit }
+    {
+        match self {
+            InState::Known(frame) => frame.height(),
+            InState::Unreached | InState::UnlikeDepths => 0,
+        }
+    }
+
+    /// The join with one more frame.
+    pub fn join(&self, alloc: Global, next: &AbstractFrame) -> Result<InState, AllocError>
+        ensures { IfOk result (λ s. in_state_view s ≡ join_states (in_state_view self.now) (known_frame next.now)) }
+    {
+        match self {
+            InState::Unreached => Ok(InState::Known(next.copy(alloc)?)),
+            InState::UnlikeDepths => Ok(InState::UnlikeDepths),
+            InState::Known(frame) => join_known(alloc, frame, next),
+        }
+    }
+}
+
+/// The join of two frames.
+fn join_known(
+    alloc: Global,
+    frame: &AbstractFrame,
+    next: &AbstractFrame,
+) -> Result<InState, AllocError>
+    ensures { IfOk result (λ s. in_state_view s ≡ join_states (known_frame frame.now) (known_frame next.now)) }
+{
+    if frame.height() != next.height() {
+        return Ok(InState::UnlikeDepths);
+    }
+    Ok(InState::Known(frame.join(alloc, next)?))
+}
