@@ -17,7 +17,7 @@ use Rattle.filter_compiler.specs.declared.fault.CompileFault.TheVariants as faul
 use Rattle.filter_compiler.specs.Limits.{HasTooMany, IsRefused, IsTooLong, IsWithin}
 use Rattle.prefix_patterns.specs.Matching.{pattern_limit}
 use Rattle.filter_compiler.specs.Measures.{filter_measure}
-use Rattle.filter_compiler.specs.Translation.{acts_sets, code_of, instructions}
+use Rattle.filter_compiler.specs.Translation.{commands_sets, code_of, instructions}
 use Rattle.filter_compiler.specs.Writing.{written_filter}
 use Rattle.filter_compiler.proofs.Within.{filter_counts, filter_written, largest}
 
@@ -44,8 +44,8 @@ no_larger (s ∷ sets) (suc k) set low at = let rest : length set ≤ largest se
 -- what a filter's measure says
 record Measures (f : syntax.FilterView) : Type 0 where
   instructions : (filter_measure f).instructions ≡ min (length (instructions f)) 1025
-  sets : (filter_measure f).sets ≡ min (length (acts_sets f.body)) 65
-  patterns : (filter_measure f).patterns ≡ largest (acts_sets f.body)
+  sets : (filter_measure f).sets ≡ min (length (commands_sets f.body)) 65
+  patterns : (filter_measure f).patterns ≡ largest (commands_sets f.body)
 
 measures : (f : syntax.FilterView) → IsTyped f → Measures f
 measures f typed =
@@ -72,7 +72,7 @@ not_too_many f typed within (inl many) =
 not_too_many f typed within (inr large) =
     let e = (measures f typed).patterns in
     let small = within.small in
-    let l = no_larger (acts_sets f.body) large.0 large.1 large.2 large.3 in
+    let l = no_larger (commands_sets f.body) large.0 large.1 large.2 large.3 in
     let over = large.4 in
     omega arith
 
@@ -85,7 +85,7 @@ short_enough f typed h long = let e = (measures f typed).instructions in omega a
 
 too_many : (f : syntax.FilterView) → IsTyped f → (64 < (filter_measure f).sets) ⊎ (1024 < (filter_measure f).patterns) → HasTooMany (code_of f)
 too_many f typed (inl h) = let e = (measures f typed).sets in inl (omega arith)
-too_many f typed (inr h) = let e = (measures f typed).patterns in inr (large_set 1024 (acts_sets f.body) (omega arith))
+too_many f typed (inr h) = let e = (measures f typed).patterns in inr (large_set 1024 (commands_sets f.body) (omega arith))
 
 -- a refusal is for the length exactly where the code would be too long
 pub refused_long : {T : Type 0} (f : syntax.FilterView) (r : Result T CompileFault) (why : CompileFault) → r ≡ Err why → IsTyped f
@@ -107,11 +107,11 @@ all_small n [] h = All-nil (λ (set : List PrefixPattern). length set ≤ n)
 all_small n (set ∷ sets) h = All-cons (λ (s : List PrefixPattern). length s ≤ n) set sets (omega arith) (all_small n sets (omega arith))
 
 pub small_sets : (f : syntax.FilterView) (lists : List (List PrefixPattern)) → IsTyped f → IsWithin (filter_measure f)
-    → lists ≡ acts_sets f.body → All (λ list. length list ≤ pattern_limit) lists
+    → lists ≡ commands_sets f.body → All (λ list. length list ≤ pattern_limit) lists
 small_sets f lists typed within e =
     let p = (measures f typed).patterns in
     let small = within.small in
-    subst (All (λ list. length list ≤ pattern_limit)) (sym e) (all_small 1024 (acts_sets f.body) (omega arith))
+    subst (All (λ list. length list ≤ pattern_limit)) (sym e) (all_small 1024 (commands_sets f.body) (omega arith))
 
 pub is_allowed : (f : syntax.FilterView) → IsTyped f → IsWithin (filter_measure f) → All HasMask (instructions f) → IsAllowed (code_of f)
 is_allowed f typed within masks =
@@ -132,7 +132,7 @@ program_of locals sets instrs = record { locals = locals; sets = sets; instrs = 
 
 -- what was written is the code
 pub is_code : (f : syntax.FilterView) (locals : ℕ) (sets : List (List PrefixPattern)) (instrs : List Instr) → IsTyped f
-    → IsWithin (filter_measure f) → locals ≡ length f.decls → sets ≡ acts_sets f.body → instrs ≡ written_filter (numbers_of f) f
+    → IsWithin (filter_measure f) → locals ≡ length f.decls → sets ≡ commands_sets f.body → instrs ≡ written_filter (numbers_of f) f
     → program_of locals sets instrs ≡ code_of f
 is_code f locals sets instrs typed within e1 e2 e3 =
     let c1 = (measures f typed).instructions in
@@ -141,4 +141,4 @@ is_code f locals sets instrs typed within e1 e2 e3 =
     let few = within.few in
     ap (λ n. program_of n sets instrs) e1
     ∙ (ap (λ s. program_of (length f.decls) s instrs) e2
-    ∙ ap (program_of (length f.decls) (acts_sets f.body)) (e3 ∙ filter_written f (omega arith) (omega arith)))
+    ∙ ap (program_of (length f.decls) (commands_sets f.body)) (e3 ∙ filter_written f (omega arith) (omega arith)))

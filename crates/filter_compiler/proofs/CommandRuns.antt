@@ -15,13 +15,13 @@ use Rattle.filter_compiler.proofs.Reaching.{carried_over}
 use Rattle.filter_parser.specs.declared.tree.decl.Kind.{Kind}
 use Rattle.filter_parser.specs.declared.tree.decl.Kind.TheVariants as kind
 use Rattle.filter_parser.specs.Syntax.{ExprView}
-use Rattle.filter_parser.specs.SyntaxCommands.{CommandView, empty, block, choice, choice_else, assign, accept, reject, Acts, no_acts, act_then}
+use Rattle.filter_parser.specs.SyntaxCommands.{CommandView, empty, block, if_then, if_else, assign, accept, reject, CommandsView, no_commands, command_then}
 use Rattle.filter_parser.specs.SyntaxCommands.{TargetView, to_name, to_metric, to_net, DeclView}
-use Rattle.filter_types.specs.Kinds.{kind_in, kind_named, number_of, aim_kind, FitsKinds, FitsAct, FitsActs}
+use Rattle.filter_types.specs.Kinds.{kind_in, kind_named, number_of, target_kind, HasSameKind, KindsFit, KindsFitAll}
 use Rattle.filter_compiler.specs.Meaning.{Scene, value_of}
-use Rattle.filter_compiler.specs.Need.{expression_need, aim_need, act_need, acts_need}
-use Rattle.filter_compiler.specs.Translation.{expression_code, sets_of, act_sets, acts_sets, choice_code, choice_else_code, aim_code}
-use Rattle.filter_compiler.specs.Translation.{act_code, acts_code}
+use Rattle.filter_compiler.specs.Need.{expression_need, target_need, command_need, commands_need}
+use Rattle.filter_compiler.specs.Translation.{expression_code, sets_of, command_sets, commands_sets, if_code, if_else_code, target_code}
+use Rattle.filter_compiler.specs.Translation.{command_code, commands_code}
 use Rattle.filter_compiler.specs.Verdicts.{accepted, rejected, divided, Course, goes_on, ends, assigned, kept_in_range, set_to, chosen_by}
 use Rattle.filter_compiler.specs.Verdicts.{then_do, course_of, course_of_all}
 use Rattle.filter_compiler.proofs.ExpressionRuns.{Comes, expression_runs}
@@ -131,11 +131,11 @@ module _ (program : CodeView) (route : RouteView) (decls : List DeclView) where
   metric_from scene pc depth o have has (inr f) = inr f
 
   -- an assignment
-  assign_runs : (aim : TargetView) (tree : ExprView) (sets pc : ℕ) (scene : Scene) → FitsKinds (aim_kind decls aim) (kind_in decls tree)
-      → HaveKinds decls scene.variables → HasAt program.instrs pc (expression_code decls sets tree ++ aim_code decls aim)
+  assign_runs : (target : TargetView) (tree : ExprView) (sets pc : ℕ) (scene : Scene) → HasSameKind (target_kind decls target) (kind_in decls tree)
+      → HaveKinds decls scene.variables → HasAt program.instrs pc (expression_code decls sets tree ++ target_code decls target)
       → HasAt program.sets sets (sets_of tree) → Stands program route scene pc []
-      → Runs (pc + length (expression_code decls sets tree ++ aim_code decls aim)) (aim_need aim (expression_need tree))
-      (set_to route scene aim (value_of route scene tree))
+      → Runs (pc + length (expression_code decls sets tree ++ target_code decls target)) (target_need target (expression_need tree))
+      (set_to route scene target (value_of route scene tree))
   assign_runs (to_name text) tree sets pc scene fits have has has_sets s =
       let c = expression_code decls sets tree in
       let last = instr.Store (number_of decls text) ∷ [] in
@@ -163,46 +163,46 @@ module _ (program : CodeView) (route : RouteView) (decls : List DeclView) where
 
   mutual
     -- a command's code does what the command says
-    pub act_runs : (act : CommandView) (sets pc : ℕ) (scene : Scene) → FitsAct decls act → HaveKinds decls scene.variables
-        → HasAt program.instrs pc (act_code decls sets act) → HasAt program.sets sets (act_sets act) → Stands program route scene pc []
-        → Runs (pc + length (act_code decls sets act)) (act_need act) (course_of route act scene)
-    act_runs empty sets pc scene fits have has has_sets s =
+    pub command_runs : (command : CommandView) (sets pc : ℕ) (scene : Scene) → KindsFit decls command → HaveKinds decls scene.variables
+        → HasAt program.instrs pc (command_code decls sets command) → HasAt program.sets sets (command_sets command) → Stands program route scene pc []
+        → Runs (pc + length (command_code decls sets command)) (command_need command) (course_of route command scene)
+    command_runs empty sets pc scene fits have has has_sets s =
         let behind : pc ≡ pc + 0 = omega arith in
         inl (same_place program route scene pc _ [] behind s, have)
-    act_runs (block body) sets pc scene fits have has has_sets s = acts_run body sets pc scene fits have has has_sets s
-    act_runs (choice test chosen) sets pc scene fits have has has_sets s =
+    command_runs (block body) sets pc scene fits have has has_sets s = commands_run body sets pc scene fits have has has_sets s
+    command_runs (if_then test chosen) sets pc scene fits have has has_sets s =
         let sets' = sets + length (sets_of test) in
         let t = expression_code decls sets test in
-        let c = act_code decls sets' chosen in
+        let c = command_code decls sets' chosen in
         let pc1 = pc + length t in
-        let all = max (expression_need test) (act_need chosen) in
+        let all = max (expression_need test) (command_need chosen) in
         let h1 = has_back program.instrs pc t (instr.JumpIfNot (length c) ∷ c) has in
         let l1 = length-append t (instr.JumpIfNot (length c) ∷ c) in
-        let behind : pc1 + 1 + length c ≡ pc + length (choice_code t c) = omega (arith, l1) in
-        let over : pc1 + (1 + length c) ≡ pc + length (choice_code t c) = omega (arith, l1) in
-        chosen_from scene pc1 (pc + length (choice_code t c)) (0 + expression_need test) all (value_of route scene test)
+        let behind : pc1 + 1 + length c ≡ pc + length (if_code t c) = omega (arith, l1) in
+        let over : pc1 + (1 + length c) ≡ pc + length (if_code t c) = omega (arith, l1) in
+        chosen_from scene pc1 (pc + length (if_code t c)) (0 + expression_need test) all (value_of route scene test)
         (course_of route chosen scene) (goes_on scene) (omega arith)
         (expression_runs program route decls scene have test sets pc [] kind.Bool fits.0 (has_front program.instrs pc t (instr.JumpIfNot
-        (length c) ∷ c) has) (has_front program.sets sets (sets_of test) (act_sets chosen) has_sets) s)
-        (λ u. runs_at _ _ _ _ behind (runs_deeper _ (act_need chosen) all _ (omega arith) (act_runs chosen sets'
-        (pc1 + 1) scene fits.1 have h1.1 (has_back program.sets sets (sets_of test) (act_sets chosen) has_sets)
+        (length c) ∷ c) has) (has_front program.sets sets (sets_of test) (command_sets chosen) has_sets) s)
+        (λ u. runs_at _ _ _ _ behind (runs_deeper _ (command_need chosen) all _ (omega arith) (command_runs chosen sets'
+        (pc1 + 1) scene fits.1 have h1.1 (has_back program.sets sets (sets_of test) (command_sets chosen) has_sets)
         (not_jumped program route scene pc1 (length c) [] h1.0 u))))
         (λ u. inl (
           same_place program route scene (pc1 + (1 + length c)) _ [] over (jumped_if_not program route scene pc1
               (length c) [] h1.0 u),
           have,
         ))
-    act_runs (choice_else test chosen other) sets pc scene fits have has has_sets s =
+    command_runs (if_else test chosen other) sets pc scene fits have has has_sets s =
         let sets1 = sets + length (sets_of test) in
-        let sets2 = sets1 + length (act_sets chosen) in
+        let sets2 = sets1 + length (command_sets chosen) in
         let t = expression_code decls sets test in
-        let c = act_code decls sets1 chosen in
-        let d = act_code decls sets2 other in
+        let c = command_code decls sets1 chosen in
+        let d = command_code decls sets2 other in
         let tail = c ++ instr.Jump (length d) ∷ d in
         let pc1 = pc + length t in
         let pc2 = pc1 + 1 + length c in
-        let all = max (expression_need test) (max (act_need chosen) (act_need other)) in
-        let end = pc + length (choice_else_code t c d) in
+        let all = max (expression_need test) (max (command_need chosen) (command_need other)) in
+        let end = pc + length (if_else_code t c d) in
         let h1 = has_back program.instrs pc t (instr.JumpIfNot (length c + 1) ∷ tail) has in
         let h2 = has_back program.instrs (pc1 + 1) c (instr.Jump (length d) ∷ d) h1.1 in
         let l1 = length-append t (instr.JumpIfNot (length c + 1) ∷ tail) in
@@ -210,42 +210,42 @@ module _ (program : CodeView) (route : RouteView) (decls : List DeclView) where
         let over : pc2 + (1 + length d) ≡ end = omega (arith, l1, l2) in
         let to_other : pc1 + (1 + (length c + 1)) ≡ pc2 + 1 = omega arith in
         let behind : pc2 + 1 + length d ≡ end = omega (arith, l1, l2) in
-        let sets_rest = has_back program.sets sets (sets_of test) (act_sets chosen ++ act_sets other) has_sets in
+        let sets_rest = has_back program.sets sets (sets_of test) (command_sets chosen ++ command_sets other) has_sets in
         let first = course_of route chosen scene in
         chosen_from scene pc1 end (0 + expression_need test) all (value_of route scene test) first (course_of route other scene)
         (omega arith)
         (expression_runs program route decls scene have test sets pc [] kind.Bool fits.0 (has_front program.instrs pc t (instr.JumpIfNot
-        (length c + 1) ∷ tail) has) (has_front program.sets sets (sets_of test) (act_sets chosen ++ act_sets other) has_sets) s)
-        (λ u. over_other pc2 end (length d) all first over h2.0 (runs_deeper _ (act_need chosen) all first (omega arith)
-        (act_runs chosen sets1 (pc1 + 1) scene fits.1 have (has_front program.instrs (pc1 + 1) c (instr.Jump (length d) ∷ d) h1.1)
-        (has_front program.sets sets1 (act_sets chosen) (act_sets other) sets_rest) (not_jumped program route scene pc1
+        (length c + 1) ∷ tail) has) (has_front program.sets sets (sets_of test) (command_sets chosen ++ command_sets other) has_sets) s)
+        (λ u. over_other pc2 end (length d) all first over h2.0 (runs_deeper _ (command_need chosen) all first (omega arith)
+        (command_runs chosen sets1 (pc1 + 1) scene fits.1 have (has_front program.instrs (pc1 + 1) c (instr.Jump (length d) ∷ d) h1.1)
+        (has_front program.sets sets1 (command_sets chosen) (command_sets other) sets_rest) (not_jumped program route scene pc1
         (length c + 1) [] h1.0 u))))
-        (λ u. runs_at _ _ _ _ behind (runs_deeper _ (act_need other) all _ (omega arith) (act_runs other sets2
-        (pc2 + 1) scene fits.2 have h2.1 (has_back program.sets sets1 (act_sets chosen) (act_sets other) sets_rest)
+        (λ u. runs_at _ _ _ _ behind (runs_deeper _ (command_need other) all _ (omega arith) (command_runs other sets2
+        (pc2 + 1) scene fits.2 have h2.1 (has_back program.sets sets1 (command_sets chosen) (command_sets other) sets_rest)
         (same_place program route scene _ (pc2 + 1) [] to_other (jumped_if_not program route scene pc1 (length c + 1) [] h1.0 u)))))
-    act_runs (assign aim tree) sets pc scene fits have has has_sets s = assign_runs aim tree sets pc scene fits have has has_sets s
-    act_runs (accept has_text) sets pc scene fits have has has_sets s =
+    command_runs (assign target tree) sets pc scene fits have has has_sets s = assign_runs target tree sets pc scene fits have has has_sets s
+    command_runs (accept has_text) sets pc scene fits have has has_sets s =
         inl (carried_over program route (config_in program route scene pc []) instr.Accept _ s.reached has.0 refl)
-    act_runs (reject has_text) sets pc scene fits have has has_sets s =
+    command_runs (reject has_text) sets pc scene fits have has has_sets s =
         inl (carried_over program route (config_in program route scene pc []) instr.Reject _ s.reached has.0 refl)
 
-    pub acts_run : (acts : Acts) (sets pc : ℕ) (scene : Scene) → FitsActs decls acts → HaveKinds decls scene.variables
-        → HasAt program.instrs pc (acts_code decls sets acts) → HasAt program.sets sets (acts_sets acts)
+    pub commands_run : (commands : CommandsView) (sets pc : ℕ) (scene : Scene) → KindsFitAll decls commands → HaveKinds decls scene.variables
+        → HasAt program.instrs pc (commands_code decls sets commands) → HasAt program.sets sets (commands_sets commands)
         → Stands program route scene pc []
-        → Runs (pc + length (acts_code decls sets acts)) (acts_need acts) (course_of_all route acts scene)
-    acts_run no_acts sets pc scene fits have has has_sets s =
+        → Runs (pc + length (commands_code decls sets commands)) (commands_need commands) (course_of_all route commands scene)
+    commands_run no_commands sets pc scene fits have has has_sets s =
         let behind : pc ≡ pc + 0 = omega arith in
         inl (same_place program route scene pc _ [] behind s, have)
-    acts_run (act_then first more) sets pc scene fits have has has_sets s =
-        let sets' = sets + length (act_sets first) in
-        let c = act_code decls sets first in
-        let d = acts_code decls sets' more in
+    commands_run (command_then first more) sets pc scene fits have has has_sets s =
+        let sets' = sets + length (command_sets first) in
+        let c = command_code decls sets first in
+        let d = commands_code decls sets' more in
         let pc1 = pc + length c in
-        let all = max (act_need first) (acts_need more) in
+        let all = max (command_need first) (commands_need more) in
         let behind : pc1 + length d ≡ pc + length (c ++ d) = omega (arith, length-append c d) in
         runs_at _ _ _ _ behind
-        (then_from pc1 (pc1 + length d) (act_need first) all (course_of route first scene) (course_of_all route more) (omega arith)
-        (act_runs first sets pc scene fits.0 have (has_front program.instrs pc c d has) (has_front program.sets sets (act_sets first)
-        (acts_sets more) has_sets) s)
-        (λ scene' have' u. runs_deeper _ (acts_need more) all _ (omega arith) (acts_run more sets' pc1 scene' fits.1 have'
-        (has_back program.instrs pc c d has) (has_back program.sets sets (act_sets first) (acts_sets more) has_sets) u)))
+        (then_from pc1 (pc1 + length d) (command_need first) all (course_of route first scene) (course_of_all route more) (omega arith)
+        (command_runs first sets pc scene fits.0 have (has_front program.instrs pc c d has) (has_front program.sets sets (command_sets first)
+        (commands_sets more) has_sets) s)
+        (λ scene' have' u. runs_deeper _ (commands_need more) all _ (omega arith) (commands_run more sets' pc1 scene' fits.1 have'
+        (has_back program.instrs pc c d has) (has_back program.sets sets (command_sets first) (commands_sets more) has_sets) u)))

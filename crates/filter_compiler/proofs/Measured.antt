@@ -5,15 +5,15 @@ use Rattle.filter_parser.specs.declared.tree.op.Membership.{Membership}
 use Rattle.filter_parser.specs.declared.tree.op.Op.{Op}
 use Rattle.filter_parser.specs.declared.tree.op.Suffix.{Suffix}
 use Rattle.filter_parser.specs.Syntax.{ExprView, number, address, prefix, truth, name, attribute, defined, group, negation, binary, member}
-use Rattle.filter_parser.specs.Syntax.{suffixed, SetPatternView, run_of, suffixes_of}
-use Rattle.filter_parser.specs.SyntaxCommands.{CommandView, empty, block, choice, choice_else, assign, accept, reject, Acts, no_acts, act_then}
+use Rattle.filter_parser.specs.Syntax.{suffixed, SetPatternView, chain_of, suffixes_of}
+use Rattle.filter_parser.specs.SyntaxCommands.{CommandView, empty, block, if_then, if_else, assign, accept, reject, CommandsView, no_commands, command_then}
 use Rattle.filter_compiler.specs.declared.measure.Measure.{Measure}
-use Rattle.filter_compiler.specs.Measures.{tree_measure, act_measure, acts_measure, run_measure, suffixes_measure, member_count, plus}
+use Rattle.filter_compiler.specs.Measures.{tree_measure, command_measure, commands_measure, chain_measure, suffixes_measure, member_count, plus}
 use Rattle.filter_compiler.specs.Measures.{with_set, instructions_alone}
 
-pub run_measured : (left : ExprView) (xs : List (Op × ExprView)) → tree_measure (run_of left xs) ≡ run_measure (tree_measure left) xs
-run_measured left [] = refl
-run_measured left (x ∷ xs) = run_measured (binary x.0 left x.1) xs
+pub chain_measured : (left : ExprView) (xs : List (Op × ExprView)) → tree_measure (chain_of left xs) ≡ chain_measure (tree_measure left) xs
+chain_measured left [] = refl
+chain_measured left (x ∷ xs) = chain_measured (binary x.0 left x.1) xs
 
 pub suffixes_measured : (inner : ExprView) (xs : List Suffix) → tree_measure (suffixes_of inner xs) ≡ suffixes_measure (tree_measure inner) xs
 suffixes_measured inner [] = refl
@@ -35,18 +35,18 @@ tree_is_small (member op left set) = omega arith
 tree_is_small (suffixed inner s) = omega arith
 
 mutual
-  pub act_is_small : (a : CommandView) → (act_measure a).instructions ≤ 1025
-  act_is_small empty = omega arith
-  act_is_small (block body) = acts_are_small body (instructions_alone 0) (omega arith)
-  act_is_small (choice test chosen) = omega arith
-  act_is_small (choice_else test chosen other) = omega arith
-  act_is_small (assign aim value) = omega arith
-  act_is_small (accept has_text) = omega arith
-  act_is_small (reject has_text) = omega arith
+  pub command_is_small : (a : CommandView) → (command_measure a).instructions ≤ 1025
+  command_is_small empty = omega arith
+  command_is_small (block body) = commands_are_small body (instructions_alone 0) (omega arith)
+  command_is_small (if_then test chosen) = omega arith
+  command_is_small (if_else test chosen other) = omega arith
+  command_is_small (assign target value) = omega arith
+  command_is_small (accept has_text) = omega arith
+  command_is_small (reject has_text) = omega arith
 
-  pub acts_are_small : (acts : Acts) (before : Measure) → before.instructions ≤ 1025 → (acts_measure before acts).instructions ≤ 1025
-  acts_are_small no_acts before low = low
-  acts_are_small (act_then first more) before low = acts_are_small more (plus before (act_measure first)) (omega arith)
+  pub commands_are_small : (commands : CommandsView) (before : Measure) → before.instructions ≤ 1025 → (commands_measure before commands).instructions ≤ 1025
+  commands_are_small no_commands before low = low
+  commands_are_small (command_then first more) before low = commands_are_small more (plus before (command_measure first)) (omega arith)
 
 -- a question for a set, measured part by part
 pub member_measured : {A : Type 0} (t left : ExprView) (op : Membership) (set : List A) (f : A → SetPatternView) (whole inner with own : Measure)

@@ -9,8 +9,8 @@ use Rattle.filter_parser.specs.declared.tree.expr.Attribute.TheVariants as attri
 use Rattle.filter_parser.specs.declared.tree.op.Membership.TheVariants as membership
 use Rattle.filter_parser.specs.declared.tree.op.Op.TheVariants as o
 use Rattle.filter_parser.specs.Syntax.{ExprView, number, truth, name, attribute, defined, binary, member, group, between}
-use Rattle.filter_parser.specs.SyntaxCommands.{CommandView, block, choice, choice_else, assign, accept, reject, to_name, to_metric, DeclView}
-use Rattle.filter_parser.specs.SyntaxCommands.{acts_of}
+use Rattle.filter_parser.specs.SyntaxCommands.{CommandView, block, if_then, if_else, assign, accept, reject, to_name, to_metric, DeclView}
+use Rattle.filter_parser.specs.SyntaxCommands.{commands_of}
 use Rattle.filter_parser.specs.SyntaxText as syntax
 use Rattle.filter_compiler.specs.Need.{need}
 use Rattle.filter_compiler.specs.Translation.{code_of}
@@ -18,7 +18,7 @@ use Rattle.filter_compiler.specs.Verdicts.{accepted, rejected, divided, meaning}
 
 -- a filter of these declarations and commands
 abbrev filter_of : List DeclView → List CommandView → syntax.FilterView
-filter_of decls body = record { name = codes "f"; decls = decls; body = acts_of body; tokens = [] }
+filter_of decls body = record { name = codes "f"; decls = decls; body = commands_of body; tokens = [] }
 
 -- code without sets
 abbrev without_sets : ℕ → List Instr → code.CodeView
@@ -36,9 +36,9 @@ metric_of_route = attribute attributes.RipMetric
 abbrev not_too_far : syntax.FilterView
 not_too_far =
     filter_of (record { kind = kind.Int; name = codes "var" } ∷ [])
-    (choice_else (defined attributes.RipMetric) (assign (to_name (codes "var")) metric_of_route)
-    (block (acts_of (assign (to_name (codes "var")) (number 1) ∷ assign to_metric (number 1) ∷ [])))
-    ∷ choice_else (binary o.Greater metric_of_route (number 10)) (reject true) (accept true)
+    (if_else (defined attributes.RipMetric) (assign (to_name (codes "var")) metric_of_route)
+    (block (commands_of (assign (to_name (codes "var")) (number 1) ∷ assign to_metric (number 1) ∷ [])))
+    ∷ if_else (binary o.Greater metric_of_route (number 10)) (reject true) (accept true)
     ∷ [])
 
 pub far_code : code_of not_too_far ≡ without_sets 1
@@ -93,7 +93,7 @@ sixteen = eight ++ false ∷ false ∷ false ∷ false ∷ false ∷ false ∷ t
 
 -- `if net ~ [1.0.0.0/8{15,17}] then accept;`
 abbrev s : syntax.FilterView
-s = filter_of [] (choice (member membership.In (attribute attributes.Net) (between eight 15 17 ∷ [])) (accept false) ∷ [])
+s = filter_of [] (if_then (member membership.In (attribute attributes.Net) (between eight 15 17 ∷ [])) (accept false) ∷ [])
 
 abbrev s_code_wanted : code.CodeView
 s_code_wanted = record {
@@ -116,14 +116,14 @@ abbrev half : syntax.FilterView
 half =
     filter_of (record { kind = kind.Int; name = codes "k" } ∷ [])
     (assign (to_name (codes "k")) (number 4)
-    ∷ choice (binary o.Equal (binary o.Div (number 8) (name (codes "k"))) (number 2)) (accept false) ∷ [])
+    ∷ if_then (binary o.Equal (binary o.Div (number 8) (name (codes "k"))) (number 2)) (accept false) ∷ [])
 
 pub half_three : meaning half (route_of [] 3 8) ≡ accepted 3
 half_three = refl
 
 -- `if 8 / rip_metric = 2 then accept;`
 abbrev d : syntax.FilterView
-d = filter_of [] (choice (binary o.Equal (binary o.Div (number 8) metric_of_route) (number 2)) (accept false) ∷ [])
+d = filter_of [] (if_then (binary o.Equal (binary o.Div (number 8) metric_of_route) (number 2)) (accept false) ∷ [])
 
 pub d_code : code_of d ≡ without_sets 0
     (instr.Int 8 ∷ instr.Metric ∷ instr.Div ∷ instr.Int 2 ∷ instr.Eq ∷ instr.JumpIfNot 1 ∷ instr.Accept ∷ instr.Reject ∷ [])
@@ -140,14 +140,14 @@ d_zero = refl
 
 -- `if (true && false) || true then accept;`
 abbrev m : syntax.FilterView
-m = filter_of [] (choice (binary o.Or (group (binary o.And (truth true) (truth false))) (truth true)) (accept false) ∷ [])
+m = filter_of [] (if_then (binary o.Or (group (binary o.And (truth true) (truth false))) (truth true)) (accept false) ∷ [])
 
 pub m_three : meaning m (route_of [] 3 8) ≡ accepted 3
 m_three = refl
 
 -- `if false then if true then accept; else accept;`: the `else` is that of the inner `if`
 abbrev e : syntax.FilterView
-e = filter_of [] (choice (truth false) (choice_else (truth true) (accept false) (accept false)) ∷ [])
+e = filter_of [] (if_then (truth false) (if_else (truth true) (accept false) (accept false)) ∷ [])
 
 pub e_code : code_of e ≡ without_sets 0
     (instr.Bool false ∷ instr.JumpIfNot 5 ∷ instr.Bool true ∷ instr.JumpIfNot 2 ∷ instr.Accept ∷ instr.Jump 1 ∷ instr.Accept ∷
@@ -161,7 +161,7 @@ e_three = refl
 abbrev z : syntax.FilterView
 z =
     filter_of []
-    (choice_else (binary o.And (truth false) (binary o.Equal (binary o.Div (number 1) (number 0)) (number 1))) (accept false)
+    (if_else (binary o.And (truth false) (binary o.Equal (binary o.Div (number 1) (number 0)) (number 1))) (accept false)
     (accept false) ∷ [])
 
 pub z_code : code_of z ≡ without_sets 0

@@ -1,6 +1,6 @@
 -- What is seen at a negation and at a question for a set.
 use Rattle.std.proofs.Common.{◌≡◌, ℕ, Box, Global, ap, sym, ◌∙◌, map}
-use Rattle.filter_parser.specs.Syntax.{ExprView, member, negation, view, view_expr_step, view_item}
+use Rattle.filter_parser.specs.Syntax.{ExprView, member, negation, view, view_expr_step, view_set_pattern}
 use Rattle.filter_parser.specs.declared.tree.expr.Expr.{Expr}
 use Rattle.filter_parser.specs.declared.tree.expr.Expr.TheFolds.{fold-roll-Expr}
 use Rattle.filter_parser.specs.declared.tree.expr.Expr.TheOpen.{Expr-F}
@@ -15,8 +15,8 @@ view_not x at inner y is is_inner =
     ∙ ap (λ z. negation (view z)) (sym is_inner)
 
 pub view_member : (x : Expr) (op : Membership) (left : Box Expr Global) (set : Set) (y : Expr) → x ≡ e.Member op left set
-    → y ≡ left.value → view x ≡ member op (view y) (map view_item set.patterns.items)
+    → y ≡ left.value → view x ≡ member op (view y) (map view_set_pattern set.patterns.items)
 view_member x op left set y is is_left =
     ap view (is ∙ sym (e.rolls-Member op left set))
     ∙ fold-roll-Expr ExprView view_expr_step (Expr-F.Member op left set)
-    ∙ ap (λ z. member op (view z) (map view_item set.patterns.items)) (sym is_left)
+    ∙ ap (λ z. member op (view z) (map view_set_pattern set.patterns.items)) (sym is_left)

@@ -11,16 +11,16 @@ use Rattle.filter_parser.specs.declared.tree.op.Op.{Op}
 use Rattle.filter_parser.specs.declared.tree.op.Op.TheVariants as o
 use Rattle.filter_parser.specs.Syntax.{ExprView, number, address, prefix, truth, name, attribute, defined, group, negation, binary, member}
 use Rattle.filter_parser.specs.Syntax.{suffixed, pattern_of}
-use Rattle.filter_parser.specs.SyntaxCommands.{CommandView, empty, block, choice, choice_else, assign, accept, reject, Acts, no_acts, act_then}
+use Rattle.filter_parser.specs.SyntaxCommands.{CommandView, empty, block, if_then, if_else, assign, accept, reject, CommandsView, no_commands, command_then}
 use Rattle.filter_parser.specs.SyntaxCommands.{TargetView, to_name, to_metric, to_net, DeclView}
 use Rattle.filter_parser.specs.SyntaxText as syntax
-use Rattle.filter_types.specs.Kinds.{names_in, names_of_act, names_of_acts, names_of_aim, numbers_of}
+use Rattle.filter_types.specs.Kinds.{names_in, names_of_command, names_of_commands, names_of_target, numbers_of}
 use Rattle.filter_compiler.specs.declared.measure.Measure.{Measure}
-use Rattle.filter_compiler.specs.Measures.{instructions_alone, plus, own_count, member_count, aim_count, tree_measure, act_measure}
-use Rattle.filter_compiler.specs.Measures.{acts_measure, filter_measure}
-use Rattle.filter_compiler.specs.Translation.{sets_of, act_sets, acts_sets, joined_code, member_code, suffix_code, expression_code}
-use Rattle.filter_compiler.specs.Translation.{aim_code, act_code, acts_code, declarations_code, instructions}
-use Rattle.filter_compiler.specs.Writing.{behind, right_part, set_number, written, written_act, written_acts, written_aim, written_filter}
+use Rattle.filter_compiler.specs.Measures.{instructions_alone, plus, own_count, member_count, target_count, tree_measure, command_measure}
+use Rattle.filter_compiler.specs.Measures.{commands_measure, filter_measure}
+use Rattle.filter_compiler.specs.Translation.{sets_of, command_sets, commands_sets, joined_code, member_code, suffix_code, expression_code}
+use Rattle.filter_compiler.specs.Translation.{target_code, command_code, commands_code, declarations_code, instructions}
+use Rattle.filter_compiler.specs.Writing.{behind, right_part, set_number, written, written_command, written_commands, written_target, written_filter}
 use Rattle.filter_compiler.proofs.Uses.{HasUses, all_uses, first_uses, later_uses, use_is}
 
 -- the number of patterns in the largest set
@@ -135,58 +135,58 @@ module _ (decls : List DeclView) where
       let c = expression_code decls sets inner in
       plus_own _ _ (length c) 1 _ (sets_of inner) (tree_counts inner sets) refl (sym (length-append c (suffix_code s ∷ [])))
 
-  aim_counts : (aim : TargetView) → instructions_alone (aim_count aim) ≡ measure_of (length (aim_code decls aim)) []
-  aim_counts (to_name text) = refl
-  aim_counts to_metric = refl
-  aim_counts to_net = refl
+  target_counts : (target : TargetView) → instructions_alone (target_count target) ≡ measure_of (length (target_code decls target)) []
+  target_counts (to_name text) = refl
+  target_counts to_metric = refl
+  target_counts to_net = refl
 
   mutual
-    pub act_counts : (a : CommandView) (sets : ℕ) → act_measure a ≡ measure_of (length (act_code decls sets a)) (act_sets a)
-    act_counts empty sets = refl
-    act_counts (block body) sets =
-        let e : 0 + length (acts_code decls sets body) ≡ length (acts_code decls sets body) = omega arith in
-        acts_count body sets (instructions_alone 0) 0 [] refl ∙ ap (λ n. measure_of n (acts_sets body)) e
-    act_counts (choice test chosen) sets =
+    pub command_counts : (a : CommandView) (sets : ℕ) → command_measure a ≡ measure_of (length (command_code decls sets a)) (command_sets a)
+    command_counts empty sets = refl
+    command_counts (block body) sets =
+        let e : 0 + length (commands_code decls sets body) ≡ length (commands_code decls sets body) = omega arith in
+        commands_count body sets (instructions_alone 0) 0 [] refl ∙ ap (λ n. measure_of n (commands_sets body)) e
+    command_counts (if_then test chosen) sets =
         let t = expression_code decls sets test in
-        let c = act_code decls (sets + length (sets_of test)) chosen in
+        let c = command_code decls (sets + length (sets_of test)) chosen in
         let l = length-append t (instr.JumpIfNot (length c) ∷ c) in
-        plus_own _ _ (length t + length c) 1 _ (sets_of test ++ act_sets chosen)
-        (plus_is _ _ (length t) (length c) _ (sets_of test) (act_sets chosen) _ (tree_counts test sets) (act_counts chosen (sets + length
+        plus_own _ _ (length t + length c) 1 _ (sets_of test ++ command_sets chosen)
+        (plus_is _ _ (length t) (length c) _ (sets_of test) (command_sets chosen) _ (tree_counts test sets) (command_counts chosen (sets + length
         (sets_of test))) refl refl)
         refl (omega (arith, l))
-    act_counts (choice_else test chosen other) sets =
+    command_counts (if_else test chosen other) sets =
         let sets1 = sets + length (sets_of test) in
         let t = expression_code decls sets test in
-        let c = act_code decls sets1 chosen in
-        let d = act_code decls (sets1 + length (act_sets chosen)) other in
+        let c = command_code decls sets1 chosen in
+        let d = command_code decls (sets1 + length (command_sets chosen)) other in
         let l1 = length-append t (instr.JumpIfNot (length c + 1) ∷ (c ++ instr.Jump (length d) ∷ d)) in
         let l2 = length-append c (instr.Jump (length d) ∷ d) in
-        plus_own _ _ (length t + length c + length d) 2 _ (sets_of test ++ (act_sets chosen ++ act_sets other))
-        (plus_is _ _ (length t + length c) (length d) _ (sets_of test ++ act_sets chosen) (act_sets other) _
-        (plus_is _ _ (length t) (length c) _ (sets_of test) (act_sets chosen) _ (tree_counts test sets) (act_counts chosen sets1) refl refl)
-        (act_counts other (sets1 + length (act_sets chosen))) refl (append_assoc (sets_of test) (act_sets chosen) (act_sets other)))
+        plus_own _ _ (length t + length c + length d) 2 _ (sets_of test ++ (command_sets chosen ++ command_sets other))
+        (plus_is _ _ (length t + length c) (length d) _ (sets_of test ++ command_sets chosen) (command_sets other) _
+        (plus_is _ _ (length t) (length c) _ (sets_of test) (command_sets chosen) _ (tree_counts test sets) (command_counts chosen sets1) refl refl)
+        (command_counts other (sets1 + length (command_sets chosen))) refl (append_assoc (sets_of test) (command_sets chosen) (command_sets other)))
         refl (omega (arith, l1, l2))
-    act_counts (assign aim tree) sets =
+    command_counts (assign target tree) sets =
         let c = expression_code decls sets tree in
-        plus_own _ _ (length c) (length (aim_code decls aim)) _ (sets_of tree) (tree_counts tree sets) (aim_counts aim) (sym
-        (length-append c (aim_code decls aim)))
-    act_counts (accept has_text) sets = refl
-    act_counts (reject has_text) sets = refl
+        plus_own _ _ (length c) (length (target_code decls target)) _ (sets_of tree) (tree_counts tree sets) (target_counts target) (sym
+        (length-append c (target_code decls target)))
+    command_counts (accept has_text) sets = refl
+    command_counts (reject has_text) sets = refl
 
-    pub acts_count : (acts : Acts) (sets : ℕ) (before : Measure) (n : ℕ) (s : List (List PrefixPattern)) → before ≡ measure_of n s
-        → acts_measure before acts ≡ measure_of (n + length (acts_code decls sets acts)) (s ++ acts_sets acts)
-    acts_count no_acts sets before n s e =
+    pub commands_count : (commands : CommandsView) (sets : ℕ) (before : Measure) (n : ℕ) (s : List (List PrefixPattern)) → before ≡ measure_of n s
+        → commands_measure before commands ≡ measure_of (n + length (commands_code decls sets commands)) (s ++ commands_sets commands)
+    commands_count no_commands sets before n s e =
         let at : n ≡ n + 0 = omega arith in
         e ∙ (ap (λ k. measure_of k s) at ∙ ap (measure_of (n + 0)) (sym (append-nil s)))
-    acts_count (act_then first more) sets before n s e =
-        let c = act_code decls sets first in
-        let sets' = sets + length (act_sets first) in
-        let d = acts_code decls sets' more in
+    commands_count (command_then first more) sets before n s e =
+        let c = command_code decls sets first in
+        let sets' = sets + length (command_sets first) in
+        let d = commands_code decls sets' more in
         let at : n + length c + length d ≡ n + length (c ++ d) = omega (arith, length-append c d) in
-        acts_count more sets' (plus before (act_measure first)) (n + length c) (s ++ act_sets first)
-        (plus_is _ _ n (length c) _ s (act_sets first) _ e (act_counts first sets) refl refl)
-        ∙ (ap (λ k. measure_of k ((s ++ act_sets first) ++ acts_sets more)) at
-        ∙ ap (measure_of (n + length (c ++ d))) (append_assoc s (act_sets first) (acts_sets more)))
+        commands_count more sets' (plus before (command_measure first)) (n + length c) (s ++ command_sets first)
+        (plus_is _ _ n (length c) _ s (command_sets first) _ e (command_counts first sets) refl refl)
+        ∙ (ap (λ k. measure_of k ((s ++ command_sets first) ++ commands_sets more)) at
+        ∙ ap (measure_of (n + length (c ++ d))) (append_assoc s (command_sets first) (commands_sets more)))
 
 -- an operator and the operand at its right, where their number is counted whole
 right_is : (op : Op) (l r : List Instr) (n : ℕ) → n ≡ length r → l ++ right_part op n r ≡ joined_code op l r
@@ -202,10 +202,10 @@ module _ (decls : List DeclView) where
       ap (λ (m : Measure). m.instructions) (tree_counts decls t sets) in
       omega arith
 
-  act_size : (a : CommandView) (sets : ℕ) → length (act_code decls sets a) ≤ 1024 → (act_measure a).instructions ≡ length (act_code decls sets a)
-  act_size a sets short =
-      let e : (act_measure a).instructions ≡ min (length (act_code decls sets a)) 1025 =
-      ap (λ (m : Measure). m.instructions) (act_counts decls a sets) in
+  command_size : (a : CommandView) (sets : ℕ) → length (command_code decls sets a) ≤ 1024 → (command_measure a).instructions ≡ length (command_code decls sets a)
+  command_size a sets short =
+      let e : (command_measure a).instructions ≡ min (length (command_code decls sets a)) 1025 =
+      ap (λ (m : Measure). m.instructions) (command_counts decls a sets) in
       omega arith
 
 -- what is written with the numbers of the uses
@@ -255,86 +255,86 @@ module _ (decls : List DeclView) where
             (suffix_code s ∷ []),
       )) few)
 
-  aim_written : (aim : TargetView) (uses : List ℕ) → HasUses decls uses (names_of_aim aim) → written_aim uses aim ≡ aim_code decls aim
-  aim_written (to_name text) uses has = ap (λ n. instr.Store n ∷ []) (use_is decls uses text has)
-  aim_written to_metric uses has = refl
-  aim_written to_net uses has = refl
+  target_written : (target : TargetView) (uses : List ℕ) → HasUses decls uses (names_of_target target) → written_target uses target ≡ target_code decls target
+  target_written (to_name text) uses has = ap (λ n. instr.Store n ∷ []) (use_is decls uses text has)
+  target_written to_metric uses has = refl
+  target_written to_net uses has = refl
 
   mutual
-    pub act_written : (a : CommandView) (uses : List ℕ) (sets : ℕ) → HasUses decls uses (names_of_act a) → length (act_code decls sets a) ≤ 1024
-        → sets + length (act_sets a) ≤ 255 → written_act uses sets a ≡ act_code decls sets a
-    act_written empty uses sets has short few = refl
-    act_written (block body) uses sets has short few = acts_written body uses sets has short few
-    act_written (choice test chosen) uses sets has short few =
+    pub command_written : (a : CommandView) (uses : List ℕ) (sets : ℕ) → HasUses decls uses (names_of_command a) → length (command_code decls sets a) ≤ 1024
+        → sets + length (command_sets a) ≤ 255 → written_command uses sets a ≡ command_code decls sets a
+    command_written empty uses sets has short few = refl
+    command_written (block body) uses sets has short few = commands_written body uses sets has short few
+    command_written (if_then test chosen) uses sets has short few =
         let uses' = behind (names_in test) uses in
         let sets' = sets + length (sets_of test) in
         let t = expression_code decls sets test in
-        let c = act_code decls sets' chosen in
+        let c = command_code decls sets' chosen in
         let l = length-append t (instr.JumpIfNot (length c) ∷ c) in
-        let k = length-append (sets_of test) (act_sets chosen) in
+        let k = length-append (sets_of test) (command_sets chosen) in
         let short_c : length c ≤ 1024 = omega arith in
-        ap (λ x. x ++ instr.JumpIfNot (act_measure chosen).instructions ∷ written_act uses' sets' chosen)
-        (tree_written test uses sets (first_uses decls uses (names_in test) (names_of_act chosen) has) (omega arith) (omega arith))
-        ∙ (ap (λ n. t ++ instr.JumpIfNot n ∷ written_act uses' sets' chosen) (act_size decls chosen sets' short_c)
+        ap (λ x. x ++ instr.JumpIfNot (command_measure chosen).instructions ∷ written_command uses' sets' chosen)
+        (tree_written test uses sets (first_uses decls uses (names_in test) (names_of_command chosen) has) (omega arith) (omega arith))
+        ∙ (ap (λ n. t ++ instr.JumpIfNot n ∷ written_command uses' sets' chosen) (command_size decls chosen sets' short_c)
         ∙ ap (λ x. t ++ instr.JumpIfNot (length c) ∷ x)
-        (act_written chosen uses' sets' (later_uses decls uses (names_in test) (names_of_act chosen) has) short_c (omega arith)))
-    act_written (choice_else test chosen other) uses sets has short few =
+        (command_written chosen uses' sets' (later_uses decls uses (names_in test) (names_of_command chosen) has) short_c (omega arith)))
+    command_written (if_else test chosen other) uses sets has short few =
         let uses1 = behind (names_in test) uses in
-        let uses2 = behind (names_of_act chosen) uses1 in
+        let uses2 = behind (names_of_command chosen) uses1 in
         let sets1 = sets + length (sets_of test) in
-        let sets2 = sets1 + length (act_sets chosen) in
+        let sets2 = sets1 + length (command_sets chosen) in
         let t = expression_code decls sets test in
-        let c = act_code decls sets1 chosen in
-        let d = act_code decls sets2 other in
+        let c = command_code decls sets1 chosen in
+        let d = command_code decls sets2 other in
         let l1 = length-append t (instr.JumpIfNot (length c + 1) ∷ (c ++ instr.Jump (length d) ∷ d)) in
         let l2 = length-append c (instr.Jump (length d) ∷ d) in
-        let k1 = length-append (sets_of test) (act_sets chosen ++ act_sets other) in
-        let k2 = length-append (act_sets chosen) (act_sets other) in
+        let k1 = length-append (sets_of test) (command_sets chosen ++ command_sets other) in
+        let k2 = length-append (command_sets chosen) (command_sets other) in
         let short_c : length c ≤ 1024 = omega arith in
         let short_d : length d ≤ 1024 = omega arith in
-        let n = (act_measure chosen).instructions in
-        let m = (act_measure other).instructions in
-        let has_t = first_uses decls uses (names_in test) (names_of_act chosen ++ names_of_act other) has in
-        let has' = later_uses decls uses (names_in test) (names_of_act chosen ++ names_of_act other) has in
-        let has_c = first_uses decls uses1 (names_of_act chosen) (names_of_act other) has' in
-        let has_d = later_uses decls uses1 (names_of_act chosen) (names_of_act other) has' in
-        ap (λ x. x ++ instr.JumpIfNot (n + 1) ∷ (written_act uses1 sets1 chosen ++ instr.Jump m ∷ written_act uses2 sets2 other))
+        let n = (command_measure chosen).instructions in
+        let m = (command_measure other).instructions in
+        let has_t = first_uses decls uses (names_in test) (names_of_command chosen ++ names_of_command other) has in
+        let has' = later_uses decls uses (names_in test) (names_of_command chosen ++ names_of_command other) has in
+        let has_c = first_uses decls uses1 (names_of_command chosen) (names_of_command other) has' in
+        let has_d = later_uses decls uses1 (names_of_command chosen) (names_of_command other) has' in
+        ap (λ x. x ++ instr.JumpIfNot (n + 1) ∷ (written_command uses1 sets1 chosen ++ instr.Jump m ∷ written_command uses2 sets2 other))
         (tree_written test uses sets has_t (omega arith) (omega arith))
-        ∙ (ap (λ x. t ++ instr.JumpIfNot (x + 1) ∷ (written_act uses1 sets1 chosen ++ instr.Jump m ∷ written_act uses2 sets2 other))
-        (act_size decls chosen sets1 short_c)
-        ∙ (ap (λ x. t ++ instr.JumpIfNot (length c + 1) ∷ (x ++ instr.Jump m ∷ written_act uses2 sets2 other))
-        (act_written chosen uses1 sets1 has_c short_c (omega arith))
-        ∙ (ap (λ x. t ++ instr.JumpIfNot (length c + 1) ∷ (c ++ instr.Jump x ∷ written_act uses2 sets2 other))
-        (act_size decls other sets2 short_d)
-        ∙ ap (λ x. t ++ instr.JumpIfNot (length c + 1) ∷ (c ++ instr.Jump (length d) ∷ x)) (act_written other uses2 sets2 has_d short_d
+        ∙ (ap (λ x. t ++ instr.JumpIfNot (x + 1) ∷ (written_command uses1 sets1 chosen ++ instr.Jump m ∷ written_command uses2 sets2 other))
+        (command_size decls chosen sets1 short_c)
+        ∙ (ap (λ x. t ++ instr.JumpIfNot (length c + 1) ∷ (x ++ instr.Jump m ∷ written_command uses2 sets2 other))
+        (command_written chosen uses1 sets1 has_c short_c (omega arith))
+        ∙ (ap (λ x. t ++ instr.JumpIfNot (length c + 1) ∷ (c ++ instr.Jump x ∷ written_command uses2 sets2 other))
+        (command_size decls other sets2 short_d)
+        ∙ ap (λ x. t ++ instr.JumpIfNot (length c + 1) ∷ (c ++ instr.Jump (length d) ∷ x)) (command_written other uses2 sets2 has_d short_d
         (omega arith)))))
-    act_written (assign aim tree) uses sets has short few =
-        let uses' = behind (names_of_aim aim) uses in
+    command_written (assign target tree) uses sets has short few =
+        let uses' = behind (names_of_target target) uses in
         let c = expression_code decls sets tree in
-        ap (λ x. x ++ written_aim uses aim)
-        (tree_written tree uses' sets (later_uses decls uses (names_of_aim aim) (names_in tree) has) (omega (
+        ap (λ x. x ++ written_target uses target)
+        (tree_written tree uses' sets (later_uses decls uses (names_of_target target) (names_in tree) has) (omega (
           arith,
           length-append c
-              (aim_code decls aim),
+              (target_code decls target),
         )) few)
-        ∙ ap (λ x. c ++ x) (aim_written aim uses (first_uses decls uses (names_of_aim aim) (names_in tree) has))
-    act_written (accept has_text) uses sets has short few = refl
-    act_written (reject has_text) uses sets has short few = refl
+        ∙ ap (λ x. c ++ x) (target_written target uses (first_uses decls uses (names_of_target target) (names_in tree) has))
+    command_written (accept has_text) uses sets has short few = refl
+    command_written (reject has_text) uses sets has short few = refl
 
-    pub acts_written : (acts : Acts) (uses : List ℕ) (sets : ℕ) → HasUses decls uses (names_of_acts acts)
-        → length (acts_code decls sets acts) ≤ 1024 → sets + length (acts_sets acts) ≤ 255
-        → written_acts uses sets acts ≡ acts_code decls sets acts
-    acts_written no_acts uses sets has short few = refl
-    acts_written (act_then first more) uses sets has short few =
-        let uses' = behind (names_of_act first) uses in
-        let sets' = sets + length (act_sets first) in
-        let c = act_code decls sets first in
-        let d = acts_code decls sets' more in
+    pub commands_written : (commands : CommandsView) (uses : List ℕ) (sets : ℕ) → HasUses decls uses (names_of_commands commands)
+        → length (commands_code decls sets commands) ≤ 1024 → sets + length (commands_sets commands) ≤ 255
+        → written_commands uses sets commands ≡ commands_code decls sets commands
+    commands_written no_commands uses sets has short few = refl
+    commands_written (command_then first more) uses sets has short few =
+        let uses' = behind (names_of_command first) uses in
+        let sets' = sets + length (command_sets first) in
+        let c = command_code decls sets first in
+        let d = commands_code decls sets' more in
         let l = length-append c d in
-        let k = length-append (act_sets first) (acts_sets more) in
-        ap (λ x. x ++ written_acts uses' sets' more)
-        (act_written first uses sets (first_uses decls uses (names_of_act first) (names_of_acts more) has) (omega arith) (omega arith))
-        ∙ ap (λ x. c ++ x) (acts_written more uses' sets' (later_uses decls uses (names_of_act first) (names_of_acts more) has)
+        let k = length-append (command_sets first) (commands_sets more) in
+        ap (λ x. x ++ written_commands uses' sets' more)
+        (command_written first uses sets (first_uses decls uses (names_of_command first) (names_of_commands more) has) (omega arith) (omega arith))
+        ∙ ap (λ x. c ++ x) (commands_written more uses' sets' (later_uses decls uses (names_of_command first) (names_of_commands more) has)
         (omega arith) (omega arith))
 
 declarations_length : (before : ℕ) (decls : List DeclView) → length (declarations_code before decls) ≡ length decls + length decls
@@ -345,24 +345,24 @@ alone : (n : ℕ) → n ≤ 1025 → instructions_alone n ≡ measure_of n []
 alone n low = three _ _ _ _ _ _ (omega arith) refl refl
 
 -- a filter's measure counts its code
-pub filter_counts : (f : syntax.FilterView) → length f.decls ≤ 16 → filter_measure f ≡ measure_of (length (instructions f)) (acts_sets f.body)
+pub filter_counts : (f : syntax.FilterView) → length f.decls ≤ 16 → filter_measure f ≡ measure_of (length (instructions f)) (commands_sets f.body)
 filter_counts f few =
     let d = declarations_code 0 f.decls in
-    let body = acts_code f.decls 0 f.body in
+    let body = commands_code f.decls 0 f.body in
     let n = length f.decls + length f.decls + 1 in
     let l1 = length-append d (body ++ instr.Reject ∷ []) in
     let l2 = length-append body (instr.Reject ∷ []) in
     let l3 = declarations_length 0 f.decls in
     let e : n + length body ≡ length (instructions f) = omega arith in
-    acts_count f.decls f.body 0 (instructions_alone n) n [] (alone n (omega arith)) ∙ ap (λ k. measure_of k (acts_sets f.body)) e
+    commands_count f.decls f.body 0 (instructions_alone n) n [] (alone n (omega arith)) ∙ ap (λ k. measure_of k (commands_sets f.body)) e
 
 -- within the limits what is written with the numbers of a filter's uses is the code
-pub filter_written : (f : syntax.FilterView) → length (instructions f) ≤ 1024 → length (acts_sets f.body) ≤ 64
+pub filter_written : (f : syntax.FilterView) → length (instructions f) ≤ 1024 → length (commands_sets f.body) ≤ 64
     → written_filter (numbers_of f) f ≡ instructions f
 filter_written f short few =
     let d = declarations_code 0 f.decls in
-    let body = acts_code f.decls 0 f.body in
+    let body = commands_code f.decls 0 f.body in
     let l1 = length-append d (body ++ instr.Reject ∷ []) in
     let l2 = length-append body (instr.Reject ∷ []) in
     ap (λ x. d ++ (x ++ instr.Reject ∷ []))
-    (acts_written f.decls f.body (numbers_of f) 0 (all_uses f.decls (names_of_acts f.body)) (omega arith) (omega arith))
+    (commands_written f.decls f.body (numbers_of f) 0 (all_uses f.decls (names_of_commands f.body)) (omega arith) (omega arith))

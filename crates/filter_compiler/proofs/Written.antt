@@ -8,10 +8,10 @@ use Rattle.filter_code.specs.declared.instruction.Instr.TheVariants as instr
 use Rattle.filter_parser.specs.declared.tree.op.Membership.{Membership}
 use Rattle.filter_parser.specs.declared.tree.op.Op.{Op}
 use Rattle.filter_parser.specs.declared.tree.op.Suffix.{Suffix}
-use Rattle.filter_parser.specs.Syntax.{ExprView, SetPatternView, binary, member, negation, suffixed, run_of, suffixes_of, pattern_of}
+use Rattle.filter_parser.specs.Syntax.{ExprView, SetPatternView, binary, member, negation, suffixed, chain_of, suffixes_of, pattern_of}
 use Rattle.filter_types.specs.Kinds.{names_in}
-use Rattle.filter_types.specs.Turns.{names_behind}
-use Rattle.filter_types.proofs.Turns.{run_names, suffixes_names}
+use Rattle.filter_types.specs.Turns.{names_after}
+use Rattle.filter_types.proofs.Turns.{chain_names, suffixes_names}
 use Rattle.filter_compiler.specs.Measures.{tree_measure}
 use Rattle.filter_compiler.specs.Translation.{sets_of, member_code, suffix_code}
 use Rattle.filter_compiler.specs.Writing.{behind, right_part, set_number, written, sets_behind, written_behind}
@@ -22,39 +22,39 @@ pub on_ok : {T E P Q : Type 0} (r : Result T E) → (P → Q) → OnOk r P → O
 on_ok (Ok x) f p = f p
 on_ok (Err e) f p = tt
 
-run_sets : (left : ExprView) (xs : List (Op × ExprView)) → sets_of (run_of left xs) ≡ sets_of left ++ sets_behind xs
-run_sets left [] = sym (append-nil (sets_of left))
-run_sets left (x ∷ xs) = run_sets (binary x.0 left x.1) xs ∙ append_assoc (sets_of left) (sets_of x.1) (sets_behind xs)
+chain_sets : (left : ExprView) (xs : List (Op × ExprView)) → sets_of (chain_of left xs) ≡ sets_of left ++ sets_behind xs
+chain_sets left [] = sym (append-nil (sets_of left))
+chain_sets left (x ∷ xs) = chain_sets (binary x.0 left x.1) xs ∙ append_assoc (sets_of left) (sets_of x.1) (sets_behind xs)
 
 suffixes_sets : (inner : ExprView) (xs : List Suffix) → sets_of (suffixes_of inner xs) ≡ sets_of inner
 suffixes_sets inner [] = refl
 suffixes_sets inner (x ∷ xs) = suffixes_sets (suffixed inner x) xs
 
 -- the numbers behind those of a run and of an operand with suffixes
-pub run_behind : (uses after all : List ℕ) (t first : ExprView) (xs : List (Op × ExprView)) → t ≡ run_of first xs
-    → after ≡ behind (names_in first) uses → all ≡ behind (names_behind xs) after → all ≡ behind (names_in t) uses
-run_behind uses after all t first xs is e f =
-    f ∙ (ap (behind (names_behind xs)) e
-    ∙ (sym (behind_both (names_in first) (names_behind xs) uses)
-    ∙ sym (ap (λ n. behind n uses) (ap names_in is ∙ run_names first xs))))
+pub chain_after : (uses after all : List ℕ) (t first : ExprView) (xs : List (Op × ExprView)) → t ≡ chain_of first xs
+    → after ≡ behind (names_in first) uses → all ≡ behind (names_after xs) after → all ≡ behind (names_in t) uses
+chain_after uses after all t first xs is e f =
+    f ∙ (ap (behind (names_after xs)) e
+    ∙ (sym (behind_both (names_in first) (names_after xs) uses)
+    ∙ sym (ap (λ n. behind n uses) (ap names_in is ∙ chain_names first xs))))
 
 pub suffixes_behind : (uses after all : List ℕ) (t inner : ExprView) (xs : List Suffix) → t ≡ suffixes_of inner xs
     → after ≡ behind (names_in inner) uses → all ≡ after → all ≡ behind (names_in t) uses
 suffixes_behind uses after all t inner xs is e f =
     f ∙ (e ∙ sym (ap (λ n. behind n uses) (ap names_in is ∙ suffixes_names inner xs)))
 
-run_written : (uses : List ℕ) (sets : ℕ) (left : ExprView) (xs : List (Op × ExprView))
-    → written uses sets (run_of left xs) ≡ written uses sets left ++ written_behind (behind (names_in left) uses)
+chain_written : (uses : List ℕ) (sets : ℕ) (left : ExprView) (xs : List (Op × ExprView))
+    → written uses sets (chain_of left xs) ≡ written uses sets left ++ written_behind (behind (names_in left) uses)
     (sets + length (sets_of left)) xs
-run_written uses sets left [] = sym (append-nil (written uses sets left))
-run_written uses sets left (x ∷ xs) =
+chain_written uses sets left [] = sym (append-nil (written uses sets left))
+chain_written uses sets left (x ∷ xs) =
     let l = written uses sets left in
     let part = right_part x.0 (tree_measure x.1).instructions (written (behind (names_in left) uses) (sets + length (sets_of left)) x.1) in
     let at : sets + length (sets_of left ++ sets_of x.1) ≡ sets + length (sets_of left) + length (sets_of x.1) =
     omega (arith, length-append (sets_of left) (sets_of x.1)) in
     let after : behind (names_in left ++ names_in x.1) uses ≡ behind (names_in x.1) (behind (names_in left) uses) =
     behind_both (names_in left) (names_in x.1) uses in
-    run_written uses sets (binary x.0 left x.1) xs
+    chain_written uses sets (binary x.0 left x.1) xs
     ∙ ap (λ n. (l ++ part) ++ written_behind n (sets + length (sets_of left ++ sets_of x.1)) xs) after
     ∙ ap (λ n. (l ++ part) ++ written_behind (behind (names_in x.1) (behind (names_in left) uses)) n xs) at
     ∙ append_assoc l part (written_behind (behind (names_in x.1) (behind (names_in left) uses)) (sets + length (sets_of left) + length
@@ -76,20 +76,20 @@ more_sets s0 s1 s2 a b e f = f ∙ (ap (λ l. l ++ b) e ∙ append_assoc s0 a b)
 count_of : (s0 s1 a : List (List PrefixPattern)) → s1 ≡ s0 ++ a → length s1 ≡ length s0 + length a
 count_of s0 s1 a e = ap length e ∙ length-append s0 a
 
-pub run_code : (old mid new : List Instr) (s0 s1 : List (List PrefixPattern)) (uses after : List ℕ) (t first : ExprView)
-    (xs : List (Op × ExprView)) → t ≡ run_of first xs → mid ≡ old ++ written uses (length s0) first → s1 ≡ s0 ++ sets_of first
+pub chain_code : (old mid new : List Instr) (s0 s1 : List (List PrefixPattern)) (uses after : List ℕ) (t first : ExprView)
+    (xs : List (Op × ExprView)) → t ≡ chain_of first xs → mid ≡ old ++ written uses (length s0) first → s1 ≡ s0 ++ sets_of first
     → after ≡ behind (names_in first) uses → new ≡ mid ++ written_behind after (length s1) xs → new ≡ old ++ written uses (length s0) t
-run_code old mid new s0 s1 uses after t first xs is e s u f =
+chain_code old mid new s0 s1 uses after t first xs is e s u f =
     let f' = f ∙ (ap (λ n. mid ++ written_behind n (length s1) xs) u
     ∙ ap (λ n. mid ++ written_behind (behind (names_in first) uses) n xs) (count_of s0 s1 (sets_of first) s)) in
     behind_two old mid new (written uses (length s0) first) (written_behind (behind (names_in first) uses) (length s0 + length
     (sets_of first)) xs) e f'
-    ∙ ap (λ l. old ++ l) (sym (ap (written uses (length s0)) is ∙ run_written uses (length s0) first xs))
+    ∙ ap (λ l. old ++ l) (sym (ap (written uses (length s0)) is ∙ chain_written uses (length s0) first xs))
 
-pub run_kept : (s0 s1 s2 : List (List PrefixPattern)) (t first : ExprView) (xs : List (Op × ExprView)) → t ≡ run_of first xs
+pub chain_kept : (s0 s1 s2 : List (List PrefixPattern)) (t first : ExprView) (xs : List (Op × ExprView)) → t ≡ chain_of first xs
     → s1 ≡ s0 ++ sets_of first → s2 ≡ s1 ++ sets_behind xs → s2 ≡ s0 ++ sets_of t
-run_kept s0 s1 s2 t first xs is e f =
-    more_sets s0 s1 s2 (sets_of first) (sets_behind xs) e f ∙ ap (λ l. s0 ++ l) (sym (ap sets_of is ∙ run_sets first xs))
+chain_kept s0 s1 s2 t first xs is e f =
+    more_sets s0 s1 s2 (sets_of first) (sets_behind xs) e f ∙ ap (λ l. s0 ++ l) (sym (ap sets_of is ∙ chain_sets first xs))
 
 pub suffixes_code : (old mid new : List Instr) (s0 : List (List PrefixPattern)) (uses : List ℕ) (t inner : ExprView) (xs : List Suffix)
     → t ≡ suffixes_of inner xs → mid ≡ old ++ written uses (length s0) inner → new ≡ mid ++ map suffix_code xs

@@ -7,7 +7,7 @@ use Rattle.filter_parser.specs.declared.tree.op.Op.TheVariants as o
 use Rattle.filter_parser.specs.declared.tree.op.Suffix.{Suffix}
 use Rattle.filter_parser.specs.Syntax.{ExprView, number, address, prefix, truth, name, attribute, defined, group, negation, binary, member}
 use Rattle.filter_parser.specs.Syntax.{suffixed}
-use Rattle.filter_parser.specs.SyntaxCommands.{CommandView, empty, block, choice, choice_else, assign, accept, reject, Acts, no_acts, act_then}
+use Rattle.filter_parser.specs.SyntaxCommands.{CommandView, empty, block, if_then, if_else, assign, accept, reject, CommandsView, no_commands, command_then}
 use Rattle.filter_parser.specs.SyntaxCommands.{TargetView, to_name, to_metric, to_net}
 use Rattle.filter_parser.specs.SyntaxText as syntax
 use Rattle.filter_compiler.specs.declared.measure.Measure.{Measure}
@@ -62,36 +62,36 @@ tree_measure (member op left set) = plus (with_set (tree_measure left) (length s
 tree_measure (suffixed inner s) = plus (tree_measure inner) (instructions_alone 1)
 
 -- a part with operators behind it, each with the operand at its right
-abbrev pub run_measure : Measure → List (Op × ExprView) → Measure
-run_measure left [] = left
-run_measure left (x ∷ xs) = run_measure (with_right left x.0 (tree_measure x.1)) xs
+abbrev pub chain_measure : Measure → List (Op × ExprView) → Measure
+chain_measure left [] = left
+chain_measure left (x ∷ xs) = chain_measure (with_right left x.0 (tree_measure x.1)) xs
 
 -- a part with suffixes
 abbrev pub suffixes_measure : Measure → List Suffix → Measure
 suffixes_measure inner [] = inner
 suffixes_measure inner (x ∷ xs) = suffixes_measure (plus inner (instructions_alone 1)) xs
 
-abbrev pub aim_count : TargetView → ℕ
-aim_count (to_name text) = 1
-aim_count to_metric = 3
-aim_count to_net = 0
+abbrev pub target_count : TargetView → ℕ
+target_count (to_name text) = 1
+target_count to_metric = 3
+target_count to_net = 0
 
 -- the code of a command, and a part with that of commands behind it
 abbrev mutual
-  pub act_measure : CommandView → Measure
-  act_measure empty = instructions_alone 0
-  act_measure (block body) = acts_measure (instructions_alone 0) body
-  act_measure (choice test chosen) = plus (plus (tree_measure test) (act_measure chosen)) (instructions_alone 1)
-  act_measure (choice_else test chosen other) =
-      plus (plus (plus (tree_measure test) (act_measure chosen)) (act_measure other)) (instructions_alone 2)
-  act_measure (assign aim value) = plus (tree_measure value) (instructions_alone (aim_count aim))
-  act_measure (accept has_text) = instructions_alone 1
-  act_measure (reject has_text) = instructions_alone 1
+  pub command_measure : CommandView → Measure
+  command_measure empty = instructions_alone 0
+  command_measure (block body) = commands_measure (instructions_alone 0) body
+  command_measure (if_then test chosen) = plus (plus (tree_measure test) (command_measure chosen)) (instructions_alone 1)
+  command_measure (if_else test chosen other) =
+      plus (plus (plus (tree_measure test) (command_measure chosen)) (command_measure other)) (instructions_alone 2)
+  command_measure (assign target value) = plus (tree_measure value) (instructions_alone (target_count target))
+  command_measure (accept has_text) = instructions_alone 1
+  command_measure (reject has_text) = instructions_alone 1
 
-  pub acts_measure : Measure → Acts → Measure
-  acts_measure before no_acts = before
-  acts_measure before (act_then first more) = acts_measure (plus before (act_measure first)) more
+  pub commands_measure : Measure → CommandsView → Measure
+  commands_measure before no_commands = before
+  commands_measure before (command_then first more) = commands_measure (plus before (command_measure first)) more
 
 -- the code of a filter: two instructions for each variable, and a REJECT at the end
 abbrev pub filter_measure : syntax.FilterView → Measure
-filter_measure filter = acts_measure (instructions_alone (length filter.decls + length filter.decls + 1)) filter.body
+filter_measure filter = commands_measure (instructions_alone (length filter.decls + length filter.decls + 1)) filter.body

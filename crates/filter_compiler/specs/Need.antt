@@ -4,7 +4,7 @@ use Rattle.filter_parser.specs.declared.tree.op.Op.{Op}
 use Rattle.filter_parser.specs.declared.tree.op.Op.TheVariants as o
 use Rattle.filter_parser.specs.Syntax.{ExprView, number, address, prefix, truth, name, attribute, defined, group, negation, binary, member}
 use Rattle.filter_parser.specs.Syntax.{suffixed}
-use Rattle.filter_parser.specs.SyntaxCommands.{CommandView, empty, block, choice, choice_else, assign, accept, reject, Acts, no_acts, act_then}
+use Rattle.filter_parser.specs.SyntaxCommands.{CommandView, empty, block, if_then, if_else, assign, accept, reject, CommandsView, no_commands, command_then}
 use Rattle.filter_parser.specs.SyntaxCommands.{TargetView, to_metric, DeclView}
 use Rattle.filter_parser.specs.SyntaxText as syntax
 
@@ -30,24 +30,24 @@ expression_need (member op left set) = expression_need left
 expression_need (suffixed inner s) = expression_need inner
 
 -- the metric received stands beside the value that is set
-abbrev pub aim_need : TargetView → ℕ → ℕ
-aim_need to_metric value = max value 2
-aim_need _ value = value
+abbrev pub target_need : TargetView → ℕ → ℕ
+target_need to_metric value = max value 2
+target_need _ value = value
 
 -- the greatest need in a command, and in commands one after another
 abbrev mutual
-  pub act_need : CommandView → ℕ
-  act_need empty = 0
-  act_need (block body) = acts_need body
-  act_need (choice test chosen) = max (expression_need test) (act_need chosen)
-  act_need (choice_else test chosen other) = max (expression_need test) (max (act_need chosen) (act_need other))
-  act_need (assign aim value) = aim_need aim (expression_need value)
-  act_need (accept has_text) = 0
-  act_need (reject has_text) = 0
+  pub command_need : CommandView → ℕ
+  command_need empty = 0
+  command_need (block body) = commands_need body
+  command_need (if_then test chosen) = max (expression_need test) (command_need chosen)
+  command_need (if_else test chosen other) = max (expression_need test) (max (command_need chosen) (command_need other))
+  command_need (assign target value) = target_need target (expression_need value)
+  command_need (accept has_text) = 0
+  command_need (reject has_text) = 0
 
-  pub acts_need : Acts → ℕ
-  acts_need no_acts = 0
-  acts_need (act_then first more) = max (act_need first) (acts_need more)
+  pub commands_need : CommandsView → ℕ
+  commands_need no_commands = 0
+  commands_need (command_then first more) = max (command_need first) (commands_need more)
 
 -- a declaration needs one operand
 abbrev pub declarations_need : List DeclView → ℕ
@@ -56,4 +56,4 @@ declarations_need (d ∷ rest) = 1
 
 -- the operands that a filter needs
 abbrev pub need : syntax.FilterView → ℕ
-need filter = max (declarations_need filter.decls) (acts_need filter.body)
+need filter = max (declarations_need filter.decls) (commands_need filter.body)

@@ -15,7 +15,7 @@ use Rattle.filter_parser.specs.declared.tree.op.Suffix.{Suffix}
 use Rattle.filter_parser.specs.declared.tree.op.Suffix.TheVariants as suffix
 use Rattle.filter_parser.specs.Syntax.{ExprView, number, address, prefix, truth, name, attribute, defined, group, negation, binary, member}
 use Rattle.filter_parser.specs.Syntax.{suffixed, pattern_of}
-use Rattle.filter_parser.specs.SyntaxCommands.{CommandView, empty, block, choice, choice_else, assign, accept, reject, Acts, no_acts, act_then}
+use Rattle.filter_parser.specs.SyntaxCommands.{CommandView, empty, block, if_then, if_else, assign, accept, reject, CommandsView, no_commands, command_then}
 use Rattle.filter_parser.specs.SyntaxCommands.{TargetView, to_name, to_metric, to_net, DeclView}
 use Rattle.filter_parser.specs.SyntaxText as syntax
 use Rattle.filter_code.specs.CodeView as code
@@ -101,26 +101,26 @@ expression_code decls sets (suffixed inner s) = expression_code decls sets inner
 
 -- the sets of a command and of commands one after another
 abbrev mutual
-  pub act_sets : CommandView → List (List PrefixPattern)
-  act_sets empty = []
-  act_sets (block body) = acts_sets body
-  act_sets (choice test chosen) = sets_of test ++ act_sets chosen
-  act_sets (choice_else test chosen other) = sets_of test ++ (act_sets chosen ++ act_sets other)
-  act_sets (assign aim value) = sets_of value
-  act_sets (accept has_text) = []
-  act_sets (reject has_text) = []
+  pub command_sets : CommandView → List (List PrefixPattern)
+  command_sets empty = []
+  command_sets (block body) = commands_sets body
+  command_sets (if_then test chosen) = sets_of test ++ command_sets chosen
+  command_sets (if_else test chosen other) = sets_of test ++ (command_sets chosen ++ command_sets other)
+  command_sets (assign target value) = sets_of value
+  command_sets (accept has_text) = []
+  command_sets (reject has_text) = []
 
-  pub acts_sets : Acts → List (List PrefixPattern)
-  acts_sets no_acts = []
-  acts_sets (act_then first more) = act_sets first ++ acts_sets more
+  pub commands_sets : CommandsView → List (List PrefixPattern)
+  commands_sets no_commands = []
+  commands_sets (command_then first more) = command_sets first ++ commands_sets more
 
 -- a command that is passed over where the test is false
-abbrev pub choice_code : List Instr → List Instr → List Instr
-choice_code test chosen = test ++ instr.JumpIfNot (length chosen) ∷ chosen
+abbrev pub if_code : List Instr → List Instr → List Instr
+if_code test chosen = test ++ instr.JumpIfNot (length chosen) ∷ chosen
 
 -- one of two commands
-abbrev pub choice_else_code : List Instr → List Instr → List Instr → List Instr
-choice_else_code test chosen other =
+abbrev pub if_else_code : List Instr → List Instr → List Instr → List Instr
+if_else_code test chosen other =
     test ++ instr.JumpIfNot (length chosen + 1) ∷ (chosen ++ instr.Jump (length other) ∷ other)
 
 -- what sets the metric: to the value on the stack, or to the metric received where this is greater
@@ -128,30 +128,30 @@ abbrev pub metric_code : List Instr
 metric_code = instr.Received ∷ instr.Max ∷ instr.SetMetric ∷ []
 
 -- what sets a variable, and the metric. `net` is never assigned
-abbrev pub aim_code : List DeclView → TargetView → List Instr
-aim_code decls (to_name text) = instr.Store (number_of decls text) ∷ []
-aim_code decls to_metric = metric_code
-aim_code decls to_net = []
+abbrev pub target_code : List DeclView → TargetView → List Instr
+target_code decls (to_name text) = instr.Store (number_of decls text) ∷ []
+target_code decls to_metric = metric_code
+target_code decls to_net = []
 
 -- the code of a command, and of commands one after another
 abbrev mutual
-  pub act_code : List DeclView → ℕ → CommandView → List Instr
-  act_code decls sets empty = []
-  act_code decls sets (block body) = acts_code decls sets body
-  act_code decls sets (choice test chosen) =
-      choice_code (expression_code decls sets test) (act_code decls (sets + length (sets_of test)) chosen)
-  act_code decls sets (choice_else test chosen other) =
-      choice_else_code (expression_code decls sets test)
-      (act_code decls (sets + length (sets_of test)) chosen)
-      (act_code decls (sets + length (sets_of test) + length (act_sets chosen)) other)
-  act_code decls sets (assign aim value) = expression_code decls sets value ++ aim_code decls aim
-  act_code decls sets (accept has_text) = instr.Accept ∷ []
-  act_code decls sets (reject has_text) = instr.Reject ∷ []
+  pub command_code : List DeclView → ℕ → CommandView → List Instr
+  command_code decls sets empty = []
+  command_code decls sets (block body) = commands_code decls sets body
+  command_code decls sets (if_then test chosen) =
+      if_code (expression_code decls sets test) (command_code decls (sets + length (sets_of test)) chosen)
+  command_code decls sets (if_else test chosen other) =
+      if_else_code (expression_code decls sets test)
+      (command_code decls (sets + length (sets_of test)) chosen)
+      (command_code decls (sets + length (sets_of test) + length (command_sets chosen)) other)
+  command_code decls sets (assign target value) = expression_code decls sets value ++ target_code decls target
+  command_code decls sets (accept has_text) = instr.Accept ∷ []
+  command_code decls sets (reject has_text) = instr.Reject ∷ []
 
-  pub acts_code : List DeclView → ℕ → Acts → List Instr
-  acts_code decls sets no_acts = []
-  acts_code decls sets (act_then first more) =
-      act_code decls sets first ++ acts_code decls (sets + length (act_sets first)) more
+  pub commands_code : List DeclView → ℕ → CommandsView → List Instr
+  commands_code decls sets no_commands = []
+  commands_code decls sets (command_then first more) =
+      command_code decls sets first ++ commands_code decls (sets + length (command_sets first)) more
 
 -- what puts a variable's first value on the stack
 abbrev pub first_value : Kind → Instr
@@ -168,12 +168,12 @@ declarations_code before (d ∷ rest) = first_value d.kind ∷ instr.Store befor
 -- the instructions of a filter: its declarations, its commands, and a REJECT at the end
 abbrev pub instructions : syntax.FilterView → List Instr
 instructions filter =
-    declarations_code 0 filter.decls ++ (acts_code filter.decls 0 filter.body ++ instr.Reject ∷ [])
+    declarations_code 0 filter.decls ++ (commands_code filter.decls 0 filter.body ++ instr.Reject ∷ [])
 
 -- the code of a filter
 abbrev pub code_of : syntax.FilterView → code.CodeView
 code_of filter = record {
   locals = length filter.decls;
-  sets = acts_sets filter.body;
+  sets = commands_sets filter.body;
   instrs = instructions filter;
 }

@@ -8,7 +8,7 @@ use Rattle.filter_code.specs.declared.value.Value.TheVariants as value
 use Rattle.filter_code.specs.RouteView.{RouteView}
 use Rattle.filter_parser.specs.declared.tree.decl.Kind.{Kind}
 use Rattle.filter_parser.specs.declared.tree.decl.Kind.TheVariants as kind
-use Rattle.filter_parser.specs.SyntaxCommands.{CommandView, empty, block, choice, choice_else, assign, accept, reject, Acts, no_acts, act_then}
+use Rattle.filter_parser.specs.SyntaxCommands.{CommandView, empty, block, if_then, if_else, assign, accept, reject, CommandsView, no_commands, command_then}
 use Rattle.filter_parser.specs.SyntaxCommands.{TargetView, to_name, to_metric, DeclView}
 use Rattle.filter_parser.specs.SyntaxText as syntax
 use Rattle.filter_compiler.specs.Meaning.{Bound, Scene, value_of}
@@ -66,17 +66,17 @@ abbrev mutual
   pub course_of : RouteView → CommandView → Scene → Course
   course_of route empty scene = goes_on scene
   course_of route (block body) scene = course_of_all route body scene
-  course_of route (choice test chosen) scene =
+  course_of route (if_then test chosen) scene =
       chosen_by (value_of route scene test) (course_of route chosen scene) (goes_on scene)
-  course_of route (choice_else test chosen other) scene =
+  course_of route (if_else test chosen other) scene =
       chosen_by (value_of route scene test) (course_of route chosen scene) (course_of route other scene)
-  course_of route (assign aim value) scene = set_to route scene aim (value_of route scene value)
+  course_of route (assign target value) scene = set_to route scene target (value_of route scene value)
   course_of route (accept has_text) scene = ends (accepted scene.metric)
   course_of route (reject has_text) scene = ends rejected
 
-  pub course_of_all : RouteView → Acts → Scene → Course
-  course_of_all route no_acts scene = goes_on scene
-  course_of_all route (act_then first more) scene = then_do (course_of route first scene) (course_of_all route more)
+  pub course_of_all : RouteView → CommandsView → Scene → Course
+  course_of_all route no_commands scene = goes_on scene
+  course_of_all route (command_then first more) scene = then_do (course_of route first scene) (course_of_all route more)
 
 -- a body that ends without a verdict rejects
 abbrev pub verdict_of : Course → Verdict

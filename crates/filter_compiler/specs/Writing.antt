@@ -9,12 +9,12 @@ use Rattle.filter_parser.specs.declared.tree.op.Op.{Op}
 use Rattle.filter_parser.specs.declared.tree.op.Op.TheVariants as o
 use Rattle.filter_parser.specs.Syntax.{ExprView, number, address, prefix, truth, name, attribute, defined, group, negation, binary, member}
 use Rattle.filter_parser.specs.Syntax.{suffixed}
-use Rattle.filter_parser.specs.SyntaxCommands.{CommandView, empty, block, choice, choice_else, assign, accept, reject, Acts, no_acts, act_then}
+use Rattle.filter_parser.specs.SyntaxCommands.{CommandView, empty, block, if_then, if_else, assign, accept, reject, CommandsView, no_commands, command_then}
 use Rattle.filter_parser.specs.SyntaxCommands.{TargetView, to_name, to_metric, to_net}
 use Rattle.filter_parser.specs.SyntaxText as syntax
-use Rattle.filter_types.specs.Kinds.{names_in, names_of_act, names_of_aim}
-use Rattle.filter_compiler.specs.Measures.{tree_measure, act_measure}
-use Rattle.filter_compiler.specs.Translation.{sets_of, act_sets, operator_code, member_code, suffix_code, attribute_code, metric_code}
+use Rattle.filter_types.specs.Kinds.{names_in, names_of_command, names_of_target}
+use Rattle.filter_compiler.specs.Measures.{tree_measure, command_measure}
+use Rattle.filter_compiler.specs.Translation.{sets_of, command_sets, operator_code, member_code, suffix_code, attribute_code, metric_code}
 use Rattle.filter_compiler.specs.Translation.{declarations_code}
 
 -- an operator and the operand at its right, of so many instructions
@@ -65,37 +65,37 @@ written_behind uses sets (x ∷ xs) =
     ++ written_behind (behind (names_in x.1) uses) (sets + length (sets_of x.1)) xs
 
 -- what sets a variable, of which the use stands before those of the value, and what sets the metric
-abbrev pub written_aim : List ℕ → TargetView → List Instr
-written_aim uses (to_name text) = instr.Store (next_number uses) ∷ []
-written_aim uses to_metric = metric_code
-written_aim uses to_net = []
+abbrev pub written_target : List ℕ → TargetView → List Instr
+written_target uses (to_name text) = instr.Store (next_number uses) ∷ []
+written_target uses to_metric = metric_code
+written_target uses to_net = []
 
 -- a command, and commands one after another
 abbrev mutual
-  pub written_act : List ℕ → ℕ → CommandView → List Instr
-  written_act uses sets empty = []
-  written_act uses sets (block body) = written_acts uses sets body
-  written_act uses sets (choice test chosen) =
+  pub written_command : List ℕ → ℕ → CommandView → List Instr
+  written_command uses sets empty = []
+  written_command uses sets (block body) = written_commands uses sets body
+  written_command uses sets (if_then test chosen) =
       written uses sets test
-      ++ instr.JumpIfNot (act_measure chosen).instructions ∷ written_act (behind (names_in test) uses) (sets + length (sets_of test)) chosen
-  written_act uses sets (choice_else test chosen other) =
+      ++ instr.JumpIfNot (command_measure chosen).instructions ∷ written_command (behind (names_in test) uses) (sets + length (sets_of test)) chosen
+  written_command uses sets (if_else test chosen other) =
       written uses sets test
-      ++ instr.JumpIfNot ((act_measure chosen).instructions + 1)
-      ∷ (written_act (behind (names_in test) uses) (sets + length (sets_of test)) chosen
-      ++ instr.Jump (act_measure other).instructions
-      ∷ written_act (behind (names_of_act chosen) (behind (names_in test) uses))
-      (sets + length (sets_of test) + length (act_sets chosen)) other)
-  written_act uses sets (assign aim value) =
-      written (behind (names_of_aim aim) uses) sets value ++ written_aim uses aim
-  written_act uses sets (accept has_text) = instr.Accept ∷ []
-  written_act uses sets (reject has_text) = instr.Reject ∷ []
+      ++ instr.JumpIfNot ((command_measure chosen).instructions + 1)
+      ∷ (written_command (behind (names_in test) uses) (sets + length (sets_of test)) chosen
+      ++ instr.Jump (command_measure other).instructions
+      ∷ written_command (behind (names_of_command chosen) (behind (names_in test) uses))
+      (sets + length (sets_of test) + length (command_sets chosen)) other)
+  written_command uses sets (assign target value) =
+      written (behind (names_of_target target) uses) sets value ++ written_target uses target
+  written_command uses sets (accept has_text) = instr.Accept ∷ []
+  written_command uses sets (reject has_text) = instr.Reject ∷ []
 
-  pub written_acts : List ℕ → ℕ → Acts → List Instr
-  written_acts uses sets no_acts = []
-  written_acts uses sets (act_then first more) =
-      written_act uses sets first ++ written_acts (behind (names_of_act first) uses) (sets + length (act_sets first)) more
+  pub written_commands : List ℕ → ℕ → CommandsView → List Instr
+  written_commands uses sets no_commands = []
+  written_commands uses sets (command_then first more) =
+      written_command uses sets first ++ written_commands (behind (names_of_command first) uses) (sets + length (command_sets first)) more
 
 -- a filter
 abbrev pub written_filter : List ℕ → syntax.FilterView → List Instr
 written_filter uses filter =
-    declarations_code 0 filter.decls ++ (written_acts uses 0 filter.body ++ instr.Reject ∷ [])
+    declarations_code 0 filter.decls ++ (written_commands uses 0 filter.body ++ instr.Reject ∷ [])

@@ -3,11 +3,11 @@
 ghost use Rattle.std.specs.Prelude.{◌≡◌, ◌≤◌, [], ◌∷◌, ◌++◌, OnOk, length, map};
 ghost use Rattle.filter_code.specs.CodeView.{HasMask};
 ghost use Rattle.filter_parser.specs.Syntax.{view};
-ghost use Rattle.filter_parser.specs.SyntaxCommands.{acts_of, view_command, view_decl, view_target};
-ghost use Rattle.filter_types.specs.Kinds.{names_in, names_of_act, names_of_acts, names_of_aim, variable_limit};
-ghost use Rattle.filter_compiler.specs.Measures.{act_measure};
-ghost use Rattle.filter_compiler.specs.Translation.{act_sets, acts_sets, declarations_code, first_value, metric_code, sets_of};
-ghost use Rattle.filter_compiler.specs.Writing.{behind, written, written_act, written_acts, written_aim};
+ghost use Rattle.filter_parser.specs.SyntaxCommands.{commands_of, view_command, view_decl, view_target};
+ghost use Rattle.filter_types.specs.Kinds.{names_in, names_of_command, names_of_commands, names_of_target, variable_limit};
+ghost use Rattle.filter_compiler.specs.Measures.{command_measure};
+ghost use Rattle.filter_compiler.specs.Translation.{command_sets, commands_sets, declarations_code, first_value, metric_code, sets_of};
+ghost use Rattle.filter_compiler.specs.Writing.{behind, written, written_command, written_commands, written_target};
 
 use crate::expressions::emit;
 use crate::measuring::measure_command;
@@ -58,11 +58,11 @@ fn emit_metric(out: &mut Output) -> Result<(), AllocError>
 /// Writes an assignment, of which the name stands before the value.
 fn emit_assignment(target: &Target, value: &Expr, out: &mut Output) -> Result<(), AllocError>
     ensures code { OnOk result (out.new.instrs ≡ out.old.instrs
-        ++ (written (behind (names_of_aim (view_target target.now)) out.old.uses.now) (length out.old.sets.items) (view value.now)
-        ++ written_aim out.old.uses.now (view_target target.now))) }
+        ++ (written (behind (names_of_target (view_target target.now)) out.old.uses.now) (length out.old.sets.items) (view value.now)
+        ++ written_target out.old.uses.now (view_target target.now))) }
     ensures sets { OnOk result (out.new.sets.items ≡ out.old.sets.items ++ sets_of (view value.now)) }
     ensures uses { OnOk result (out.new.uses.now
-        ≡ behind (names_of_aim (view_target target.now) ++ names_in (view value.now)) out.old.uses.now) }
+        ≡ behind (names_of_target (view_target target.now) ++ names_in (view value.now)) out.old.uses.now) }
 {
     match target {
         Target::Name(_) => {
@@ -80,7 +80,7 @@ fn emit_assignment(target: &Target, value: &Expr, out: &mut Output) -> Result<()
 
 /// The number of instructions of a command.
 fn size_of(command: &Command) -> u16
-    ensures value { result ≡ (act_measure (view_command command.now)).instructions }
+    ensures value { result ≡ (command_measure (view_command command.now)).instructions }
     ensures limit { result ≤ 1025 }
 {
     measure_command(command).instructions as u16
@@ -90,9 +90,9 @@ fn size_of(command: &Command) -> u16
 #[cycle(command)]
 pub(crate) fn emit_commands(commands: &[Command], out: &mut Output) -> Result<(), AllocError>
     ensures code { OnOk result (out.new.instrs ≡ out.old.instrs
-        ++ written_acts out.old.uses.now (length out.old.sets.items) (acts_of (map view_command commands.now))) }
-    ensures sets { OnOk result (out.new.sets.items ≡ out.old.sets.items ++ acts_sets (acts_of (map view_command commands.now))) }
-    ensures uses { OnOk result (out.new.uses.now ≡ behind (names_of_acts (acts_of (map view_command commands.now))) out.old.uses.now) }
+        ++ written_commands out.old.uses.now (length out.old.sets.items) (commands_of (map view_command commands.now))) }
+    ensures sets { OnOk result (out.new.sets.items ≡ out.old.sets.items ++ commands_sets (commands_of (map view_command commands.now))) }
+    ensures uses { OnOk result (out.new.uses.now ≡ behind (names_of_commands (commands_of (map view_command commands.now))) out.old.uses.now) }
 {
     for command in commands {
         emit_command(command, out)?;
@@ -104,9 +104,9 @@ pub(crate) fn emit_commands(commands: &[Command], out: &mut Output) -> Result<()
 #[cycle(command)]
 fn emit_command(command: &Command, out: &mut Output) -> Result<(), AllocError>
     ensures code { OnOk result (out.new.instrs ≡ out.old.instrs
-        ++ written_act out.old.uses.now (length out.old.sets.items) (view_command command.now)) }
-    ensures sets { OnOk result (out.new.sets.items ≡ out.old.sets.items ++ act_sets (view_command command.now)) }
-    ensures uses { OnOk result (out.new.uses.now ≡ behind (names_of_act (view_command command.now)) out.old.uses.now) }
+        ++ written_command out.old.uses.now (length out.old.sets.items) (view_command command.now)) }
+    ensures sets { OnOk result (out.new.sets.items ≡ out.old.sets.items ++ command_sets (view_command command.now)) }
+    ensures uses { OnOk result (out.new.uses.now ≡ behind (names_of_command (view_command command.now)) out.old.uses.now) }
 {
     match command {
         Command::Empty(_) => Ok(()),

@@ -7,7 +7,7 @@ ghost use Rattle.filter_code.specs.CodeView.{IsAllowed, CodeView};
 ghost use Rattle.filter_compiler.specs.Limits.{HasTooMany, IsTooLong, IsWithin};
 ghost use Rattle.filter_compiler.specs.Measures.{filter_measure};
 ghost use Rattle.filter_compiler.specs.Same.{MeansTheSame};
-ghost use Rattle.filter_compiler.specs.Translation.{acts_sets, code_of};
+ghost use Rattle.filter_compiler.specs.Translation.{commands_sets, code_of};
 ghost use Rattle.filter_compiler.specs.Writing.{written_filter};
 
 use crate::commands::{emit_commands, emit_declarations};
@@ -23,7 +23,7 @@ use std::alloc::{AllocError, Global};
 /// The instructions of a filter, and the patterns of its sets, where they are within the limits.
 fn write_filter(alloc: Global, typed: &Typed) -> Result<Output, AllocError>
     ensures code { IfOk result (λ out. out.instrs ≡ written_filter (numbers_of (view_filter typed.now)) (view_filter typed.now)) }
-    ensures sets { IfOk result (λ out. out.sets.items ≡ acts_sets (view_filter typed.now).body) }
+    ensures sets { IfOk result (λ out. out.sets.items ≡ commands_sets (view_filter typed.now).body) }
 {
     let filter = typed.filter();
     let mut out = Output::new(alloc, typed.numbers());

@@ -2,9 +2,9 @@
 
 ghost use Rattle.std.specs.Prelude.{◌≡◌, ◌+◌, ◌≤◌, [], ◌∷◌, ◌++◌, IfOk, OnOk, length, map};
 ghost use Rattle.filter_code.specs.CodeView.{HasMask};
-ghost use Rattle.filter_parser.specs.Syntax.{pattern_of, view, view_item};
+ghost use Rattle.filter_parser.specs.Syntax.{pattern_of, view, view_set_pattern};
 ghost use Rattle.filter_types.specs.Kinds.{names_in};
-ghost use Rattle.filter_types.specs.Turns.{names_behind};
+ghost use Rattle.filter_types.specs.Turns.{names_after};
 ghost use Rattle.filter_compiler.specs.Measures.{tree_measure};
 ghost use Rattle.filter_compiler.specs.Translation.{attribute_code, member_code, operator_code, sets_of, suffix_code};
 ghost use Rattle.filter_compiler.specs.Writing.{behind, right_part, set_number, sets_behind, written, written_behind};
@@ -97,7 +97,7 @@ fn emit_suffixes(suffixes: &[Suffix], out: &mut Output) -> Result<(), AllocError
 fn keep_set(set: &Set, out: &mut Output) -> Result<u8, AllocError>
     ensures number { IfOk result (λ number. number ≡ set_number (length out.old.sets.items)) }
     ensures sets { IfOk result (λ _. out.new.sets.items
-        ≡ out.old.sets.items ++ map pattern_of (map view_item set.now.patterns.items) ∷ []) }
+        ≡ out.old.sets.items ++ map pattern_of (map view_set_pattern set.now.patterns.items) ∷ []) }
     ensures code { out.new.instrs ≡ out.old.instrs }
     ensures uses { out.new.uses.now ≡ out.old.uses.now }
 {
@@ -110,7 +110,7 @@ fn keep_set(set: &Set, out: &mut Output) -> Result<u8, AllocError>
 /// Writes the question whether an operand matches a set.
 fn emit_member(op: Membership, set: &Set, out: &mut Output) -> Result<(), AllocError>
     ensures code { OnOk result (out.new.instrs ≡ out.old.instrs ++ member_code op (set_number (length out.old.sets.items))) }
-    ensures sets { OnOk result (out.new.sets.items ≡ out.old.sets.items ++ map pattern_of (map view_item set.now.patterns.items) ∷ []) }
+    ensures sets { OnOk result (out.new.sets.items ≡ out.old.sets.items ++ map pattern_of (map view_set_pattern set.now.patterns.items) ∷ []) }
     ensures uses { OnOk result (out.new.uses.now ≡ out.old.uses.now) }
 {
     let number = keep_set(set, out)?;
@@ -151,11 +151,11 @@ fn emit_right(op: Op, right: &Expr, out: &mut Output) -> Result<(), AllocError>
 
 /// Writes operators, each with the operand at its right.
 #[cycle(expressions)]
-fn emit_run(more: &[(Op, Expr)], out: &mut Output) -> Result<(), AllocError>
+fn emit_chain(more: &[(Op, Expr)], out: &mut Output) -> Result<(), AllocError>
     ensures code { OnOk result (out.new.instrs ≡ out.old.instrs
         ++ written_behind out.old.uses.now (length out.old.sets.items) (map (λ p. (p.0, view p.1)) more.now)) }
     ensures sets { OnOk result (out.new.sets.items ≡ out.old.sets.items ++ sets_behind (map (λ p. (p.0, view p.1)) more.now)) }
-    ensures uses { OnOk result (out.new.uses.now ≡ behind (names_behind (map (λ p. (p.0, view p.1)) more.now)) out.old.uses.now) }
+    ensures uses { OnOk result (out.new.uses.now ≡ behind (names_after (map (λ p. (p.0, view p.1)) more.now)) out.old.uses.now) }
 {
     for (op, right) in more {
         emit_right(*op, right, out)?;
@@ -187,9 +187,9 @@ pub(crate) fn emit(expr: &Expr, out: &mut Output) -> Result<(), AllocError>
             emit(inner, out)?;
             put(out, Instr::Not)
         }
-        Expr::Run(first, more) => {
+        Expr::Chain(first, more) => {
             emit(first, out)?;
-            emit_run(more, out)
+            emit_chain(more, out)
         }
         Expr::Member(op, left, set) => {
             emit(left, out)?;

@@ -2,11 +2,11 @@
 
 ghost use Rattle.std.specs.Prelude.{◌≡◌, ◌≤◌, length, map};
 ghost use Rattle.filter_parser.specs.Syntax.{view};
-ghost use Rattle.filter_parser.specs.SyntaxCommands.{acts_of, view_command, view_target};
+ghost use Rattle.filter_parser.specs.SyntaxCommands.{commands_of, view_command, view_target};
 ghost use Rattle.filter_parser.specs.SyntaxText.{view_filter};
 ghost use Rattle.filter_types.specs.Kinds.{variable_limit};
-ghost use Rattle.filter_compiler.specs.Measures.{act_measure, acts_measure, aim_count, filter_measure};
-ghost use Rattle.filter_compiler.specs.Measures.{member_count, own_count, run_measure, suffixes_measure, tree_measure};
+ghost use Rattle.filter_compiler.specs.Measures.{command_measure, commands_measure, target_count, filter_measure};
+ghost use Rattle.filter_compiler.specs.Measures.{member_count, own_count, chain_measure, suffixes_measure, tree_measure};
 
 use crate::measure::Measure;
 use filter_parser::{Command, Expr, Filter, Membership, Op, Suffix, Target};
@@ -35,7 +35,7 @@ fn member_count(op: Membership) -> usize
 
 /// The instructions that set something.
 fn target_count(target: &Target) -> usize
-    ensures { result ≡ aim_count (view_target target.now) }
+    ensures { result ≡ target_count (view_target target.now) }
 {
     match target {
         Target::Name(_) => 1,
@@ -57,8 +57,8 @@ fn with_suffixes(operand: Measure, suffixes: &[Suffix]) -> Measure
 
 /// A first operand with the operators behind it, each with the operand at its right.
 #[cycle(measures)]
-fn measure_run(first: Measure, more: &[(Op, Expr)]) -> Measure
-    ensures { result ≡ run_measure first (map (λ p. (p.0, view p.1)) more.now) }
+fn measure_chain(first: Measure, more: &[(Op, Expr)]) -> Measure
+    ensures { result ≡ chain_measure first (map (λ p. (p.0, view p.1)) more.now) }
 {
     let mut total = first;
     for (op, right) in more {
@@ -82,7 +82,7 @@ pub(crate) fn measure(expr: &Expr) -> Measure
         | Expr::Defined(_, _) => Measure::of(1),
         Expr::Group(_, inner) => measure(inner),
         Expr::Not(_, inner) => measure(inner).plus(Measure::of(1)),
-        Expr::Run(first, more) => measure_run(measure(first), more),
+        Expr::Chain(first, more) => measure_chain(measure(first), more),
         Expr::Member(op, left, set) => {
             let part = measure(left).with_set(set.patterns.len());
             part.plus(Measure::of(member_count(*op)))
@@ -94,7 +94,7 @@ pub(crate) fn measure(expr: &Expr) -> Measure
 /// A part with the code of commands behind it.
 #[cycle(command)]
 fn measure_commands(before: Measure, commands: &[Command]) -> Measure
-    ensures { result ≡ acts_measure before (acts_of (map view_command commands.now)) }
+    ensures { result ≡ commands_measure before (commands_of (map view_command commands.now)) }
 {
     let mut total = before;
     for command in commands {
@@ -106,7 +106,7 @@ fn measure_commands(before: Measure, commands: &[Command]) -> Measure
 /// How large the code of a command is.
 #[cycle(command)]
 pub(crate) fn measure_command(command: &Command) -> Measure
-    ensures { result ≡ act_measure (view_command command.now) }
+    ensures { result ≡ command_measure (view_command command.now) }
 {
     match command {
         Command::Empty(_) => Measure::of(0),

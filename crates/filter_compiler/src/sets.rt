@@ -1,7 +1,7 @@
 //! The sets of patterns of the code.
 
 ghost use Rattle.std.specs.Prelude.{◌≡◌, ◌≤◌, All, IfOk, length, map};
-ghost use Rattle.filter_parser.specs.Syntax.{pattern_of, view_item};
+ghost use Rattle.filter_parser.specs.Syntax.{pattern_of, view_set_pattern};
 ghost use Rattle.prefix_patterns.specs.Matching.{pattern_limit};
 
 use filter_parser::{Set, SetPattern};
@@ -26,7 +26,7 @@ impl Model for PatternList {
 
 /// The patterns that those of a filter mean.
 fn patterns_of(alloc: Global, set: &[SetPattern]) -> Result<Vec<Pattern>, AllocError>
-    ensures { IfOk result (λ patterns. patterns.items ≡ map pattern_of (map view_item set.now)) }
+    ensures { IfOk result (λ patterns. patterns.items ≡ map pattern_of (map view_set_pattern set.now)) }
 {
     let mut patterns = Vec::new(alloc);
     for item in set {
@@ -37,7 +37,7 @@ fn patterns_of(alloc: Global, set: &[SetPattern]) -> Result<Vec<Pattern>, AllocE
 
 /// The patterns that a set of a filter means.
 pub(crate) fn list_of(alloc: Global, set: &Set) -> Result<PatternList, AllocError>
-    ensures { IfOk result (λ list. list ≡ map pattern_of (map view_item set.now.patterns.items)) }
+    ensures { IfOk result (λ list. list ≡ map pattern_of (map view_set_pattern set.now.patterns.items)) }
 {
     let patterns = patterns_of(alloc, &set.patterns)?;
     Ok(PatternList { patterns })

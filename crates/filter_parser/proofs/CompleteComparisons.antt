@@ -3,26 +3,27 @@ use Rattle.std.proofs.Common.{◌≡◌, refl, ap, ◌∙◌, ℕ, ◌≤◌, Li
 use Rattle.std.proofs.Common.{arith}
 use Rattle.std.proofs.Math.Nat.{eq-or-lt_of_le}
 use Rattle.filter_tokens.specs.Lexemes.{Lexeme}
-use Rattle.filter_tokens.specs.declared.mark.Mark.TheVariants as m
+use Rattle.filter_tokens.specs.declared.symbol.Symbol.TheVariants as symbols
 use Rattle.filter_parser.specs.declared.expr_level.Level.TheVariants as l
 use Rattle.filter_parser.specs.declared.tree.expr.Attribute.TheVariants as attributes
 use Rattle.filter_parser.specs.declared.tree.op.Membership.{Membership}
 use Rattle.filter_parser.specs.declared.tree.op.Membership.TheVariants as membership
 use Rattle.filter_parser.specs.declared.tree.op.Op.{Op}
 use Rattle.filter_parser.specs.declared.tree.op.Op.TheVariants as o
-use Rattle.filter_parser.specs.Reading.{Reads, op_first, set_of, sum_with, membership_of, bracket_of, member_of, right_with}
+use Rattle.filter_parser.specs.Reading.{Reader, op_first, set_of, sum_with, membership_of, set_opening, member_of, right_operand_with}
 use Rattle.filter_parser.specs.Reading.{comparison_with}
-use Rattle.filter_parser.specs.Steps.{◌>>=◌, with_some, after_mark}
-use Rattle.filter_parser.specs.Syntax.{SetPatternView, ExprView, Fits, FitsSet, membership_sign, rank, rank_of, sign, spelling, spelling_item}
-use Rattle.filter_parser.specs.Syntax.{spelling_items, spelling_set, spelling_suffix}
+use Rattle.prefix_patterns.specs.Reading.{◌>>=◌}
+use Rattle.filter_parser.specs.Steps.{with_some, after_symbol}
+use Rattle.filter_parser.specs.Syntax.{SetPatternView, ExprView, Fits, FitsSet, membership_symbol, rank, rank_of, op_symbol, spelling, spelling_set_pattern}
+use Rattle.filter_parser.specs.Syntax.{spelling_set_patterns, spelling_set, spelling_suffix}
 use Rattle.filter_parser.proofs.CompleteWords.{set_back}
 use Rattle.filter_parser.proofs.Operators.{op_read}
-use Rattle.filter_parser.proofs.Stops.{Stops, binds_sign, op_stops, stops_less}
+use Rattle.filter_parser.proofs.Stops.{Stops, binds_op_symbol, op_stops, stops_less}
 use Rattle.filter_parser.proofs.CompleteOperands.{IsComplete}
-use Rattle.filter_parser.proofs.CompleteRuns.{sum_complete}
+use Rattle.filter_parser.proofs.CompleteChains.{sum_complete}
 
 -- an operand begins with no `[`
-no_bracket : (t : ExprView) (rest : List Lexeme) → after_mark m.LeftBracket (spelling t ++ rest) ≡ None
+no_bracket : (t : ExprView) (rest : List Lexeme) → after_symbol symbols.LeftBracket (spelling t ++ rest) ≡ None
 no_bracket (ExprView.number n) rest = refl
 no_bracket (ExprView.address a) rest = refl
 no_bracket (ExprView.prefix p) rest = refl
@@ -35,28 +36,28 @@ no_bracket (ExprView.defined a) rest = refl
 no_bracket (ExprView.group inner) rest = refl
 no_bracket (ExprView.negation inner) rest = refl
 no_bracket (ExprView.binary op a b) rest =
-    ap (after_mark m.LeftBracket) (append_assoc (spelling a) (Lexeme.mark (sign op) ∷ spelling b) rest)
-    ∙ no_bracket a (Lexeme.mark (sign op) ∷ (spelling b ++ rest))
+    ap (after_symbol symbols.LeftBracket) (append_assoc (spelling a) (Lexeme.symbol (op_symbol op) ∷ spelling b) rest)
+    ∙ no_bracket a (Lexeme.symbol (op_symbol op) ∷ (spelling b ++ rest))
 no_bracket (ExprView.member op a xs) rest =
-    ap (after_mark m.LeftBracket) (append_assoc (spelling a) (Lexeme.mark (membership_sign op) ∷ spelling_set xs) rest)
-    ∙ no_bracket a (Lexeme.mark (membership_sign op) ∷ (spelling_set xs ++ rest))
+    ap (after_symbol symbols.LeftBracket) (append_assoc (spelling a) (Lexeme.symbol (membership_symbol op) ∷ spelling_set xs) rest)
+    ∙ no_bracket a (Lexeme.symbol (membership_symbol op) ∷ (spelling_set xs ++ rest))
 no_bracket (ExprView.suffixed inner x) rest =
-    ap (after_mark m.LeftBracket) (append_assoc (spelling inner) (spelling_suffix x) rest) ∙ no_bracket inner (spelling_suffix x ++ rest)
+    ap (after_symbol symbols.LeftBracket) (append_assoc (spelling inner) (spelling_suffix x) rest) ∙ no_bracket inner (spelling_suffix x ++ rest)
 
-abbrev behind_bracket : Membership → List Lexeme → Option (Membership × List Lexeme)
-behind_bracket k rest = Some (k, rest)
+abbrev after_bracket : Membership → List Lexeme → Option (Membership × List Lexeme)
+after_bracket k rest = Some (k, rest)
 
-bracket_none : (op : Op) (t : ExprView) (rest : List Lexeme) → bracket_of op (spelling t ++ rest) ≡ None
+bracket_none : (op : Op) (t : ExprView) (rest : List Lexeme) → set_opening op (spelling t ++ rest) ≡ None
 bracket_none op t rest = go (membership_of op)
   where
-    go : (r : Option Membership) → (r >>= λ k. after_mark m.LeftBracket (spelling t ++ rest) >>= behind_bracket k) ≡ None
+    go : (r : Option Membership) → (r >>= λ k. after_symbol symbols.LeftBracket (spelling t ++ rest) >>= after_bracket k) ≡ None
     go None = refl
-    go (Some k) = ap (λ r. r >>= behind_bracket k) (no_bracket t rest)
+    go (Some k) = ap (λ r. r >>= after_bracket k) (no_bracket t rest)
 
 -- the right operand of a comparison
-right_back : (depth : ℕ) (sum : Reads ExprView) → IsComplete depth 3 sum → (op : Op) (a b : ExprView) (rest : List Lexeme) → Fits b depth →
+right_back : (depth : ℕ) (sum : Reader ExprView) → IsComplete depth 3 sum → (op : Op) (a b : ExprView) (rest : List Lexeme) → Fits b depth →
     rank b ≤ 3 →
-    Stops 3 rest → right_with sum a op (spelling b ++ rest) ≡ Some (ExprView.binary op a b, rest)
+    Stops 3 rest → right_operand_with sum a op (spelling b ++ rest) ≡ Some (ExprView.binary op a b, rest)
 right_back depth sum s op a b rest f low stops =
     ap (λ r. with_some r (sum (spelling b ++ rest) >>= λ right. Some (ExprView.binary op a right.0, right.1)) (λ k. member_of a k.0 k.1))
     (bracket_none op b rest)
@@ -64,96 +65,96 @@ right_back depth sum s op a b rest f low stops =
 
 -- the set of a comparison
 set_found : (xs : List SetPatternView) (rest : List Lexeme) → FitsSet xs →
-    (ws : List Lexeme) × (spelling_set xs ++ rest ≡ Lexeme.mark m.LeftBracket ∷ ws) × (set_of ws ≡ Some (xs, rest))
+    (ws : List Lexeme) × (spelling_set xs ++ rest ≡ Lexeme.symbol symbols.LeftBracket ∷ ws) × (set_of ws ≡ Some (xs, rest))
 set_found [] rest f = absurd f
-set_found (x ∷ more) rest f = ((spelling_item x ++ spelling_items more) ++ rest, refl, set_back x more rest f.0 f.1)
+set_found (x ∷ more) rest f = ((spelling_set_pattern x ++ spelling_set_patterns more) ++ rest, refl, set_back x more rest f.0 f.1)
 
 op_of_member : Membership → Op
 op_of_member membership.In = o.Match
 op_of_member membership.NotIn = o.NotMatch
 
 member_first : (k : Membership) (ws : List Lexeme) →
-    op_first l.Comparison (Lexeme.mark (membership_sign k) ∷ ws) ≡ Some (op_of_member k, ws)
+    op_first l.Comparison (Lexeme.symbol (membership_symbol k) ∷ ws) ≡ Some (op_of_member k, ws)
 unfolding op_of_member
 member_first membership.In ws = refl
 member_first membership.NotIn ws = refl
 
-member_bracket : (k : Membership) (ws : List Lexeme) → bracket_of (op_of_member k) (Lexeme.mark m.LeftBracket ∷ ws) ≡ Some (k, ws)
+member_bracket : (k : Membership) (ws : List Lexeme) → set_opening (op_of_member k) (Lexeme.symbol symbols.LeftBracket ∷ ws) ≡ Some (k, ws)
 unfolding op_of_member
 member_bracket membership.In ws = refl
 member_bracket membership.NotIn ws = refl
 
-member_back : (sum : Reads ExprView) (k : Membership) (a : ExprView) (xs : List SetPatternView) (rest : List Lexeme) → FitsSet xs →
-    right_with sum a (op_of_member k) (spelling_set xs ++ rest) ≡ Some (ExprView.member k a xs, rest)
+member_back : (sum : Reader ExprView) (k : Membership) (a : ExprView) (xs : List SetPatternView) (rest : List Lexeme) → FitsSet xs →
+    right_operand_with sum a (op_of_member k) (spelling_set xs ++ rest) ≡ Some (ExprView.member k a xs, rest)
 member_back sum k a xs rest f =
     let s = set_found xs rest f in
-    ap (right_with sum a (op_of_member k)) s.1
-    ∙ (ap (λ r. with_some r (sum (Lexeme.mark m.LeftBracket ∷ s.0) >>= λ right. Some (ExprView.binary (op_of_member k) a right.0, right.1))
+    ap (right_operand_with sum a (op_of_member k)) s.1
+    ∙ (ap (λ r. with_some r (sum (Lexeme.symbol symbols.LeftBracket ∷ s.0) >>= λ right. Some (ExprView.binary (op_of_member k) a right.0, right.1))
     (λ k. member_of a k.0 k.1))
     (member_bracket k s.0)
     ∙ ap (λ r. r >>= λ xs. Some (ExprView.member k a xs.0, xs.1)) s.2)
 
--- a comparison so far: the sum at its left, and what is behind it
-abbrev behind_sum : Reads ExprView → ExprView × List Lexeme → Option (ExprView × List Lexeme)
-behind_sum neg left = with_some (op_first l.Comparison left.1) (Some left) (λ op. right_with (sum_with neg) left.0 op.0 op.1)
+-- a comparison so far: the sum at its left, and what follows it
+abbrev after_sum : Reader ExprView → ExprView × List Lexeme → Option (ExprView × List Lexeme)
+after_sum unary left = with_some (op_first l.Comparison left.1) (Some left) (λ op. right_operand_with (sum_with unary) left.0 op.0 op.1)
 
-comparison_plain : (depth : ℕ) (neg : Reads ExprView) → IsComplete depth 1 neg → (t : ExprView) (rest : List Lexeme) → Fits t depth →
+comparison_plain : (depth : ℕ) (unary : Reader ExprView) → IsComplete depth 1 unary → (t : ExprView) (rest : List Lexeme) → Fits t depth →
     rank t ≤ 3 → Stops 4 rest →
-    comparison_with neg (spelling t ++ rest) ≡ Some (t, rest)
-comparison_plain depth neg s t rest f low stops =
-    ap (λ r. r >>= behind_sum neg) ((sum_complete depth neg s).complete t rest f low (stops_less 3 4 rest (omega arith) stops))
-    ∙ ap (λ r. with_some r (Some (t, rest)) (λ op. right_with (sum_with neg) t op.0 op.1)) (op_stops l.Comparison rest stops)
+    comparison_with unary (spelling t ++ rest) ≡ Some (t, rest)
+comparison_plain depth unary s t rest f low stops =
+    ap (λ r. r >>= after_sum unary) ((sum_complete depth unary s).complete t rest f low (stops_less 3 4 rest (omega arith) stops))
+    ∙ ap (λ r. with_some r (Some (t, rest)) (λ op. right_operand_with (sum_with unary) t op.0 op.1)) (op_stops l.Comparison rest stops)
 
-comparison_binary : (depth : ℕ) (neg : Reads ExprView) → IsComplete depth 1 neg → (op : Op) (a b : ExprView) (rest : List Lexeme) →
+comparison_binary : (depth : ℕ) (unary : Reader ExprView) → IsComplete depth 1 unary → (op : Op) (a b : ExprView) (rest : List Lexeme) →
     Fits (ExprView.binary op a b) depth →
-    rank_of op ≡ 4 → Stops 4 rest → comparison_with neg (spelling (ExprView.binary op a b) ++ rest) ≡ Some (ExprView.binary op a b, rest)
-comparison_binary depth neg s op a b rest f e stops =
+    rank_of op ≡ 4 → Stops 4 rest → comparison_with unary (spelling (ExprView.binary op a b) ++ rest) ≡ Some (ExprView.binary op a b, rest)
+comparison_binary depth unary s op a b rest f e stops =
     let r = op_read l.Comparison op e in
     let ws : List Lexeme = spelling b ++ rest in
-    let sum = sum_complete depth neg s in
-    let h : Stops 3 (Lexeme.mark (sign op) ∷ ws) = omega (arith, binds_sign op) in
-    let first : op_first l.Comparison (Lexeme.mark (sign op) ∷ ws) ≡ Some (op, ws) = ap (λ r. r >>= λ op. Some (op, ws)) r.reads in
-    ap (comparison_with neg) (append_assoc (spelling a) (Lexeme.mark (sign op) ∷ spelling b) rest)
-    ∙ (ap (λ r. r >>= behind_sum neg) (sum.complete a (Lexeme.mark (sign op) ∷ ws) f.1 (r.left (rank a) (rank b) f.0) h)
-    ∙ (ap (λ r. with_some r (Some (a, Lexeme.mark (sign op) ∷ ws)) (λ op. right_with (sum_with neg) a op.0 op.1)) first
-    ∙ right_back depth (sum_with neg) sum op a b rest f.2 (r.right (rank a) (rank b) f.0) (stops_less 3 4 rest (omega arith) stops)))
+    let sum = sum_complete depth unary s in
+    let h : Stops 3 (Lexeme.symbol (op_symbol op) ∷ ws) = omega (arith, binds_op_symbol op) in
+    let first : op_first l.Comparison (Lexeme.symbol (op_symbol op) ∷ ws) ≡ Some (op, ws) = ap (λ r. r >>= λ op. Some (op, ws)) r.reads in
+    ap (comparison_with unary) (append_assoc (spelling a) (Lexeme.symbol (op_symbol op) ∷ spelling b) rest)
+    ∙ (ap (λ r. r >>= after_sum unary) (sum.complete a (Lexeme.symbol (op_symbol op) ∷ ws) f.1 (r.left (rank a) (rank b) f.0) h)
+    ∙ (ap (λ r. with_some r (Some (a, Lexeme.symbol (op_symbol op) ∷ ws)) (λ op. right_operand_with (sum_with unary) a op.0 op.1)) first
+    ∙ right_back depth (sum_with unary) sum op a b rest f.2 (r.right (rank a) (rank b) f.0) (stops_less 3 4 rest (omega arith) stops)))
 
-comparison_member : (depth : ℕ) (neg : Reads ExprView) → IsComplete depth 1 neg →
+comparison_member : (depth : ℕ) (unary : Reader ExprView) → IsComplete depth 1 unary →
     (k : Membership) (a : ExprView) (xs : List SetPatternView) (rest : List Lexeme) →
-    Fits (ExprView.member k a xs) depth → comparison_with neg (spelling (ExprView.member k a xs) ++ rest) ≡ Some (ExprView.member k a xs, rest)
-comparison_member depth neg s k a xs rest f =
+    Fits (ExprView.member k a xs) depth → comparison_with unary (spelling (ExprView.member k a xs) ++ rest) ≡ Some (ExprView.member k a xs, rest)
+comparison_member depth unary s k a xs rest f =
     let ws : List Lexeme = spelling_set xs ++ rest in
-    ap (comparison_with neg) (append_assoc (spelling a) (Lexeme.mark (membership_sign k) ∷ spelling_set xs) rest)
-    ∙ (ap (λ r. r >>= behind_sum neg) ((sum_complete depth neg s).complete a (Lexeme.mark (membership_sign k) ∷ ws) f.1 f.0
+    ap (comparison_with unary) (append_assoc (spelling a) (Lexeme.symbol (membership_symbol k) ∷ spelling_set xs) rest)
+    ∙ (ap (λ r. r >>= after_sum unary) ((sum_complete depth unary s).complete a (Lexeme.symbol (membership_symbol k) ∷ ws) f.1 f.0
     (member_stops k ws))
-    ∙ (ap (λ r. with_some r (Some (a, Lexeme.mark (membership_sign k) ∷ ws)) (λ op. right_with (sum_with neg) a op.0 op.1))
+    ∙ (ap (λ r. with_some r (Some (a, Lexeme.symbol (membership_symbol k) ∷ ws)) (λ op. right_operand_with (sum_with unary) a op.0 op.1))
     (member_first k ws)
-    ∙ member_back (sum_with neg) k a xs rest f.2))
+    ∙ member_back (sum_with unary) k a xs rest f.2))
   where
-    member_stops : (k : Membership) (ws : List Lexeme) → Stops 3 (Lexeme.mark (membership_sign k) ∷ ws)
+    member_stops : (k : Membership) (ws : List Lexeme) → Stops 3 (Lexeme.symbol (membership_symbol k) ∷ ws)
     member_stops membership.In ws = omega arith
     member_stops membership.NotIn ws = omega arith
 
-pub comparison_at : (depth : ℕ) (neg : Reads ExprView) → IsComplete depth 1 neg → (t : ExprView) (rest : List Lexeme) → Fits t depth →
+pub comparison_at : (depth : ℕ) (unary : Reader ExprView) → IsComplete depth 1 unary → (t : ExprView) (rest : List Lexeme) → Fits t depth →
     rank t ≤ 4 → Stops 4 rest →
-    comparison_with neg (spelling t ++ rest) ≡ Some (t, rest)
-comparison_at depth neg s (ExprView.binary op a b) rest f low stops = elim (eq-or-lt_of_le low) [
-  | inl e ↦ comparison_binary depth neg s op a b rest f e stops
-  | inr h ↦ comparison_plain depth neg s (ExprView.binary op a b) rest f (omega arith) stops
+    comparison_with unary (spelling t ++ rest) ≡ Some (t, rest)
+comparison_at depth unary s (ExprView.binary op a b) rest f low stops = elim (eq-or-lt_of_le low) [
+  | inl e ↦ comparison_binary depth unary s op a b rest f e stops
+  | inr h ↦ comparison_plain depth unary s (ExprView.binary op a b) rest f (omega arith) stops
 ]
-comparison_at depth neg s (ExprView.member k a xs) rest f low stops = comparison_member depth neg s k a xs rest f
-comparison_at depth neg s (ExprView.number n) rest f low stops = comparison_plain depth neg s (ExprView.number n) rest f (omega arith) stops
-comparison_at depth neg s (ExprView.address a) rest f low stops = comparison_plain depth neg s (ExprView.address a) rest f (omega arith) stops
-comparison_at depth neg s (ExprView.prefix p) rest f low stops = comparison_plain depth neg s (ExprView.prefix p) rest f (omega arith) stops
-comparison_at depth neg s (ExprView.truth b) rest f low stops = comparison_plain depth neg s (ExprView.truth b) rest f (omega arith) stops
-comparison_at depth neg s (ExprView.name text) rest f low stops = comparison_plain depth neg s (ExprView.name text) rest f (omega arith) stops
-comparison_at depth neg s (ExprView.attribute a) rest f low stops = comparison_plain depth neg s (ExprView.attribute a) rest f (omega arith) stops
-comparison_at depth neg s (ExprView.defined a) rest f low stops = comparison_plain depth neg s (ExprView.defined a) rest f (omega arith) stops
-comparison_at depth neg s (ExprView.group inner) rest f low stops = comparison_plain depth neg s (ExprView.group inner) rest f (omega arith) stops
-comparison_at depth neg s (ExprView.negation inner) rest f low stops = comparison_plain depth neg s (ExprView.negation inner) rest f
+comparison_at depth unary s (ExprView.member k a xs) rest f low stops = comparison_member depth unary s k a xs rest f
+comparison_at depth unary s (ExprView.number n) rest f low stops = comparison_plain depth unary s (ExprView.number n) rest f (omega arith) stops
+comparison_at depth unary s (ExprView.address a) rest f low stops = comparison_plain depth unary s (ExprView.address a) rest f (omega arith) stops
+comparison_at depth unary s (ExprView.prefix p) rest f low stops = comparison_plain depth unary s (ExprView.prefix p) rest f (omega arith) stops
+comparison_at depth unary s (ExprView.truth b) rest f low stops = comparison_plain depth unary s (ExprView.truth b) rest f (omega arith) stops
+comparison_at depth unary s (ExprView.name text) rest f low stops = comparison_plain depth unary s (ExprView.name text) rest f (omega arith) stops
+comparison_at depth unary s (ExprView.attribute a) rest f low stops = comparison_plain depth unary s (ExprView.attribute a) rest f (omega arith) stops
+comparison_at depth unary s (ExprView.defined a) rest f low stops = comparison_plain depth unary s (ExprView.defined a) rest f (omega arith) stops
+comparison_at depth unary s (ExprView.group inner) rest f low stops = comparison_plain depth unary s (ExprView.group inner) rest f (omega arith) stops
+comparison_at depth unary s (ExprView.negation inner) rest f low stops = comparison_plain depth unary s (ExprView.negation inner) rest f
     (omega arith) stops
-comparison_at depth neg s (ExprView.suffixed inner x) rest f low stops = comparison_plain depth neg s (ExprView.suffixed inner x) rest f
+comparison_at depth unary s (ExprView.suffixed inner x) rest f low stops = comparison_plain depth unary s (ExprView.suffixed inner x) rest f
     (omega arith) stops
 
-pub comparison_complete : (depth : ℕ) (neg : Reads ExprView) → IsComplete depth 1 neg → IsComplete depth 4 (comparison_with neg)
-comparison_complete depth neg s = record { complete = comparison_at depth neg s }
+pub comparison_complete : (depth : ℕ) (unary : Reader ExprView) → IsComplete depth 1 unary → IsComplete depth 4 (comparison_with unary)
+comparison_complete depth unary s = record { complete = comparison_at depth unary s }

@@ -3,55 +3,55 @@ use Rattle.std.proofs.Common.{◌≡◌, refl, ap, subst, ◌∙◌, sym, ℕ, z
 use Rattle.std.proofs.Common.{None, inl, inr, append_assoc, arith}
 use Rattle.std.proofs.lemmas.List.{append-nil}
 use Rattle.filter_tokens.specs.Lexemes.{Lexeme}
-use Rattle.filter_tokens.specs.declared.mark.Mark.{Mark}
-use Rattle.filter_tokens.specs.declared.mark.Mark.TheVariants as m
+use Rattle.filter_tokens.specs.declared.symbol.Symbol.{Symbol}
+use Rattle.filter_tokens.specs.declared.symbol.Symbol.TheVariants as symbols
 use Rattle.filter_parser.specs.declared.tree.decl.Kind.{Kind}
 use Rattle.filter_parser.specs.declared.tree.decl.Kind.TheVariants as kind
-use Rattle.filter_parser.specs.Acting.{Said, act_at, acts_with, decl_turn, decl_with, decls_after, filter_of, kind_first}
-use Rattle.filter_parser.specs.Acting.{kind_of, name_first, whole}
+use Rattle.filter_parser.specs.ReadingCommands.{PartsView, command_at, commands_with, decl_turn, decl_with, decls_after, filter_of, kind_first}
+use Rattle.filter_parser.specs.ReadingCommands.{kind_of, name_first, nothing_after}
 use Rattle.filter_parser.specs.Reading.{turns, expr_at}
-use Rattle.filter_parser.specs.Steps.{after_mark}
+use Rattle.filter_parser.specs.Steps.{after_symbol}
 use Rattle.filter_parser.specs.Syntax.{nesting_limit}
-use Rattle.filter_parser.specs.SyntaxCommands.{TargetView, CommandView, Acts, DeclView, FitsActs, kind_mark, spelling_act, spelling_acts}
+use Rattle.filter_parser.specs.SyntaxCommands.{TargetView, CommandView, CommandsView, DeclView, FitsCommands, kind_symbol, spelling_command, spelling_commands}
 use Rattle.filter_parser.specs.SyntaxCommands.{spelling_decl, spelling_decls}
 use Rattle.filter_parser.specs.SyntaxText.{spelling_filter}
-use Rattle.filter_parser.proofs.ActsComplete.{AreComplete, act_complete, acts_with_complete}
-use Rattle.filter_parser.proofs.ActsSound.{AreSound, act_sound, acts_with_sound}
+use Rattle.filter_parser.proofs.CommandsComplete.{AreComplete, command_complete, commands_with_complete}
+use Rattle.filter_parser.proofs.CommandsSound.{AreSound, command_sound, commands_with_sound}
 use Rattle.filter_parser.proofs.Complete.{expr_complete}
 use Rattle.filter_parser.proofs.CompleteOperands.{rank_most}
 use Rattle.filter_parser.proofs.Sound.{expr_sound}
-use Rattle.filter_parser.proofs.Steps.{bind_some, mark_found, some_is, with_some_cases}
+use Rattle.filter_parser.proofs.Steps.{bind_some, symbol_found, some_is, with_some_cases}
 
 exprs_sound : (depth : ℕ) → AreSound depth (expr_at depth)
 exprs_sound depth = record { sound = λ ws x e. let found = (expr_sound depth).sound ws x e in (found.spelled, found.fits) }
 
 exprs_complete : (depth : ℕ) → AreComplete depth (expr_at depth)
 exprs_complete depth = record {
-  before_end = λ t rest fits. (expr_complete depth).complete t (Lexeme.mark m.Semicolon ∷ rest) fits (rank_most t) (omega arith);
-  before_then = λ t rest fits. (expr_complete depth).complete t (Lexeme.mark m.Then ∷ rest) fits (rank_most t) (omega arith);
+  before_end = λ t rest fits. (expr_complete depth).complete t (Lexeme.symbol symbols.Semicolon ∷ rest) fits (rank_most t) (omega arith);
+  before_then = λ t rest fits. (expr_complete depth).complete t (Lexeme.symbol symbols.Then ∷ rest) fits (rank_most t) (omega arith);
 }
 
 -- ---- declarations
 
-kind_is : (k : Mark) (found : Kind) → kind_of k ≡ Some found → k ≡ kind_mark found
-kind_is m.Int found e = ap kind_mark (some_is e)
-kind_is m.Bool found e = ap kind_mark (some_is e)
-kind_is m.Ip found e = ap kind_mark (some_is e)
-kind_is m.Prefix found e = ap kind_mark (some_is e)
+kind_is : (k : Symbol) (found : Kind) → kind_of k ≡ Some found → k ≡ kind_symbol found
+kind_is symbols.Int found e = ap kind_symbol (some_is e)
+kind_is symbols.Bool found e = ap kind_symbol (some_is e)
+kind_is symbols.Ip found e = ap kind_symbol (some_is e)
+kind_is symbols.Prefix found e = ap kind_symbol (some_is e)
 kind_is _ found e = absurd (cc)
 
-kind_again : (k : Kind) → kind_of (kind_mark k) ≡ Some k
+kind_again : (k : Kind) → kind_of (kind_symbol k) ≡ Some k
 kind_again kind.Int = refl
 kind_again kind.Bool = refl
 kind_again kind.Ip = refl
 kind_again kind.Prefix = refl
 
-kind_found : (ws : List Lexeme) (x : Kind × List Lexeme) → kind_first ws ≡ Some x → ws ≡ Lexeme.mark (kind_mark x.0) ∷ x.1
+kind_found : (ws : List Lexeme) (x : Kind × List Lexeme) → kind_first ws ≡ Some x → ws ≡ Lexeme.symbol (kind_symbol x.0) ∷ x.1
 kind_found [] x e = absurd (cc)
-kind_found (Lexeme.mark k ∷ ws) x e =
+kind_found (Lexeme.symbol k ∷ ws) x e =
     let (found, e1, same) = bind_some (kind_of k) _ x e in
-    let P : Kind × List Lexeme → Type 0 = λ y. Lexeme.mark k ∷ ws ≡ Lexeme.mark (kind_mark y.0) ∷ y.1 in
-    subst P (some_is same) (ap (λ (n : Mark). Lexeme.mark n ∷ ws) (kind_is k found e1))
+    let P : Kind × List Lexeme → Type 0 = λ y. Lexeme.symbol k ∷ ws ≡ Lexeme.symbol (kind_symbol y.0) ∷ y.1 in
+    subst P (some_is same) (ap (λ (n : Symbol). Lexeme.symbol n ∷ ws) (kind_is k found e1))
 kind_found (_ ∷ ws) x e = absurd (cc)
 
 name_found : (ws : List Lexeme) (x : List ℕ × List Lexeme) → name_first ws ≡ Some x → ws ≡ Lexeme.name x.0 ∷ x.1
@@ -61,18 +61,18 @@ name_found (Lexeme.name text ∷ ws) x e =
     subst P (some_is e) refl
 name_found (_ ∷ ws) x e = absurd (cc)
 
-decl_found : (k : Kind) (w : Lexeme) (ws : List Lexeme) (x : DeclView × List Lexeme) → w ≡ Lexeme.mark (kind_mark k)
+decl_found : (k : Kind) (w : Lexeme) (ws : List Lexeme) (x : DeclView × List Lexeme) → w ≡ Lexeme.symbol (kind_symbol k)
     → decl_with k ws ≡ Some x → w ∷ ws ≡ spelling_decl x.0 ++ x.1
 decl_found k w ws x first e =
     let (name, e1, f1) = bind_some (name_first ws) _ x e in
-    let (rest, e2, f2) = bind_some (after_mark m.Semicolon name.1) _ x f1 in
+    let (rest, e2, f2) = bind_some (after_symbol symbols.Semicolon name.1) _ x f1 in
     let P : DeclView × List Lexeme → Type 0 = λ y. w ∷ ws ≡ spelling_decl y.0 ++ y.1 in
     let a : ws ≡ Lexeme.name name.0 ∷ name.1 = name_found ws name e1 in
-    let b : name.1 ≡ Lexeme.mark m.Semicolon ∷ rest = mark_found m.Semicolon name.1 rest e2 in
-    let c : w ∷ ws ≡ Lexeme.mark (kind_mark k) ∷ Lexeme.name name.0 ∷ Lexeme.mark m.Semicolon ∷ rest = cc in
+    let b : name.1 ≡ Lexeme.symbol symbols.Semicolon ∷ rest = symbol_found symbols.Semicolon name.1 rest e2 in
+    let c : w ∷ ws ≡ Lexeme.symbol (kind_symbol k) ∷ Lexeme.name name.0 ∷ Lexeme.symbol symbols.Semicolon ∷ rest = cc in
     subst P (some_is f2) c
 
--- declarations that were read behind others
+-- declarations that were read after others
 pub record FoundDecls (front : List DeclView) (ws : List Lexeme) (x : List DeclView × List Lexeme) : Type 0 where
   pub more : List DeclView
   pub all : x.0 ≡ front ++ more
@@ -87,7 +87,7 @@ turn_found front ws y e =
           let (d, e2, same) = bind_some (decl_with k.0 k.1) _ (Some y) read in
           let is : (front ++ d.0 ∷ [], d.1) ≡ y = some_is (some_is same) in
           let P : List DeclView × List Lexeme → Type 0 = λ z. (d : DeclView) × (z.0 ≡ front ++ d ∷ []) × (ws ≡ spelling_decl d ++ z.1) in
-          subst P is (d.0, refl, kind_found ws k e1 ∙ decl_found k.0 (Lexeme.mark (kind_mark k.0)) k.1 d refl e2)
+          subst P is (d.0, refl, kind_found ws k e1 ∙ decl_found k.0 (Lexeme.symbol (kind_symbol k.0)) k.1 d refl e2)
     ]
 
 turns_found : (n : ℕ) (front : List DeclView) (ws : List Lexeme) (x : List DeclView × List Lexeme) → turns decl_turn n front ws ≡ Some x
@@ -145,71 +145,71 @@ decls_again ds front rest none = turns_again ds (length (spelling_decls ds ++ re
 -- ---- a filter
 
 -- no declaration begins as a command, or as the end of commands
-no_kind : (t : CommandView) (rest : List Lexeme) → kind_first (spelling_act t ++ rest) ≡ None
+no_kind : (t : CommandView) (rest : List Lexeme) → kind_first (spelling_command t ++ rest) ≡ None
 no_kind CommandView.empty rest = refl
 no_kind (CommandView.block body) rest = refl
-no_kind (CommandView.choice test chosen) rest = refl
-no_kind (CommandView.choice_else test chosen other) rest = refl
+no_kind (CommandView.if_then test chosen) rest = refl
+no_kind (CommandView.if_else test chosen other) rest = refl
 no_kind (CommandView.assign (TargetView.to_name text) value) rest = refl
 no_kind (CommandView.assign TargetView.to_metric value) rest = refl
 no_kind (CommandView.assign TargetView.to_net value) rest = refl
 no_kind (CommandView.accept has_text) rest = refl
 no_kind (CommandView.reject has_text) rest = refl
 
-no_kind_acts : (body : Acts) (rest : List Lexeme) → kind_first (spelling_acts body ++ Lexeme.mark m.RightBrace ∷ rest) ≡ None
-no_kind_acts Acts.no_acts rest = refl
-no_kind_acts (Acts.act_then first more) rest =
-    rw (append_assoc {A = Lexeme} (spelling_act first) (spelling_acts more) (Lexeme.mark m.RightBrace ∷ rest))
-    (no_kind first (spelling_acts more ++ Lexeme.mark m.RightBrace ∷ rest))
+no_kind_commands : (body : CommandsView) (rest : List Lexeme) → kind_first (spelling_commands body ++ Lexeme.symbol symbols.RightBrace ∷ rest) ≡ None
+no_kind_commands CommandsView.no_commands rest = refl
+no_kind_commands (CommandsView.command_then first more) rest =
+    rw (append_assoc {A = Lexeme} (spelling_command first) (spelling_commands more) (Lexeme.symbol symbols.RightBrace ∷ rest))
+    (no_kind first (spelling_commands more ++ Lexeme.symbol symbols.RightBrace ∷ rest))
 
-whole_found : {A : Type 0} (x : A) (ws : List Lexeme) (y : A) → whole x ws ≡ Some y → (ws ≡ []) × (x ≡ y)
+whole_found : {A : Type 0} (x : A) (ws : List Lexeme) (y : A) → nothing_after x ws ≡ Some y → (ws ≡ []) × (x ≡ y)
 whole_found x [] y e = (refl, some_is e)
 whole_found x (w ∷ ws) y e = absurd (cc)
 
 -- what was read of a filter: it is spelled so, and fits
-pub record FoundFilter (ws : List Lexeme) (x : Said) : Type 0 where
+pub record FoundFilter (ws : List Lexeme) (x : PartsView) : Type 0 where
   pub head : List DeclView
   pub inner : List DeclView
   pub declared : x.decls ≡ head ++ inner
   pub spelled : ws ≡ spelling_filter x.name head inner x.body
-  pub fits : FitsActs x.body nesting_limit
+  pub fits : FitsCommands x.body nesting_limit
 
 filter_joined : (ws a b c d e : List Lexeme) (f g h k n : Lexeme) (front inner body : List Lexeme) → ws ≡ f ∷ a → a ≡ n ∷ b → b ≡ front ++ c
     → c ≡ g ∷ d → d ≡ inner ++ e → e ≡ body ++ k ∷ []
     → ws ≡ f ∷ n ∷ (front ++ g ∷ (inner ++ (body ++ k ∷ [])))
 filter_joined ws a b c d e f g h k n front inner body e1 e2 e3 e4 e5 e6 = rw (e1, e2, e3, e4, e5, e6) refl
 
-pub filter_sound : (ws : List Lexeme) (x : Said) → filter_of ws ≡ Some x → FoundFilter ws x
+pub filter_sound : (ws : List Lexeme) (x : PartsView) → filter_of ws ≡ Some x → FoundFilter ws x
 filter_sound ws x e =
-    let (a, e1, f1) = bind_some (after_mark m.Filter ws) _ x e in
+    let (a, e1, f1) = bind_some (after_symbol symbols.Filter ws) _ x e in
     let (name, e2, f2) = bind_some (name_first a) _ x f1 in
     let (head, e3, f3) = bind_some (decls_after [] name.1) _ x f2 in
-    let (d, e4, f4) = bind_some (after_mark m.LeftBrace head.1) _ x f3 in
+    let (d, e4, f4) = bind_some (after_symbol symbols.LeftBrace head.1) _ x f3 in
     let (all, e5, f5) = bind_some (decls_after head.0 d) _ x f4 in
-    let (body, e6, f6) = bind_some (acts_with (act_at nesting_limit) all.1) _ x f5 in
+    let (body, e6, f6) = bind_some (commands_with (command_at nesting_limit) all.1) _ x f5 in
     let (nothing, is) = whole_found _ body.1 x f6 in
     let front = decls_found [] name.1 head e3 in
     let inner = decls_found head.0 d all e5 in
-    let acts = acts_with_sound nesting_limit (act_at nesting_limit) (act_sound exprs_sound nesting_limit) all.1 body e6 in
+    let commands = commands_with_sound nesting_limit (command_at nesting_limit) (command_sound exprs_sound nesting_limit) all.1 body e6 in
     let found : FoundFilter ws (record { name = name.0; decls = all.0; body = body.0 }) = record {
       head = front.more;
       inner = inner.more;
       declared = inner.all ∙ ap (λ (xs : List DeclView). xs ++ inner.more) front.all;
-      spelled = filter_joined ws a name.1 head.1 d all.1 (Lexeme.mark m.Filter) (Lexeme.mark m.LeftBrace) (Lexeme.mark m.LeftBrace)
-          (Lexeme.mark m.RightBrace) (Lexeme.name name.0)
-          (spelling_decls front.more) (spelling_decls inner.more) (spelling_acts body.0) (mark_found m.Filter ws a e1)
+      spelled = filter_joined ws a name.1 head.1 d all.1 (Lexeme.symbol symbols.Filter) (Lexeme.symbol symbols.LeftBrace) (Lexeme.symbol symbols.LeftBrace)
+          (Lexeme.symbol symbols.RightBrace) (Lexeme.name name.0)
+          (spelling_decls front.more) (spelling_decls inner.more) (spelling_commands body.0) (symbol_found symbols.Filter ws a e1)
           (name_found a name e2) front.spelled
-          (mark_found m.LeftBrace head.1 d e4) inner.spelled (acts.spelled
-          ∙ ap (λ (rest : List Lexeme). spelling_acts body.0 ++ Lexeme.mark m.RightBrace ∷ rest) nothing);
-      fits = acts.fits;
+          (symbol_found symbols.LeftBrace head.1 d e4) inner.spelled (commands.spelled
+          ∙ ap (λ (rest : List Lexeme). spelling_commands body.0 ++ Lexeme.symbol symbols.RightBrace ∷ rest) nothing);
+      fits = commands.fits;
     } in
     subst (FoundFilter ws) is found
 
-pub filter_complete : (name : List ℕ) (head inner : List DeclView) (body : Acts) → FitsActs body nesting_limit
+pub filter_complete : (name : List ℕ) (head inner : List DeclView) (body : CommandsView) → FitsCommands body nesting_limit
     → filter_of (spelling_filter name head inner body) ≡ Some (record { name = name; decls = head ++ inner; body = body })
 filter_complete name head inner body fits =
     rw (
-      decls_again head [] (Lexeme.mark m.LeftBrace ∷ (spelling_decls inner ++ (spelling_acts body ++ Lexeme.mark m.RightBrace ∷ []))) refl,
-      decls_again inner head (spelling_acts body ++ Lexeme.mark m.RightBrace ∷ []) (no_kind_acts body []),
-      acts_with_complete nesting_limit (act_at nesting_limit) (act_complete exprs_complete nesting_limit) body [] fits,
+      decls_again head [] (Lexeme.symbol symbols.LeftBrace ∷ (spelling_decls inner ++ (spelling_commands body ++ Lexeme.symbol symbols.RightBrace ∷ []))) refl,
+      decls_again inner head (spelling_commands body ++ Lexeme.symbol symbols.RightBrace ∷ []) (no_kind_commands body []),
+      commands_with_complete nesting_limit (command_at nesting_limit) (command_complete exprs_complete nesting_limit) body [] fits,
     ) refl

@@ -5,8 +5,8 @@ pub assign_joined : {A : Type 0} (w k s : A) (ws v t l rest : List A) → ws ≡
     → w ∷ ws ≡ (w ∷ k ∷ (t ++ s ∷ [])) ++ rest
 assign_joined w k s ws v t l rest a b c = rw (a, b, c) (simp append_assoc)
 
-pub acts_joined : {A : Type 0} (k : A) (ws a r b s : List A) → ws ≡ a ++ r → r ≡ b ++ k ∷ s → ws ≡ (a ++ b) ++ k ∷ s
-acts_joined k ws a r b s e f = rw (e, f) (simp append_assoc)
+pub commands_joined : {A : Type 0} (k : A) (ws a r b s : List A) → ws ≡ a ++ r → r ≡ b ++ k ∷ s → ws ≡ (a ++ b) ++ k ∷ s
+commands_joined k ws a r b s e f = rw (e, f) (simp append_assoc)
 
 pub block_joined : {A : Type 0} (w k : A) (ws b s : List A) → ws ≡ b ++ k ∷ s → w ∷ ws ≡ (w ∷ (b ++ k ∷ [])) ++ s
 block_joined w k ws b s e = rw e (simp append_assoc)
@@ -14,8 +14,8 @@ block_joined w k ws b s e = rw e (simp append_assoc)
 pub front_joined : {A : Type 0} (k : A) (ws t l b c r : List A) → ws ≡ t ++ l → l ≡ k ∷ b → b ≡ c ++ r → ws ≡ t ++ k ∷ (c ++ r)
 front_joined k ws t l b c r e f g = rw (e, f, g) refl
 
-pub choice_joined : {A : Type 0} (w k : A) (ws t c r : List A) → ws ≡ t ++ k ∷ (c ++ r) → w ∷ ws ≡ (w ∷ (t ++ k ∷ c)) ++ r
-choice_joined w k ws t c r e = rw e (simp append_assoc)
+pub if_joined : {A : Type 0} (w k : A) (ws t c r : List A) → ws ≡ t ++ k ∷ (c ++ r) → w ∷ ws ≡ (w ∷ (t ++ k ∷ c)) ++ r
+if_joined w k ws t c r e = rw e (simp append_assoc)
 
 pub else_joined : {A : Type 0} (w k o : A) (ws t c r v d s : List A) → ws ≡ t ++ k ∷ (c ++ r) → r ≡ o ∷ v → v ≡ d ++ s
     → w ∷ ws ≡ (w ∷ (t ++ k ∷ (c ++ o ∷ d))) ++ s

@@ -1,14 +1,14 @@
--- Operators, their signs and their levels.
+-- Operators, their operators and their levels.
 use Rattle.std.proofs.Common.{◌≡◌, ◌≢◌, refl, subst, ℕ, ◌≤◌, Some, ◌⊎◌, inl, inr, arith}
 use Rattle.std.proofs.Math.Nat.{eq-or-lt_of_le}
-use Rattle.filter_tokens.specs.declared.mark.Mark.{Mark}
-use Rattle.filter_tokens.specs.declared.mark.Mark.TheVariants as m
+use Rattle.filter_tokens.specs.declared.symbol.Symbol.{Symbol}
+use Rattle.filter_tokens.specs.declared.symbol.Symbol.TheVariants as symbols
 use Rattle.filter_parser.specs.declared.expr_level.Level.{Level}
 use Rattle.filter_parser.specs.declared.expr_level.Level.TheVariants as l
 use Rattle.filter_parser.specs.declared.tree.op.Op.{Op}
 use Rattle.filter_parser.specs.declared.tree.op.Op.TheVariants as o
 use Rattle.filter_parser.specs.Reading.{op_of}
-use Rattle.filter_parser.specs.Syntax.{FitsSides, rank_of, sign}
+use Rattle.filter_parser.specs.Syntax.{FitsSides, rank_of, op_symbol}
 use Rattle.filter_parser.proofs.Steps.{some_is}
 
 -- how loosely a level's operators bind
@@ -36,59 +36,59 @@ FitsLeft l.And a = a ≤ 5
 FitsLeft l.Or a = (a ≤ 6) × (a ≢ 5)
 
 -- an operator of a level
-pub record IsOp (level : Level) (mark : Mark) (op : Op) : Type 0 where
-  pub spelled : mark ≡ sign op
+pub record IsOp (level : Level) (symbol : Symbol) (op : Op) : Type 0 where
+  pub spelled : symbol ≡ op_symbol op
   pub binds : rank_of op ≡ top level
   pub sides : (a b : ℕ) → FitsLeft level a → b ≤ side level → FitsSides op a b
 
-at_op : (level : Level) (mark : Mark) (p q : Op) → Some p ≡ Some q → IsOp level mark p → IsOp level mark q
-at_op level mark p q e h = let P : Op → Type 0 = IsOp level mark in subst P (some_is e) h
+at_op : (level : Level) (symbol : Symbol) (p q : Op) → Some p ≡ Some q → IsOp level symbol p → IsOp level symbol q
+at_op level symbol p q e h = let P : Op → Type 0 = IsOp level symbol in subst P (some_is e) h
 
-found_product : (mark : Mark) (op : Op) → op_of l.Product mark ≡ Some op → IsOp l.Product mark op
-found_product m.Times op e = at_op l.Product m.Times o.Mul op e (record { spelled = refl; binds = refl; sides = λ a b h k. (h, k) })
-found_product m.Divide op e = at_op l.Product m.Divide o.Div op e (record { spelled = refl; binds = refl; sides = λ a b h k. (h, k) })
+found_product : (symbol : Symbol) (op : Op) → op_of l.Product symbol ≡ Some op → IsOp l.Product symbol op
+found_product symbols.Times op e = at_op l.Product symbols.Times o.Mul op e (record { spelled = refl; binds = refl; sides = λ a b h k. (h, k) })
+found_product symbols.Divide op e = at_op l.Product symbols.Divide o.Div op e (record { spelled = refl; binds = refl; sides = λ a b h k. (h, k) })
 found_product _ op e = absurd (cc)
 
-found_sum : (mark : Mark) (op : Op) → op_of l.Sum mark ≡ Some op → IsOp l.Sum mark op
-found_sum m.Plus op e = at_op l.Sum m.Plus o.Add op e (record { spelled = refl; binds = refl; sides = λ a b h k. (h, k) })
-found_sum m.Minus op e = at_op l.Sum m.Minus o.Sub op e (record { spelled = refl; binds = refl; sides = λ a b h k. (h, k) })
+found_sum : (symbol : Symbol) (op : Op) → op_of l.Sum symbol ≡ Some op → IsOp l.Sum symbol op
+found_sum symbols.Plus op e = at_op l.Sum symbols.Plus o.Add op e (record { spelled = refl; binds = refl; sides = λ a b h k. (h, k) })
+found_sum symbols.Minus op e = at_op l.Sum symbols.Minus o.Sub op e (record { spelled = refl; binds = refl; sides = λ a b h k. (h, k) })
 found_sum _ op e = absurd (cc)
 
-found_comparison : (mark : Mark) (op : Op) → op_of l.Comparison mark ≡ Some op → IsOp l.Comparison mark op
-found_comparison m.Equal op e = at_op l.Comparison m.Equal o.Equal op e (record { spelled = refl; binds = refl; sides = λ a b h k. (h, k) })
-found_comparison m.NotEqual op e = at_op l.Comparison m.NotEqual o.NotEqual op e
+found_comparison : (symbol : Symbol) (op : Op) → op_of l.Comparison symbol ≡ Some op → IsOp l.Comparison symbol op
+found_comparison symbols.Equal op e = at_op l.Comparison symbols.Equal o.Equal op e (record { spelled = refl; binds = refl; sides = λ a b h k. (h, k) })
+found_comparison symbols.NotEqual op e = at_op l.Comparison symbols.NotEqual o.NotEqual op e
     (record { spelled = refl; binds = refl; sides = λ a b h k. (h, k) })
-found_comparison m.Less op e = at_op l.Comparison m.Less o.Less op e (record { spelled = refl; binds = refl; sides = λ a b h k. (h, k) })
-found_comparison m.Greater op e = at_op l.Comparison m.Greater o.Greater op e
+found_comparison symbols.Less op e = at_op l.Comparison symbols.Less o.Less op e (record { spelled = refl; binds = refl; sides = λ a b h k. (h, k) })
+found_comparison symbols.Greater op e = at_op l.Comparison symbols.Greater o.Greater op e
     (record { spelled = refl; binds = refl; sides = λ a b h k. (h, k) })
-found_comparison m.LessEqual op e = at_op l.Comparison m.LessEqual o.LessEqual op e
+found_comparison symbols.LessEqual op e = at_op l.Comparison symbols.LessEqual o.LessEqual op e
     (record { spelled = refl; binds = refl; sides = λ a b h k. (h, k) })
-found_comparison m.GreaterEqual op e = at_op l.Comparison m.GreaterEqual o.GreaterEqual op e
+found_comparison symbols.GreaterEqual op e = at_op l.Comparison symbols.GreaterEqual o.GreaterEqual op e
     (record { spelled = refl; binds = refl; sides = λ a b h k. (h, k) })
-found_comparison m.Match op e = at_op l.Comparison m.Match o.Match op e (record { spelled = refl; binds = refl; sides = λ a b h k. (h, k) })
-found_comparison m.NotMatch op e = at_op l.Comparison m.NotMatch o.NotMatch op e
+found_comparison symbols.Match op e = at_op l.Comparison symbols.Match o.Match op e (record { spelled = refl; binds = refl; sides = λ a b h k. (h, k) })
+found_comparison symbols.NotMatch op e = at_op l.Comparison symbols.NotMatch o.NotMatch op e
     (record { spelled = refl; binds = refl; sides = λ a b h k. (h, k) })
 found_comparison _ op e = absurd (cc)
 
-found_and : (mark : Mark) (op : Op) → op_of l.And mark ≡ Some op → IsOp l.And mark op
-found_and m.And op e = at_op l.And m.And o.And op e (record { spelled = refl; binds = refl; sides = λ a b h k. (h, k) })
+found_and : (symbol : Symbol) (op : Op) → op_of l.And symbol ≡ Some op → IsOp l.And symbol op
+found_and symbols.And op e = at_op l.And symbols.And o.And op e (record { spelled = refl; binds = refl; sides = λ a b h k. (h, k) })
 found_and _ op e = absurd (cc)
 
-found_or : (mark : Mark) (op : Op) → op_of l.Or mark ≡ Some op → IsOp l.Or mark op
-found_or m.Or op e = at_op l.Or m.Or o.Or op e (record { spelled = refl; binds = refl; sides = λ a b h k. (h.0, h.1, k) })
+found_or : (symbol : Symbol) (op : Op) → op_of l.Or symbol ≡ Some op → IsOp l.Or symbol op
+found_or symbols.Or op e = at_op l.Or symbols.Or o.Or op e (record { spelled = refl; binds = refl; sides = λ a b h k. (h.0, h.1, k) })
 found_or _ op e = absurd (cc)
 
--- what a sign of a level says
-pub op_found : (level : Level) (mark : Mark) (op : Op) → op_of level mark ≡ Some op → IsOp level mark op
-op_found l.Product mark op e = found_product mark op e
-op_found l.Sum mark op e = found_sum mark op e
-op_found l.Comparison mark op e = found_comparison mark op e
-op_found l.And mark op e = found_and mark op e
-op_found l.Or mark op e = found_or mark op e
+-- what a operator of a level says
+pub op_found : (level : Level) (symbol : Symbol) (op : Op) → op_of level symbol ≡ Some op → IsOp level symbol op
+op_found l.Product symbol op e = found_product symbol op e
+op_found l.Sum symbol op e = found_sum symbol op e
+op_found l.Comparison symbol op e = found_comparison symbol op e
+op_found l.And symbol op e = found_and symbol op e
+op_found l.Or symbol op e = found_or symbol op e
 
--- an operator of a level is read by its sign, and has operands of that level
+-- an operator of a level is read by its operator, and has operands of that level
 pub record IsRead (level : Level) (op : Op) : Type 0 where
-  pub reads : op_of level (sign op) ≡ Some op
+  pub reads : op_of level (op_symbol op) ≡ Some op
   pub left : (a b : ℕ) → FitsSides op a b → FitsLeft level a
   pub right : (a b : ℕ) → FitsSides op a b → b ≤ side level
 

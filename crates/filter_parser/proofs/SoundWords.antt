@@ -5,16 +5,16 @@ use Rattle.std.specs.Cmp.Lexicographic.{pointwise, same_text}
 use Rattle.std.specs.Prelude.{nat_eq}
 use Rattle.prefix_patterns.specs.Matching.{HasOrderedLengths}
 use Rattle.filter_tokens.specs.Lexemes.{Lexeme}
-use Rattle.filter_tokens.specs.declared.mark.Mark.{Mark}
-use Rattle.filter_tokens.specs.declared.mark.Mark.TheVariants as m
+use Rattle.filter_tokens.specs.declared.symbol.Symbol.{Symbol}
+use Rattle.filter_tokens.specs.declared.symbol.Symbol.TheVariants as symbols
 use Rattle.filter_parser.specs.declared.tree.expr.Attribute.{Attribute}
 use Rattle.filter_parser.specs.declared.tree.op.Suffix.{Suffix}
 use Rattle.filter_parser.specs.declared.tree.op.Suffix.TheVariants as suffix
 use Rattle.filter_parser.specs.Reading.{attribute_of, attribute_first, mask_suffix, mask_of, suffix_of, between_of, braces_of, lengths_of}
-use Rattle.filter_parser.specs.Reading.{item_of}
-use Rattle.filter_parser.specs.Steps.{after_mark, after_name, number_first, prefix_first}
-use Rattle.filter_parser.specs.Syntax.{SetPatternView, FitsItem, FitsSuffix, attribute_mark, spelling_item, spelling_suffix}
-use Rattle.filter_parser.proofs.Steps.{bind_some, mark_found, some_is, with_some_cases}
+use Rattle.filter_parser.specs.Reading.{set_pattern_first}
+use Rattle.filter_parser.specs.Steps.{after_symbol, after_name, number_first, prefix_first}
+use Rattle.filter_parser.specs.Syntax.{SetPatternView, FitsSetPattern, FitsSuffix, attribute_symbol, spelling_set_pattern, spelling_suffix}
+use Rattle.filter_parser.proofs.Steps.{bind_some, symbol_found, some_is, with_some_cases}
 
 -- what a word was found before
 name_found : (word : List ℕ) (ws rest : List Lexeme) → after_name word ws ≡ Some rest → ws ≡ Lexeme.name word ∷ rest
@@ -25,7 +25,7 @@ name_found word (Lexeme.name text ∷ ws) rest e = go (pointwise nat_eq text wor
         Lexeme.name text ∷ ws ≡ Lexeme.name word ∷ rest
     go true s h = let a : text ≡ word = same_text text word (sym s) in let b : ws ≡ rest = some_is h in cc
     go false s h = absurd (cc)
-name_found word (Lexeme.mark k ∷ ws) rest e = absurd (cc)
+name_found word (Lexeme.symbol k ∷ ws) rest e = absurd (cc)
 name_found word (Lexeme.number n ∷ ws) rest e = absurd (cc)
 name_found word (Lexeme.address a ∷ ws) rest e = absurd (cc)
 name_found word (Lexeme.prefix bits ∷ ws) rest e = absurd (cc)
@@ -43,23 +43,23 @@ prefix_found (Lexeme.prefix p ∷ ws) x e = let P : (List Bool × List Lexeme) �
     Type 0 = λ y. Lexeme.prefix p ∷ ws ≡ Lexeme.prefix y.0 ∷ y.1 in subst P (some_is e) refl
 prefix_found (_ ∷ ws) x e = absurd (cc)
 
-attribute_found : (k : Mark) (a : Attribute) → attribute_of k ≡ Some a → k ≡ attribute_mark a
-attribute_found m.Net a e = let P : Attribute → Type 0 = λ b. m.Net ≡ attribute_mark b in subst P (some_is e) refl
-attribute_found m.RipMetric a e = let P : Attribute → Type 0 = λ b. m.RipMetric ≡ attribute_mark b in subst P (some_is e) refl
+attribute_found : (k : Symbol) (a : Attribute) → attribute_of k ≡ Some a → k ≡ attribute_symbol a
+attribute_found symbols.Net a e = let P : Attribute → Type 0 = λ b. symbols.Net ≡ attribute_symbol b in subst P (some_is e) refl
+attribute_found symbols.RipMetric a e = let P : Attribute → Type 0 = λ b. symbols.RipMetric ≡ attribute_symbol b in subst P (some_is e) refl
 attribute_found _ a e = absurd (cc)
 
 pub attribute_first_found : (ws : List Lexeme) (x : Attribute × List Lexeme) → attribute_first ws ≡ Some x →
-    ws ≡ Lexeme.mark (attribute_mark x.0) ∷ x.1
+    ws ≡ Lexeme.symbol (attribute_symbol x.0) ∷ x.1
 attribute_first_found [] x e = absurd (cc)
-attribute_first_found (Lexeme.mark k ∷ ws) x e =
+attribute_first_found (Lexeme.symbol k ∷ ws) x e =
     let (a, found, same) = bind_some (attribute_of k) (λ a. Some (a, ws)) x e in
-    let P : (Attribute × List Lexeme) → Type 0 = λ y. Lexeme.mark k ∷ ws ≡ Lexeme.mark (attribute_mark y.0) ∷ y.1 in
-    subst P (some_is same) (ap (λ k. Lexeme.mark k ∷ ws) (attribute_found k a found))
+    let P : (Attribute × List Lexeme) → Type 0 = λ y. Lexeme.symbol k ∷ ws ≡ Lexeme.symbol (attribute_symbol y.0) ∷ y.1 in
+    subst P (some_is same) (ap (λ k. Lexeme.symbol k ∷ ws) (attribute_found k a found))
 attribute_first_found (_ ∷ ws) x e = absurd (cc)
 
--- a suffix behind its dot
+-- a suffix after its dot
 pub record IsSuffix (ws : List Lexeme) (x : Suffix × List Lexeme) : Type 0 where
-  pub spelled : Lexeme.mark m.Dot ∷ ws ≡ spelling_suffix x.0 ++ x.1
+  pub spelled : Lexeme.symbol symbols.Dot ∷ ws ≡ spelling_suffix x.0 ++ x.1
   pub fits : FitsSuffix x.0
 
 mask_found : (n : ℕ) (s : Suffix) → mask_suffix n ≡ Some s → (s ≡ suffix.Mask n) × (n ≤ 32)
@@ -71,13 +71,13 @@ mask_found n s e = go (nat_le n 32) refl e
 
 mask_sound : (ws : List Lexeme) (x : Suffix × List Lexeme) → mask_of ws ≡ Some x → IsSuffix (Lexeme.name (codes "mask") ∷ ws) x
 mask_sound ws x e =
-    let (behind, first, e1) = bind_some (after_mark m.LeftParen ws) _ x e in
-    let (n, second, e2) = bind_some (number_first behind) _ x e1 in
+    let (after, first, e1) = bind_some (after_symbol symbols.LeftParen ws) _ x e in
+    let (n, second, e2) = bind_some (number_first after) _ x e1 in
     let (s, third, e3) = bind_some (mask_suffix n.0) _ x e2 in
-    let (rest, fourth, e4) = bind_some (after_mark m.RightParen n.1) _ x e3 in
-    let a : ws ≡ Lexeme.mark m.LeftParen ∷ behind = mark_found m.LeftParen ws behind first in
-    let b : behind ≡ Lexeme.number n.0 ∷ n.1 = number_found behind n second in
-    let d : n.1 ≡ Lexeme.mark m.RightParen ∷ rest = mark_found m.RightParen n.1 rest fourth in
+    let (rest, fourth, e4) = bind_some (after_symbol symbols.RightParen n.1) _ x e3 in
+    let a : ws ≡ Lexeme.symbol symbols.LeftParen ∷ after = symbol_found symbols.LeftParen ws after first in
+    let b : after ≡ Lexeme.number n.0 ∷ n.1 = number_found after n second in
+    let d : n.1 ≡ Lexeme.symbol symbols.RightParen ∷ rest = symbol_found symbols.RightParen n.1 rest fourth in
     let f : (s ≡ suffix.Mask n.0) × (n.0 ≤ 32) = mask_found n.0 s third in
     let P : (Suffix × List Lexeme) → Type 0 = IsSuffix (Lexeme.name (codes "mask") ∷ ws) in
     let Q : Suffix → Type 0 = λ s. IsSuffix (Lexeme.name (codes "mask") ∷ ws) (s, rest) in
@@ -86,11 +86,11 @@ mask_sound ws x e =
 pub suffix_sound : (ws : List Lexeme) (x : Suffix × List Lexeme) → suffix_of ws ≡ Some x → IsSuffix ws x
 suffix_sound ws x e =
     let P : (Suffix × List Lexeme) → Type 0 = IsSuffix ws in
-    elim (with_some_cases (after_mark m.Ip ws) _ _ x e) [
-      | inr p ↦ subst P (some_is p.2) (record { spelled = ap (λ v. Lexeme.mark m.Dot ∷ v) (mark_found m.Ip ws p.0 p.1); fits = tt })
+    elim (with_some_cases (after_symbol symbols.Ip ws) _ _ x e) [
+      | inr p ↦ subst P (some_is p.2) (record { spelled = ap (λ v. Lexeme.symbol symbols.Dot ∷ v) (symbol_found symbols.Ip ws p.0 p.1); fits = tt })
       | inl q ↦ elim (with_some_cases (after_name (codes "len") ws) _ _ x q.1) [
         | inr p ↦ subst P (some_is p.2) (record {
-          spelled = ap (λ v. Lexeme.mark m.Dot ∷ v) (name_found (codes "len") ws p.0 p.1);
+          spelled = ap (λ v. Lexeme.symbol symbols.Dot ∷ v) (name_found (codes "len") ws p.0 p.1);
           fits = tt;
         })
         | inl r ↦
@@ -101,9 +101,9 @@ suffix_sound ws x e =
     ]
 
 -- a pattern
-pub record IsItem (ws : List Lexeme) (x : SetPatternView × List Lexeme) : Type 0 where
-  pub spelled : ws ≡ spelling_item x.0 ++ x.1
-  pub fits : FitsItem x.0
+pub record IsSetPattern (ws : List Lexeme) (x : SetPatternView × List Lexeme) : Type 0 where
+  pub spelled : ws ≡ spelling_set_pattern x.0 ++ x.1
+  pub fits : FitsSetPattern x.0
 
 between_found : (p : List Bool) (l h : ℕ) (x : SetPatternView) → between_of p l h ≡ Some x → (x ≡ SetPatternView.between p l h) × HasOrderedLengths l h
 between_found p l h x e = go (nat_le l h) (nat_le h 32) refl refl e
@@ -115,40 +115,40 @@ between_found p l h x e = go (nat_le l h) (nat_le h 32) refl refl e
     go false b s t k = absurd (cc)
 
 braces_sound : (p : List Bool) (ws : List Lexeme) (x : SetPatternView × List Lexeme) → braces_of p ws ≡ Some x →
-    IsItem (Lexeme.prefix p ∷ Lexeme.mark m.LeftBrace ∷ ws) x
+    IsSetPattern (Lexeme.prefix p ∷ Lexeme.symbol symbols.LeftBrace ∷ ws) x
 braces_sound p ws x e =
     let (low, first, e1) = bind_some (number_first ws) _ x e in
-    let (comma, second, e2) = bind_some (after_mark m.Comma low.1) _ x e1 in
+    let (comma, second, e2) = bind_some (after_symbol symbols.Comma low.1) _ x e1 in
     let (high, third, e3) = bind_some (number_first comma) _ x e2 in
-    let (rest, fourth, e4) = bind_some (after_mark m.RightBrace high.1) _ x e3 in
+    let (rest, fourth, e4) = bind_some (after_symbol symbols.RightBrace high.1) _ x e3 in
     let (found, fifth, e5) = bind_some (between_of p low.0 high.0) _ x e4 in
     let a : ws ≡ Lexeme.number low.0 ∷ low.1 = number_found ws low first in
-    let b : low.1 ≡ Lexeme.mark m.Comma ∷ comma = mark_found m.Comma low.1 comma second in
+    let b : low.1 ≡ Lexeme.symbol symbols.Comma ∷ comma = symbol_found symbols.Comma low.1 comma second in
     let d : comma ≡ Lexeme.number high.0 ∷ high.1 = number_found comma high third in
-    let g : high.1 ≡ Lexeme.mark m.RightBrace ∷ rest = mark_found m.RightBrace high.1 rest fourth in
+    let g : high.1 ≡ Lexeme.symbol symbols.RightBrace ∷ rest = symbol_found symbols.RightBrace high.1 rest fourth in
     let f : (found ≡ SetPatternView.between p low.0 high.0) × HasOrderedLengths low.0 high.0 = between_found p low.0 high.0 found fifth in
-    let P : (SetPatternView × List Lexeme) → Type 0 = IsItem (Lexeme.prefix p ∷ Lexeme.mark m.LeftBrace ∷ ws) in
-    let Q : SetPatternView → Type 0 = λ s. IsItem (Lexeme.prefix p ∷ Lexeme.mark m.LeftBrace ∷ ws) (s, rest) in
+    let P : (SetPatternView × List Lexeme) → Type 0 = IsSetPattern (Lexeme.prefix p ∷ Lexeme.symbol symbols.LeftBrace ∷ ws) in
+    let Q : SetPatternView → Type 0 = λ s. IsSetPattern (Lexeme.prefix p ∷ Lexeme.symbol symbols.LeftBrace ∷ ws) (s, rest) in
     subst P (some_is e5) (subst Q (sym f.0) (record { spelled = cc; fits = f.1 }))
 
-lengths_sound : (p : List Bool) (ws : List Lexeme) (x : SetPatternView × List Lexeme) → lengths_of p ws ≡ Some x → IsItem (Lexeme.prefix p ∷ ws) x
+lengths_sound : (p : List Bool) (ws : List Lexeme) (x : SetPatternView × List Lexeme) → lengths_of p ws ≡ Some x → IsSetPattern (Lexeme.prefix p ∷ ws) x
 lengths_sound p ws x e =
-    let P : (SetPatternView × List Lexeme) → Type 0 = IsItem (Lexeme.prefix p ∷ ws) in
-    elim (with_some_cases (after_mark m.Plus ws) _ _ x e) [
-      | inr f ↦ subst P (some_is f.2) (record { spelled = ap (λ v. Lexeme.prefix p ∷ v) (mark_found m.Plus ws f.0 f.1); fits = tt })
-      | inl g ↦ elim (with_some_cases (after_mark m.Minus ws) _ _ x g.1) [
-        | inr f ↦ subst P (some_is f.2) (record { spelled = ap (λ v. Lexeme.prefix p ∷ v) (mark_found m.Minus ws f.0 f.1); fits = tt })
-        | inl h ↦ elim (with_some_cases (after_mark m.LeftBrace ws) _ _ x h.1) [
+    let P : (SetPatternView × List Lexeme) → Type 0 = IsSetPattern (Lexeme.prefix p ∷ ws) in
+    elim (with_some_cases (after_symbol symbols.Plus ws) _ _ x e) [
+      | inr f ↦ subst P (some_is f.2) (record { spelled = ap (λ v. Lexeme.prefix p ∷ v) (symbol_found symbols.Plus ws f.0 f.1); fits = tt })
+      | inl g ↦ elim (with_some_cases (after_symbol symbols.Minus ws) _ _ x g.1) [
+        | inr f ↦ subst P (some_is f.2) (record { spelled = ap (λ v. Lexeme.prefix p ∷ v) (symbol_found symbols.Minus ws f.0 f.1); fits = tt })
+        | inl h ↦ elim (with_some_cases (after_symbol symbols.LeftBrace ws) _ _ x h.1) [
           | inr f ↦
-              let Q : List Lexeme → Type 0 = λ v. IsItem (Lexeme.prefix p ∷ v) x in
-              subst Q (sym (mark_found m.LeftBrace ws f.0 f.1)) (braces_sound p f.0 x f.2)
+              let Q : List Lexeme → Type 0 = λ v. IsSetPattern (Lexeme.prefix p ∷ v) x in
+              subst Q (sym (symbol_found symbols.LeftBrace ws f.0 f.1)) (braces_sound p f.0 x f.2)
           | inl k ↦ subst P (some_is k.1) (record { spelled = refl; fits = tt })
         ]
       ]
     ]
 
-pub item_sound : (ws : List Lexeme) (x : SetPatternView × List Lexeme) → item_of ws ≡ Some x → IsItem ws x
-item_sound ws x e =
+pub set_pattern_sound : (ws : List Lexeme) (x : SetPatternView × List Lexeme) → set_pattern_first ws ≡ Some x → IsSetPattern ws x
+set_pattern_sound ws x e =
     let (p, first, e1) = bind_some (prefix_first ws) _ x e in
-    let Q : List Lexeme → Type 0 = λ v. IsItem v x in
+    let Q : List Lexeme → Type 0 = λ v. IsSetPattern v x in
     subst Q (sym (prefix_found ws p first)) (lengths_sound p.0 p.1 x e1)

@@ -2,9 +2,10 @@
 use Rattle.std.proofs.Common.{◌≡◌, refl, sym, ap, List, [], ◌∷◌, Bool, true, false, Option, Some, None, ◌⊎◌, inl, inr, if◌then◌else◌, rules}
 use denote.Enum.Bare.{same_true, true_same}
 use Rattle.filter_tokens.specs.Lexemes.{Lexeme}
-use Rattle.filter_tokens.specs.declared.mark.Mark.{Mark}
-use Rattle.filter_tokens.specs.contracts.mark.Mark.{the_type}
-use Rattle.filter_parser.specs.Steps.{◌>>=◌, with_some, is_mark, after_mark}
+use Rattle.filter_tokens.specs.declared.symbol.Symbol.{Symbol}
+use Rattle.filter_tokens.specs.contracts.symbol.Symbol.{the_type}
+use Rattle.prefix_patterns.specs.Reading.{◌>>=◌}
+use Rattle.filter_parser.specs.Steps.{with_some, is_symbol, after_symbol}
 
 -- what two equal answers hold
 pub some_is : {A : Type 0} {x y : A} → Some x ≡ Some y → x ≡ y
@@ -21,23 +22,23 @@ pub with_some_cases : {A B : Type 0} (r : Option A) (other : Option B) (f : A �
 with_some_cases None other f y e = inl (refl, e)
 with_some_cases (Some x) other f y e = inr (x, refl, e)
 
-pub mark_is : (m : Mark) (w : Lexeme) → is_mark m w ≡ true → w ≡ Lexeme.mark m
-mark_is m (Lexeme.mark k) e = ap Lexeme.mark (sym (same_true the_type (search rules) m k e))
-mark_is m (Lexeme.name text) e = absurd (cc)
-mark_is m (Lexeme.number n) e = absurd (cc)
-mark_is m (Lexeme.address a) e = absurd (cc)
-mark_is m (Lexeme.prefix bits) e = absurd (cc)
-mark_is m Lexeme.quote e = absurd (cc)
+pub symbol_is : (m : Symbol) (w : Lexeme) → is_symbol m w ≡ true → w ≡ Lexeme.symbol m
+symbol_is m (Lexeme.symbol k) e = ap Lexeme.symbol (sym (same_true the_type (search rules) m k e))
+symbol_is m (Lexeme.name text) e = absurd (cc)
+symbol_is m (Lexeme.number n) e = absurd (cc)
+symbol_is m (Lexeme.address a) e = absurd (cc)
+symbol_is m (Lexeme.prefix bits) e = absurd (cc)
+symbol_is m Lexeme.quote e = absurd (cc)
 
--- what a mark was found before
-pub mark_found : (m : Mark) (ws rest : List Lexeme) → after_mark m ws ≡ Some rest → ws ≡ Lexeme.mark m ∷ rest
-mark_found m [] rest e = absurd (cc)
-mark_found m (w ∷ ws) rest e = go (is_mark m w) refl e
+-- what a symbol was found before
+pub symbol_found : (m : Symbol) (ws rest : List Lexeme) → after_symbol m ws ≡ Some rest → ws ≡ Lexeme.symbol m ∷ rest
+symbol_found m [] rest e = absurd (cc)
+symbol_found m (w ∷ ws) rest e = go (is_symbol m w) refl e
   where
-    go : (b : Bool) → is_mark m w ≡ b → (if b then Some ws else None) ≡ Some rest → w ∷ ws ≡ Lexeme.mark m ∷ rest
-    go true s h = let a : w ≡ Lexeme.mark m = mark_is m w s in let b : ws ≡ rest = some_is h in cc
+    go : (b : Bool) → is_symbol m w ≡ b → (if b then Some ws else None) ≡ Some rest → w ∷ ws ≡ Lexeme.symbol m ∷ rest
+    go true s h = let a : w ≡ Lexeme.symbol m = symbol_is m w s in let b : ws ≡ rest = some_is h in cc
     go false s h = absurd (cc)
 
--- a mark is found where it stands
-pub mark_there : (m : Mark) (ws : List Lexeme) → after_mark m (Lexeme.mark m ∷ ws) ≡ Some ws
-mark_there m ws = rw (true_same the_type m m refl) refl
+-- a symbol is found where it stands
+pub symbol_there : (m : Symbol) (ws : List Lexeme) → after_symbol m (Lexeme.symbol m ∷ ws) ≡ Some ws
+symbol_there m ws = rw (true_same the_type m m refl) refl

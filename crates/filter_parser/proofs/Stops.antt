@@ -1,38 +1,38 @@
 -- What may follow an expression, so that it ends there.
 use Rattle.std.proofs.Common.{◌≡◌, refl, ap, ◌∙◌, ℕ, ◌≤◌, ◌<◌, List, [], ◌∷◌, Bool, true, false, Option, Some, None, arith}
 use Rattle.filter_tokens.specs.Lexemes.{Lexeme}
-use Rattle.filter_tokens.specs.declared.mark.Mark.{Mark}
-use Rattle.filter_tokens.specs.declared.mark.Mark.TheVariants as m
+use Rattle.filter_tokens.specs.declared.symbol.Symbol.{Symbol}
+use Rattle.filter_tokens.specs.declared.symbol.Symbol.TheVariants as symbols
 use Rattle.filter_parser.specs.declared.expr_level.Level.{Level}
 use Rattle.filter_parser.specs.declared.tree.op.Op.{Op}
 use Rattle.filter_parser.specs.declared.tree.op.Op.TheVariants as o
 use Rattle.filter_parser.specs.Reading.{op_of, op_first}
-use Rattle.filter_parser.specs.Steps.{is_mark, after_mark}
-use Rattle.filter_parser.specs.Syntax.{rank_of, sign}
+use Rattle.filter_parser.specs.Steps.{is_symbol, after_symbol}
+use Rattle.filter_parser.specs.Syntax.{rank_of, op_symbol}
 use Rattle.filter_parser.proofs.Operators.{op_found, top}
-use Rattle.filter_parser.proofs.Steps.{mark_is}
+use Rattle.filter_parser.proofs.Steps.{symbol_is}
 
--- how loosely a sign binds that follows an expression: 0 a dot, then as its operator, 7 what is no operator
-abbrev pub binds_mark : Mark → ℕ
-binds_mark m.Dot = 0
-binds_mark m.Times = 2
-binds_mark m.Divide = 2
-binds_mark m.Plus = 3
-binds_mark m.Minus = 3
-binds_mark m.Equal = 4
-binds_mark m.NotEqual = 4
-binds_mark m.Less = 4
-binds_mark m.Greater = 4
-binds_mark m.LessEqual = 4
-binds_mark m.GreaterEqual = 4
-binds_mark m.Match = 4
-binds_mark m.NotMatch = 4
-binds_mark m.And = 5
-binds_mark m.Or = 6
-binds_mark _ = 7
+-- how loosely a operator binds that follows an expression: 0 a dot, then as its operator, 7 what is no operator
+abbrev pub binds_symbol : Symbol → ℕ
+binds_symbol symbols.Dot = 0
+binds_symbol symbols.Times = 2
+binds_symbol symbols.Divide = 2
+binds_symbol symbols.Plus = 3
+binds_symbol symbols.Minus = 3
+binds_symbol symbols.Equal = 4
+binds_symbol symbols.NotEqual = 4
+binds_symbol symbols.Less = 4
+binds_symbol symbols.Greater = 4
+binds_symbol symbols.LessEqual = 4
+binds_symbol symbols.GreaterEqual = 4
+binds_symbol symbols.Match = 4
+binds_symbol symbols.NotMatch = 4
+binds_symbol symbols.And = 5
+binds_symbol symbols.Or = 6
+binds_symbol _ = 7
 
 abbrev pub binds : Lexeme → ℕ
-binds (Lexeme.mark k) = binds_mark k
+binds (Lexeme.symbol k) = binds_symbol k
 binds (Lexeme.name text) = 7
 binds (Lexeme.number n) = 7
 binds (Lexeme.address a) = 7
@@ -48,59 +48,59 @@ pub stops_less : (a b : ℕ) (ws : List Lexeme) → a ≤ b → Stops b ws → S
 stops_less a b [] h s = tt
 stops_less a b (w ∷ ws) h s = omega arith
 
--- a mark is not there
-pub no_mark : (k n : Mark) (ws : List Lexeme) → (n ≡ k → ⊥) → after_mark k (Lexeme.mark n ∷ ws) ≡ None
-no_mark k n ws other = go (is_mark k (Lexeme.mark n)) refl
+-- a symbol is not there
+pub no_symbol : (k n : Symbol) (ws : List Lexeme) → (n ≡ k → ⊥) → after_symbol k (Lexeme.symbol n ∷ ws) ≡ None
+no_symbol k n ws other = go (is_symbol k (Lexeme.symbol n)) refl
   where
-    go : (b : Bool) → is_mark k (Lexeme.mark n) ≡ b → after_mark k (Lexeme.mark n ∷ ws) ≡ None
-    go true s = absurd (other (let f : Lexeme.mark n ≡ Lexeme.mark k = mark_is k (Lexeme.mark n) s in cc))
+    go : (b : Bool) → is_symbol k (Lexeme.symbol n) ≡ b → after_symbol k (Lexeme.symbol n ∷ ws) ≡ None
+    go true s = absurd (other (let f : Lexeme.symbol n ≡ Lexeme.symbol k = symbol_is k (Lexeme.symbol n) s in cc))
     go false s = rw s refl
 
-pub dot_stops : (ws : List Lexeme) → Stops 0 ws → after_mark m.Dot ws ≡ None
+pub dot_stops : (ws : List Lexeme) → Stops 0 ws → after_symbol symbols.Dot ws ≡ None
 dot_stops [] s = refl
-dot_stops (Lexeme.mark k ∷ ws) s = no_mark m.Dot k ws (λ e. let f : binds_mark k ≡ 0 = ap binds_mark e in omega arith)
+dot_stops (Lexeme.symbol k ∷ ws) s = no_symbol symbols.Dot k ws (λ e. let f : binds_symbol k ≡ 0 = ap binds_symbol e in omega arith)
 dot_stops (Lexeme.name text ∷ ws) s = refl
 dot_stops (Lexeme.number n ∷ ws) s = refl
 dot_stops (Lexeme.address a ∷ ws) s = refl
 dot_stops (Lexeme.prefix bits ∷ ws) s = refl
 dot_stops (Lexeme.quote ∷ ws) s = refl
 
-pub or_stops : (ws : List Lexeme) → Stops 6 ws → after_mark m.Or ws ≡ None
+pub or_stops : (ws : List Lexeme) → Stops 6 ws → after_symbol symbols.Or ws ≡ None
 or_stops [] s = refl
-or_stops (Lexeme.mark k ∷ ws) s = no_mark m.Or k ws (λ e. let f : binds_mark k ≡ 6 = ap binds_mark e in omega arith)
+or_stops (Lexeme.symbol k ∷ ws) s = no_symbol symbols.Or k ws (λ e. let f : binds_symbol k ≡ 6 = ap binds_symbol e in omega arith)
 or_stops (Lexeme.name text ∷ ws) s = refl
 or_stops (Lexeme.number n ∷ ws) s = refl
 or_stops (Lexeme.address a ∷ ws) s = refl
 or_stops (Lexeme.prefix bits ∷ ws) s = refl
 or_stops (Lexeme.quote ∷ ws) s = refl
 
--- an operator's sign binds as the operator does
-pub binds_sign : (op : Op) → binds_mark (sign op) ≡ rank_of op
-binds_sign o.Add = refl
-binds_sign o.Sub = refl
-binds_sign o.Mul = refl
-binds_sign o.Div = refl
-binds_sign o.Equal = refl
-binds_sign o.NotEqual = refl
-binds_sign o.Less = refl
-binds_sign o.Greater = refl
-binds_sign o.LessEqual = refl
-binds_sign o.GreaterEqual = refl
-binds_sign o.Match = refl
-binds_sign o.NotMatch = refl
-binds_sign o.And = refl
-binds_sign o.Or = refl
+-- an operator's operator binds as the operator does
+pub binds_op_symbol : (op : Op) → binds_symbol (op_symbol op) ≡ rank_of op
+binds_op_symbol o.Add = refl
+binds_op_symbol o.Sub = refl
+binds_op_symbol o.Mul = refl
+binds_op_symbol o.Div = refl
+binds_op_symbol o.Equal = refl
+binds_op_symbol o.NotEqual = refl
+binds_op_symbol o.Less = refl
+binds_op_symbol o.Greater = refl
+binds_op_symbol o.LessEqual = refl
+binds_op_symbol o.GreaterEqual = refl
+binds_op_symbol o.Match = refl
+binds_op_symbol o.NotMatch = refl
+binds_op_symbol o.And = refl
+binds_op_symbol o.Or = refl
 
 -- no operator of a level follows
 pub op_stops : (level : Level) (ws : List Lexeme) → Stops (top level) ws → op_first level ws ≡ None
 op_stops level [] s = refl
-op_stops level (Lexeme.mark k ∷ ws) s = go (op_of level k) refl
+op_stops level (Lexeme.symbol k ∷ ws) s = go (op_of level k) refl
   where
-    go : (r : Option Op) → op_of level k ≡ r → op_first level (Lexeme.mark k ∷ ws) ≡ None
+    go : (r : Option Op) → op_of level k ≡ r → op_first level (Lexeme.symbol k ∷ ws) ≡ None
     go None e = rw e refl
     go (Some op) e =
         let a = op_found level k op e in
-        let b : binds_mark k ≡ rank_of op = ap binds_mark a.spelled ∙ binds_sign op in
+        let b : binds_symbol k ≡ rank_of op = ap binds_symbol a.spelled ∙ binds_op_symbol op in
         let d : rank_of op ≡ top level = a.binds in
         absurd (omega (arith, b, d))
 op_stops level (Lexeme.name text ∷ ws) s = refl

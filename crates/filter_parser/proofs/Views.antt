@@ -14,14 +14,14 @@ use Rattle.filter_parser.specs.declared.tree.op.Membership.{Membership}
 use Rattle.filter_parser.specs.declared.tree.op.Op.{Op}
 use Rattle.filter_parser.specs.declared.tree.op.Suffix.{Suffix}
 use Rattle.filter_parser.specs.declared.tree.set.Set.{Set}
-use Rattle.filter_parser.specs.Syntax.{ExprView, run_of, suffixes_of, view, view_expr_step, view_item, view_more}
-use Rattle.filter_parser.specs.SyntaxCommands.{CommandView, acts_of, view_command, view_step}
+use Rattle.filter_parser.specs.Syntax.{ExprView, chain_of, suffixes_of, view, view_expr_step, view_set_pattern, view_more}
+use Rattle.filter_parser.specs.SyntaxCommands.{CommandView, commands_of, view_command, view_step}
 
--- a run with one more operator behind it
-pub run_more : (left : ExprView) (xs : List (Op × ExprView)) (op : Op) (right : ExprView) →
-    run_of left (xs ++ ((op, right) ∷ [])) ≡ ExprView.binary op (run_of left xs) right
-run_more left [] op right = refl
-run_more left (x ∷ xs) op right = run_more (ExprView.binary x.0 left x.1) xs op right
+-- a chain with one more operator after it
+pub chain_more : (left : ExprView) (xs : List (Op × ExprView)) (op : Op) (right : ExprView) →
+    chain_of left (xs ++ ((op, right) ∷ [])) ≡ ExprView.binary op (chain_of left xs) right
+chain_more left [] op right = refl
+chain_more left (x ∷ xs) op right = chain_more (ExprView.binary x.0 left x.1) xs op right
 
 -- one more suffix
 pub suffixes_more : (inner : ExprView) (xs : List Suffix) (s : Suffix) →
@@ -36,12 +36,12 @@ view_group at inner = ap view (sym (e.rolls-Group at inner)) ∙ fold-roll-Expr 
 pub view_not : (at : ℕ) (inner : Box Expr Global) → view (e.Not at inner) ≡ ExprView.negation (view inner.value)
 view_not at inner = ap view (sym (e.rolls-Not at inner)) ∙ fold-roll-Expr ExprView view_expr_step (Expr-F.Not at inner)
 
-pub view_run : (first : Box Expr Global) (more : Vec (Op × Expr) Global) →
-    view (e.Run first more) ≡ run_of (view first.value) (view_more more.items)
-view_run first more = ap view (sym (e.rolls-Run first more)) ∙ fold-roll-Expr ExprView view_expr_step (Expr-F.Run first more)
+pub view_chain : (first : Box Expr Global) (more : Vec (Op × Expr) Global) →
+    view (e.Chain first more) ≡ chain_of (view first.value) (view_more more.items)
+view_chain first more = ap view (sym (e.rolls-Chain first more)) ∙ fold-roll-Expr ExprView view_expr_step (Expr-F.Chain first more)
 
 pub view_member : (op : Membership) (left : Box Expr Global) (set : Set) →
-    view (e.Member op left set) ≡ ExprView.member op (view left.value) (map view_item set.patterns.items)
+    view (e.Member op left set) ≡ ExprView.member op (view left.value) (map view_set_pattern set.patterns.items)
 view_member op left set = ap view (sym (e.rolls-Member op left set)) ∙ fold-roll-Expr ExprView view_expr_step (Expr-F.Member op left set)
 
 pub view_suffixed : (inner : Box Expr Global) (suffixes : Vec Suffix Global) →
@@ -51,17 +51,17 @@ view_suffixed inner suffixes = ap view (sym (e.rolls-Suffixed inner suffixes))
 
 -- a block, and an `if` without and with `else`
 pub view_block : (at : ℕ) (body : Vec Command Global) → view_command (command.Block at body) ≡ CommandView.block
-    (acts_of (map view_command body.items))
+    (commands_of (map view_command body.items))
 view_block at body = ap view_command (sym (command.rolls-Block at body)) ∙ fold-roll-Command CommandView view_step (Command-F.Block at body)
 
-pub view_choice : (at : ℕ) (test : Expr) (chosen : Box Command Global) →
-    view_command (command.If at test chosen None) ≡ CommandView.choice (view test) (view_command chosen.value)
-view_choice at test chosen =
+pub view_if : (at : ℕ) (test : Expr) (chosen : Box Command Global) →
+    view_command (command.If at test chosen None) ≡ CommandView.if_then (view test) (view_command chosen.value)
+view_if at test chosen =
     ap view_command (sym (command.rolls-If at test chosen None)) ∙ fold-roll-Command CommandView view_step (Command-F.If at test chosen None)
 
-pub view_choice_else : (at : ℕ) (test : Expr) (chosen other : Box Command Global) →
-    view_command (command.If at test chosen (Some other)) ≡ CommandView.choice_else (view test) (view_command chosen.value)
+pub view_if_else : (at : ℕ) (test : Expr) (chosen other : Box Command Global) →
+    view_command (command.If at test chosen (Some other)) ≡ CommandView.if_else (view test) (view_command chosen.value)
     (view_command other.value)
-view_choice_else at test chosen other =
+view_if_else at test chosen other =
     ap view_command (sym (command.rolls-If at test chosen (Some other)))
     ∙ fold-roll-Command CommandView view_step (Command-F.If at test chosen (Some other))

@@ -19,7 +19,7 @@ fault_code (fault.TextElsewhere at) = codes "P10"
 fault_code (fault.NumberSet at) = codes "P10"
 fault_code fault.Memory = codes "P11"
 
--- the place; want of memory has none, which is 0
+-- the place; refused memory has none, which is 0
 abbrev pub fault_place : ParseFault → ℕ
 fault_place (fault.Token found) = token_fault_place found
 fault_place (fault.Unexpected at wanted) = at

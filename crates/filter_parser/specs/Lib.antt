@@ -1,8 +1,10 @@
-pub mod Acting
+-- What callers cite.
 pub mod Codes
 pub mod Places
-pub mod Reading
-pub mod Steps
 pub mod Syntax
 pub mod SyntaxCommands
 pub mod SyntaxText
+-- What only the bodies of this crate are proved against.
+pub mod Reading
+pub mod ReadingCommands
+pub mod Steps

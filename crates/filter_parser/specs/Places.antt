@@ -20,11 +20,11 @@ expr_place_step (Expr-F.Attribute at a) = at
 expr_place_step (Expr-F.Defined at a) = at
 expr_place_step (Expr-F.Group at inner) = at
 expr_place_step (Expr-F.Not at inner) = at
-expr_place_step (Expr-F.Run first more) = first.value
+expr_place_step (Expr-F.Chain first more) = first.value
 expr_place_step (Expr-F.Member op left set) = left.value
 expr_place_step (Expr-F.Suffixed inner suffixes) = inner.value
 
--- the place of an expression: a run, an operand with a set and one with suffixes begin where their first part does
+-- the place of an expression: a chain, an operand with a set and one with suffixes begin where their first part does
 abbrev pub expr_place : Expr → ℕ
 expr_place = fold-Expr ℕ expr_place_step
 
@@ -33,7 +33,7 @@ abbrev pub command_place_step : Command-F ℕ → ℕ
 command_place_step (Command-F.Empty at) = at
 command_place_step (Command-F.Block at body) = at
 command_place_step (Command-F.If at test chosen other) = at
-command_place_step (Command-F.Assign at aim value) = at
+command_place_step (Command-F.Assign at target value) = at
 command_place_step (Command-F.Accept at has_text) = at
 command_place_step (Command-F.Reject at has_text) = at
 

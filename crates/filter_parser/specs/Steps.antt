@@ -3,16 +3,16 @@ use Rattle.std.specs.Prelude.{◌≡◌, ◌≢◌, ℕ, Bool, false, List, [], 
 use Rattle.std.specs.Cmp.Lexicographic.{pointwise}
 use denote.Enum.Bare.{sameb}
 use Rattle.filter_tokens.specs.Lexemes.{Lexeme, lexemes}
-use Rattle.filter_tokens.specs.declared.mark.Mark.{Mark}
-use Rattle.filter_tokens.specs.contracts.mark.Mark.{the_type}
+use Rattle.filter_tokens.specs.declared.symbol.Symbol.{Symbol}
+use Rattle.filter_tokens.specs.contracts.symbol.Symbol.{the_type}
 use Rattle.filter_tokens.specs.declared.token.Token.{Token}
 use Rattle.filter_parser.specs.declared.fault.ParseFault.{ParseFault}
 use Rattle.filter_parser.specs.declared.fault.ParseFault.TheVariants as fault
 use Rattle.filter_parser.specs.declared.input.Input.{Input}
 
 -- the lexemes that are left
-abbrev pub left_of : Input → List Lexeme
-left_of i = lexemes i.text.now i.tokens.now
+abbrev pub remaining : Input → List Lexeme
+remaining i = lexemes i.text.now i.tokens.now
 
 -- the place of the first token that is left, and that of the text's end where there is none
 abbrev pub first_place_of : ℕ → List Token → ℕ
@@ -23,46 +23,40 @@ first_place_of end (token ∷ tokens) = token.from
 abbrev pub first_place : Input → ℕ
 first_place i = first_place_of (length i.text.now) i.tokens.now
 
--- one step after the other, which may depend on what the first made
-infixl 10 ◌>>=◌
-abbrev pub ◌>>=◌ : {A B : Type 0} → Option A → (A → Option B) → Option B
-None >>= later = None
-(Some x) >>= later = later x
-
 -- one step if there is a first, and another one otherwise
 abbrev pub with_some : {A B : Type 0} → Option A → Option B → (A → Option B) → Option B
 with_some None other later = other
 with_some (Some x) other later = later x
 
--- a function of the program answers as the reading function does, or for want of memory
-abbrev pub Gives : {X A : Type 0} → (X → A) → Result X ParseFault → Option A → Type 0
-Gives view (Ok x) read = read ≡ Some (view x)
-Gives view (Err e) read = e ≢ fault.Memory → read ≡ None
+-- a function of the program answers as the reading function does, or for refused memory
+abbrev pub ReadsAs : {X A : Type 0} → (X → A) → Result X ParseFault → Option A → Type 0
+ReadsAs view (Ok x) read = read ≡ Some (view x)
+ReadsAs view (Err e) read = e ≢ fault.Memory → read ≡ None
 
 -- a function of the program that may find nothing answers as the reading function does
 abbrev pub Finds : {X A : Type 0} → (X → A) → Option X → Option A → Type 0
 Finds view None read = read ≡ None
 Finds view (Some x) read = read ≡ Some (view x)
 
--- whether two marks are the same
-abbrev pub same_mark : Mark → Mark → Bool
-same_mark = sameb the_type
+-- whether two symbols are the same
+abbrev pub same_symbol : Symbol → Symbol → Bool
+same_symbol = sameb the_type
 
--- whether a lexeme is a mark
-abbrev pub is_mark : Mark → Lexeme → Bool
-is_mark wanted (Lexeme.mark m) = same_mark wanted m
-is_mark wanted (Lexeme.name text) = false
-is_mark wanted (Lexeme.number n) = false
-is_mark wanted (Lexeme.address a) = false
-is_mark wanted (Lexeme.prefix bits) = false
-is_mark wanted Lexeme.quote = false
+-- whether a lexeme is a symbol
+abbrev pub is_symbol : Symbol → Lexeme → Bool
+is_symbol wanted (Lexeme.symbol m) = same_symbol wanted m
+is_symbol wanted (Lexeme.name text) = false
+is_symbol wanted (Lexeme.number n) = false
+is_symbol wanted (Lexeme.address a) = false
+is_symbol wanted (Lexeme.prefix bits) = false
+is_symbol wanted Lexeme.quote = false
 
--- what stands behind a mark
-abbrev pub after_mark : Mark → List Lexeme → Option (List Lexeme)
-after_mark wanted [] = None
-after_mark wanted (w ∷ ws) = if is_mark wanted w then Some ws else None
+-- what follows a symbol
+abbrev pub after_symbol : Symbol → List Lexeme → Option (List Lexeme)
+after_symbol wanted [] = None
+after_symbol wanted (w ∷ ws) = if is_symbol wanted w then Some ws else None
 
--- what stands behind a text in quotes
+-- what follows a text in quotes
 abbrev pub after_quote : List Lexeme → Option (List Lexeme)
 after_quote (Lexeme.quote ∷ ws) = Some ws
 after_quote _ = None
@@ -70,13 +64,13 @@ after_quote _ = None
 -- whether a lexeme is a name that is this word
 abbrev pub is_word : List ℕ → Lexeme → Bool
 is_word wanted (Lexeme.name text) = pointwise nat_eq text wanted
-is_word wanted (Lexeme.mark k) = false
+is_word wanted (Lexeme.symbol k) = false
 is_word wanted (Lexeme.number n) = false
 is_word wanted (Lexeme.address a) = false
 is_word wanted (Lexeme.prefix bits) = false
 is_word wanted Lexeme.quote = false
 
--- what stands behind a name that is this word
+-- what follows a name that is this word
 abbrev pub after_name : List ℕ → List Lexeme → Option (List Lexeme)
 after_name wanted [] = None
 after_name wanted (w ∷ ws) = if is_word wanted w then Some ws else None

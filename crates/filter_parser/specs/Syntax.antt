@@ -2,8 +2,8 @@
 -- which trees fit the grammar. As in the BIRD 2.0 User's Guide on filters; what is left out is this project's own choice.
 use Rattle.std.specs.Prelude.{◌≢◌, ℕ, zero, suc, ◌≤◌, Bool, true, false, List, [], ◌∷◌, ◌++◌, length, map, codes}
 use Rattle.filter_tokens.specs.Lexemes.{Lexeme}
-use Rattle.filter_tokens.specs.declared.mark.Mark.{Mark}
-use Rattle.filter_tokens.specs.declared.mark.Mark.TheVariants as m
+use Rattle.filter_tokens.specs.declared.symbol.Symbol.{Symbol}
+use Rattle.filter_tokens.specs.declared.symbol.Symbol.TheVariants as symbols
 use Rattle.prefix_patterns.specs.Matching.{PrefixPattern, HasOrderedLengths}
 use Rattle.filter_parser.specs.declared.tree.expr.Attribute.{Attribute}
 use Rattle.filter_parser.specs.declared.tree.expr.Attribute.TheVariants as attributes
@@ -42,16 +42,16 @@ pub data ExprView : Type 0 where
   suffixed : (inner : ExprView) (s : Suffix) → ExprView
 
 -- a set's pattern without its place
-abbrev pub view_item : SetPattern → SetPatternView
-view_item (written.Exact at bits) = exact bits
-view_item (written.OrLonger at bits) = or_longer bits
-view_item (written.OrShorter at bits) = or_shorter bits
-view_item (written.Between at pattern) = between pattern.bits pattern.low pattern.high
+abbrev pub view_set_pattern : SetPattern → SetPatternView
+view_set_pattern (written.Exact at bits) = exact bits
+view_set_pattern (written.OrLonger at bits) = or_longer bits
+view_set_pattern (written.OrShorter at bits) = or_shorter bits
+view_set_pattern (written.Between at pattern) = between pattern.bits pattern.low pattern.high
 
--- a run from the left: `a op b op c` is `(a op b) op c`
-abbrev pub run_of : ExprView → List (Op × ExprView) → ExprView
-run_of left [] = left
-run_of left (x ∷ xs) = run_of (binary x.0 left x.1) xs
+-- a chain from the left: `a op b op c` is `(a op b) op c`
+abbrev pub chain_of : ExprView → List (Op × ExprView) → ExprView
+chain_of left [] = left
+chain_of left (x ∷ xs) = chain_of (binary x.0 left x.1) xs
 
 -- an operand with suffixes, from the left
 abbrev pub suffixes_of : ExprView → List Suffix → ExprView
@@ -69,15 +69,15 @@ view_expr_step (Expr-F.Attribute at a) = attribute a
 view_expr_step (Expr-F.Defined at a) = defined a
 view_expr_step (Expr-F.Group at inner) = group inner.value
 view_expr_step (Expr-F.Not at inner) = negation inner.value
-view_expr_step (Expr-F.Run first more) = run_of first.value more.items
-view_expr_step (Expr-F.Member op left set) = member op left.value (map view_item set.patterns.items)
+view_expr_step (Expr-F.Chain first more) = chain_of first.value more.items
+view_expr_step (Expr-F.Member op left set) = member op left.value (map view_set_pattern set.patterns.items)
 view_expr_step (Expr-F.Suffixed inner suffixes) = suffixes_of inner.value suffixes.items
 
 -- an expression without its places
 abbrev pub view : Expr → ExprView
 view = fold-Expr ExprView view_expr_step
 
--- the operators and operands of a run behind its first operand, without their places
+-- the operators and operands of a chain after its first operand, without their places
 abbrev pub view_more : List (Op × Expr) → List (Op × ExprView)
 view_more xs = map (λ p. (p.0, view p.1)) xs
 
@@ -88,77 +88,77 @@ pattern_of (or_longer p) = record { bits = p; low = length p; high = 32 }
 pattern_of (or_shorter p) = record { bits = p; low = 0; high = length p }
 pattern_of (between p l h) = record { bits = p; low = l; high = h }
 
--- the sign of an operator
-abbrev pub sign : Op → Mark
-sign o.Add = m.Plus
-sign o.Sub = m.Minus
-sign o.Mul = m.Times
-sign o.Div = m.Divide
-sign o.Equal = m.Equal
-sign o.NotEqual = m.NotEqual
-sign o.Less = m.Less
-sign o.Greater = m.Greater
-sign o.LessEqual = m.LessEqual
-sign o.GreaterEqual = m.GreaterEqual
-sign o.Match = m.Match
-sign o.NotMatch = m.NotMatch
-sign o.And = m.And
-sign o.Or = m.Or
+-- the symbol of an operator
+abbrev pub op_symbol : Op → Symbol
+op_symbol o.Add = symbols.Plus
+op_symbol o.Sub = symbols.Minus
+op_symbol o.Mul = symbols.Times
+op_symbol o.Div = symbols.Divide
+op_symbol o.Equal = symbols.Equal
+op_symbol o.NotEqual = symbols.NotEqual
+op_symbol o.Less = symbols.Less
+op_symbol o.Greater = symbols.Greater
+op_symbol o.LessEqual = symbols.LessEqual
+op_symbol o.GreaterEqual = symbols.GreaterEqual
+op_symbol o.Match = symbols.Match
+op_symbol o.NotMatch = symbols.NotMatch
+op_symbol o.And = symbols.And
+op_symbol o.Or = symbols.Or
 
--- the sign before a set
-abbrev pub membership_sign : Membership → Mark
-membership_sign membership.In = m.Match
-membership_sign membership.NotIn = m.NotMatch
+-- the operator before a set
+abbrev pub membership_symbol : Membership → Symbol
+membership_symbol membership.In = symbols.Match
+membership_symbol membership.NotIn = symbols.NotMatch
 
 -- the keyword of a truth value
-abbrev pub truth_mark : Bool → Mark
-truth_mark true = m.True
-truth_mark false = m.False
+abbrev pub truth_symbol : Bool → Symbol
+truth_symbol true = symbols.True
+truth_symbol false = symbols.False
 
 -- the keyword of an attribute
-abbrev pub attribute_mark : Attribute → Mark
-attribute_mark attributes.Net = m.Net
-attribute_mark attributes.RipMetric = m.RipMetric
+abbrev pub attribute_symbol : Attribute → Symbol
+attribute_symbol attributes.Net = symbols.Net
+attribute_symbol attributes.RipMetric = symbols.RipMetric
 
--- `.ip`, `.len` and `.mask(n)` behind an operand; `len` and `mask` are no keywords
+-- `.ip`, `.len` and `.mask(n)` after an operand; `len` and `mask` are no keywords
 abbrev pub spelling_suffix : Suffix → List Lexeme
-spelling_suffix suffix.Ip = Lexeme.mark m.Dot ∷ Lexeme.mark m.Ip ∷ []
-spelling_suffix suffix.Len = Lexeme.mark m.Dot ∷ Lexeme.name (codes "len") ∷ []
+spelling_suffix suffix.Ip = Lexeme.symbol symbols.Dot ∷ Lexeme.symbol symbols.Ip ∷ []
+spelling_suffix suffix.Len = Lexeme.symbol symbols.Dot ∷ Lexeme.name (codes "len") ∷ []
 spelling_suffix (suffix.Mask n) =
-    Lexeme.mark m.Dot ∷ Lexeme.name (codes "mask") ∷ Lexeme.mark m.LeftParen ∷ Lexeme.number n ∷ Lexeme.mark m.RightParen ∷ []
+    Lexeme.symbol symbols.Dot ∷ Lexeme.name (codes "mask") ∷ Lexeme.symbol symbols.LeftParen ∷ Lexeme.number n ∷ Lexeme.symbol symbols.RightParen ∷ []
 
--- a pattern: a prefix, and behind it the lengths that it takes
-abbrev pub spelling_item : SetPatternView → List Lexeme
-spelling_item (exact p) = Lexeme.prefix p ∷ []
-spelling_item (or_longer p) = Lexeme.prefix p ∷ Lexeme.mark m.Plus ∷ []
-spelling_item (or_shorter p) = Lexeme.prefix p ∷ Lexeme.mark m.Minus ∷ []
-spelling_item (between p l h) =
-    Lexeme.prefix p ∷ Lexeme.mark m.LeftBrace ∷ Lexeme.number l ∷ Lexeme.mark m.Comma ∷ Lexeme.number h ∷ Lexeme.mark m.RightBrace ∷ []
+-- a pattern: a prefix, and after it the lengths that it takes
+abbrev pub spelling_set_pattern : SetPatternView → List Lexeme
+spelling_set_pattern (exact p) = Lexeme.prefix p ∷ []
+spelling_set_pattern (or_longer p) = Lexeme.prefix p ∷ Lexeme.symbol symbols.Plus ∷ []
+spelling_set_pattern (or_shorter p) = Lexeme.prefix p ∷ Lexeme.symbol symbols.Minus ∷ []
+spelling_set_pattern (between p l h) =
+    Lexeme.prefix p ∷ Lexeme.symbol symbols.LeftBrace ∷ Lexeme.number l ∷ Lexeme.symbol symbols.Comma ∷ Lexeme.number h ∷ Lexeme.symbol symbols.RightBrace ∷ []
 
--- the patterns of a set after its first, each behind a comma, and the bracket that ends it
-abbrev pub spelling_items : List SetPatternView → List Lexeme
-spelling_items [] = Lexeme.mark m.RightBracket ∷ []
-spelling_items (x ∷ xs) = Lexeme.mark m.Comma ∷ (spelling_item x ++ spelling_items xs)
+-- the patterns of a set after its first, each after a comma, and the bracket that ends it
+abbrev pub spelling_set_patterns : List SetPatternView → List Lexeme
+spelling_set_patterns [] = Lexeme.symbol symbols.RightBracket ∷ []
+spelling_set_patterns (x ∷ xs) = Lexeme.symbol symbols.Comma ∷ (spelling_set_pattern x ++ spelling_set_patterns xs)
 
 -- a set in its brackets; a set without a pattern has no spelling that fits
 abbrev pub spelling_set : List SetPatternView → List Lexeme
-spelling_set [] = Lexeme.mark m.LeftBracket ∷ Lexeme.mark m.RightBracket ∷ []
-spelling_set (x ∷ xs) = Lexeme.mark m.LeftBracket ∷ (spelling_item x ++ spelling_items xs)
+spelling_set [] = Lexeme.symbol symbols.LeftBracket ∷ Lexeme.symbol symbols.RightBracket ∷ []
+spelling_set (x ∷ xs) = Lexeme.symbol symbols.LeftBracket ∷ (spelling_set_pattern x ++ spelling_set_patterns xs)
 
 -- the lexemes of an expression
 abbrev pub spelling : ExprView → List Lexeme
 spelling (number n) = Lexeme.number n ∷ []
 spelling (address a) = Lexeme.address a ∷ []
 spelling (prefix p) = Lexeme.prefix p ∷ []
-spelling (truth b) = Lexeme.mark (truth_mark b) ∷ []
+spelling (truth b) = Lexeme.symbol (truth_symbol b) ∷ []
 spelling (name text) = Lexeme.name text ∷ []
-spelling (attribute a) = Lexeme.mark (attribute_mark a) ∷ []
+spelling (attribute a) = Lexeme.symbol (attribute_symbol a) ∷ []
 spelling (defined a) =
-    Lexeme.mark m.Defined ∷ Lexeme.mark m.LeftParen ∷ Lexeme.mark (attribute_mark a) ∷ Lexeme.mark m.RightParen ∷ []
-spelling (group inner) = Lexeme.mark m.LeftParen ∷ (spelling inner ++ Lexeme.mark m.RightParen ∷ [])
-spelling (negation inner) = Lexeme.mark m.Not ∷ spelling inner
-spelling (binary op left right) = spelling left ++ Lexeme.mark (sign op) ∷ spelling right
-spelling (member op left set) = spelling left ++ Lexeme.mark (membership_sign op) ∷ spelling_set set
+    Lexeme.symbol symbols.Defined ∷ Lexeme.symbol symbols.LeftParen ∷ Lexeme.symbol (attribute_symbol a) ∷ Lexeme.symbol symbols.RightParen ∷ []
+spelling (group inner) = Lexeme.symbol symbols.LeftParen ∷ (spelling inner ++ Lexeme.symbol symbols.RightParen ∷ [])
+spelling (negation inner) = Lexeme.symbol symbols.Not ∷ spelling inner
+spelling (binary op left right) = spelling left ++ Lexeme.symbol (op_symbol op) ∷ spelling right
+spelling (member op left set) = spelling left ++ Lexeme.symbol (membership_symbol op) ∷ spelling_set set
 spelling (suffixed inner s) = spelling inner ++ spelling_suffix s
 
 -- how loosely an operator binds: 2 products, 3 sums, 4 comparisons, 5 `&&`, 6 `||`
@@ -193,8 +193,8 @@ rank (binary op left right) = rank_of op
 rank (member op left set) = 4
 rank (suffixed inner s) = 0
 
--- which operands an operator may have: runs of sums and of products group to the left, a comparison has two sides and
--- no chain, and a run has only `&&` or only `||`
+-- which operands an operator may have: chains of sums and of products group to the left, a comparison has two sides and
+-- no chain, and a chain has only `&&` or only `||`
 abbrev pub FitsSides : Op → ℕ → ℕ → Type 0
 FitsSides o.Add left right = (left ≤ 3) × (right ≤ 2)
 FitsSides o.Sub left right = (left ≤ 3) × (right ≤ 2)
@@ -222,21 +222,21 @@ FitsSuffix suffix.Len = Unit {0}
 FitsSuffix (suffix.Mask n) = n ≤ mask_limit
 
 -- the lengths in a pattern's braces are in order, and at most 32
-abbrev pub FitsItem : SetPatternView → Type 0
-FitsItem (exact p) = Unit {0}
-FitsItem (or_longer p) = Unit {0}
-FitsItem (or_shorter p) = Unit {0}
-FitsItem (between p l h) = HasOrderedLengths l h
+abbrev pub FitsSetPattern : SetPatternView → Type 0
+FitsSetPattern (exact p) = Unit {0}
+FitsSetPattern (or_longer p) = Unit {0}
+FitsSetPattern (or_shorter p) = Unit {0}
+FitsSetPattern (between p l h) = HasOrderedLengths l h
 
 -- each of these patterns fits
-abbrev pub FitsItems : List SetPatternView → Type 0
-FitsItems [] = Unit {0}
-FitsItems (x ∷ xs) = FitsItem x × FitsItems xs
+abbrev pub FitsSetPatterns : List SetPatternView → Type 0
+FitsSetPatterns [] = Unit {0}
+FitsSetPatterns (x ∷ xs) = FitsSetPattern x × FitsSetPatterns xs
 
 -- a set has at least one pattern
 abbrev pub FitsSet : List SetPatternView → Type 0
 FitsSet [] = ⊥
-FitsSet (x ∷ xs) = FitsItem x × FitsItems xs
+FitsSet (x ∷ xs) = FitsSetPattern x × FitsSetPatterns xs
 
 -- how deep blocks, parentheses, `!` and `if` may nest in a filter (this project's own choice)
 abbrev pub nesting_limit : ℕ
@@ -247,7 +247,7 @@ abbrev pub one_less : ℕ → (ℕ → Type 0) → Type 0
 one_less zero P = ⊥
 one_less (suc n) P = P n
 
--- an expression fits the grammar where so many levels may still nest
+-- an expression fits the grammar where this many more levels may nest
 abbrev pub Fits : ExprView → ℕ → Type 0
 Fits (number n) depth = Unit {0}
 Fits (address a) depth = Unit {0}

@@ -2,72 +2,71 @@
 
 ghost use Rattle.std.specs.Prelude.{◌≡◌, ◌≢◌, ◌<◌, ◌≤◌, length, Some, IfOk};
 ghost use Rattle.filter_parser.specs.declared.fault.ParseFault.TheVariants.{Memory};
-ghost use Rattle.filter_parser.specs.Acting.{body_read_of, command_read_of, accepts, act_at, act_by, acts_with, assign_with, block_at};
-ghost use Rattle.filter_parser.specs.Acting.{aim_of, choice_at, end_of, other_with, rejects};
+ghost use Rattle.filter_parser.specs.ReadingCommands as spec;
 ghost use Rattle.filter_parser.specs.Places.{command_place};
 ghost use Rattle.filter_parser.specs.Reading.{expr_at};
-ghost use Rattle.filter_parser.specs.Steps.{Gives, first_place, left_of};
+ghost use Rattle.filter_parser.specs.Steps.{ReadsAs, first_place, remaining};
 ghost use Rattle.filter_parser.specs.Syntax.{view};
 ghost use Rattle.filter_parser.specs.SyntaxCommands.{view_command, view_target};
-ghost use Rattle.filter_parser.specs.SyntaxCommands.CommandView.{choice, choice_else};
+ghost use Rattle.filter_parser.specs.SyntaxCommands.CommandView.{if_then, if_else};
 
 use crate::expected::Expected;
-use crate::expr::expr;
+use crate::expr::parse_expr;
 use crate::fault::ParseFault;
 use crate::input::Input;
 use crate::tree::{Command, Expr, Target};
-use filter_tokens::{Mark, Token, Word};
+use filter_tokens::{Symbol, Token, TokenKind};
 use std::alloc::{AllocError, Global};
 
 /// The text, if there is one, and the `;` that ends `accept` and `reject`.
-fn end<'a>(input: Input<'a>) -> Result<(bool, Input<'a>), ParseFault>
-    ensures reads { Gives (λ x. (x.0, left_of x.1)) result (end_of (left_of input.entry)) }
-    ensures shorter { IfOk result (λ x. length (left_of x.1) < length (left_of input.entry)) }
+fn parse_end<'a>(input: Input<'a>) -> Result<(bool, Input<'a>), ParseFault>
+    ensures reads { ReadsAs (λ x. (x.0, remaining x.1)) result (spec.end_of (remaining input.entry)) }
+    ensures shorter { IfOk result (λ x. length (remaining x.1) < length (remaining input.entry)) }
 {
-    match input.behind_text() {
-        Some(rest) => Ok((true, rest.expect(Mark::Semicolon, Expected::Semicolon)?)),
+    match input.eat_text() {
+        Some(rest) => Ok((true, rest.expect(Symbol::Semicolon, Expected::Semicolon)?)),
         None => Ok((
             false,
-            input.expect(Mark::Semicolon, Expected::TextOrSemicolon)?,
+            input.expect(Symbol::Semicolon, Expected::TextOrSemicolon)?,
         )),
     }
 }
 
 /// The `=` of an assignment, its right side, and `;`.
-fn assignment<'a>(
+fn parse_assignment<'a>(
     alloc: Global,
     depth: usize,
     at: usize,
     target: Target,
     input: Input<'a>,
 ) -> Result<(Command, Input<'a>), ParseFault>
-    ensures reads { Gives command_read_of result (assign_with (expr_at depth) (view_target target) (left_of input.entry)) }
-    ensures shorter { IfOk result (λ x. length (left_of x.1) < length (left_of input.entry)) }
+    ensures reads { ReadsAs spec.command_read_of result (spec.assign_with (expr_at depth) (view_target target) (remaining input.entry)) }
+    ensures shorter { IfOk result (λ x. length (remaining x.1) < length (remaining input.entry)) }
     ensures placed { IfOk result (λ x. command_place x.0 ≡ at) }
 {
-    let value = input.expect(Mark::Equal, Expected::Assign)?;
-    let (value, end) = expr(alloc, depth, value)?;
-    let rest = end.expect(Mark::Semicolon, Expected::Semicolon)?;
+    let value = input.expect(Symbol::Equal, Expected::Assign)?;
+    let (value, end) = parse_expr(alloc, depth, value)?;
+    let rest = end.expect(Symbol::Semicolon, Expected::Semicolon)?;
     Ok((Command::Assign(at, target, value), rest))
 }
 
 /// An `if` without `else`.
-fn chooses(alloc: Global, at: usize, test: Expr, chosen: Command) -> Result<Command, AllocError>
-    ensures is { IfOk result (λ c. view_command c ≡ choice (view test) (view_command chosen)) }
+fn if_command(alloc: Global, at: usize, test: Expr, chosen: Command) -> Result<Command, AllocError>
+    ensures is { IfOk result (λ c. view_command c ≡ if_then (view test) (view_command chosen)) }
     ensures placed { IfOk result (λ c. command_place c ≡ at) }
 {
     Ok(Command::If(at, test, Box::new(alloc, chosen)?, None))
 }
 
 /// An `if` with `else`.
-fn chooses_else(
+fn if_else_command(
     alloc: Global,
     at: usize,
     test: Expr,
     chosen: Command,
     other: Command,
 ) -> Result<Command, AllocError>
-    ensures is { IfOk result (λ c. view_command c ≡ choice_else (view test) (view_command chosen) (view_command other)) }
+    ensures is { IfOk result (λ c. view_command c ≡ if_else (view test) (view_command chosen) (view_command other)) }
     ensures placed { IfOk result (λ c. command_place c ≡ at) }
 {
     Ok(Command::If(
@@ -78,9 +77,9 @@ fn chooses_else(
     ))
 }
 
-/// What stands behind the first command of an `if`.
+/// What follows the first command of an `if`.
 #[cycle(command)]
-fn other<'a>(
+fn parse_else<'a>(
     alloc: Global,
     depth: usize,
     at: usize,
@@ -88,168 +87,170 @@ fn other<'a>(
     chosen: Command,
     input: Input<'a>,
 ) -> Result<(Command, Input<'a>), ParseFault>
-    ensures reads { Gives command_read_of result (other_with (act_at depth) (view test) (view_command chosen) (left_of input.entry)) }
-    ensures shorter { IfOk result (λ x. length (left_of x.1) ≤ length (left_of input.entry)) }
+    ensures reads { ReadsAs spec.command_read_of result (spec.else_with (spec.command_at depth) (view test) (view_command chosen) (remaining input.entry)) }
+    ensures shorter { IfOk result (λ x. length (remaining x.1) ≤ length (remaining input.entry)) }
     ensures placed { IfOk result (λ x. command_place x.0 ≡ at) }
 {
-    match input.behind(Mark::Else) {
-        None => Ok((chooses(alloc, at, test, chosen)?, input)),
+    match input.eat(Symbol::Else) {
+        None => Ok((if_command(alloc, at, test, chosen)?, input)),
         Some(rest) => {
-            let (other, rest) = command(alloc, depth, Expected::Command, rest)?;
-            Ok((chooses_else(alloc, at, test, chosen, other)?, rest))
+            let (other, rest) = parse_command(alloc, depth, Expected::Command, rest)?;
+            Ok((if_else_command(alloc, at, test, chosen, other)?, rest))
         }
     }
 }
 
-/// An `if`, behind that word.
+/// An `if`, after that word.
 #[cycle(command)]
-fn choice<'a>(
+fn parse_if<'a>(
     alloc: Global,
     depth: usize,
     at: usize,
     input: Input<'a>,
 ) -> Result<(Command, Input<'a>), ParseFault>
-    ensures reads { Gives command_read_of result (choice_at depth (left_of input.entry)) }
-    ensures shorter { IfOk result (λ x. length (left_of x.1) < length (left_of input.entry)) }
+    ensures reads { ReadsAs spec.command_read_of result (spec.if_at depth (remaining input.entry)) }
+    ensures shorter { IfOk result (λ x. length (remaining x.1) < length (remaining input.entry)) }
     ensures placed { IfOk result (λ x. command_place x.0 ≡ at) }
 {
     if depth == 0 {
         return Err(ParseFault::TooDeep(at));
     }
-    let (test, rest) = expr(alloc, depth - 1, input)?;
-    let rest = rest.expect(Mark::Then, Expected::Then)?;
-    let (chosen, rest) = command(alloc, depth - 1, Expected::Command, rest)?;
-    other(alloc, depth - 1, at, test, chosen, rest)
+    let (test, rest) = parse_expr(alloc, depth - 1, input)?;
+    let rest = rest.expect(Symbol::Then, Expected::Then)?;
+    let (chosen, rest) = parse_command(alloc, depth - 1, Expected::Command, rest)?;
+    parse_else(alloc, depth - 1, at, test, chosen, rest)
 }
 
 /// Commands up to their `}`.
 #[cycle(command)]
-pub fn body<'a>(
+pub fn parse_commands<'a>(
     alloc: Global,
     depth: usize,
     input: Input<'a>,
 ) -> Result<(Vec<Command>, Input<'a>), ParseFault>
-    ensures reads { Gives body_read_of result (acts_with (act_at depth) (left_of input.entry)) }
-    ensures shorter { IfOk result (λ x. length (left_of x.1) < length (left_of input.entry)) }
+    ensures reads { ReadsAs spec.body_read_of result (spec.commands_with (spec.command_at depth) (remaining input.entry)) }
+    ensures shorter { IfOk result (λ x. length (remaining x.1) < length (remaining input.entry)) }
 {
     let mut commands = Vec::new(alloc);
     let mut rest = input;
     loop {
-        if let Some(behind) = rest.behind(Mark::RightBrace) {
-            return Ok((commands, behind));
+        if let Some(after) = rest.eat(Symbol::RightBrace) {
+            return Ok((commands, after));
         }
-        match command(alloc, depth, Expected::CommandOrEnd, rest) {
-            Ok((next, behind)) => {
-                commands.push(next)?;
-                rest = behind;
+        match parse_command(alloc, depth, Expected::CommandOrEnd, rest) {
+            Ok((command, after)) => {
+                commands.push(command)?;
+                rest = after;
             }
             Err(fault) => return Err(fault),
         }
     }
 }
 
-/// A block, behind its `{`.
+/// A block, after its `{`.
 #[cycle(command)]
-fn block<'a>(
+fn parse_block<'a>(
     alloc: Global,
     depth: usize,
     at: usize,
     input: Input<'a>,
 ) -> Result<(Command, Input<'a>), ParseFault>
-    ensures reads { Gives command_read_of result (block_at depth (left_of input.entry)) }
-    ensures shorter { IfOk result (λ x. length (left_of x.1) < length (left_of input.entry)) }
+    ensures reads { ReadsAs spec.command_read_of result (spec.block_at depth (remaining input.entry)) }
+    ensures shorter { IfOk result (λ x. length (remaining x.1) < length (remaining input.entry)) }
     ensures placed { IfOk result (λ x. command_place x.0 ≡ at) }
 {
     if depth == 0 {
         return Err(ParseFault::TooDeep(at));
     }
-    let (commands, rest) = body(alloc, depth - 1, input)?;
+    let (commands, rest) = parse_commands(alloc, depth - 1, input)?;
     Ok((Command::Block(at, commands), rest))
 }
 
 /// An assignment to a variable, whose name is the token before the rest.
-fn to_variable<'a>(
+fn parse_variable_assignment<'a>(
     alloc: Global,
     depth: usize,
     input: Input<'a>,
     name: &Token,
     rest: Input<'a>,
 ) -> Result<(Command, Input<'a>), ParseFault>
-    ensures reads { Gives command_read_of result (assign_with (expr_at depth) (aim_of input.entry.text.now name.now) (left_of rest.entry)) }
-    ensures shorter { IfOk result (λ x. length (left_of x.1) < length (left_of rest.entry)) }
+    ensures reads { ReadsAs spec.command_read_of result (spec.assign_with (expr_at depth) (spec.target_of input.entry.text.now name.now) (remaining rest.entry)) }
+    ensures shorter { IfOk result (λ x. length (remaining x.1) < length (remaining rest.entry)) }
     ensures placed { IfOk result (λ x. command_place x.0 ≡ name.now.from) }
 {
     let text = input.bytes(alloc, name)?;
-    assignment(alloc, depth, name.from, Target::Name(text), rest)
+    parse_assignment(alloc, depth, name.from, Target::Name(text), rest)
 }
 
-/// `accept`, behind that word.
-fn acceptance<'a>(at: usize, input: Input<'a>) -> Result<(Command, Input<'a>), ParseFault>
-    ensures reads { Gives command_read_of result (accepts (left_of input.entry)) }
-    ensures shorter { IfOk result (λ x. length (left_of x.1) < length (left_of input.entry)) }
+/// `accept`, after that word.
+fn parse_accept<'a>(at: usize, input: Input<'a>) -> Result<(Command, Input<'a>), ParseFault>
+    ensures reads { ReadsAs spec.command_read_of result (spec.accepts (remaining input.entry)) }
+    ensures shorter { IfOk result (λ x. length (remaining x.1) < length (remaining input.entry)) }
     ensures placed { IfOk result (λ x. command_place x.0 ≡ at) }
 {
-    let (has_text, rest) = end(input)?;
+    let (has_text, rest) = parse_end(input)?;
     Ok((Command::Accept(at, has_text), rest))
 }
 
-/// `reject`, behind that word.
-fn rejection<'a>(at: usize, input: Input<'a>) -> Result<(Command, Input<'a>), ParseFault>
-    ensures reads { Gives command_read_of result (rejects (left_of input.entry)) }
-    ensures shorter { IfOk result (λ x. length (left_of x.1) < length (left_of input.entry)) }
+/// `reject`, after that word.
+fn parse_reject<'a>(at: usize, input: Input<'a>) -> Result<(Command, Input<'a>), ParseFault>
+    ensures reads { ReadsAs spec.command_read_of result (spec.rejects (remaining input.entry)) }
+    ensures shorter { IfOk result (λ x. length (remaining x.1) < length (remaining input.entry)) }
     ensures placed { IfOk result (λ x. command_place x.0 ≡ at) }
 {
-    let (has_text, rest) = end(input)?;
+    let (has_text, rest) = parse_end(input)?;
     Ok((Command::Reject(at, has_text), rest))
 }
 
-/// A command that a sign or a keyword begins, at a place. Where none does, the fault is the one that is given.
+/// A command that a symbol begins, at a place. Where none does, the fault is the one that is given.
 #[cycle(command)]
-fn command_by<'a>(
+fn parse_command_by<'a>(
     alloc: Global,
     depth: usize,
-    mark: Mark,
+    symbol: Symbol,
     at: usize,
     other: ParseFault,
     rest: Input<'a>,
 ) -> Result<(Command, Input<'a>), ParseFault>
     requires { other ≢ Memory }
-    ensures reads { Gives command_read_of result (act_by (expr_at depth) (block_at depth) (choice_at depth) mark (left_of rest.entry)) }
-    ensures shorter { IfOk result (λ x. length (left_of x.1) ≤ length (left_of rest.entry)) }
+    ensures reads { ReadsAs spec.command_read_of result (spec.command_by (expr_at depth) (spec.block_at depth) (spec.if_at depth) symbol (remaining rest.entry)) }
+    ensures shorter { IfOk result (λ x. length (remaining x.1) ≤ length (remaining rest.entry)) }
     ensures placed { IfOk result (λ x. command_place x.0 ≡ at) }
 {
-    match mark {
-        Mark::Semicolon => Ok((Command::Empty(at), rest)),
-        Mark::LeftBrace => block(alloc, depth, at, rest),
-        Mark::If => choice(alloc, depth, at, rest),
-        Mark::Accept => acceptance(at, rest),
-        Mark::Reject => rejection(at, rest),
-        Mark::RipMetric => assignment(alloc, depth, at, Target::RipMetric, rest),
-        Mark::Net => assignment(alloc, depth, at, Target::Net, rest),
+    match symbol {
+        Symbol::Semicolon => Ok((Command::Empty(at), rest)),
+        Symbol::LeftBrace => parse_block(alloc, depth, at, rest),
+        Symbol::If => parse_if(alloc, depth, at, rest),
+        Symbol::Accept => parse_accept(at, rest),
+        Symbol::Reject => parse_reject(at, rest),
+        Symbol::RipMetric => parse_assignment(alloc, depth, at, Target::RipMetric, rest),
+        Symbol::Net => parse_assignment(alloc, depth, at, Target::Net, rest),
         _ => Err(other),
     }
 }
 
-/// A command, where so many levels may still nest, and what to say is expected where there is none.
+/// A command, where this many more levels may nest, and what to say is expected where there is none.
 #[cycle(command)]
-#[tactic(auto, using(crate::proofs::Bodies::act_is))]
-pub fn command<'a>(
+#[tactic(auto, using(crate::proofs::Bodies::command_is))]
+pub fn parse_command<'a>(
     alloc: Global,
     depth: usize,
     expected: Expected,
     input: Input<'a>,
 ) -> Result<(Command, Input<'a>), ParseFault>
-    ensures reads { Gives command_read_of result (act_at depth (left_of input.entry)) }
-    ensures shorter { IfOk result (λ x. length (left_of x.1) < length (left_of input.entry)) }
+    ensures reads { ReadsAs spec.command_read_of result (spec.command_at depth (remaining input.entry)) }
+    ensures shorter { IfOk result (λ x. length (remaining x.1) < length (remaining input.entry)) }
     ensures placed { IfOk result (λ x. command_place x.0 ≡ first_place input.entry) }
 {
     let other = input.unexpected(expected);
     let Some((first, rest)) = input.next() else {
         return Err(other);
     };
-    match &first.word {
-        Word::Name => to_variable(alloc, depth, input, first, rest),
-        Word::Mark(mark) => command_by(alloc, depth, *mark, first.from, other, rest),
+    match &first.kind {
+        TokenKind::Name => parse_variable_assignment(alloc, depth, input, first, rest),
+        TokenKind::Symbol(symbol) => parse_command_by(
+            alloc, depth, *symbol, first.from, other, rest,
+        ),
         _ => Err(other),
     }
 }

@@ -29,7 +29,7 @@ pub enum Expected {
     LeftParen,
     /// `)`
     RightParen,
-    /// `ip`, `len` or `mask`, behind a dot.
+    /// `ip`, `len` or `mask`, after a dot.
     Part,
     /// A number.
     Number,
@@ -39,11 +39,11 @@ pub enum Expected {
     Prefix,
     /// A `,` between two lengths.
     Comma,
-    /// The `}` behind two lengths.
+    /// The `}` after two lengths.
     RightBrace,
     /// A `,` or a `]` in a set.
     CommaOrBracket,
-    /// Nothing, behind the filter.
+    /// Nothing, after the filter.
     End,
 }
 

@@ -1,11 +1,10 @@
 ghost use Rattle.std.specs.Prelude.{◌≡◌, ◌<◌, Some, None, IfSome, length};
-ghost use Rattle.filter_parser.specs.Reading.{level_of, op_first};
-ghost use Rattle.filter_parser.specs.Reading.{op_of as the_op_of};
-ghost use Rattle.filter_parser.specs.Steps.{Finds, left_of};
+ghost use Rattle.filter_parser.specs.Reading as spec;
+ghost use Rattle.filter_parser.specs.Steps.{Finds, remaining};
 
 use crate::input::Input;
 use crate::tree::Op;
-use filter_tokens::{Mark, Word};
+use filter_tokens::{Symbol, TokenKind};
 
 /// Operators that bind equally.
 #[derive(Clone, Copy, Debug, PartialEq, Eq)]
@@ -22,86 +21,86 @@ pub enum Level {
     Product,
 }
 
-/// The operator of a level that a sign is.
-fn op_of(level: Level, mark: Mark) -> Option<Op>
-    ensures { result ≡ the_op_of level mark }
+/// The operator of a level that a symbol stands for.
+fn op_of(level: Level, symbol: Symbol) -> Option<Op>
+    ensures { result ≡ spec.op_of level symbol }
 {
     match level {
-        Level::Or => or_op(mark),
-        Level::And => and_op(mark),
-        Level::Comparison => comparison_op(mark),
-        Level::Sum => sum_op(mark),
-        Level::Product => product_op(mark),
+        Level::Or => or_op(symbol),
+        Level::And => and_op(symbol),
+        Level::Comparison => comparison_op(symbol),
+        Level::Sum => sum_op(symbol),
+        Level::Product => product_op(symbol),
     }
 }
 
 /// `||`.
-fn or_op(mark: Mark) -> Option<Op>
-    ensures { result ≡ the_op_of Level.Or mark }
+fn or_op(symbol: Symbol) -> Option<Op>
+    ensures { result ≡ spec.op_of Level.Or symbol }
 {
-    match mark {
-        Mark::Or => Some(Op::Or),
+    match symbol {
+        Symbol::Or => Some(Op::Or),
         _ => None,
     }
 }
 
 /// `&&`.
-fn and_op(mark: Mark) -> Option<Op>
-    ensures { result ≡ the_op_of Level.And mark }
+fn and_op(symbol: Symbol) -> Option<Op>
+    ensures { result ≡ spec.op_of Level.And symbol }
 {
-    match mark {
-        Mark::And => Some(Op::And),
+    match symbol {
+        Symbol::And => Some(Op::And),
         _ => None,
     }
 }
 
 /// `=`, `<`, `~` or one of their kin.
-fn comparison_op(mark: Mark) -> Option<Op>
-    ensures { result ≡ the_op_of Level.Comparison mark }
+fn comparison_op(symbol: Symbol) -> Option<Op>
+    ensures { result ≡ spec.op_of Level.Comparison symbol }
 {
-    match mark {
-        Mark::Equal => Some(Op::Equal),
-        Mark::NotEqual => Some(Op::NotEqual),
-        Mark::Less => Some(Op::Less),
-        Mark::Greater => Some(Op::Greater),
-        Mark::LessEqual => Some(Op::LessEqual),
-        Mark::GreaterEqual => Some(Op::GreaterEqual),
-        Mark::Match => Some(Op::Match),
-        Mark::NotMatch => Some(Op::NotMatch),
+    match symbol {
+        Symbol::Equal => Some(Op::Equal),
+        Symbol::NotEqual => Some(Op::NotEqual),
+        Symbol::Less => Some(Op::Less),
+        Symbol::Greater => Some(Op::Greater),
+        Symbol::LessEqual => Some(Op::LessEqual),
+        Symbol::GreaterEqual => Some(Op::GreaterEqual),
+        Symbol::Match => Some(Op::Match),
+        Symbol::NotMatch => Some(Op::NotMatch),
         _ => None,
     }
 }
 
 /// `+` or `-`.
-fn sum_op(mark: Mark) -> Option<Op>
-    ensures { result ≡ the_op_of Level.Sum mark }
+fn sum_op(symbol: Symbol) -> Option<Op>
+    ensures { result ≡ spec.op_of Level.Sum symbol }
 {
-    match mark {
-        Mark::Plus => Some(Op::Add),
-        Mark::Minus => Some(Op::Sub),
+    match symbol {
+        Symbol::Plus => Some(Op::Add),
+        Symbol::Minus => Some(Op::Sub),
         _ => None,
     }
 }
 
 /// `*` or `/`.
-fn product_op(mark: Mark) -> Option<Op>
-    ensures { result ≡ the_op_of Level.Product mark }
+fn product_op(symbol: Symbol) -> Option<Op>
+    ensures { result ≡ spec.op_of Level.Product symbol }
 {
-    match mark {
-        Mark::Times => Some(Op::Mul),
-        Mark::Divide => Some(Op::Div),
+    match symbol {
+        Symbol::Times => Some(Op::Mul),
+        Symbol::Divide => Some(Op::Div),
         _ => None,
     }
 }
 
-/// An operator of a level, where one comes first, and what is left behind it.
-pub fn operator<'a>(level: Level, input: Input<'a>) -> Option<(Op, Input<'a>)>
-    ensures found { Finds (λ x. (x.0, left_of x.1)) result (op_first level (left_of input.entry)) }
-    ensures shorter { IfSome result (λ x. length (left_of x.1) < length (left_of input.entry)) }
+/// An operator of a level, if one comes first, and what is left after it.
+pub fn eat_operator<'a>(level: Level, input: Input<'a>) -> Option<(Op, Input<'a>)>
+    ensures found { Finds (λ x. (x.0, remaining x.1)) result (spec.op_first level (remaining input.entry)) }
+    ensures shorter { IfSome result (λ x. length (remaining x.1) < length (remaining input.entry)) }
 {
     let (first, rest) = input.next()?;
-    match &first.word {
-        Word::Mark(mark) => match op_of(level, *mark) {
+    match &first.kind {
+        TokenKind::Symbol(symbol) => match op_of(level, *symbol) {
             Some(op) => Some((op, rest)),
             None => None,
         },
@@ -109,11 +108,11 @@ pub fn operator<'a>(level: Level, input: Input<'a>) -> Option<(Op, Input<'a>)>
     }
 }
 
-/// The kind of a run of `&&` or `||`, by the sign that comes first.
+/// The kind of a chain of `&&` or `||`, by the operator that comes first.
 pub fn join_level(input: Input) -> Level
-    ensures { result ≡ level_of (left_of input.entry) }
+    ensures { result ≡ spec.level_of (remaining input.entry) }
 {
-    match input.behind(Mark::Or) {
+    match input.eat(Symbol::Or) {
         Some(_) => Level::Or,
         None => Level::And,
     }

@@ -1,6 +1,6 @@
 ghost use Rattle.std.specs.Prelude.{◌≡◌, IfOk, map};
 ghost use Rattle.filter_parser.specs.Places.{expr_place};
-ghost use Rattle.filter_parser.specs.Syntax.{ExprView, run_of, suffixes_of, view, view_item, view_more};
+ghost use Rattle.filter_parser.specs.Syntax.{ExprView, chain_of, suffixes_of, view, view_set_pattern, view_more};
 
 use crate::tree::{Expr, Membership, Op, Set, Suffix};
 use std::alloc::{AllocError, Global};
@@ -21,15 +21,15 @@ pub fn negation(alloc: Global, at: usize, inner: Expr) -> Result<Expr, AllocErro
     Ok(Expr::Not(at, Box::new(alloc, inner)?))
 }
 
-/// An operand and the operators behind it, if there are any.
-pub fn run(alloc: Global, first: Expr, more: Vec<(Op, Expr)>) -> Result<Expr, AllocError>
-    ensures is { IfOk result (λ t. view t ≡ run_of (view first) (view_more more.items)) }
+/// An operand and the operators after it, if there are any.
+pub fn chain(alloc: Global, first: Expr, more: Vec<(Op, Expr)>) -> Result<Expr, AllocError>
+    ensures is { IfOk result (λ t. view t ≡ chain_of (view first) (view_more more.items)) }
     ensures placed { IfOk result (λ t. expr_place t ≡ expr_place first) }
 {
     if more.is_empty() {
         return Ok(first);
     }
-    Ok(Expr::Run(Box::new(alloc, first)?, more))
+    Ok(Expr::Chain(Box::new(alloc, first)?, more))
 }
 
 /// Two operands and the operator between them.
@@ -39,12 +39,12 @@ pub fn binary(alloc: Global, op: Op, left: Expr, right: Expr) -> Result<Expr, Al
 {
     let mut more = Vec::new(alloc);
     more.push((op, right))?;
-    run(alloc, left, more)
+    chain(alloc, left, more)
 }
 
 /// An operand and a set.
 pub fn member(alloc: Global, op: Membership, left: Expr, set: Set) -> Result<Expr, AllocError>
-    ensures is { IfOk result (λ t. view t ≡ ExprView.member op (view left) (map view_item set.patterns.items)) }
+    ensures is { IfOk result (λ t. view t ≡ ExprView.member op (view left) (map view_set_pattern set.patterns.items)) }
     ensures placed { IfOk result (λ t. expr_place t ≡ expr_place left) }
 {
     Ok(Expr::Member(op, Box::new(alloc, left)?, set))

@@ -18,31 +18,31 @@ pub enum ParseFault {
     #[error(transparent)]
     Token(TokenFault),
     /// P2: the token at this place cannot stand there.
-    #[error("{1} is expected at {0}")]
+    #[error("expected {1} at byte {0}")]
     Unexpected(usize, Expected),
     /// P4: the argument of `mask` at this place is over 32.
-    #[error("the number at {0} is over 32, and an address has no more bits to keep")]
+    #[error("the mask length at byte {0} exceeds 32")]
     MaskOverLimit(usize),
     /// P4: the lengths of a pattern, whose `{` is at this place, are not `low <= high <= 32`.
-    #[error("the two lengths at {0} are not in order, or one is over 32")]
+    #[error("the lengths at byte {0} are not low <= high <= 32")]
     PatternLengths(usize),
     /// P5: what opens at this place would be nested in 32 others.
-    #[error("at {0} the nesting would be deeper than 32")]
+    #[error("nesting deeper than 32 levels at byte {0}")]
     TooDeep(usize),
     /// P6: the `&&` or `||` at this place follows the other one without parentheses.
-    #[error("`&&` and `||` are mixed at {0}: put one of the runs into parentheses")]
+    #[error("`&&` and `||` are mixed at byte {0}: add parentheses")]
     MixedOperators(usize),
     /// P7: the text is over 65,536 bytes.
-    #[error("the text is longer than 65536 bytes")]
+    #[error("the filter is longer than 65536 bytes")]
     TooLong,
     /// P9: the text ends, at this place, before the filter does.
-    #[error("the text ends at {0}, before the filter does")]
+    #[error("unexpected end of the text at byte {0}")]
     EndsEarly(usize),
-    /// P10: the text in quotes at this place does not stand behind `accept` or `reject`.
-    #[error("the text at {0} is left out of this language: a text stands behind `accept` or `reject` alone")]
+    /// P10: the text in quotes at this place does not follow `accept` or `reject`.
+    #[error("unexpected text at byte {0}: only `accept` and `reject` take one")]
     TextElsewhere(usize),
     /// P10: the number at this place begins a set of numbers.
-    #[error("sets of numbers, as at {0}, are left out of this language")]
+    #[error("sets of numbers, as at byte {0}, are not supported")]
     NumberSet(usize),
     /// P11: memory was refused.
     #[error("out of memory")]
@@ -69,7 +69,7 @@ impl ParseFault {
         }
     }
 
-    /// The fault's place, and 0 for want of memory, which has none.
+    /// The fault's place, and 0 for refused memory, which has none.
     pub fn at(self) -> usize
         ensures { result ≡ fault_place self }
     {

@@ -1,27 +1,26 @@
 //! A whole filter.
 
 ghost use Rattle.std.specs.Prelude.{◌≡◌, length, map};
-ghost use Rattle.filter_parser.specs.Acting.{body_of, filter_of, said_of};
-ghost use Rattle.filter_parser.specs.Acting.{whole as whole_of};
-ghost use Rattle.filter_parser.specs.Steps.{Gives, left_of};
+ghost use Rattle.filter_parser.specs.ReadingCommands as spec;
+ghost use Rattle.filter_parser.specs.Steps.{ReadsAs, remaining};
 ghost use Rattle.filter_parser.specs.SyntaxCommands.{view_decl};
 
-use crate::command::body;
-use crate::decl::{declarations, name};
+use crate::command::parse_commands;
+use crate::decl::{parse_declarations, parse_name};
 use crate::expected::Expected;
 use crate::fault::ParseFault;
 use crate::input::Input;
 use crate::parts::Parts;
 use crate::tree::Decl;
-use filter_tokens::Mark;
+use filter_tokens::Symbol;
 use std::alloc::Global;
 
 /// How deep commands and expressions may nest.
 const NESTING_LIMIT: usize = 32;
 
 /// What was read, where nothing is left.
-fn whole<'a>(parts: Parts, rest: Input<'a>) -> Result<Parts, ParseFault>
-    ensures { Gives said_of result (whole_of (said_of parts) (left_of rest.entry)) }
+fn nothing_after<'a>(parts: Parts, rest: Input<'a>) -> Result<Parts, ParseFault>
+    ensures { ReadsAs spec.view_parts result (spec.nothing_after (spec.view_parts parts) (remaining rest.entry)) }
 {
     match rest.next() {
         None => Ok(parts),
@@ -29,27 +28,27 @@ fn whole<'a>(parts: Parts, rest: Input<'a>) -> Result<Parts, ParseFault>
     }
 }
 
-/// A body from its `{` on, behind a name and declarations, and nothing behind it.
-fn rest_of_filter<'a>(
+/// A body from its `{` on, after a name and declarations, and nothing after it.
+fn parse_body<'a>(
     alloc: Global,
     name: Vec<u8>,
     head: Vec<Decl>,
     input: Input<'a>,
 ) -> Result<Parts, ParseFault>
-    ensures { Gives said_of result (body_of name.items (map view_decl head.items) (left_of input.entry)) }
+    ensures { ReadsAs spec.view_parts result (spec.body_of name.items (map view_decl head.items) (remaining input.entry)) }
 {
-    let rest = input.expect(Mark::LeftBrace, Expected::Body)?;
-    let (decls, rest) = declarations(alloc, head, rest)?;
-    let (body, rest) = body(alloc, NESTING_LIMIT, rest)?;
-    whole(Parts { name, decls, body }, rest)
+    let rest = input.expect(Symbol::LeftBrace, Expected::Body)?;
+    let (decls, rest) = parse_declarations(alloc, head, rest)?;
+    let (body, rest) = parse_commands(alloc, NESTING_LIMIT, rest)?;
+    nothing_after(Parts { name, decls, body }, rest)
 }
 
-/// A filter's name, its declarations and its commands, and nothing behind it.
-pub fn filter<'a>(alloc: Global, input: Input<'a>) -> Result<Parts, ParseFault>
-    ensures { Gives said_of result (filter_of (left_of input.entry)) }
+/// A filter's name, its declarations and its commands, and nothing after it.
+pub fn parse_filter<'a>(alloc: Global, input: Input<'a>) -> Result<Parts, ParseFault>
+    ensures { ReadsAs spec.view_parts result (spec.filter_of (remaining input.entry)) }
 {
-    let rest = input.expect(Mark::Filter, Expected::FilterWord)?;
-    let (_, name, rest) = name(alloc, rest)?;
-    let (head, rest) = declarations(alloc, Vec::new(alloc), rest)?;
-    rest_of_filter(alloc, name, head, rest)
+    let rest = input.expect(Symbol::Filter, Expected::FilterWord)?;
+    let (_, name, rest) = parse_name(alloc, rest)?;
+    let (head, rest) = parse_declarations(alloc, Vec::new(alloc), rest)?;
+    parse_body(alloc, name, head, rest)
 }

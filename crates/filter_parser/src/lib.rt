@@ -1,13 +1,13 @@
-//! The parser of filters: a filter's text becomes a tree exactly where the grammar has one.
+//! The parser of filters: a filter's text becomes a tree if and only if the grammar has one.
 #![tactic(auto)]
 
 mod command;
 mod decl;
 mod expected;
 mod expr;
+mod expr_atom;
 mod expr_level;
 mod expr_make;
-mod expr_word;
 mod fault;
 mod filter;
 mod input;

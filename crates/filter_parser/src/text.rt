@@ -1,13 +1,13 @@
 //! From a text to its filter.
 
 ghost use Rattle.std.specs.Prelude.{◌≡◌, ◌≢◌, ◌≤◌, List, None, IfOk, IfErr, length};
-ghost use Rattle.filter_tokens.specs.Cutting.{AreInOrder, Cuts};
+ghost use Rattle.filter_tokens.specs.Tokenization.{AreInOrder, IsTokenization};
 ghost use Rattle.filter_tokens.specs.declared.token.Token.{Token as TheToken};
 ghost use Rattle.filter_parser.specs.SyntaxText.{IsText, FilterView, text_limit, view_filter};
 ghost use Rattle.filter_parser.specs.declared.fault.ParseFault.TheVariants.{Memory};
 
 use crate::fault::{ParseFault, TEXT_LIMIT};
-use crate::filter::filter;
+use crate::filter::parse_filter;
 use crate::input::Input;
 use crate::tree::Filter;
 use filter_tokens::{Lexed, Token, TokenFault, lex};
@@ -22,14 +22,14 @@ fn filter_of_tokens(
 ) -> Result<Filter, ParseFault>
     requires size { length text.now ≤ text_limit }
     requires spans { AreInOrder 0 tokens.items (length text.now) }
-    requires cut { fault ≡ None → Cuts tokens.items 0 text.now }
-    requires only { (all : List TheToken) → Cuts all 0 text.now → (fault ≡ None) × (tokens.items ≡ all) }
+    requires cut { fault ≡ None → IsTokenization tokens.items 0 text.now }
+    requires only { (all : List TheToken) → IsTokenization all 0 text.now → (fault ≡ None) × (tokens.items ≡ all) }
     ensures found { IfOk result (λ f. IsText text.now (view_filter f)) }
     ensures unique { IfOk result (λ f. (t : FilterView) → IsText text.now t → t ≡ view_filter f) }
     ensures refused { IfErr result (λ e. e ≢ Memory → (t : FilterView) → IsText text.now t → ⊥) }
     ensures spans { IfOk result (λ f. AreInOrder 0 (view_filter f).tokens (length text.now)) }
 {
-    let read = filter(
+    let read = parse_filter(
         alloc,
         Input {
             text,
@@ -53,7 +53,7 @@ fn filter_of_tokens(
 
 /// The filter that a text spells.
 ///
-/// A text that spells none is refused with its first fault. Each token has the place of its first byte and the place behind
+/// A text that spells none is refused with its first fault. Each token has the place of its first byte and the place after
 /// its last one, and the tokens stand in order.
 pub fn parse(alloc: Global, text: &[u8]) -> Result<Filter, ParseFault>
     // The text spells the filter that is answered.

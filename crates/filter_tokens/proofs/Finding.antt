@@ -7,7 +7,7 @@ use Rattle.std.proofs.lemmas.List.{drop_more, drop_all}
 use Rattle.filter_tokens.specs.Reading.{closes, closing_len, hexadecimal_from, with_digit}
 
 module _ {X : Type 0} (p : X → Bool) (xs : List X) (i : ℕ) (d : X) where
-  -- the element at i does not pass: the first that does stands behind it
+  -- the element at i does not pass: the first that does follows it
   pub find-passed : i < length xs → p (get_or xs i d) ≡ false → find p (drop i xs) ≡ find p (drop (i + 1) xs)
   find-passed within e = rw (drop_more xs i d within, e) refl
 
@@ -33,7 +33,7 @@ none_more : (found : Option ℕ) → found ≡ option_map (λ len. 0 + len) foun
 none_more None = refl
 none_more (Some len) = ap Some (omega arith)
 
--- one added behind n added is one more than n
+-- one added after n added is one more than n
 one_more : (n : ℕ) (found : Option ℕ)
     → option_map (λ len. n + len) (option_map (λ len. 1 + len) found) ≡ option_map (λ len. (n + 1) + len) found
 one_more n None = refl

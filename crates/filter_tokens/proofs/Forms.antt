@@ -9,20 +9,20 @@ use Rattle.std.proofs.lemmas.List.{append_assoc}
 use Rattle.std.proofs.lemmas.List.Elements.{All-head, All-weaker}
 use Rattle.prefix_patterns.specs.Number.{IsDigits}
 use Rattle.prefix_patterns.specs.Token.{dot, slash}
-use Rattle.filter_tokens.specs.Reading.{behind, after_byte, after_digits, after_address, after_prefix, after_hexadecimal, after_quoted}
-use Rattle.filter_tokens.specs.Runs.{is_quotable}
+use Rattle.filter_tokens.specs.Reading.{drop_while, after_byte, after_digits, after_address, after_prefix, after_hexadecimal, after_quoted}
+use Rattle.filter_tokens.specs.ByteClasses.{is_quotable}
 use Rattle.filter_tokens.specs.Shapes.{line_feed, quote, zero_digit, small_x, HasFourGroups, HasLength, IsQuoted, AreHexadecimal}
-use Rattle.filter_tokens.proofs.Fronts.{bind_some, behind-append, front, split_length}
+use Rattle.filter_tokens.proofs.Fronts.{bind_some, drop_while-append, front, split_length}
 
--- a front of the text, with what stands behind it
+-- a front of the text, with what follows it
 pub record Stands (P : List ℕ → Type 0) (text rest : List ℕ) : Type 0 where
   pub bytes : List ℕ
   pub is : P bytes
   pub whole : text ≡ bytes ++ rest
 
--- what stands behind a front is no longer than the text
-pub behind_front : (P : List ℕ → Type 0) (text rest : List ℕ) → Stands P text rest → length rest ≤ length text
-behind_front P text rest stands = omega (arith, split_length text stands.bytes rest stands.whole)
+-- what follows a front is no longer than the text
+pub rest_within : (P : List ℕ → Type 0) (text rest : List ℕ) → Stands P text rest → length rest ≤ length text
+rest_within P text rest stands = omega (arith, split_length text stands.bytes rest stands.whole)
 
 digit_test : (byte : ℕ) → IsAsciiDigit byte → is_ascii_digit byte ≡ true
 digit_test byte digit = and_from _ _ (le-leb _ _ digit.0) (le-leb _ _ digit.1)
@@ -53,7 +53,7 @@ after_byte-shorter wanted text rest e = omega (arith, ap length (after_byte-foun
 -- ---- digits
 
 digits_there : (byte : ℕ) (bytes rest : List ℕ) → is_ascii_digit byte ≡ true
-    → after_digits (byte ∷ bytes) ≡ Some (behind is_ascii_digit (byte ∷ bytes))
+    → after_digits (byte ∷ bytes) ≡ Some (drop_while is_ascii_digit (byte ∷ bytes))
 unfolding after_digits
 digits_there byte bytes rest e =
     let more : eqb (prefix_len is_ascii_digit (byte ∷ bytes)) 0 ≡ false =
@@ -61,15 +61,15 @@ digits_there byte bytes rest e =
     rw more refl
 
 -- digits are found, and all that follow
-pub after_digits-there : (x rest : List ℕ) → IsDigits x → after_digits (x ++ rest) ≡ Some (behind is_ascii_digit rest)
+pub after_digits-there : (x rest : List ℕ) → IsDigits x → after_digits (x ++ rest) ≡ Some (drop_while is_ascii_digit rest)
 after_digits-there [] rest digits = absurd (omega (arith, digits.some))
 after_digits-there (byte ∷ bytes) rest digits =
     let each = digits_pass (byte ∷ bytes) digits in
     digits_there byte (bytes ++ rest) rest (All-head (λ byte. is_ascii_digit byte ≡ true) byte bytes each)
-    ∙ ap Some (behind-append is_ascii_digit (byte ∷ bytes) rest each)
+    ∙ ap Some (drop_while-append is_ascii_digit (byte ∷ bytes) rest each)
 
 digits_some : (text rest : List ℕ) (n : ℕ) (none : Bool) → n ≡ prefix_len is_ascii_digit text → eqb n 0 ≡ none
-    → cond none None (Some (behind is_ascii_digit text)) ≡ Some rest → (0 < n) × (behind is_ascii_digit text ≡ rest)
+    → cond none None (Some (drop_while is_ascii_digit text)) ≡ Some rest → (0 < n) × (drop_while is_ascii_digit text ≡ rest)
 digits_some text rest n true same e f = absurd cc
 digits_some text rest zero false same e f = absurd cc
 digits_some text rest (suc n) false same e f = (omega arith, cc)
@@ -89,16 +89,16 @@ after_digits-found text rest e =
     }
 
 pub after_digits-shorter : (text rest : List ℕ) → after_digits text ≡ Some rest → length rest ≤ length text
-after_digits-shorter text rest e = behind_front IsDigits text rest (after_digits-found text rest e)
+after_digits-shorter text rest e = rest_within IsDigits text rest (after_digits-found text rest e)
 
 -- ---- addresses
 
--- four groups with the rest behind them
+-- four groups with the rest after them
 joined : (a b c d rest : List ℕ) → join_with_byte dot (a ∷ b ∷ c ∷ d ∷ []) ++ rest ≡ a ++ dot ∷ (b ++ dot ∷ (c ++ dot ∷ (d ++ rest)))
 joined a b c d rest = simp append_assoc
 
 after_groups : (a b c d rest : List ℕ) → IsDigits a → IsDigits b → IsDigits c → IsDigits d
-    → after_address (a ++ dot ∷ (b ++ dot ∷ (c ++ dot ∷ (d ++ rest)))) ≡ Some (behind is_ascii_digit rest)
+    → after_address (a ++ dot ∷ (b ++ dot ∷ (c ++ dot ∷ (d ++ rest)))) ≡ Some (drop_while is_ascii_digit rest)
 unfolding after_address
 after_groups a b c d rest one two three four =
     rw (
@@ -108,7 +108,7 @@ after_groups a b c d rest one two three four =
     )
     (after_digits-there d rest four)
 
-pub after_address-there : (x rest : List ℕ) → HasFourGroups x → after_address (x ++ rest) ≡ Some (behind is_ascii_digit rest)
+pub after_address-there : (x rest : List ℕ) → HasFourGroups x → after_address (x ++ rest) ≡ Some (drop_while is_ascii_digit rest)
 after_address-there x rest is =
     ap (λ bytes. after_address (bytes ++ rest)) is.spelled
     ∙ ap after_address (joined is.first is.second is.third is.fourth rest)
@@ -176,12 +176,12 @@ after_address-within text rest digits there e =
 -- ---- prefixes
 
 after_parts : (address digits rest : List ℕ) → HasFourGroups address → IsDigits digits
-    → after_prefix (address ++ slash ∷ (digits ++ rest)) ≡ Some (behind is_ascii_digit rest)
+    → after_prefix (address ++ slash ∷ (digits ++ rest)) ≡ Some (drop_while is_ascii_digit rest)
 unfolding after_prefix
 after_parts address digits rest is is_length =
     rw (after_address-there address (slash ∷ (digits ++ rest)) is) (after_digits-there digits rest is_length)
 
-pub after_prefix-there : (x rest : List ℕ) → HasLength x → after_prefix (x ++ rest) ≡ Some (behind is_ascii_digit rest)
+pub after_prefix-there : (x rest : List ℕ) → HasLength x → after_prefix (x ++ rest) ≡ Some (drop_while is_ascii_digit rest)
 after_prefix-there x rest is =
     ap (λ bytes. after_prefix (bytes ++ rest)) is.spelled
     ∙ ap after_prefix (append_assoc is.address (slash ∷ is.length_digits) rest)
@@ -214,18 +214,18 @@ after_prefix-within text rest e =
 -- ---- hexadecimal
 
 pub after_hexadecimal-there : (digits rest : List ℕ) → AreHexadecimal digits
-    → after_hexadecimal (zero_digit ∷ small_x ∷ (digits ++ rest)) ≡ Some (behind is_ascii_hexdigit rest)
+    → after_hexadecimal (zero_digit ∷ small_x ∷ (digits ++ rest)) ≡ Some (drop_while is_ascii_hexdigit rest)
 unfolding after_hexadecimal
-after_hexadecimal-there digits rest each = ap Some (behind-append is_ascii_hexdigit digits rest each)
+after_hexadecimal-there digits rest each = ap Some (drop_while-append is_ascii_hexdigit digits rest each)
 
 pub after_hexadecimal-found : (text rest : List ℕ) → after_hexadecimal text ≡ Some rest
     → Stands (λ bytes. (digits : List ℕ) × AreHexadecimal digits × (bytes ≡ zero_digit ∷ small_x ∷ digits)) text rest
 unfolding after_hexadecimal
 after_hexadecimal-found text rest e =
     bind_some _ _ _ e (λ (one : List ℕ) (at_one : after_byte zero_digit text ≡ Some one) e.
-    bind_some _ _ _ e (λ (two : List ℕ) (at_two : after_byte small_x one ≡ Some two) (e : Some (behind is_ascii_hexdigit two) ≡ Some rest).
+    bind_some _ _ _ e (λ (two : List ℕ) (at_two : after_byte small_x one ≡ Some two) (e : Some (drop_while is_ascii_hexdigit two) ≡ Some rest).
     let f = front is_ascii_hexdigit two in
-    let last : behind is_ascii_hexdigit two ≡ rest = cc in
+    let last : drop_while is_ascii_hexdigit two ≡ rest = cc in
     record {
       bytes = zero_digit ∷ small_x ∷ f.bytes;
       is = (f.bytes, f.each, refl);
@@ -246,9 +246,9 @@ plain_fact byte passes =
     (λ same. let other = eq-eqb byte quote same in absurd cc, λ same. let other = eq-eqb byte line_feed same in absurd cc)
 
 plain_pass : (inner rest : List ℕ) → All (λ byte. (byte ≢ quote) × (byte ≢ line_feed)) inner
-    → behind is_quotable (inner ++ quote ∷ rest) ≡ quote ∷ rest
+    → drop_while is_quotable (inner ++ quote ∷ rest) ≡ quote ∷ rest
 plain_pass inner rest plain =
-    behind-append is_quotable inner (quote ∷ rest)
+    drop_while-append is_quotable inner (quote ∷ rest)
     (All-weaker (λ byte. (byte ≢ quote) × (byte ≢ line_feed)) (λ byte. is_quotable byte ≡ true) plain_test inner plain)
 
 after_inner : (inner rest : List ℕ) → All (λ byte. (byte ≢ quote) × (byte ≢ line_feed)) inner
@@ -276,6 +276,6 @@ after_quoted-found text rest e =
       };
       whole =
           after_byte-found quote text one at_one
-          ∙ ap (λ t. quote ∷ t) (f.whole ∙ ap (λ t. f.bytes ++ t) (after_byte-found quote (behind is_quotable one) rest e)
+          ∙ ap (λ t. quote ∷ t) (f.whole ∙ ap (λ t. f.bytes ++ t) (after_byte-found quote (drop_while is_quotable one) rest e)
           ∙ sym (append_assoc f.bytes (quote ∷ []) rest));
     })

@@ -1,10 +1,10 @@
-pub mod Cuts
 pub mod Finding
 pub mod Forms
 pub mod Fronts
 pub mod Longest
 pub mod Meanings
 pub mod PartLaws
+pub mod Punctuators
 pub mod Rows
-pub mod Signs
 pub mod Spaces
+pub mod Tokenized

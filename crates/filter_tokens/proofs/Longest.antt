@@ -10,23 +10,23 @@ use Rattle.std.proofs.lemmas.List.{drop_all}
 use Rattle.std.proofs.lemmas.List.Elements.{All-head, All-tail, All-weaker, All-same}
 use Rattle.std.proofs.lemmas.Option.{same_Some}
 use Rattle.prefix_patterns.specs.Number.{IsDigits}
-use Rattle.filter_tokens.specs.declared.mark.Mark.{Mark}
-use Rattle.filter_tokens.specs.declared.mark.Mark.TheVariants as mark
+use Rattle.filter_tokens.specs.declared.symbol.Symbol.{Symbol}
+use Rattle.filter_tokens.specs.declared.symbol.Symbol.TheVariants as symbol
 use Rattle.filter_tokens.specs.declared.shape.Shape.{Shape}
 use Rattle.filter_tokens.specs.declared.shape.Shape.TheVariants as shape
-use Rattle.filter_tokens.specs.Marks.{mark_text, is_sign}
-use Rattle.filter_tokens.specs.Reading.{behind, after_digits, after_address, after_prefix, after_hexadecimal}
-use Rattle.filter_tokens.specs.Reading.{after_quoted, quoted_shape, or_shape, digits_shape, sign_in, sign_shape, longest_shape}
-use Rattle.filter_tokens.specs.Shapes.{quote, zero_digit, small_x, begins_word, goes_on_word, IsWord, HasFourGroups, HasLength}
+use Rattle.filter_tokens.specs.Symbols.{symbol_text, is_punctuator}
+use Rattle.filter_tokens.specs.Reading.{drop_while, after_digits, after_address, after_prefix, after_hexadecimal}
+use Rattle.filter_tokens.specs.Reading.{after_quoted, quoted_shape, or_shape, digits_shape, punctuator_in, punctuator_shape, longest_shape}
+use Rattle.filter_tokens.specs.Shapes.{quote, zero_digit, small_x, begins_word, continues_word, IsWord, HasFourGroups, HasLength}
 use Rattle.filter_tokens.specs.Shapes.{IsQuoted, AreHexadecimal, HasShape}
 use Rattle.filter_tokens.proofs.Forms.{Stands, digit_fact, digits_pass, after_digits-there}
 use Rattle.filter_tokens.proofs.Forms.{after_digits-found, after_address-there, after_address-found, after_address-within}
 use Rattle.filter_tokens.proofs.Forms.{after_prefix-there, after_prefix-found, after_prefix-within, after_hexadecimal-there}
 use Rattle.filter_tokens.proofs.Forms.{after_hexadecimal-found, after_quoted-there, after_quoted-found}
-use Rattle.filter_tokens.proofs.Fronts.{bind_some, map_some, behind-append, behind-all, front, behind-length, split_length}
-use Rattle.filter_tokens.proofs.Signs.{sign-itself, sign-covers, sign-found}
+use Rattle.filter_tokens.proofs.Fronts.{bind_some, map_some, drop_while-append, drop_while-all, front, drop_while-length, split_length}
+use Rattle.filter_tokens.proofs.Punctuators.{punctuator-itself, punctuator-covers, punctuator-found}
 
--- a shape and what stands behind it
+-- a shape and what follows it
 abbrev pub Found : Type 0
 Found = Shape × List ℕ
 
@@ -42,7 +42,7 @@ digit_no_word byte digit =
     (ne_eqb byte 95 (λ same. omega (arith, digit.1)))
 
 by_word : (first : ℕ) (others : List ℕ) → begins_word first ≡ true
-    → longest_shape (first ∷ others) ≡ Some (a_shape shape.Word (behind goes_on_word others))
+    → longest_shape (first ∷ others) ≡ Some (a_shape shape.Word (drop_while continues_word others))
 unfolding longest_shape
 by_word first others e = rw e refl
 
@@ -71,49 +71,49 @@ by_quote : (others : List ℕ) → longest_shape (quote ∷ others) ≡ quoted_s
 unfolding longest_shape
 by_quote others = refl
 
--- a text that begins with a sign
-by_sign_byte : (sign : Mark) (rest : List ℕ) → is_sign sign ≡ true
-    → longest_shape (mark_text sign ++ rest) ≡ sign_shape (mark_text sign ++ rest)
+-- a text that begins with a punctuator
+by_punctuator_byte : (punctuator : Symbol) (rest : List ℕ) → is_punctuator punctuator ≡ true
+    → longest_shape (symbol_text punctuator ++ rest) ≡ punctuator_shape (symbol_text punctuator ++ rest)
 unfolding longest_shape
-by_sign_byte mark.And rest is = refl
-by_sign_byte mark.Or rest is = refl
-by_sign_byte mark.NotEqual rest is = refl
-by_sign_byte mark.NotMatch rest is = refl
-by_sign_byte mark.LessEqual rest is = refl
-by_sign_byte mark.GreaterEqual rest is = refl
-by_sign_byte mark.LeftParen rest is = refl
-by_sign_byte mark.RightParen rest is = refl
-by_sign_byte mark.LeftBrace rest is = refl
-by_sign_byte mark.RightBrace rest is = refl
-by_sign_byte mark.LeftBracket rest is = refl
-by_sign_byte mark.RightBracket rest is = refl
-by_sign_byte mark.Semicolon rest is = refl
-by_sign_byte mark.Comma rest is = refl
-by_sign_byte mark.Dot rest is = refl
-by_sign_byte mark.Equal rest is = refl
-by_sign_byte mark.Less rest is = refl
-by_sign_byte mark.Greater rest is = refl
-by_sign_byte mark.Match rest is = refl
-by_sign_byte mark.Not rest is = refl
-by_sign_byte mark.Plus rest is = refl
-by_sign_byte mark.Minus rest is = refl
-by_sign_byte mark.Times rest is = refl
-by_sign_byte mark.Divide rest is = refl
-by_sign_byte mark.Filter rest is = absurd cc
-by_sign_byte mark.Int rest is = absurd cc
-by_sign_byte mark.Bool rest is = absurd cc
-by_sign_byte mark.Ip rest is = absurd cc
-by_sign_byte mark.Prefix rest is = absurd cc
-by_sign_byte mark.If rest is = absurd cc
-by_sign_byte mark.Then rest is = absurd cc
-by_sign_byte mark.Else rest is = absurd cc
-by_sign_byte mark.Accept rest is = absurd cc
-by_sign_byte mark.Reject rest is = absurd cc
-by_sign_byte mark.True rest is = absurd cc
-by_sign_byte mark.False rest is = absurd cc
-by_sign_byte mark.Defined rest is = absurd cc
-by_sign_byte mark.Net rest is = absurd cc
-by_sign_byte mark.RipMetric rest is = absurd cc
+by_punctuator_byte symbol.And rest is = refl
+by_punctuator_byte symbol.Or rest is = refl
+by_punctuator_byte symbol.NotEqual rest is = refl
+by_punctuator_byte symbol.NotMatch rest is = refl
+by_punctuator_byte symbol.LessEqual rest is = refl
+by_punctuator_byte symbol.GreaterEqual rest is = refl
+by_punctuator_byte symbol.LeftParen rest is = refl
+by_punctuator_byte symbol.RightParen rest is = refl
+by_punctuator_byte symbol.LeftBrace rest is = refl
+by_punctuator_byte symbol.RightBrace rest is = refl
+by_punctuator_byte symbol.LeftBracket rest is = refl
+by_punctuator_byte symbol.RightBracket rest is = refl
+by_punctuator_byte symbol.Semicolon rest is = refl
+by_punctuator_byte symbol.Comma rest is = refl
+by_punctuator_byte symbol.Dot rest is = refl
+by_punctuator_byte symbol.Equal rest is = refl
+by_punctuator_byte symbol.Less rest is = refl
+by_punctuator_byte symbol.Greater rest is = refl
+by_punctuator_byte symbol.Match rest is = refl
+by_punctuator_byte symbol.Not rest is = refl
+by_punctuator_byte symbol.Plus rest is = refl
+by_punctuator_byte symbol.Minus rest is = refl
+by_punctuator_byte symbol.Times rest is = refl
+by_punctuator_byte symbol.Divide rest is = refl
+by_punctuator_byte symbol.Filter rest is = absurd cc
+by_punctuator_byte symbol.Int rest is = absurd cc
+by_punctuator_byte symbol.Bool rest is = absurd cc
+by_punctuator_byte symbol.Ip rest is = absurd cc
+by_punctuator_byte symbol.Prefix rest is = absurd cc
+by_punctuator_byte symbol.If rest is = absurd cc
+by_punctuator_byte symbol.Then rest is = absurd cc
+by_punctuator_byte symbol.Else rest is = absurd cc
+by_punctuator_byte symbol.Accept rest is = absurd cc
+by_punctuator_byte symbol.Reject rest is = absurd cc
+by_punctuator_byte symbol.True rest is = absurd cc
+by_punctuator_byte symbol.False rest is = absurd cc
+by_punctuator_byte symbol.Defined rest is = absurd cc
+by_punctuator_byte symbol.Net rest is = absurd cc
+by_punctuator_byte symbol.RipMetric rest is = absurd cc
 
 no_hexadecimal_as : (x : List ℕ) → IsDigits x → (o : Option (List ℕ)) → after_hexadecimal x ≡ o → o ≡ None
 no_hexadecimal_as x is None e = refl
@@ -142,7 +142,7 @@ unfolding digits_shape
 hexadecimal_is text rest e f g = rw (e, f, g) refl
 
 decimal_is : (text : List ℕ) → after_prefix text ≡ None → after_address text ≡ None → after_hexadecimal text ≡ None
-    → digits_shape text ≡ a_shape shape.Decimal (behind is_ascii_digit text)
+    → digits_shape text ≡ a_shape shape.Decimal (drop_while is_ascii_digit text)
 unfolding digits_shape
 decimal_is text e f g = rw (e, f, g) refl
 
@@ -150,12 +150,12 @@ no_address_no_prefix : (text : List ℕ) → after_address text ≡ None → aft
 unfolding after_prefix
 no_address_no_prefix text e = rw e refl
 
--- nothing behind an address: no prefix
+-- nothing after an address: no prefix
 address_ends : (text : List ℕ) → after_address text ≡ Some [] → after_prefix text ≡ None
 unfolding after_prefix
 address_ends text e = rw e refl
 
--- nothing behind digits: no address
+-- nothing after digits: no address
 digits_end : (text : List ℕ) → after_digits text ≡ Some [] → after_address text ≡ None
 unfolding after_address
 digits_end text e = rw e refl
@@ -172,7 +172,7 @@ hexadecimal_bytes byte second others rest e =
     let whole : byte ∷ second ∷ others ≡ zero_digit ∷ small_x ∷ (stands.is.0 ++ rest) = stands.whole ∙ ap (λ t. t ++ rest) stands.is.2 in
     cc
 
--- ---- what is found stands at the front
+-- ---- what is found is at the front
 
 abbrev Is : List ℕ → Found → Type 0
 Is text found = Stands (HasShape found.0) text found.1
@@ -184,7 +184,7 @@ or_shape-cases P kind None other here later = later refl
 or_shape-cases P kind (Some rest) other here later = here rest refl
 
 decimal_stands : (first : ℕ) (others : List ℕ) → is_ascii_digit first ≡ true
-    → Is (first ∷ others) (a_shape shape.Decimal (behind is_ascii_digit (first ∷ others)))
+    → Is (first ∷ others) (a_shape shape.Decimal (drop_while is_ascii_digit (first ∷ others)))
 decimal_stands first others e =
     let text = first ∷ others in
     let f = front is_ascii_digit text in
@@ -208,9 +208,9 @@ digits_stand first others e =
     decimal_stands first others e)))
 
 word_stands : (first : ℕ) (others : List ℕ) → begins_word first ≡ true
-    → Is (first ∷ others) (a_shape shape.Word (behind goes_on_word others))
+    → Is (first ∷ others) (a_shape shape.Word (drop_while continues_word others))
 word_stands first others e =
-    let f = front goes_on_word others in
+    let f = front continues_word others in
     record { bytes = first ∷ f.bytes; is = (e, f.each); whole = ap (λ t. first ∷ t) f.whole }
 
 quoted_stands : (text : List ℕ) (found : Found) → quoted_shape text ≡ Some found → Is text found
@@ -218,34 +218,34 @@ quoted_stands text found e =
     let some = map_some (λ rest. a_shape shape.Text rest) (after_quoted text) found e in
     subst (Is text) some.2 (after_quoted-found text some.0 some.1)
 
-sign_stands : (text : List ℕ) (found : Found) → sign_shape text ≡ Some found → Is text found
-unfolding sign_shape
-sign_stands text found e =
-    let some = map_some (λ sign. a_shape (shape.Sign sign) (drop (length (mark_text sign)) text)) (sign_in text) found e in
-    let is = sign-found text some.0 some.1 in
-    subst (Is text) some.2 (record { bytes = mark_text some.0; is = (is.0, refl); whole = is.1 })
+punctuator_stands : (text : List ℕ) (found : Found) → punctuator_shape text ≡ Some found → Is text found
+unfolding punctuator_shape
+punctuator_stands text found e =
+    let some = map_some (λ punctuator. a_shape (shape.Punctuator punctuator) (drop (length (symbol_text punctuator)) text)) (punctuator_in text) found e in
+    let is = punctuator-found text some.0 some.1 in
+    subst (Is text) some.2 (record { bytes = symbol_text some.0; is = (is.0, refl); whole = is.1 })
 
 module _ (first : ℕ) (others : List ℕ) (found : Found) where
-  by_sign : (q : Bool) → (first == quote) ≡ q → (if q then quoted_shape (first ∷ others) else sign_shape (first ∷ others)) ≡ Some found
+  by_punctuator : (q : Bool) → (first == quote) ≡ q → (if q then quoted_shape (first ∷ others) else punctuator_shape (first ∷ others)) ≡ Some found
       → Is (first ∷ others) found
-  by_sign true same e = quoted_stands (first ∷ others) found e
-  by_sign false same e = sign_stands (first ∷ others) found e
+  by_punctuator true same e = quoted_stands (first ∷ others) found e
+  by_punctuator false same e = punctuator_stands (first ∷ others) found e
 
   by_number : (d : Bool) → is_ascii_digit first ≡ d
       → (if d then Some (digits_shape (first ∷ others))
-      else (if first == quote then quoted_shape (first ∷ others) else sign_shape (first ∷ others))) ≡ Some found → Is (first ∷ others) found
+      else (if first == quote then quoted_shape (first ∷ others) else punctuator_shape (first ∷ others))) ≡ Some found → Is (first ∷ others) found
   by_number true digit e = subst (Is (first ∷ others)) (same_Some _ _ e) (digits_stand first others digit)
-  by_number false digit e = by_sign (first == quote) refl e
+  by_number false digit e = by_punctuator (first == quote) refl e
 
   by_name : (w : Bool) → begins_word first ≡ w
-      → (if w then Some (a_shape shape.Word (behind goes_on_word others))
+      → (if w then Some (a_shape shape.Word (drop_while continues_word others))
       else (if is_ascii_digit first then Some (digits_shape (first ∷ others))
-      else (if first == quote then quoted_shape (first ∷ others) else sign_shape (first ∷ others)))) ≡ Some found
+      else (if first == quote then quoted_shape (first ∷ others) else punctuator_shape (first ∷ others)))) ≡ Some found
       → Is (first ∷ others) found
   by_name true word e = subst (Is (first ∷ others)) (same_Some _ _ e) (word_stands first others word)
   by_name false word e = by_number (is_ascii_digit first) refl e
 
--- what is found has its shape and stands at the front
+-- what is found has its shape and is at the front
 pub longest-found : (text : List ℕ) (found : Found) → longest_shape text ≡ Some found → Stands (HasShape found.0) text found.1
 unfolding longest_shape
 longest-found [] found e = absurd cc
@@ -253,7 +253,7 @@ longest-found (first ∷ others) found e = by_name first others found (begins_wo
 
 -- ---- nothing longer stands there
 
--- something is found, and no more stands behind it than so many bytes
+-- something is found, and no more follows it than this many bytes
 pub record Within (text : List ℕ) (bound : ℕ) : Type 0 where
   pub found : Found
   pub is : longest_shape text ≡ Some found
@@ -268,9 +268,9 @@ or_shape-within bound kind (Some rest) other here later = here rest refl
 word_within : (x rest : List ℕ) → IsWord x → Within (x ++ rest) (length rest)
 word_within [] rest is = absurd is
 word_within (first ∷ others) rest is = record {
-  found = a_shape shape.Word (behind goes_on_word (others ++ rest));
+  found = a_shape shape.Word (drop_while continues_word (others ++ rest));
   is = by_word first (others ++ rest) is.0;
-  bounded = omega (arith, ap length (behind-append goes_on_word others rest is.1), behind-length goes_on_word rest);
+  bounded = omega (arith, ap length (drop_while-append continues_word others rest is.1), drop_while-length continues_word rest);
 }
 
 -- a prefix in a text with an address ends no earlier than it
@@ -285,14 +285,14 @@ prefix_within : (x rest : List ℕ) → HasLength x → Within (x ++ rest) (leng
 prefix_within x rest is =
     let text = x ++ rest in
     let there = after_prefix-there x rest is in
-    let address = after_prefix-within text (behind is_ascii_digit rest) there in
+    let address = after_prefix-within text (drop_while is_ascii_digit rest) there in
     record {
       found = digits_shape text;
       is = address_begins text address.0 address.1;
       bounded = omega (
         arith,
-        ap (λ (f : Found). length f.1) (prefix_is text (behind is_ascii_digit rest) there),
-        behind-length is_ascii_digit rest,
+        ap (λ (f : Found). length f.1) (prefix_is text (drop_while is_ascii_digit rest) there),
+        drop_while-length is_ascii_digit rest,
       );
     }
 
@@ -300,9 +300,9 @@ address_within : (x rest : List ℕ) → HasFourGroups x → Within (x ++ rest) 
 unfolding digits_shape
 address_within x rest is =
     let text = x ++ rest in
-    let last = behind is_ascii_digit rest in
+    let last = drop_while is_ascii_digit rest in
     let there = after_address-there x rest is in
-    let short = behind-length is_ascii_digit rest in
+    let short = drop_while-length is_ascii_digit rest in
     record {
       found = digits_shape text;
       is = address_begins text last there;
@@ -311,15 +311,15 @@ address_within x rest is =
           (rw there short);
     }
 
--- behind digits, whatever number begins with them, no more stands than behind them
+-- after digits, whatever number begins with them, no more stands than after them
 digits_within : (x rest : List ℕ) → IsDigits x → ((r : List ℕ) → after_hexadecimal (x ++ rest) ≡ Some r → length r ≤ length rest)
     → Within (x ++ rest) (length rest)
 unfolding digits_shape
 digits_within x rest is hexadecimal =
     let text = x ++ rest in
-    let last = behind is_ascii_digit rest in
+    let last = drop_while is_ascii_digit rest in
     let there = after_digits-there x rest is in
-    let short = behind-length is_ascii_digit rest in
+    let short = drop_while-length is_ascii_digit rest in
     let address = λ (r : List ℕ) (e : after_address text ≡ Some r). let w = after_address-within text r last there e in
     let bound : length r ≤ length rest = omega arith in bound in
     record {
@@ -330,7 +330,7 @@ digits_within x rest is hexadecimal =
           (λ r e. let within = after_prefix-within text r e in omega (arith, within.2, address within.0 within.1))
           (or_shape-within (length rest) shape.Address (after_address text) _ address
           (or_shape-within (length rest) shape.Hexadecimal (after_hexadecimal text) _ hexadecimal
-          (omega (arith, short, ap length (behind-append is_ascii_digit x rest (digits_pass x is))))));
+          (omega (arith, short, ap length (drop_while-append is_ascii_digit x rest (digits_pass x is))))));
     }
 
 decimal_within : (x rest : List ℕ) → IsDigits x → Within (x ++ rest) (length rest)
@@ -351,12 +351,12 @@ hexadecimal_within : (digits rest : List ℕ) → AreHexadecimal digits → With
 hexadecimal_within digits rest is =
     let text = zero_digit ∷ small_x ∷ (digits ++ rest) in
     let none = no_hexadecimal_address (digits ++ rest) in
-    let same = hexadecimal_is text (behind is_ascii_hexdigit rest) (no_address_no_prefix text none) none
+    let same = hexadecimal_is text (drop_while is_ascii_hexdigit rest) (no_address_no_prefix text none) none
     (after_hexadecimal-there digits rest is) in
     record {
       found = digits_shape text;
       is = by_digit zero_digit (small_x ∷ (digits ++ rest)) refl;
-      bounded = omega (arith, ap (λ (f : Found). length f.1) same, behind-length is_ascii_hexdigit rest);
+      bounded = omega (arith, ap (λ (f : Found). length f.1) same, drop_while-length is_ascii_hexdigit rest);
     }
 
 quoted_begins : (x rest : List ℕ) → IsQuoted x → longest_shape (x ++ rest) ≡ quoted_shape (x ++ rest)
@@ -371,16 +371,16 @@ quoted_within x rest is = record {
   bounded = omega arith;
 }
 
-sign_within : (sign : Mark) (rest : List ℕ) → is_sign sign ≡ true → Within (mark_text sign ++ rest) (length rest)
-unfolding sign_shape
-sign_within sign rest is =
-    let text = mark_text sign ++ rest in
-    let covers = sign-covers sign rest is in
+punctuator_within : (punctuator : Symbol) (rest : List ℕ) → is_punctuator punctuator ≡ true → Within (symbol_text punctuator ++ rest) (length rest)
+unfolding punctuator_shape
+punctuator_within punctuator rest is =
+    let text = symbol_text punctuator ++ rest in
+    let covers = punctuator-covers punctuator rest is in
     record {
-      found = a_shape (shape.Sign covers.longest) (drop (length (mark_text covers.longest)) text);
-      is = by_sign_byte sign rest is
-          ∙ ap (option_map (λ sign. a_shape (shape.Sign sign) (drop (length (mark_text sign)) text))) covers.found;
-      bounded = omega (arith, length-drop (length (mark_text covers.longest)) text, length-append (mark_text sign) rest, covers.covers);
+      found = a_shape (shape.Punctuator covers.longest) (drop (length (symbol_text covers.longest)) text);
+      is = by_punctuator_byte punctuator rest is
+          ∙ ap (option_map (λ punctuator. a_shape (shape.Punctuator punctuator) (drop (length (symbol_text punctuator)) text))) covers.found;
+      bounded = omega (arith, length-drop (length (symbol_text covers.longest)) text, length-append (symbol_text punctuator) rest, covers.covers);
     }
 
 -- where a shape stands, it is found or something longer
@@ -392,19 +392,19 @@ longest-within shape.Hexadecimal x rest is =
 longest-within shape.Address x rest is = address_within x rest is
 longest-within shape.Prefix x rest is = prefix_within x rest is
 longest-within shape.Text x rest is = quoted_within x rest is
-longest-within (shape.Sign sign) x rest is =
-    let P : List ℕ → Type 0 = λ t. Within (t ++ rest) (length rest) in subst P (sym is.1) (sign_within sign rest is.0)
+longest-within (shape.Punctuator punctuator) x rest is =
+    let P : List ℕ → Type 0 = λ t. Within (t ++ rest) (length rest) in subst P (sym is.1) (punctuator_within punctuator rest is.0)
 
 -- ---- a text that is one shape is found as that
 
--- a text with nothing behind it
+-- a text with nothing after it
 whole : {A : Type 0} (f : List ℕ → A) (x : List ℕ) → f (x ++ []) ≡ f x
 whole f x = ap f (append-nil x)
 
 word_itself : (x : List ℕ) → IsWord x → longest_shape x ≡ Some (a_shape shape.Word [])
 word_itself [] is = absurd is
 word_itself (first ∷ others) is = by_word first others is.0
-    ∙ ap (λ rest. Some (a_shape shape.Word rest)) (behind-all goes_on_word others is.1)
+    ∙ ap (λ rest. Some (a_shape shape.Word rest)) (drop_while-all continues_word others is.1)
 
 no_hexadecimal : (x : List ℕ) → IsDigits x → after_hexadecimal x ≡ None
 no_hexadecimal x is = no_hexadecimal_as x is (after_hexadecimal x) refl
@@ -415,7 +415,7 @@ decimal_itself x is =
     let none = digits_end x there in
     begun_by_digits x [] there
     ∙ ap Some (decimal_is x (no_address_no_prefix x none) none (no_hexadecimal x is))
-    ∙ ap (λ rest. Some (a_shape shape.Decimal rest)) (behind-all is_ascii_digit x (digits_pass x is))
+    ∙ ap (λ rest. Some (a_shape shape.Decimal rest)) (drop_while-all is_ascii_digit x (digits_pass x is))
 
 address_itself : (x : List ℕ) → HasFourGroups x → longest_shape x ≡ Some (a_shape shape.Address [])
 address_itself x is =
@@ -440,14 +440,14 @@ quoted_itself : (x : List ℕ) → IsQuoted x → longest_shape x ≡ Some (a_sh
 quoted_itself x is =
     sym (whole longest_shape x) ∙ quoted_begins x [] is ∙ ap (option_map (λ rest. a_shape shape.Text rest)) (after_quoted-there x [] is)
 
-sign_itself : (sign : Mark) → is_sign sign ≡ true → longest_shape (mark_text sign) ≡ Some (a_shape (shape.Sign sign) [])
-unfolding sign_shape
-sign_itself sign is =
-    let text = mark_text sign in
+punctuator_itself : (punctuator : Symbol) → is_punctuator punctuator ≡ true → longest_shape (symbol_text punctuator) ≡ Some (a_shape (shape.Punctuator punctuator) [])
+unfolding punctuator_shape
+punctuator_itself punctuator is =
+    let text = symbol_text punctuator in
     let nothing : drop (length text) text ≡ [] = drop_all (length text) text (omega arith) in
-    sym (whole longest_shape text) ∙ by_sign_byte sign [] is ∙ whole sign_shape text
-    ∙ ap (option_map (λ sign. a_shape (shape.Sign sign) (drop (length (mark_text sign)) text))) (sign-itself sign is)
-    ∙ ap (λ rest. Some (a_shape (shape.Sign sign) rest)) nothing
+    sym (whole longest_shape text) ∙ by_punctuator_byte punctuator [] is ∙ whole punctuator_shape text
+    ∙ ap (option_map (λ punctuator. a_shape (shape.Punctuator punctuator) (drop (length (symbol_text punctuator)) text))) (punctuator-itself punctuator is)
+    ∙ ap (λ rest. Some (a_shape (shape.Punctuator punctuator) rest)) nothing
 
 pub longest-itself : (kind : Shape) (x : List ℕ) → HasShape kind x → longest_shape x ≡ Some (a_shape kind [])
 longest-itself shape.Word x is = word_itself x is
@@ -458,5 +458,5 @@ longest-itself shape.Hexadecimal x is =
 longest-itself shape.Address x is = address_itself x is
 longest-itself shape.Prefix x is = prefix_itself x is
 longest-itself shape.Text x is = quoted_itself x is
-longest-itself (shape.Sign sign) x is =
-    let P : List ℕ → Type 0 = λ t. longest_shape t ≡ Some (a_shape (shape.Sign sign) []) in subst P (sym is.1) (sign_itself sign is.0)
+longest-itself (shape.Punctuator punctuator) x is =
+    let P : List ℕ → Type 0 = λ t. longest_shape t ≡ Some (a_shape (shape.Punctuator punctuator) []) in subst P (sym is.1) (punctuator_itself punctuator is.0)

@@ -12,60 +12,60 @@ use Rattle.std.proofs.Math.Nat.{mul-le-mul_left, pow-succ'}
 use Rattle.prefix_patterns.specs.Reading.{◌>>=◌, number_in, address_in, prefix_in}
 use Rattle.prefix_patterns.proofs.Numbers.{number_in-some, number_in-found}
 use Rattle.prefix_patterns.proofs.Tokens.{address_in-found, address_in-only, prefix_in-found, prefix_in-only}
-use Rattle.filter_tokens.specs.declared.mark.Mark.{Mark}
+use Rattle.filter_tokens.specs.declared.symbol.Symbol.{Symbol}
 use Rattle.filter_tokens.specs.declared.shape.Shape.{Shape}
 use Rattle.filter_tokens.specs.declared.shape.Shape.TheVariants as shape
-use Rattle.filter_tokens.specs.declared.word.Word.{Word}
-use Rattle.filter_tokens.specs.declared.word.Word.TheVariants as word
-use Rattle.filter_tokens.specs.Marks.{mark_text}
+use Rattle.filter_tokens.specs.declared.token_kind.TokenKind.{TokenKind}
+use Rattle.filter_tokens.specs.declared.token_kind.TokenKind.TheVariants as kind
+use Rattle.filter_tokens.specs.Symbols.{symbol_text}
 use Rattle.filter_tokens.specs.Meaning.{greatest_number, longest_name, hexadecimal_value, IsName, IsHexadecimal, Means}
 use Rattle.filter_tokens.specs.Reading.{keyword_in, is_left_out, name_in, keyword_or, word_in, with_digit, hexadecimal_from}
 use Rattle.filter_tokens.specs.Reading.{hexadecimal_in, meaning_in}
 use Rattle.filter_tokens.specs.Shapes.{zero_digit, small_x, IsWord, AreHexadecimal, HasShape}
 use Rattle.filter_tokens.proofs.Fronts.{bind_some, map_some}
-use Rattle.filter_tokens.proofs.Signs.{keyword-there, keyword-found, left_out-none, left_out-all}
+use Rattle.filter_tokens.proofs.Punctuators.{keyword-there, keyword-found, left_out-none, left_out-all}
 
 -- ---- words
 
--- a word that is written as a mark is that keyword
-keyword_written : (bytes : List ℕ) (mark : Mark) → IsWord bytes → bytes ≡ mark_text mark → keyword_in bytes ≡ Some mark
-keyword_written bytes mark is e = ap keyword_in e ∙ keyword-there mark (subst IsWord e is)
+-- a word that is written as a symbol is that keyword
+keyword_written : (bytes : List ℕ) (symbol : Symbol) → IsWord bytes → bytes ≡ symbol_text symbol → keyword_in bytes ≡ Some symbol
+keyword_written bytes symbol is e = ap keyword_in e ∙ keyword-there symbol (subst IsWord e is)
 
-name_found : (bytes : List ℕ) (made : Word) → IsWord bytes → keyword_in bytes ≡ None → name_in bytes ≡ Some made
+name_found : (bytes : List ℕ) (made : TokenKind) → IsWord bytes → keyword_in bytes ≡ None → name_in bytes ≡ Some made
     → Means shape.Word bytes made
 name_found bytes made is none e =
-    let some = cond_some (nat_le (length bytes) longest_name && not (is_left_out bytes)) word.Name made e in
+    let some = cond_some (nat_le (length bytes) longest_name && not (is_left_out bytes)) kind.Name made e in
     let parts = and_parts (nat_le (length bytes) longest_name) (not (is_left_out bytes)) some.0 in
     subst (Means shape.Word bytes) some.1 (record {
       limit = leb-true (length bytes) longest_name parts.0;
-      no_keyword = λ mark same. let there = keyword_written bytes mark is same in cc;
+      no_keyword = λ symbol same. let there = keyword_written bytes symbol is same in cc;
       not_left_out = left_out-all bytes (not-true _ parts.1);
     })
 
-word_found_as : (bytes : List ℕ) (made : Word) → IsWord bytes → (keyword : Option Mark) → keyword_in bytes ≡ keyword
+word_found_as : (bytes : List ℕ) (made : TokenKind) → IsWord bytes → (keyword : Option Symbol) → keyword_in bytes ≡ keyword
     → keyword_or keyword (name_in bytes) ≡ Some made → Means shape.Word bytes made
 word_found_as bytes made is None none e = name_found bytes made is none e
-word_found_as bytes made is (Some mark) some e = subst (Means shape.Word bytes) (same_Some _ _ e) (keyword-found bytes mark some)
+word_found_as bytes made is (Some symbol) some e = subst (Means shape.Word bytes) (same_Some _ _ e) (keyword-found bytes symbol some)
 
-word_found : (bytes : List ℕ) (made : Word) → IsWord bytes → word_in bytes ≡ Some made → Means shape.Word bytes made
+word_found : (bytes : List ℕ) (made : TokenKind) → IsWord bytes → word_in bytes ≡ Some made → Means shape.Word bytes made
 unfolding word_in
 word_found bytes made is e = word_found_as bytes made is (keyword_in bytes) refl e
 
-no_keyword_in : (bytes : List ℕ) → IsName bytes → (keyword : Option Mark) → keyword_in bytes ≡ keyword → keyword ≡ None
+no_keyword_in : (bytes : List ℕ) → IsName bytes → (keyword : Option Symbol) → keyword_in bytes ≡ keyword → keyword ≡ None
 no_keyword_in bytes is None e = refl
-no_keyword_in bytes is (Some mark) e = absurd (is.no_keyword mark (keyword-found bytes mark e))
+no_keyword_in bytes is (Some symbol) e = absurd (is.no_keyword symbol (keyword-found bytes symbol e))
 
-name_there : (bytes : List ℕ) → IsName bytes → word_in bytes ≡ Some word.Name
+name_there : (bytes : List ℕ) → IsName bytes → word_in bytes ≡ Some kind.Name
 unfolding word_in
 name_there bytes is =
     let none : keyword_in bytes ≡ None = no_keyword_in bytes is (keyword_in bytes) refl in
     let limit = le-leb (length bytes) longest_name is.limit in
     let not_left = not_from_false _ (left_out-none bytes is.not_left_out) in
-    ap (λ keyword. keyword_or keyword (name_in bytes)) none ∙ cond-true _ (Some word.Name) None (and_from _ _ limit not_left)
+    ap (λ keyword. keyword_or keyword (name_in bytes)) none ∙ cond-true _ (Some kind.Name) None (and_from _ _ limit not_left)
 
-keyword_there : (bytes : List ℕ) (mark : Mark) → IsWord bytes → bytes ≡ mark_text mark → word_in bytes ≡ Some (word.Mark mark)
+keyword_there : (bytes : List ℕ) (symbol : Symbol) → IsWord bytes → bytes ≡ symbol_text symbol → word_in bytes ≡ Some (kind.Symbol symbol)
 unfolding word_in
-keyword_there bytes mark is e = ap (λ keyword. keyword_or keyword (name_in bytes)) (keyword_written bytes mark is e)
+keyword_there bytes symbol is e = ap (λ keyword. keyword_or keyword (name_in bytes)) (keyword_written bytes symbol is e)
 
 -- ---- hexadecimal numbers
 
@@ -77,7 +77,7 @@ power_some (suc n) = let more = power_some n in rw (pow-succ' 16 n) (omega (arit
 scale : (value digit power rest : ℕ) → (value * 16 + digit) * power + rest ≡ value * (16 * power) + (digit * power + rest)
 scale value digit power rest = omega arith
 
--- one more digit behind a number, and then those behind it
+-- one more digit after a number, and then those after it
 digits_sum : (value byte : ℕ) (bytes : List ℕ)
     → (value * 16 + digit_value byte) * 16 ^ length bytes + hexadecimal_value bytes
     ≡ value * 16 ^ length (byte ∷ bytes) + hexadecimal_value (byte ∷ bytes)
@@ -116,7 +116,7 @@ digit_below byte e =
     (or_cases (is_in_range 48 57 byte || is_in_range 65 70 byte) (is_in_range 97 102 byte) e) in
     sym (agree_below_at is_ascii_hexdigit (λ c. nat_lt (digit_value c) 16) 128 byte refl small) ∙ e
 
--- a number is no larger with more digits behind it
+-- a number is no larger with more digits after it
 grows : (value power rest most : ℕ) → 1 ≤ power → value * power + rest ≤ most → value ≤ most
 grows value power rest most some limit = omega (arith, mul-le-mul_left value some)
 
@@ -172,70 +172,70 @@ hexadecimal_there bytes n shape is =
 -- ---- all shapes
 
 -- a number that is read is meant
-pub meaning-found : (kind : Shape) (bytes : List ℕ) (made : Word) → HasShape kind bytes → meaning_in kind bytes ≡ Some made
+pub meaning-found : (kind : Shape) (bytes : List ℕ) (made : TokenKind) → HasShape kind bytes → meaning_in kind bytes ≡ Some made
     → Means kind bytes made
 meaning-found shape.Word bytes made is e = word_found bytes made is e
 meaning-found shape.Decimal bytes made is e =
-    let some = map_some word.Number (number_in greatest_number bytes) made e in
+    let some = map_some kind.Number (number_in greatest_number bytes) made e in
     let found = number_in-found greatest_number bytes some.0 some.1 in
     subst (Means shape.Decimal bytes) some.2 (sym found.1, omega (arith, found.0.1, found.1))
 meaning-found shape.Hexadecimal bytes made is e =
-    let some = map_some word.Number (hexadecimal_in bytes) made e in
+    let some = map_some kind.Number (hexadecimal_in bytes) made e in
     subst (Means shape.Hexadecimal bytes) some.2 (hexadecimal_found bytes some.0 is some.1)
 meaning-found shape.Address bytes made is e =
-    let some = map_some (λ (address : ℕ). word.Address (record { 0 = address })) (address_in bytes) made e in
+    let some = map_some (λ (address : ℕ). kind.Address (record { 0 = address })) (address_in bytes) made e in
     subst (Means shape.Address bytes) some.2 (address_in-found bytes some.0 some.1)
 meaning-found shape.Prefix bytes made is e =
-    let some = map_some word.Prefix (prefix_in bytes) made e in
+    let some = map_some kind.Prefix (prefix_in bytes) made e in
     subst (Means shape.Prefix bytes) some.2 (prefix_in-found bytes some.0 some.1)
 meaning-found shape.Text bytes made is e = subst (Means shape.Text bytes) (same_Some _ _ e) tt
-meaning-found (shape.Sign sign) bytes made is e = subst (Means (shape.Sign sign) bytes) (same_Some _ _ e) refl
+meaning-found (shape.Punctuator punctuator) bytes made is e = subst (Means (shape.Punctuator punctuator) bytes) (same_Some _ _ e) refl
 
 -- what bytes of a shape mean is read
-pub meaning-there : (kind : Shape) (bytes : List ℕ) (made : Word) → HasShape kind bytes → Means kind bytes made
+pub meaning-there : (kind : Shape) (bytes : List ℕ) (made : TokenKind) → HasShape kind bytes → Means kind bytes made
     → meaning_in kind bytes ≡ Some made
-meaning-there shape.Word bytes word.Name is means = name_there bytes means
-meaning-there shape.Word bytes (word.Number n) is means = absurd means
-meaning-there shape.Word bytes (word.Address a) is means = absurd means
-meaning-there shape.Word bytes (word.Prefix bits) is means = absurd means
-meaning-there shape.Word bytes word.Text is means = absurd means
-meaning-there shape.Word bytes (word.Mark mark) is means = keyword_there bytes mark is means
-meaning-there shape.Decimal bytes word.Name is means = absurd means
-meaning-there shape.Decimal bytes (word.Number n) is means =
-    ap (option_map word.Number) (number_in-some greatest_number bytes (is, omega (arith, means.0, means.1)))
-    ∙ ap (λ n. Some (word.Number n)) (sym means.0)
-meaning-there shape.Decimal bytes (word.Address a) is means = absurd means
-meaning-there shape.Decimal bytes (word.Prefix bits) is means = absurd means
-meaning-there shape.Decimal bytes word.Text is means = absurd means
-meaning-there shape.Decimal bytes (word.Mark mark) is means = absurd means
-meaning-there shape.Hexadecimal bytes word.Name is means = absurd means
-meaning-there shape.Hexadecimal bytes (word.Number n) is means = ap (option_map word.Number) (hexadecimal_there bytes n is means)
-meaning-there shape.Hexadecimal bytes (word.Address a) is means = absurd means
-meaning-there shape.Hexadecimal bytes (word.Prefix bits) is means = absurd means
-meaning-there shape.Hexadecimal bytes word.Text is means = absurd means
-meaning-there shape.Hexadecimal bytes (word.Mark mark) is means = absurd means
-meaning-there shape.Address bytes word.Name is means = absurd means
-meaning-there shape.Address bytes (word.Number n) is means = absurd means
-meaning-there shape.Address bytes (word.Address a) is means =
-    ap (option_map (λ (address : ℕ). word.Address (record { 0 = address }))) (address_in-only bytes a.0 means)
-meaning-there shape.Address bytes (word.Prefix bits) is means = absurd means
-meaning-there shape.Address bytes word.Text is means = absurd means
-meaning-there shape.Address bytes (word.Mark mark) is means = absurd means
-meaning-there shape.Prefix bytes word.Name is means = absurd means
-meaning-there shape.Prefix bytes (word.Number n) is means = absurd means
-meaning-there shape.Prefix bytes (word.Address a) is means = absurd means
-meaning-there shape.Prefix bytes (word.Prefix bits) is means = ap (option_map word.Prefix) (prefix_in-only bytes bits means)
-meaning-there shape.Prefix bytes word.Text is means = absurd means
-meaning-there shape.Prefix bytes (word.Mark mark) is means = absurd means
-meaning-there shape.Text bytes word.Name is means = absurd means
-meaning-there shape.Text bytes (word.Number n) is means = absurd means
-meaning-there shape.Text bytes (word.Address a) is means = absurd means
-meaning-there shape.Text bytes (word.Prefix bits) is means = absurd means
-meaning-there shape.Text bytes word.Text is means = refl
-meaning-there shape.Text bytes (word.Mark mark) is means = absurd means
-meaning-there (shape.Sign sign) bytes word.Name is means = absurd means
-meaning-there (shape.Sign sign) bytes (word.Number n) is means = absurd means
-meaning-there (shape.Sign sign) bytes (word.Address a) is means = absurd means
-meaning-there (shape.Sign sign) bytes (word.Prefix bits) is means = absurd means
-meaning-there (shape.Sign sign) bytes word.Text is means = absurd means
-meaning-there (shape.Sign sign) bytes (word.Mark mark) is means = ap (λ mark. Some (word.Mark mark)) means
+meaning-there shape.Word bytes kind.Name is means = name_there bytes means
+meaning-there shape.Word bytes (kind.Number n) is means = absurd means
+meaning-there shape.Word bytes (kind.Address a) is means = absurd means
+meaning-there shape.Word bytes (kind.Prefix bits) is means = absurd means
+meaning-there shape.Word bytes kind.Text is means = absurd means
+meaning-there shape.Word bytes (kind.Symbol symbol) is means = keyword_there bytes symbol is means
+meaning-there shape.Decimal bytes kind.Name is means = absurd means
+meaning-there shape.Decimal bytes (kind.Number n) is means =
+    ap (option_map kind.Number) (number_in-some greatest_number bytes (is, omega (arith, means.0, means.1)))
+    ∙ ap (λ n. Some (kind.Number n)) (sym means.0)
+meaning-there shape.Decimal bytes (kind.Address a) is means = absurd means
+meaning-there shape.Decimal bytes (kind.Prefix bits) is means = absurd means
+meaning-there shape.Decimal bytes kind.Text is means = absurd means
+meaning-there shape.Decimal bytes (kind.Symbol symbol) is means = absurd means
+meaning-there shape.Hexadecimal bytes kind.Name is means = absurd means
+meaning-there shape.Hexadecimal bytes (kind.Number n) is means = ap (option_map kind.Number) (hexadecimal_there bytes n is means)
+meaning-there shape.Hexadecimal bytes (kind.Address a) is means = absurd means
+meaning-there shape.Hexadecimal bytes (kind.Prefix bits) is means = absurd means
+meaning-there shape.Hexadecimal bytes kind.Text is means = absurd means
+meaning-there shape.Hexadecimal bytes (kind.Symbol symbol) is means = absurd means
+meaning-there shape.Address bytes kind.Name is means = absurd means
+meaning-there shape.Address bytes (kind.Number n) is means = absurd means
+meaning-there shape.Address bytes (kind.Address a) is means =
+    ap (option_map (λ (address : ℕ). kind.Address (record { 0 = address }))) (address_in-only bytes a.0 means)
+meaning-there shape.Address bytes (kind.Prefix bits) is means = absurd means
+meaning-there shape.Address bytes kind.Text is means = absurd means
+meaning-there shape.Address bytes (kind.Symbol symbol) is means = absurd means
+meaning-there shape.Prefix bytes kind.Name is means = absurd means
+meaning-there shape.Prefix bytes (kind.Number n) is means = absurd means
+meaning-there shape.Prefix bytes (kind.Address a) is means = absurd means
+meaning-there shape.Prefix bytes (kind.Prefix bits) is means = ap (option_map kind.Prefix) (prefix_in-only bytes bits means)
+meaning-there shape.Prefix bytes kind.Text is means = absurd means
+meaning-there shape.Prefix bytes (kind.Symbol symbol) is means = absurd means
+meaning-there shape.Text bytes kind.Name is means = absurd means
+meaning-there shape.Text bytes (kind.Number n) is means = absurd means
+meaning-there shape.Text bytes (kind.Address a) is means = absurd means
+meaning-there shape.Text bytes (kind.Prefix bits) is means = absurd means
+meaning-there shape.Text bytes kind.Text is means = refl
+meaning-there shape.Text bytes (kind.Symbol symbol) is means = absurd means
+meaning-there (shape.Punctuator punctuator) bytes kind.Name is means = absurd means
+meaning-there (shape.Punctuator punctuator) bytes (kind.Number n) is means = absurd means
+meaning-there (shape.Punctuator punctuator) bytes (kind.Address a) is means = absurd means
+meaning-there (shape.Punctuator punctuator) bytes (kind.Prefix bits) is means = absurd means
+meaning-there (shape.Punctuator punctuator) bytes kind.Text is means = absurd means
+meaning-there (shape.Punctuator punctuator) bytes (kind.Symbol symbol) is means = ap (λ symbol. Some (kind.Symbol symbol)) means

@@ -13,9 +13,9 @@ use Rattle.prefix_patterns.specs.Reading.{◌>>=◌}
 use Rattle.filter_tokens.specs.declared.part.Part.{Part}
 use Rattle.filter_tokens.specs.declared.part.Part.TheVariants as part
 use Rattle.filter_tokens.specs.declared.shape.Shape.{Shape}
-use Rattle.filter_tokens.specs.declared.word.Word.{Word}
-use Rattle.filter_tokens.specs.Cutting.{begins_gap, IsGap, IsToken, IsPart, part_len}
-use Rattle.filter_tokens.specs.Reading.{Gives, gap_len, longest_shape, meaning_in, token_of, token_in, part_of, part_in}
+use Rattle.filter_tokens.specs.declared.token_kind.TokenKind.{TokenKind}
+use Rattle.filter_tokens.specs.Tokenization.{begins_gap, IsGap, IsToken, IsPart, part_len}
+use Rattle.filter_tokens.specs.Reading.{OkWhereSome, gap_len, longest_shape, meaning_in, token_of, token_in, part_of, part_in}
 use Rattle.filter_tokens.specs.Shapes.{HasShape}
 use Rattle.filter_tokens.proofs.Forms.{Stands}
 use Rattle.filter_tokens.proofs.Fronts.{bind_some, map_some, split_length}
@@ -64,7 +64,7 @@ token_found_as : (text : List ℕ) (found : Found) (one : Part) → begins_gap t
     → token_of text found ≡ Some one → IsPart text one
 token_found_as text found one outside e f =
     let len = length text - length found.1 in
-    let some = map_some (λ word. part.Token word len) (meaning_in found.0 (take len text)) one f in
+    let some = map_some (λ kind. part.Token kind len) (meaning_in found.0 (take len text)) one f in
     let front = front_of text found (longest-found text found e) in
     subst (IsPart text) some.2 (record {
       outside = outside;
@@ -83,10 +83,10 @@ token_found text one outside e =
     token_found_as text found one outside there f)
 
 -- the token that stands there is read
-token_there_as : (text : List ℕ) (word : Word) (len : ℕ) → IsToken text word len → (found : Found) → longest_shape text ≡ Some found
+token_there_as : (text : List ℕ) (kind : TokenKind) (len : ℕ) → IsToken text kind len → (found : Found) → longest_shape text ≡ Some found
     → length found.1 ≤ length (drop len text)
-    → token_of text found ≡ Some (part.Token word len)
-token_there_as text word len token found there bounded =
+    → token_of text found ≡ Some (part.Token kind len)
+token_there_as text kind len token found there bounded =
     let front = front_of text found (longest-found text found there) in
     let short = token.longest found.0 (length text - length found.1) (omega arith) front.formed in
     let same : length text - length found.1 ≡ len = omega (arith, short, bounded, length-drop len text, token.within, front.within) in
@@ -94,18 +94,18 @@ token_there_as text word len token found there bounded =
     let formed : HasShape found.0 x = subst (λ n. HasShape found.0 (take n text)) same front.formed in
     let one : a_shape found.0 [] ≡ a_shape token.shape [] =
     same_Some _ _ (sym (longest-itself found.0 x formed) ∙ longest-itself token.shape x token.formed) in
-    let kind : found.0 ≡ token.shape = ap (λ (f : Found). f.0) one in
-    let means : meaning_in found.0 x ≡ Some word = ap (λ kind. meaning_in kind x) kind
-    ∙ meaning-there token.shape x word token.formed token.means in
-    ap (λ n. option_map (λ word. part.Token word n) (meaning_in found.0 (take n text))) same
-    ∙ ap (option_map (λ word. part.Token word len)) means
+    let same_shape : found.0 ≡ token.shape = ap (λ (f : Found). f.0) one in
+    let means : meaning_in found.0 x ≡ Some kind = ap (λ s. meaning_in s x) same_shape
+    ∙ meaning-there token.shape x kind token.formed token.means in
+    ap (λ n. option_map (λ kind. part.Token kind n) (meaning_in found.0 (take n text))) same
+    ∙ ap (option_map (λ kind. part.Token kind len)) means
 
-token_there : (text : List ℕ) (word : Word) (len : ℕ) → IsToken text word len → token_in text ≡ Some (part.Token word len)
+token_there : (text : List ℕ) (kind : TokenKind) (len : ℕ) → IsToken text kind len → token_in text ≡ Some (part.Token kind len)
 unfolding token_in
-token_there text word len token =
+token_there text kind len token =
     let within = longest-within token.shape (take len text) (drop len text) token.formed in
     let there : longest_shape text ≡ Some within.found = ap longest_shape (sym (take-append-drop len text)) ∙ within.is in
-    ap (λ o. o >>= token_of text) there ∙ token_there_as text word len token within.found there within.bounded
+    ap (λ o. o >>= token_of text) there ∙ token_there_as text kind len token within.found there within.bounded
 
 -- ---- parts
 
@@ -132,25 +132,25 @@ gap_part text len is =
     let some : (len == 0) ≡ false = ne_eqb len 0 (λ none. let bounds = gap-bounds text len is in omega (arith, bounds.0)) in
     ap (λ o. o >>= part_of text) (gap-there text len is) ∙ rw some refl
 
-token_part : (text : List ℕ) (word : Word) (len : ℕ) → IsToken text word len → part_in text ≡ Some (part.Token word len)
+token_part : (text : List ℕ) (kind : TokenKind) (len : ℕ) → IsToken text kind len → part_in text ≡ Some (part.Token kind len)
 unfolding part_in
-token_part text word len is = ap (λ o. o >>= part_of text) (gap-none text is.outside) ∙ token_there text word len is
+token_part text kind len is = ap (λ o. o >>= part_of text) (gap-none text is.outside) ∙ token_there text kind len is
 
 -- the part that stands there is read
 pub part-there : (text : List ℕ) (one : Part) → IsPart text one → part_in text ≡ Some one
 part-there text (part.Gap len) is = gap_part text len is
-part-there text (part.Token word len) is = token_part text word len is
+part-there text (part.Token kind len) is = token_part text kind len is
 
 -- a part has a byte at least, and none goes past the end
 pub part-bounds : (text : List ℕ) (one : Part) → IsPart text one → (0 < part_len one) × (part_len one ≤ length text)
 part-bounds text (part.Gap len) is = gap-bounds text len is
-part-bounds text (part.Token word len) is =
+part-bounds text (part.Token kind len) is =
     let some = shape_some is.shape (take len text) is.formed in
     (omega (arith, some, length-take len text), is.within)
 
 -- ---- bounds, for the code
 
--- what stands behind a shape is no longer than the text
+-- what follows a shape is no longer than the text
 pub longest-shorter : (text : List ℕ) (found : Found) → longest_shape text ≡ Some found → length found.1 ≤ length text
 longest-shorter text found e = let front = front_of text found (longest-found text found e) in front.within
 
@@ -158,7 +158,7 @@ token_bounds_as : (text : List ℕ) (found : Found) (one : Part) → longest_sha
     → (0 < part_len one) × (part_len one ≤ length text)
 token_bounds_as text found one e f =
     let len = length text - length found.1 in
-    let some = map_some (λ word. part.Token word len) (meaning_in found.0 (take len text)) one f in
+    let some = map_some (λ kind. part.Token kind len) (meaning_in found.0 (take len text)) one f in
     let front = front_of text found (longest-found text found e) in
     subst (λ p. (0 < part_len p) × (part_len p ≤ length text)) some.2 (front.some, omega arith)
 
@@ -169,7 +169,7 @@ token_bounds text one e =
     token_bounds_as text found one there f)
 
 -- the same of what a call answers
-pub token-answer : {E : Type 0} (text : List ℕ) (answer : Result Part E) → Gives answer (token_in text)
+pub token-answer : {E : Type 0} (text : List ℕ) (answer : Result Part E) → OkWhereSome answer (token_in text)
     → IfOk answer (λ one. (0 < part_len one) × (part_len one ≤ length text))
 token-answer text (Ok one) e = token_bounds text one e
 token-answer text (Err fault) e = tt

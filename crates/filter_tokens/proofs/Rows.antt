@@ -4,16 +4,16 @@ use Rattle.std.specs.Prelude.{codes}
 use Rattle.prefix_patterns.specs.Bits.{bits}
 use Rattle.prefix_patterns.specs.Number.{decimal_value}
 use Rattle.prefix_patterns.specs.Reading.{number_in, parts_at, groups_in, address_in, prefix_in}
-use Rattle.filter_tokens.specs.declared.mark.Mark.TheVariants as mark
+use Rattle.filter_tokens.specs.declared.symbol.Symbol.TheVariants as symbol
 use Rattle.filter_tokens.specs.declared.part.Part.{Part}
 use Rattle.filter_tokens.specs.declared.part.Part.TheVariants as part
 use Rattle.filter_tokens.specs.declared.token.Token.{Token}
-use Rattle.filter_tokens.specs.declared.word.Word.TheVariants as word
-use Rattle.filter_tokens.specs.Cutting.{part_len, AreParts, Cuts}
+use Rattle.filter_tokens.specs.declared.token_kind.TokenKind.TheVariants as kind
+use Rattle.filter_tokens.specs.Tokenization.{part_len, AreParts, IsTokenization}
 use Rattle.filter_tokens.specs.Reading.{after_digits, after_address, after_prefix, after_hexadecimal, digits_shape}
-use Rattle.filter_tokens.specs.Reading.{sign_in, sign_shape, longest_shape, keyword_in, is_left_out, word_in, hexadecimal_from}
+use Rattle.filter_tokens.specs.Reading.{punctuator_in, punctuator_shape, longest_shape, keyword_in, is_left_out, word_in, hexadecimal_from}
 use Rattle.filter_tokens.specs.Reading.{hexadecimal_in, closing_len, gap_len, token_in, part_in}
-use Rattle.filter_tokens.proofs.Cuts.{lexes-start, lexes-stopped}
+use Rattle.filter_tokens.proofs.Tokenized.{lexes-start, lexes-stopped}
 use Rattle.filter_tokens.proofs.PartLaws.{part-found}
 
 -- these parts are read from a text, one after the other
@@ -27,66 +27,66 @@ are_parts [] text read = read
 are_parts (one ∷ parts) text read = (part-found text one read.0, are_parts parts (drop (part_len one) text) read.1)
 
 -- where no part is read, no tokens cut the text
-none_cut : (text : List ℕ) → part_in text ≡ None → 0 < length text → (tokens : List Token) → Cuts tokens 0 text → ⊥
+none_cut : (text : List ℕ) → part_in text ≡ None → 0 < length text → (tokens : List Token) → IsTokenization tokens 0 text → ⊥
 none_cut text e some tokens cuts = lexes-stopped text [] 0 text (lexes-start text) e some tokens cuts
 
--- `!=` is one sign
-not_equal : Cuts (record { word = word.Name; from = 0; to = 1 } ∷ record { word = word.Mark mark.NotEqual; from = 1; to = 3 }
-    ∷ record { word = word.Name; from = 3; to = 4 } ∷ []) 0 (codes "a!=b")
-unfolding part_in gap_len token_in longest_shape sign_shape sign_in word_in keyword_in is_left_out
+-- `!=` is one punctuator
+not_equal : IsTokenization (record { kind = kind.Name; from = 0; to = 1 } ∷ record { kind = kind.Symbol symbol.NotEqual; from = 1; to = 3 }
+    ∷ record { kind = kind.Name; from = 3; to = 4 } ∷ []) 0 (codes "a!=b")
+unfolding part_in gap_len token_in longest_shape punctuator_shape punctuator_in word_in keyword_in is_left_out
 not_equal =
-    let parts = part.Token word.Name 1 ∷ part.Token (word.Mark mark.NotEqual) 2 ∷ part.Token word.Name 1 ∷ [] in
+    let parts = part.Token kind.Name 1 ∷ part.Token (kind.Symbol symbol.NotEqual) 2 ∷ part.Token kind.Name 1 ∷ [] in
     record { parts = parts; cut = are_parts parts (codes "a!=b") (refl, (refl, (refl, refl))); among = refl }
 
 -- a dot between numbers parts them, and a hexadecimal number goes on as far as its digits do
-dot_between : Cuts (record { word = word.Number 1; from = 0; to = 1 } ∷ record { word = word.Mark mark.Dot; from = 1; to = 2 }
-    ∷ record { word = word.Number 255; from = 2; to = 6 } ∷ []) 0 (codes "1.0xfF")
-unfolding part_in gap_len token_in longest_shape digits_shape after_prefix after_address after_digits after_hexadecimal sign_shape
-    sign_in number_in decimal_value hexadecimal_in hexadecimal_from
+dot_between : IsTokenization (record { kind = kind.Number 1; from = 0; to = 1 } ∷ record { kind = kind.Symbol symbol.Dot; from = 1; to = 2 }
+    ∷ record { kind = kind.Number 255; from = 2; to = 6 } ∷ []) 0 (codes "1.0xfF")
+unfolding part_in gap_len token_in longest_shape digits_shape after_prefix after_address after_digits after_hexadecimal punctuator_shape
+    punctuator_in number_in decimal_value hexadecimal_in hexadecimal_from
 dot_between =
-    let parts = part.Token (word.Number 1) 1 ∷ part.Token (word.Mark mark.Dot) 1 ∷ part.Token (word.Number 255) 4 ∷ [] in
+    let parts = part.Token (kind.Number 1) 1 ∷ part.Token (kind.Symbol symbol.Dot) 1 ∷ part.Token (kind.Number 255) 4 ∷ [] in
     record { parts = parts; cut = are_parts parts (codes "1.0xfF") (refl, (refl, (refl, refl))); among = refl }
 
 -- an address with a length is one token
-ten_net : Cuts (record { word = word.Prefix (false ∷ false ∷ false ∷ false ∷ true ∷ false ∷ true ∷ false ∷ []); from = 0; to = 10 } ∷ []) 0
+ten_net : IsTokenization (record { kind = kind.Prefix (false ∷ false ∷ false ∷ false ∷ true ∷ false ∷ true ∷ false ∷ []); from = 0; to = 10 } ∷ []) 0
     (codes "10.0.0.0/8")
 unfolding part_in gap_len token_in longest_shape digits_shape after_prefix after_address after_digits prefix_in address_in
     groups_in parts_at number_in decimal_value bits
 ten_net =
-    let parts = part.Token (word.Prefix (false ∷ false ∷ false ∷ false ∷ true ∷ false ∷ true ∷ false ∷ [])) 10 ∷ [] in
+    let parts = part.Token (kind.Prefix (false ∷ false ∷ false ∷ false ∷ true ∷ false ∷ true ∷ false ∷ [])) 10 ∷ [] in
     record { parts = parts; cut = are_parts parts (codes "10.0.0.0/8") (refl, refl); among = refl }
 
 -- a comment does not nest
-comment : Cuts (record { word = word.Mark mark.If; from = 9; to = 11 } ∷ []) 0 (codes "/* /* */ if # else")
+comment : IsTokenization (record { kind = kind.Symbol symbol.If; from = 9; to = 11 } ∷ []) 0 (codes "/* /* */ if # else")
 unfolding part_in gap_len closing_len token_in longest_shape word_in keyword_in
 comment =
-    let parts = part.Gap 8 ∷ part.Gap 1 ∷ part.Token (word.Mark mark.If) 2 ∷ part.Gap 1 ∷ part.Gap 6 ∷ [] in
+    let parts = part.Gap 8 ∷ part.Gap 1 ∷ part.Token (kind.Symbol symbol.If) 2 ∷ part.Gap 1 ∷ part.Gap 6 ∷ [] in
     record { parts = parts; cut = are_parts parts (codes "/* /* */ if # else") (refl, (refl, (refl, (refl, (refl, refl))))); among = refl }
 
 -- `/*/` is not ended
-unended : (tokens : List Token) → Cuts tokens 0 (codes "/*/") → ⊥
+unended : (tokens : List Token) → IsTokenization tokens 0 (codes "/*/") → ⊥
 unfolding part_in gap_len closing_len
 unended = none_cut (codes "/*/") refl (lit< tt)
 
 -- a `0x` with no digit is no token
-no_digit : (tokens : List Token) → Cuts tokens 0 (codes "0x;") → ⊥
+no_digit : (tokens : List Token) → IsTokenization tokens 0 (codes "0x;") → ⊥
 unfolding part_in gap_len token_in longest_shape digits_shape after_prefix after_address after_digits after_hexadecimal
     hexadecimal_in hexadecimal_from
 no_digit = none_cut (codes "0x;") refl (lit< tt)
 
 -- nor is a number over the greatest
-too_large : (tokens : List Token) → Cuts tokens 0 (codes "4294967296") → ⊥
+too_large : (tokens : List Token) → IsTokenization tokens 0 (codes "4294967296") → ⊥
 unfolding part_in gap_len token_in longest_shape digits_shape after_prefix after_address after_digits after_hexadecimal number_in
     decimal_value
 too_large = none_cut (codes "4294967296") refl (lit< tt)
 
 -- nor an address with a group over 255
-group_over : (tokens : List Token) → Cuts tokens 0 (codes "1.2.3.256") → ⊥
+group_over : (tokens : List Token) → IsTokenization tokens 0 (codes "1.2.3.256") → ⊥
 unfolding part_in gap_len token_in longest_shape digits_shape after_prefix after_address after_digits address_in groups_in
     parts_at number_in decimal_value
 group_over = none_cut (codes "1.2.3.256") refl (lit< tt)
 
 -- nor a word that is left out
-left_out_word : (tokens : List Token) → Cuts tokens 0 (codes "case") → ⊥
+left_out_word : (tokens : List Token) → IsTokenization tokens 0 (codes "case") → ⊥
 unfolding part_in gap_len token_in longest_shape word_in keyword_in is_left_out
 left_out_word = none_cut (codes "case") refl (lit< tt)

@@ -1,8 +1,10 @@
+-- What callers cite.
 pub mod Codes
-pub mod Cutting
 pub mod Lexemes
-pub mod Marks
 pub mod Meaning
-pub mod Reading
-pub mod Runs
 pub mod Shapes
+pub mod Symbols
+pub mod Tokenization
+-- What only the bodies of this crate are proved against.
+pub mod ByteClasses
+pub mod Reading

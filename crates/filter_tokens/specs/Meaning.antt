@@ -3,12 +3,12 @@ use Rattle.std.specs.Prelude.{◌≡◌, ◌≢◌, ℕ, ◌+◌, ◌*◌, ◌^�
 use Rattle.std.specs.Char.{digit_value}
 use Rattle.prefix_patterns.specs.Number.{decimal_value}
 use Rattle.prefix_patterns.specs.Token.{IsAddress, IsPrefix}
-use Rattle.filter_tokens.specs.declared.mark.Mark.{Mark}
+use Rattle.filter_tokens.specs.declared.symbol.Symbol.{Symbol}
 use Rattle.filter_tokens.specs.declared.shape.Shape.{Shape}
 use Rattle.filter_tokens.specs.declared.shape.Shape.TheVariants as shape
-use Rattle.filter_tokens.specs.declared.word.Word.{Word}
-use Rattle.filter_tokens.specs.declared.word.Word.TheVariants as word
-use Rattle.filter_tokens.specs.Marks.{mark_text, left_out}
+use Rattle.filter_tokens.specs.declared.token_kind.TokenKind.{TokenKind}
+use Rattle.filter_tokens.specs.declared.token_kind.TokenKind.TheVariants as kind
+use Rattle.filter_tokens.specs.Symbols.{symbol_text, left_out}
 use Rattle.filter_tokens.specs.Shapes.{zero_digit, small_x}
 
 -- the greatest number that a token may write
@@ -27,7 +27,7 @@ hexadecimal_value (digit ∷ digits) = digit_value digit * 16 ^ length digits + 
 -- a name is a word of at most 64 bytes that is no keyword and is not left out
 pub record IsName (bytes : List ℕ) : Type 0 where
   pub limit : length bytes ≤ longest_name
-  pub no_keyword : (mark : Mark) → bytes ≢ mark_text mark
+  pub no_keyword : (symbol : Symbol) → bytes ≢ symbol_text symbol
   pub not_left_out : All (λ word. bytes ≢ word) left_out
 
 -- `0x` and digits, one at least, write a number up to the greatest
@@ -39,13 +39,13 @@ pub record IsHexadecimal (bytes : List ℕ) (n : ℕ) : Type 0 where
   pub limit : n ≤ greatest_number
 
 -- the word that bytes of a shape mean; some mean none, as an address with a group over 255, a name of 65 bytes or a `0x` alone
-abbrev pub Means : Shape → List ℕ → Word → Type 0
-Means shape.Word bytes word.Name = IsName bytes
-Means shape.Word bytes (word.Mark keyword) = bytes ≡ mark_text keyword
-Means shape.Decimal bytes (word.Number n) = (n ≡ decimal_value bytes) × (n ≤ greatest_number)
-Means shape.Hexadecimal bytes (word.Number n) = IsHexadecimal bytes n
-Means shape.Address bytes (word.Address a) = IsAddress bytes a.0
-Means shape.Prefix bytes (word.Prefix bits) = IsPrefix bytes bits
-Means shape.Text bytes word.Text = Unit {0}
-Means (shape.Sign sign) bytes (word.Mark mark) = sign ≡ mark
-Means other bytes word = ⊥
+abbrev pub Means : Shape → List ℕ → TokenKind → Type 0
+Means shape.Word bytes kind.Name = IsName bytes
+Means shape.Word bytes (kind.Symbol keyword) = bytes ≡ symbol_text keyword
+Means shape.Decimal bytes (kind.Number n) = (n ≡ decimal_value bytes) × (n ≤ greatest_number)
+Means shape.Hexadecimal bytes (kind.Number n) = IsHexadecimal bytes n
+Means shape.Address bytes (kind.Address a) = IsAddress bytes a.0
+Means shape.Prefix bytes (kind.Prefix bits) = IsPrefix bytes bits
+Means shape.Text bytes kind.Text = Unit {0}
+Means (shape.Punctuator punctuator) bytes (kind.Symbol symbol) = punctuator ≡ symbol
+Means other bytes kind = ⊥

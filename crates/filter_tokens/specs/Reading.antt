@@ -8,39 +8,39 @@ use Rattle.std.specs.Option.{option_map}
 use Rattle.std.specs.Str.{bytes_eq}
 use Rattle.prefix_patterns.specs.Reading.{◌>>=◌, number_in, address_in, prefix_in}
 use Rattle.prefix_patterns.specs.Token.{dot, slash}
-use Rattle.filter_tokens.specs.declared.mark.Mark.{Mark}
-use Rattle.filter_tokens.specs.declared.mark.Mark.TheVariants as mark
+use Rattle.filter_tokens.specs.declared.symbol.Symbol.{Symbol}
+use Rattle.filter_tokens.specs.declared.symbol.Symbol.TheVariants as symbol
 use Rattle.filter_tokens.specs.declared.part.Part.{Part}
 use Rattle.filter_tokens.specs.declared.part.Part.TheVariants as part
 use Rattle.filter_tokens.specs.declared.shape.Shape.{Shape}
 use Rattle.filter_tokens.specs.declared.shape.Shape.TheVariants as shape
-use Rattle.filter_tokens.specs.declared.word.Word.{Word}
-use Rattle.filter_tokens.specs.declared.word.Word.TheVariants as word
-use Rattle.filter_tokens.specs.Cutting.{hash, star, is_blank, begins_with}
-use Rattle.filter_tokens.specs.Marks.{mark_text, left_out}
+use Rattle.filter_tokens.specs.declared.token_kind.TokenKind.{TokenKind}
+use Rattle.filter_tokens.specs.declared.token_kind.TokenKind.TheVariants as kind
+use Rattle.filter_tokens.specs.Tokenization.{hash, star, is_space, begins_with}
+use Rattle.filter_tokens.specs.Symbols.{symbol_text, left_out}
 use Rattle.filter_tokens.specs.Meaning.{greatest_number, longest_name}
-use Rattle.filter_tokens.specs.Runs.{is_quotable, is_of_line}
-use Rattle.filter_tokens.specs.Shapes.{quote, zero_digit, small_x, begins_word, goes_on_word}
+use Rattle.filter_tokens.specs.ByteClasses.{is_quotable, is_of_line}
+use Rattle.filter_tokens.specs.Shapes.{quote, zero_digit, small_x, begins_word, continues_word}
 
 -- what a call that may refuse answers, whatever fault it names
-abbrev pub Gives : {A E : Type 0} → Result A E → Option A → Type 0
-Gives (Ok value) reading = reading ≡ Some value
-Gives (Err fault) reading = reading ≡ None
+abbrev pub OkWhereSome : {A E : Type 0} → Result A E → Option A → Type 0
+OkWhereSome (Ok value) reading = reading ≡ Some value
+OkWhereSome (Err fault) reading = reading ≡ None
 
--- what stands behind the bytes at the front that pass a test
-abbrev pub behind : (ℕ → Bool) → List ℕ → List ℕ
-behind passes text = drop (prefix_len passes text) text
+-- what follows the bytes at the front that pass a test
+abbrev pub drop_while : (ℕ → Bool) → List ℕ → List ℕ
+drop_while passes text = drop (prefix_len passes text) text
 
--- behind a byte that has to stand there
+-- after a byte that has to stand there
 abbrev pub after_byte : ℕ → List ℕ → Option (List ℕ)
 after_byte wanted [] = None
 after_byte wanted (byte ∷ bytes) = if byte == wanted then Some bytes else None
 
--- behind one digit at least
+-- after one digit at least
 unfoldable pub after_digits : List ℕ → Option (List ℕ)
-after_digits text = if prefix_len is_ascii_digit text == 0 then None else Some (behind is_ascii_digit text)
+after_digits text = if prefix_len is_ascii_digit text == 0 then None else Some (drop_while is_ascii_digit text)
 
--- behind four groups of digits and the dots between them
+-- after four groups of digits and the dots between them
 unfoldable pub after_address : List ℕ → Option (List ℕ)
 after_address text = do
   rest ← after_digits text
@@ -51,27 +51,27 @@ after_address text = do
   rest ← after_byte dot rest
   after_digits rest
 
--- behind an address, a slash and digits
+-- after an address, a slash and digits
 unfoldable pub after_prefix : List ℕ → Option (List ℕ)
 after_prefix text = do
   rest ← after_address text
   rest ← after_byte slash rest
   after_digits rest
 
--- behind a `0x` and the hexadecimal digits that follow, if any do
+-- after a `0x` and the hexadecimal digits that follow, if any do
 unfoldable pub after_hexadecimal : List ℕ → Option (List ℕ)
 after_hexadecimal text = do
   rest ← after_byte zero_digit text
   rest ← after_byte small_x rest
-  Some (behind is_ascii_hexdigit rest)
+  Some (drop_while is_ascii_hexdigit rest)
 
--- behind a text in double quotes
+-- after a text in double quotes
 unfoldable pub after_quoted : List ℕ → Option (List ℕ)
 after_quoted text = do
   rest ← after_byte quote text
-  after_byte quote (behind is_quotable rest)
+  after_byte quote (drop_while is_quotable rest)
 
--- a text in double quotes at the front, and what stands behind it
+-- a text in double quotes at the front, and what follows it
 abbrev pub quoted_shape : List ℕ → Option (Shape × List ℕ)
 quoted_shape text = option_map (λ (rest : List ℕ). let found : Shape × List ℕ = (shape.Text, rest) in found) (after_quoted text)
 
@@ -86,94 +86,94 @@ digits_shape text =
     or_shape shape.Prefix (after_prefix text)
     (or_shape shape.Address (after_address text)
     (or_shape shape.Hexadecimal (after_hexadecimal text)
-    (shape.Decimal, behind is_ascii_digit text)))
+    (shape.Decimal, drop_while is_ascii_digit text)))
 
--- the signs, longer ones first
-abbrev pub signs : List Mark
-signs =
-    mark.And ∷ mark.Or ∷ mark.NotEqual ∷ mark.NotMatch ∷ mark.LessEqual ∷ mark.GreaterEqual ∷ mark.LeftParen ∷
-    mark.RightParen ∷ mark.LeftBrace ∷ mark.RightBrace ∷ mark.LeftBracket ∷ mark.RightBracket ∷ mark.Semicolon ∷
-    mark.Comma ∷ mark.Dot ∷ mark.Equal ∷ mark.Less ∷ mark.Greater ∷ mark.Match ∷ mark.Not ∷ mark.Plus ∷ mark.Minus ∷
-    mark.Times ∷ mark.Divide ∷ []
+-- the punctuators, longer ones first
+abbrev pub punctuators : List Symbol
+punctuators =
+    symbol.And ∷ symbol.Or ∷ symbol.NotEqual ∷ symbol.NotMatch ∷ symbol.LessEqual ∷ symbol.GreaterEqual ∷ symbol.LeftParen ∷
+    symbol.RightParen ∷ symbol.LeftBrace ∷ symbol.RightBrace ∷ symbol.LeftBracket ∷ symbol.RightBracket ∷ symbol.Semicolon ∷
+    symbol.Comma ∷ symbol.Dot ∷ symbol.Equal ∷ symbol.Less ∷ symbol.Greater ∷ symbol.Match ∷ symbol.Not ∷ symbol.Plus ∷ symbol.Minus ∷
+    symbol.Times ∷ symbol.Divide ∷ []
 
--- whether the text begins with a mark
-abbrev pub stands_before : List ℕ → Mark → Bool
-stands_before text mark = bytes_eq (mark_text mark) (take (length (mark_text mark)) text)
+-- whether the text begins with a symbol
+abbrev pub begins_with_symbol : List ℕ → Symbol → Bool
+begins_with_symbol text symbol = bytes_eq (symbol_text symbol) (take (length (symbol_text symbol)) text)
 
--- the first of the signs that the text begins with
-unfoldable pub sign_in : List ℕ → Option Mark
-sign_in text = find (stands_before text) signs
+-- the first of the punctuators that the text begins with
+unfoldable pub punctuator_in : List ℕ → Option Symbol
+punctuator_in text = find (begins_with_symbol text) punctuators
 
--- the longest sign at the front of a text
-unfoldable pub sign_shape : List ℕ → Option (Shape × List ℕ)
-sign_shape text = option_map (λ sign. (shape.Sign sign, drop (length (mark_text sign)) text)) (sign_in text)
+-- the longest punctuator at the front of a text
+unfoldable pub punctuator_shape : List ℕ → Option (Shape × List ℕ)
+punctuator_shape text = option_map (λ punctuator. (shape.Punctuator punctuator, drop (length (symbol_text punctuator)) text)) (punctuator_in text)
 
 -- the longest shape at the front of a text
 unfoldable pub longest_shape : List ℕ → Option (Shape × List ℕ)
 longest_shape [] = None
 longest_shape (first ∷ others) =
-    if begins_word first then Some (shape.Word, behind goes_on_word others)
+    if begins_word first then Some (shape.Word, drop_while continues_word others)
     else (if is_ascii_digit first then Some (digits_shape (first ∷ others))
     else (if first == quote then quoted_shape (first ∷ others)
-    else sign_shape (first ∷ others)))
+    else punctuator_shape (first ∷ others)))
 
 -- the keywords
-abbrev pub keywords : List Mark
+abbrev pub keywords : List Symbol
 keywords =
-    mark.Filter ∷ mark.Int ∷ mark.Bool ∷ mark.Ip ∷ mark.Prefix ∷ mark.If ∷ mark.Then ∷ mark.Else ∷ mark.Accept ∷
-    mark.Reject ∷ mark.True ∷ mark.False ∷ mark.Defined ∷ mark.Net ∷ mark.RipMetric ∷ []
+    symbol.Filter ∷ symbol.Int ∷ symbol.Bool ∷ symbol.Ip ∷ symbol.Prefix ∷ symbol.If ∷ symbol.Then ∷ symbol.Else ∷ symbol.Accept ∷
+    symbol.Reject ∷ symbol.True ∷ symbol.False ∷ symbol.Defined ∷ symbol.Net ∷ symbol.RipMetric ∷ []
 
--- whether a mark is written so
-abbrev pub is_written : List ℕ → Mark → Bool
-is_written bytes mark = bytes_eq (mark_text mark) bytes
+-- whether a symbol is written so
+abbrev pub is_spelled : List ℕ → Symbol → Bool
+is_spelled bytes symbol = bytes_eq (symbol_text symbol) bytes
 
 -- the keyword that is written so
-unfoldable pub keyword_in : List ℕ → Option Mark
-keyword_in bytes = find (is_written bytes) keywords
+unfoldable pub keyword_in : List ℕ → Option Symbol
+keyword_in bytes = find (is_spelled bytes) keywords
 
 -- whether the language leaves a word out
 unfoldable pub is_left_out : List ℕ → Bool
 is_left_out bytes = list_any (λ word. bytes_eq word bytes) left_out
 
 -- a name, unless it is too long or left out
-abbrev pub name_in : List ℕ → Option Word
-name_in bytes = if nat_le (length bytes) longest_name && not (is_left_out bytes) then Some word.Name else None
+abbrev pub name_in : List ℕ → Option TokenKind
+name_in bytes = if nat_le (length bytes) longest_name && not (is_left_out bytes) then Some kind.Name else None
 
 -- a keyword where there is one, and otherwise what else there is
-abbrev pub keyword_or : Option Mark → Option Word → Option Word
+abbrev pub keyword_or : Option Symbol → Option TokenKind → Option TokenKind
 keyword_or None other = other
-keyword_or (Some mark) other = Some (word.Mark mark)
+keyword_or (Some symbol) other = Some (kind.Symbol symbol)
 
 -- a keyword or a name
-unfoldable pub word_in : List ℕ → Option Word
+unfoldable pub word_in : List ℕ → Option TokenKind
 word_in bytes = keyword_or (keyword_in bytes) (name_in bytes)
 
--- one more hexadecimal digit behind a number
+-- one more hexadecimal digit after a number
 abbrev pub with_digit : ℕ → ℕ → Option ℕ
 with_digit value byte =
     if nat_lt (digit_value byte) 16 && nat_le (value * 16 + digit_value byte) greatest_number
     then Some (value * 16 + digit_value byte) else None
 
--- the number that hexadecimal digits write behind what was read before them
+-- the number that hexadecimal digits write after what was read before them
 unfoldable pub hexadecimal_from : ℕ → List ℕ → Option ℕ
 hexadecimal_from value [] = Some value
 hexadecimal_from value (byte ∷ bytes) = with_digit value byte >>= λ longer. hexadecimal_from longer bytes
 
--- the number behind a `0x`
+-- the number after a `0x`
 unfoldable pub hexadecimal_in : List ℕ → Option ℕ
 hexadecimal_in bytes = if nat_lt (length bytes) 3 then None else hexadecimal_from 0 (drop 2 bytes)
 
 -- the word that bytes of a shape mean
-abbrev pub meaning_in : Shape → List ℕ → Option Word
+abbrev pub meaning_in : Shape → List ℕ → Option TokenKind
 meaning_in shape.Word bytes = word_in bytes
-meaning_in shape.Decimal bytes = option_map word.Number (number_in greatest_number bytes)
-meaning_in shape.Hexadecimal bytes = option_map word.Number (hexadecimal_in bytes)
-meaning_in shape.Address bytes = option_map (λ address. word.Address (record { 0 = address })) (address_in bytes)
-meaning_in shape.Prefix bytes = option_map word.Prefix (prefix_in bytes)
-meaning_in shape.Text bytes = Some word.Text
-meaning_in (shape.Sign sign) bytes = Some (word.Mark sign)
+meaning_in shape.Decimal bytes = option_map kind.Number (number_in greatest_number bytes)
+meaning_in shape.Hexadecimal bytes = option_map kind.Number (hexadecimal_in bytes)
+meaning_in shape.Address bytes = option_map (λ address. kind.Address (record { 0 = address })) (address_in bytes)
+meaning_in shape.Prefix bytes = option_map kind.Prefix (prefix_in bytes)
+meaning_in shape.Text bytes = Some kind.Text
+meaning_in (shape.Punctuator punctuator) bytes = Some (kind.Symbol punctuator)
 
--- whether a `*/` stands at the front
+-- whether a `*/` is at the front
 abbrev pub closes : List ℕ → Bool
 closes text = bytes_eq (star ∷ slash ∷ []) (take 2 text)
 
@@ -186,7 +186,7 @@ closing_len (byte ∷ bytes) = if closes (byte ∷ bytes) then Some 2 else optio
 unfoldable pub gap_len : List ℕ → Option ℕ
 gap_len [] = Some 0
 gap_len (first ∷ others) =
-    if is_blank first then Some 1
+    if is_space first then Some 1
     else (if first == hash then Some (1 + prefix_len is_of_line others)
     else (if first == slash && begins_with star others then option_map (λ len. 2 + len) (closing_len (drop 1 others))
     else Some 0))
@@ -195,13 +195,13 @@ gap_len (first ∷ others) =
 abbrev pub token_of : List ℕ → Shape × List ℕ → Option Part
 token_of text found =
     let len = length text - length found.1 in
-    option_map (λ word. part.Token word len) (meaning_in found.0 (take len text))
+    option_map (λ kind. part.Token kind len) (meaning_in found.0 (take len text))
 
 -- the token at the front of a text, whether or not space or a comment begins there
 unfoldable pub token_in : List ℕ → Option Part
 token_in text = longest_shape text >>= token_of text
 
--- space or a comment of so many bytes, and otherwise a token
+-- space or a comment of this many bytes, and otherwise a token
 abbrev pub part_of : List ℕ → ℕ → Option Part
 part_of text len = if len == 0 then token_in text else Some (part.Gap len)
 

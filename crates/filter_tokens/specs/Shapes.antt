@@ -6,7 +6,7 @@ use Rattle.prefix_patterns.specs.Number.{IsDigits}
 use Rattle.prefix_patterns.specs.Token.{dot, slash}
 use Rattle.filter_tokens.specs.declared.shape.Shape.{Shape}
 use Rattle.filter_tokens.specs.declared.shape.Shape.TheVariants as shape
-use Rattle.filter_tokens.specs.Marks.{mark_text, is_sign}
+use Rattle.filter_tokens.specs.Symbols.{symbol_text, is_punctuator}
 
 -- the byte that ends a line
 abbrev pub line_feed : ℕ
@@ -29,15 +29,15 @@ abbrev pub begins_word : ℕ → Bool
 begins_word byte = is_ascii_alphabetic byte || byte == 95
 
 -- and goes on with letters, `_` and digits
-abbrev pub goes_on_word : ℕ → Bool
-goes_on_word byte = begins_word byte || is_ascii_digit byte
+abbrev pub continues_word : ℕ → Bool
+continues_word byte = begins_word byte || is_ascii_digit byte
 
 -- a word: a name, a keyword or a word left out
 abbrev pub IsWord : List ℕ → Type 0
 IsWord [] = ⊥
-IsWord (first ∷ others) = (begins_word first ≡ true) × All (λ byte. goes_on_word byte ≡ true) others
+IsWord (first ∷ others) = (begins_word first ≡ true) × All (λ byte. continues_word byte ≡ true) others
 
--- the digits behind a `0x`, of which there may be none
+-- the digits after a `0x`, of which there may be none
 abbrev pub AreHexadecimal : List ℕ → Type 0
 AreHexadecimal digits = All (λ byte. is_ascii_hexdigit byte ≡ true) digits
 
@@ -72,4 +72,4 @@ HasShape shape.Hexadecimal bytes = (digits : List ℕ) × AreHexadecimal digits 
 HasShape shape.Address bytes = HasFourGroups bytes
 HasShape shape.Prefix bytes = HasLength bytes
 HasShape shape.Text bytes = IsQuoted bytes
-HasShape (shape.Sign sign) bytes = (is_sign sign ≡ true) × (bytes ≡ mark_text sign)
+HasShape (shape.Punctuator punctuator) bytes = (is_punctuator punctuator ≡ true) × (bytes ≡ symbol_text punctuator)

@@ -7,31 +7,31 @@ use thiserror::Error;
 #[derive(Clone, Copy, Debug, PartialEq, Eq, Error)]
 pub enum TokenFault {
     /// P1: no token begins with this byte.
-    #[error("no token begins with the byte at {0}")]
+    #[error("unexpected character at byte {0}")]
     BadCharacter(usize),
-    /// P1: no hexadecimal digit stands behind a `0x`.
-    #[error("no hexadecimal digit follows the `0x` at {0}")]
+    /// P1: no hexadecimal digit follows a `0x`.
+    #[error("`0x` without a hexadecimal digit at byte {0}")]
     NoDigit(usize),
     /// P3: a number over 4,294,967,295.
-    #[error("the number at {0} is over 4294967295")]
+    #[error("the number at byte {0} exceeds 4294967295")]
     NumberTooLarge(usize),
     /// P4: a group of an address over 255, or a length of a prefix over 32.
-    #[error("the address or prefix at {0} has a group over 255 or a length over 32")]
+    #[error("the address or prefix at byte {0} has a group over 255 or a length over 32")]
     OutOfRange(usize),
     /// P8: a name of more than 64 bytes.
-    #[error("the name at {0} has more than 64 bytes")]
+    #[error("the name at byte {0} is longer than 64 bytes")]
     NameTooLong(usize),
     /// P9: a comment with no `*/`.
-    #[error("the comment at {0} is not ended by `*/`")]
+    #[error("the comment at byte {0} is never closed by `*/`")]
     UnendedComment(usize),
-    /// P9: a text with no `"` behind it on its line.
-    #[error("the text at {0} is not ended by a double quote on its line")]
+    /// P9: a text with no `"` after it on its line.
+    #[error("the text at byte {0} has no closing double quote on its line")]
     UnendedText(usize),
     /// P10: a word of BIRD's filters that this language leaves out.
-    #[error("the word at {0} belongs to a part of BIRD's language that is left out")]
+    #[error("the word at byte {0} belongs to a part of BIRD's language that is not supported")]
     WordLeftOut(usize),
     /// P10: a name in single quotes.
-    #[error("the name at {0} is in single quotes, which are left out")]
+    #[error("names in single quotes, as at byte {0}, are not supported")]
     QuotedName(usize),
 }
 

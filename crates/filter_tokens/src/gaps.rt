@@ -2,11 +2,10 @@
 
 ghost use Rattle.std.specs.Option.{option_map};
 ghost use Rattle.std.specs.Prelude.{◌≡◌, ◌≤◌, ◌+◌, ◌<◌, ◌^◌, IfSome, IsTrue, length};
-ghost use Rattle.filter_tokens.specs.Cutting.{is_blank, begins_with};
+ghost use Rattle.filter_tokens.specs.Tokenization.{is_space, begins_with};
 ghost use Rattle.filter_tokens.specs.Reading as spec;
 
-use crate::run::Run;
-use crate::runs::run_len;
+use crate::byte_class::{ByteClass, leading_len};
 
 /// The number of bytes of space or of a comment at the front of a text: 0 where neither begins there.
 /// None for a comment that does not end.
@@ -17,11 +16,11 @@ pub fn gap_len(text: &[u8]) -> Option<usize>
     let Some((first, others)) = text.split_first() else {
         return Some(0);
     };
-    if is_blank(*first) {
+    if is_space(*first) {
         return Some(1);
     }
     if *first == b'#' {
-        return Some(1 + run_len(Run::Line, others));
+        return Some(1 + leading_len(ByteClass::Line, others));
     }
     if *first == b'/' && begins_with(others, b'*') {
         return enclosed_len(&others[1..]);
@@ -52,7 +51,7 @@ fn closing_len(text: &[u8]) -> Option<usize>
     None
 }
 
-/// Whether a `*/` stands at the front.
+/// Whether a `*/` is at the front.
 fn closes(text: &[u8]) -> bool
     ensures is { result ≡ spec.closes text.now }
     ensures within { IsTrue result → 2 ≤ length text.now }
@@ -61,8 +60,8 @@ fn closes(text: &[u8]) -> bool
 }
 
 /// Whether the byte is a space, a tab, a CR or an LF.
-fn is_blank(byte: u8) -> bool
-    ensures { result ≡ is_blank byte }
+fn is_space(byte: u8) -> bool
+    ensures { result ≡ is_space byte }
 {
     byte == b'\t' || byte == b'\n' || byte == b'\r' || byte == b' '
 }

@@ -1,22 +1,21 @@
 //! The tokens of a filter's text.
 #![tactic(auto)]
 
+mod byte_class;
 mod fault;
 mod gaps;
-mod mark;
 mod meaning;
 mod part;
 mod parts;
-mod run;
-mod runs;
 mod shape;
 mod shapes;
+mod symbol;
 mod text;
 mod token;
-mod word;
+mod token_kind;
 
 pub use fault::TokenFault;
-pub use mark::Mark;
+pub use symbol::Symbol;
 pub use text::{Lexed, lex};
 pub use token::Token;
-pub use word::Word;
+pub use token_kind::TokenKind;

@@ -9,9 +9,9 @@ ghost use Rattle.filter_tokens.specs.Reading as spec;
 ghost use Rattle.prefix_patterns.specs.Reading.{address_in, prefix_in};
 
 use crate::fault::TokenFault;
-use crate::mark::{KEYWORDS, Mark};
 use crate::shape::Shape;
-use crate::word::Word;
+use crate::symbol::{KEYWORDS, Symbol};
+use crate::token_kind::TokenKind;
 use prefix_patterns::{read_ip, read_number, read_prefix};
 
 /// The most bytes of a name.
@@ -44,8 +44,8 @@ static LEFT_OUT: [&str; 22] = [
 ];
 
 /// The word that bytes of a shape mean. They stand at `at`.
-pub fn meaning(shape: Shape, bytes: &[u8], at: usize) -> Result<Word, TokenFault>
-    ensures is { spec.Gives result (spec.meaning_in shape bytes.now) }
+pub fn meaning(shape: Shape, bytes: &[u8], at: usize) -> Result<TokenKind, TokenFault>
+    ensures is { spec.OkWhereSome result (spec.meaning_in shape bytes.now) }
     ensures placed { IfErr result (λ fault. fault_place fault ≡ at) }
 {
     match shape {
@@ -54,19 +54,19 @@ pub fn meaning(shape: Shape, bytes: &[u8], at: usize) -> Result<Word, TokenFault
         Shape::Hexadecimal => hexadecimal(bytes, at),
         Shape::Address => address(bytes, at),
         Shape::Prefix => prefix(bytes, at),
-        Shape::Text => Ok(Word::Text),
-        Shape::Sign(sign) => Ok(Word::Mark(sign)),
+        Shape::Text => Ok(TokenKind::Text),
+        Shape::Punctuator(punctuator) => Ok(TokenKind::Symbol(punctuator)),
     }
 }
 
 /// A name or a keyword.
 #[tactic(auto, unfolding(crate::specs::Reading::word_in))]
-fn word(bytes: &[u8], at: usize) -> Result<Word, TokenFault>
-    ensures is { spec.Gives result (spec.word_in bytes.now) }
+fn word(bytes: &[u8], at: usize) -> Result<TokenKind, TokenFault>
+    ensures is { spec.OkWhereSome result (spec.word_in bytes.now) }
     ensures placed { IfErr result (λ fault. fault_place fault ≡ at) }
 {
-    if let Some(mark) = keyword(bytes) {
-        return Ok(Word::Mark(mark));
+    if let Some(symbol) = keyword(bytes) {
+        return Ok(TokenKind::Symbol(symbol));
     }
     if bytes.len() > NAME_LIMIT {
         return Err(TokenFault::NameTooLong(at));
@@ -74,24 +74,24 @@ fn word(bytes: &[u8], at: usize) -> Result<Word, TokenFault>
     if is_left_out(bytes) {
         return Err(TokenFault::WordLeftOut(at));
     }
-    Ok(Word::Name)
+    Ok(TokenKind::Name)
 }
 
 /// The keyword that is written so.
 #[tactic(auto, unfolding(crate::specs::Reading::keyword_in))]
-fn keyword(bytes: &[u8]) -> Option<Mark>
+fn keyword(bytes: &[u8]) -> Option<Symbol>
     ensures { spec.keyword_in bytes.now ≡ result }
 {
-    written_so(&KEYWORDS, bytes)
+    symbol_spelled(&KEYWORDS, bytes)
 }
 
-/// The first of the marks that is written so.
-fn written_so(marks: &[Mark], bytes: &[u8]) -> Option<Mark>
-    ensures { find (spec.is_written bytes.now) marks.now ≡ result }
+/// The first of the symbols that is written so.
+fn symbol_spelled(symbols: &[Symbol], bytes: &[u8]) -> Option<Symbol>
+    ensures { find (spec.is_spelled bytes.now) symbols.now ≡ result }
 {
-    for mark in marks {
-        if mark.text().as_bytes() == bytes {
-            return Some(*mark);
+    for symbol in symbols {
+        if symbol.text().as_bytes() == bytes {
+            return Some(*symbol);
         }
     }
     None
@@ -118,20 +118,20 @@ fn is_among(words: &[&str], bytes: &[u8]) -> bool
 }
 
 /// A number that was read, or was too large.
-fn number(read: Option<u32>, at: usize) -> Result<Word, TokenFault>
-    ensures is { spec.Gives result (option_map Word.Number read) }
+fn number(read: Option<u32>, at: usize) -> Result<TokenKind, TokenFault>
+    ensures is { spec.OkWhereSome result (option_map TokenKind.Number read) }
     ensures placed { IfErr result (λ fault. fault_place fault ≡ at) }
 {
     match read {
-        Some(n) => Ok(Word::Number(n)),
+        Some(n) => Ok(TokenKind::Number(n)),
         None => Err(TokenFault::NumberTooLarge(at)),
     }
 }
 
-/// The number behind a `0x`.
+/// The number after a `0x`.
 #[tactic(auto, unfolding(crate::specs::Reading::hexadecimal_in))]
-fn hexadecimal(bytes: &[u8], at: usize) -> Result<Word, TokenFault>
-    ensures is { spec.Gives result (option_map Word.Number (spec.hexadecimal_in bytes.now)) }
+fn hexadecimal(bytes: &[u8], at: usize) -> Result<TokenKind, TokenFault>
+    ensures is { spec.OkWhereSome result (option_map TokenKind.Number (spec.hexadecimal_in bytes.now)) }
     ensures placed { IfErr result (λ fault. fault_place fault ≡ at) }
 {
     if bytes.len() < 3 {
@@ -165,23 +165,23 @@ fn with_digit(value: u32, byte: u8) -> Option<u32>
 }
 
 /// An address, unless a group of it is over 255.
-fn address(bytes: &[u8], at: usize) -> Result<Word, TokenFault>
-    ensures is { spec.Gives result (option_map (λ address. Word.Address (record { 0 = address })) (address_in bytes.now)) }
+fn address(bytes: &[u8], at: usize) -> Result<TokenKind, TokenFault>
+    ensures is { spec.OkWhereSome result (option_map (λ address. TokenKind.Address (record { 0 = address })) (address_in bytes.now)) }
     ensures placed { IfErr result (λ fault. fault_place fault ≡ at) }
 {
     match read_ip(bytes) {
-        Some(ip) => Ok(Word::Address(ip)),
+        Some(ip) => Ok(TokenKind::Address(ip)),
         None => Err(TokenFault::OutOfRange(at)),
     }
 }
 
 /// A prefix, unless a group of its address is over 255 or its length over 32.
-fn prefix(bytes: &[u8], at: usize) -> Result<Word, TokenFault>
-    ensures is { spec.Gives result (option_map Word.Prefix (prefix_in bytes.now)) }
+fn prefix(bytes: &[u8], at: usize) -> Result<TokenKind, TokenFault>
+    ensures is { spec.OkWhereSome result (option_map TokenKind.Prefix (prefix_in bytes.now)) }
     ensures placed { IfErr result (λ fault. fault_place fault ≡ at) }
 {
     match read_prefix(bytes) {
-        Some(prefix) => Ok(Word::Prefix(prefix)),
+        Some(prefix) => Ok(TokenKind::Prefix(prefix)),
         None => Err(TokenFault::OutOfRange(at)),
     }
 }

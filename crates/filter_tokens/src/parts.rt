@@ -2,7 +2,7 @@
 
 ghost use Rattle.std.specs.Prelude.{◌≡◌, ◌≤◌, ◌<◌, IfErr, IfOk, length};
 ghost use Rattle.filter_tokens.specs.Codes.{fault_place};
-ghost use Rattle.filter_tokens.specs.Cutting.{part_len};
+ghost use Rattle.filter_tokens.specs.Tokenization.{part_len};
 ghost use Rattle.filter_tokens.specs.Reading as spec;
 
 use crate::fault::TokenFault;
@@ -14,7 +14,7 @@ use crate::shapes::longest_shape;
 /// The part at the front of a text that has a byte at least. The text begins at `at`.
 #[tactic(auto, unfolding(crate::specs::Reading::part_in))]
 pub fn next_part(text: &[u8], at: usize) -> Result<Part, TokenFault>
-    ensures is { spec.Gives result (spec.part_in text.now) }
+    ensures is { spec.OkWhereSome result (spec.part_in text.now) }
     ensures within { IfOk result (λ part. (0 < part_len part) × (part_len part ≤ length text.now)) }
     ensures placed { IfErr result (λ fault. fault_place fault ≡ at) }
 {
@@ -28,7 +28,7 @@ pub fn next_part(text: &[u8], at: usize) -> Result<Part, TokenFault>
 /// The token at the front of a text.
 #[tactic(auto, unfolding(crate::specs::Reading::token_in))]
 fn token(text: &[u8], at: usize) -> Result<Part, TokenFault>
-    ensures is { spec.Gives result (spec.token_in text.now) }
+    ensures is { spec.OkWhereSome result (spec.token_in text.now) }
     ensures placed { IfErr result (λ fault. fault_place fault ≡ at) }
 {
     let Some((shape, rest)) = longest_shape(text) else {
@@ -36,7 +36,7 @@ fn token(text: &[u8], at: usize) -> Result<Part, TokenFault>
     };
     let len = text.len() - rest.len();
     match meaning(shape, &text[..len], at) {
-        Ok(word) => Ok(Part::Token(word, len)),
+        Ok(kind) => Ok(Part::Token(kind, len)),
         Err(fault) => Err(fault),
     }
 }

@@ -1,9 +1,9 @@
-use crate::mark::Mark;
+use crate::symbol::Symbol;
 
 /// What a token's bytes look like, whether or not they mean anything.
 #[derive(Clone, Copy, Debug, PartialEq, Eq)]
 pub enum Shape {
-    /// A letter or `_`, and letters, digits and `_` behind it.
+    /// A letter or `_`, and letters, digits and `_` after it.
     Word,
     /// Decimal digits.
     Decimal,
@@ -15,6 +15,6 @@ pub enum Shape {
     Prefix,
     /// What stands between double quotes on one line, and these.
     Text,
-    /// A sign.
-    Sign(Mark),
+    /// A punctuator.
+    Punctuator(Symbol),
 }

@@ -3,21 +3,20 @@
 ghost use Rattle.std.specs.Option.{option_map};
 ghost use Rattle.std.specs.Prelude.{◌≡◌, ◌≤◌, IfSome, find, length};
 ghost use Rattle.filter_tokens.specs.Reading as spec;
-ghost use Rattle.filter_tokens.specs.Marks.{mark_text};
+ghost use Rattle.filter_tokens.specs.Symbols.{symbol_text};
 
-use crate::mark::{Mark, SIGNS};
-use crate::run::Run;
-use crate::runs::{begins_word, run_len};
+use crate::byte_class::{ByteClass, begins_word, leading_len};
 use crate::shape::Shape;
+use crate::symbol::{PUNCTUATORS, Symbol};
 
-/// The longest shape at the front of a text, and what stands behind it.
+/// The longest shape at the front of a text, and what follows it.
 #[tactic(auto, unfolding(crate::specs::Reading::longest_shape))]
 pub fn longest_shape(text: &[u8]) -> Option<(Shape, &[u8])>
     ensures { spec.longest_shape text.now ≡ option_map (λ found. (found.0, found.1.now)) result }
 {
     let (first, others) = text.split_first()?;
     if begins_word(*first) {
-        return Some((Shape::Word, &others[run_len(Run::Word, others)..]));
+        return Some((Shape::Word, &others[leading_len(ByteClass::Word, others)..]));
     }
     if first.is_ascii_digit() {
         return Some(digits_shape(text));
@@ -25,7 +24,7 @@ pub fn longest_shape(text: &[u8]) -> Option<(Shape, &[u8])>
     if *first == b'"' {
         return quoted_shape(text);
     }
-    sign_shape(text)
+    punctuator_shape(text)
 }
 
 /// The longest shape at the front of a text that begins with a digit.
@@ -42,10 +41,13 @@ fn digits_shape(text: &[u8]) -> (Shape, &[u8])
     if let Some(rest) = after_hexadecimal(text) {
         return (Shape::Hexadecimal, rest);
     }
-    (Shape::Decimal, &text[run_len(Run::Digits, text)..])
+    (
+        Shape::Decimal,
+        &text[leading_len(ByteClass::Digits, text)..],
+    )
 }
 
-/// Behind a prefix.
+/// After a prefix.
 #[tactic(auto, unfolding(crate::specs::Reading::after_prefix))]
 fn after_prefix(text: &[u8]) -> Option<&[u8]>
     ensures { spec.after_prefix text.now ≡ option_map (λ rest. rest.now) result }
@@ -55,7 +57,7 @@ fn after_prefix(text: &[u8]) -> Option<&[u8]>
     after_digits(rest)
 }
 
-/// Behind four groups of digits and the dots between them.
+/// After four groups of digits and the dots between them.
 #[tactic(auto, unfolding(crate::specs::Reading::after_address))]
 fn after_address(text: &[u8]) -> Option<&[u8]>
     ensures { spec.after_address text.now ≡ option_map (λ rest. rest.now) result }
@@ -69,29 +71,29 @@ fn after_address(text: &[u8]) -> Option<&[u8]>
     after_digits(rest)
 }
 
-/// Behind a `0x` and the hexadecimal digits that follow, if any do.
+/// After a `0x` and the hexadecimal digits that follow, if any do.
 #[tactic(auto, unfolding(crate::specs::Reading::after_hexadecimal))]
 fn after_hexadecimal(text: &[u8]) -> Option<&[u8]>
     ensures { spec.after_hexadecimal text.now ≡ option_map (λ rest. rest.now) result }
 {
     let rest = after_byte(text, b'0')?;
     let rest = after_byte(rest, b'x')?;
-    Some(&rest[run_len(Run::Hexadecimal, rest)..])
+    Some(&rest[leading_len(ByteClass::Hexadecimal, rest)..])
 }
 
-/// Behind one digit at least.
+/// After one digit at least.
 #[tactic(auto, unfolding(crate::specs::Reading::after_digits))]
 fn after_digits(text: &[u8]) -> Option<&[u8]>
     ensures { spec.after_digits text.now ≡ option_map (λ rest. rest.now) result }
 {
-    let len = run_len(Run::Digits, text);
+    let len = leading_len(ByteClass::Digits, text);
     if len == 0 {
         return None;
     }
     Some(&text[len..])
 }
 
-/// Behind a byte that has to stand there.
+/// After a byte that has to stand there.
 fn after_byte(text: &[u8], wanted: u8) -> Option<&[u8]>
     ensures { spec.after_byte wanted text.now ≡ option_map (λ rest. rest.now) result }
 {
@@ -110,41 +112,44 @@ fn quoted_shape(text: &[u8]) -> Option<(Shape, &[u8])>
     Some((Shape::Text, rest))
 }
 
-/// Behind a text in double quotes.
+/// After a text in double quotes.
 #[tactic(auto, unfolding(crate::specs::Reading::after_quoted))]
 fn after_quoted(text: &[u8]) -> Option<&[u8]>
     ensures { spec.after_quoted text.now ≡ option_map (λ rest. rest.now) result }
 {
     let rest = after_byte(text, b'"')?;
-    after_byte(&rest[run_len(Run::Quoted, rest)..], b'"')
+    after_byte(&rest[leading_len(ByteClass::Quoted, rest)..], b'"')
 }
 
-/// The longest sign.
-#[tactic(auto, unfolding(crate::specs::Reading::sign_shape))]
-fn sign_shape(text: &[u8]) -> Option<(Shape, &[u8])>
-    ensures { spec.sign_shape text.now ≡ option_map (λ found. (found.0, found.1.now)) result }
+/// The longest punctuator.
+#[tactic(auto, unfolding(crate::specs::Reading::punctuator_shape))]
+fn punctuator_shape(text: &[u8]) -> Option<(Shape, &[u8])>
+    ensures { spec.punctuator_shape text.now ≡ option_map (λ found. (found.0, found.1.now)) result }
 {
-    let sign = sign(text)?;
-    Some((Shape::Sign(sign), &text[sign.text().len()..]))
+    let punctuator = punctuator(text)?;
+    Some((
+        Shape::Punctuator(punctuator),
+        &text[punctuator.text().len()..],
+    ))
 }
 
-/// The longest sign that the text begins with.
-#[tactic(auto, unfolding(crate::specs::Reading::sign_in))]
-fn sign(text: &[u8]) -> Option<Mark>
-    ensures is { spec.sign_in text.now ≡ result }
-    ensures within { IfSome result (λ sign. length (mark_text sign) ≤ length text.now) }
+/// The longest punctuator that the text begins with.
+#[tactic(auto, unfolding(crate::specs::Reading::punctuator_in))]
+fn punctuator(text: &[u8]) -> Option<Symbol>
+    ensures is { spec.punctuator_in text.now ≡ result }
+    ensures within { IfSome result (λ punctuator. length (symbol_text punctuator) ≤ length text.now) }
 {
-    first_at_front(&SIGNS, text)
+    first_at_front(&PUNCTUATORS, text)
 }
 
-/// The first of the marks that the text begins with.
-fn first_at_front(marks: &[Mark], text: &[u8]) -> Option<Mark>
-    ensures is { find (spec.stands_before text.now) marks.now ≡ result }
-    ensures within { IfSome result (λ mark. length (mark_text mark) ≤ length text.now) }
+/// The first of the symbols that the text begins with.
+fn first_at_front(symbols: &[Symbol], text: &[u8]) -> Option<Symbol>
+    ensures is { find (spec.begins_with_symbol text.now) symbols.now ≡ result }
+    ensures within { IfSome result (λ symbol. length (symbol_text symbol) ≤ length text.now) }
 {
-    for mark in marks {
-        if text.starts_with(mark.text().as_bytes()) {
-            return Some(*mark);
+    for symbol in symbols {
+        if text.starts_with(symbol.text().as_bytes()) {
+            return Some(*symbol);
         }
     }
     None

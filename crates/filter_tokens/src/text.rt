@@ -1,7 +1,7 @@
 ghost use Rattle.std.specs.Prelude.{◌≡◌, List, None, IfOk, IfSome, length};
 ghost use Rattle.filter_tokens.specs.declared.token.Token.{Token as TheToken};
 ghost use Rattle.filter_tokens.specs.Codes.{fault_place};
-ghost use Rattle.filter_tokens.specs.Cutting.{Cuts, AreInOrder, StopsAt};
+ghost use Rattle.filter_tokens.specs.Tokenization.{IsTokenization, AreInOrder, StopsAt};
 
 use crate::fault::TokenFault;
 use crate::part::Part;
@@ -20,16 +20,16 @@ pub struct Lexed {
 
 /// Cuts a text into tokens, from the left up to the first byte that no token has.
 ///
-/// An error is want of memory: a text that no tokens cut is answered with its fault.
+/// An error is refused memory: a text that no tokens cut is answered with its fault.
 pub fn lex(alloc: Global, text: &[u8]) -> Result<Lexed, AllocError>
     // The tokens lie in the text, in order, each with a byte at least.
     ensures spans { IfOk result (λ c. AreInOrder 0 c.tokens.items (length text.now)) }
     // Where there is no fault, the tokens cut the text.
-    ensures found { IfOk result (λ c. c.fault ≡ None → Cuts c.tokens.items 0 text.now) }
+    ensures found { IfOk result (λ c. c.fault ≡ None → IsTokenization c.tokens.items 0 text.now) }
     // Whatever cuts the text are these tokens, and then there is no fault.
-    ensures only { IfOk result (λ c. (tokens : List TheToken) → Cuts tokens 0 text.now → (c.fault ≡ None) × (c.tokens.items ≡ tokens)) }
+    ensures only { IfOk result (λ c. (tokens : List TheToken) → IsTokenization tokens 0 text.now → (c.fault ≡ None) × (c.tokens.items ≡ tokens)) }
     // No text is cut in two ways.
-    ensures one { (tokens others : List TheToken) → Cuts tokens 0 text.now → Cuts others 0 text.now → tokens ≡ others }
+    ensures one { (tokens others : List TheToken) → IsTokenization tokens 0 text.now → IsTokenization others 0 text.now → tokens ≡ others }
     // Where there is a fault, the tokens cut the text up to its place, and nothing stands there that the text could go on with.
     ensures stopped { IfOk result (λ c. IfSome c.fault (λ fault. StopsAt c.tokens.items (fault_place fault) text.now)) }
 {
@@ -38,9 +38,9 @@ pub fn lex(alloc: Global, text: &[u8]) -> Result<Lexed, AllocError>
     while at < text.len() {
         match next_part(&text[at..], at) {
             Ok(Part::Gap(len)) => at += len,
-            Ok(Part::Token(word, len)) => {
+            Ok(Part::Token(kind, len)) => {
                 tokens.push(Token {
-                    word,
+                    kind,
                     from: at,
                     to: at + len,
                 })?;

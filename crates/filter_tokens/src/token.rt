@@ -1,12 +1,12 @@
-use crate::word::Word;
+use crate::token_kind::TokenKind;
 
 /// A token: what it is, and the bytes `from..to` of the text that it covers.
 #[derive(Clone, Copy, Debug, PartialEq, Eq)]
 pub struct Token {
     /// What it is.
-    pub word: Word,
+    pub kind: TokenKind,
     /// The place of its first byte.
     pub from: usize,
-    /// The place behind its last byte.
+    /// The place after its last byte.
     pub to: usize,
 }

@@ -13,10 +13,10 @@ map_next f xs i x low is =
     ∙ map-append f (take i xs) (get_or xs i x ∷ [])
     ∙ ap (λ y. map f (take i xs) ++ f y ∷ []) (sym is)
 
--- what is put behind in two steps
-pub map_behind : {A B : Type 0} (f : A → B) (before between after : List B) (xs ys zs : List A)
+-- what is put after in two steps
+pub map_after : {A B : Type 0} (f : A → B) (before between after : List B) (xs ys zs : List A)
     → between ≡ before ++ map f xs → after ≡ between ++ map f ys → zs ≡ xs ++ ys → after ≡ before ++ map f zs
-map_behind f before between after xs ys zs p q r =
+map_after f before between after xs ys zs p q r =
     q ∙ ap (λ l. l ++ map f ys) p ∙ append_assoc before (map f xs) (map f ys)
     ∙ ap (λ l. before ++ l) (sym (map-append f xs ys)) ∙ ap (λ l. before ++ map f l) (sym r)
 

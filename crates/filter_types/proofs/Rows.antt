@@ -2,14 +2,14 @@
 use Rattle.std.proofs.Common.{◌≡◌, ℕ, true, false, Some, None, List, [], ◌∷◌, refl, arith}
 use Rattle.std.specs.Prelude.{codes}
 use Rattle.filter_parser.specs.Syntax.{ExprView}
-use Rattle.filter_parser.specs.SyntaxCommands.{CommandView, Acts, TargetView, DeclView}
+use Rattle.filter_parser.specs.SyntaxCommands.{CommandView, CommandsView, TargetView, DeclView}
 use Rattle.filter_parser.specs.SyntaxText.{FilterView}
 use Rattle.filter_parser.specs.declared.tree.decl.Kind.TheVariants as kind
 use Rattle.filter_parser.specs.declared.tree.expr.Attribute.TheVariants as attributes
 use Rattle.filter_parser.specs.declared.tree.op.Membership.TheVariants as membership
 use Rattle.filter_parser.specs.declared.tree.op.Op.TheVariants as o
 use Rattle.filter_parser.specs.declared.tree.op.Suffix.TheVariants as suffix
-use Rattle.filter_types.specs.Kinds.{FitsAct, IsTyped, kind_in, number_of, numbers_of}
+use Rattle.filter_types.specs.Kinds.{KindsFit, IsTyped, kind_in, number_of, numbers_of}
 
 -- `int a; ip b; int c;`
 abbrev variables : List DeclView
@@ -82,20 +82,20 @@ pub third : number_of variables (codes "c") ≡ 2
 third = refl
 
 -- `c = a;` fits, `a = true;`, `net = 1;` and `rip_metric = true;` do not
-pub assigned : FitsAct variables (CommandView.assign (TargetView.to_name (codes "c")) (named (codes "a")))
+pub assigned : KindsFit variables (CommandView.assign (TargetView.to_name (codes "c")) (named (codes "a")))
 assigned = (kind.Int, refl, refl)
 
-pub of_another_kind : FitsAct variables (CommandView.assign (TargetView.to_name (codes "a")) (ExprView.truth true)) → ⊥
+pub of_another_kind : KindsFit variables (CommandView.assign (TargetView.to_name (codes "a")) (ExprView.truth true)) → ⊥
 of_another_kind h = let p : Some kind.Int ≡ Some h.0 = h.1 in let q : Some kind.Bool ≡ Some h.0 = h.2 in cc
 
-pub net_assigned : FitsAct variables (CommandView.assign TargetView.to_net (ExprView.number 1)) → ⊥
+pub net_assigned : KindsFit variables (CommandView.assign TargetView.to_net (ExprView.number 1)) → ⊥
 net_assigned h = let p : None ≡ Some h.0 = h.1 in cc
 
-pub metric_of_a_bool : FitsAct variables (CommandView.assign TargetView.to_metric (ExprView.truth true)) → ⊥
+pub metric_of_a_bool : KindsFit variables (CommandView.assign TargetView.to_metric (ExprView.truth true)) → ⊥
 metric_of_a_bool h = let p : Some kind.Int ≡ Some h.0 = h.1 in let q : Some kind.Bool ≡ Some h.0 = h.2 in cc
 
 -- `if a then accept;` does not fit
-pub if_of_an_int : FitsAct variables (CommandView.choice (named (codes "a")) (CommandView.accept false)) → ⊥
+pub if_of_an_int : KindsFit variables (CommandView.if_then (named (codes "a")) (CommandView.accept false)) → ⊥
 if_of_an_int h = let p : Some kind.Int ≡ Some kind.Bool = h.0 in cc
 
 -- `filter q { int a; ip b; int c; c = a; }`
@@ -104,7 +104,7 @@ small =
     record {
       name = codes "q";
       decls = variables;
-      body = Acts.act_then (CommandView.assign (TargetView.to_name (codes "c")) (named (codes "a"))) Acts.no_acts;
+      body = CommandsView.command_then (CommandView.assign (TargetView.to_name (codes "c")) (named (codes "a"))) CommandsView.no_commands;
       tokens = [];
     }
 
@@ -118,7 +118,7 @@ twice =
     record {
       name = codes "q";
       decls = record { kind = kind.Int; name = codes "a" } ∷ (record { kind = kind.Int; name = codes "a" } ∷ []);
-      body = Acts.no_acts;
+      body = CommandsView.no_commands;
       tokens = [];
     }
 

@@ -1,15 +1,15 @@
--- Runs and operands with suffixes, judged part by part, have the kinds and names that their trees have.
+-- Chains and operands with suffixes, judged part by part, have the kinds and names that their trees have.
 use Rattle.std.proofs.Common.{◌≡◌, Option, Some, None, List, [], ◌∷◌, ◌++◌, Result, refl, sym, ap, subst, ◌∙◌, append_assoc}
 use Rattle.std.proofs.lemmas.List.{append-nil}
-use Rattle.filter_parser.specs.Syntax.{ExprView, run_of, suffixes_of}
+use Rattle.filter_parser.specs.Syntax.{ExprView, chain_of, suffixes_of}
 use Rattle.filter_parser.specs.SyntaxCommands.{DeclView}
 use Rattle.filter_parser.specs.declared.tree.decl.Kind.{Kind}
 use Rattle.filter_parser.specs.declared.tree.op.Op.{Op}
 use Rattle.filter_parser.specs.declared.tree.op.Suffix.{Suffix}
-use Rattle.filter_types.specs.Answers.{Gives}
+use Rattle.filter_types.specs.Answers.{AnswersKind}
 use Rattle.filter_types.specs.Kinds.{kind_in, names_in, of_one, of_two}
 use Rattle.filter_types.specs.Table.{operator, suffixed_by}
-use Rattle.filter_types.specs.Turns.{kind_after, kind_with, names_behind}
+use Rattle.filter_types.specs.Turns.{kind_after, kind_with, names_after}
 use Rattle.filter_types.specs.declared.fault.TypeFault.{TypeFault}
 
 -- a form of two operands, of which the first is of a known kind
@@ -26,19 +26,19 @@ some_is : (a : Option Kind) → of_one Some a ≡ a
 some_is None = refl
 some_is (Some a) = refl
 
--- the kind of a run is that of its first operand with what stands behind it
-run_kind : (vs : List DeclView) (left : ExprView) (xs : List (Op × ExprView))
-    → kind_in vs (run_of left xs) ≡ of_one (λ k. kind_with vs k xs) (kind_in vs left)
-run_kind vs left [] = sym (some_is (kind_in vs left))
-run_kind vs left (x ∷ xs) =
-    run_kind vs (ExprView.binary x.0 left x.1) xs
+-- the kind of a chain is that of its first operand with what follows it
+chain_kind : (vs : List DeclView) (left : ExprView) (xs : List (Op × ExprView))
+    → kind_in vs (chain_of left xs) ≡ of_one (λ k. kind_with vs k xs) (kind_in vs left)
+chain_kind vs left [] = sym (some_is (kind_in vs left))
+chain_kind vs left (x ∷ xs) =
+    chain_kind vs (ExprView.binary x.0 left x.1) xs
     ∙ two_is (operator x.0) (kind_in vs left) (kind_in vs x.1) (λ k. kind_with vs k xs)
 
-pub run_names : (left : ExprView) (xs : List (Op × ExprView)) → names_in (run_of left xs) ≡ names_in left ++ names_behind xs
-run_names left [] = sym (append-nil (names_in left))
-run_names left (x ∷ xs) = run_names (ExprView.binary x.0 left x.1) xs ∙ append_assoc (names_in left) _ _
+pub chain_names : (left : ExprView) (xs : List (Op × ExprView)) → names_in (chain_of left xs) ≡ names_in left ++ names_after xs
+chain_names left [] = sym (append-nil (names_in left))
+chain_names left (x ∷ xs) = chain_names (ExprView.binary x.0 left x.1) xs ∙ append_assoc (names_in left) _ _
 
--- the kind of an operand with suffixes is that of the operand with what stands behind it
+-- the kind of an operand with suffixes is that of the operand with what follows it
 suffixes_kind : (vs : List DeclView) (inner : ExprView) (xs : List Suffix)
     → kind_in vs (suffixes_of inner xs) ≡ of_one (λ k. kind_after k xs) (kind_in vs inner)
 suffixes_kind vs inner [] = sym (some_is (kind_in vs inner))
@@ -50,19 +50,19 @@ suffixes_names inner [] = refl
 suffixes_names inner (x ∷ xs) = suffixes_names (ExprView.suffixed inner x) xs
 
 -- what is known of the first operand
-pub run_gives : (vs : List DeclView) (t left : ExprView) (xs : List (Op × ExprView)) (k : Kind) (answer : Result Kind TypeFault)
-    → t ≡ run_of left xs → kind_in vs left ≡ Some k → Gives answer (kind_with vs k xs) → Gives answer (kind_in vs t)
-run_gives vs t left xs k answer is found given =
-    subst (Gives answer) (sym (ap (kind_in vs) is ∙ run_kind vs left xs ∙ ap (of_one (λ j. kind_with vs j xs)) found)) given
+pub chain_gives : (vs : List DeclView) (t left : ExprView) (xs : List (Op × ExprView)) (k : Kind) (answer : Result Kind TypeFault)
+    → t ≡ chain_of left xs → kind_in vs left ≡ Some k → AnswersKind answer (kind_with vs k xs) → AnswersKind answer (kind_in vs t)
+chain_gives vs t left xs k answer is found given =
+    subst (AnswersKind answer) (sym (ap (kind_in vs) is ∙ chain_kind vs left xs ∙ ap (of_one (λ j. kind_with vs j xs)) found)) given
 
-pub run_none : (vs : List DeclView) (t left : ExprView) (xs : List (Op × ExprView)) → t ≡ run_of left xs → kind_in vs left ≡ None
+pub chain_none : (vs : List DeclView) (t left : ExprView) (xs : List (Op × ExprView)) → t ≡ chain_of left xs → kind_in vs left ≡ None
     → kind_in vs t ≡ None
-run_none vs t left xs is none = ap (kind_in vs) is ∙ run_kind vs left xs ∙ ap (of_one (λ j. kind_with vs j xs)) none
+chain_none vs t left xs is none = ap (kind_in vs) is ∙ chain_kind vs left xs ∙ ap (of_one (λ j. kind_with vs j xs)) none
 
 pub suffixes_give : (vs : List DeclView) (t inner : ExprView) (xs : List Suffix) (k : Kind) (answer : Result Kind TypeFault)
-    → t ≡ suffixes_of inner xs → kind_in vs inner ≡ Some k → Gives answer (kind_after k xs) → Gives answer (kind_in vs t)
+    → t ≡ suffixes_of inner xs → kind_in vs inner ≡ Some k → AnswersKind answer (kind_after k xs) → AnswersKind answer (kind_in vs t)
 suffixes_give vs t inner xs k answer is found given =
-    subst (Gives answer) (sym (ap (kind_in vs) is ∙ suffixes_kind vs inner xs ∙ ap (of_one (λ j. kind_after j xs)) found)) given
+    subst (AnswersKind answer) (sym (ap (kind_in vs) is ∙ suffixes_kind vs inner xs ∙ ap (of_one (λ j. kind_after j xs)) found)) given
 
 pub suffixes_none : (vs : List DeclView) (t inner : ExprView) (xs : List Suffix) → t ≡ suffixes_of inner xs
     → kind_in vs inner ≡ None → kind_in vs t ≡ None

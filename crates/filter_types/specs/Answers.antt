@@ -1,11 +1,11 @@
--- What an answer says. A refusal for want of memory says nothing of the filter. (This project's own choice.)
+-- What an answer says. A refusal for refused memory says nothing of the filter. (This project's own choice.)
 use Rattle.std.specs.Prelude.{◌≡◌, ◌≢◌, Option, Some, None, Result, MatchResult}
 use Rattle.filter_types.specs.declared.fault.TypeFault.{TypeFault}
 use Rattle.filter_types.specs.declared.fault.TypeFault.TheVariants as fault
 
 -- an answer is this result where there is one, and a refusal where there is none
-abbrev pub Gives : {A : Type 0} → Result A TypeFault → Option A → Type 0
-Gives answer wanted = MatchResult answer (λ x. wanted ≡ Some x) (λ why. why ≢ fault.Memory → wanted ≡ None)
+abbrev pub AnswersKind : {A : Type 0} → Result A TypeFault → Option A → Type 0
+AnswersKind answer expected = MatchResult answer (λ x. expected ≡ Some x) (λ why. why ≢ fault.Memory → expected ≡ None)
 
 -- an answer is good where a fact holds, and a refusal where it does not
 abbrev pub Judges : {A : Type 0} → Result A TypeFault → Type 0 → Type 0

@@ -4,30 +4,30 @@ use Rattle.filter_parser.specs.declared.tree.decl.Kind.{Kind}
 use Rattle.filter_parser.specs.declared.tree.decl.Kind.TheVariants as kind
 use Rattle.filter_types.specs.declared.fault.TypeFault.{TypeFault}
 use Rattle.filter_types.specs.declared.fault.TypeFault.TheVariants as fault
-use Rattle.filter_types.specs.declared.fault.Wanted.{Wanted}
-use Rattle.filter_types.specs.declared.fault.Wanted.TheVariants as wanted
+use Rattle.filter_types.specs.declared.fault.ExpectedKind.{ExpectedKind}
+use Rattle.filter_types.specs.declared.fault.ExpectedKind.TheVariants as expected
 
 -- the code that a program answers
 abbrev pub fault_code : TypeFault → List ℕ
 fault_code (fault.UnknownName at) = codes "Y1"
 fault_code (fault.DeclaredTwice at) = codes "Y2"
-fault_code (fault.WrongKind at wanted found) = codes "Y3"
+fault_code (fault.WrongKind at expected found) = codes "Y3"
 fault_code (fault.NetAssigned at) = codes "Y4"
 fault_code (fault.TooManyVariables at) = codes "Y5"
 fault_code fault.Memory = codes "Y6"
 
--- the place; want of memory has none, which is 0
+-- the place; refused memory has none, which is 0
 abbrev pub fault_place : TypeFault → ℕ
 fault_place (fault.UnknownName at) = at
 fault_place (fault.DeclaredTwice at) = at
-fault_place (fault.WrongKind at wanted found) = at
+fault_place (fault.WrongKind at expected found) = at
 fault_place (fault.NetAssigned at) = at
 fault_place (fault.TooManyVariables at) = at
 fault_place fault.Memory = 0
 
 -- what a place takes that takes operands of one kind
-abbrev pub wanted_of : Kind → Wanted
-wanted_of kind.Int = wanted.Int
-wanted_of kind.Bool = wanted.Bool
-wanted_of kind.Ip = wanted.Ip
-wanted_of kind.Prefix = wanted.Prefix
+abbrev pub expected_of : Kind → ExpectedKind
+expected_of kind.Int = expected.Int
+expected_of kind.Bool = expected.Bool
+expected_of kind.Ip = expected.Ip
+expected_of kind.Prefix = expected.Prefix

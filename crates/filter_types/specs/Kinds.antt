@@ -7,13 +7,13 @@ use Rattle.std.specs.Option.{option_map}
 use Rattle.std.specs.Str.{bytes_eq}
 use Rattle.filter_parser.specs.Syntax.{ExprView, number, address, prefix, truth, name, attribute, defined}
 use Rattle.filter_parser.specs.Syntax.{group, negation, binary, member, suffixed}
-use Rattle.filter_parser.specs.SyntaxCommands.{CommandView, Acts, TargetView, DeclView, to_name, to_metric, to_net}
-use Rattle.filter_parser.specs.SyntaxCommands.{empty, block, choice, choice_else, assign, accept, reject, no_acts, act_then}
+use Rattle.filter_parser.specs.SyntaxCommands.{CommandView, CommandsView, TargetView, DeclView, to_name, to_metric, to_net}
+use Rattle.filter_parser.specs.SyntaxCommands.{empty, block, if_then, if_else, assign, accept, reject, no_commands, command_then}
 use Rattle.filter_parser.specs.SyntaxText.{FilterView}
 use Rattle.filter_parser.specs.declared.tree.decl.Kind.{Kind}
 use Rattle.filter_parser.specs.declared.tree.decl.Kind.TheVariants as kind
 use Rattle.filter_parser.specs.declared.tree.expr.Attribute.TheVariants as attributes
-use Rattle.filter_types.specs.Table.{operator, negated, in_set, suffixed_by, attribute_kind, tested}
+use Rattle.filter_types.specs.Table.{operator, negated, in_set, suffixed_by, attribute_kind, condition_kind}
 
 -- the greatest number of variables in a filter
 abbrev pub variable_limit : ℕ
@@ -52,36 +52,36 @@ kind_in variables (member op left set) = of_one in_set (kind_in variables left)
 kind_in variables (suffixed inner s) = of_one (suffixed_by s) (kind_in variables inner)
 
 -- the kind of what an assignment sets; `net` is not assigned
-abbrev pub aim_kind : List DeclView → TargetView → Option Kind
-aim_kind variables (to_name text) = kind_named variables text
-aim_kind variables to_metric = Some (attribute_kind attributes.RipMetric)
-aim_kind variables to_net = None
+abbrev pub target_kind : List DeclView → TargetView → Option Kind
+target_kind variables (to_name text) = kind_named variables text
+target_kind variables to_metric = Some (attribute_kind attributes.RipMetric)
+target_kind variables to_net = None
 
 -- an assignment gives what it sets a value of the same kind
-abbrev pub FitsKinds : Option Kind → Option Kind → Type 0
-FitsKinds aim value = (k : Kind) × (aim ≡ Some k) × (value ≡ Some k)
+abbrev pub HasSameKind : Option Kind → Option Kind → Type 0
+HasSameKind target value = (k : Kind) × (target ≡ Some k) × (value ≡ Some k)
 
 -- the names and kinds of a command fit, and those of commands one after another
 abbrev mutual
-  pub FitsAct : List DeclView → CommandView → Type 0
-  FitsAct variables empty = Unit {0}
-  FitsAct variables (block body) = FitsActs variables body
-  FitsAct variables (choice test chosen) = (kind_in variables test ≡ Some tested) × FitsAct variables chosen
-  FitsAct variables (choice_else test chosen other) =
-      (kind_in variables test ≡ Some tested) × FitsAct variables chosen × FitsAct variables other
-  FitsAct variables (assign aim value) = FitsKinds (aim_kind variables aim) (kind_in variables value)
-  FitsAct variables (accept has_text) = Unit {0}
-  FitsAct variables (reject has_text) = Unit {0}
+  pub KindsFit : List DeclView → CommandView → Type 0
+  KindsFit variables empty = Unit {0}
+  KindsFit variables (block body) = KindsFitAll variables body
+  KindsFit variables (if_then test chosen) = (kind_in variables test ≡ Some condition_kind) × KindsFit variables chosen
+  KindsFit variables (if_else test chosen other) =
+      (kind_in variables test ≡ Some condition_kind) × KindsFit variables chosen × KindsFit variables other
+  KindsFit variables (assign target value) = HasSameKind (target_kind variables target) (kind_in variables value)
+  KindsFit variables (accept has_text) = Unit {0}
+  KindsFit variables (reject has_text) = Unit {0}
 
-  pub FitsActs : List DeclView → Acts → Type 0
-  FitsActs variables no_acts = Unit {0}
-  FitsActs variables (act_then first more) = FitsAct variables first × FitsActs variables more
+  pub KindsFitAll : List DeclView → CommandsView → Type 0
+  KindsFitAll variables no_commands = Unit {0}
+  KindsFitAll variables (command_then first more) = KindsFit variables first × KindsFitAll variables more
 
 -- no two variables have one name
 abbrev pub AreDeclaredOnce : List DeclView → Type 0
 AreDeclaredOnce variables = AllPairs (λ c d. c.name ≢ d.name) variables
 
--- each variable is declared once, and there are at most so many
+-- each variable is declared once, and there are at most this many
 pub record AreDeclared (variables : List DeclView) : Type 0 where
   pub once : AreDeclaredOnce variables
   pub few : length variables ≤ variable_limit
@@ -90,7 +90,7 @@ pub record AreDeclared (variables : List DeclView) : Type 0 where
 -- first command.
 pub record IsTyped (filter : FilterView) : Type 0 where
   pub declared : AreDeclared filter.decls
-  pub body : FitsActs filter.decls filter.body
+  pub body : KindsFitAll filter.decls filter.body
 
 -- the names that an expression uses, in the order of the text
 abbrev pub names_in : ExprView → List (List ℕ)
@@ -108,26 +108,26 @@ names_in (member op left set) = names_in left
 names_in (suffixed inner s) = names_in inner
 
 -- the name that an assignment sets, if it sets a variable
-abbrev pub names_of_aim : TargetView → List (List ℕ)
-names_of_aim (to_name text) = text ∷ []
-names_of_aim to_metric = []
-names_of_aim to_net = []
+abbrev pub names_of_target : TargetView → List (List ℕ)
+names_of_target (to_name text) = text ∷ []
+names_of_target to_metric = []
+names_of_target to_net = []
 
 -- the names that a command uses or sets, in the order of the text, and those of commands one after another
 abbrev mutual
-  pub names_of_act : CommandView → List (List ℕ)
-  names_of_act empty = []
-  names_of_act (block body) = names_of_acts body
-  names_of_act (choice test chosen) = names_in test ++ names_of_act chosen
-  names_of_act (choice_else test chosen other) = names_in test ++ (names_of_act chosen ++ names_of_act other)
-  names_of_act (assign aim value) = names_of_aim aim ++ names_in value
-  names_of_act (accept has_text) = []
-  names_of_act (reject has_text) = []
+  pub names_of_command : CommandView → List (List ℕ)
+  names_of_command empty = []
+  names_of_command (block body) = names_of_commands body
+  names_of_command (if_then test chosen) = names_in test ++ names_of_command chosen
+  names_of_command (if_else test chosen other) = names_in test ++ (names_of_command chosen ++ names_of_command other)
+  names_of_command (assign target value) = names_of_target target ++ names_in value
+  names_of_command (accept has_text) = []
+  names_of_command (reject has_text) = []
 
-  pub names_of_acts : Acts → List (List ℕ)
-  names_of_acts no_acts = []
-  names_of_acts (act_then first more) = names_of_act first ++ names_of_acts more
+  pub names_of_commands : CommandsView → List (List ℕ)
+  names_of_commands no_commands = []
+  names_of_commands (command_then first more) = names_of_command first ++ names_of_commands more
 
 -- the number of the variable at each use, in the order of the text
 abbrev pub numbers_of : FilterView → List ℕ
-numbers_of filter = map (number_of filter.decls) (names_of_acts filter.body)
+numbers_of filter = map (number_of filter.decls) (names_of_commands filter.body)

@@ -1,5 +1,7 @@
-pub mod Answers
+-- What callers cite.
 pub mod Codes
 pub mod Kinds
 pub mod Table
+-- What only the bodies of this crate are proved against.
+pub mod Answers
 pub mod Turns

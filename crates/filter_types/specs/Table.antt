@@ -80,5 +80,5 @@ attribute_kind attributes.Net = kind.Prefix
 attribute_kind attributes.RipMetric = kind.Int
 
 -- what an `if` takes
-abbrev pub tested : Kind
-tested = kind.Bool
+abbrev pub condition_kind : Kind
+condition_kind = kind.Bool

@@ -2,13 +2,13 @@
 
 ghost use Rattle.std.specs.Prelude.{◌≡◌, ◌≤◌, ◌++◌, Some, IfOk, length, map};
 ghost use Rattle.filter_parser.specs.Syntax.{view};
-ghost use Rattle.filter_parser.specs.SyntaxCommands.{acts_of, view_command, view_decl, view_target};
-ghost use Rattle.filter_types.specs.Answers.{Gives, Judges};
-ghost use Rattle.filter_types.specs.Kinds.{FitsAct, FitsActs, FitsKinds, aim_kind, kind_in};
-ghost use Rattle.filter_types.specs.Kinds.{names_in, names_of_act, names_of_acts, names_of_aim, number_of, variable_limit};
-ghost use Rattle.filter_types.specs.Table.{tested};
+ghost use Rattle.filter_parser.specs.SyntaxCommands.{commands_of, view_command, view_decl, view_target};
+ghost use Rattle.filter_types.specs.Answers.{AnswersKind, Judges};
+ghost use Rattle.filter_types.specs.Kinds.{KindsFit, KindsFitAll, HasSameKind, target_kind, kind_in};
+ghost use Rattle.filter_types.specs.Kinds.{names_in, names_of_command, names_of_commands, names_of_target, number_of, variable_limit};
+ghost use Rattle.filter_types.specs.Table.{condition_kind};
 
-use crate::fault::{TypeFault, Wanted};
+use crate::fault::{ExpectedKind, TypeFault};
 use crate::kinds::kind_of;
 use crate::table::{Operand, attribute_kind};
 use crate::variables::resolve;
@@ -22,9 +22,9 @@ fn target_kind(
     uses: &mut Vec<u8>,
 ) -> Result<Kind, TypeFault>
     requires { length variables.now ≤ variable_limit }
-    ensures kind { Gives result (aim_kind (map view_decl variables.now) (view_target target.now)) }
+    ensures kind { AnswersKind result (target_kind (map view_decl variables.now) (view_target target.now)) }
     ensures numbers { IfOk result (λ _. uses.new.items
-        ≡ uses.old.items ++ map (number_of (map view_decl variables.now)) (names_of_aim (view_target target.now))) }
+        ≡ uses.old.items ++ map (number_of (map view_decl variables.now)) (names_of_target (view_target target.now))) }
 {
     match target {
         Target::Name(name) => resolve(at, name, variables, uses),
@@ -34,20 +34,20 @@ fn target_kind(
 }
 
 /// Judges an operand where a kind is wanted.
-fn check_kind(operand: Operand, wanted: Kind) -> Result<(), TypeFault>
-    ensures { Judges result (operand.entry.kind ≡ wanted) }
+fn check_kind(operand: Operand, expected: Kind) -> Result<(), TypeFault>
+    ensures { Judges result (operand.entry.kind ≡ expected) }
 {
-    if operand.kind == wanted {
+    if operand.kind == expected {
         Ok(())
     } else {
-        Err(operand.is_not(Wanted::from(wanted)))
+        Err(operand.wrong_kind(ExpectedKind::from(expected)))
     }
 }
 
 /// Judges the condition of an `if`.
 fn check_test(test: &Expr, variables: &[Decl], uses: &mut Vec<u8>) -> Result<(), TypeFault>
     requires { length variables.now ≤ variable_limit }
-    ensures kind { Judges result (kind_in (map view_decl variables.now) (view test.now) ≡ Some tested) }
+    ensures kind { Judges result (kind_in (map view_decl variables.now) (view test.now) ≡ Some condition_kind) }
     ensures numbers { IfOk result (λ _. uses.new.items
         ≡ uses.old.items ++ map (number_of (map view_decl variables.now)) (names_in (view test.now))) }
 {
@@ -64,14 +64,14 @@ fn check_assignment(
     uses: &mut Vec<u8>,
 ) -> Result<(), TypeFault>
     requires { length variables.now ≤ variable_limit }
-    ensures kind { Judges result (FitsKinds (aim_kind (map view_decl variables.now) (view_target target.now))
+    ensures kind { Judges result (HasSameKind (target_kind (map view_decl variables.now) (view_target target.now))
         (kind_in (map view_decl variables.now) (view value.now))) }
     ensures numbers { IfOk result (λ _. uses.new.items ≡ uses.old.items
-        ++ map (number_of (map view_decl variables.now)) (names_of_aim (view_target target.now) ++ names_in (view value.now))) }
+        ++ map (number_of (map view_decl variables.now)) (names_of_target (view_target target.now) ++ names_in (view value.now))) }
 {
-    let wanted = target_kind(at, target, variables, uses)?;
+    let expected = target_kind(at, target, variables, uses)?;
     let kind = kind_of(value, variables, uses)?;
-    check_kind(Operand { expr: value, kind }, wanted)
+    check_kind(Operand { expr: value, kind }, expected)
 }
 
 /// Judges commands one after another.
@@ -82,9 +82,9 @@ pub(crate) fn check_commands(
     uses: &mut Vec<u8>,
 ) -> Result<(), TypeFault>
     requires { length variables.now ≤ variable_limit }
-    ensures fits { Judges result (FitsActs (map view_decl variables.now) (acts_of (map view_command commands.now))) }
+    ensures fits { Judges result (KindsFitAll (map view_decl variables.now) (commands_of (map view_command commands.now))) }
     ensures numbers { IfOk result (λ _. uses.new.items ≡ uses.old.items
-        ++ map (number_of (map view_decl variables.now)) (names_of_acts (acts_of (map view_command commands.now)))) }
+        ++ map (number_of (map view_decl variables.now)) (names_of_commands (commands_of (map view_command commands.now)))) }
 {
     for command in commands {
         check_command(command, variables, uses)?;
@@ -92,13 +92,13 @@ pub(crate) fn check_commands(
     Ok(())
 }
 
-/// Judges a command, of which each use of a variable puts its number behind those of earlier uses.
+/// Judges a command, of which each use of a variable puts its number after those of earlier uses.
 #[cycle(command)]
 fn check_command(command: &Command, variables: &[Decl], uses: &mut Vec<u8>) -> Result<(), TypeFault>
     requires { length variables.now ≤ variable_limit }
-    ensures fits { Judges result (FitsAct (map view_decl variables.now) (view_command command.now)) }
+    ensures fits { Judges result (KindsFit (map view_decl variables.now) (view_command command.now)) }
     ensures numbers { IfOk result (λ _. uses.new.items ≡ uses.old.items
-        ++ map (number_of (map view_decl variables.now)) (names_of_act (view_command command.now))) }
+        ++ map (number_of (map view_decl variables.now)) (names_of_command (view_command command.now))) }
 {
     match command {
         Command::Empty(_) | Command::Accept(_, _) | Command::Reject(_, _) => Ok(()),

@@ -1,7 +1,7 @@
 //! Why a filter's names and kinds do not fit.
 
 ghost use Rattle.std.specs.Prelude.{◌≡◌};
-ghost use Rattle.filter_types.specs.Codes.{wanted_of};
+ghost use Rattle.filter_types.specs.Codes.{expected_of};
 ghost use Rattle.filter_types.specs.declared.fault.TypeFault.TheVariants.{Memory};
 
 use filter_parser::Kind;
@@ -11,7 +11,7 @@ use thiserror::Error;
 
 /// What a place in a filter takes.
 #[derive(Clone, Copy, Debug, PartialEq, Eq)]
-pub enum Wanted {
+pub enum ExpectedKind {
     /// An int.
     Int,
     /// A bool.
@@ -26,28 +26,28 @@ pub enum Wanted {
     IpOrPrefix,
 }
 
-impl Display for Wanted {
+impl Display for ExpectedKind {
     fn fmt<W: Write>(&self, f: &mut Formatter<W>) -> fmt::Result {
         f.write_str(match self {
-            Wanted::Int => "an int",
-            Wanted::Bool => "a bool",
-            Wanted::Ip => "an ip",
-            Wanted::Prefix => "a prefix",
-            Wanted::IntOrIp => "an int or an ip",
-            Wanted::IpOrPrefix => "an ip or a prefix",
+            ExpectedKind::Int => "an int",
+            ExpectedKind::Bool => "a bool",
+            ExpectedKind::Ip => "an ip",
+            ExpectedKind::Prefix => "a prefix",
+            ExpectedKind::IntOrIp => "an int or an ip",
+            ExpectedKind::IpOrPrefix => "an ip or a prefix",
         })
     }
 }
 
-impl From<Kind> for Wanted {
-    ghost from_gives = { λ kind wanted. wanted ≡ wanted_of kind };
+impl From<Kind> for ExpectedKind {
+    ghost from_gives = { λ kind expected. expected ≡ expected_of kind };
 
-    fn from(kind: Kind) -> Wanted {
+    fn from(kind: Kind) -> ExpectedKind {
         match kind {
-            Kind::Int => Wanted::Int,
-            Kind::Bool => Wanted::Bool,
-            Kind::Ip => Wanted::Ip,
-            Kind::Prefix => Wanted::Prefix,
+            Kind::Int => ExpectedKind::Int,
+            Kind::Bool => ExpectedKind::Bool,
+            Kind::Ip => ExpectedKind::Ip,
+            Kind::Prefix => ExpectedKind::Prefix,
         }
     }
 }
@@ -58,19 +58,19 @@ impl From<Kind> for Wanted {
 #[derive(Clone, Copy, Debug, PartialEq, Eq, Error)]
 pub enum TypeFault {
     /// Y1: the name at this place is no variable's.
-    #[error("at {0} the name of a variable is wanted, and a name that is not declared is found")]
+    #[error("undeclared variable at byte {0}")]
     UnknownName(usize),
     /// Y2: the variable at this place has the name of an earlier one.
-    #[error("at {0} a new name is wanted, and the name of an earlier variable is found")]
+    #[error("the variable at byte {0} is already declared")]
     DeclaredTwice(usize),
     /// Y3: the operand at this place has another kind than its place takes.
-    #[error("at {0} {1} is wanted, and {found} is found", found = Wanted::from(*.2))]
-    WrongKind(usize, Wanted, Kind),
+    #[error("expected {1} at byte {0}, found {found}", found = ExpectedKind::from(*.2))]
+    WrongKind(usize, ExpectedKind, Kind),
     /// Y4: `net` is assigned at this place.
-    #[error("at {0} a variable or rip_metric is wanted, and net is found, which cannot be set")]
+    #[error("`net` cannot be assigned, as at byte {0}")]
     NetAssigned(usize),
     /// Y5: the variable at this place is one more than a filter may have.
-    #[error("at most 16 variables are wanted, and one more is found at {0}")]
+    #[error("more than 16 variables: one too many at byte {0}")]
     TooManyVariables(usize),
     /// Y6: memory was refused.
     #[error("out of memory")]
@@ -94,7 +94,7 @@ impl TypeFault {
         }
     }
 
-    /// The fault's place, and 0 for want of memory, which has none.
+    /// The fault's place, and 0 for refused memory, which has none.
     pub fn at(self) -> usize
         ensures { result ≡ fault_place self }
     {

@@ -3,18 +3,18 @@
 ghost use Rattle.std.specs.Prelude.{◌≡◌, ◌≤◌, ◌++◌, IfOk, length, map};
 ghost use Rattle.filter_parser.specs.Syntax.{view};
 ghost use Rattle.filter_parser.specs.SyntaxCommands.{view_decl};
-ghost use Rattle.filter_types.specs.Answers.{Gives};
+ghost use Rattle.filter_types.specs.Answers.{AnswersKind};
 ghost use Rattle.filter_types.specs.Kinds.{kind_in, names_in, number_of, variable_limit};
-ghost use Rattle.filter_types.specs.Turns.{kind_after, kind_with, names_behind};
+ghost use Rattle.filter_types.specs.Turns.{kind_after, kind_with, names_after};
 
 use crate::fault::TypeFault;
 use crate::table::{Operand, attribute_kind, in_set, negated, operator, suffixed_by};
 use crate::variables::resolve;
 use filter_parser::{Decl, Expr, Kind, Op, Suffix};
 
-/// The kind of an operand with the suffixes behind it.
+/// The kind of an operand with the suffixes after it.
 fn kind_with_suffixes(operand: Operand, suffixes: &[Suffix]) -> Result<Kind, TypeFault>
-    ensures { Gives result (kind_after operand.entry.kind suffixes.now) }
+    ensures { AnswersKind result (kind_after operand.entry.kind suffixes.now) }
 {
     let mut operand = operand;
     for suffix in suffixes {
@@ -23,18 +23,18 @@ fn kind_with_suffixes(operand: Operand, suffixes: &[Suffix]) -> Result<Kind, Typ
     Ok(operand.kind)
 }
 
-/// The kind of a first operand with the operators behind it, each with the operand at its right.
+/// The kind of a first operand with the operators after it, each with the operand at its right.
 #[cycle(kinds)]
-fn kind_of_run(
+fn kind_of_chain(
     more: &[(Op, Expr)],
     first: Operand,
     variables: &[Decl],
     uses: &mut Vec<u8>,
 ) -> Result<Kind, TypeFault>
     requires { length variables.now ≤ variable_limit }
-    ensures kind { Gives result (kind_with (map view_decl variables.now) first.entry.kind (map (λ p. (p.0, view p.1)) more.now)) }
+    ensures kind { AnswersKind result (kind_with (map view_decl variables.now) first.entry.kind (map (λ p. (p.0, view p.1)) more.now)) }
     ensures numbers { IfOk result (λ _. uses.new.items
-        ≡ uses.old.items ++ map (number_of (map view_decl variables.now)) (names_behind (map (λ p. (p.0, view p.1)) more.now))) }
+        ≡ uses.old.items ++ map (number_of (map view_decl variables.now)) (names_after (map (λ p. (p.0, view p.1)) more.now))) }
 {
     let mut kind = first.kind;
     for (op, right) in more {
@@ -55,7 +55,7 @@ fn kind_of_run(
     Ok(kind)
 }
 
-/// The kind of an expression, of which each use of a variable puts its number behind those of earlier uses.
+/// The kind of an expression, of which each use of a variable puts its number after those of earlier uses.
 #[cycle(kinds)]
 pub(crate) fn kind_of(
     expr: &Expr,
@@ -63,7 +63,7 @@ pub(crate) fn kind_of(
     uses: &mut Vec<u8>,
 ) -> Result<Kind, TypeFault>
     requires { length variables.now ≤ variable_limit }
-    ensures kind { Gives result (kind_in (map view_decl variables.now) (view expr.now)) }
+    ensures kind { AnswersKind result (kind_in (map view_decl variables.now) (view expr.now)) }
     ensures numbers { IfOk result (λ _. uses.new.items
         ≡ uses.old.items ++ map (number_of (map view_decl variables.now)) (names_in (view expr.now))) }
 {
@@ -79,9 +79,9 @@ pub(crate) fn kind_of(
             let kind = kind_of(inner, variables, uses)?;
             negated(Operand { expr: inner, kind })
         }
-        Expr::Run(first, more) => {
+        Expr::Chain(first, more) => {
             let kind = kind_of(first, variables, uses)?;
-            kind_of_run(more, Operand { expr: first, kind }, variables, uses)
+            kind_of_chain(more, Operand { expr: first, kind }, variables, uses)
         }
         Expr::Member(_, left, _) => {
             let kind = kind_of(left, variables, uses)?;

@@ -8,6 +8,6 @@ mod table;
 mod typed;
 mod variables;
 
-pub use fault::{TypeFault, Wanted};
+pub use fault::{ExpectedKind, TypeFault};
 pub use typed::{Typed, check};
 pub use variables::VARIABLE_LIMIT;

@@ -1,11 +1,11 @@
 //! The kinds table: what each form takes, and what it gives.
 
 ghost use Rattle.std.specs.Prelude.{◌≡◌};
-ghost use Rattle.filter_types.specs.Answers.{Gives};
+ghost use Rattle.filter_types.specs.Answers.{AnswersKind};
 ghost use Rattle.filter_types.specs.Table.{arithmetic, attribute_kind, equality, in_set, logic};
 ghost use Rattle.filter_types.specs.Table.{negated, operator, order, suffixed_by, within};
 
-use crate::fault::{TypeFault, Wanted};
+use crate::fault::{ExpectedKind, TypeFault};
 use filter_parser::{Attribute, Expr, Kind, Op, Suffix};
 
 /// An operand whose kind is known.
@@ -17,71 +17,71 @@ pub(crate) struct Operand<'a> {
 
 impl Operand<'_> {
     /// The fault of an operand that has another kind than is wanted.
-    pub(crate) fn is_not(self, wanted: Wanted) -> TypeFault {
-        TypeFault::WrongKind(self.expr.at(), wanted, self.kind)
+    pub(crate) fn wrong_kind(self, expected: ExpectedKind) -> TypeFault {
+        TypeFault::WrongKind(self.expr.at(), expected, self.kind)
     }
 }
 
 /// `+ - * /`
 fn arithmetic(left: Operand, right: Operand) -> Result<Kind, TypeFault>
-    ensures { Gives result (arithmetic left.entry.kind right.entry.kind) }
+    ensures { AnswersKind result (arithmetic left.entry.kind right.entry.kind) }
 {
     match (left.kind, right.kind) {
         (Kind::Int, Kind::Int) => Ok(Kind::Int),
-        (Kind::Int, _) => Err(right.is_not(Wanted::Int)),
-        _ => Err(left.is_not(Wanted::Int)),
+        (Kind::Int, _) => Err(right.wrong_kind(ExpectedKind::Int)),
+        _ => Err(left.wrong_kind(ExpectedKind::Int)),
     }
 }
 
 /// `= !=`
 fn equality(left: Operand, right: Operand) -> Result<Kind, TypeFault>
-    ensures { Gives result (equality left.entry.kind right.entry.kind) }
+    ensures { AnswersKind result (equality left.entry.kind right.entry.kind) }
 {
     match (left.kind, right.kind) {
         (Kind::Int, Kind::Int)
         | (Kind::Bool, Kind::Bool)
         | (Kind::Ip, Kind::Ip)
         | (Kind::Prefix, Kind::Prefix) => Ok(Kind::Bool),
-        _ => Err(right.is_not(Wanted::from(left.kind))),
+        _ => Err(right.wrong_kind(ExpectedKind::from(left.kind))),
     }
 }
 
 /// `< > <= >=`
 fn order(left: Operand, right: Operand) -> Result<Kind, TypeFault>
-    ensures { Gives result (order left.entry.kind right.entry.kind) }
+    ensures { AnswersKind result (order left.entry.kind right.entry.kind) }
 {
     match (left.kind, right.kind) {
         (Kind::Int, Kind::Int) | (Kind::Ip, Kind::Ip) => Ok(Kind::Bool),
-        (Kind::Int, _) | (Kind::Ip, _) => Err(right.is_not(Wanted::from(left.kind))),
-        _ => Err(left.is_not(Wanted::IntOrIp)),
+        (Kind::Int, _) | (Kind::Ip, _) => Err(right.wrong_kind(ExpectedKind::from(left.kind))),
+        _ => Err(left.wrong_kind(ExpectedKind::IntOrIp)),
     }
 }
 
 /// `~ !~` between two operands
 fn within(left: Operand, right: Operand) -> Result<Kind, TypeFault>
-    ensures { Gives result (within left.entry.kind right.entry.kind) }
+    ensures { AnswersKind result (within left.entry.kind right.entry.kind) }
 {
     match (left.kind, right.kind) {
         (Kind::Ip, Kind::Prefix) | (Kind::Prefix, Kind::Prefix) => Ok(Kind::Bool),
-        (Kind::Ip, _) | (Kind::Prefix, _) => Err(right.is_not(Wanted::Prefix)),
-        _ => Err(left.is_not(Wanted::IpOrPrefix)),
+        (Kind::Ip, _) | (Kind::Prefix, _) => Err(right.wrong_kind(ExpectedKind::Prefix)),
+        _ => Err(left.wrong_kind(ExpectedKind::IpOrPrefix)),
     }
 }
 
 /// `&& ||`
 fn logic(left: Operand, right: Operand) -> Result<Kind, TypeFault>
-    ensures { Gives result (logic left.entry.kind right.entry.kind) }
+    ensures { AnswersKind result (logic left.entry.kind right.entry.kind) }
 {
     match (left.kind, right.kind) {
         (Kind::Bool, Kind::Bool) => Ok(Kind::Bool),
-        (Kind::Bool, _) => Err(right.is_not(Wanted::Bool)),
-        _ => Err(left.is_not(Wanted::Bool)),
+        (Kind::Bool, _) => Err(right.wrong_kind(ExpectedKind::Bool)),
+        _ => Err(left.wrong_kind(ExpectedKind::Bool)),
     }
 }
 
 /// An operator between two operands.
 pub(crate) fn operator(op: Op, left: Operand, right: Operand) -> Result<Kind, TypeFault>
-    ensures { Gives result (operator op left.entry.kind right.entry.kind) }
+    ensures { AnswersKind result (operator op left.entry.kind right.entry.kind) }
 {
     match op {
         Op::Add | Op::Sub | Op::Mul | Op::Div => arithmetic(left, right),
@@ -94,34 +94,34 @@ pub(crate) fn operator(op: Op, left: Operand, right: Operand) -> Result<Kind, Ty
 
 /// `!`
 pub(crate) fn negated(operand: Operand) -> Result<Kind, TypeFault>
-    ensures { Gives result (negated operand.entry.kind) }
+    ensures { AnswersKind result (negated operand.entry.kind) }
 {
     match operand.kind {
         Kind::Bool => Ok(Kind::Bool),
-        _ => Err(operand.is_not(Wanted::Bool)),
+        _ => Err(operand.wrong_kind(ExpectedKind::Bool)),
     }
 }
 
 /// `~ !~` with a set
 pub(crate) fn in_set(operand: Operand) -> Result<Kind, TypeFault>
-    ensures { Gives result (in_set operand.entry.kind) }
+    ensures { AnswersKind result (in_set operand.entry.kind) }
 {
     match operand.kind {
         Kind::Prefix => Ok(Kind::Bool),
-        _ => Err(operand.is_not(Wanted::Prefix)),
+        _ => Err(operand.wrong_kind(ExpectedKind::Prefix)),
     }
 }
 
 /// `.ip`, `.len` and `.mask(n)`
 pub(crate) fn suffixed_by(suffix: Suffix, operand: Operand) -> Result<Kind, TypeFault>
-    ensures { Gives result (suffixed_by suffix operand.entry.kind) }
+    ensures { AnswersKind result (suffixed_by suffix operand.entry.kind) }
 {
     match (suffix, operand.kind) {
         (Suffix::Ip, Kind::Prefix) => Ok(Kind::Ip),
         (Suffix::Len, Kind::Prefix) => Ok(Kind::Int),
         (Suffix::Mask(_), Kind::Ip) => Ok(Kind::Ip),
-        (Suffix::Mask(_), _) => Err(operand.is_not(Wanted::Ip)),
-        _ => Err(operand.is_not(Wanted::Prefix)),
+        (Suffix::Mask(_), _) => Err(operand.wrong_kind(ExpectedKind::Ip)),
+        _ => Err(operand.wrong_kind(ExpectedKind::Prefix)),
     }
 }
 

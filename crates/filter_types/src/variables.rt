@@ -2,7 +2,7 @@
 
 ghost use Rattle.std.specs.Prelude.{◌≡◌, ◌≤◌, [], ◌∷◌, ◌++◌, IfOk, length, map};
 ghost use Rattle.filter_parser.specs.SyntaxCommands.{view_decl};
-ghost use Rattle.filter_types.specs.Answers.{Gives, Judges};
+ghost use Rattle.filter_types.specs.Answers.{AnswersKind, Judges};
 ghost use Rattle.filter_types.specs.Kinds.{AreDeclared, kind_named, number_of, variable_limit};
 
 use crate::fault::TypeFault;
@@ -23,7 +23,7 @@ fn number_of(variables: &[Decl], name: &[u8]) -> usize
     variables.len()
 }
 
-/// The kind of the variable of a name, whose number is put behind the numbers of earlier uses.
+/// The kind of the variable of a name, whose number is put after the numbers of earlier uses.
 pub(crate) fn resolve(
     at: usize,
     name: &[u8],
@@ -31,7 +31,7 @@ pub(crate) fn resolve(
     uses: &mut Vec<u8>,
 ) -> Result<Kind, TypeFault>
     requires { length variables.now ≤ variable_limit }
-    ensures kind { Gives result (kind_named (map view_decl variables.now) name.now) }
+    ensures kind { AnswersKind result (kind_named (map view_decl variables.now) name.now) }
     ensures numbers { IfOk result (λ _. uses.new.items ≡ uses.old.items ++ number_of (map view_decl variables.now) name.now ∷ []) }
 {
     let number = number_of(variables, name);

@@ -19,8 +19,8 @@ const DECLS: &str = "[Decl { at: 15, kind: Int, name: [97] }]";
 
 /// The commands of that text.
 const BODY: &str =
-    "[Assign(18, Name([97]), Run(Number(22, 1), [(Add, Suffixed(Attribute(26, Net), [Len]))])), \
-    If(35, Not(38, Group(39, Run(Name(40, [97]), [(Greater, Number(44, 9))]))), \
+    "[Assign(18, Name([97]), Chain(Number(22, 1), [(Add, Suffixed(Attribute(26, Net), [Len]))])), \
+    If(35, Not(38, Group(39, Chain(Name(40, [97]), [(Greater, Number(44, 9))]))), \
     If(52, Member(In, Attribute(55, Net), Set { at: 61, patterns: [OrLonger(62, Prefix { address: 167772160, len: 8 })] }), \
     Block(80, [Accept(82, false)]), Some(Reject(97, false))), None)]";
 

@@ -30,23 +30,23 @@ fn operators_group_by_their_levels(rt: HostRuntime) -> Result<(), Fail> {
     for (text, tree) in [
         (
             "1 - 2 - 3",
-            "Run(Number(24, 1), [(Sub, Number(28, 2)), (Sub, Number(32, 3))])",
+            "Chain(Number(24, 1), [(Sub, Number(28, 2)), (Sub, Number(32, 3))])",
         ),
         (
             "1 + 2 * 3 / 4",
-            "Run(Number(24, 1), [(Add, Run(Number(28, 2), [(Mul, Number(32, 3)), (Div, Number(36, 4))]))])",
+            "Chain(Number(24, 1), [(Add, Chain(Number(28, 2), [(Mul, Number(32, 3)), (Div, Number(36, 4))]))])",
         ),
         (
             "1 + 2 != 3",
-            "Run(Run(Number(24, 1), [(Add, Number(28, 2))]), [(NotEqual, Number(33, 3))])",
+            "Chain(Chain(Number(24, 1), [(Add, Number(28, 2))]), [(NotEqual, Number(33, 3))])",
         ),
         (
             "true && !false",
-            "Run(Truth(24, true), [(And, Not(32, Truth(33, false)))])",
+            "Chain(Truth(24, true), [(And, Not(32, Truth(33, false)))])",
         ),
         (
             "(true && false) || true",
-            "Run(Group(24, Run(Truth(25, true), [(And, Truth(33, false))])), [(Or, Truth(43, true))])",
+            "Chain(Group(24, Chain(Truth(25, true), [(And, Truth(33, false))])), [(Or, Truth(43, true))])",
         ),
         (
             "!net.ip.mask(8).len",
@@ -55,7 +55,7 @@ fn operators_group_by_their_levels(rt: HostRuntime) -> Result<(), Fail> {
         ("defined ( rip_metric )", "Defined(24, RipMetric)"),
         (
             "net ~ 10.0.0.0/8",
-            "Run(Attribute(24, Net), [(Match, Prefix(30, Prefix { address: 167772160, len: 8 }))])",
+            "Chain(Attribute(24, Net), [(Match, Prefix(30, Prefix { address: 167772160, len: 8 }))])",
         ),
     ] {
         assert_eq!(rt; shape(rt.alloc(), text)?.as_str(), tree, "{text}");
@@ -135,7 +135,7 @@ fn a_run_as_long_as_a_text_is_read_and_dropped(rt: HostRuntime) -> Result<(), Fa
     }
     let text = text_with(rt.alloc(), run.as_str())?;
     let filter = parse(rt.alloc(), text.as_bytes())?;
-    let [Command::Assign(_, _, Expr::Run(_, more))] = filter.body() else {
+    let [Command::Assign(_, _, Expr::Chain(_, more))] = filter.body() else {
         return Err(Fail::from("no run"));
     };
     assert_eq!(rt; more.len(), 32_000);

@@ -601,43 +601,43 @@ fn the_texts_of_faults(rt: HostRuntime) -> Result<(), Fail> {
     let rows = [
         (
             ParseFault::Token(TokenFault::BadCharacter(3)),
-            "P1 3 no token begins with the byte at 3",
+            "P1 3 unexpected character at byte 3",
         ),
         (
             ParseFault::Unexpected(18, Expected::TextOrSemicolon),
-            "P2 18 a text or `;` is expected at 18",
+            "P2 18 expected a text or `;` at byte 18",
         ),
         (
             ParseFault::MaskOverLimit(22),
-            "P4 22 the number at 22 is over 32, and an address has no more bits to keep",
+            "P4 22 the mask length at byte 22 exceeds 32",
         ),
         (
             ParseFault::PatternLengths(30),
-            "P4 30 the two lengths at 30 are not in order, or one is over 32",
+            "P4 30 the lengths at byte 30 are not low <= high <= 32",
         ),
         (
             ParseFault::TooDeep(43),
-            "P5 43 at 43 the nesting would be deeper than 32",
+            "P5 43 nesting deeper than 32 levels at byte 43",
         ),
         (
             ParseFault::MixedOperators(28),
-            "P6 28 `&&` and `||` are mixed at 28: put one of the runs into parentheses",
+            "P6 28 `&&` and `||` are mixed at byte 28: add parentheses",
         ),
         (
             ParseFault::TooLong,
-            "P7 65536 the text is longer than 65536 bytes",
+            "P7 65536 the filter is longer than 65536 bytes",
         ),
         (
             ParseFault::EndsEarly(18),
-            "P9 18 the text ends at 18, before the filter does",
+            "P9 18 unexpected end of the text at byte 18",
         ),
         (
             ParseFault::TextElsewhere(15),
-            "P10 15 the text at 15 is left out of this language: a text stands behind `accept` or `reject` alone",
+            "P10 15 unexpected text at byte 15: only `accept` and `reject` take one",
         ),
         (
             ParseFault::NumberSet(19),
-            "P10 19 sets of numbers, as at 19, are left out of this language",
+            "P10 19 sets of numbers, as at byte 19, are not supported",
         ),
         (ParseFault::Memory, "P11 0 out of memory"),
     ];

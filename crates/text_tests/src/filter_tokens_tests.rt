@@ -10,7 +10,7 @@ use std::test::Fail;
 fn write_cut(shown: &mut String, alloc: Global, text: &str) -> Result<(), AllocError> {
     let Lexed { tokens, fault } = lex(alloc, text.as_bytes())?;
     for token in &tokens {
-        write!(shown, "{:?} {} {}, ", token.word, token.from, token.to)?;
+        write!(shown, "{:?} {} {}, ", token.kind, token.from, token.to)?;
     }
     if let Some(fault) = fault {
         write!(shown, "{} {}", fault.code(), fault.at())?;
@@ -77,7 +77,7 @@ fn numbers_beside_words(rt: HostRuntime) -> Result<(), Fail> {
             ("00x1", "Number(0) 0 2, Name 2 4, "),
             (
                 "1=1then",
-                "Number(1) 0 1, Mark(Equal) 1 2, Number(1) 2 3, Mark(Then) 3 7, ",
+                "Number(1) 0 1, Symbol(Equal) 1 2, Number(1) 2 3, Symbol(Then) 3 7, ",
             ),
             (
                 "_a9 rip_tag len mask iff If",
@@ -99,23 +99,23 @@ fn addresses(rt: HostRuntime) -> Result<(), Fail> {
             ("255.255.255.255", "Address(Ip(4294967295)) 0 15, "),
             (
                 "1.2.3",
-                "Number(1) 0 1, Mark(Dot) 1 2, Number(2) 2 3, Mark(Dot) 3 4, Number(3) 4 5, ",
+                "Number(1) 0 1, Symbol(Dot) 1 2, Number(2) 2 3, Symbol(Dot) 3 4, Number(3) 4 5, ",
             ),
             (
                 "1.2.3.",
-                "Number(1) 0 1, Mark(Dot) 1 2, Number(2) 2 3, Mark(Dot) 3 4, Number(3) 4 5, Mark(Dot) 5 6, ",
+                "Number(1) 0 1, Symbol(Dot) 1 2, Number(2) 2 3, Symbol(Dot) 3 4, Number(3) 4 5, Symbol(Dot) 5 6, ",
             ),
             (
                 "1..2",
-                "Number(1) 0 1, Mark(Dot) 1 2, Mark(Dot) 2 3, Number(2) 3 4, ",
+                "Number(1) 0 1, Symbol(Dot) 1 2, Symbol(Dot) 2 3, Number(2) 3 4, ",
             ),
             (
                 "1.2.3.4.5",
-                "Address(Ip(16909060)) 0 7, Mark(Dot) 7 8, Number(5) 8 9, ",
+                "Address(Ip(16909060)) 0 7, Symbol(Dot) 7 8, Number(5) 8 9, ",
             ),
             (
                 "1.2.3.4.ip",
-                "Address(Ip(16909060)) 0 7, Mark(Dot) 7 8, Mark(Ip) 8 10, ",
+                "Address(Ip(16909060)) 0 7, Symbol(Dot) 7 8, Symbol(Ip) 8 10, ",
             ),
         ],
     )?;
@@ -130,7 +130,7 @@ fn addresses_and_lengths(rt: HostRuntime) -> Result<(), Fail> {
         &[
             ("1.2.3.4x", "Address(Ip(16909060)) 0 7, Name 7 8, "),
             ("256.0.0.1", "P4 0"),
-            ("1 = 1.2.3.256", "Number(1) 0 1, Mark(Equal) 2 3, P4 4"),
+            ("1 = 1.2.3.256", "Number(1) 0 1, Symbol(Equal) 2 3, P4 4"),
             ("9.9.9.99999999999999999999", "P4 0"),
             (
                 "10.0.0.0/8",
@@ -158,11 +158,11 @@ fn prefixes_beside_signs(rt: HostRuntime) -> Result<(), Fail> {
         &[
             (
                 "10.0.0.0/8/9",
-                "Prefix(Prefix { address: 167772160, len: 8 }) 0 10, Mark(Divide) 10 11, Number(9) 11 12, ",
+                "Prefix(Prefix { address: 167772160, len: 8 }) 0 10, Symbol(Divide) 10 11, Number(9) 11 12, ",
             ),
             (
                 "10.0.0.0/ 8",
-                "Address(Ip(167772160)) 0 8, Mark(Divide) 8 9, Number(8) 10 11, ",
+                "Address(Ip(167772160)) 0 8, Symbol(Divide) 8 9, Number(8) 10 11, ",
             ),
             (
                 "10.0.0.0/0x8",
@@ -170,11 +170,11 @@ fn prefixes_beside_signs(rt: HostRuntime) -> Result<(), Fail> {
             ),
             (
                 "10.0.0.0/8+",
-                "Prefix(Prefix { address: 167772160, len: 8 }) 0 10, Mark(Plus) 10 11, ",
+                "Prefix(Prefix { address: 167772160, len: 8 }) 0 10, Symbol(Plus) 10 11, ",
             ),
             ("10.0.0.0/*8*/", "Address(Ip(167772160)) 0 8, "),
             ("1.0.0.0/33", "P4 0"),
-            ("[1.0.0.0/99999999999", "Mark(LeftBracket) 0 1, P4 1"),
+            ("[1.0.0.0/99999999999", "Symbol(LeftBracket) 0 1, P4 1"),
             ("1.0.0.300/8", "P4 0"),
         ],
     )?;
@@ -187,22 +187,22 @@ fn signs_of_two_bytes(rt: HostRuntime) -> Result<(), Fail> {
         &rt,
         rt.alloc(),
         &[
-            ("a!=b", "Name 0 1, Mark(NotEqual) 1 3, Name 3 4, "),
-            ("a!~b", "Name 0 1, Mark(NotMatch) 1 3, Name 3 4, "),
+            ("a!=b", "Name 0 1, Symbol(NotEqual) 1 3, Name 3 4, "),
+            ("a!~b", "Name 0 1, Symbol(NotMatch) 1 3, Name 3 4, "),
             (
                 "a! =b",
-                "Name 0 1, Mark(Not) 1 2, Mark(Equal) 3 4, Name 4 5, ",
+                "Name 0 1, Symbol(Not) 1 2, Symbol(Equal) 3 4, Name 4 5, ",
             ),
-            ("!!=", "Mark(Not) 0 1, Mark(NotEqual) 1 3, "),
+            ("!!=", "Symbol(Not) 0 1, Symbol(NotEqual) 1 3, "),
             (
                 "<==>=<",
-                "Mark(LessEqual) 0 2, Mark(Equal) 2 3, Mark(GreaterEqual) 3 5, Mark(Less) 5 6, ",
+                "Symbol(LessEqual) 0 2, Symbol(Equal) 2 3, Symbol(GreaterEqual) 3 5, Symbol(Less) 5 6, ",
             ),
             (
                 "=<>",
-                "Mark(Equal) 0 1, Mark(Less) 1 2, Mark(Greater) 2 3, ",
+                "Symbol(Equal) 0 1, Symbol(Less) 1 2, Symbol(Greater) 2 3, ",
             ),
-            ("&&||", "Mark(And) 0 2, Mark(Or) 2 4, "),
+            ("&&||", "Symbol(And) 0 2, Symbol(Or) 2 4, "),
         ],
     )?;
     Ok(())
@@ -216,18 +216,18 @@ fn signs_of_one_byte(rt: HostRuntime) -> Result<(), Fail> {
         &[
             (
                 "(){}",
-                "Mark(LeftParen) 0 1, Mark(RightParen) 1 2, Mark(LeftBrace) 2 3, Mark(RightBrace) 3 4, ",
+                "Symbol(LeftParen) 0 1, Symbol(RightParen) 1 2, Symbol(LeftBrace) 2 3, Symbol(RightBrace) 3 4, ",
             ),
             (
                 "[];,",
-                "Mark(LeftBracket) 0 1, Mark(RightBracket) 1 2, Mark(Semicolon) 2 3, Mark(Comma) 3 4, ",
+                "Symbol(LeftBracket) 0 1, Symbol(RightBracket) 1 2, Symbol(Semicolon) 2 3, Symbol(Comma) 3 4, ",
             ),
             (
                 ".~+-",
-                "Mark(Dot) 0 1, Mark(Match) 1 2, Mark(Plus) 2 3, Mark(Minus) 3 4, ",
+                "Symbol(Dot) 0 1, Symbol(Match) 1 2, Symbol(Plus) 2 3, Symbol(Minus) 3 4, ",
             ),
-            ("*/", "Mark(Times) 0 1, Mark(Divide) 1 2, "),
-            ("&&&", "Mark(And) 0 2, P1 2"),
+            ("*/", "Symbol(Times) 0 1, Symbol(Divide) 1 2, "),
+            ("&&&", "Symbol(And) 0 2, P1 2"),
             ("a & b", "Name 0 1, P1 2"),
             ("|", "P1 0"),
         ],
@@ -243,26 +243,26 @@ fn words(rt: HostRuntime) -> Result<(), Fail> {
         &[
             (
                 "filter int bool ip",
-                "Mark(Filter) 0 6, Mark(Int) 7 10, Mark(Bool) 11 15, Mark(Ip) 16 18, ",
+                "Symbol(Filter) 0 6, Symbol(Int) 7 10, Symbol(Bool) 11 15, Symbol(Ip) 16 18, ",
             ),
             (
                 "prefix if then else",
-                "Mark(Prefix) 0 6, Mark(If) 7 9, Mark(Then) 10 14, Mark(Else) 15 19, ",
+                "Symbol(Prefix) 0 6, Symbol(If) 7 9, Symbol(Then) 10 14, Symbol(Else) 15 19, ",
             ),
             (
                 "accept reject true false",
-                "Mark(Accept) 0 6, Mark(Reject) 7 13, Mark(True) 14 18, Mark(False) 19 24, ",
+                "Symbol(Accept) 0 6, Symbol(Reject) 7 13, Symbol(True) 14 18, Symbol(False) 19 24, ",
             ),
             (
                 "defined net rip_metric",
-                "Mark(Defined) 0 7, Mark(Net) 8 11, Mark(RipMetric) 12 22, ",
+                "Symbol(Defined) 0 7, Symbol(Net) 8 11, Symbol(RipMetric) 12 22, ",
             ),
             ("case", "P10 0"),
             (
                 "filter q { print \"x\"; }",
-                "Mark(Filter) 0 6, Name 7 8, Mark(LeftBrace) 9 10, P10 11",
+                "Symbol(Filter) 0 6, Name 7 8, Symbol(LeftBrace) 9 10, P10 11",
             ),
-            ("a.source", "Name 0 1, Mark(Dot) 1 2, P10 2"),
+            ("a.source", "Name 0 1, Symbol(Dot) 1 2, P10 2"),
             ("printer", "Name 0 7, "),
         ],
     )?;
@@ -278,7 +278,7 @@ fn names(rt: HostRuntime) -> Result<(), Fail> {
             ("Case", "Name 0 4, "),
             ("a 'b'", "Name 0 1, P10 2"),
             ("'", "P10 0"),
-            ("('case')", "Mark(LeftParen) 0 1, P10 1"),
+            ("('case')", "Symbol(LeftParen) 0 1, P10 1"),
             (
                 "aaaaaaaaaaaaaaaaaaaaaaaaaaaaaaaaaaaaaaaaaaaaaaaaaaaaaaaaaaaaaaaa",
                 "Name 0 64, ",
@@ -343,7 +343,7 @@ fn comments(rt: HostRuntime) -> Result<(), Fail> {
             ("/***/a", "Name 5 6, "),
             ("a/* # */b", "Name 0 1, Name 8 9, "),
             ("/* \n\" */ b", "Name 9 10, "),
-            ("/* /* */ */", "Mark(Times) 9 10, Mark(Divide) 10 11, "),
+            ("/* /* */ */", "Symbol(Times) 9 10, Symbol(Divide) 10 11, "),
         ],
     )?;
     Ok(())
@@ -377,7 +377,7 @@ fn texts(rt: HostRuntime) -> Result<(), Fail> {
             ("\"\"", "Text 0 2, "),
             (
                 "accept \"é # /* '\" ;",
-                "Mark(Accept) 0 6, Text 7 18, Mark(Semicolon) 19 20, ",
+                "Symbol(Accept) 0 6, Text 7 18, Symbol(Semicolon) 19 20, ",
             ),
             ("\"a\"\"b\"", "Text 0 3, Text 3 6, "),
             ("\"a\rb\0\"", "Text 0 6, "),
@@ -395,39 +395,39 @@ fn faults_say(rt: HostRuntime) -> Result<(), Fail> {
     let rows = [
         (
             TokenFault::BadCharacter(1),
-            "no token begins with the byte at 1",
+            "unexpected character at byte 1",
         ),
         (
             TokenFault::NoDigit(2),
-            "no hexadecimal digit follows the `0x` at 2",
+            "`0x` without a hexadecimal digit at byte 2",
         ),
         (
             TokenFault::NumberTooLarge(3),
-            "the number at 3 is over 4294967295",
+            "the number at byte 3 exceeds 4294967295",
         ),
         (
             TokenFault::OutOfRange(4),
-            "the address or prefix at 4 has a group over 255 or a length over 32",
+            "the address or prefix at byte 4 has a group over 255 or a length over 32",
         ),
         (
             TokenFault::NameTooLong(5),
-            "the name at 5 has more than 64 bytes",
+            "the name at byte 5 is longer than 64 bytes",
         ),
         (
             TokenFault::UnendedComment(6),
-            "the comment at 6 is not ended by `*/`",
+            "the comment at byte 6 is never closed by `*/`",
         ),
         (
             TokenFault::UnendedText(7),
-            "the text at 7 is not ended by a double quote on its line",
+            "the text at byte 7 has no closing double quote on its line",
         ),
         (
             TokenFault::WordLeftOut(8),
-            "the word at 8 belongs to a part of BIRD's language that is left out",
+            "the word at byte 8 belongs to a part of BIRD's language that is not supported",
         ),
         (
             TokenFault::QuotedName(9),
-            "the name at 9 is in single quotes, which are left out",
+            "names in single quotes, as at byte 9, are not supported",
         ),
     ];
     let mut shown = String::with_capacity(rt.alloc(), 128)?;

@@ -1,52 +1,49 @@
 //! Names and kinds: the texts that are refused, with codes and places, and those that fit.
 
 use filter_parser::{Kind, parse};
-use filter_types::{TypeFault, Wanted, check};
+use filter_types::{ExpectedKind, TypeFault, check};
 use std::alloc::Global;
 use std::test::Fail;
 
 #[test]
-fn a_fault_says_what_is_wanted_and_what_is_found(rt: HostRuntime) -> Result<(), Fail> {
+fn the_texts_of_faults(rt: HostRuntime) -> Result<(), Fail> {
     let rows = [
-        (
-            TypeFault::UnknownName(11),
-            "at 11 the name of a variable is wanted, and a name that is not declared is found",
-        ),
+        (TypeFault::UnknownName(11), "undeclared variable at byte 11"),
         (
             TypeFault::DeclaredTwice(22),
-            "at 22 a new name is wanted, and the name of an earlier variable is found",
+            "the variable at byte 22 is already declared",
         ),
         (
-            TypeFault::WrongKind(22, Wanted::Int, Kind::Bool),
-            "at 22 an int is wanted, and a bool is found",
+            TypeFault::WrongKind(22, ExpectedKind::Int, Kind::Bool),
+            "expected an int at byte 22, found a bool",
         ),
         (
-            TypeFault::WrongKind(14, Wanted::IntOrIp, Kind::Prefix),
-            "at 14 an int or an ip is wanted, and a prefix is found",
+            TypeFault::WrongKind(14, ExpectedKind::IntOrIp, Kind::Prefix),
+            "expected an int or an ip at byte 14, found a prefix",
         ),
         (
-            TypeFault::WrongKind(14, Wanted::IpOrPrefix, Kind::Int),
-            "at 14 an ip or a prefix is wanted, and an int is found",
+            TypeFault::WrongKind(14, ExpectedKind::IpOrPrefix, Kind::Int),
+            "expected an ip or a prefix at byte 14, found an int",
         ),
         (
-            TypeFault::WrongKind(7, Wanted::Prefix, Kind::Ip),
-            "at 7 a prefix is wanted, and an ip is found",
+            TypeFault::WrongKind(7, ExpectedKind::Prefix, Kind::Ip),
+            "expected a prefix at byte 7, found an ip",
         ),
         (
-            TypeFault::WrongKind(7, Wanted::Ip, Kind::Int),
-            "at 7 an ip is wanted, and an int is found",
+            TypeFault::WrongKind(7, ExpectedKind::Ip, Kind::Int),
+            "expected an ip at byte 7, found an int",
         ),
         (
-            TypeFault::WrongKind(7, Wanted::Bool, Kind::Int),
-            "at 7 a bool is wanted, and an int is found",
+            TypeFault::WrongKind(7, ExpectedKind::Bool, Kind::Int),
+            "expected a bool at byte 7, found an int",
         ),
         (
             TypeFault::NetAssigned(11),
-            "at 11 a variable or rip_metric is wanted, and net is found, which cannot be set",
+            "`net` cannot be assigned, as at byte 11",
         ),
         (
             TypeFault::TooManyVariables(127),
-            "at most 16 variables are wanted, and one more is found at 127",
+            "more than 16 variables: one too many at byte 127",
         ),
         (TypeFault::Memory, "out of memory"),
     ];

@@ -14,10 +14,10 @@ pub enum Attribute {
     RipMetric,
 }
 
-/// An expression. A number in front is the expression's place; a run and an operand with suffixes begin where their first
+/// An expression. A number in front is the expression's place; a chain and an operand with suffixes begin where their first
 /// part does.
 ///
-/// Runs and chains of suffixes are lists, so that the depth of a tree is bounded by the limit of nesting, and not by
+/// Chains of operators and of suffixes are lists, so that the depth of a tree is bounded by the limit of nesting, and not by
 /// the length of the text.
 #[derive(Debug, Drop)]
 pub enum Expr {
@@ -40,8 +40,8 @@ pub enum Expr {
     /// `!` and its operand. The place is that of its `!`.
     Not(usize, Box<Expr>),
     /// A first operand, and one or more operators, each with the operand at its right: a sum or product, a
-    /// comparison of two operands, or a run of all `&&` or all `||`. It groups to the left: `a - b - c` is `(a - b) - c`.
-    Run(Box<Expr>, Vec<(Op, Expr)>),
+    /// comparison of two operands, or a chain of all `&&` or all `||`. It groups to the left: `a - b - c` is `(a - b) - c`.
+    Chain(Box<Expr>, Vec<(Op, Expr)>),
     /// Whether an operand matches a set.
     Member(Membership, Box<Expr>, Set),
     /// An operand with one or more suffixes, as `net.ip.mask(8)`.
@@ -65,7 +65,7 @@ impl Expr {
                 Expr::Defined(at, _) => return *at,
                 Expr::Group(at, _) => return *at,
                 Expr::Not(at, _) => return *at,
-                Expr::Run(left, _) => first = left,
+                Expr::Chain(left, _) => first = left,
                 Expr::Member(_, left, _) => first = left,
                 Expr::Suffixed(inner, _) => first = inner,
             }

@@ -1,5 +1,5 @@
 ghost use Rattle.std.specs.Prelude.{◌≡◌, map};
-ghost use Rattle.filter_parser.specs.SyntaxCommands.{acts_of, view_command, view_decl};
+ghost use Rattle.filter_parser.specs.SyntaxCommands.{commands_of, view_command, view_decl};
 ghost use Rattle.filter_parser.specs.SyntaxText.{view_filter};
 
 use crate::tree::command::Command;
@@ -32,12 +32,12 @@ impl Filter {
 
     /// The commands of the body.
     pub fn body(&self) -> &[Command]
-        ensures { acts_of (map view_command result.now) ≡ (view_filter self.now).body }
+        ensures { commands_of (map view_command result.now) ≡ (view_filter self.now).body }
     {
         self.body.as_slice()
     }
 
-    /// The tokens of the text, each with the place of its first byte and the place behind its last one.
+    /// The tokens of the text, each with the place of its first byte and the place after its last one.
     pub fn tokens(&self) -> &[Token]
         ensures { result.now ≡ (view_filter self.now).tokens }
     {

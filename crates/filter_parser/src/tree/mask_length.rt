@@ -25,7 +25,7 @@ impl Model for MaskLength {
 }
 
 impl MaskLength {
-    /// The first `bits` bits. None exactly where these are more than an address has.
+    /// The first `bits` bits. None if and only if these are more than an address has.
     pub fn new(bits: u32) -> Option<MaskLength>
         ensures { SomeIff result (bits ≤ 32) bits }
     {

@@ -42,7 +42,7 @@ pub enum Membership {
     NotIn,
 }
 
-/// What may stand behind an operand, after a dot.
+/// What may follow an operand, after a dot.
 #[derive(Clone, Copy, Debug, PartialEq, Eq)]
 pub enum Suffix {
     /// `.ip`

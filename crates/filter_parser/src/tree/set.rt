@@ -1,6 +1,6 @@
 ghost use Rattle.std.specs.Prelude.{◌≡◌};
 ghost use Rattle.filter_parser.specs.Places.{pattern_place};
-ghost use Rattle.filter_parser.specs.Syntax.{pattern_of, view_item};
+ghost use Rattle.filter_parser.specs.Syntax.{pattern_of, view_set_pattern};
 
 use prefix_patterns::{Pattern, Prefix};
 
@@ -9,7 +9,7 @@ use prefix_patterns::{Pattern, Prefix};
 pub struct Set {
     /// The place of its `[`.
     pub at: usize,
-    /// Its patterns, of which there is at least one.
+    /// Its patterns, at least one.
     pub patterns: Vec<SetPattern>,
 }
 
@@ -41,7 +41,7 @@ impl SetPattern {
 
     /// The pattern that is meant.
     pub fn pattern(&self) -> Pattern
-        ensures { result ≡ pattern_of (view_item self.now) }
+        ensures { result ≡ pattern_of (view_set_pattern self.now) }
     {
         match *self {
             SetPattern::Exact(_, prefix) => Pattern::new(

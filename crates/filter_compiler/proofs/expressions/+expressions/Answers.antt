@@ -1,30 +1,30 @@
 use Rattle.std.proofs.Common.{length, map}
-use Rattle.filter_parser.specs.Syntax.{view, view_item}
-use Rattle.filter_types.proofs.Views.{view_run, view_suffixed}
+use Rattle.filter_parser.specs.Syntax.{view, view_set_pattern}
+use Rattle.filter_types.proofs.Views.{view_chain, view_suffixed}
 use Rattle.filter_compiler.proofs.Views.{view_member, view_not}
-use Rattle.filter_compiler.proofs.Written.{on_ok, run_code, run_kept, run_behind, suffixes_code, suffixes_kept, suffixes_behind, not_code}
+use Rattle.filter_compiler.proofs.Written.{on_ok, chain_code, chain_kept, chain_after, suffixes_code, suffixes_kept, suffixes_behind, not_code}
 use Rattle.filter_compiler.proofs.Written.{member_written, member_kept}
 use Rattle.filter_compiler.proofs.expressions.+expressions.Goals as goal
 
-pub emit-returns-in_ok-emit-in-Run-clause-code : goal.emit-returns-in_ok-emit-in-Run-clause-code
-emit-returns-in_ok-emit-in-Run-clause-code t c =
-    let is = view_run c.args.expr.now c.in-Run.first c.in-Run.more c.deref-in-Run.result.now c.deref-in-Run-2.result.now c.in-Run.is
-    c.deref-in-Run.ensures c.deref-in-Run-2.ensures.value in
-    on_ok c.emit_run.result
-    (run_code c.args.out.now.instrs c.emit-in-Run.new.out.instrs c.emit_run.new.out.instrs
-    c.args.out.now.sets.items c.emit-in-Run.new.out.sets.items c.args.out.now.uses.now c.emit-in-Run.new.out.uses.now _
-    (view c.deref-in-Run.result.now) (map (λ p. (p.0, view p.1)) c.deref-in-Run-2.result.now)
-    is c.in_ok-emit-in-Run.ensures.code c.in_ok-emit-in-Run.ensures.sets c.in_ok-emit-in-Run.ensures.uses)
-    c.emit_run.ensures.code
+pub emit-returns-in_ok-emit-in-Chain-clause-code : goal.emit-returns-in_ok-emit-in-Chain-clause-code
+emit-returns-in_ok-emit-in-Chain-clause-code t c =
+    let is = view_chain c.args.expr.now c.in-Chain.first c.in-Chain.more c.deref-in-Chain.result.now c.deref-in-Chain-2.result.now c.in-Chain.is
+    c.deref-in-Chain.ensures c.deref-in-Chain-2.ensures.value in
+    on_ok c.emit_chain.result
+    (chain_code c.args.out.now.instrs c.emit-in-Chain.new.out.instrs c.emit_chain.new.out.instrs
+    c.args.out.now.sets.items c.emit-in-Chain.new.out.sets.items c.args.out.now.uses.now c.emit-in-Chain.new.out.uses.now _
+    (view c.deref-in-Chain.result.now) (map (λ p. (p.0, view p.1)) c.deref-in-Chain-2.result.now)
+    is c.in_ok-emit-in-Chain.ensures.code c.in_ok-emit-in-Chain.ensures.sets c.in_ok-emit-in-Chain.ensures.uses)
+    c.emit_chain.ensures.code
 
-pub emit-returns-in_ok-emit-in-Run-clause-sets : goal.emit-returns-in_ok-emit-in-Run-clause-sets
-emit-returns-in_ok-emit-in-Run-clause-sets t c =
-    let is = view_run c.args.expr.now c.in-Run.first c.in-Run.more c.deref-in-Run.result.now c.deref-in-Run-2.result.now c.in-Run.is
-    c.deref-in-Run.ensures c.deref-in-Run-2.ensures.value in
-    on_ok c.emit_run.result
-    (run_kept c.args.out.now.sets.items c.emit-in-Run.new.out.sets.items c.emit_run.new.out.sets.items
-    _ (view c.deref-in-Run.result.now) (map (λ p. (p.0, view p.1)) c.deref-in-Run-2.result.now) is c.in_ok-emit-in-Run.ensures.sets)
-    c.emit_run.ensures.sets
+pub emit-returns-in_ok-emit-in-Chain-clause-sets : goal.emit-returns-in_ok-emit-in-Chain-clause-sets
+emit-returns-in_ok-emit-in-Chain-clause-sets t c =
+    let is = view_chain c.args.expr.now c.in-Chain.first c.in-Chain.more c.deref-in-Chain.result.now c.deref-in-Chain-2.result.now c.in-Chain.is
+    c.deref-in-Chain.ensures c.deref-in-Chain-2.ensures.value in
+    on_ok c.emit_chain.result
+    (chain_kept c.args.out.now.sets.items c.emit-in-Chain.new.out.sets.items c.emit_chain.new.out.sets.items
+    _ (view c.deref-in-Chain.result.now) (map (λ p. (p.0, view p.1)) c.deref-in-Chain-2.result.now) is c.in_ok-emit-in-Chain.ensures.sets)
+    c.emit_chain.ensures.sets
 
 pub emit-returns-in_ok-emit-in-Member-clause-code : goal.emit-returns-in_ok-emit-in-Member-clause-code
 emit-returns-in_ok-emit-in-Member-clause-code t c =
@@ -33,7 +33,7 @@ emit-returns-in_ok-emit-in-Member-clause-code t c =
     on_ok c.emit_member.result
     (member_written c.args.out.now.instrs c.emit-in-Member.new.out.instrs c.emit_member.new.out.instrs
     c.args.out.now.sets.items c.emit-in-Member.new.out.sets.items c.args.out.now.uses.now _
-    (view c.deref-in-Member.result.now) c.in-Member.op (map view_item c.in-Member.set.patterns.items)
+    (view c.deref-in-Member.result.now) c.in-Member.op (map view_set_pattern c.in-Member.set.patterns.items)
     is c.in_ok-emit-in-Member.ensures.code c.in_ok-emit-in-Member.ensures.sets)
     c.emit_member.ensures.code
 
@@ -44,7 +44,7 @@ emit-returns-in_ok-emit-in-Member-clause-sets t c =
     on_ok c.emit_member.result
     (member_kept c.args.out.now.sets.items c.emit-in-Member.new.out.sets.items c.emit_member.new.out.sets.items
     _ (view c.deref-in-Member.result.now) c.in-Member.op
-    (map view_item c.in-Member.set.patterns.items) is c.in_ok-emit-in-Member.ensures.sets)
+    (map view_set_pattern c.in-Member.set.patterns.items) is c.in_ok-emit-in-Member.ensures.sets)
     c.emit_member.ensures.sets
 
 pub emit-returns-in_ok-emit-in-Suffixed-clause-code : goal.emit-returns-in_ok-emit-in-Suffixed-clause-code
@@ -66,14 +66,14 @@ emit-returns-in_ok-emit-in-Suffixed-clause-sets t c =
     _ (view c.deref-in-Suffixed.result.now) c.deref-in-Suffixed-2.result.now is c.in_ok-emit-in-Suffixed.ensures.sets)
     c.emit_suffixes.ensures.sets
 
-pub emit-returns-in_ok-emit-in-Run-clause-uses : goal.emit-returns-in_ok-emit-in-Run-clause-uses
-emit-returns-in_ok-emit-in-Run-clause-uses t c =
-    let is = view_run c.args.expr.now c.in-Run.first c.in-Run.more c.deref-in-Run.result.now c.deref-in-Run-2.result.now c.in-Run.is
-    c.deref-in-Run.ensures c.deref-in-Run-2.ensures.value in
-    on_ok c.emit_run.result
-    (run_behind c.args.out.now.uses.now c.emit-in-Run.new.out.uses.now c.emit_run.new.out.uses.now _ (view c.deref-in-Run.result.now)
-    (map (λ p. (p.0, view p.1)) c.deref-in-Run-2.result.now) is c.in_ok-emit-in-Run.ensures.uses)
-    c.emit_run.ensures.uses
+pub emit-returns-in_ok-emit-in-Chain-clause-uses : goal.emit-returns-in_ok-emit-in-Chain-clause-uses
+emit-returns-in_ok-emit-in-Chain-clause-uses t c =
+    let is = view_chain c.args.expr.now c.in-Chain.first c.in-Chain.more c.deref-in-Chain.result.now c.deref-in-Chain-2.result.now c.in-Chain.is
+    c.deref-in-Chain.ensures c.deref-in-Chain-2.ensures.value in
+    on_ok c.emit_chain.result
+    (chain_after c.args.out.now.uses.now c.emit-in-Chain.new.out.uses.now c.emit_chain.new.out.uses.now _ (view c.deref-in-Chain.result.now)
+    (map (λ p. (p.0, view p.1)) c.deref-in-Chain-2.result.now) is c.in_ok-emit-in-Chain.ensures.uses)
+    c.emit_chain.ensures.uses
 
 pub emit-returns-in_ok-emit-in-Not-clause-code : goal.emit-returns-in_ok-emit-in-Not-clause-code
 emit-returns-in_ok-emit-in-Not-clause-code t c =

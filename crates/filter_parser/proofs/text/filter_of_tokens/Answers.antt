@@ -1,17 +1,17 @@
 use Rattle.std.proofs.Common.{◌≡◌, None, Some}
 use Rattle.filter_tokens.specs.Lexemes.{lexemes}
-use Rattle.filter_parser.specs.Acting.{filter_of, said_of}
+use Rattle.filter_parser.specs.ReadingCommands.{filter_of, view_parts}
 use Rattle.filter_parser.proofs.Texts.{text_found, text_once, text_only}
 use Rattle.filter_parser.proofs.text.filter_of_tokens.Goals as goal
 
 pub returns-in-None-clause-found : goal.returns-in-None-clause-found
 returns-in-None-clause-found c =
-    text_found c.args.text.now c.args.tokens.items (said_of c.in-Ok.parts) c.requires.size (c.requires.cut c.in-None.is)
+    text_found c.args.text.now c.args.tokens.items (view_parts c.in-Ok.parts) c.requires.size (c.requires.cut c.in-None.is)
     (rw (c.as_slice.ensures.value) at c.in-Ok.ensures)
 
 pub returns-in-None-clause-unique : goal.returns-in-None-clause-unique
 returns-in-None-clause-unique c = λ t is.
-    text_once c.args.text.now c.args.tokens.items (said_of c.in-Ok.parts) t (rw (c.as_slice.ensures.value) at c.in-Ok.ensures) is
+    text_once c.args.text.now c.args.tokens.items (view_parts c.in-Ok.parts) t (rw (c.as_slice.ensures.value) at c.in-Ok.ensures) is
     (c.requires.only t.tokens is.cut).1
 
 pub returns-in-Some-clause-refused : goal.returns-in-Some-clause-refused

@@ -1,7 +1,7 @@
 use Rattle.std.proofs.Common.{◌+◌, refl, arith}
 use Rattle.filter_tokens.specs.declared.part.Part.TheVariants as part
-use Rattle.filter_tokens.proofs.Cuts.{cuts_once, step-bounds, step-gap, step-token, step-order, step-stopped, step-stopped-at, ended-found}
-use Rattle.filter_tokens.proofs.Cuts.{ended-only, ordered-further}
+use Rattle.filter_tokens.proofs.Tokenized.{tokenized_once, step-bounds, step-gap, step-token, step-order, step-stopped, step-stopped-at, ended-found}
+use Rattle.filter_tokens.proofs.Tokenized.{ended-only, ordered-further}
 use Rattle.filter_tokens.proofs.text.lex.Goals as goal
 
 pub loop-at-preserved-in-Ok-Gap : goal.loop-at-preserved-in-Ok-Gap
@@ -21,15 +21,15 @@ pub loop-at-preserved : goal.loop-at-preserved
 loop-at-preserved c =
     let text = c.args.text.now in
     let at = c.loop-at.at in
-    let word = c.in-Ok-Token.word in
+    let kind = c.in-Ok-Token.kind in
     let len = c.in-Ok-Token.len in
     let read = rw c.in-Ok-Token.field-0-is at c.in-Ok-Token.ensures.is in
-    let bounds = step-bounds text at (part.Token word len) c.loop-at.invariant.within read in
+    let bounds = step-bounds text at (part.Token kind len) c.loop-at.invariant.within read in
     let pushed = c.in_ok-push-in-Ok-Token.ensures.items in
     record {
       within = bounds.1;
-      lexes = step-token text c.loop-at.tokens.items c.push.new.self.items at word len read pushed c.loop-at.invariant.lexes;
-      order = step-order c.loop-at.tokens.items c.push.new.self.items at word len pushed bounds.0 c.loop-at.invariant.order;
+      lexes = step-token text c.loop-at.tokens.items c.push.new.self.items at kind len read pushed c.loop-at.invariant.lexes;
+      order = step-order c.loop-at.tokens.items c.push.new.self.items at kind len pushed bounds.0 c.loop-at.invariant.order;
     }
 
 pub returns-in-Err-clause-spans : goal.returns-in-Err-clause-spans
@@ -53,10 +53,10 @@ returns-clause-only c tokens cuts =
     (refl, ended-only c.args.text.now c.loop-at.tokens.items c.loop-at.at (omega arith) c.loop-at.invariant.lexes tokens cuts)
 
 pub returns-in_err-push-in-Ok-Token-clause-one : goal.returns-in_err-push-in-Ok-Token-clause-one
-returns-in_err-push-in-Ok-Token-clause-one c = cuts_once c.args.text.now
+returns-in_err-push-in-Ok-Token-clause-one c = tokenized_once c.args.text.now
 
 pub returns-in-Err-clause-one : goal.returns-in-Err-clause-one
-returns-in-Err-clause-one c = cuts_once c.args.text.now
+returns-in-Err-clause-one c = tokenized_once c.args.text.now
 
 pub returns-clause-one : goal.returns-clause-one
-returns-clause-one c = cuts_once c.args.text.now
+returns-clause-one c = tokenized_once c.args.text.now

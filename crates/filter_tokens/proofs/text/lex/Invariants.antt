@@ -1,6 +1,6 @@
 use Rattle.std.proofs.Common.{◌≤◌, ◌-◌, length, drop}
-use Rattle.filter_tokens.specs.Cutting.{AreInOrder}
-use Rattle.filter_tokens.proofs.Cuts.{Lexes}
+use Rattle.filter_tokens.specs.Tokenization.{AreInOrder}
+use Rattle.filter_tokens.proofs.Tokenized.{Lexes}
 use Rattle.filter_tokens.proofs.text.lex.Given as goal
 
 -- the tokens so far are those of the text up to the place

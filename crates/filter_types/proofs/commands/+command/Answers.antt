@@ -1,9 +1,9 @@
 use Rattle.std.proofs.Common.{map, take}
 use Rattle.std.proofs.lemmas.Result.{err_from_is_err_and}
-use Rattle.filter_parser.specs.SyntaxCommands.{acts_of, view_command, view_decl}
-use Rattle.filter_types.specs.Kinds.{names_of_act, names_of_acts, number_of}
+use Rattle.filter_parser.specs.SyntaxCommands.{commands_of, view_command, view_decl}
+use Rattle.filter_types.specs.Kinds.{names_of_command, names_of_commands, number_of}
 use Rattle.filter_types.proofs.Bodies.{fits_at, fits_next, names_next}
-use Rattle.filter_types.proofs.Lists.{map_behind}
+use Rattle.filter_types.proofs.Lists.{map_after}
 use Rattle.filter_types.proofs.commands.+command.Goals as goal
 
 pub check_commands-returns-in_err-check_command-clause-fits :
@@ -18,8 +18,8 @@ pub check_commands-loop-command-preserved : goal.check_commands-loop-command-pre
 check_commands-loop-command-preserved t c = (
   fits_next (map view_decl c.args.variables.now) c.args.commands.now c.loop-command.command-index c.command-item.result
       c.loop-command-test.true c.command-item.is c.loop-command.invariant.0 c.in_ok-check_command.ensures.fits,
-  map_behind (number_of (map view_decl c.args.variables.now)) c.args.uses.now.items c.loop-command.uses.items c.check_command.new.uses.items
-      (names_of_acts (acts_of (map view_command (take c.loop-command.command-index c.args.commands.now))))
-      (names_of_act (view_command c.command-item.result)) _ c.loop-command.invariant.1 c.in_ok-check_command.ensures.numbers
+  map_after (number_of (map view_decl c.args.variables.now)) c.args.uses.now.items c.loop-command.uses.items c.check_command.new.uses.items
+      (names_of_commands (commands_of (map view_command (take c.loop-command.command-index c.args.commands.now))))
+      (names_of_command (view_command c.command-item.result)) _ c.loop-command.invariant.1 c.in_ok-check_command.ensures.numbers
       (names_next c.args.commands.now c.loop-command.command-index c.command-item.result c.loop-command-test.true c.command-item.is),
 )

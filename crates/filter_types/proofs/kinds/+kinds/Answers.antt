@@ -3,21 +3,21 @@ use Rattle.std.proofs.lemmas.Result.{IfOk-weaker, err_from_is_err_and}
 use Rattle.filter_parser.specs.Syntax.{view}
 use Rattle.filter_parser.specs.SyntaxCommands.{view_decl}
 use Rattle.filter_types.specs.Kinds.{names_in, number_of}
-use Rattle.filter_types.specs.Turns.{names_behind}
-use Rattle.filter_types.proofs.Lists.{map_behind, whatever}
-use Rattle.filter_types.proofs.Turns.{run_gives, run_names, run_none, suffixes_give, suffixes_names, suffixes_none}
-use Rattle.filter_types.proofs.Views.{view_run, view_suffixed}
+use Rattle.filter_types.specs.Turns.{names_after}
+use Rattle.filter_types.proofs.Lists.{map_after, whatever}
+use Rattle.filter_types.proofs.Turns.{chain_gives, chain_names, chain_none, suffixes_give, suffixes_names, suffixes_none}
+use Rattle.filter_types.proofs.Views.{view_chain, view_suffixed}
 use Rattle.filter_types.proofs.kinds.+kinds.Goals as goal
 
-pub kind_of-returns-in_err-kind-in-Run-clause-kind :
-    goal.kind_of-returns-in_err-kind-in-Run-clause-kind
-kind_of-returns-in_err-kind-in-Run-clause-kind t c =
-    let p = err_from_is_err_and c.from_residual-in_err-kind-in-Run.result c.from_residual-in_err-kind-in-Run.ensures.1 in
-    rw (p.1, p.2) (λ not_memory. run_none (map view_decl c.args.variables.now) (view c.args.expr.now) (view c.deref-in-Run.result.now)
-    (map (λ p. (p.0, view p.1)) c.in-Run.more.items)
-    (view_run c.args.expr.now c.in-Run.first c.in-Run.more c.deref-in-Run.result.now c.in-Run.more.items c.in-Run.is
-    c.deref-in-Run.ensures refl)
-    (c.in_err-kind-in-Run.ensures.kind not_memory))
+pub kind_of-returns-in_err-kind-in-Chain-clause-kind :
+    goal.kind_of-returns-in_err-kind-in-Chain-clause-kind
+kind_of-returns-in_err-kind-in-Chain-clause-kind t c =
+    let p = err_from_is_err_and c.from_residual-in_err-kind-in-Chain.result c.from_residual-in_err-kind-in-Chain.ensures.1 in
+    rw (p.1, p.2) (λ not_memory. chain_none (map view_decl c.args.variables.now) (view c.args.expr.now) (view c.deref-in-Chain.result.now)
+    (map (λ p. (p.0, view p.1)) c.in-Chain.more.items)
+    (view_chain c.args.expr.now c.in-Chain.first c.in-Chain.more c.deref-in-Chain.result.now c.in-Chain.more.items c.in-Chain.is
+    c.deref-in-Chain.ensures refl)
+    (c.in_err-kind-in-Chain.ensures.kind not_memory))
 
 pub kind_of-returns-in_err-kind-in-Suffixed-clause-kind :
     goal.kind_of-returns-in_err-kind-in-Suffixed-clause-kind
@@ -30,28 +30,28 @@ kind_of-returns-in_err-kind-in-Suffixed-clause-kind t c =
     c.in-Suffixed.is c.deref-in-Suffixed.ensures refl)
     (c.in_err-kind-in-Suffixed.ensures.kind not_memory))
 
-pub kind_of-returns-in_ok-kind-in-Run-clause-kind :
-    goal.kind_of-returns-in_ok-kind-in-Run-clause-kind
-kind_of-returns-in_ok-kind-in-Run-clause-kind t c =
-    run_gives (map view_decl c.args.variables.now) (view c.args.expr.now) (view c.deref-in-Run.result.now)
-    (map (λ p. (p.0, view p.1)) c.deref-in-Run-2.result.now) c.in_ok-kind-in-Run.kind c.kind_of_run.result
-    (view_run c.args.expr.now c.in-Run.first c.in-Run.more c.deref-in-Run.result.now c.deref-in-Run-2.result.now c.in-Run.is
-    c.deref-in-Run.ensures c.deref-in-Run-2.ensures.value)
-    c.in_ok-kind-in-Run.ensures.kind c.kind_of_run.ensures.kind
+pub kind_of-returns-in_ok-kind-in-Chain-clause-kind :
+    goal.kind_of-returns-in_ok-kind-in-Chain-clause-kind
+kind_of-returns-in_ok-kind-in-Chain-clause-kind t c =
+    chain_gives (map view_decl c.args.variables.now) (view c.args.expr.now) (view c.deref-in-Chain.result.now)
+    (map (λ p. (p.0, view p.1)) c.deref-in-Chain-2.result.now) c.in_ok-kind-in-Chain.kind c.kind_of_chain.result
+    (view_chain c.args.expr.now c.in-Chain.first c.in-Chain.more c.deref-in-Chain.result.now c.deref-in-Chain-2.result.now c.in-Chain.is
+    c.deref-in-Chain.ensures c.deref-in-Chain-2.ensures.value)
+    c.in_ok-kind-in-Chain.ensures.kind c.kind_of_chain.ensures.kind
 
-pub kind_of-returns-in_ok-kind-in-Run-clause-numbers :
-    goal.kind_of-returns-in_ok-kind-in-Run-clause-numbers
-kind_of-returns-in_ok-kind-in-Run-clause-numbers t c =
-    IfOk-weaker c.kind_of_run.result _ _
-    (λ x h. map_behind (number_of (map view_decl c.args.variables.now)) c.args.uses.now.items c.kind_of-in-Run.new.uses.items
-    c.kind_of_run.new.uses.items
-    (names_in (view c.deref-in-Run.result.now)) (names_behind (map (λ p. (p.0, view p.1)) c.deref-in-Run-2.result.now))
+pub kind_of-returns-in_ok-kind-in-Chain-clause-numbers :
+    goal.kind_of-returns-in_ok-kind-in-Chain-clause-numbers
+kind_of-returns-in_ok-kind-in-Chain-clause-numbers t c =
+    IfOk-weaker c.kind_of_chain.result _ _
+    (λ x h. map_after (number_of (map view_decl c.args.variables.now)) c.args.uses.now.items c.kind_of-in-Chain.new.uses.items
+    c.kind_of_chain.new.uses.items
+    (names_in (view c.deref-in-Chain.result.now)) (names_after (map (λ p. (p.0, view p.1)) c.deref-in-Chain-2.result.now))
     (names_in (view c.args.expr.now))
-    c.in_ok-kind-in-Run.ensures.numbers h
-    (ap names_in (view_run c.args.expr.now c.in-Run.first c.in-Run.more c.deref-in-Run.result.now c.deref-in-Run-2.result.now c.in-Run.is
-    c.deref-in-Run.ensures c.deref-in-Run-2.ensures.value)
-    ∙ run_names (view c.deref-in-Run.result.now) (map (λ p. (p.0, view p.1)) c.deref-in-Run-2.result.now)))
-    c.kind_of_run.ensures.numbers
+    c.in_ok-kind-in-Chain.ensures.numbers h
+    (ap names_in (view_chain c.args.expr.now c.in-Chain.first c.in-Chain.more c.deref-in-Chain.result.now c.deref-in-Chain-2.result.now c.in-Chain.is
+    c.deref-in-Chain.ensures c.deref-in-Chain-2.ensures.value)
+    ∙ chain_names (view c.deref-in-Chain.result.now) (map (λ p. (p.0, view p.1)) c.deref-in-Chain-2.result.now)))
+    c.kind_of_chain.ensures.numbers
 
 pub kind_of-returns-in_ok-kind-in-Suffixed-clause-kind :
     goal.kind_of-returns-in_ok-kind-in-Suffixed-clause-kind

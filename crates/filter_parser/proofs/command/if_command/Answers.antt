@@ -1,0 +1,14 @@
+use Rattle.std.proofs.Common.{None, ap, sym, ◌∙◌}
+use Rattle.filter_parser.specs.declared.tree.command.Command.TheVariants.{rolls-If}
+use Rattle.filter_parser.specs.declared.tree.command.Command.TheFolds.{fold-roll-Command}
+use Rattle.filter_parser.specs.declared.tree.command.Command.TheOpen.{Command-F}
+use Rattle.filter_parser.specs.declared.tree.command.Command.{Command}
+use Rattle.filter_parser.specs.Syntax.{view}
+use Rattle.filter_parser.specs.SyntaxCommands.{CommandView, view_command, view_step}
+use Rattle.filter_parser.proofs.command.if_command.Goals as goal
+
+pub returns-clause-is : goal.returns-clause-is
+returns-clause-is c =
+    ap view_command (sym (rolls-If c.args.at c.args.test c.in_ok-new.field-0 None))
+    ∙ fold-roll-Command CommandView view_step (Command-F.If c.args.at c.args.test c.in_ok-new.field-0 None)
+    ∙ ap (λ (x : Command). CommandView.if_then (view c.args.test) (view_command x)) c.in_ok-new.ensures.ok

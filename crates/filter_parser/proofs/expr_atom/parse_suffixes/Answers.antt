@@ -1,0 +1,20 @@
+use Rattle.std.proofs.Common.{arith}
+use Rattle.filter_parser.proofs.Chains.{suffix_on, suffix_ends, suffix_stops}
+use Rattle.filter_parser.proofs.Views.{suffixes_more}
+use Rattle.filter_parser.proofs.expr_atom.parse_suffixes.Goals as goal
+
+pub returns-in-Err-clause-reads : goal.returns-in-Err-clause-reads
+returns-in-Err-clause-reads c = λ other. suffix_stops c.in-Some.ensures.found (c.in-Err.ensures.reads other) c.loop-after.invariant.goes
+
+pub loop-after-preserved : goal.loop-after-preserved
+loop-after-preserved c = record {
+  goes = rw (c.in_ok-push-in-Ok.ensures.items, suffixes_more _ c.loop-after.all.items c.in-Ok.found)
+      (suffix_on c.in-Some.ensures.found c.in-Ok.ensures.reads (omega (arith, c.in-Ok.ensures.shorter, c.in-Some.ensures.shorter))
+      c.loop-after.invariant.goes);
+  kept = c.loop-after.invariant.kept;
+  shorter = omega (arith, c.in-Ok.ensures.shorter, c.in-Some.ensures.shorter);
+}
+
+pub returns-clause-reads : goal.returns-clause-reads
+returns-clause-reads c = rw (c.in_ok-suffixed.ensures.is, c.loop-after.invariant.kept)
+    (suffix_ends c.in_default.ensures.found c.loop-after.invariant.goes)

@@ -1,0 +1,17 @@
+-- The loop has made the operand with the suffixes so far, and will answer what the reading function does.
+use Rattle.std.proofs.Common.{◌≡◌, ◌≤◌, length}
+use Rattle.filter_parser.specs.Reading.{suffixes, suffixes_from}
+use Rattle.filter_parser.specs.Steps.{remaining}
+use Rattle.filter_parser.specs.Syntax.{suffixes_of, view}
+use Rattle.filter_parser.proofs.Turns.{Goes}
+use Rattle.filter_parser.proofs.expr_atom.parse_suffixes.Given as goal
+
+abbrev pub invariant-loop-after : goal.invariant-loop-after
+invariant-loop-after l = record {
+  goes : Goes suffixes (suffixes_of (view l.fn.inner) l.all.items) (remaining l.rest) (suffixes_from (view l.fn.inner) (remaining l.fn.input));
+  kept : l.inner ≡ l.fn.inner;
+  shorter : length (remaining l.rest) ≤ length (remaining l.fn.input);
+}
+
+abbrev pub decreases-loop-after : goal.decreases-loop-after
+decreases-loop-after l = length (remaining l.rest)

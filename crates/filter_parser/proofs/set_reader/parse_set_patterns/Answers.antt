@@ -1,0 +1,15 @@
+use Rattle.std.proofs.Common.{arith}
+use Rattle.filter_parser.specs.Syntax.{view_set_pattern}
+use Rattle.filter_parser.proofs.Chains.{set_pattern_on, set_pattern_ends, map_one}
+use Rattle.filter_parser.proofs.set_reader.parse_set_patterns.Goals as goal
+
+pub loop-after-preserved : goal.loop-after-preserved
+loop-after-preserved c = record {
+  goes = rw (c.in_ok-push-in-Ok.ensures.items, map_one view_set_pattern c.loop-after.all.items c.in-Ok.pattern)
+      (set_pattern_on c.in-Some.ensures.found c.in-Ok.ensures.reads (omega (arith, c.in-Ok.ensures.shorter, c.in-Some.ensures.shorter))
+      c.loop-after.invariant.goes);
+  shorter = omega (arith, c.in-Ok.ensures.shorter, c.in-Some.ensures.shorter);
+}
+
+pub returns-clause-reads : goal.returns-clause-reads
+returns-clause-reads c = set_pattern_ends c.in_default.ensures.found c.loop-after.invariant.goes

@@ -1,0 +1,182 @@
+ghost use Rattle.std.specs.Prelude.{◌≡◌};
+
+/// A keyword or a punctuator of the filter language.
+#[derive(Clone, Copy, Debug, PartialEq, Eq)]
+pub enum Symbol {
+    /// `&&`
+    And,
+    /// `||`
+    Or,
+    /// `!=`
+    NotEqual,
+    /// `!~`
+    NotMatch,
+    /// `<=`
+    LessEqual,
+    /// `>=`
+    GreaterEqual,
+    /// `(`
+    LeftParen,
+    /// `)`
+    RightParen,
+    /// `{`
+    LeftBrace,
+    /// `}`
+    RightBrace,
+    /// `[`
+    LeftBracket,
+    /// `]`
+    RightBracket,
+    /// `;`
+    Semicolon,
+    /// `,`
+    Comma,
+    /// `.`
+    Dot,
+    /// `=`
+    Equal,
+    /// `<`
+    Less,
+    /// `>`
+    Greater,
+    /// `~`
+    Match,
+    /// `!`
+    Not,
+    /// `+`
+    Plus,
+    /// `-`
+    Minus,
+    /// `*`
+    Times,
+    /// `/`
+    Divide,
+    /// `filter`
+    Filter,
+    /// `int`
+    Int,
+    /// `bool`
+    Bool,
+    /// `ip`
+    Ip,
+    /// `prefix`
+    Prefix,
+    /// `if`
+    If,
+    /// `then`
+    Then,
+    /// `else`
+    Else,
+    /// `accept`
+    Accept,
+    /// `reject`
+    Reject,
+    /// `true`
+    True,
+    /// `false`
+    False,
+    /// `defined`
+    Defined,
+    /// `net`
+    Net,
+    /// `rip_metric`
+    RipMetric,
+}
+
+/// The punctuators, longer ones first.
+pub static PUNCTUATORS: [Symbol; 24] = [
+    Symbol::And,
+    Symbol::Or,
+    Symbol::NotEqual,
+    Symbol::NotMatch,
+    Symbol::LessEqual,
+    Symbol::GreaterEqual,
+    Symbol::LeftParen,
+    Symbol::RightParen,
+    Symbol::LeftBrace,
+    Symbol::RightBrace,
+    Symbol::LeftBracket,
+    Symbol::RightBracket,
+    Symbol::Semicolon,
+    Symbol::Comma,
+    Symbol::Dot,
+    Symbol::Equal,
+    Symbol::Less,
+    Symbol::Greater,
+    Symbol::Match,
+    Symbol::Not,
+    Symbol::Plus,
+    Symbol::Minus,
+    Symbol::Times,
+    Symbol::Divide,
+];
+
+/// The keywords.
+pub static KEYWORDS: [Symbol; 15] = [
+    Symbol::Filter,
+    Symbol::Int,
+    Symbol::Bool,
+    Symbol::Ip,
+    Symbol::Prefix,
+    Symbol::If,
+    Symbol::Then,
+    Symbol::Else,
+    Symbol::Accept,
+    Symbol::Reject,
+    Symbol::True,
+    Symbol::False,
+    Symbol::Defined,
+    Symbol::Net,
+    Symbol::RipMetric,
+];
+
+impl Symbol {
+    ghost use Rattle.filter_tokens.specs.Symbols.{symbol_text};
+
+    /// How it is written.
+    pub fn text(&self) -> &'static str
+        ensures { result.now ≡ symbol_text self.now }
+    {
+        match self {
+            Symbol::And => "&&",
+            Symbol::Or => "||",
+            Symbol::NotEqual => "!=",
+            Symbol::NotMatch => "!~",
+            Symbol::LessEqual => "<=",
+            Symbol::GreaterEqual => ">=",
+            Symbol::LeftParen => "(",
+            Symbol::RightParen => ")",
+            Symbol::LeftBrace => "{",
+            Symbol::RightBrace => "}",
+            Symbol::LeftBracket => "[",
+            Symbol::RightBracket => "]",
+            Symbol::Semicolon => ";",
+            Symbol::Comma => ",",
+            Symbol::Dot => ".",
+            Symbol::Equal => "=",
+            Symbol::Less => "<",
+            Symbol::Greater => ">",
+            Symbol::Match => "~",
+            Symbol::Not => "!",
+            Symbol::Plus => "+",
+            Symbol::Minus => "-",
+            Symbol::Times => "*",
+            Symbol::Divide => "/",
+            Symbol::Filter => "filter",
+            Symbol::Int => "int",
+            Symbol::Bool => "bool",
+            Symbol::Ip => "ip",
+            Symbol::Prefix => "prefix",
+            Symbol::If => "if",
+            Symbol::Then => "then",
+            Symbol::Else => "else",
+            Symbol::Accept => "accept",
+            Symbol::Reject => "reject",
+            Symbol::True => "true",
+            Symbol::False => "false",
+            Symbol::Defined => "defined",
+            Symbol::Net => "net",
+            Symbol::RipMetric => "rip_metric",
+        }
+    }
+}
