@@ -8,6 +8,8 @@ use std::alloc::{AllocError, Global};
 use std::io;
 use std::io::{ErrorKind, Read, Write};
 use std::process::Abort;
+use std::test::Fail;
+use worked_rows::{FailingReader, FailingWriter, Terminal};
 
 // Gives a few bytes a read, with an interruption before each, and then ends or fails.
 #[derive(Drop)]
@@ -137,8 +139,7 @@ fn make_pieces(rest: &[u8], most: usize, fails: bool) -> Pieces<'_> {
     }
 }
 
-// Runs the engine, and compares what it returns and what was written. Where an allocation is refused,
-// as a run of the tests may have it once, each answer that was written is whole, and `false` comes.
+/// Runs the engine, and compares what it returns and what was written.
 fn expect_run<R: Read>(
     rt: &impl Abort,
     alloc: Global,
@@ -146,99 +147,110 @@ fn expect_run<R: Read>(
     out: &mut Sink,
     want: Result<u32, StreamFault>,
     text: &[u8],
-) -> bool {
-    let result = answer_lines(alloc, reader, out, &mut Echo);
-    if matches!(result, Err(StreamFault::Memory)) {
-        let written = out.text();
-        assert!(rt; text.starts_with(written));
-        assert!(rt; written.is_empty() || written.ends_with(b"\n"));
-        result == want && written.len() == text.len()
-    } else {
-        assert_eq!(rt; result, want);
-        assert_eq!(rt; out.text(), text);
-        true
-    }
+) {
+    assert_eq!(rt; answer_lines(alloc, reader, out, &mut Echo), want);
+    assert_eq!(rt; out.text(), text);
 }
 
-// The tests run the engine twice at least, so that one run has all its memory.
 #[test]
 fn answers_whatever_the_pieces(rt: HostRuntime) {
     let input = b"a\r\n\n# c\n!b\r\r\n \n#\r\n\r\nlast\r";
     let text = b"1 a\nrefused O9 4\n5  \n8 last\r\n";
-    let mut whole = 0u8;
     for most in [1, 2, 3, 5, 100] {
         let mut out = make_sink(most, 1000);
         let mut reader = make_pieces(input, most, false);
-        if expect_run(&rt, rt.alloc(), &mut reader, &mut out, Ok(1), text) {
-            assert!(rt; out.flushed == out.len);
-            whole = whole.saturating_add(1);
-        }
+        expect_run(&rt, rt.alloc(), &mut reader, &mut out, Ok(1), text);
+        assert!(rt; out.flushed == out.len);
     }
-    assert!(rt; whole >= 4);
 }
 
 #[test]
 fn answers_no_lines(rt: HostRuntime) {
-    let mut whole = 0u8;
     for input in [b"".as_slice(), b"\n", b"\n\r\n#\n", b"# no line feed"] {
         let mut out = make_sink(10, 10);
         let mut reader = make_pieces(input, 2, false);
-        if expect_run(&rt, rt.alloc(), &mut reader, &mut out, Ok(0), b"") {
-            whole = whole.saturating_add(1);
-        }
+        expect_run(&rt, rt.alloc(), &mut reader, &mut out, Ok(0), b"");
     }
-    assert!(rt; whole >= 3);
 }
 
 #[test]
 fn ends_at_the_reply(rt: HostRuntime) {
-    let mut whole = false;
-    for _ in 0..2 {
-        let mut reader = make_pieces(b"a\nquit\nb\nc\n", 8, false);
-        let mut out = make_sink(100, 100);
-        let text = b"1 a\nrefused O1 2\n";
-        if expect_run(&rt, rt.alloc(), &mut reader, &mut out, Ok(1), text) {
-            assert!(rt; reader.rest.len() == 3);
-            whole = true;
-        }
-    }
-    assert!(rt; whole);
+    let mut reader = make_pieces(b"a\nquit\nb\nc\n", 8, false);
+    let mut out = make_sink(100, 100);
+    let text = b"1 a\nrefused O1 2\n";
+    expect_run(&rt, rt.alloc(), &mut reader, &mut out, Ok(1), text);
+    assert!(rt; reader.rest.len() == 3);
 }
 
 #[test]
 fn tells_of_a_failed_read(rt: HostRuntime) {
-    let mut whole = false;
-    for _ in 0..2 {
-        let mut reader = make_pieces(b"a\nb\nbegun", 3, true);
-        let mut out = make_sink(4, 100);
+    let mut reader = make_pieces(b"a\nb\nbegun", 3, true);
+    let mut out = make_sink(4, 100);
+    let want = Err(StreamFault::Read);
+    expect_run(&rt, rt.alloc(), &mut reader, &mut out, want, b"1 a\n2 b\n");
+}
+
+/// What is no interruption is a fault at once, also a reader that would have to wait. That reader fails once alone, so a run
+/// that goes on answers the whole input.
+#[test]
+fn asks_no_failed_reader_again(rt: HostRuntime) {
+    for kind in [
+        ErrorKind::WouldBlock,
+        ErrorKind::TimedOut,
+        ErrorKind::BrokenPipe,
+        ErrorKind::Other,
+    ] {
+        let mut reader = FailingReader::new(b"a\nbegun", kind);
+        let mut out = make_sink(100, 100);
         let want = Err(StreamFault::Read);
-        whole |= expect_run(&rt, rt.alloc(), &mut reader, &mut out, want, b"1 a\n2 b\n");
+        expect_run(&rt, rt.alloc(), &mut reader, &mut out, want, b"1 a\n");
     }
-    assert!(rt; whole);
 }
 
 #[test]
 fn tells_of_a_failed_write(rt: HostRuntime) {
-    let mut whole = false;
     for input in [b"a\nb\nc\n".as_slice(), b"a\nb\nc"] {
         let mut reader = make_pieces(input, 2, false);
         let mut out = make_sink(3, 7);
         let want = Err(StreamFault::Write);
-        whole |= expect_run(&rt, rt.alloc(), &mut reader, &mut out, want, b"1 a\n2 b");
+        expect_run(&rt, rt.alloc(), &mut reader, &mut out, want, b"1 a\n2 b");
     }
-    assert!(rt; whole);
+}
+
+/// The writer takes both answers, and fails when it is flushed.
+#[test]
+fn tells_of_a_failed_flush(rt: HostRuntime) {
+    for input in [b"a\nb\n".as_slice(), b"a\nb"] {
+        let mut reader = input;
+        let mut out = FailingWriter::new(rt.alloc(), 8);
+        let result = answer_lines(rt.alloc(), &mut reader, &mut out, &mut Echo);
+        assert_eq!(&rt; result, Err(StreamFault::Write));
+        assert_eq!(&rt; out.text(), b"1 a\n2 b\n".as_slice());
+    }
+}
+
+#[test]
+fn answers_before_it_reads_on(rt: HostRuntime) {
+    let lines: [(&[u8], &[u8]); 5] = [
+        (b"a\n", b"1 a\n"),
+        (b"b\n!c\nbeg", b"2 b\nrefused O9 3\n"),
+        (b"un\n", b"4 begun\n"),
+        (b"# d\n", b""),
+        (b"e", b""),
+    ];
+    let terminal = Terminal::new(rt.alloc(), &lines);
+    let result = answer_lines(rt.alloc(), &mut &terminal, &mut &terminal, &mut Echo);
+    assert_eq!(&rt; result, Ok(1));
 }
 
 #[test]
 fn drops_a_begun_answer(rt: HostRuntime) {
-    let mut whole = false;
     for input in [b"a\nb\nfull\nc\n".as_slice(), b"a\nb\nfull"] {
         let mut reader = make_pieces(input, 100, false);
         let mut out = make_sink(3, 100);
         let want = Err(StreamFault::Memory);
-        whole |= expect_run(&rt, rt.alloc(), &mut reader, &mut out, want, b"1 a\n2 b\n");
+        expect_run(&rt, rt.alloc(), &mut reader, &mut out, want, b"1 a\n2 b\n");
     }
-    assert!(rt; whole);
 }
 
 // Gives the line `a`, a comment up to the limit less four bytes, and then these.
@@ -274,78 +286,46 @@ impl Read for Long<'_> {
 
 #[test]
 fn reads_up_to_the_limit(rt: HostRuntime) {
-    let mut whole = false;
-    for _ in 0..2 {
+    let rows: [(&[u8], Result<u32, StreamFault>, &[u8]); 2] = [
+        (b"b\nc\n", Ok(0), b"1 a\n3 b\n4 c\n"),
+        (b"b\ncc\n", Err(StreamFault::TooLong), b"1 a\n3 b\n"),
+    ];
+    for (end, want, text) in rows {
         let mut out = make_sink(100, 1000);
-        let mut reader = Long {
-            given: 0,
-            end: b"b\nc\n",
-        };
-        let text = b"1 a\n3 b\n4 c\n";
-        whole |= expect_run(&rt, rt.alloc(), &mut reader, &mut out, Ok(0), text);
+        let mut reader = Long { given: 0, end };
+        expect_run(&rt, rt.alloc(), &mut reader, &mut out, want, text);
     }
-    assert!(rt; whole);
 }
 
 #[test]
-fn reads_no_further_than_the_limit(rt: HostRuntime) {
-    let mut whole = false;
-    for _ in 0..2 {
-        let mut out = make_sink(100, 1000);
-        let mut reader = Long {
-            given: 0,
-            end: b"b\ncc\n",
-        };
-        let want = Err(StreamFault::TooLong);
-        whole |= expect_run(&rt, rt.alloc(), &mut reader, &mut out, want, b"1 a\n3 b\n");
-    }
-    assert!(rt; whole);
-}
-
-#[test]
-fn hands_on_a_long_line(rt: HostRuntime) {
-    let Ok(mut input) = vec![in rt.alloc(); b'x'; LINE_LIMIT + 1] else {
-        return;
-    };
-    if input.extend_from_slice(b"\r\nb\n").is_err() {
-        return;
-    }
+fn hands_on_a_long_line(rt: HostRuntime) -> Result<(), Fail> {
+    let mut input = vec![in rt.alloc(); b'x'; LINE_LIMIT + 1]?;
+    input.extend_from_slice(b"\r\nb\n")?;
     let mut reader = make_pieces(input.as_slice(), 5000, false);
     let mut out = make_sink(100_000, 10_000_000);
-    match answer_lines(rt.alloc(), &mut reader, &mut out, &mut Echo) {
-        Ok(refused) => assert!(rt; refused == 0 && out.len == LINE_LIMIT + 1 + 3 + 4),
-        Err(fault) => assert!(rt; fault == StreamFault::Memory),
-    }
-}
-
-fn expect_fault(rt: &impl Abort, alloc: Global, fault: StreamFault, code: &str, text: &str) {
-    assert_eq!(rt; fault.code(), code);
-    assert!(rt; fault.at() == 0);
-    if let Ok(shown) = fault.to_string(alloc) {
-        assert_eq!(rt; shown.as_str(), text);
-    }
+    let refused = answer_lines(rt.alloc(), &mut reader, &mut out, &mut Echo)?;
+    assert_eq!(rt; refused, 0);
+    assert_eq!(rt; out.len, LINE_LIMIT + 1 + 3 + 4);
+    Ok(())
 }
 
 #[test]
-fn shows_each_fault(rt: HostRuntime) {
-    let long = "the input has more than 16777216 bytes";
-    let alloc = rt.alloc();
-    expect_fault(
-        &rt,
-        alloc,
-        StreamFault::Read,
-        "E1",
-        "the input could not be read",
-    );
-    expect_fault(
-        &rt,
-        alloc,
-        StreamFault::Write,
-        "E2",
-        "the output could not be written",
-    );
-    expect_fault(&rt, alloc, StreamFault::Memory, "E3", "memory ran out");
-    expect_fault(&rt, alloc, StreamFault::TooLong, "E4", long);
+fn shows_each_fault(rt: HostRuntime) -> Result<(), Fail> {
+    let rows = [
+        (StreamFault::Read, "E1", "the input could not be read"),
+        (StreamFault::Write, "E2", "the output could not be written"),
+        (StreamFault::Memory, "E3", "memory ran out"),
+        (
+            StreamFault::TooLong,
+            "E4",
+            "the input has more than 16777216 bytes",
+        ),
+    ];
+    for (fault, code, text) in rows {
+        assert_eq!(rt; (fault.code(), fault.at()), (code, 0));
+        assert_eq!(rt; fault.to_string(rt.alloc())?.as_str(), text);
+    }
+    Ok(())
 }
 
 #[test]

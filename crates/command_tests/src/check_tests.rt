@@ -1,12 +1,12 @@
 //! Runs of `check`: worked rows of filters and of code files, limits, and faults in mid-stream.
 
-use crate::streams::{FailingReader, FailingWriter};
 use filter_commands::{ProgramFault, check_text};
 use line_protocol::StreamFault;
 use std::alloc::Global;
+use std::io::ErrorKind;
 use std::process::Abort;
 use std::test::Fail;
-use worked_rows::FILTERS;
+use worked_rows::{FILTERS, FailingReader, FailingWriter};
 
 /// The number of bytes that an input may have.
 const LIMIT: usize = 1_048_576;
@@ -312,14 +312,13 @@ fn long_runs_are_answered(rt: HostRuntime) -> Result<(), Fail> {
 #[test]
 fn faults_of_streams_are_told(rt: HostRuntime) -> Result<(), Fail> {
     let alloc = rt.alloc();
-    let mut failing = FailingReader::new(b"filter q { accept; }");
-    let mut written = Vec::new(alloc);
-    let read = ProgramFault::Stream(StreamFault::Read);
-    assert_eq!(&rt;
-        check_text(alloc, &mut failing, &mut written, 8, false),
-        Err(read)
-    );
-    assert_eq!(&rt; written.len(), 0);
+    for kind in [ErrorKind::BrokenPipe, ErrorKind::WouldBlock] {
+        let mut failing = FailingReader::new(b"filter q { accept; }", kind);
+        let mut written = Vec::new(alloc);
+        let result = check_text(alloc, &mut failing, &mut written, 8, false);
+        assert_eq!(&rt; result, Err(ProgramFault::Stream(StreamFault::Read)));
+        assert_eq!(&rt; written.len(), 0);
+    }
     // The last one takes all 39 bytes, and fails when it is flushed.
     for room in [0, 5, 30, 39] {
         let mut reader: &[u8] = b"filter q { accept; }";

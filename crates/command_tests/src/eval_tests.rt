@@ -1,12 +1,12 @@
 //! Runs of `eval`: worked rows, the rules of lines, faults in mid-stream, and the texts that people see.
 
-use crate::streams::{FailingReader, FailingWriter};
 use filter_commands::{ProgramFault, eval_lines};
 use line_protocol::StreamFault;
 use std::alloc::Global;
+use std::io::ErrorKind;
 use std::process::Abort;
 use std::test::Fail;
-use worked_rows::{FILTERS, WorkedFilter};
+use worked_rows::{FILTERS, FailingReader, FailingWriter, Terminal, WorkedFilter};
 
 /// ACCEPT alone.
 const ACCEPT: &str = "4e4346310000000170";
@@ -252,15 +252,33 @@ fn limits_the_input(rt: HostRuntime) -> Result<(), Fail> {
     Ok(())
 }
 
+/// A reader that would have to wait fails as any other does.
 #[test]
-fn answers_before_a_read_fault(rt: HostRuntime) -> Result<(), Fail> {
+fn answers_before_a_read_fault(rt: HostRuntime) {
     let alloc = rt.alloc();
-    let mut reader = FailingReader::new(b"4e4346310000000170\n10.0.0.0/8 3 8\n10.0");
-    let mut writer = Vec::new(alloc);
-    let fault = ProgramFault::Stream(StreamFault::Read);
-    assert_eq!(&rt; eval_lines(alloc, &mut reader, &mut writer), Err(fault));
-    assert_eq!(&rt; writer.as_slice(), b"accept 3\n".as_slice());
-    Ok(())
+    for kind in [ErrorKind::BrokenPipe, ErrorKind::WouldBlock] {
+        let mut reader = FailingReader::new(b"4e4346310000000170\n10.0.0.0/8 3 8\n10.0", kind);
+        let mut writer = Vec::new(alloc);
+        let fault = ProgramFault::Stream(StreamFault::Read);
+        assert_eq!(&rt; eval_lines(alloc, &mut reader, &mut writer), Err(fault));
+        assert_eq!(&rt; writer.as_slice(), b"accept 3\n".as_slice());
+    }
+}
+
+#[test]
+fn answers_before_it_reads_on(rt: HostRuntime) {
+    let lines: [(&[u8], &[u8]); 4] = [
+        (b"4e4346310000000170\n", b""),
+        (b"10.0.0.0/8 3 8\n", b"accept 3\n"),
+        (
+            b"10.0.0.0/8 4\n10.0.0.0/8 5 8\n",
+            b"refused O1 3\naccept 5\n",
+        ),
+        (b"# the end\n", b""),
+    ];
+    let terminal = Terminal::new(rt.alloc(), &lines);
+    let result = eval_lines(rt.alloc(), &mut &terminal, &mut &terminal);
+    assert_eq!(&rt; result, Ok(1));
 }
 
 #[test]

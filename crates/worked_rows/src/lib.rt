@@ -1,12 +1,14 @@
-//! Filters that were worked out by hand, with their code, the verifier's verdict, and what is answered on routes: the rows that
-//! the tests of several layers share.
+//! What the tests of several layers share: filters that were worked out by hand, with their code, the verifier's verdict and
+//! what is answered on routes; readers and writers that fail.
 #![tactic(auto)]
 
 mod code;
 mod filters;
+mod streams;
 
 pub use code::{answer, code_of_file, listing, route_in};
 pub use filters::{
     DIVIDED, ELSE, FILTERS, HALF, IN_SET, LOW, NEVER_DIVIDED, NOT_TOO_FAR, TRUE_OR, UP_TWO,
     WRAPPED, WorkedFilter, WorkedRoute,
 };
+pub use streams::{FailingReader, FailingWriter, Terminal};
