@@ -1,0 +1,13 @@
+mod Neighbours
+mod Holders
+mod Advances
+mod Recomputing
+mod Starting
+mod Queueing
+mod Events
+mod Histories
+mod Sessions
+mod Takes
+mod Beginnings
+mod Recording
+mod Replayed
