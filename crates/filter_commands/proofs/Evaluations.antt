@@ -7,7 +7,7 @@ use Rattle.line_protocol.specs.Runs.{Runs, RunsFront}
 use Rattle.filter_commands.specs.Eval.{Line, all_answers, answer_of, answers_after, code_answer, code_in, line_answers, route_answer}
 use Rattle.filter_commands.specs.Evaluation.{AnswersLine, TakesCode}
 use Rattle.filter_commands.specs.RouteLine.{route_in}
-use Rattle.filter_commands.specs.declared.code_line_fault.CodeLineFault.{CodeLineFault}
+use Rattle.filter_source.specs.declared.refusal.Refusal.{Refusal}
 use Rattle.filter_commands.specs.declared.eval.Evaluator.{Evaluator}
 use Rattle.filter_commands.specs.declared.line_fault.LineFault.{LineFault}
 
@@ -57,7 +57,7 @@ pub record Makes (lines : List Line) (given : List Answer) (after : Evaluator) :
   pub silent : after.code ≡ None → refusals given ≡ 0 → lines ≡ []
 
 -- the answer to the line of the code, and those behind it
-behind_code : (l : Line) (ls : List Line) (a : Answer) (more : List Answer) (mid after : Evaluator) (read : Result CodeView CodeLineFault)
+behind_code : (l : Line) (ls : List Line) (a : Answer) (more : List Answer) (mid after : Evaluator) (read : Result CodeView Refusal)
     → code_in l.1 ≡ read → TakesCode l.0 read a mid.code
     → MatchBool (is_end a.reply) ((more ≡ []) × (after ≡ mid)) (Runs answers mid ls more after) → Makes (l ∷ ls) (a ∷ more) after
 behind_code l ls a more mid after (Ok p) e taken r =
@@ -104,7 +104,7 @@ pub record Begins (lines : List Line) (given : List Answer) : Type 0 where
   pub text : text_of given ≡ text_of front
 
 front_behind_code : (l : Line) (ls : List Line) (a : Answer) (more : List Answer) (mid after : Evaluator)
-    → (read : Result CodeView CodeLineFault) → code_in l.1 ≡ read → TakesCode l.0 read a mid.code
+    → (read : Result CodeView Refusal) → code_in l.1 ≡ read → TakesCode l.0 read a mid.code
     → MatchBool (is_end a.reply) ((more ≡ []) × (after ≡ mid)) (RunsFront answers mid ls more after) → Begins (l ∷ ls) (a ∷ more)
 front_behind_code l ls a more mid after (Ok p) e taken r =
     let goes : is_end a.reply ≡ false = ap (λ (x : Answer). is_end x.reply) taken.0 in

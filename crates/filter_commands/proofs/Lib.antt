@@ -2,4 +2,5 @@ pub mod Evaluations
 pub mod Endings
 pub mod FileBytes
 pub mod Printed
+pub mod Reports
 pub mod Saying

@@ -1,71 +1,101 @@
 -- The hexadecimal of a code's file, as `check` prints it, gives the code back.
-use Rattle.std.proofs.Common.{◌≡◌, ℕ, zero, suc, ◌+◌, ◌-◌, ◌*◌, ◌/◌, ◌%◌, ◌<◌, ◌≤◌, Bool, true, false, not, List, [], ◌∷◌, ◌++◌, length, take, slice_index, get_or, nat_lt, inl, inr, refl, sym, subst, ap, ◌∙◌, arith, length-append}
+use Rattle.std.proofs.Common.{◌≡◌, ℕ, zero, suc, ◌+◌, ◌-◌, ◌*◌, ◌/◌, ◌%◌, ◌<◌, ◌≤◌, Bool, true, false, not, List, [], ◌∷◌, ◌++◌, Result, Ok, Err, length, take, drop, slice_index, get_or, nat_lt, if◌then◌else◌, inl, inr, refl, sym, subst, ap, ◌∙◌, arith, length-append}
 use Rattle.std.proofs.lemmas.Bool.Decides.{nat_tests}
 use Rattle.std.proofs.Math.ListN.{get_or-append}
 use Rattle.std.proofs.Math.Seq.{get_or-append_seam, take_all}
 use Rattle.std.proofs.lemmas.List.{take-append-le}
-use Rattle.std.proofs.lemmas.List.Sums.{suffix_len_is}
-use Rattle.std.specs.List.{list_all, suffix_len}
+use Rattle.std.proofs.lemmas.List.Sums.{prefix_len_is, suffix_len_is}
+use Rattle.std.specs.List.{list_all, prefix_len, suffix_len}
 use Rattle.hex.proofs.HexLemmas.{decode_of-encode_lower, length-encode_with}
-use Rattle.hex.specs.Hex.{decode_of, encode_lower, encode_with, lower_digits}
-use Rattle.filter_code.specs.CodeView.{CodeView}
-use Rattle.filter_compiler.specs.Limits.{HasTooMany, IsTooLong}
+use Rattle.hex.specs.Hex.{encode_lower, encode_with, lower_digits}
 use Rattle.code_file.proofs.Grammar.{file_of_spelling}
 use Rattle.code_file.specs.Spelling.{IsCode, spelling}
+use Rattle.filter_code.specs.CodeView.{CodeView}
+use Rattle.filter_source.specs.Limits.{source_limit}
+use Rattle.filter_source.specs.Sources.{code_in_bytes, code_in_hexadecimal, code_or_fault}
+use Rattle.filter_source.specs.declared.refusal.Refusal.{Refusal}
+use Rattle.filter_source.specs.declared.refusal.Refusal.TheVariants.{TooLong}
+use Rattle.filter_tokens.specs.Cutting as gaps
+use Rattle.line_protocol.specs.Words as words
 use Rattle.filter_commands.proofs.FileBytes.{AreBytes, a_file}
-use Rattle.filter_commands.specs.Limits.{check_limit}
-use Rattle.filter_commands.specs.Check.{IsReport, IsReportBy, IsTranslationReport, Report, code_report, file_report, hexadecimal_report, is_white, printed, without_white_end}
+use Rattle.filter_commands.specs.Check.{IsCodeReport, IsReport, ReportView, printed, without_white_end}
+use Rattle.filter_commands.specs.Eval.{code_in}
 
--- a digit is no white space
-not_white : (t : List ℕ) → list_all (λ x. not (is_white x)) t ≡ true → (d : ℕ) → is_white (slice_index t d) ≡ false
-not_white [] h d = refl
-not_white (x ∷ xs) h zero = grind arith
-not_white (x ∷ xs) h (suc d) = not_white xs (grind arith) d
+-- no byte of a text of hexadecimal digits has what no digit has
+module _ (p : ℕ → Bool) (digits : list_all (λ x. not (p x)) lower_digits ≡ true) (outside : p 0 ≡ false) where
+  no_digit : (t : List ℕ) → list_all (λ x. not (p x)) t ≡ true → (d : ℕ) → p (slice_index t d) ≡ false
+  no_digit [] h d = outside
+  no_digit (x ∷ xs) h zero = grind arith
+  no_digit (x ∷ xs) h (suc d) = no_digit xs (grind arith) d
 
-no_white : (bytes : List ℕ) (k : ℕ) → is_white (slice_index (encode_lower bytes) k) ≡ false
-unfolding encode_with
-no_white [] k = refl
-no_white (b ∷ rest) zero = not_white lower_digits refl (b / 16)
-no_white (b ∷ rest) (suc zero) = not_white lower_digits refl (b % 16)
-no_white (b ∷ rest) (suc (suc k)) = no_white rest k
+  pub none_in : (bytes : List ℕ) (k : ℕ) → p (slice_index (encode_lower bytes) k) ≡ false
+  unfolding encode_with
+  none_in [] k = outside
+  none_in (b ∷ rest) zero = no_digit lower_digits digits (b / 16)
+  none_in (b ∷ rest) (suc zero) = no_digit lower_digits digits (b % 16)
+  none_in (b ∷ rest) (suc (suc k)) = none_in rest k
 
--- a line end behind digits is all that is dropped
-trimmed : (bytes : List ℕ) → without_white_end (encode_lower bytes ++ 10 ∷ []) ≡ encode_lower bytes
-trimmed bytes =
+-- a line end after digits is all that is dropped
+trimmed_end : (bytes : List ℕ) → without_white_end (encode_lower bytes ++ 10 ∷ []) ≡ encode_lower bytes
+trimmed_end bytes =
     let text = encode_lower bytes in
     let all : length (text ++ 10 ∷ []) ≡ length text + 1 = length-append text (10 ∷ []) in
-    let white : suffix_len is_white (text ++ 10 ∷ []) ≡ length (text ++ 10 ∷ []) - length text =
-    suffix_len_is is_white (text ++ 10 ∷ []) (length text) 0 (omega arith)
-    (λ k from below. let at : k ≡ length text = omega arith in ap (λ (j : ℕ). is_white (get_or (text ++ 10 ∷ []) j 0)) at
-    ∙ ap is_white (get_or-append_seam text 10 [] 0))
-    (λ some. let lt : length text - 1 < length text = omega arith in ap is_white (get_or-append text (10 ∷ []) 0 (length text - 1) lt)
-    ∙ no_white bytes (length text - 1))
+    let white : suffix_len gaps.is_blank (text ++ 10 ∷ []) ≡ length (text ++ 10 ∷ []) - length text =
+    suffix_len_is gaps.is_blank (text ++ 10 ∷ []) (length text) 0 (omega arith)
+    (λ k from below. let at : k ≡ length text = omega arith in ap (λ (j : ℕ). gaps.is_blank (get_or (text ++ 10 ∷ []) j 0)) at
+    ∙ ap gaps.is_blank (get_or-append_seam text 10 [] 0))
+    (λ some. let lt : length text - 1 < length text = omega arith in ap gaps.is_blank (get_or-append text (10 ∷ []) 0 (length text - 1) lt)
+    ∙ none_in gaps.is_blank refl refl bytes (length text - 1))
     in
-    let kept : length (text ++ 10 ∷ []) - suffix_len is_white (text ++ 10 ∷ []) ≡ length text = omega (arith, white, all) in
+    let kept : length (text ++ 10 ∷ []) - suffix_len gaps.is_blank (text ++ 10 ∷ []) ≡ length text = omega (arith, white, all) in
     ap (λ (n : ℕ). take n (text ++ 10 ∷ [])) kept ∙ take-append-le (length text) text (10 ∷ []) (omega arith)
     ∙ take_all (length text) text (omega arith)
 
--- what `check` prints of a code, read by `check --code`, has the report on that code
-pub printed_again : (size : ℕ) (program : CodeView) → IsCode program → IsReport size true (printed program) (code_report size program)
-printed_again size program h =
-    let bytes : AreBytes 465032 (spelling program) = a_file program h in
-    let few = bytes.few in
-    let digits = encode_lower (spelling program) in
-    let long : length digits ≡ 2 * length (spelling program) = length-encode_with lower_digits (spelling program) in
-    let all : length (printed program) ≡ length digits + 1 = length-append digits (10 ∷ []) in
-    let le : length (printed program) ≤ check_limit = omega (arith, few, long, all) in
-    let within : nat_lt check_limit (length (printed program)) ≡ false = grind (arith, nat_tests) in
-    let read : hexadecimal_report size (decode_of (without_white_end (printed program))) ≡ code_report size program =
-    ap (λ (text : List ℕ). hexadecimal_report size (decode_of text)) (trimmed (spelling program))
-    ∙ ap (hexadecimal_report size) (decode_of-encode_lower (spelling program) bytes.each)
-    ∙ ap (file_report size) (file_of_spelling program h)
+-- digits have no blanks at either end
+trimmed_both : (bytes : List ℕ) → words.trimmed (encode_lower bytes) ≡ encode_lower bytes
+trimmed_both bytes =
+    let text = encode_lower bytes in
+    let front : prefix_len words.is_blank text ≡ 0 =
+    prefix_len_is words.is_blank text 0 0 (omega arith) (λ k below. absurd (omega arith))
+    (λ some. none_in words.is_blank refl refl bytes 0)
     in
-    subst (λ (b : Bool). IsReportBy b size true (printed program) (code_report size program)) (sym within) (sym read)
+    let end : suffix_len words.is_blank text ≡ length text - length text =
+    suffix_len_is words.is_blank text (length text) 0 (omega arith) (λ k from below. absurd (omega arith))
+    (λ some. none_in words.is_blank refl refl bytes (length text - 1))
+    in
+    let kept : length text - suffix_len words.is_blank text ≡ length text = omega (arith, end) in
+    ap (λ (n : ℕ). words.without_end_blanks (drop n text)) front
+    ∙ ap (λ (n : ℕ). take n text) kept ∙ take_all (length text) text (omega arith)
 
--- what `check` writes for a translation is what `check --code` writes for the code that was printed
-pub translation_again : (size : ℕ) (program : CodeView) (report : Report) → IsTranslationReport size program report
-    → (IsTooLong program → ⊥) → (HasTooMany program → ⊥) → IsReport size true (printed program) report
-translation_again size program report (inl long) short few = absurd (short long.0)
-translation_again size program report (inr (inl many)) short few = absurd (few many.1)
-translation_again size program report (inr (inr good)) short few = subst (IsReport size true (printed program)) (sym good.3)
-    (printed_again size program good.2)
+-- the digits of a code's file are within the limit
+few_digits : (program : CodeView) → IsCode program → length (encode_lower (spelling program)) < source_limit
+few_digits program h =
+    let few = (a_file program h).few in
+    let long : length (encode_lower (spelling program)) ≡ 2 * length (spelling program) =
+    length-encode_with lower_digits (spelling program)
+    in
+    omega (arith, few, long)
+
+-- the digits of a code's file are read as that code
+pub digits_again : (program : CodeView) → IsCode program → code_in_hexadecimal (encode_lower (spelling program)) ≡ Ok program
+digits_again program h = ap code_in_bytes (decode_of-encode_lower (spelling program) (a_file program h).each)
+    ∙ ap code_or_fault (file_of_spelling program h)
+
+-- what `check` prints of a code, read by `check --code`, has the report on that code
+pub printed_again : (size : ℕ) (program : CodeView) (report : ReportView) → IsCodeReport size program report
+    → IsReport size true (printed program) report
+printed_again size program report h =
+    let few = few_digits program h.is_code in
+    let digits = encode_lower (spelling program) in
+    let all : length (printed program) ≡ length digits + 1 = length-append digits (10 ∷ []) in
+    let within : length (printed program) ≤ source_limit = omega (arith, few, all) in
+    inr (program, (within, ap code_in_hexadecimal (trimmed_end (spelling program)) ∙ digits_again program h.is_code), h)
+
+-- and read by `eval` it is that code
+pub line_again : (program : CodeView) → IsCode program → code_in (encode_lower (spelling program)) ≡ Ok program
+line_again program h =
+    let digits = encode_lower (spelling program) in
+    let few = few_digits program h in
+    let within : nat_lt source_limit (length digits) ≡ false = grind (arith, nat_tests) in
+    let read : Bool → Result CodeView Refusal = λ b. if b then Err TooLong else code_in_hexadecimal (words.trimmed digits) in
+    ap read within ∙ ap code_in_hexadecimal (trimmed_both (spelling program)) ∙ digits_again program h

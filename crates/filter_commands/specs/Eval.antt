@@ -1,10 +1,5 @@
 -- What `eval` writes for an input: the whole output from the whole input (this project's own choice).
 use Rattle.std.specs.Prelude.{ℕ, List, [], ◌∷◌, ◌++◌, length, map, Result, Ok, Err, nat_lt, if◌then◌else◌, codes, decimal}
-use Rattle.hex.specs.Hex.{decode_of}
-use Rattle.hex.specs.declared.error.FromHexError.{FromHexError}
-use Rattle.code_file.specs.Codes.{fault_code as file_fault_code, fault_place}
-use Rattle.code_file.specs.Reading.{file_of}
-use Rattle.code_file.specs.declared.fault.FileFault.{FileFault}
 use Rattle.filter_code.specs.RouteView.{RouteView}
 use Rattle.filter_code.specs.Machine.{outcome_of}
 use Rattle.filter_code.specs.Outcomes.{fault_code}
@@ -15,10 +10,12 @@ use Rattle.line_protocol.specs.Answers.{Answer, refusal, refusals, text_of}
 use Rattle.line_protocol.specs.Lines.{numbered}
 use Rattle.line_protocol.specs.Words.{trimmed}
 use Rattle.line_protocol.specs.declared.answers.Reply.TheVariants as reply
-use Rattle.line_protocol.specs.Limits.{line_limit}
+use Rattle.filter_source.specs.Limits.{source_limit}
+use Rattle.filter_source.specs.Refusals.{place_in_line, refusal_code}
+use Rattle.filter_source.specs.Sources.{code_in_hexadecimal}
+use Rattle.filter_source.specs.declared.refusal.Refusal.{Refusal}
+use Rattle.filter_source.specs.declared.refusal.Refusal.TheVariants.{TooLong}
 use Rattle.filter_commands.specs.RouteLine.{line_code, route_in}
-use Rattle.filter_commands.specs.declared.code_line_fault.CodeLineFault.{CodeLineFault}
-use Rattle.filter_commands.specs.declared.code_line_fault.CodeLineFault.TheVariants as fault
 use Rattle.filter_commands.specs.declared.line_fault.LineFault.{LineFault}
 use Rattle.filter_commands.specs.declared.line_fault.LineFault.TheVariants as line
 
@@ -41,32 +38,18 @@ answer_of program number (Err found) = record { text = refusal (line_code found)
 abbrev pub route_answer : CodeView → Line → Answer
 route_answer program given = answer_of program given.0 (route_in given.1)
 
--- the code of a file, or why the line that has it in hexadecimal is refused
-abbrev pub code_of_file : Result CodeView FileFault → Result CodeView CodeLineFault
-code_of_file (Ok program) = Ok program
-code_of_file (Err found) = Err (fault.File found)
-
-abbrev pub code_of_bytes : Result (List ℕ) FromHexError → Result CodeView CodeLineFault
-code_of_bytes (Ok bytes) = code_of_file (file_of bytes)
-code_of_bytes (Err found) = Err (fault.Line line.Hexadecimal)
-
--- the code that a line gives: a code file in hexadecimal, with the blanks round it dropped
-abbrev pub code_in : List ℕ → Result CodeView CodeLineFault
-code_in given = if nat_lt line_limit (length given) then Err (fault.Line line.TooLong) else code_of_bytes (decode_of (trimmed given))
-
--- a refused code line, by its number: a fault of the file has a place in the file
-abbrev pub code_refusal : ℕ → CodeLineFault → List ℕ
-code_refusal number (fault.Line found) = refusal (line_code found) number
-code_refusal number (fault.File found) = refusal (file_fault_code found) (fault_place found)
+-- the code that a line gives: a code file in hexadecimal, without the blanks at either end
+abbrev pub code_in : List ℕ → Result CodeView Refusal
+code_in given = if nat_lt source_limit (length given) then Err TooLong else code_in_hexadecimal (trimmed given)
 
 -- the answer to a refused code line, which ends the run
-abbrev pub code_answer : ℕ → CodeLineFault → Answer
-code_answer number found = record { text = code_refusal number found; reply = reply.Ended }
+abbrev pub code_answer : ℕ → Refusal → Answer
+code_answer number why = record { text = refusal (refusal_code why) (place_in_line why number); reply = reply.Ended }
 
--- the answers behind the line of the code: each route's, or the refusal that ends the run
-abbrev pub answers_after : ℕ → Result CodeView CodeLineFault → List Line → List Answer
+-- the answers after the line of the code: each route's, or the refusal that ends the run
+abbrev pub answers_after : ℕ → Result CodeView Refusal → List Line → List Answer
 answers_after number (Ok program) routes = map (route_answer program) routes
-answers_after number (Err found) routes = code_answer number found ∷ []
+answers_after number (Err why) routes = code_answer number why ∷ []
 
 -- the answers to lines, the first of which has the code
 abbrev pub line_answers : List Line → List Answer

@@ -10,10 +10,10 @@ use Rattle.line_protocol.specs.declared.faults.StreamFault.{StreamFault}
 use Rattle.line_protocol.specs.declared.faults.StreamFault.TheVariants.{Read, Write, Memory, TooLong}
 use Rattle.filter_commands.specs.Eval.{code_answer, code_in, eval_answers, eval_out, eval_refusals, line_answers, route_answer}
 use Rattle.line_protocol.specs.Limits.{input_limit}
-use Rattle.filter_commands.specs.declared.code_line_fault.CodeLineFault.{CodeLineFault}
+use Rattle.filter_source.specs.declared.refusal.Refusal.{Refusal}
 
--- The line of the code gets no answer where it is good: it leaves the code behind. A refusal ends the run.
-abbrev pub TakesCode : ℕ → Result CodeView CodeLineFault → Answer → Option CodeView → Type 0
+-- The line of the code gets no answer where it is good, and its code is kept. A refusal ends the run.
+abbrev pub TakesCode : ℕ → Result CodeView Refusal → Answer → Option CodeView → Type 0
 TakesCode number (Ok program) answer after = (answer ≡ record { text = []; reply = reply.Answered }) × (after ≡ Some program)
 TakesCode number (Err found) answer after = (answer ≡ code_answer number found) × (after ≡ None)
 
@@ -30,7 +30,7 @@ pub record Evaluates (input : List ℕ) (left held holds : Option (List ℕ)) (r
   pub read : List ℕ
   pub consumed : Consumes (Some input) left read
   pub within : length read ≤ input_limit
-  -- only behind a refused line of the code may something be left unread
+  -- only after a refused line of the code may something be left unread
   pub to_end : is_over (eval_answers input) ≡ false → left ≡ Some []
 
 -- How far the answers reach where a fault ended the run, when `read` was read of the input.

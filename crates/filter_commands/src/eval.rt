@@ -1,18 +1,19 @@
 //! `ncroute eval`: routes through a code file.
-ghost use Rattle.std.specs.Prelude.{◌≡◌, ◌++◌, OnOk, IfOk, IfErr, IfSome, OnErr};
+ghost use Rattle.std.specs.Prelude.{◌≡◌, ◌++◌, Ok, Err, OnOk, IfOk, IfErr, IfSome, MatchResult, OnErr};
 ghost use Rattle.std.specs.Io.{StartsWith};
 ghost use Rattle.std.specs.Io.KnownBytes.{Appends};
-ghost use Rattle.filter_commands.specs.Eval.{no_code, route_answer, verdict};
+ghost use Rattle.filter_source.specs.Failures.{OnRefusal};
+ghost use Rattle.filter_commands.specs.Eval.{code_in, no_code, route_answer, verdict};
 ghost use Rattle.filter_commands.specs.Evaluation.{Breaks, Evaluates, IsCut};
 ghost use Rattle.filter_commands.specs.Faults.{stream_fault};
 
-use crate::code_line::{push_code_refusal, read_code_line};
 use crate::fault::ProgramFault;
 use crate::line_fault::LineFault;
 use crate::route_line::read_route;
 use filter_code::{Code, Outcome, run_checked};
+use filter_source::{Failure, check_length, read_hexadecimal};
 use line_protocol::{
-    Reply, Service, StreamFault, answer_lines, push_decimal, push_refusal, write_text,
+    Reply, Service, answer_lines, push_decimal, push_refusal, trim_blanks, write_text,
 };
 use std::alloc::{AllocError, Global};
 use std::io::{Read, Write};
@@ -36,20 +37,29 @@ impl Service for Evaluator {
         line: &[u8],
         out: &mut Vec<u8>,
     ) -> Result<Reply, AllocError> {
-        match &self.code {
-            Some(code) => answer_route(code, number, line, out),
-            None => match read_code_line(alloc, line)? {
-                Ok(code) => {
-                    self.code = Some(code);
-                    Ok(Reply::Answered)
-                }
-                Err(fault) => {
-                    push_code_refusal(out, number, fault)?;
-                    Ok(Reply::Ended)
-                }
-            },
+        if let Some(code) = &self.code {
+            return answer_route(code, number, line, out);
+        }
+        match read_code_line(alloc, line) {
+            Ok(code) => {
+                self.code = Some(code);
+                Ok(Reply::Answered)
+            }
+            Err(Failure::Refused(why)) => {
+                push_refusal(out, why.code(), why.place_in_line(number))?;
+                Ok(Reply::Ended)
+            }
+            Err(Failure::Memory) => Err(AllocError),
         }
     }
+}
+
+/// The code of the first line that is answered: a code file in hexadecimal.
+fn read_code_line(alloc: Global, line: &[u8]) -> Result<Code, Failure>
+    ensures { MatchResult result (λ code. code_in line.now ≡ Ok code) (OnRefusal (λ why. code_in line.now ≡ Err why)) }
+{
+    check_length(line)?;
+    read_hexadecimal(alloc, trim_blanks(line))
 }
 
 /// Answers a route line under a filter's code.
@@ -75,7 +85,7 @@ fn answer_route(
     }
 }
 
-/// Puts the line of a verdict behind what `out` holds.
+/// Puts the line of a verdict at the end of `out`.
 fn push_verdict(out: &mut Vec<u8>, outcome: Outcome) -> Result<(), AllocError>
     ensures ok { OnOk result (out.new.items ≡ out.old.items ++ verdict outcome) }
     ensures err { OnErr result (StartsWith out.new.items out.old.items) }
@@ -97,7 +107,7 @@ fn push_verdict(out: &mut Vec<u8>, outcome: Outcome) -> Result<(), AllocError>
     Ok(())
 }
 
-/// Answers the lines of `reader` on `writer`: the first has a code file, each other a route. Gives the number of lines that
+/// Answers the lines of `reader` on `writer`: the first has a code file, each other a route. Returns the number of lines that
 /// were refused. What was answered is written before more is read.
 pub fn eval_lines<R: Read, W: Write>(
     alloc: Global,
@@ -109,46 +119,24 @@ pub fn eval_lines<R: Read, W: Write>(
     ensures broken_off { IfErr result (λ fault. IfSome (R.remaining reader.old) (λ input.
         Breaks (stream_fault fault) input (R.remaining reader.new) (W.contents writer.old) (W.contents writer.new))) }
 {
-    match evaluate(alloc, reader, writer) {
-        Ok(refused) => Ok(refused),
-        Err(fault) => Err(ProgramFault::Stream(fault)),
-    }
-}
-
-/// The same, with the fault of the stream itself.
-fn evaluate<R: Read, W: Write>(
-    alloc: Global,
-    reader: &mut R,
-    writer: &mut W,
-) -> Result<u32, StreamFault>
-    ensures finished { IfOk result (λ refused. IfSome (R.remaining reader.old) (λ input.
-        Evaluates input (R.remaining reader.new) (W.contents writer.old) (W.contents writer.new) refused)) }
-    ensures broken_off { IfErr result (λ fault. IfSome (R.remaining reader.old) (λ input.
-        Breaks fault input (R.remaining reader.new) (W.contents writer.old) (W.contents writer.new))) }
-{
     let mut evaluator = Evaluator { code: None };
-    match answer_lines(alloc, reader, writer, &mut evaluator) {
-        Err(fault) => Err(fault),
-        Ok(refused) => {
-            if refused == 0 && evaluator.code.is_none() {
-                return refuse_empty(alloc, writer);
-            }
-            Ok(refused)
-        }
+    let refused = answer_lines(alloc, reader, writer, &mut evaluator)?;
+    if refused == 0 && evaluator.code.is_none() {
+        return refuse_empty(alloc, writer);
     }
+    Ok(refused)
 }
 
 /// Answers an input in which no line has a code, by the one refusal that it counts.
-fn refuse_empty<W: Write>(alloc: Global, writer: &mut W) -> Result<u32, StreamFault>
+fn refuse_empty<W: Write>(alloc: Global, writer: &mut W) -> Result<u32, ProgramFault>
     ensures ok { IfOk result (λ refused. (refused ≡ 1)
         × Appends (W.contents writer.old) (W.contents writer.new) no_code.text) }
     ensures err { IfErr result (λ fault.
-        IsCut fault (W.contents writer.old) (W.contents writer.new) no_code.text) }
+        IsCut (stream_fault fault) (W.contents writer.old) (W.contents writer.new) no_code.text) }
 {
-    match empty_refusal(alloc) {
-        Err(_) => Err(StreamFault::Memory),
-        Ok(text) => write_one(writer, text.as_slice()),
-    }
+    let text = empty_refusal(alloc)?;
+    write_text(writer, text.as_slice())?;
+    Ok(1)
 }
 
 /// The answer to an input in which no line has a code.
@@ -158,17 +146,4 @@ fn empty_refusal(alloc: Global) -> Result<Vec<u8>, AllocError>
     let mut text = Vec::new(alloc);
     push_refusal(&mut text, LineFault::Words.code(), 0)?;
     Ok(text)
-}
-
-/// Writes the text of one refusal, and counts it.
-fn write_one<W: Write>(writer: &mut W, text: &[u8]) -> Result<u32, StreamFault>
-    ensures ok { IfOk result (λ refused. (refused ≡ 1)
-        × Appends (W.contents writer.old) (W.contents writer.new) text.now) }
-    ensures err { IfErr result (λ fault.
-        IsCut fault (W.contents writer.old) (W.contents writer.new) text.now) }
-{
-    match write_text(writer, text) {
-        Ok(()) => Ok(1),
-        Err(fault) => Err(fault),
-    }
 }

@@ -2,13 +2,11 @@
 #![tactic(auto)]
 
 mod check;
-mod checked;
-mod code_line;
-mod code_line_fault;
 mod eval;
 mod fault;
 mod laws;
 mod line_fault;
+mod report;
 mod route_line;
 
 pub use check::check_text;
@@ -16,5 +14,5 @@ pub use eval::eval_lines;
 pub use fault::ProgramFault;
 pub use laws::{printed_code_is_checked_alike, verified_code_says_the_same};
 
-/// A number of a line is at most this.
+/// A number of a route line is at most this.
 pub const NUMBER_LIMIT: u32 = 65_535;

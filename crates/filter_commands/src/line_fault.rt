@@ -1,19 +1,17 @@
-//! What is wrong with a line of `eval`.
+//! What is wrong with a route line of `eval`.
 ghost use Rattle.std.specs.Prelude.{◌≡◌};
 
-/// What is wrong with a line.
+/// Why a line gives no route.
 #[derive(Clone, Copy, Debug, PartialEq, Eq)]
 pub enum LineFault {
-    /// The number of words is wrong.
+    /// O1: the line does not have exactly three words.
     Words,
-    /// A number is not digits, or is out of its range.
+    /// O2: a number is not in decimal digits, or is out of its range.
     Numbers,
-    /// A code file is not in hexadecimal.
-    Hexadecimal,
-    /// The line is longer than its limit.
+    /// O7: the line is longer than its limit.
     TooLong,
-    /// The network is no prefix.
-    Network,
+    /// O8: the first word is no prefix.
+    Prefix,
 }
 
 impl LineFault {
@@ -26,9 +24,8 @@ impl LineFault {
         match self {
             LineFault::Words => "O1",
             LineFault::Numbers => "O2",
-            LineFault::Hexadecimal => "O3",
             LineFault::TooLong => "O7",
-            LineFault::Network => "O8",
+            LineFault::Prefix => "O8",
         }
     }
 }

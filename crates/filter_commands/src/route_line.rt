@@ -1,4 +1,4 @@
-//! A route line: `NETWORK METRIC SIZE`.
+//! A route line: `PREFIX METRIC SIZE`.
 ghost use Rattle.std.specs.Prelude.{◌≡◌, ◌≤◌, length};
 ghost use Rattle.std.specs.Option.{option_map};
 ghost use Rattle.line_protocol.specs.Words.{words};
@@ -25,12 +25,12 @@ fn three_words(line: &[u8]) -> Option<(&[u8], &[u8], &[u8])>
     }
 }
 
-/// The route of the texts of a network, a metric and a size.
-fn read_parts(network: &[u8], metric: &[u8], size: &[u8]) -> Result<Route, LineFault>
-    ensures { result ≡ route_of_parts (prefix_in network.now) (number_in number_limit metric.now) (number_in number_limit size.now) }
+/// The route of the texts of a prefix, a metric and a size.
+fn read_parts(prefix: &[u8], metric: &[u8], size: &[u8]) -> Result<Route, LineFault>
+    ensures { result ≡ route_of_parts (prefix_in prefix.now) (number_in number_limit metric.now) (number_in number_limit size.now) }
 {
-    let Some(network) = read_prefix(network) else {
-        return Err(LineFault::Network);
+    let Some(prefix) = read_prefix(prefix) else {
+        return Err(LineFault::Prefix);
     };
     let Some(metric) = read_number(metric, NUMBER_LIMIT) else {
         return Err(LineFault::Numbers);
@@ -38,7 +38,7 @@ fn read_parts(network: &[u8], metric: &[u8], size: &[u8]) -> Result<Route, LineF
     let Some(size) = read_number(size, NUMBER_LIMIT) else {
         return Err(LineFault::Numbers);
     };
-    Route::new(network, metric, size).ok_or(LineFault::Numbers)
+    Route::new(prefix, metric, size).ok_or(LineFault::Numbers)
 }
 
 /// Reads a route line, which is at most as long as a line may be.
@@ -50,6 +50,6 @@ pub fn read_route(line: &[u8]) -> Result<Route, LineFault>
     }
     match three_words(line) {
         None => Err(LineFault::Words),
-        Some((network, metric, size)) => read_parts(network, metric, size),
+        Some((prefix, metric, size)) => read_parts(prefix, metric, size),
     }
 }

@@ -11,9 +11,9 @@ use Rattle.line_protocol.specs.declared.faults.StreamFault.TheVariants.{Read, Wr
 abbrev pub AppendsFront : Option (List ℕ) → Option (List ℕ) → List ℕ → Type 0
 AppendsFront held holds text = (front : List ℕ) × (back : List ℕ) × (text ≡ front ++ back) × Appends held holds front
 
--- a reader gave some of its bytes
-abbrev pub ConsumesSome : Option (List ℕ) → Option (List ℕ) → Type 0
-ConsumesSome known left = (read : List ℕ) × Consumes known left read
+-- a reader gave at most so many of its bytes
+abbrev pub ConsumesAtMost : ℕ → Option (List ℕ) → Option (List ℕ) → Type 0
+ConsumesAtMost most known left = (read : List ℕ) × Consumes known left read × (length read ≤ most)
 
 -- what a writer got of a text: all of it, but a front of it where the writer itself failed
 abbrev pub IsWritten : StreamFault → Option (List ℕ) → Option (List ℕ) → List ℕ → Type 0

@@ -1,7 +1,7 @@
 // A whole input in memory, up to a limit.
 ghost use Rattle.std.specs.Prelude.{◌≡◌, ◌<◌, ◌≤◌, ◌+◌, ◌^◌, vec_len, IfOk, IfErr};
 ghost use Rattle.std.specs.Io.KnownBytes.{Consumes, IsAtEnd};
-ghost use Rattle.line_protocol.specs.Runs.{ConsumesSome};
+ghost use Rattle.line_protocol.specs.Runs.{ConsumesAtMost};
 ghost use Rattle.line_protocol.specs.Steps.{IsReadFault};
 
 use crate::engine::{BLOCK, read_block};
@@ -20,7 +20,7 @@ pub fn read_input<R: Read>(
     ensures whole { IfOk result (λ input. vec_len input ≤ limit → IsAtEnd (R.remaining reader.new)) }
     ensures within { IfOk result (λ input. vec_len input ≤ limit + 1) }
     ensures err { IfErr result (λ fault. IsReadFault fault
-        × ConsumesSome (R.remaining reader.old) (R.remaining reader.new)) }
+        × ConsumesAtMost (limit + 1) (R.remaining reader.old) (R.remaining reader.new)) }
 {
     let mut input = Vec::new(alloc);
     let mut count = 0;

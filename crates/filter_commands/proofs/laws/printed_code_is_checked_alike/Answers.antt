@@ -1,5 +1,5 @@
-use Rattle.filter_commands.proofs.Printed.{printed_again, translation_again}
+use Rattle.filter_commands.proofs.Printed.{printed_again}
 use Rattle.filter_commands.proofs.laws.printed_code_is_checked_alike.Goals as goal
 
 pub returns : goal.returns
-returns c = record { codes = printed_again; filters = translation_again }
+returns c = printed_again

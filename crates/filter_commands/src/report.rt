@@ -1,0 +1,89 @@
+//! What `check` writes on a code or a refusal.
+ghost use Rattle.std.specs.Prelude.{◌≡◌, ◌++◌, ◌∷◌, [], codes, IfOk, OnOk, OnErr};
+ghost use Rattle.std.specs.Io.{StartsWith};
+ghost use Rattle.code_file.specs.Spelling.{IsCode};
+ghost use Rattle.hex.specs.Hex.{encode_lower};
+ghost use Rattle.filter_commands.specs.Check.{IsCodeReport, code_line, refusal_report, verified_line};
+ghost use Rattle.filter_commands.specs.Checking.{report_of};
+
+use code_file::write_code;
+use filter_code::Code;
+use filter_source::{Failure, Refusal, verify_code};
+use filter_verifier::Verified;
+use line_protocol::{push_decimal, push_refusal};
+use std::alloc::{AllocError, Global};
+
+/// The number of the line at which `check` reports what is wrong with the input as a whole.
+const FIRST_LINE: u32 = 1;
+
+/// What `check` writes, and how many of its lines are refusals.
+#[derive(Drop)]
+pub struct Report {
+    /// The lines.
+    pub text: Vec<u8>,
+    /// The number of refusals among them.
+    pub refusals: u32,
+}
+
+/// The report on an input that is refused: one line.
+pub fn report_refusal(alloc: Global, why: Refusal) -> Result<Report, AllocError>
+    ensures { IfOk result (λ report. report_of report ≡ refusal_report why) }
+{
+    let mut text = Vec::new(alloc);
+    push_refusal(&mut text, why.code(), why.place_in_line(FIRST_LINE))?;
+    Ok(Report { text, refusals: 1 })
+}
+
+/// The line of a code file's bytes.
+fn line_of_bytes(alloc: Global, bytes: &[u8]) -> Result<Vec<u8>, AllocError>
+    ensures { IfOk result (λ text. text.items ≡ codes "code " ++ encode_lower bytes.now ++ 10 ∷ []) }
+{
+    let digits = hex::encode(alloc, bytes)?;
+    let mut text = Vec::new(alloc);
+    text.extend_from_slice(b"code ")?;
+    text.extend_from_slice(digits.as_bytes())?;
+    text.push(b'\n')?;
+    Ok(text)
+}
+
+/// The line of a code: its file in hexadecimal.
+fn line_of_code(alloc: Global, code: &Code) -> Result<Vec<u8>, AllocError>
+    ensures line { IfOk result (λ text. text.items ≡ code_line code.now) }
+    ensures readable { OnOk result (IsCode code.now) }
+{
+    match write_code(alloc, code) {
+        Ok(bytes) => line_of_bytes(alloc, bytes.as_slice()),
+        Err(_) => Err(AllocError),
+    }
+}
+
+/// Adds the line of verified code to the end of `text`.
+fn push_verified(text: &mut Vec<u8>, verified: &Verified) -> Result<(), AllocError>
+    ensures ok { OnOk result (text.new.items ≡ text.old.items ++ verified_line verified.now.program) }
+    ensures err { OnErr result (StartsWith text.new.items text.old.items) }
+{
+    text.extend_from_slice(b"verified ")?;
+    push_decimal(text, u64::from(verified.budget()))?;
+    text.push(b' ')?;
+    push_decimal(text, u64::from(verified.depth()))?;
+    text.push(b'\n')?;
+    Ok(())
+}
+
+/// The report on code, for domains of a size: the code's line, and then its bounds or why it is refused.
+pub fn report_code(alloc: Global, code: Code, size: u32) -> Result<Report, AllocError>
+    ensures { IfOk result (λ report. IsCodeReport size code (report_of report)) }
+{
+    let mut text = line_of_code(alloc, &code)?;
+    match verify_code(alloc, code, size) {
+        Ok(verified) => {
+            push_verified(&mut text, &verified)?;
+            Ok(Report { text, refusals: 0 })
+        }
+        Err(Failure::Refused(why)) => {
+            push_refusal(&mut text, why.code(), why.place_in_line(FIRST_LINE))?;
+            Ok(Report { text, refusals: 1 })
+        }
+        Err(Failure::Memory) => Err(AllocError),
+    }
+}
