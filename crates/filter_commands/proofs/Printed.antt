@@ -1,5 +1,5 @@
 -- The hexadecimal of a code's file, as `check` prints it, gives the code back.
-use Rattle.std.proofs.Common.{◌≡◌, ℕ, zero, suc, ◌+◌, ◌-◌, ◌*◌, ◌/◌, ◌%◌, ◌<◌, ◌≤◌, Bool, true, false, not, List, [], ◌∷◌, ◌++◌, Result, Ok, Err, length, take, drop, slice_index, get_or, nat_lt, if◌then◌else◌, inl, inr, refl, sym, subst, ap, ◌∙◌, arith, length-append}
+use Rattle.std.proofs.Common.{◌≡◌, ℕ, zero, suc, ◌+◌, ◌-◌, ◌*◌, ◌/◌, ◌%◌, ◌<◌, ◌≤◌, Bool, true, false, not, List, [], ◌∷◌, ◌++◌, Result, Ok, Err, length, take, drop, slice_index, get_or, nat_lt, if◌then◌else◌, inr, refl, ap, ◌∙◌, arith, length-append}
 use Rattle.std.proofs.lemmas.Bool.Decides.{nat_tests}
 use Rattle.std.proofs.Math.ListN.{get_or-append}
 use Rattle.std.proofs.Math.Seq.{get_or-append_seam, take_all}
@@ -17,7 +17,7 @@ use Rattle.filter_source.specs.declared.refusal.Refusal.{Refusal}
 use Rattle.filter_source.specs.declared.refusal.Refusal.TheVariants.{TooLong}
 use Rattle.filter_tokens.specs.Cutting as gaps
 use Rattle.line_protocol.specs.Words as words
-use Rattle.filter_commands.proofs.FileBytes.{AreBytes, a_file}
+use Rattle.filter_commands.proofs.FileBytes.{a_file}
 use Rattle.filter_commands.specs.Check.{IsCodeReport, IsReport, ReportView, printed, without_white_end}
 use Rattle.filter_commands.specs.Eval.{code_in}
 
