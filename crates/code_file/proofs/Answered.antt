@@ -10,15 +10,17 @@ use Rattle.code_file.specs.Fields.{IsBytes}
 use Rattle.code_file.specs.Reading.{file_of}
 use Rattle.code_file.proofs.Grammar.{file_of_spelling, spelling_of_file, fault_of_file}
 
--- code or fault of the bytes, or want of memory
+-- code or fault of the bytes, or memory was refused
 abbrev pub Answers : List ℕ → Result CodeView FileFault → Type 0
 Answers bytes r = MatchResult r (λ code. file_of bytes ≡ Ok code) (λ found. (found ≡ fault.Memory) ⊎ (file_of bytes ≡ Err found))
 
-pub is_found : (bytes : List ℕ) (r : Result CodeView FileFault) → IsBytes bytes → Answers bytes r → IfOk r (λ code. IsCode code × (bytes ≡ spelling code))
+pub is_found : (bytes : List ℕ) (r : Result CodeView FileFault) → IsBytes bytes → Answers bytes r →
+    IfOk r (λ code. IsCode code × (bytes ≡ spelling code))
 is_found bytes (Ok code) h given = spelling_of_file bytes code h given
 is_found bytes (Err found) h given = tt
 
-pub is_only : (bytes : List ℕ) (r : Result CodeView FileFault) → Answers bytes r → (code : CodeView) → IsCode code → bytes ≡ spelling code → MatchResult r (λ read. read ≡ code) (λ found. found ≡ fault.Memory)
+pub is_only : (bytes : List ℕ) (r : Result CodeView FileFault) → Answers bytes r → (code : CodeView) → IsCode code →
+    bytes ≡ spelling code → MatchResult r (λ read. read ≡ code) (λ found. found ≡ fault.Memory)
 is_only bytes (Ok other) given code h e =
     let read = ap file_of e ∙ file_of_spelling code h in
     cc
@@ -27,7 +29,8 @@ is_only bytes (Err found) (inr met) code h e =
     let read = ap file_of e ∙ file_of_spelling code h in
     absurd cc
 
-pub is_refused : (bytes : List ℕ) (r : Result CodeView FileFault) → IsBytes bytes → Answers bytes r → IfErr r (λ found. (found ≡ fault.Memory) ⊎ IsFault bytes found)
+pub is_refused : (bytes : List ℕ) (r : Result CodeView FileFault) → IsBytes bytes → Answers bytes r →
+    IfErr r (λ found. (found ≡ fault.Memory) ⊎ IsFault bytes found)
 is_refused bytes (Ok code) h given = tt
 is_refused bytes (Err found) h (inl none) = inl none
 is_refused bytes (Err found) h (inr met) = inr (fault_of_file bytes found h met)

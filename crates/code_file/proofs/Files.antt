@@ -1,5 +1,6 @@
 -- The fields of each code follow the format of a file, and no others do.
-use Rattle.std.proofs.Common.{◌≡◌, ◌==◌, ℕ, zero, suc, ◌^◌, ◌<◌, ◌≤◌, Bool, true, false, cond, eqb, leb, List, [], ◌∷◌, ◌++◌, length, slice_index, Option, Some, None, unwrap_or, refl, sym, ap, subst, ◌∙◌, arith, lit<}
+use Rattle.std.proofs.Common.{◌≡◌, ◌==◌, ℕ, zero, suc, ◌^◌, ◌<◌, ◌≤◌, Bool, true, false, cond, eqb, leb, List, [], ◌∷◌, ◌++◌}
+use Rattle.std.proofs.Common.{length, slice_index, Option, Some, None, unwrap_or, refl, sym, ap, subst, ◌∙◌, arith, lit<}
 use Rattle.std.specs.Prelude.{is_some, find}
 use Rattle.std.specs.List.{AllByRecursion}
 use Rattle.std.proofs.lemmas.Bool.{eqb-true, le-leb, leb-true}
@@ -13,8 +14,10 @@ use Rattle.filter_code.specs.Limits.{local_limit, set_limit, instruction_limit}
 use Rattle.filter_code.specs.Instruction.{opcode}
 use Rattle.filter_code.specs.CodeView.{CodeView}
 use Rattle.code_file.specs.Fields.{FieldKind, width, number, mark_bytes, is_good, is_prefix, form_of, forms}
-use Rattle.code_file.specs.Fields.FieldKind.{Mark, Locals, Sets, Patterns, Pattern, Instructions, Opcode, WordOperand, TruthOperand, PrefixOperand, NameOperand, BitsOperand, SkipOperand}
-use Rattle.code_file.specs.Spelling.{Field, field, mark_byte, prefix_bytes, pattern, counted, set, operand, instruction, fields, IsPattern, IsSet, IsInstruction, IsCode}
+use Rattle.code_file.specs.Fields.FieldKind.{Mark, Locals, Sets, Patterns, Pattern, Instructions, Opcode, WordOperand}
+use Rattle.code_file.specs.Fields.FieldKind.{TruthOperand, PrefixOperand, NameOperand, BitsOperand, SkipOperand}
+use Rattle.code_file.specs.Spelling.{Field, field, mark_byte, prefix_bytes, pattern, counted, set, operand, instruction, fields}
+use Rattle.code_file.specs.Spelling.{IsPattern, IsSet, IsInstruction, IsCode}
 use Rattle.code_file.specs.Reading.{Format, ◌>>=◌, a_number, prefix_of, a_pattern, a_count_of, a_set, an_operand, an_instruction, a_file}
 use Rattle.code_file.specs.Reading.Format.{Done}
 use Rattle.code_file.proofs.Bytes.{GivesBytesBack, bytes_again_1, bytes_again_2, bytes_again_4}
@@ -30,11 +33,15 @@ put_pattern p h =
     let order = h.lengths.order in
     let limit = h.lengths.limit in
     let good : is_good Pattern (prefix_bytes p.bits ++ tail) ≡ true =
-    true_and (is_prefix (prefix_bytes p.bits ++ tail)) _ (prefix_is_good p.bits tail h.prefix) (true_and (leb p.low p.high) (leb p.high 32) (le-leb _ _ order) (le-leb _ _ limit)) in
-    let made : record { bits = prefix_of (prefix_bytes p.bits ++ tail); low = p.low; high = p.high } ≡ p = ap (λ (bits : List Bool). let q : PrefixPattern = record { bits = bits; low = p.low; high = p.high } in q) (prefix_again p.bits tail h.prefix) in
+    true_and (is_prefix (prefix_bytes p.bits ++ tail)) _ (prefix_is_good p.bits tail h.prefix)
+    (true_and (leb p.low p.high) (leb p.high 32) (le-leb _ _ order) (le-leb _ _ limit)) in
+    let made : record { bits = prefix_of (prefix_bytes p.bits ++ tail); low = p.low; high = p.high } ≡ p =
+    ap (λ (bits : List Bool). let q : PrefixPattern = record { bits = bits; low = p.low; high = p.high } in q)
+    (prefix_again p.bits tail h.prefix) in
     (refl, refl, good, (refl, made))
 
-pattern_again : (bytes : List ℕ) → length bytes ≡ 7 → HasPrefix bytes → prefix_bytes (prefix_of bytes) ++ slice_index bytes 5 ∷ slice_index bytes 6 ∷ [] ≡ bytes
+pattern_again : (bytes : List ℕ) → length bytes ≡ 7 → HasPrefix bytes →
+    prefix_bytes (prefix_of bytes) ++ slice_index bytes 5 ∷ slice_index bytes 6 ∷ [] ≡ bytes
 pattern_again bytes len has = ap (λ (b : List ℕ). b ++ slice_index bytes 5 ∷ slice_index bytes 6 ∷ []) has.parts ∙ seven bytes len
 
 take_pattern : (fs : List Field) (p : PrefixPattern) → AreBytes fs → Follows a_pattern fs p → (fs ≡ pattern p ∷ []) × IsPattern p
@@ -44,24 +51,34 @@ take_pattern (f ∷ fs) p b h =
     let all = and_true (is_prefix bytes) _ h.2 in
     let lengths = and_true (leb (slice_index bytes 5) (slice_index bytes 6)) (leb (slice_index bytes 6) 32) all.1 in
     let has = has_prefix bytes (omega (arith, h.1)) b.0 all.0 in
-    let again : bytes ≡ prefix_bytes (prefix_of bytes) ++ slice_index bytes 5 ∷ slice_index bytes 6 ∷ [] = sym (pattern_again bytes h.1 has) in
+    let again : bytes ≡ prefix_bytes (prefix_of bytes) ++ slice_index bytes 5 ∷ slice_index bytes 6 ∷ [] =
+    sym (pattern_again bytes h.1 has) in
     let made : PrefixPattern = record { bits = prefix_of bytes; low = slice_index bytes 5; high = slice_index bytes 6 } in
-    let same : f ≡ pattern made = ap (λ (k : FieldKind). let g : Field = record { kind = k; bytes = bytes } in g) h.0 ∙ ap (λ (b : List ℕ). let g : Field = record { kind = Pattern; bytes = b } in g) again in
-    let is : IsPattern made = record { prefix = has.limit; lengths = record { order = leb-true _ _ lengths.0; limit = leb-true _ _ lengths.1 } } in
-    subst (λ (q : PrefixPattern). (f ∷ fs ≡ pattern q ∷ []) × IsPattern q) h.3.1 (ap (λ (g : Field). g ∷ fs) same ∙ ap (λ (gs : List Field). pattern made ∷ gs) h.3.0, is)
+    let same : f ≡ pattern made = ap (λ (k : FieldKind). let g : Field = record { kind = k; bytes = bytes } in g) h.0
+    ∙ ap (λ (b : List ℕ). let g : Field = record { kind = Pattern; bytes = b } in g) again in
+    let is : IsPattern made = record {
+      prefix = has.limit;
+      lengths =
+          record { order = leb-true _ _ lengths.0; limit = leb-true _ _ lengths.1 };
+    } in
+    subst (λ (q : PrefixPattern). (f ∷ fs ≡ pattern q ∷ []) × IsPattern q) h.3.1
+    (ap (λ (g : Field). g ∷ fs) same ∙ ap (λ (gs : List Field). pattern made ∷ gs) h.3.0, is)
 
 patterns_limit : HasLimit Patterns pattern_limit
 patterns_limit = record {
   back = bytes_again_2;
   below = lit< tt;
   is_taken = λ n le fits. le-leb _ _ (omega (arith, le, number_of_field Patterns n fits));
-  is_within = λ n fits good. let within : number Patterns (big_bytes 2 n) ≤ pattern_limit = leb-true _ _ good in omega (arith, within, number_of_field Patterns n fits);
+  is_within = λ n fits good. let within : number Patterns (big_bytes 2 n) ≤ pattern_limit =
+      leb-true _ _ good in omega (arith, within, number_of_field Patterns n fits);
 }
 
 put_set : (patterns : List PrefixPattern) → IsSet patterns → Follows a_set (set patterns) patterns
-put_set patterns h = put_counted Patterns pattern_limit patterns_limit a_pattern (λ p. pattern p ∷ []) IsPattern put_pattern patterns h.within_limit h.each
+put_set patterns h = put_counted Patterns pattern_limit patterns_limit a_pattern (λ p. pattern p ∷ []) IsPattern put_pattern
+    patterns h.within_limit h.each
 
-take_set : (fs : List Field) (patterns : List PrefixPattern) → AreBytes fs → Follows a_set fs patterns → (fs ≡ set patterns) × IsSet patterns
+take_set : (fs : List Field) (patterns : List PrefixPattern) → AreBytes fs → Follows a_set fs patterns →
+    (fs ≡ set patterns) × IsSet patterns
 take_set fs patterns b h =
     let all = take_counted Patterns pattern_limit patterns_limit a_pattern (λ p. pattern p ∷ []) IsPattern take_pattern fs patterns b h in
     (all.parts, record { within_limit = all.within_limit; each = all.each })
@@ -69,7 +86,8 @@ take_set fs patterns b h =
 -- ---- an instruction
 
 -- an item that is found passes the test
-found_here : (p : Instr → Bool) (i : Instr) (is : List Instr) (form : Instr) (b : Bool) → p i ≡ b → (find p is ≡ Some form → p form ≡ true) → cond b (Some i) (find p is) ≡ Some form → p form ≡ true
+found_here : (p : Instr → Bool) (i : Instr) (is : List Instr) (form : Instr) (b : Bool) → p i ≡ b →
+    (find p is ≡ Some form → p form ≡ true) → cond b (Some i) (find p is) ≡ Some form → p form ≡ true
 found_here p i is form true here later e =
     let same : i ≡ form = cc in
     rw (← same) here
@@ -95,76 +113,121 @@ has_form byte (Some form) e good = record { form = form; is_form = e }
 
 put_instruction : (i : Instr) → IsInstruction i → Follows an_instruction (instruction i) i
 unfolding form_of
-put_instruction (instr.Int n) h = (refl, refl, refl, (refl, refl, refl, (refl, ap (λ (k : ℕ). instr.Int k) (number_of_field WordOperand n h))))
+put_instruction (instr.Int n) h =
+    (refl, refl, refl, (refl, refl, refl, (refl, ap (λ (k : ℕ). instr.Int k) (number_of_field WordOperand n h))))
 put_instruction (instr.Bool true) h = (refl, refl, refl, (refl, refl, refl, (refl, refl)))
 put_instruction (instr.Bool false) h = (refl, refl, refl, (refl, refl, refl, (refl, refl)))
-put_instruction (instr.Ip a) h = (refl, refl, refl, (refl, refl, refl, (refl, ap (λ (k : ℕ). instr.Ip (record { 0 = k })) (number_of_field WordOperand a.0 h))))
-put_instruction (instr.Prefix bits) h = (refl, refl, refl, (refl, refl, prefix_is_good bits [] h, (refl, ap (λ (p : List Bool). instr.Prefix p) (prefix_again bits [] h))))
-put_instruction (instr.Load i) h = (refl, refl, refl, (refl, refl, refl, (refl, ap (λ (k : ℕ). instr.Load k) (number_of_field NameOperand i h))))
-put_instruction (instr.Store i) h = (refl, refl, refl, (refl, refl, refl, (refl, ap (λ (k : ℕ). instr.Store k) (number_of_field NameOperand i h))))
+put_instruction (instr.Ip a) h = (
+  refl,
+  refl,
+  refl,
+  (
+    refl,
+    refl,
+    refl,
+    (refl, ap (λ (k : ℕ). instr.Ip (record { 0 = k })) (number_of_field WordOperand a.0 h)),
+  ),
+)
+put_instruction (instr.Prefix bits) h = (
+  refl,
+  refl,
+  refl,
+  (
+    refl,
+    refl,
+    prefix_is_good bits [] h,
+    (refl, ap (λ (p : List Bool). instr.Prefix p) (prefix_again bits [] h)),
+  ),
+)
+put_instruction (instr.Load i) h =
+    (refl, refl, refl, (refl, refl, refl, (refl, ap (λ (k : ℕ). instr.Load k) (number_of_field NameOperand i h))))
+put_instruction (instr.Store i) h =
+    (refl, refl, refl, (refl, refl, refl, (refl, ap (λ (k : ℕ). instr.Store k) (number_of_field NameOperand i h))))
 put_instruction (instr.Mask n) h =
     let fits : n < 256 = omega arith in
     let good : leb (number BitsOperand (big_bytes 1 n)) 32 ≡ true = le-leb _ _ (omega (arith, h, number_of_field BitsOperand n fits)) in
     (refl, refl, refl, (refl, refl, good, (refl, ap (λ (k : ℕ). instr.Mask k) (number_of_field BitsOperand n fits))))
-put_instruction (instr.Member i) h = (refl, refl, refl, (refl, refl, refl, (refl, ap (λ (k : ℕ). instr.Member k) (number_of_field NameOperand i h))))
-put_instruction (instr.Jump k) h = (refl, refl, refl, (refl, refl, refl, (refl, ap (λ (n : ℕ). instr.Jump n) (number_of_field SkipOperand k h))))
-put_instruction (instr.JumpIfNot k) h = (refl, refl, refl, (refl, refl, refl, (refl, ap (λ (n : ℕ). instr.JumpIfNot n) (number_of_field SkipOperand k h))))
+put_instruction (instr.Member i) h =
+    (refl, refl, refl, (refl, refl, refl, (refl, ap (λ (k : ℕ). instr.Member k) (number_of_field NameOperand i h))))
+put_instruction (instr.Jump k) h =
+    (refl, refl, refl, (refl, refl, refl, (refl, ap (λ (n : ℕ). instr.Jump n) (number_of_field SkipOperand k h))))
+put_instruction (instr.JumpIfNot k) h =
+    (refl, refl, refl, (refl, refl, refl, (refl, ap (λ (n : ℕ). instr.JumpIfNot n) (number_of_field SkipOperand k h))))
 put_instruction i h = (refl, refl, refl, (refl, refl))
 
--- an operand that was read stands in the spelling of what it made
+-- an operand that was read is in the spelling of what it made
 record IsOperandOf (form i : Instr) (fs : List Field) : Type 0 where
   parts : fs ≡ operand i
   same : opcode i ≡ opcode form
   fits : IsInstruction i
 
 -- an operand that is a number
-number_operand : (kind : FieldKind) (form : Instr) (make : ℕ → Instr) → GivesBytesBack (width kind) → ((n : ℕ) → n < 256 ^ width kind → is_good kind (big_bytes (width kind) n) ≡ true → IsOperandOf form (make n) (field kind n ∷ []))
+number_operand : (kind : FieldKind) (form : Instr) (make : ℕ → Instr) → GivesBytesBack (width kind) →
+    ((n : ℕ) → n < 256 ^ width kind → is_good kind (big_bytes (width kind) n) ≡ true →
+    IsOperandOf form (make n) (field kind n ∷ []))
     → (fs : List Field) (i : Instr) → AreBytes fs → Follows (a_number kind >>= λ n. Done (make n)) fs i → IsOperandOf form i fs
 number_operand kind form make back is fs i b h =
     let n = take_number kind (λ n. Done (make n)) fs i back b h in
     let here : fs ≡ field kind n.value ∷ [] = n.parts ∙ ap (λ (gs : List Field). field kind n.value ∷ gs) n.follows.0 in
-    subst (λ (j : Instr). IsOperandOf form j fs) n.follows.1 (subst (λ (gs : List Field). IsOperandOf form (make n.value) gs) (sym here) (is n.value n.fits n.good))
+    subst (λ (j : Instr). IsOperandOf form j fs) n.follows.1
+    (subst (λ (gs : List Field). IsOperandOf form (make n.value) gs) (sym here) (is n.value n.fits n.good))
 
-truth_operand : (any : Bool) (n : ℕ) → n < 256 → is_good TruthOperand (big_bytes 1 n) ≡ true → IsOperandOf (instr.Bool any) (instr.Bool (n == 1)) (field TruthOperand n ∷ [])
+truth_operand : (any : Bool) (n : ℕ) → n < 256 → is_good TruthOperand (big_bytes 1 n) ≡ true →
+    IsOperandOf (instr.Bool any) (instr.Bool (n == 1)) (field TruthOperand n ∷ [])
 truth_operand any zero fits good = record { parts = refl; same = refl; fits = tt }
 truth_operand any (suc zero) fits good = record { parts = refl; same = refl; fits = tt }
 truth_operand any (suc (suc n)) fits good =
     let within : number TruthOperand (big_bytes 1 (suc (suc n))) ≤ 1 = leb-true _ _ good in
     absurd (omega (arith, within, number_of_field TruthOperand (suc (suc n)) fits))
 
-bits_operand : (any n : ℕ) → n < 256 → is_good BitsOperand (big_bytes 1 n) ≡ true → IsOperandOf (instr.Mask any) (instr.Mask n) (field BitsOperand n ∷ [])
+bits_operand : (any n : ℕ) → n < 256 → is_good BitsOperand (big_bytes 1 n) ≡ true →
+    IsOperandOf (instr.Mask any) (instr.Mask n) (field BitsOperand n ∷ [])
 bits_operand any n fits good =
     let within : number BitsOperand (big_bytes 1 n) ≤ 32 = leb-true _ _ good in
     record { parts = refl; same = refl; fits = omega (arith, within, number_of_field BitsOperand n fits) }
 
-prefix_operand : (any : List Bool) (fs : List Field) (i : Instr) → AreBytes fs → Follows (an_operand (instr.Prefix any)) fs i → IsOperandOf (instr.Prefix any) i fs
+prefix_operand : (any : List Bool) (fs : List Field) (i : Instr) → AreBytes fs → Follows (an_operand (instr.Prefix any)) fs i →
+    IsOperandOf (instr.Prefix any) i fs
 prefix_operand any [] i b h = absurd h
 prefix_operand any (f ∷ fs) i b h =
     let bytes = f.bytes in
     let has = has_prefix bytes (omega (arith, h.1)) b.0 h.2 in
     let again : bytes ≡ prefix_bytes (prefix_of bytes) = sym (has.parts ∙ five bytes h.1) in
     let spelled : Field = record { kind = PrefixOperand; bytes = prefix_bytes (prefix_of bytes) } in
-    let same : f ≡ spelled = ap (λ (k : FieldKind). let g : Field = record { kind = k; bytes = bytes } in g) h.0 ∙ ap (λ (b : List ℕ). let g : Field = record { kind = PrefixOperand; bytes = b } in g) again in
+    let same : f ≡ spelled = ap (λ (k : FieldKind). let g : Field = record { kind = k; bytes = bytes } in g) h.0
+    ∙ ap (λ (b : List ℕ). let g : Field = record { kind = PrefixOperand; bytes = b } in g) again in
     subst (λ (j : Instr). IsOperandOf (instr.Prefix any) j (f ∷ fs)) h.3.1
     (record { parts = ap (λ (g : Field). g ∷ fs) same ∙ ap (λ (gs : List Field). spelled ∷ gs) h.3.0; same = refl; fits = has.limit })
 
 take_operand : (form : Instr) (fs : List Field) (i : Instr) → AreBytes fs → Follows (an_operand form) fs i → IsOperandOf form i fs
-take_operand (instr.Int any) fs i b h = number_operand WordOperand (instr.Int any) (λ n. instr.Int n) bytes_again_4 (λ n fits good. record { parts = refl; same = refl; fits = fits }) fs i b h
-take_operand (instr.Bool any) fs i b h = number_operand TruthOperand (instr.Bool any) (λ n. instr.Bool (n == 1)) bytes_again_1 (truth_operand any) fs i b h
-take_operand (instr.Ip any) fs i b h = number_operand WordOperand (instr.Ip any) (λ n. instr.Ip (record { 0 = n })) bytes_again_4 (λ n fits good. record { parts = refl; same = refl; fits = fits }) fs i b h
+take_operand (instr.Int any) fs i b h = number_operand WordOperand (instr.Int any) (λ n. instr.Int n) bytes_again_4
+    (λ n fits good. record { parts = refl; same = refl; fits = fits }) fs i b h
+take_operand (instr.Bool any) fs i b h = number_operand TruthOperand (instr.Bool any) (λ n. instr.Bool (n == 1)) bytes_again_1
+    (truth_operand any) fs i b h
+take_operand (instr.Ip any) fs i b h =
+    number_operand WordOperand (instr.Ip any) (λ n. instr.Ip (record { 0 = n })) bytes_again_4
+    (λ n fits good. record { parts = refl; same = refl; fits = fits }) fs i b h
 take_operand (instr.Prefix any) fs i b h = prefix_operand any fs i b h
-take_operand (instr.Load any) fs i b h = number_operand NameOperand (instr.Load any) (λ n. instr.Load n) bytes_again_1 (λ n fits good. record { parts = refl; same = refl; fits = fits }) fs i b h
-take_operand (instr.Store any) fs i b h = number_operand NameOperand (instr.Store any) (λ n. instr.Store n) bytes_again_1 (λ n fits good. record { parts = refl; same = refl; fits = fits }) fs i b h
-take_operand (instr.Mask any) fs i b h = number_operand BitsOperand (instr.Mask any) (λ n. instr.Mask n) bytes_again_1 (bits_operand any) fs i b h
-take_operand (instr.Member any) fs i b h = number_operand NameOperand (instr.Member any) (λ n. instr.Member n) bytes_again_1 (λ n fits good. record { parts = refl; same = refl; fits = fits }) fs i b h
-take_operand (instr.Jump any) fs i b h = number_operand SkipOperand (instr.Jump any) (λ n. instr.Jump n) bytes_again_2 (λ n fits good. record { parts = refl; same = refl; fits = fits }) fs i b h
-take_operand (instr.JumpIfNot any) fs i b h = number_operand SkipOperand (instr.JumpIfNot any) (λ n. instr.JumpIfNot n) bytes_again_2 (λ n fits good. record { parts = refl; same = refl; fits = fits }) fs i b h
+take_operand (instr.Load any) fs i b h = number_operand NameOperand (instr.Load any) (λ n. instr.Load n) bytes_again_1
+    (λ n fits good. record { parts = refl; same = refl; fits = fits }) fs i b h
+take_operand (instr.Store any) fs i b h = number_operand NameOperand (instr.Store any) (λ n. instr.Store n) bytes_again_1
+    (λ n fits good. record { parts = refl; same = refl; fits = fits }) fs i b h
+take_operand (instr.Mask any) fs i b h = number_operand BitsOperand (instr.Mask any) (λ n. instr.Mask n) bytes_again_1
+    (bits_operand any) fs i b h
+take_operand (instr.Member any) fs i b h = number_operand NameOperand (instr.Member any) (λ n. instr.Member n) bytes_again_1
+    (λ n fits good. record { parts = refl; same = refl; fits = fits }) fs i b h
+take_operand (instr.Jump any) fs i b h = number_operand SkipOperand (instr.Jump any) (λ n. instr.Jump n) bytes_again_2
+    (λ n fits good. record { parts = refl; same = refl; fits = fits }) fs i b h
+take_operand (instr.JumpIfNot any) fs i b h =
+    number_operand SkipOperand (instr.JumpIfNot any) (λ n. instr.JumpIfNot n) bytes_again_2
+    (λ n fits good. record { parts = refl; same = refl; fits = fits }) fs i b h
 take_operand form fs i b h = subst (λ (j : Instr). IsOperandOf form j fs) h.1 (record { parts = h.0; same = refl; fits = tt })
 
 take_instruction : (fs : List Field) (i : Instr) → AreBytes fs → Follows an_instruction fs i → (fs ≡ instruction i) × IsInstruction i
 take_instruction fs i b h =
     let n = take_number Opcode (λ byte. an_operand (unwrap_or (form_of byte) instr.Reject)) fs i bytes_again_1 b h in
-    let good : is_some (form_of n.value) ≡ true = subst (λ (k : ℕ). is_some (form_of k) ≡ true) (number_of_field Opcode n.value n.fits) n.good in
+    let good : is_some (form_of n.value) ≡ true =
+    subst (λ (k : ℕ). is_some (form_of k) ≡ true) (number_of_field Opcode n.value n.fits) n.good in
     let known = has_form n.value (form_of n.value) refl good in
     let follows : Follows (an_operand known.form) n.others i = rw known.is_form at n.follows in
     let o = take_operand known.form n.others i n.are_bytes follows in
@@ -178,7 +241,8 @@ sets_limit = record {
   back = bytes_again_1;
   below = lit< tt;
   is_taken = λ n le fits. le-leb _ _ (omega (arith, le, number_of_field Sets n fits));
-  is_within = λ n fits good. let within : number Sets (big_bytes 1 n) ≤ set_limit = leb-true _ _ good in omega (arith, within, number_of_field Sets n fits);
+  is_within = λ n fits good. let within : number Sets (big_bytes 1 n) ≤ set_limit =
+      leb-true _ _ good in omega (arith, within, number_of_field Sets n fits);
 }
 
 instructions_limit : HasLimit Instructions instruction_limit
@@ -186,7 +250,8 @@ instructions_limit = record {
   back = bytes_again_2;
   below = lit< tt;
   is_taken = λ n le fits. le-leb _ _ (omega (arith, le, number_of_field Instructions n fits));
-  is_within = λ n fits good. let within : number Instructions (big_bytes 2 n) ≤ instruction_limit = leb-true _ _ good in omega (arith, within, number_of_field Instructions n fits);
+  is_within = λ n fits good. let within : number Instructions (big_bytes 2 n) ≤ instruction_limit =
+      leb-true _ _ good in omega (arith, within, number_of_field Instructions n fits);
 }
 
 abbrev program_of : ℕ → List (List PrefixPattern) → List Instr → CodeView
@@ -206,28 +271,42 @@ pub put_file : (code : CodeView) → IsCode code → Follows a_file (fields code
 unfolding a_file
 put_file code h =
     let fits : code.locals < 256 = let limit = h.locals in omega arith in
-    let good : leb (number Locals (big_bytes 1 code.locals)) local_limit ≡ true = le-leb _ _ (let limit = h.locals in omega (arith, number_of_field Locals code.locals fits)) in
+    let good : leb (number Locals (big_bytes 1 code.locals)) local_limit ≡ true =
+    le-leb _ _ (let limit = h.locals in omega (arith, number_of_field Locals code.locals fits)) in
     let end : Follows (Done code) [] code = (refl, refl) in
-    let instrs = put_counted Instructions instruction_limit instructions_limit an_instruction instruction IsInstruction put_instruction code.instrs h.instrs h.each_instr in
-    let with_end = follows_then (a_count_of Instructions an_instruction) (made code.locals code.sets) (counted Instructions instruction code.instrs) [] code.instrs code instrs end in
-    let back : Follows (from_instructions code.locals code.sets) (counted Instructions instruction code.instrs) code = subst (λ (fs : List Field). Follows (from_instructions code.locals code.sets) fs code) (append-nil (counted Instructions instruction code.instrs)) with_end in
+    let instrs = put_counted Instructions instruction_limit instructions_limit an_instruction instruction IsInstruction
+    put_instruction code.instrs h.instrs h.each_instr in
+    let with_end = follows_then (a_count_of Instructions an_instruction) (made code.locals code.sets)
+    (counted Instructions instruction code.instrs) [] code.instrs code instrs end in
+    let back : Follows (from_instructions code.locals code.sets) (counted Instructions instruction code.instrs) code =
+    subst (λ (fs : List Field). Follows (from_instructions code.locals code.sets) fs code)
+    (append-nil (counted Instructions instruction code.instrs)) with_end in
     let sets = put_counted Sets set_limit sets_limit a_set set IsSet put_set code.sets h.sets h.each_set in
-    let all = follows_then (a_count_of Sets a_set) (from_instructions code.locals) (counted Sets set code.sets) (counted Instructions instruction code.instrs) code.sets code sets back in
-    let behind_mark = put_number Locals from_sets code.locals (counted Sets set code.sets ++ counted Instructions instruction code.instrs) code fits good all in
-    (refl, refl, refl, (refl, refl, refl, (refl, refl, refl, (refl, refl, refl, behind_mark))))
+    let all = follows_then (a_count_of Sets a_set) (from_instructions code.locals) (counted Sets set code.sets)
+    (counted Instructions instruction code.instrs) code.sets code sets back in
+    let after_mark = put_number Locals from_sets code.locals
+    (counted Sets set code.sets ++ counted Instructions instruction code.instrs) code fits good all in
+    (refl, refl, refl, (refl, refl, refl, (refl, refl, refl, (refl, refl, refl, after_mark))))
 
--- the next byte of the mark, and the fields behind it
+-- the next byte of the mark, and the fields after it
 record HasMark (place : ℕ) (later : Format CodeView) (fs : List Field) (code : CodeView) : Type 0 where
   others : List Field
   parts : fs ≡ mark_byte place ∷ others
   follows : Follows later others code
   are_bytes : AreBytes others
 
-take_mark : (place : ℕ) (later : Format CodeView) (fs : List Field) (code : CodeView) → AreBytes fs → Follows (a_number (Mark place) >>= λ n. later) fs code → HasMark place later fs code
+take_mark : (place : ℕ) (later : Format CodeView) (fs : List Field) (code : CodeView) → AreBytes fs →
+    Follows (a_number (Mark place) >>= λ n. later) fs code → HasMark place later fs code
 take_mark place later fs code b h =
     let n = take_number (Mark place) (λ n. later) fs code bytes_again_1 b h in
     let value : n.value ≡ slice_index mark_bytes place = sym (number_of_field (Mark place) n.value n.fits) ∙ eqb-true _ _ n.good in
-    record { others = n.others; parts = n.parts ∙ ap (λ (k : ℕ). field (Mark place) k ∷ n.others) value; follows = n.follows; are_bytes = n.are_bytes }
+    record {
+      others = n.others;
+      parts = n.parts ∙ ap (λ (k : ℕ). field (Mark place) k ∷ n.others) value;
+      follows =
+          n.follows;
+      are_bytes = n.are_bytes;
+    }
 
 -- the fields from some place on, and what they say of the code
 record IsFrom (spelled : CodeView → List Field) (says : CodeView → Type 0) (fs : List Field) (code : CodeView) : Type 0 where
@@ -235,30 +314,49 @@ record IsFrom (spelled : CodeView → List Field) (says : CodeView → Type 0) (
   is : says code
 
 abbrev SaysInstructions : ℕ → List (List PrefixPattern) → CodeView → Type 0
-SaysInstructions locals sets code = (code.locals ≡ locals) × (code.sets ≡ sets) × (length code.instrs ≤ instruction_limit) × AllByRecursion IsInstruction code.instrs
+SaysInstructions locals sets code = (code.locals ≡ locals) × (code.sets ≡ sets) × (length code.instrs ≤ instruction_limit)
+    × AllByRecursion IsInstruction code.instrs
 
-take_instructions : (locals : ℕ) (sets : List (List PrefixPattern)) (fs : List Field) (code : CodeView) → AreBytes fs → Follows (from_instructions locals sets) fs code
+take_instructions : (locals : ℕ) (sets : List (List PrefixPattern)) (fs : List Field) (code : CodeView) → AreBytes fs →
+    Follows (from_instructions locals sets) fs code
     → IsFrom (λ c. counted Instructions instruction c.instrs) (SaysInstructions locals sets) fs code
 take_instructions locals sets fs code b h =
     let both = follows_both (a_count_of Instructions an_instruction) (made locals sets) fs code b h in
-    let all = take_counted Instructions instruction_limit instructions_limit an_instruction instruction IsInstruction take_instruction both.first both.made both.first_are_bytes both.follows_first in
-    let parts : fs ≡ counted Instructions instruction both.made = both.parts ∙ ap (λ (gs : List Field). both.first ++ gs) both.follows_second.0 ∙ append-nil both.first ∙ all.parts in
-    subst (λ (c : CodeView). IsFrom (λ c. counted Instructions instruction c.instrs) (SaysInstructions locals sets) fs c) both.follows_second.1
+    let all = take_counted Instructions instruction_limit instructions_limit an_instruction instruction IsInstruction
+    take_instruction both.first both.made both.first_are_bytes both.follows_first in
+    let parts : fs ≡ counted Instructions instruction both.made =
+    both.parts ∙ ap (λ (gs : List Field). both.first ++ gs) both.follows_second.0 ∙ append-nil both.first ∙ all.parts in
+    subst (λ (c : CodeView). IsFrom (λ c. counted Instructions instruction c.instrs) (SaysInstructions locals sets) fs c)
+    both.follows_second.1
     (record { parts = parts; is = (refl, refl, all.within_limit, all.each) })
 
 abbrev SaysSets : ℕ → CodeView → Type 0
-SaysSets locals code = (code.locals ≡ locals) × (length code.sets ≤ set_limit) × AllByRecursion IsSet code.sets × (length code.instrs ≤ instruction_limit) × AllByRecursion IsInstruction code.instrs
+SaysSets locals code = (code.locals ≡ locals) × (length code.sets ≤ set_limit) × AllByRecursion IsSet code.sets
+    × (length code.instrs ≤ instruction_limit) × AllByRecursion IsInstruction code.instrs
 
 take_sets : (locals : ℕ) (fs : List Field) (code : CodeView) → AreBytes fs → Follows (from_sets locals) fs code
     → IsFrom (λ c. counted Sets set c.sets ++ counted Instructions instruction c.instrs) (SaysSets locals) fs code
 take_sets locals fs code b h =
     let both = follows_both (a_count_of Sets a_set) (from_instructions locals) fs code b h in
-    let all = take_counted Sets set_limit sets_limit a_set set IsSet take_set both.first both.made both.first_are_bytes both.follows_first in
+    let all = take_counted Sets set_limit sets_limit a_set set IsSet take_set both.first both.made both.first_are_bytes
+    both.follows_first in
     let rest = take_instructions locals both.made both.second code both.second_are_bytes both.follows_second in
     let same : both.made ≡ code.sets = sym rest.is.1 in
     let parts : fs ≡ counted Sets set code.sets ++ counted Instructions instruction code.instrs =
-    both.parts ∙ ap (λ (gs : List Field). gs ++ both.second) all.parts ∙ ap (λ (gs : List Field). counted Sets set both.made ++ gs) rest.parts ∙ ap (λ (sets : List (List PrefixPattern)). counted Sets set sets ++ counted Instructions instruction code.instrs) same in
-    record { parts = parts; is = (rest.is.0, subst (λ (sets : List (List PrefixPattern)). length sets ≤ set_limit) same all.within_limit, subst (λ (sets : List (List PrefixPattern)). AllByRecursion IsSet sets) same all.each, rest.is.2, rest.is.3) }
+    both.parts ∙ ap (λ (gs : List Field). gs ++ both.second) all.parts
+    ∙ ap (λ (gs : List Field). counted Sets set both.made ++ gs) rest.parts
+    ∙ ap (λ (sets : List (List PrefixPattern)). counted Sets set sets ++ counted Instructions instruction code.instrs) same in
+    record {
+      parts = parts;
+      is = (
+        rest.is.0,
+        subst (λ (sets : List (List PrefixPattern)). length sets ≤ set_limit) same
+            all.within_limit,
+        subst (λ (sets : List (List PrefixPattern)). AllByRecursion IsSet sets) same all.each,
+        rest.is.2,
+        rest.is.3,
+      );
+    }
 
 take_locals : (fs : List Field) (code : CodeView) → AreBytes fs → Follows (a_number Locals >>= from_sets) fs code
     → IsFrom (λ c. field Locals c.locals ∷ counted Sets set c.sets ++ counted Instructions instruction c.instrs) IsCode fs code
@@ -269,21 +367,27 @@ take_locals fs code b h =
     let within : number Locals (big_bytes 1 n.value) ≤ local_limit = leb-true _ _ n.good in
     let limit : n.value ≤ local_limit = omega (arith, within, number_of_field Locals n.value n.fits) in
     record {
-      parts = n.parts ∙ ap (λ (gs : List Field). field Locals n.value ∷ gs) rest.parts ∙ ap (λ (k : ℕ). field Locals k ∷ counted Sets set code.sets ++ counted Instructions instruction code.instrs) same;
+      parts = n.parts ∙ ap (λ (gs : List Field). field Locals n.value ∷ gs) rest.parts
+          ∙ ap (λ (k : ℕ). field Locals k ∷ counted Sets set code.sets ++ counted Instructions instruction code.instrs) same;
       is = record { locals = rw (← same) limit; sets = rest.is.1; each_set = rest.is.2; instrs = rest.is.3; each_instr = rest.is.4 };
     }
 
-in_front : (fs a b c d body : List Field) → fs ≡ mark_byte 0 ∷ a → a ≡ mark_byte 1 ∷ b → b ≡ mark_byte 2 ∷ c → c ≡ mark_byte 3 ∷ d → d ≡ body → fs ≡ mark_byte 0 ∷ mark_byte 1 ∷ mark_byte 2 ∷ mark_byte 3 ∷ body
+in_front : (fs a b c d body : List Field) → fs ≡ mark_byte 0 ∷ a → a ≡ mark_byte 1 ∷ b → b ≡ mark_byte 2 ∷ c →
+    c ≡ mark_byte 3 ∷ d → d ≡ body → fs ≡ mark_byte 0 ∷ mark_byte 1 ∷ mark_byte 2 ∷ mark_byte 3 ∷ body
 in_front fs a b c d body p q r s t = rw (p, q, r, s, t) refl
 
 -- fields that follow the format are those of the code that they make
 pub take_file : (fs : List Field) (code : CodeView) → AreBytes fs → Follows a_file fs code → (fs ≡ fields code) × IsCode code
 unfolding a_file
 take_file fs code b h =
-    let behind_mark = a_number Locals >>= from_sets in
-    let m0 = take_mark 0 (a_number (Mark 1) >>= λ n. a_number (Mark 2) >>= λ n. a_number (Mark 3) >>= λ n. behind_mark) fs code b h in
-    let m1 = take_mark 1 (a_number (Mark 2) >>= λ n. a_number (Mark 3) >>= λ n. behind_mark) m0.others code m0.are_bytes m0.follows in
-    let m2 = take_mark 2 (a_number (Mark 3) >>= λ n. behind_mark) m1.others code m1.are_bytes m1.follows in
-    let m3 = take_mark 3 behind_mark m2.others code m2.are_bytes m2.follows in
-    let rest = take_locals m3.others code m3.are_bytes m3.follows in
-    (in_front fs m0.others m1.others m2.others m3.others (field Locals code.locals ∷ counted Sets set code.sets ++ counted Instructions instruction code.instrs) m0.parts m1.parts m2.parts m3.parts rest.parts, rest.is)
+    let after_mark = a_number Locals >>= from_sets in
+    let m0 = take_mark 0 (a_number (Mark 1) >>= λ n. a_number (Mark 2) >>= λ n. a_number (Mark 3) >>= λ n. after_mark) fs code b h in
+    let m1 = take_mark 1 (a_number (Mark 2) >>= λ n. a_number (Mark 3) >>= λ n. after_mark) m0.others code m0.are_bytes m0.follows in
+    let m2 = take_mark 2 (a_number (Mark 3) >>= λ n. after_mark) m1.others code m1.are_bytes m1.follows in
+    let m3 = take_mark 3 after_mark m2.others code m2.are_bytes m2.follows in
+    let rest = take_locals m3.others code m3.are_bytes m3.follows in (
+      in_front fs m0.others m1.others m2.others m3.others
+          (field Locals code.locals ∷ counted Sets set code.sets ++ counted Instructions instruction code.instrs) m0.parts
+          m1.parts m2.parts m3.parts rest.parts,
+      rest.is,
+    )

@@ -8,7 +8,8 @@ use Rattle.code_file.specs.Spelling.{Field, bytes_of, fields, spelling, IsCode}
 use Rattle.code_file.specs.Fault.{IsReadUpTo, IsFault}
 use Rattle.code_file.specs.Fields.{IsBytes}
 use Rattle.code_file.specs.Reading.{Rest, a_file, read, whole, file_of}
-use Rattle.code_file.proofs.Formats.{Follows, rest_at, from_start, read_again, whole_again, whole_short, whole_bad, whole_long, AreNotAll, whole_found, Stopped, whole_refused}
+use Rattle.code_file.proofs.Formats.{Follows, rest_at, from_start, read_again, whole_again, whole_short, whole_bad, whole_long}
+use Rattle.code_file.proofs.Formats.{AreNotAll, whole_found, Stopped, whole_refused}
 use Rattle.code_file.proofs.Files.{put_file, take_file}
 
 -- the file of a code is read
@@ -25,19 +26,25 @@ spelling_of_file bytes code h e =
     (is.1, all.parts ∙ ap bytes_of is.0)
 
 -- where a code begins with some fields, these and the others follow the format
-follows_up_to : (bytes : List ℕ) (front : List Field) (next : Field) (rest : List ℕ) (up_to : IsReadUpTo bytes front next rest) → Follows a_file (front ++ next ∷ up_to.others) up_to.code
-follows_up_to bytes front next rest up_to = subst (λ (fs : List Field). Follows a_file fs up_to.code) up_to.in_order (put_file up_to.code up_to.is_code)
+follows_up_to : (bytes : List ℕ) (front : List Field) (next : Field) (rest : List ℕ)
+    (up_to : IsReadUpTo bytes front next rest) → Follows a_file (front ++ next ∷ up_to.others) up_to.code
+follows_up_to bytes front next rest up_to = subst (λ (fs : List Field). Follows a_file fs up_to.code) up_to.in_order
+    (put_file up_to.code up_to.is_code)
 
 -- the fault of bytes is met
 pub file_of_fault : (bytes : List ℕ) (found : FileFault) → IsFault bytes found → file_of bytes ≡ Err found
 unfolding file_of
 file_of_fault bytes found (inl short) =
     let up_to = short.up_to in
-    let met = whole_short a_file short.front short.next up_to.others up_to.code short.rest (follows_up_to bytes short.front short.next short.rest up_to) short.short in
-    ap (λ (b : List ℕ). whole (read a_file (from_start b))) up_to.parts ∙ met ∙ ap (λ (b : List ℕ). Err (fault.EndsEarly (length b))) (sym up_to.parts) ∙ ap (λ (f : FileFault). Err f) (sym short.fault)
+    let met = whole_short a_file short.front short.next up_to.others up_to.code short.rest
+    (follows_up_to bytes short.front short.next short.rest up_to) short.short in
+    ap (λ (b : List ℕ). whole (read a_file (from_start b))) up_to.parts ∙ met
+    ∙ ap (λ (b : List ℕ). Err (fault.EndsEarly (length b))) (sym up_to.parts) ∙ ap (λ (f : FileFault). Err f)
+    (sym short.fault)
 file_of_fault bytes found (inr (inl bad)) =
     let up_to = bad.up_to in
-    let met = whole_bad a_file bad.front bad.next up_to.others up_to.code bad.rest (follows_up_to bytes bad.front bad.next bad.rest up_to) bad.whole bad.bad in
+    let met = whole_bad a_file bad.front bad.next up_to.others up_to.code bad.rest
+    (follows_up_to bytes bad.front bad.next bad.rest up_to) bad.whole bad.bad in
     ap (λ (b : List ℕ). whole (read a_file (from_start b))) up_to.parts ∙ met ∙ ap (λ (f : FileFault). Err f) (sym bad.fault)
 file_of_fault bytes found (inr (inr long)) =
     let met = whole_long a_file (fields long.code) long.code long.next long.others (put_file long.code long.is_code) in
@@ -47,12 +54,30 @@ file_of_fault bytes found (inr (inr long)) =
 stopped_is_fault : (bytes : List ℕ) (found : FileFault) → Stopped a_file (from_start bytes) found → IsFault bytes found
 stopped_is_fault bytes found stopped =
     let is = take_file (stopped.front ++ stopped.next ∷ stopped.others) stopped.made stopped.fields_are_bytes stopped.follows in
-    let up_to : IsReadUpTo bytes stopped.front stopped.next stopped.tail = record { code = stopped.made; is_code = is.1; others = stopped.others; in_order = sym is.0; parts = stopped.parts } in
+    let up_to : IsReadUpTo bytes stopped.front stopped.next stopped.tail =
+    record { code = stopped.made; is_code = is.1; others = stopped.others; in_order = sym is.0; parts = stopped.parts } in
     let end : 0 + length bytes ≡ length bytes = omega arith in
     let place : 0 + length (bytes_of stopped.front) ≡ length (bytes_of stopped.front) = omega arith in
     elim stopped.why [
-      | inl short ↦ inl (record { front = stopped.front; next = stopped.next; rest = stopped.tail; up_to = up_to; short = short.0; fault = short.1 ∙ ap (λ (n : ℕ). fault.EndsEarly n) end })
-      | inr bad ↦ inr (inl (record { front = stopped.front; next = stopped.next; rest = stopped.tail; up_to = up_to; whole = bad.0; bad = bad.1; fault = bad.2 ∙ ap (fault_of stopped.next.kind) place }))
+      | inl short ↦ inl (record {
+        front = stopped.front;
+        next = stopped.next;
+        rest = stopped.tail;
+        up_to = up_to;
+        short =
+            short.0;
+        fault = short.1 ∙ ap (λ (n : ℕ). fault.EndsEarly n) end;
+      })
+      | inr bad ↦ inr (inl (record {
+        front = stopped.front;
+        next = stopped.next;
+        rest = stopped.tail;
+        up_to = up_to;
+        whole =
+            bad.0;
+        bad = bad.1;
+        fault = bad.2 ∙ ap (fault_of stopped.next.kind) place;
+      }))
     ]
 
 long_is_fault : (bytes : List ℕ) (found : FileFault) → AreNotAll a_file bytes found → IsFault bytes found
@@ -103,7 +128,8 @@ pub one_file : (a b : CodeView) (x y : List ℕ) → IsCode a → IsCode b → s
 one_file a b x y p q e =
     let left = read_again a_file (fields a) a 0 x (put_file a p) in
     let right = ap (λ (bytes : List ℕ). read a_file (from_start bytes)) e ∙ read_again a_file (fields b) b 0 y (put_file b q) in
-    let same = same_found (read a_file (from_start (spelling a ++ x))) a b (rest_at (0 + length (spelling a)) x) (rest_at (0 + length (spelling b)) y) left right in
+    let same = same_found (read a_file (from_start (spelling a ++ x))) a b (rest_at (0 + length (spelling a)) x)
+    (rest_at (0 + length (spelling b)) y) left right in
     (same.0, ap (λ (r : Rest). r.bytes) same.1)
 
 pub exact_code : (bytes : List ℕ) (code : CodeView) → IsBytes bytes → (file_of bytes ≡ Ok code) ↔ (IsCode code × (bytes ≡ spelling code))
@@ -112,7 +138,8 @@ exact_code bytes code h = (spelling_of_file bytes code h, λ is. ap file_of is.1
 pub exact_fault : (bytes : List ℕ) (found : FileFault) → IsBytes bytes → (file_of bytes ≡ Err found) ↔ IsFault bytes found
 exact_fault bytes found h = (fault_of_file bytes found h, file_of_fault bytes found)
 
-pub more_follows : (code : CodeView) (next : ℕ) (others : List ℕ) → IsCode code → file_of (spelling code ++ next ∷ others) ≡ Err (fault.BytesAfterEnd (length (spelling code)))
+pub more_follows : (code : CodeView) (next : ℕ) (others : List ℕ) → IsCode code →
+    file_of (spelling code ++ next ∷ others) ≡ Err (fault.BytesAfterEnd (length (spelling code)))
 more_follows code next others h =
     file_of_fault (spelling code ++ next ∷ others) (fault.BytesAfterEnd (length (spelling code)))
     (inr (inr (record { code = code; is_code = h; next = next; others = others; parts = refl; fault = refl })))

@@ -1,5 +1,6 @@
 -- The bytes of fields that are written one after the other.
-use Rattle.std.proofs.Common.{◌≡◌, ℕ, ◌%◌, ◌<◌, ◌≤◌, List, [], ◌∷◌, ◌++◌, length, All, take, get_or, ◌+◌, refl, sym, ap, ◌∙◌, append_assoc, arith, inl, inr}
+use Rattle.std.proofs.Common.{◌≡◌, ℕ, ◌%◌, ◌<◌, ◌≤◌, List, [], ◌∷◌, ◌++◌, length, All, take, get_or, ◌+◌, refl, sym, ap, ◌∙◌}
+use Rattle.std.proofs.Common.{append_assoc, arith, inl, inr}
 use Rattle.std.specs.List.{flat_map}
 use Rattle.std.proofs.lemmas.Bool.{cases_lt}
 use Rattle.std.proofs.lemmas.List.{append-nil, take_more, get_or_default}
@@ -15,9 +16,11 @@ use Rattle.code_file.specs.Fields.FieldKind.{Instructions}
 
 pub bytes_of-append : (fs gs : List Field) → bytes_of (fs ++ gs) ≡ bytes_of fs ++ bytes_of gs
 bytes_of-append [] gs = refl
-bytes_of-append (f ∷ fs) gs = ap (λ (bytes : List ℕ). f.bytes ++ bytes) (bytes_of-append fs gs) ∙ sym (append_assoc f.bytes (bytes_of fs) (bytes_of gs))
+bytes_of-append (f ∷ fs) gs = ap (λ (bytes : List ℕ). f.bytes ++ bytes) (bytes_of-append fs gs)
+    ∙ sym (append_assoc f.bytes (bytes_of fs) (bytes_of gs))
 
-pub bytes_of-flat_map : {A : Type 0} (fields_of : A → List Field) (xs : List A) → bytes_of (flat_map fields_of xs) ≡ flat_map (λ x. bytes_of (fields_of x)) xs
+pub bytes_of-flat_map : {A : Type 0} (fields_of : A → List Field) (xs : List A) →
+    bytes_of (flat_map fields_of xs) ≡ flat_map (λ x. bytes_of (fields_of x)) xs
 bytes_of-flat_map fields_of [] = refl
 bytes_of-flat_map {A} fields_of (x ∷ xs) =
     ap bytes_of (flat_map-cons fields_of x xs)
@@ -25,8 +28,9 @@ bytes_of-flat_map {A} fields_of (x ∷ xs) =
     ∙ ap (λ (bytes : List ℕ). bytes_of (fields_of x) ++ bytes) (bytes_of-flat_map fields_of xs)
     ∙ sym (flat_map-cons (λ x. bytes_of (fields_of x)) x xs)
 
--- a set behind what was written
-pub set_written : (old : List ℕ) (patterns : List PrefixPattern) → (old ++ big_bytes 2 (length patterns)) ++ flat_map (λ p. bytes_of (pattern p ∷ [])) patterns ≡ old ++ bytes_of (set patterns)
+-- a set after what was written
+pub set_written : (old : List ℕ) (patterns : List PrefixPattern) →
+    (old ++ big_bytes 2 (length patterns)) ++ flat_map (λ p. bytes_of (pattern p ∷ [])) patterns ≡ old ++ bytes_of (set patterns)
 set_written old patterns =
     append_assoc old (big_bytes 2 (length patterns)) (flat_map (λ p. bytes_of (pattern p ∷ [])) patterns)
     ∙ ap (λ (bytes : List ℕ). old ++ (big_bytes 2 (length patterns) ++ bytes)) (sym (bytes_of-flat_map (λ p. pattern p ∷ []) patterns))
@@ -39,22 +43,26 @@ low_byte n h =
 
 -- a whole file
 pub file_written : (code : CodeView) → code.locals ≤ local_limit → length code.sets ≤ set_limit
-    → (((((0x4E ∷ 0x43 ∷ 0x46 ∷ 0x31 ∷ []) ++ code.locals ∷ []) ++ length code.sets ∷ []) ++ flat_map (λ s. bytes_of (set s)) code.sets) ++ big_bytes 2 (length code.instrs)) ++ flat_map (λ i. bytes_of (instruction i)) code.instrs ≡ spelling code
+    → (((((0x4E ∷ 0x43 ∷ 0x46 ∷ 0x31 ∷ []) ++ code.locals ∷ []) ++ length code.sets ∷ []) ++ flat_map (λ s. bytes_of (set s))
+    code.sets) ++ big_bytes 2 (length code.instrs)) ++ flat_map (λ i. bytes_of (instruction i)) code.instrs ≡ spelling code
 file_written code few_locals few_sets =
     let locals : big_bytes 1 code.locals ≡ code.locals ∷ [] = low_byte code.locals (omega arith) in
     let sets : big_bytes 1 (length code.sets) ≡ length code.sets ∷ [] = low_byte (length code.sets) (omega arith) in
     let head : List ℕ = 0x4E ∷ 0x43 ∷ 0x46 ∷ 0x31 ∷ [] in
-    let back : bytes_of (flat_map set code.sets ++ counted Instructions instruction code.instrs) ≡ flat_map (λ s. bytes_of (set s)) code.sets ++ (big_bytes 2 (length code.instrs) ++ flat_map (λ i. bytes_of (instruction i)) code.instrs) =
+    let back : bytes_of (flat_map set code.sets ++ counted Instructions instruction code.instrs) ≡ flat_map (λ s. bytes_of
+    (set s)) code.sets ++ (big_bytes 2 (length code.instrs) ++ flat_map (λ i. bytes_of (instruction i)) code.instrs) =
     bytes_of-append (flat_map set code.sets) (counted Instructions instruction code.instrs)
     ∙ ap (λ (bytes : List ℕ). bytes ++ bytes_of (counted Instructions instruction code.instrs)) (bytes_of-flat_map set code.sets)
-    ∙ ap (λ (bytes : List ℕ). flat_map (λ s. bytes_of (set s)) code.sets ++ (big_bytes 2 (length code.instrs) ++ bytes)) (bytes_of-flat_map instruction code.instrs) in
+    ∙ ap (λ (bytes : List ℕ). flat_map (λ s. bytes_of (set s)) code.sets ++ (big_bytes 2 (length code.instrs) ++ bytes))
+    (bytes_of-flat_map instruction code.instrs) in
     let middle : List ℕ = flat_map (λ s. bytes_of (set s)) code.sets in
     let last : List ℕ = big_bytes 2 (length code.instrs) ++ flat_map (λ i. bytes_of (instruction i)) code.instrs in
     let spelled : spelling code ≡ head ++ ((code.locals ∷ []) ++ ((length code.sets ∷ []) ++ (middle ++ last))) =
     ap (λ (bytes : List ℕ). head ++ (big_bytes 1 code.locals ++ (big_bytes 1 (length code.sets) ++ bytes))) back
     ∙ ap (λ (bytes : List ℕ). head ++ (bytes ++ (big_bytes 1 (length code.sets) ++ (middle ++ last)))) locals
     ∙ ap (λ (bytes : List ℕ). head ++ ((code.locals ∷ []) ++ (bytes ++ (middle ++ last)))) sets in
-    append_assoc (head ++ (code.locals ∷ (length code.sets ∷ [])) ++ middle) (big_bytes 2 (length code.instrs)) (flat_map (λ i. bytes_of (instruction i)) code.instrs)
+    append_assoc (head ++ (code.locals ∷ (length code.sets ∷ [])) ++ middle) (big_bytes 2 (length code.instrs))
+    (flat_map (λ i. bytes_of (instruction i)) code.instrs)
     ∙ append_assoc (head ++ (code.locals ∷ (length code.sets ∷ []))) middle last
     ∙ sym spelled
 
@@ -64,14 +72,16 @@ flat_map-push f (y ∷ xs) x =
     flat_map-cons f y (xs ++ x ∷ []) ∙ ap (λ (bytes : List ℕ). f y ++ bytes) (flat_map-push f xs x)
     ∙ sym (append_assoc (f y) (flat_map f xs) (f x)) ∙ ap (λ (bytes : List ℕ). bytes ++ f x) (sym (flat_map-cons f y xs))
 
--- one more behind those that were written
-pub grown : {A : Type 0} (f : A → List ℕ) (old now new : List ℕ) (xs : List A) (i : ℕ) (x : A) → i < length xs → x ≡ get_or xs i x → now ≡ old ++ flat_map f (take i xs) → new ≡ now ++ f x → new ≡ old ++ flat_map f (take (i + 1) xs)
+-- one more after those that were written
+pub grown : {A : Type 0} (f : A → List ℕ) (old now new : List ℕ) (xs : List A) (i : ℕ) (x : A) → i < length xs →
+    x ≡ get_or xs i x → now ≡ old ++ flat_map f (take i xs) → new ≡ now ++ f x → new ≡ old ++ flat_map f (take (i + 1) xs)
 grown f old now new xs i x lt is so_far more =
     let longer : take (i + 1) xs ≡ take i xs ++ x ∷ [] = take_more xs i x lt ∙ ap (λ y. take i xs ++ y ∷ []) (sym is) in
     more ∙ ap (λ (bytes : List ℕ). bytes ++ f x) so_far ∙ append_assoc old (flat_map f (take i xs)) (f x)
     ∙ ap (λ (bytes : List ℕ). old ++ bytes) (sym (ap (flat_map f) longer ∙ flat_map-push f (take i xs) x))
 
-pub all_grown : {A : Type 0} (P : A → Type 0) (xs : List A) (i : ℕ) (x : A) → i < length xs → x ≡ get_or xs i x → P x → ((k : ℕ) (d : A) → k < i → P (get_or xs k d)) → (k : ℕ) (d : A) → k < i + 1 → P (get_or xs k d)
+pub all_grown : {A : Type 0} (P : A → Type 0) (xs : List A) (i : ℕ) (x : A) → i < length xs → x ≡ get_or xs i x → P x →
+    ((k : ℕ) (d : A) → k < i → P (get_or xs k d)) → (k : ℕ) (d : A) → k < i + 1 → P (get_or xs k d)
 all_grown P xs i x lt is here so_far k d h =
     elim (cases_lt k i) [
       | inl below ↦ so_far k d below
@@ -81,17 +91,27 @@ all_grown P xs i x lt is here so_far k d h =
     ]
 
 -- what was read of the parts makes it a code that has a file
-pub is_code : (code : CodeView) → code.locals ≤ local_limit → length code.sets ≤ set_limit → length code.instrs ≤ instruction_limit → All IsSet code.sets → All IsInstruction code.instrs → IsCode code
+pub is_code : (code : CodeView) → code.locals ≤ local_limit → length code.sets ≤ set_limit →
+    length code.instrs ≤ instruction_limit → All IsSet code.sets → All IsInstruction code.instrs → IsCode code
 is_code code locals sets instrs each_set each_instr =
-    record { locals = locals; sets = sets; each_set = recursion_from_All IsSet code.sets each_set; instrs = instrs; each_instr = recursion_from_All IsInstruction code.instrs each_instr }
+    record {
+      locals = locals;
+      sets = sets;
+      each_set = recursion_from_All IsSet code.sets each_set;
+      instrs = instrs;
+      each_instr =
+          recursion_from_All IsInstruction code.instrs each_instr;
+    }
 
 pub is_set : (patterns : List PrefixPattern) → length patterns ≤ pattern_limit → All IsPattern patterns → IsSet patterns
 is_set patterns limit each = record { within_limit = limit; each = recursion_from_All IsPattern patterns each }
 
 -- what was written in parts
 pub file_joined : (code : CodeView) (one two three four five six : List ℕ) → code.locals ≤ local_limit → length code.sets ≤ set_limit
-    → one ≡ 0x4E ∷ 0x43 ∷ 0x46 ∷ 0x31 ∷ [] → two ≡ one ++ code.locals ∷ [] → three ≡ two ++ length code.sets ∷ [] → four ≡ three ++ flat_map (λ s. bytes_of (set s)) code.sets
-    → five ≡ four ++ big_bytes 2 (length code.instrs) → six ≡ five ++ flat_map (λ i. bytes_of (instruction i)) code.instrs → six ≡ spelling code
+    → one ≡ 0x4E ∷ 0x43 ∷ 0x46 ∷ 0x31 ∷ [] → two ≡ one ++ code.locals ∷ [] → three ≡ two ++ length code.sets ∷ [] →
+    four ≡ three ++ flat_map (λ s. bytes_of (set s)) code.sets
+    → five ≡ four ++ big_bytes 2 (length code.instrs) → six ≡ five ++ flat_map (λ i. bytes_of (instruction i)) code.instrs →
+    six ≡ spelling code
 file_joined code one two three four five six few_locals few_sets p q r s t u =
     u ∙ ap (λ (bytes : List ℕ). bytes ++ flat_map (λ i. bytes_of (instruction i)) code.instrs)
     (t ∙ ap (λ (bytes : List ℕ). bytes ++ big_bytes 2 (length code.instrs))

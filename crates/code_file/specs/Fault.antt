@@ -1,4 +1,4 @@
--- What is wrong with bytes that are no code file: the first fault, at its place.
+-- What is wrong with bytes that are not a code file: the first fault, at its place.
 use Rattle.std.specs.Prelude.{◌≡◌, ◌<◌, ◌≤◌, ◌⊎◌, ℕ, false, List, ◌∷◌, ◌++◌, length, take}
 use Rattle.filter_code.specs.CodeView.{CodeView}
 use Rattle.code_file.specs.declared.fault.FileFault.{FileFault}
@@ -6,8 +6,8 @@ use Rattle.code_file.specs.declared.fault.FileFault.TheVariants as fault
 use Rattle.code_file.specs.Fields.{width, is_good, fault_of}
 use Rattle.code_file.specs.Spelling.{Field, fields, bytes_of, spelling, IsCode}
 
--- The bytes begin with the first fields of some code, all of them good. A field of the same kind as `next` comes
--- behind them in that code, and `rest` is what stands in the bytes for it and for all that follows.
+-- The bytes begin with the first fields of some code. In that code a field of the same kind as `next` comes after them,
+-- and `rest` is what the bytes have in place of it and of all that follows.
 pub record IsReadUpTo (bytes : List ℕ) (front : List Field) (next : Field) (rest : List ℕ) : Type 0 where
   pub code : CodeView
   pub is_code : IsCode code
@@ -15,7 +15,7 @@ pub record IsReadUpTo (bytes : List ℕ) (front : List Field) (next : Field) (re
   pub in_order : fields code ≡ front ++ next ∷ others
   pub parts : bytes ≡ bytes_of front ++ rest
 
--- the bytes end before the next field is whole: the fault stands at their end
+-- the bytes end inside the next field: the fault is at their end
 pub record IsShort (bytes : List ℕ) (found : FileFault) : Type 0 where
   pub front : List Field
   pub next : Field
@@ -24,7 +24,7 @@ pub record IsShort (bytes : List ℕ) (found : FileFault) : Type 0 where
   pub short : length rest < width next.kind
   pub fault : found ≡ fault.EndsEarly (length bytes)
 
--- the next field is whole and has bytes that may not stand in it: the fault stands at its first byte
+-- the next field is whole, and its bytes are not allowed in it: the fault is at its first byte
 pub record IsBad (bytes : List ℕ) (found : FileFault) : Type 0 where
   pub front : List Field
   pub next : Field
@@ -34,7 +34,7 @@ pub record IsBad (bytes : List ℕ) (found : FileFault) : Type 0 where
   pub bad : is_good next.kind (take (width next.kind) rest) ≡ false
   pub fault : found ≡ fault_of next.kind (length (bytes_of front))
 
--- more bytes follow a whole file: the fault stands at the first of them
+-- more bytes follow a whole file: the fault is at the first of them
 pub record IsLong (bytes : List ℕ) (found : FileFault) : Type 0 where
   pub code : CodeView
   pub is_code : IsCode code
@@ -43,6 +43,6 @@ pub record IsLong (bytes : List ℕ) (found : FileFault) : Type 0 where
   pub parts : bytes ≡ spelling code ++ next ∷ others
   pub fault : found ≡ fault.BytesAfterEnd (length (spelling code))
 
--- the fault of bytes that are no code file
+-- the fault of bytes that are not a code file
 abbrev pub IsFault : List ℕ → FileFault → Type 0
 IsFault bytes found = IsShort bytes found ⊎ IsBad bytes found ⊎ IsLong bytes found

@@ -1,4 +1,4 @@
--- The fields of a code file: how many bytes each kind has, and what may stand in them. The format is this project's
+-- The fields of a code file: how many bytes each kind has, and which bytes are allowed. The format is this project's
 -- own choice.
 use Rattle.std.specs.Prelude.{ℕ, ◌<◌, ◌==◌, ◌&&◌, Bool, true, false, List, [], ◌∷◌, slice_index, nat_le, Option, is_some, find}
 use Rattle.byteorder.specs.Endian.{big_number}
@@ -64,7 +64,7 @@ forms =
     ∷ instr.Not ∷ instr.Addr ∷ instr.Len ∷ instr.Mask 0 ∷ instr.Within ∷ instr.Member 0 ∷ instr.Jump 0 ∷ instr.JumpIfNot 0
     ∷ instr.Accept ∷ instr.Reject ∷ []
 
--- the instruction that a byte stands for, its operand left open
+-- the instruction with this opcode, with a blank operand
 unfoldable pub form_of : ℕ → Option Instr
 form_of byte = find (λ form. opcode form == byte) forms
 
@@ -75,11 +75,11 @@ is_prefix bytes =
     let len = slice_index bytes 4 in
     nat_le len address_length && (address_of (prefix_bits address len) == address)
 
--- behind a prefix, the least and the greatest length are in order and at most that of an address
+-- after the prefix, the least and the greatest length are in order and at most that of an address
 abbrev pub is_pattern : List ℕ → Bool
 is_pattern bytes = is_prefix bytes && (nat_le (slice_index bytes 5) (slice_index bytes 6) && nat_le (slice_index bytes 6) address_length)
 
--- whether these bytes may stand in a field
+-- whether these bytes are allowed in a field
 abbrev pub is_good : FieldKind → List ℕ → Bool
 is_good (Mark place) bytes = number (Mark place) bytes == slice_index mark_bytes place
 is_good Locals bytes = nat_le (number Locals bytes) local_limit

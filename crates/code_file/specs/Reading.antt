@@ -1,5 +1,6 @@
 -- Reading a file from left to right, field by field, up to the first fault.
-use Rattle.std.specs.Prelude.{◌≡◌, ◌⊎◌, ℕ, zero, suc, ◌+◌, ◌==◌, Bool, List, [], ◌∷◌, length, take, drop, slice_index, unwrap_or, Result, Ok, Err, nat_lt, if◌then◌else◌}
+use Rattle.std.specs.Prelude.{◌≡◌, ◌⊎◌, ℕ, zero, suc, ◌+◌, ◌==◌, Bool, List, [], ◌∷◌, length, take, drop, slice_index, unwrap_or}
+use Rattle.std.specs.Prelude.{Result, Ok, Err, nat_lt, if◌then◌else◌}
 use Rattle.byteorder.specs.Endian.{big_number}
 use Rattle.prefix_patterns.specs.Bits.{prefix_bits}
 use Rattle.prefix_patterns.specs.Matching.{PrefixPattern}
@@ -9,9 +10,10 @@ use Rattle.filter_code.specs.CodeView.{CodeView}
 use Rattle.code_file.specs.declared.fault.FileFault.{FileFault}
 use Rattle.code_file.specs.declared.fault.FileFault.TheVariants as fault
 use Rattle.code_file.specs.Fields.{FieldKind, width, number, is_good, fault_of, form_of}
-use Rattle.code_file.specs.Fields.FieldKind.{Mark, Locals, Sets, Patterns, Pattern, Instructions, Opcode, WordOperand, TruthOperand, PrefixOperand, NameOperand, BitsOperand, SkipOperand}
+use Rattle.code_file.specs.Fields.FieldKind.{Mark, Locals, Sets, Patterns, Pattern, Instructions, Opcode, WordOperand}
+use Rattle.code_file.specs.Fields.FieldKind.{TruthOperand, PrefixOperand, NameOperand, BitsOperand, SkipOperand}
 
--- which fields are to be read, each of which may depend on the bytes of those before, and what they make
+-- the fields to read, where each may depend on the bytes of those before it, and what they make
 pub data Format (A : Type 0) : Type 0 where
   Done : (made : A) → Format A
   Next : (kind : FieldKind) (others : List ℕ → Format A) → Format A
@@ -22,7 +24,7 @@ abbrev pub ◌>>=◌ : {A B : Type 0} → Format A → (A → Format B) → Form
 (Done made) >>= later = later made
 (Next kind others) >>= later = Next kind (λ bytes. others bytes >>= later)
 
--- one format so many times, with what they made in order
+-- one format n times, with what they made in order
 unfoldable pub times : {A : Type 0} → ℕ → Format A → Format (List A)
 times zero format = Done []
 times (suc n) format = do
@@ -34,7 +36,7 @@ times (suc n) format = do
 abbrev pub a_number : FieldKind → Format ℕ
 a_number kind = Next kind (λ bytes. Done (number kind bytes))
 
--- the prefix of an address of four bytes and a length behind it
+-- the prefix of an address of four bytes and a length of one
 abbrev pub prefix_of : List ℕ → List Bool
 prefix_of bytes = prefix_bits (big_number 4 bytes) (slice_index bytes 4)
 
@@ -46,7 +48,7 @@ pattern_of bytes = record { bits = prefix_of bytes; low = slice_index bytes 5; h
 abbrev pub a_pattern : Format PrefixPattern
 a_pattern = Next Pattern (λ bytes. Done (pattern_of bytes))
 
--- how many there are, and these
+-- a number, and so many of one format
 abbrev pub a_count_of : {A : Type 0} → FieldKind → Format A → Format (List A)
 a_count_of kind format = do
   n ← a_number kind
@@ -88,8 +90,8 @@ an_operand (instr.JumpIfNot any) = do
   Done (instr.JumpIfNot k)
 an_operand form = Done form
 
--- an opcode: it makes the instruction that it stands for, its operand left open (a byte that stands for none is bad,
--- and nothing is read behind it)
+-- an opcode: it makes the instruction that has it, with a blank operand (a byte that is no opcode is bad, and nothing is
+-- read after it)
 abbrev pub a_form : Format Instr
 a_form = do
   byte ← a_number Opcode
@@ -118,21 +120,21 @@ a_file = do
   instrs ← a_count_of Instructions an_instruction
   Done (record { locals = locals; sets = sets; instrs = instrs })
 
--- the bytes that are left of a file, and how many stood before them
+-- the bytes that are left of a file, and the number of bytes before them
 pub record Rest : Type 0 where
   pub at : ℕ
   pub bytes : List ℕ
 
--- what is left behind the next n bytes
-abbrev pub behind : ℕ → Rest → Rest
-behind n rest = record { at = rest.at + n; bytes = drop n rest.bytes }
+-- what is left after the next n bytes
+abbrev pub past : ℕ → Rest → Rest
+past n rest = record { at = rest.at + n; bytes = drop n rest.bytes }
 
--- what the fields at the front make, with what is left behind them; or the first fault
+-- what the fields at the front make, with what is left after them; or the first fault
 abbrev pub read : {A : Type 0} → Format A → Rest → Result (A × Rest) FileFault
 read (Done made) rest = Ok (made, rest)
 read (Next kind others) rest =
     if nat_lt (length rest.bytes) (width kind) then Err (fault.EndsEarly (rest.at + length rest.bytes))
-    else if is_good kind (take (width kind) rest.bytes) then read (others (take (width kind) rest.bytes)) (behind (width kind) rest)
+    else if is_good kind (take (width kind) rest.bytes) then read (others (take (width kind) rest.bytes)) (past (width kind) rest)
     else Err (fault_of kind rest.at)
 
 -- what was made, if nothing is left

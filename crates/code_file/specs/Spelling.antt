@@ -11,7 +11,8 @@ use Rattle.filter_code.specs.Limits.{local_limit, set_limit, instruction_limit}
 use Rattle.filter_code.specs.Instruction.{opcode}
 use Rattle.filter_code.specs.CodeView.{CodeView}
 use Rattle.code_file.specs.Fields.{FieldKind, width, mark_bytes}
-use Rattle.code_file.specs.Fields.FieldKind.{Mark, Locals, Sets, Patterns, Pattern, Instructions, Opcode, WordOperand, TruthOperand, PrefixOperand, NameOperand, BitsOperand, SkipOperand}
+use Rattle.code_file.specs.Fields.FieldKind.{Mark, Locals, Sets, Patterns, Pattern, Instructions, Opcode, WordOperand}
+use Rattle.code_file.specs.Fields.FieldKind.{TruthOperand, PrefixOperand, NameOperand, BitsOperand, SkipOperand}
 
 -- a field with its bytes
 pub record Field : Type 0 where
@@ -61,7 +62,7 @@ operand (instr.Jump k) = field SkipOperand k ∷ []
 operand (instr.JumpIfNot k) = field SkipOperand k ∷ []
 operand _ = []
 
--- an instruction: its opcode, and behind it the operand
+-- an instruction: its opcode, then the operand
 abbrev pub instruction : Instr → List Field
 instruction i = field Opcode (opcode i) ∷ operand i
 
@@ -98,7 +99,7 @@ IsInstruction (instr.Jump k) = k < 2 ^ 16
 IsInstruction (instr.JumpIfNot k) = k < 2 ^ 16
 IsInstruction _ = Unit {0}
 
--- a code that has a file
+-- a code that has a file: it is within the limits, and each set and instruction fits its fields
 pub record IsCode (code : CodeView) : Type 0 where
   pub locals : code.locals ≤ local_limit
   pub sets : length code.sets ≤ set_limit

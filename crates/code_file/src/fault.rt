@@ -1,4 +1,4 @@
-//! Why bytes are no code file.
+//! Why bytes are not a code file.
 
 ghost use Rattle.std.specs.Prelude.{◌≡◌};
 ghost use Rattle.code_file.specs.declared.fault.FileFault.TheVariants.{Memory};
@@ -6,30 +6,30 @@ ghost use Rattle.code_file.specs.declared.fault.FileFault.TheVariants.{Memory};
 use std::alloc::{AllocError, AllocFailed};
 use thiserror::Error;
 
-/// The first fault of a file, from the left.
+/// The first fault of a file.
 ///
-/// A place is a number of bytes, those that stand before it.
+/// A place is the offset of a byte in the file.
 #[derive(Clone, Copy, Debug, PartialEq, Eq, Error)]
 pub enum FileFault {
-    /// C1: the byte at this place differs from that of the mark `NCF1`.
-    #[error("the byte at {0} differs from the mark NCF1, with which a code file begins")]
+    /// C1: the byte at this place is not that of the mark `NCF1`.
+    #[error("byte {0} does not match the mark NCF1, which begins a code file")]
     OtherMark(usize),
-    /// C2: the file ends at this place, before a field is whole.
-    #[error("the file ends at {0}, before a field is whole")]
+    /// C2: the file ends at this place, inside a field.
+    #[error("the file ends at byte {0}, inside a field")]
     EndsEarly(usize),
-    /// C3: the byte at this place has to be an opcode, and stands for no instruction.
-    #[error("the byte at {0} stands for no instruction")]
+    /// C3: the byte at this place is no known opcode.
+    #[error("byte {0} is no known opcode")]
     UnknownOpcode(usize),
-    /// C4: the operand or pattern that begins at this place is out of its range.
-    #[error("the operand or pattern at {0} is out of its range")]
+    /// C4: the operand or pattern that begins at this place is out of range.
+    #[error("the operand or pattern at byte {0} is out of range")]
     BadOperand(usize),
     /// C5: the number that begins at this place is over its limit.
-    #[error("the number at {0} is over its limit")]
+    #[error("the number at byte {0} is over its limit")]
     OverLimit(usize),
-    /// C6: the code has ended before this place, and more bytes follow.
-    #[error("the code ends before {0}, and more bytes follow")]
+    /// C6: the code ends before this place, and more bytes follow.
+    #[error("the code ends before byte {0}, and more bytes follow")]
     BytesAfterEnd(usize),
-    /// C7: the memory for the code was refused.
+    /// C7: memory was refused.
     #[error("out of memory")]
     Memory,
 }
@@ -52,7 +52,7 @@ impl FileFault {
         }
     }
 
-    /// The fault's place, and 0 for want of memory, which has none.
+    /// The fault's place; 0 if memory was refused.
     pub fn at(self) -> usize
         ensures { result ≡ fault_place self }
     {

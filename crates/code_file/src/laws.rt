@@ -9,7 +9,7 @@ ghost use Rattle.code_file.specs.Spelling.{spelling, IsCode};
 ghost use Rattle.code_file.specs.Fault.{IsFault};
 ghost use Rattle.code_file.specs.Reading.{file_of};
 
-/// Bytes have one fault at most, at one place, and the file of a code has none.
+/// Bytes have at most one fault, and the file of a code has none.
 pub fn one_fault()
     ensures one { (bytes : List ℕ) (a b : Fault) → IsFault bytes a → IsFault bytes b → a ≡ b }
     ensures none { (code : CodeView) (found : Fault) → IsCode code → IsFault (spelling code) found → ⊥ }
@@ -20,14 +20,14 @@ pub fn one_file()
     ensures { (a b : CodeView) (x y : List ℕ) → IsCode a → IsCode b → spelling a ++ x ≡ spelling b ++ y → (a ≡ b) × (x ≡ y) }
 {}
 
-/// Reading from the left gives the code whose file the bytes are, or else the fault that they have.
+/// Reading gives the code whose file the bytes are, or else their fault.
 pub fn reading_is_exact()
     ensures code { (bytes : List ℕ) (code : CodeView) → IsBytes bytes →
         (file_of bytes ≡ Ok code) ↔ (IsCode code × (bytes ≡ spelling code)) }
     ensures fault { (bytes : List ℕ) (found : Fault) → IsBytes bytes → (file_of bytes ≡ Err found) ↔ IsFault bytes found }
 {}
 
-/// The file of a code is read as that code, and what follows it is a fault at its first byte.
+/// The file of a code is read as that code. Bytes that follow it are a fault at the first of them.
 pub fn written_is_read()
     ensures again { (code : CodeView) → IsCode code → file_of (spelling code) ≡ Ok code }
     ensures more { (code : CodeView) (next : ℕ) (others : List ℕ) → IsCode code →

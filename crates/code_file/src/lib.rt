@@ -1,6 +1,6 @@
-//! The file of a filter's code: a mark, numbers, patterns and instructions, each of them a field of its own.
+//! The file of a filter's code: a mark, numbers, patterns and instructions, each a field of its own.
 //!
-//! Reading takes it field by field from the left, and answers the code or the first fault.
+//! The reader goes through it field by field, and answers the code or the first fault.
 #![tactic(auto)]
 
 mod fault;

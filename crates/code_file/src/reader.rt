@@ -4,7 +4,8 @@ ghost use Rattle.std.specs.Prelude.{◌≡◌, ◌+◌, ◌<◌, ◌≤◌, true
 ghost use Rattle.filter_code.specs.CodeView.{HasMask};
 ghost use Rattle.code_file.specs.Fields.{form_of, is_prefix, is_pattern};
 ghost use Rattle.code_file.specs.Fields.FieldKind.{Mark, Locals, Sets, Patterns, Instructions};
-ghost use Rattle.code_file.specs.Reading.{behind, Reads, a_number, prefix_of, pattern_of, a_pattern, a_form, an_operand, an_instruction, a_header};
+ghost use Rattle.code_file.specs.Reading.{past, Reads, a_number, prefix_of, pattern_of, a_pattern, a_form, an_operand};
+ghost use Rattle.code_file.specs.Reading.{an_instruction, a_header};
 
 use crate::fault::FileFault;
 use byteorder::{BigEndian, ByteOrder};
@@ -12,10 +13,10 @@ use filter_code::{INSTRUCTION_LIMIT, Instr, LOCAL_LIMIT, SET_LIMIT};
 use prefix_patterns::{ADDRESS_LENGTH, Ip, PATTERN_LIMIT, Pattern, Prefix};
 use std::marker::Model;
 
-/// The bytes with which each file begins.
+/// The first bytes of each file.
 pub const MARK: [u8; 4] = *b"NCF1";
 
-/// The bytes that are left of a file, and how many stood before them.
+/// The bytes that are left of a file, and the number of bytes before them.
 #[derive(Drop)]
 pub struct Reader<'a> {
     at: usize,
@@ -60,7 +61,7 @@ impl<'a> Reader<'a> {
         ensures whole { MatchResult result (λ field. width ≤ length self.old.bytes) (λ found. length self.old.bytes < width) }
         ensures value { MatchResult result (λ field. field.now ≡ take width self.old.bytes)
             (λ found. found ≡ FileFault.EndsEarly (self.old.at + length self.old.bytes)) }
-        ensures left { MatchResult result (λ field. self.new ≡ behind width self.old) (λ found. self.new ≡ self.old) }
+        ensures left { MatchResult result (λ field. self.new ≡ past width self.old) (λ found. self.new ≡ self.old) }
     {
         if self.bytes.len() < width {
             return Err(FileFault::EndsEarly(self.at + self.bytes.len()));
@@ -95,7 +96,7 @@ impl<'a> Reader<'a> {
         Ok(number)
     }
 
-    /// All that stands before the sets: the mark, and the number of locals, which it answers.
+    /// All that comes before the sets: the mark, and the number of local variables, which it answers.
     pub fn header(&mut self) -> Result<u8, FileFault>
         ensures value { Reads (λ n. n) a_header self.old self.new result }
         ensures limit { IfOk result (λ n. n ≤ LOCAL_LIMIT) }
@@ -207,8 +208,8 @@ impl<'a> Reader<'a> {
     }
 }
 
-/// The prefix of an address in four bytes and a length in one. None where a bit past the length is set, or where the
-/// length is over 32.
+/// The prefix of an address in four bytes and a length in one. None if a bit past the length is set or the length is
+/// over 32.
 fn prefix_in(field: &[u8]) -> Option<Prefix>
     requires { 5 ≤ length field.now }
     ensures good { MatchOption result (is_prefix field.now ≡ false) (λ _. is_prefix field.now ≡ true) }
@@ -233,7 +234,7 @@ fn pattern_in(field: &[u8]) -> Option<Pattern>
     Pattern::new(prefix, field[5], field[6])
 }
 
-/// The instruction that a byte stands for, its operand left open.
+/// An instruction with this opcode. Its operand is not known yet: it is 0, false or the empty prefix.
 #[tactic(auto, unfolding(crate::specs::Fields::form_of))]
 fn form_of(opcode: u8) -> Option<Instr>
     ensures { result ≡ form_of opcode }

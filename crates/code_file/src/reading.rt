@@ -13,7 +13,7 @@ use filter_code::{Code, INSTRUCTION_LIMIT, Instr, SET_LIMIT};
 use prefix_patterns::{PATTERN_LIMIT, Pattern, PatternSet};
 use std::alloc::Global;
 
-/// So many patterns.
+/// The next patterns, so many as `count`.
 fn patterns(alloc: Global, reader: &mut Reader<'_>, count: u16) -> Result<Vec<Pattern>, FileFault>
     ensures value { ReadsInto (λ v. v.items) (times count a_pattern) reader.old reader.new result }
     ensures count { IfOk result (λ v. length v.items ≡ count) }
@@ -99,16 +99,16 @@ fn counted_instructions(alloc: Global, reader: &mut Reader<'_>) -> Result<Vec<In
     instructions(alloc, reader, count)
 }
 
-/// The code whose file the bytes are, all of them.
+/// Reads a code file: all the bytes, and nothing after them.
 ///
-/// Otherwise the first fault from the left, or want of memory, which may come in place of a fault.
+/// Otherwise the first fault, or that memory was refused, which may come before a fault is found.
 pub fn read_code(alloc: Global, bytes: &[u8]) -> Result<Code, FileFault>
-    // What is read is the code that is spelled so.
+    // What is read is the code with this spelling.
     ensures found { IfOk result (λ code. IsCode code × (bytes.now ≡ spelling code)) }
-    // What is spelled so is read, unless memory runs out.
+    // The spelling of a code is read as that code, unless memory is refused.
     ensures only { (code : CodeView) → IsCode code → bytes.now ≡ spelling code →
         MatchResult result (λ read. read ≡ code) (λ fault. fault ≡ FileFault.Memory) }
-    // What is refused has the fault that is answered, unless memory ran out.
+    // The fault that is answered is that of the bytes, unless memory was refused.
     ensures refused { IfErr result (λ fault. (fault ≡ FileFault.Memory) ⊎ IsFault bytes.now fault) }
     // Code and fault as a function of the bytes.
     ensures exact { MatchResult result (λ code. file_of bytes.now ≡ Ok code)

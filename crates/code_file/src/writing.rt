@@ -4,7 +4,8 @@ ghost use Rattle.std.specs.Prelude.{◌≡◌, ◌≤◌, ◌++◌, ◌∷◌, [
 ghost use Rattle.std.specs.List.{flat_map};
 ghost use Rattle.prefix_patterns.specs.Bits.{address_length};
 ghost use Rattle.filter_code.specs.CodeView.{HasMask};
-ghost use Rattle.code_file.specs.Spelling.{bytes_of, prefix_bytes, pattern as pattern_field, set as set_fields, instruction, spelling, IsPattern, IsSet, IsInstruction, IsCode};
+ghost use Rattle.code_file.specs.Spelling.{bytes_of, prefix_bytes, pattern as pattern_field, set as set_fields, instruction};
+ghost use Rattle.code_file.specs.Spelling.{spelling, IsPattern, IsSet, IsInstruction, IsCode};
 
 use crate::fault::FileFault;
 use crate::reader::MARK;
@@ -96,7 +97,7 @@ fn put_instructions(out: &mut Vec<u8>, instrs: &[Instr]) -> Result<(), AllocErro
     Ok(())
 }
 
-/// The file of a code. There is one for each code; only memory can be wanting.
+/// Writes the file of a code. It is the only one. The fault can only be that memory was refused.
 pub fn write_code(alloc: Global, code: &Code) -> Result<Vec<u8>, FileFault>
     ensures written { IfOk result (λ bytes. bytes.items ≡ spelling code.now) }
     ensures readable { OnOk result (IsCode code.now) }

@@ -230,27 +230,27 @@ fn the_texts(rt: HostRuntime) -> Result<(), Fail> {
     let rows = [
         (
             FileFault::OtherMark(3),
-            "C1 3 the byte at 3 differs from the mark NCF1, with which a code file begins",
+            "C1 3 byte 3 does not match the mark NCF1, which begins a code file",
         ),
         (
             FileFault::EndsEarly(8),
-            "C2 8 the file ends at 8, before a field is whole",
+            "C2 8 the file ends at byte 8, inside a field",
         ),
         (
             FileFault::UnknownOpcode(8),
-            "C3 8 the byte at 8 stands for no instruction",
+            "C3 8 byte 8 is no known opcode",
         ),
         (
             FileFault::BadOperand(9),
-            "C4 9 the operand or pattern at 9 is out of its range",
+            "C4 9 the operand or pattern at byte 9 is out of range",
         ),
         (
             FileFault::OverLimit(4),
-            "C5 4 the number at 4 is over its limit",
+            "C5 4 the number at byte 4 is over its limit",
         ),
         (
             FileFault::BytesAfterEnd(9),
-            "C6 9 the code ends before 9, and more bytes follow",
+            "C6 9 the code ends before byte 9, and more bytes follow",
         ),
         (FileFault::Memory, "C7 0 out of memory"),
     ];

@@ -362,7 +362,7 @@ fn faults_have_texts_and_codes(rt: HostRuntime) -> Result<(), Fail> {
         ),
         (FaultKind::WrongKind, "K2", "an operand of the wrong kind"),
         (FaultKind::ZeroDivisor, "K3", "a division by zero"),
-        (FaultKind::OutsideCode, "K4", "no instruction at this place"),
+        (FaultKind::OutsideCode, "K4", "no instruction at this index"),
         (
             FaultKind::FullStack,
             "K5",

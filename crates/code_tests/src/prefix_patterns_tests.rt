@@ -207,7 +207,7 @@ fn faults_have_texts_and_codes(rt: HostRuntime) -> Result<(), Fail> {
             SetFault::TooManyPatterns,
             "S1 0 more than 1024 patterns in a set",
         ),
-        (SetFault::Memory, "S2 0 no memory for the patterns of a set"),
+        (SetFault::Memory, "S2 0 out of memory"),
     ];
     for (fault, wanted) in rows {
         let text = format!(in rt.alloc(); "{} {} {fault}", fault.code(), fault.at())?;

@@ -301,7 +301,7 @@ fn names_each_fault(rt: HostRuntime) -> Result<(), Fail> {
     let rows = [
         (StreamFault::Read, "E1", "the input could not be read"),
         (StreamFault::Write, "E2", "the output could not be written"),
-        (StreamFault::Memory, "E3", "memory ran out"),
+        (StreamFault::Memory, "E3", "out of memory"),
         (
             StreamFault::TooLong,
             "E4",

@@ -1,4 +1,4 @@
--- Worked rows: the definitions compute the outcomes that are wanted of them.
+-- Worked rows: the definitions compute the outcomes that they should.
 use Rattle.std.proofs.Common.{◌≡◌, ℕ, List, [], ◌∷◌, ◌++◌, replicate, Bool, true, false, refl}
 use Rattle.prefix_patterns.specs.Matching.{PrefixPattern}
 use Rattle.filter_code.specs.declared.instruction.Instr.{Instr}
@@ -22,12 +22,15 @@ abbrev eight : List Bool
 eight = false ∷ (false ∷ (false ∷ (false ∷ (false ∷ (false ∷ (false ∷ (true ∷ [])))))))
 
 -- a raised metric is clipped at the size
-pub raised : outcome_on (instr.Metric ∷ (instr.Int 2 ∷ (instr.Add ∷ (instr.Received ∷ (instr.Max ∷ (instr.SetMetric ∷ (instr.Accept ∷ (instr.Reject ∷ [])))))))) 7 ≡ outcome.Accept 8
+pub raised : outcome_on (instr.Metric ∷
+    (instr.Int 2 ∷ (instr.Add ∷ (instr.Received ∷ (instr.Max ∷ (instr.SetMetric ∷ (instr.Accept ∷ (instr.Reject ∷ []))))))))
+    7 ≡ outcome.Accept 8
 unfolding after
 raised = refl
 
 -- the metric received is the least
-pub kept : outcome_on (instr.Int 1 ∷ (instr.Received ∷ (instr.Max ∷ (instr.SetMetric ∷ (instr.Accept ∷ (instr.Reject ∷ [])))))) 5 ≡ outcome.Accept 5
+pub kept : outcome_on (instr.Int 1 ∷ (instr.Received ∷ (instr.Max ∷ (instr.SetMetric ∷ (instr.Accept ∷ (instr.Reject ∷ []))))))
+    5 ≡ outcome.Accept 5
 unfolding after
 kept = refl
 
@@ -44,7 +47,9 @@ unfolding after
 not_wrapped = refl
 
 -- the maximum brings a sum that wraps back to the metric received
-pub brought_back : outcome_on (instr.Metric ∷ (instr.Int 4294967295 ∷ (instr.Add ∷ (instr.Received ∷ (instr.Max ∷ (instr.SetMetric ∷ (instr.Accept ∷ (instr.Reject ∷ [])))))))) 3 ≡ outcome.Accept 3
+pub brought_back : outcome_on (instr.Metric ∷
+    (instr.Int 4294967295 ∷ (instr.Add ∷
+    (instr.Received ∷ (instr.Max ∷ (instr.SetMetric ∷ (instr.Accept ∷ (instr.Reject ∷ [])))))))) 3 ≡ outcome.Accept 3
 unfolding after
 brought_back = refl
 
@@ -74,7 +79,8 @@ rejected = refl
 
 -- a division, whose divisor is the metric
 abbrev dividing : List Instr
-dividing = instr.Int 8 ∷ (instr.Metric ∷ (instr.Div ∷ (instr.Int 2 ∷ (instr.Eq ∷ (instr.JumpIfNot 1 ∷ (instr.Accept ∷ (instr.Reject ∷ [])))))))
+dividing = instr.Int 8 ∷ (instr.Metric ∷
+    (instr.Div ∷ (instr.Int 2 ∷ (instr.Eq ∷ (instr.JumpIfNot 1 ∷ (instr.Accept ∷ (instr.Reject ∷ [])))))))
 
 pub divided : outcome_on dividing 3 ≡ outcome.Accept 3
 unfolding after
@@ -110,7 +116,8 @@ empty_local = refl
 abbrev filtering : List Instr
 filtering = instr.Net ∷ (instr.Member 0 ∷ (instr.JumpIfNot 1 ∷ (instr.Accept ∷ (instr.Reject ∷ []))))
 
-pub taken : outcome_at filtering (eight ++ (false ∷ (false ∷ (false ∷ (false ∷ (false ∷ (false ∷ (true ∷ (false ∷ []))))))))) ≡ outcome.Accept 3
+pub taken : outcome_at filtering (eight ++ (false ∷ (false ∷ (false ∷ (false ∷ (false ∷ (false ∷ (true ∷ (false ∷ []))))))))) ≡
+    outcome.Accept 3
 unfolding after
 taken = refl
 

@@ -3,7 +3,7 @@ use Rattle.std.specs.Prelude.{ℕ}
 use Rattle.filter_code.specs.declared.instruction.Instr.{Instr}
 use Rattle.filter_code.specs.declared.instruction.Instr.TheVariants as instr
 
--- the byte that stands for an instruction in a code file (this project's own choice)
+-- the opcode of an instruction: its first byte in a code file (this project's own choice)
 abbrev pub opcode : Instr → ℕ
 opcode (instr.Int _) = 0x01
 opcode (instr.Bool _) = 0x02

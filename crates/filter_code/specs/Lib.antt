@@ -1,9 +1,12 @@
-pub mod RouteView
+-- What callers cite: the limits, the instructions and their table, code, routes and values, the machine and its outcomes,
+-- and the codes of faults.
+pub mod CodeView
 pub mod Instruction
 pub mod Limits
 pub mod Machine
 pub mod Outcomes
-pub mod CodeView
-pub mod Steps
+pub mod RouteView
 pub mod Table
 pub mod Values
+-- What only bodies are proved against: a configuration of its parts.
+pub mod Steps

@@ -8,7 +8,7 @@ use crate::limits::{INSTRUCTION_LIMIT, LOCAL_LIMIT, SET_LIMIT};
 use prefix_patterns::PatternSet;
 use std::marker::Model;
 
-/// Filter code: how many local variables it has, its sets of patterns and its instructions, all within the limits.
+/// Filter code: the number of its local variables, its sets of patterns and its instructions, all within the limits.
 ///
 /// A contract sees a code as a `CodeView`.
 #[derive(Debug, Drop)]
@@ -31,8 +31,8 @@ impl Model for Code {
 impl Code {
     ghost use Rattle.filter_code.specs.CodeView.{CodeView, IsAllowed};
 
-    /// The code of these parts. None exactly where there are more than 16 local variables, 64 sets or
-    /// 1,024 instructions, or a MASK of more than 32 bits.
+    /// The code of these parts. None if and only if there are more than 16 local variables, 64 sets or
+    /// 1,024 instructions, or a MASK keeps more than 32 bits.
     pub fn new(locals: u8, sets: Vec<PatternSet>, instrs: Vec<Instr>) -> Option<Code>
         ensures { let program : CodeView = record { locals = locals; sets = sets.items; instrs = instrs.items } in
             SomeIff result (IsAllowed program) program }

@@ -6,7 +6,7 @@ use std::fmt;
 
 /// One instruction of filter code.
 ///
-/// The stack before it and after it stand beside each, the top at the right.
+/// Each variant begins with what it pops and pushes, the top of the stack at the right.
 #[derive(Clone, Copy, Debug, PartialEq, Eq)]
 pub enum Instr {
     /// to int: the number itself.
@@ -27,8 +27,8 @@ pub enum Instr {
     Metric,
     /// to int: the metric that the route was received with.
     Received,
-    /// int to none: the current metric becomes this number, or the domain's size where that is less. It is a fault
-    /// to go below the metric received.
+    /// int to none: sets the current metric to this number, at most the domain's size. A number below the metric
+    /// received is a fault.
     SetMetric,
     /// int int to int: the sum modulo 2^32.
     Add,
@@ -36,7 +36,7 @@ pub enum Instr {
     Sub,
     /// int int to int: the product modulo 2^32.
     Mul,
-    /// int int to int: the first divided by the second, the rest dropped. It is a fault to divide by 0.
+    /// int int to int: the first divided by the second, without the remainder. A division by 0 is a fault.
     Div,
     /// int int to int: the greater.
     Max,
@@ -46,7 +46,7 @@ pub enum Instr {
     Lt,
     /// Two ints or two ips to bool: whether the first is not greater.
     Le,
-    /// bool to bool: the other.
+    /// bool to bool: the negation.
     Not,
     /// prefix to ip: its first address.
     Addr,
@@ -58,9 +58,9 @@ pub enum Instr {
     Within,
     /// prefix to bool: whether it matches the set with this number.
     Member(u8),
-    /// Any stack: goes on behind this many more instructions.
+    /// Any stack: skips the next instructions, this many.
     Jump(u16),
-    /// bool to none: goes on behind this many more instructions where it is false.
+    /// bool to none: skips the next instructions, this many, if it is false.
     JumpIfNot(u16),
     /// Any stack: ends, and accepts the route with the current metric.
     Accept,
@@ -71,7 +71,7 @@ pub enum Instr {
 impl Instr {
     ghost use Rattle.filter_code.specs.CodeView.{HasMask};
 
-    /// Whether it is no MASK of more than 32 bits.
+    /// Whether it keeps at most 32 bits, if it is a MASK.
     pub(crate) fn has_mask(&self) -> bool
         ensures { IsTrue result ↔ HasMask self.now }
     {
@@ -81,7 +81,7 @@ impl Instr {
         }
     }
 
-    /// The byte that stands for the instruction in a code file, before its operand.
+    /// The instruction's opcode: its first byte in a code file, before the operand.
     pub fn opcode(self) -> u8
         ensures { result ≡ opcode self }
     {

@@ -1,4 +1,4 @@
-//! Filter code: its instructions, and the checked machine that takes a route through it.
+//! Filter code: its instructions, and the machine that runs it on a route and checks each step.
 #![tactic(auto)]
 
 mod code;

@@ -1,17 +1,17 @@
-/// How many local variables a code may have.
+/// The greatest number of local variables of a code.
 pub const LOCAL_LIMIT: usize = 16;
 
-/// How many sets of patterns a code may have.
+/// The greatest number of pattern sets of a code.
 pub const SET_LIMIT: usize = 64;
 
-/// How many instructions a code may have.
+/// The greatest number of instructions of a code.
 pub const INSTRUCTION_LIMIT: usize = 1024;
 
-/// How many values the stack may hold.
+/// The greatest number of values on the stack.
 pub const STACK_LIMIT: usize = 32;
 
-/// The smallest number of nodes that a domain may have.
+/// The least number of nodes of a domain.
 pub const SMALLEST_SIZE: u32 = 2;
 
-/// The largest number of nodes that a domain may have.
+/// The greatest number of nodes of a domain.
 pub const LARGEST_SIZE: u32 = 64;

@@ -7,7 +7,7 @@ use crate::outcome::FaultKind;
 use crate::value::Value;
 use std::marker::Model;
 
-/// The local variables of a run, each empty until it is set. They lie in the value itself.
+/// The local variables of a run, each empty until it is set. They are held in place: nothing is allocated.
 ///
 /// A contract sees them as a list, in the order of their numbers.
 #[derive(Drop)]
@@ -29,7 +29,7 @@ impl Model for Locals {
 }
 
 impl Locals {
-    /// That many local variables, all empty.
+    /// So many local variables, all empty.
     pub fn new(count: u8) -> Locals
         requires { count ≤ local_limit }
         ensures { result ≡ replicate count None }
@@ -40,7 +40,7 @@ impl Locals {
         }
     }
 
-    /// Whether there is a local variable with this number; a fault exactly where there is none.
+    /// Checks that there is a local variable with this number. A fault if and only if there is none.
     #[inline(always)]
     pub fn check(&self, local: u8) -> Result<(), FaultKind>
         ensures { MatchResult result (λ _. local < length self.now) (λ why. (why ≡ fault.UnknownName) × (length self.now ≤ local)) }
@@ -52,7 +52,7 @@ impl Locals {
         }
     }
 
-    /// The value of a local variable. A fault exactly where there is none with this number, or it is empty.
+    /// The value of a local variable. A fault if and only if there is none with this number, or it is empty.
     #[inline(always)]
     pub fn get(&self, local: u8) -> Result<Value, FaultKind>
         ensures { MatchResult result

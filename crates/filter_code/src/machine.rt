@@ -1,4 +1,5 @@
-ghost use Rattle.std.specs.Prelude.{◌≡◌, ℕ, ◌+◌, ◌-◌, ◌*◌, ◌/◌, ◌%◌, ◌^◌, ◌<◌, ◌≤◌, true, false, List, ◌∷◌, Some, length, max, min, nat_le, nat_lt, slice_get, IfOk, MatchResult};
+ghost use Rattle.std.specs.Prelude.{◌≡◌, ℕ, ◌+◌, ◌-◌, ◌*◌, ◌/◌, ◌%◌, ◌^◌, ◌<◌, ◌≤◌, true, false, List, ◌∷◌, Some, length, max};
+ghost use Rattle.std.specs.Prelude.{min, nat_le, nat_lt, slice_get, IfOk, MatchResult};
 ghost use Rattle.prefix_patterns.specs.Bits.{address_length, address_of, prefix_bits};
 ghost use Rattle.prefix_patterns.specs.Matching.{lies_within};
 ghost use Rattle.filter_code.specs.Limits.{stack_limit};
@@ -8,7 +9,8 @@ ghost use Rattle.filter_code.specs.RouteView.{RouteView};
 ghost use Rattle.filter_code.specs.Machine.{Going, Ended, EndsAfter, IsOutcome, carry_out, on_two, outcome_of};
 ghost use Rattle.filter_code.specs.CodeView.{HasMask, CodeView};
 ghost use Rattle.filter_code.specs.Steps.{config_of, stopped};
-ghost use Rattle.filter_code.specs.Table.{One, Two, Good, Bad, are_alike, are_nested, are_ordered, each_is, is_bool, is_int, is_ip, is_prefix, one_of, passing, two_of};
+ghost use Rattle.filter_code.specs.Table.{One, Two, Good, Bad, are_alike, are_nested, are_ordered, each_is, is_bool, is_int};
+ghost use Rattle.filter_code.specs.Table.{is_ip, is_prefix, one_of, passing, two_of};
 ghost use Rattle.filter_code.specs.Values.{bits_of, is_same, kind_of, net_of, number_of};
 
 use crate::code::Code;
@@ -101,7 +103,7 @@ fn take_prefix(stack: &mut Stack<Value>) -> Result<Prefix, FaultKind>
     }
 }
 
-/// Takes two ints, of which the second was on top.
+/// Takes two ints; the second was on top.
 #[inline(always)]
 fn take_two_ints(stack: &mut Stack<Value>) -> Result<(u32, u32), FaultKind>
     ensures { let drawn = passing (each_is (λ x. is_int (kind_of x))) (two_of stack.old) in
@@ -229,7 +231,7 @@ fn within(operands: (Value, Value)) -> Result<Value, FaultKind>
     }
 }
 
-/// The address with its first bits kept and the others cleared.
+/// The address with so many of its first bits, and the others cleared.
 #[inline(always)]
 fn masked(ip: Ip, bits: u8) -> Ip
     requires { bits ≤ address_length }
@@ -238,7 +240,7 @@ fn masked(ip: Ip, bits: u8) -> Ip
     Prefix::new(ip, bits).unwrap().address()
 }
 
-/// The set with this number. A fault exactly where there is none.
+/// The set with this number. A fault if and only if there is none.
 #[inline(always)]
 fn set_at(code: &Code, set: u8) -> Result<&PatternSet, FaultKind>
     ensures { MatchResult result
@@ -251,21 +253,22 @@ fn set_at(code: &Code, set: u8) -> Result<&PatternSet, FaultKind>
     }
 }
 
-/// The metric that is set where a number is wanted. A fault exactly where it is below the one received.
+/// The metric that SETMETRIC sets for an operand: at most the size. A fault if and only if the operand is below the
+/// metric received.
 #[inline(always)]
-fn metric_set(wanted: u32, route: &Route) -> Result<u32, FaultKind>
+fn metric_set(operand: u32, route: &Route) -> Result<u32, FaultKind>
     ensures { MatchResult result
-        (λ metric. (route.now.metric ≤ wanted) × (metric ≡ min wanted route.now.size))
-        (λ why. (wanted < route.now.metric) × (why ≡ fault.LowerMetric)) }
+        (λ metric. (route.now.metric ≤ operand) × (metric ≡ min operand route.now.size))
+        (λ why. (operand < route.now.metric) × (why ≡ fault.LowerMetric)) }
 {
-    if wanted < route.metric() {
+    if operand < route.metric() {
         return Err(FaultKind::LowerMetric);
     }
-    Ok(wanted.min(route.size()))
+    Ok(operand.min(route.size()))
 }
 
-/// Carries out one instruction, and answers how far on the next one stands.
-/// After a stop nothing is said of the stack, the local variables and the metric.
+/// Carries out one instruction, and answers how far ahead the next one is.
+/// After a stop the stack, the local variables and the metric are unspecified.
 #[inline(always)]
 fn carry_out(
     instr: Instr,
@@ -315,10 +318,10 @@ fn carry_out(
             let patterns = set_at(code, set)?;
             give(Value::Bool(patterns.matches(&take_prefix(stack)?)), stack)?;
         }
-        Instr::Jump(passed) => return Ok(1 + usize::from(passed)),
-        Instr::JumpIfNot(passed) => {
+        Instr::Jump(skipped) => return Ok(1 + usize::from(skipped)),
+        Instr::JumpIfNot(skipped) => {
             if !take_bool(stack)? {
-                return Ok(1 + usize::from(passed));
+                return Ok(1 + usize::from(skipped));
             }
         }
         Instr::Accept => return Err(Stop::Accept(*metric)),
@@ -327,8 +330,8 @@ fn carry_out(
     Ok(1)
 }
 
-/// Takes a route through a code and counts the steps: how the run from its first instruction ends, and after just how
-/// many steps, of which the last is the one that ends it. It allocates nothing.
+/// Runs a code on a route, and answers how the run ends and after how many steps. The step that ends the run counts.
+/// It allocates nothing.
 pub fn run_counted(code: &Code, route: &Route) -> Counted
     ensures outcome { result.outcome ≡ outcome_of code.now route.now }
     ensures steps { EndsAfter code.now route.now result.steps result.outcome }
@@ -358,7 +361,7 @@ pub fn run_counted(code: &Code, route: &Route) -> Counted
     }
 }
 
-/// Takes a route through a code: the outcome of the run from its first instruction. It allocates nothing.
+/// Runs a code on a route, and answers how the run ends. It allocates nothing.
 pub fn run_checked(code: &Code, route: &Route) -> Outcome
     ensures outcome { result ≡ outcome_of code.now route.now }
     ensures accepted { (d : ℕ) → result ≡ Outcome.Accept d → (route.now.metric ≤ d) × (d ≤ route.now.size) }
@@ -366,7 +369,7 @@ pub fn run_checked(code: &Code, route: &Route) -> Outcome
     run_counted(code, route).outcome
 }
 
-/// Each run of each code has one outcome, and is over after one step more than the code has instructions.
+/// Each run has exactly one outcome, and ends within one step more than the code has instructions.
 pub fn one_outcome()
     ensures exists { (program : CodeView) (route : RouteView) → IsOutcome program route (outcome_of program route) }
     ensures only { (program : CodeView) (route : RouteView) (end : Outcome) →

@@ -3,7 +3,7 @@ ghost use Rattle.filter_code.specs.Outcomes.{fault_code};
 
 use std::fmt;
 
-/// What a fault is about.
+/// What went wrong in a run.
 #[derive(Clone, Copy, Debug, PartialEq, Eq)]
 pub enum FaultKind {
     /// K1: the stack has too few operands.
@@ -12,7 +12,7 @@ pub enum FaultKind {
     WrongKind,
     /// K3: a division by zero.
     ZeroDivisor,
-    /// K4: no instruction stands at the place.
+    /// K4: there is no instruction at the index.
     OutsideCode,
     /// K5: the stack would hold more than its limit.
     FullStack,
@@ -33,12 +33,12 @@ pub enum Outcome {
     Fault(FaultKind, usize),
 }
 
-/// How a run ends, and after how many steps.
+/// How a run ends, and the number of its steps.
 #[derive(Clone, Copy, Debug, PartialEq, Eq)]
 pub struct Counted {
     /// How the run ends.
     pub outcome: Outcome,
-    /// The number of its steps, the last one counted.
+    /// The number of its steps; the one that ends it counts.
     pub steps: u32,
 }
 
@@ -65,7 +65,7 @@ impl fmt::Display for FaultKind {
             FaultKind::MissingOperand => "too few operands on the stack",
             FaultKind::WrongKind => "an operand of the wrong kind",
             FaultKind::ZeroDivisor => "a division by zero",
-            FaultKind::OutsideCode => "no instruction at this place",
+            FaultKind::OutsideCode => "no instruction at this index",
             FaultKind::FullStack => "more than 32 values on the stack",
             FaultKind::LowerMetric => "a metric below the one received",
             FaultKind::UnknownName => "no such local variable or set",

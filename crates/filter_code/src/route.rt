@@ -5,8 +5,8 @@ use crate::limits::{LARGEST_SIZE, SMALLEST_SIZE};
 use prefix_patterns::Prefix;
 use std::marker::Model;
 
-/// A route as a filter is shown it: the prefix that it leads to, the metric that it was received with, and the
-/// number of nodes of the domain, which is the metric of what cannot be reached.
+/// A route as a filter sees it: its prefix, the metric that was received, and the size of the domain. The size is the
+/// number of nodes, and the metric of what cannot be reached.
 ///
 /// A contract sees a route as a `RouteView`.
 #[derive(Clone, Copy, Debug)]
@@ -31,7 +31,7 @@ impl Model for Route {
 impl Route {
     ghost use Rattle.filter_code.specs.RouteView.{IsWithinLimits};
 
-    /// The route to a prefix. None exactly where the size is not 2 to 64, or the metric is above the size.
+    /// The route to a prefix. None if and only if the size is not 2 to 64 or the metric is above the size.
     pub fn new(net: Prefix, metric: u32, size: u32) -> Option<Route>
         ensures { SomeIff result (IsWithinLimits metric size) (record { net = net; metric = metric; size = size }) }
     {
@@ -56,7 +56,7 @@ impl Route {
         self.metric
     }
 
-    /// The number of nodes of the domain.
+    /// The size of the domain: its number of nodes, 2 to 64.
     pub fn size(&self) -> u32
         ensures value { result ≡ self.now.size }
         ensures limits { IsWithinLimits self.now.metric self.now.size }

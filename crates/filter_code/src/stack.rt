@@ -7,7 +7,7 @@ use crate::outcome::FaultKind;
 use arrayvec::ArrayVec;
 use std::marker::Model;
 
-/// A stack of at most 32 values, which lie in the stack itself.
+/// A stack of at most 32 values, held in place: it allocates nothing.
 ///
 /// A contract sees a stack as the list of its values, the top first.
 #[derive(Debug, Drop)]
@@ -33,7 +33,7 @@ impl<T: Copy + Default> Stack<T> {
         }
     }
 
-    /// Puts a value on top. A fault exactly where the stack is full, which it then stays.
+    /// Puts a value on top. A fault if and only if the stack is full; it is then unchanged.
     #[inline(always)]
     pub fn push(&mut self, value: T) -> Result<(), FaultKind>
         ensures pushed { MatchResult result (λ _. self.new ≡ value ∷ self.old) (λ why. (why ≡ fault.FullStack) × (self.new ≡ self.old)) }
@@ -46,7 +46,7 @@ impl<T: Copy + Default> Stack<T> {
         Ok(())
     }
 
-    /// Takes the top. A fault exactly where the stack is empty.
+    /// Takes the top. A fault if and only if the stack is empty.
     #[inline(always)]
     pub fn take_one(&mut self) -> Result<T, FaultKind>
         ensures { MatchResult result (λ a. self.old ≡ a ∷ self.new)
@@ -58,7 +58,7 @@ impl<T: Copy + Default> Stack<T> {
         }
     }
 
-    /// Takes the top two, of which the second was the top. A fault exactly where there are fewer, which then stay.
+    /// Takes the top two; the second was on top. A fault if and only if there are fewer; the stack is then unchanged.
     #[inline(always)]
     pub fn take_two(&mut self) -> Result<(T, T), FaultKind>
         ensures { MatchResult result (λ p. self.old ≡ p.1 ∷ (p.0 ∷ self.new))
@@ -72,7 +72,7 @@ impl<T: Copy + Default> Stack<T> {
         Ok((a, b))
     }
 
-    /// How many values it holds.
+    /// The number of values.
     pub fn len(&self) -> usize
         ensures value { result ≡ length self.now }
         ensures limit { result ≤ stack_limit }

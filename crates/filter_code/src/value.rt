@@ -41,7 +41,7 @@ impl Default for Value {
 
     ghost is_default = { λ v. v ≡ value.Int 0 };
 
-    /// An int of 0, which stands in the unused places of a stack.
+    /// An int of 0, which fills the unused places of a stack.
     fn default() -> Value {
         Value::Int(0)
     }

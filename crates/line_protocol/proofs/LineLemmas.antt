@@ -1,5 +1,7 @@
 -- The lines of a text that is put together from parts.
-use Rattle.std.proofs.Common.{◌≡◌, ℕ, ◌+◌, ◌-◌, ◌<◌, ◌≤◌, Bool, true, false, ◌||◌, List, [], ◌∷◌, ◌++◌, length, get_or, take, drop, map, refl, sym, ap, ◌∙◌, subst, inl, inr, append_assoc, append-nil, arith, slice_index, length-take, length-drop, get_or-take, get_or-drop, take-append-drop}
+use Rattle.std.proofs.Common.{◌≡◌, ℕ, ◌+◌, ◌-◌, ◌<◌, ◌≤◌, Bool, true, false, ◌||◌, List, [], ◌∷◌, ◌++◌, length, get_or, take}
+use Rattle.std.proofs.Common.{drop, map, refl, sym, ap, ◌∙◌, subst, inl, inr, append_assoc, append-nil, arith, slice_index}
+use Rattle.std.proofs.Common.{length-take, length-drop, get_or-take, get_or-drop, take-append-drop}
 use Rattle.std.proofs.lemmas.List.{get_or_default, take_more, take-take, drop-take}
 use Rattle.std.proofs.lemmas.Slice.{between_is}
 use Rattle.std.specs.List.{slice_split, list_any, All}
@@ -30,15 +32,17 @@ module _ (cut : ℕ → Bool) where
   parts_of [] = record { part = []; parts = []; are = refl }
   parts_of (b ∷ bs) = parts_at b bs (cut b) refl (parts_of bs)
 
-  split_at : (b y : ℕ) (bs rest : List ℕ) (v : Bool) → cut b ≡ v → slice_split cut (bs ++ y ∷ rest) ≡ slice_split cut bs ++ slice_split cut rest
+  split_at : (b y : ℕ) (bs rest : List ℕ) (v : Bool) → cut b ≡ v →
+      slice_split cut (bs ++ y ∷ rest) ≡ slice_split cut bs ++ slice_split cut rest
       → slice_split cut (b ∷ (bs ++ y ∷ rest)) ≡ slice_split cut (b ∷ bs) ++ slice_split cut rest
   split_at b y bs rest true e next = rw e (ap (λ parts. [] ∷ parts) next)
   split_at b y bs rest false e next =
       let first = parts_of bs in
       rw (e, next, first.are) refl
 
-  -- the parts before a cut, and the parts behind it
-  split-append : (front : List ℕ) (y : ℕ) (rest : List ℕ) → cut y ≡ true → slice_split cut (front ++ y ∷ rest) ≡ slice_split cut front ++ slice_split cut rest
+  -- the parts before a cut, and the parts after it
+  split-append : (front : List ℕ) (y : ℕ) (rest : List ℕ) → cut y ≡ true →
+      slice_split cut (front ++ y ∷ rest) ≡ slice_split cut front ++ slice_split cut rest
   split-append [] y rest h = slice_split-cons_yes cut y rest h
   split-append (b ∷ bs) y rest h = split_at b y bs rest (cut b) refl (split-append bs y rest h)
 
@@ -49,8 +53,8 @@ lines_of_parts-append [] y more = refl
 lines_of_parts-append (x ∷ []) y more = refl
 lines_of_parts-append (x ∷ z ∷ parts) y more = ap (λ rest. strip_carriage_return x ∷ rest) (lines_of_parts-append (z ∷ parts) y more)
 
-behind_feed : (front rest : List ℕ) → lines (front ++ 10 ∷ rest) ≡ map strip_carriage_return (slice_split is_line_feed front) ++ lines rest
-behind_feed front rest =
+after_feed : (front rest : List ℕ) → lines (front ++ 10 ∷ rest) ≡ map strip_carriage_return (slice_split is_line_feed front) ++ lines rest
+after_feed front rest =
     let others = parts_of is_line_feed rest in
     ap lines_of_parts (split-append is_line_feed front 10 rest refl)
     ∙ ap (λ parts. lines_of_parts (slice_split is_line_feed front ++ parts)) others.are
@@ -61,11 +65,12 @@ behind_feed front rest =
 pub lines-append : (front rest : List ℕ) → IsWhole front → lines (front ++ rest) ≡ lines front ++ lines rest
 lines-append front rest (inl none) = rw none refl
 lines-append front rest (inr (most, e)) =
-    rw (e, append_assoc most (10 ∷ []) rest, behind_feed most rest, behind_feed most []) (ap (λ ended. ended ++ lines rest) (sym (append-nil (map strip_carriage_return (slice_split is_line_feed most)))))
+    rw (e, append_assoc most (10 ∷ []) rest, after_feed most rest, after_feed most [])
+    (ap (λ ended. ended ++ lines rest) (sym (append-nil (map strip_carriage_return (slice_split is_line_feed most)))))
 
 -- one line that has ended
 pub lines-one : (line : List ℕ) → IsOpen line → lines (line ++ 10 ∷ []) ≡ strip_carriage_return line ∷ []
-lines-one line h = behind_feed line [] ∙ ap (λ parts. map strip_carriage_return parts ++ []) (slice_split_none is_line_feed line h)
+lines-one line h = after_feed line [] ∙ ap (λ parts. map strip_carriage_return parts ++ []) (slice_split_none is_line_feed line h)
 
 -- one line that has not
 pub lines-last : (line : List ℕ) → IsOpen line → 0 < length line → lines line ≡ line ∷ []
@@ -110,7 +115,8 @@ open_part text from to within none k d short =
     let left = length-drop from text in
     let inside : k < to - from = omega arith in
     let at : from + k < length text = omega arith in
-    rw (get_or-take (to - from) (drop from text) k d inside, get_or-drop from text k d, get_or_default text (from + k) d 0 at) (none (from + k) (omega arith) (omega arith))
+    rw (get_or-take (to - from) (drop from text) k d inside, get_or-drop from text k d, get_or_default text (from + k) d 0 at)
+    (none (from + k) (omega arith) (omega arith))
 
 -- a text in which no line ends
 pub open_text : (text : List ℕ) → NoneEnds text 0 (length text) → IsOpen text
@@ -125,7 +131,8 @@ take_line text from feed order inside is_feed =
     take_more text feed 0 inside ∙ rw (front, is_feed, append_assoc) refl
 
 -- the lines up to a line feed: those before the line, and the line
-pub lines_more : (text : List ℕ) (from feed : ℕ) → from ≤ feed → feed < length text → slice_index text feed ≡ 10 → IsWhole (take from text) → NoneEnds text from feed
+pub lines_more : (text : List ℕ) (from feed : ℕ) → from ≤ feed → feed < length text → slice_index text feed ≡ 10 →
+    IsWhole (take from text) → NoneEnds text from feed
     → lines (take (feed + 1) text) ≡ lines (take from text) ++ strip_carriage_return (take (feed - from) (drop from text)) ∷ []
 lines_more text from feed order inside is_feed whole none =
     let line = take (feed - from) (drop from text) in
@@ -135,7 +142,7 @@ lines_more text from feed order inside is_feed whole none =
 pub whole_more : (text : List ℕ) (feed : ℕ) → feed < length text → slice_index text feed ≡ 10 → IsWhole (take (feed + 1) text)
 whole_more text feed inside is_feed = inr (take feed text, take_more text feed 0 inside ∙ rw is_feed refl)
 
--- ---- a buffer that was read into behind the begun line
+-- ---- a buffer that was read into after the begun line
 
 module _ (old new : List ℕ) (begun : ℕ) (same : take begun new ≡ take begun old) where
   -- the begun line still has no line feed
@@ -147,7 +154,7 @@ module _ (old new : List ℕ) (begun : ℕ) (same : take begun new ≡ take begu
       let below : k < end = omega arith in
       rw (get_or-take end new k 0 below) (rw (get_or-take begun new k 0 high) at shown)
 
-  -- the begun line and what was read behind it
+  -- the begun line and what was read after it
   pub begun_read : (n : ℕ) → take begun old ++ take n (drop begun new) ≡ take (begun + n) new
   begun_read n =
       let order : begun ≤ begun + n = omega arith in
@@ -155,7 +162,9 @@ module _ (old new : List ℕ) (begun : ℕ) (same : take begun new ≡ take begu
       let back : drop begun (take (begun + n) new) ≡ take n (drop begun new) = drop-take begun n new in
       rw (← front, ← back) (take-append-drop begun (take (begun + n) new))
 
-  -- the same, up to some end and behind it
-  pub begun_cut : (n end : ℕ) → end ≤ begun + n → take begun old ++ take n (drop begun new) ≡ take end new ++ drop end (take (begun + n) new)
+  -- the same, up to some end and after it
+  pub begun_cut : (n end : ℕ) → end ≤ begun + n →
+      take begun old ++ take n (drop begun new) ≡ take end new ++ drop end (take (begun + n) new)
   begun_cut n end order =
-      begun_read n ∙ sym (take-append-drop end (take (begun + n) new)) ∙ ap (λ t. t ++ drop end (take (begun + n) new)) (take-take end (begun + n) new order)
+      begun_read n ∙ sym (take-append-drop end (take (begun + n) new)) ∙ ap (λ t. t ++ drop end (take (begun + n) new))
+      (take-take end (begun + n) new order)

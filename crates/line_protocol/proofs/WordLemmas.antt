@@ -1,5 +1,6 @@
--- The first word of a line, and the words behind it.
-use Rattle.std.proofs.Common.{◌≡◌, ℕ, ◌+◌, ◌<◌, ◌≤◌, Bool, true, false, not, List, [], ◌∷◌, length, get_or, take, drop, refl, sym, ap, ◌∙◌, arith, one-add, ⊎_elim, length-take, length-drop}
+-- The first word of a line, and the words after it.
+use Rattle.std.proofs.Common.{◌≡◌, ℕ, ◌+◌, ◌<◌, ◌≤◌, Bool, true, false, not, List, [], ◌∷◌, length, get_or, take, drop, refl, sym}
+use Rattle.std.proofs.Common.{ap, ◌∙◌, arith, one-add, ⊎_elim, length-take, length-drop}
 use Rattle.std.specs.List.{filter, slice_split, prefix_len, position_or_len, All}
 use Rattle.std.proofs.lemmas.List.{drop_more, drop_all, take_all, nil_from_length}
 use Rattle.std.proofs.lemmas.List.Sums.{fails_before_first, passes_at_first, prefix_len-le-length, prefix_len_stops, prefix_len-drop_yes}
@@ -36,9 +37,14 @@ words-first blank line n e h =
     (λ (inside : n < length line).
     let there : position_or_len blank line < length line = rw (← e) inside in
     let cut = slice_split_first blank line 0 there in
-    let behind : words_by blank (drop n line) ≡ words_by blank (drop (n + 1) line) =
-    rw (drop_more line n 0 inside, slice_split-cons_yes blank (get_or line n 0) (drop (n + 1) line) (rw e (passes_at_first blank line 0 there))) refl in
-    ap (filter is_word) (rw (← e) at cut) ∙ filter_word (take n line) (slice_split blank (drop (n + 1) line)) (rw length-take (omega arith)) ∙ ap (λ rest. take n line ∷ rest) (sym behind))
+    let later : words_by blank (drop n line) ≡ words_by blank (drop (n + 1) line) =
+    rw (
+      drop_more line n 0 inside,
+      slice_split-cons_yes blank (get_or line n 0) (drop (n + 1) line)
+          (rw e (passes_at_first blank line 0 there)),
+    ) refl in
+    ap (filter is_word) (rw (← e) at cut) ∙ filter_word (take n line) (slice_split blank (drop (n + 1) line))
+    (rw length-take (omega arith)) ∙ ap (λ rest. take n line ∷ rest) (sym later))
     (λ (whole : length line ≤ n).
     let none : All (λ b. blank b ≡ false) line = λ k d l. fails_before_first blank line k d (omega arith) in
     ap (filter is_word) (slice_split_none blank line none)
@@ -46,25 +52,26 @@ words-first blank line n e h =
     ∙ rw (take_all n line whole, drop_all n line whole) refl)
     (cases_lt n (length line))
 
--- behind the blanks at the front stands a word, if anything does
-pub word_behind_blanks : (blank : ℕ → Bool) (line : List ℕ) → prefix_len blank line < length line
+-- after the blanks at the front comes a word, if anything does
+pub word_after_blanks : (blank : ℕ → Bool) (line : List ℕ) → prefix_len blank line < length line
     → 0 < position_or_len blank (drop (prefix_len blank line) line)
-word_behind_blanks blank line h =
+word_after_blanks blank line h =
     let n = prefix_len blank line in
     let no : blank (get_or line n 0) ≡ false = prefix_len_stops blank line 0 h in
     let passes : not (blank (get_or line n 0)) ≡ true = rw no refl in
     let more = prefix_len-drop_yes (λ b. not (blank b)) line n 0 h passes in
     omega arith
 
-module _ (blank : ℕ → Bool) (line rest : List ℕ) (behind : rest ≡ drop (prefix_len blank line) line) where
+module _ (blank : ℕ → Bool) (line rest : List ℕ) (later : rest ≡ drop (prefix_len blank line) line) where
   -- a line of blanks alone has no word
   pub words-blank : length rest ≡ 0 → words_by blank line ≡ []
-  words-blank h = words-front blank line ∙ ap (words_by blank) (sym behind ∙ nil_from_length rest h)
+  words-blank h = words-front blank line ∙ ap (words_by blank) (sym later ∙ nil_from_length rest h)
 
-  -- the first word, and then the words of what stands behind it
-  pub words-cut : (n : ℕ) → n ≡ position_or_len blank rest → 0 < length rest → words_by blank line ≡ take n rest ∷ words_by blank (drop n rest)
+  -- the first word, and then the words of what follows it
+  pub words-cut : (n : ℕ) → n ≡ position_or_len blank rest → 0 < length rest →
+      words_by blank line ≡ take n rest ∷ words_by blank (drop n rest)
   words-cut n e h =
       let left = length-drop (prefix_len blank line) line in
-      let same = ap length behind in
-      let some : 0 < position_or_len blank rest = rw behind (word_behind_blanks blank line (omega arith)) in
-      words-front blank line ∙ ap (words_by blank) (sym behind) ∙ words-first blank rest n e (omega arith)
+      let same = ap length later in
+      let some : 0 < position_or_len blank rest = rw later (word_after_blanks blank line (omega arith)) in
+      words-front blank line ∙ ap (words_by blank) (sym later) ∙ words-first blank rest n e (omega arith)

@@ -1,4 +1,4 @@
--- What a line is answered. This project's own choice.
+-- The answer to a line. This project's own choice.
 use Rattle.std.specs.Prelude.{ℕ, Bool, true, false, List, [], ◌∷◌, ◌++◌, count_by, flat_map, codes, decimal}
 use Rattle.std.specs.List.{list_any}
 use Rattle.line_protocol.specs.declared.answers.Reply.{Reply}
@@ -15,7 +15,7 @@ is_refusal Answered = false
 is_refusal Refused = true
 is_refusal Ended = true
 
--- a reply behind which nothing is answered
+-- a reply after which nothing is answered
 abbrev pub is_end : Reply → Bool
 is_end Answered = false
 is_end Refused = false

@@ -1,5 +1,5 @@
 -- How a service answers the lines of a stream, one after another. This project's own choice.
-use Rattle.std.specs.Prelude.{◌≡◌, ℕ, ◌+◌, ◌≤◌, false, MatchBool, List, [], ◌∷◌, ◌++◌, length, take, Option, Some, ⊤}
+use Rattle.std.specs.Prelude.{◌≡◌, ℕ, ◌+◌, ◌≤◌, false, MatchBool, List, [], ◌∷◌, ◌++◌, length, take, Option, Some, ⊤, ◌⊎◌}
 use Rattle.std.specs.Io.KnownBytes.{Appends, Consumes}
 use Rattle.line_protocol.specs.Answers.{Answer, is_end, is_over, refusals, text_of}
 use Rattle.line_protocol.specs.Lines.{numbered, whole_lines}
@@ -14,6 +14,10 @@ AppendsFront held holds text = (front : List ℕ) × (back : List ℕ) × (text 
 -- a reader gave at most so many of its bytes
 abbrev pub ConsumesAtMost : ℕ → Option (List ℕ) → Option (List ℕ) → Type 0
 ConsumesAtMost most known left = (read : List ℕ) × Consumes known left read × (length read ≤ most)
+
+-- a fault of reading into memory
+abbrev pub IsReadFault : StreamFault → Type 0
+IsReadFault fault = (fault ≡ Read) ⊎ (fault ≡ Memory)
 
 -- what a writer got of a text: all of it, but a front of it where the writer itself failed
 abbrev pub IsWritten : StreamFault → Option (List ℕ) → Option (List ℕ) → List ℕ → Type 0

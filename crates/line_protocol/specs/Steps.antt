@@ -8,7 +8,7 @@ use Rattle.line_protocol.specs.declared.faults.StreamFault.{StreamFault}
 use Rattle.line_protocol.specs.declared.faults.StreamFault.TheVariants.{Read, Write, Memory}
 
 -- From one state of the service to the next these lines got these answers. `first` and `next` are the numbers of the lines
--- before and behind them, `already` and `refused` the refusals counted before and with them; `over` says that one ended the stream.
+-- before and after them, `already` and `refused` the refusals counted before and with them; `over` says that one ended the stream.
 pub record Advances {S : Type 0} (answers : S → ℕ → List ℕ → Answer → S → Type 0) (before after : S)
     (all : List (List ℕ)) (given : List Answer) (first next already refused : ℕ) (over : Bool) : Type 0 where
   pub run : Runs answers before (answerable_from first all) given after
@@ -28,8 +28,8 @@ pub record AnswersFront {S : Type 0} (answers : S → ℕ → List ℕ → Answe
   pub whole : IsWhole (take at bytes)
   pub low : next ≤ first + at
 
--- The first lines of what begins with these bytes, of which the first has number `first`, got answers when the writer
--- or the memory failed, and the writer got what it could of them.
+-- The writer failed, or memory was refused. Until then the first lines of these bytes and of what follows them were
+-- answered, the first of them numbered `first`, and the writer got these answers, or a front of them if it failed.
 pub record BreaksOff {S : Type 0} (answers : S → ℕ → List ℕ → Answer → S → Type 0) (fault : StreamFault)
     (before : S) (bytes : List ℕ) (first : ℕ) (held holds : Option (List ℕ)) : Type 0 where
   pub given : List Answer
@@ -38,7 +38,7 @@ pub record BreaksOff {S : Type 0} (answers : S → ℕ → List ℕ → Answer �
   pub written : IsWritten fault held holds (text_of given)
   pub kind : (fault ≡ Write) ⊎ (fault ≡ Memory)
 
--- the same of a last line that no line feed ends, behind which nothing comes
+-- the same for a last line without a line feed, which nothing follows
 pub record EndsOff {S : Type 0} (answers : S → ℕ → List ℕ → Answer → S → Type 0) (fault : StreamFault)
     (before : S) (bytes : List ℕ) (first : ℕ) (held holds : Option (List ℕ)) : Type 0 where
   pub given : List Answer
@@ -46,10 +46,6 @@ pub record EndsOff {S : Type 0} (answers : S → ℕ → List ℕ → Answer →
   pub run : RunsFront answers before (answerable_from first (lines bytes)) given after
   pub written : IsWritten fault held holds (text_of given)
   pub kind : (fault ≡ Write) ⊎ (fault ≡ Memory)
-
--- a fault of reading a block
-abbrev pub IsReadFault : StreamFault → Type 0
-IsReadFault fault = (fault ≡ Read) ⊎ (fault ≡ Memory)
 
 -- no line ends in this part of a text
 abbrev pub NoneEnds : List ℕ → ℕ → ℕ → Type 0

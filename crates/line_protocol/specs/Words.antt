@@ -11,7 +11,7 @@ abbrev pub is_word : List ℕ → Bool
 is_word [] = false
 is_word (byte ∷ bytes) = true
 
--- the words of a line: what stands between its blanks, so that blanks at its ends and several in a row make no word
+-- the words of a line: its parts between blanks; blanks at the ends and several in a row make no word
 abbrev pub words : List ℕ → List (List ℕ)
 words line = filter is_word (slice_split is_blank line)
 

@@ -1,4 +1,4 @@
-// What a service answers to a line.
+//! What a service answers to a line.
 ghost use Rattle.std.specs.Prelude.{◌≡◌, ℕ, List, ◌++◌, IfOk, OnOk, OnErr, decimal};
 ghost use Rattle.std.specs.Io.{StartsWith};
 ghost use Rattle.line_protocol.specs.Answers.{Answer, refusal};
@@ -13,17 +13,17 @@ pub enum Reply {
     Answered,
     /// The line was refused.
     Refused,
-    /// The line was refused. No line behind it is answered, and no further block is read.
+    /// The line was refused. No later line is answered, and no further block is read.
     Ended,
 }
 
 /// What answers the lines of a stream.
 pub trait Service {
-    // That the service may give this answer to the line of this number, and what is left of it then.
+    // The service may give this answer to the line of this number, and is then the later service.
     ghost answers: { Self → ℕ → List ℕ → Answer → Self → Type 0 };
 
-    /// Answers one line, that of this number, by text behind what `out` holds. After an error what
-    /// was put there is dropped.
+    /// Answers the line of this number: appends the answer to `out`. After an error the caller drops
+    /// what was appended.
     fn answer(
         &mut self,
         alloc: Global,
@@ -36,7 +36,7 @@ pub trait Service {
         ensures err { OnErr result (StartsWith out.new.items out.old.items) };
 }
 
-/// Puts a number in decimal digits behind what `out` holds.
+/// Appends a number in decimal digits.
 pub fn push_decimal(out: &mut Vec<u8>, n: u64) -> Result<(), AllocError>
     ensures ok { OnOk result (out.new.items ≡ out.old.items ++ decimal n) }
     ensures err { OnErr result (out.new.items ≡ out.old.items) }
@@ -45,7 +45,7 @@ pub fn push_decimal(out: &mut Vec<u8>, n: u64) -> Result<(), AllocError>
     out.extend_from_slice(digits.format(n).as_bytes())
 }
 
-/// Puts the line `refused CODE PLACE` behind what `out` holds.
+/// Appends the line `refused CODE PLACE`.
 pub fn push_refusal(out: &mut Vec<u8>, code: &str, at: u64) -> Result<(), AllocError>
     ensures ok { OnOk result (out.new.items ≡ out.old.items ++ refusal code.now at) }
     ensures err { OnErr result (StartsWith out.new.items out.old.items) }

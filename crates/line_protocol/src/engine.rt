@@ -1,11 +1,12 @@
-// The engine: blocks of bytes in, the answers to their lines out.
-ghost use Rattle.std.specs.Prelude.{◌≡◌, ℕ, ◌+◌, ◌-◌, ◌^◌, ◌<◌, ◌≤◌, ◌↔◌, List, [], ◌∷◌, ◌++◌, true, false, length, take, drop, slice_index, vec_len, IfOk, IfErr, IfSome, OnOk, OnErr};
+//! The engine: blocks of bytes in, the answers to their lines out.
+ghost use Rattle.std.specs.Prelude.{◌≡◌, ℕ, ◌+◌, ◌-◌, ◌^◌, ◌<◌, ◌≤◌, ◌↔◌, List, [], ◌∷◌, ◌++◌, true, false, length, take, drop};
+ghost use Rattle.std.specs.Prelude.{slice_index, vec_len, IfOk, IfErr, IfSome, OnOk, OnErr};
 ghost use Rattle.std.specs.Io.KnownBytes.{Appends, Consumes, IsAtEnd, Keeps};
 ghost use Rattle.std.specs.Str.Lines.{lines, strip_carriage_return};
 ghost use Rattle.line_protocol.specs.Answers.{Answer, text_of};
 ghost use Rattle.line_protocol.specs.Lines.{is_line_feed, is_skipped};
-ghost use Rattle.line_protocol.specs.Runs.{Finishes, Stops};
-ghost use Rattle.line_protocol.specs.Steps.{Advances, AnswersFront, BreaksOff, EndsOff, IsReadFault, NoneEnds};
+ghost use Rattle.line_protocol.specs.Runs.{Finishes, IsReadFault, Stops};
+ghost use Rattle.line_protocol.specs.Steps.{Advances, AnswersFront, BreaksOff, EndsOff, NoneEnds};
 
 use crate::INPUT_LIMIT;
 use crate::answers::{Reply, Service};
@@ -14,25 +15,25 @@ use crate::streams::{read_some, write_text};
 use std::alloc::{AllocError, Global};
 use std::io::{Read, Write};
 
-// The least room that a read is given.
+/// The least room that a read is given.
 pub(crate) const BLOCK: usize = 65_536;
 
-// How far the answers have come.
+/// How far the answers have come.
 #[derive(Drop)]
 struct Progress {
-    // The number of the next line.
+    /// The number of the next line.
     number: u32,
-    // How many lines were refused.
+    /// How many lines were refused.
     refused: u32,
-    // An answer ended the stream.
+    /// An answer ended the stream.
     over: bool,
-    // Answers that are not written yet.
+    /// Answers that are not written yet.
     text: Vec<u8>,
     ghost counted: { refused < number },
 }
 
 impl Progress {
-    // Nothing is answered yet.
+    /// Nothing is answered yet.
     fn new(alloc: Global) -> Progress
         ensures number { result.number ≡ 1 }
         ensures refused { result.refused ≡ 0 }
@@ -48,7 +49,7 @@ impl Progress {
     }
 }
 
-// A line that gets no answer: an empty one, or one that begins with `#`.
+/// A line that gets no answer: an empty one, or one that begins with `#`.
 fn is_skipped(line: &[u8]) -> bool
     ensures { result ≡ is_skipped line.now }
 {
@@ -58,7 +59,7 @@ fn is_skipped(line: &[u8]) -> bool
     }
 }
 
-// The place of the first line feed from `from` on, or the length where none is left.
+/// The place of the first line feed from `from` on, or the length where none is left.
 fn find_line_feed(bytes: &[u8], from: usize) -> usize
     requires { from ≤ length bytes.now }
     ensures low { from ≤ result }
@@ -73,7 +74,7 @@ fn find_line_feed(bytes: &[u8], from: usize) -> usize
     at
 }
 
-// A line without the one carriage return at its end.
+/// A line without the one carriage return at its end.
 fn strip_carriage_return(line: &[u8]) -> &[u8]
     ensures { result.now ≡ strip_carriage_return line.now }
 {
@@ -85,7 +86,7 @@ fn strip_carriage_return(line: &[u8]) -> &[u8]
     }
 }
 
-// Has the service answer the next line, unless it is skipped. After an error no answer was added.
+/// Has the service answer the next line, unless it is skipped. After an error no answer was added.
 fn answer_line<S: Service>(
     alloc: Global,
     service: &mut S,
@@ -127,9 +128,9 @@ fn answer_line<S: Service>(
     }
 }
 
-// Has the service answer each line that ends in `bytes`, where no line ends before `searched`, and
-// returns the number of bytes of those lines. After an error the lines before the refused one are
-// answered.
+/// Has the service answer each line that ends in `bytes`, where no line ends before `searched`, and
+/// returns the number of bytes of those lines. After an error the lines before the refused one are
+/// answered.
 fn answer_whole_lines<S: Service>(
     alloc: Global,
     service: &mut S,
@@ -168,7 +169,7 @@ fn answer_whole_lines<S: Service>(
     }
 }
 
-// Answers each line that ends in `bytes`, and writes the answers. Otherwise as `answer_whole_lines`.
+/// Answers each line that ends in `bytes`, and writes the answers. Otherwise as `answer_whole_lines`.
 fn answer_block<W: Write, S: Service>(
     alloc: Global,
     writer: &mut W,
@@ -200,7 +201,7 @@ fn answer_block<W: Write, S: Service>(
     }
 }
 
-// Answers a last line that no line feed ends, if there is one, and writes the answer.
+/// Answers a last line that no line feed ends, if there is one, and writes the answer.
 fn answer_rest<W: Write, S: Service>(
     alloc: Global,
     writer: &mut W,
@@ -228,7 +229,7 @@ fn answer_rest<W: Write, S: Service>(
     }
 }
 
-// One read into a part of a buffer.
+/// One read into a part of a buffer.
 fn read_into<R: Read>(
     reader: &mut R,
     buffer: &mut [u8],
@@ -248,7 +249,7 @@ fn read_into<R: Read>(
     read_some(reader, &mut buffer[from..to])
 }
 
-// Reads up to `most` bytes behind the first `begun` ones of the buffer, which grows for them.
+/// Reads up to `most` bytes into the buffer, after its first `begun` bytes. The buffer grows for them.
 pub(crate) fn read_block<R: Read>(
     reader: &mut R,
     buffer: &mut Vec<u8>,
@@ -264,7 +265,7 @@ pub(crate) fn read_block<R: Read>(
     ensures bytes { IfOk result (λ n.
         Consumes (R.remaining reader.old) (R.remaining reader.new) (take n (drop begun buffer.new.items))) }
     ensures end { IfOk result (λ n. n ≡ 0 → IsAtEnd (R.remaining reader.new)) }
-    // The fault is want of memory if and only if the buffer did not grow.
+    // The fault is Memory if and only if the buffer did not grow.
     ensures cause { IfErr result (λ fault. (fault ≡ StreamFault.Memory) ↔ (vec_len buffer.new < begun + most)) }
     ensures err { IfErr result (λ fault. IsReadFault fault
         × Keeps (R.remaining reader.old) (R.remaining reader.new)) }
@@ -276,8 +277,8 @@ pub(crate) fn read_block<R: Read>(
     read_into(reader, buffer.as_mut_slice(), begun, end)
 }
 
-// Moves the begun line, the bytes from `at` up to `end`, to the front of the buffer, and returns
-// its length.
+/// Moves the begun line, the bytes from `at` up to `end`, to the front of the buffer, and returns
+/// its length.
 fn keep_begun(buffer: &mut Vec<u8>, at: usize, end: usize) -> usize
     requires order { at ≤ end }
     requires within { end ≤ vec_len buffer.old }
@@ -291,7 +292,7 @@ fn keep_begun(buffer: &mut Vec<u8>, at: usize, end: usize) -> usize
     end - at
 }
 
-// Answers all lines that the reader has, over a buffer for the bytes of a block.
+/// Answers all lines that the reader has, over a buffer for the bytes of a block.
 fn answer_blocks<R: Read, W: Write, S: Service>(
     alloc: Global,
     reader: &mut R,

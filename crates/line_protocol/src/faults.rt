@@ -1,4 +1,4 @@
-// What ends a stream of lines before its end.
+//! What ends a stream of lines before its end.
 ghost use Rattle.std.specs.Prelude.{◌≡◌};
 
 use thiserror::Error;
@@ -12,10 +12,10 @@ pub enum StreamFault {
     /// The writer failed, or took no more bytes.
     #[error("the output could not be written")]
     Write,
-    /// An allocation was refused.
-    #[error("memory ran out")]
+    /// Memory was refused.
+    #[error("out of memory")]
     Memory,
-    /// More than `INPUT_LIMIT` bytes came.
+    /// The input has more than `INPUT_LIMIT` bytes.
     #[error("the input has more than 16777216 bytes")]
     TooLong,
 }
@@ -23,7 +23,7 @@ pub enum StreamFault {
 impl StreamFault {
     ghost use Rattle.line_protocol.specs.Faults.{fault_code};
 
-    /// The code that a program answers for this fault, `E1` to `E4`.
+    /// The fault's code, `E1` to `E4`.
     pub fn code(&self) -> &'static str
         ensures { result.now ≡ fault_code self.now }
     {
@@ -35,7 +35,7 @@ impl StreamFault {
         }
     }
 
-    /// The place of the fault: 0, since a stream's fault names none.
+    /// The place of the fault: 0, since a stream has no places.
     pub fn at(&self) -> usize
         ensures { result ≡ 0 }
     {

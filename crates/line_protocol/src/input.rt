@@ -1,8 +1,7 @@
-// A whole input in memory, up to a limit.
+//! A whole input in memory, up to a limit.
 ghost use Rattle.std.specs.Prelude.{◌≡◌, ◌<◌, ◌≤◌, ◌+◌, ◌^◌, vec_len, IfOk, IfErr};
 ghost use Rattle.std.specs.Io.KnownBytes.{Consumes, IsAtEnd};
-ghost use Rattle.line_protocol.specs.Runs.{ConsumesAtMost};
-ghost use Rattle.line_protocol.specs.Steps.{IsReadFault};
+ghost use Rattle.line_protocol.specs.Runs.{ConsumesAtMost, IsReadFault};
 
 use crate::engine::{BLOCK, read_block};
 use crate::faults::StreamFault;

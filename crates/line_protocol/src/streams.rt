@@ -1,4 +1,4 @@
-// Bytes from a reader and to a writer, with each failure as a `StreamFault`.
+//! Bytes from a reader and to a writer, with each failure as a `StreamFault`.
 ghost use Rattle.std.specs.IoError.{error_kind};
 ghost use Rattle.std.specs.Prelude.{◌≡◌, ◌<◌, ◌≤◌, ◌↔◌, IsTrue, length, take, IfOk, OnOk, IfErr};
 ghost use Rattle.std.specs.Io.KnownBytes.{Appends, Consumes, IsAtEnd, Keeps};
@@ -14,7 +14,7 @@ fn is_interrupted(error: &Error) -> bool
     matches!(error.kind(), ErrorKind::Interrupted)
 }
 
-// One read, made again where a signal interrupts it.
+/// One read, made again where a signal interrupts it.
 pub(crate) fn read_some<R: Read>(reader: &mut R, room: &mut [u8]) -> Result<usize, StreamFault>
     ensures within { IfOk result (λ n. n ≤ length room.new) }
     ensures bytes { IfOk result (λ n.
@@ -36,7 +36,7 @@ pub(crate) fn read_some<R: Read>(reader: &mut R, room: &mut [u8]) -> Result<usiz
     Err(StreamFault::Read)
 }
 
-// One write, of no byte where a signal interrupts it.
+/// One write, of no byte where a signal interrupts it.
 fn write_some<W: Write>(writer: &mut W, text: &[u8]) -> Result<usize, StreamFault>
     ensures within { IfOk result (λ n. n ≤ length text.now) }
     ensures bytes { IfOk result (λ n.
@@ -57,7 +57,7 @@ fn write_some<W: Write>(writer: &mut W, text: &[u8]) -> Result<usize, StreamFaul
     }
 }
 
-// Has the writer pass on what it holds back.
+/// Has the writer pass on what it holds back.
 fn flush<W: Write>(writer: &mut W) -> Result<(), StreamFault>
     ensures kept { Keeps (W.contents writer.old) (W.contents writer.new) }
     ensures err { IfErr result (λ fault. fault ≡ StreamFault.Write) }

@@ -1,16 +1,16 @@
-// Words of a line.
+//! Words of a line.
 ghost use Rattle.std.specs.Prelude.{◌≡◌, ◌≤◌, [], ◌∷◌, ◌++◌, length, not, IfNone, IfSome};
 ghost use Rattle.std.specs.List.{prefix_len};
 ghost use Rattle.line_protocol.specs.Words.{is_blank, words, without_front_blanks, without_end_blanks, trimmed};
 
-// The bytes between words.
+/// The bytes between words.
 fn is_blank(byte: u8) -> bool
     ensures { result ≡ is_blank byte }
 {
     byte == b' ' || byte == b'\t'
 }
 
-// The number of blanks at the front.
+/// The number of blanks at the front.
 fn count_front_blanks(line: &[u8]) -> usize
     ensures len { result ≡ prefix_len is_blank line.now }
     ensures within { result ≤ length line.now }
@@ -23,14 +23,14 @@ fn count_front_blanks(line: &[u8]) -> usize
     line.len()
 }
 
-// The line without the blanks at its front.
+/// The line without the blanks at its front.
 fn trim_front_blanks(line: &[u8]) -> &[u8]
     ensures { result.now ≡ without_front_blanks line.now }
 {
     &line[count_front_blanks(line)..]
 }
 
-// The number of bytes before the first blank.
+/// The number of bytes before the first blank.
 fn word_len(line: &[u8]) -> usize
     ensures len { result ≡ prefix_len (λ byte. not (is_blank byte)) line.now }
     ensures within { result ≤ length line.now }
@@ -43,7 +43,7 @@ fn word_len(line: &[u8]) -> usize
     line.len()
 }
 
-// The line without the blanks at its end.
+/// The line without the blanks at its end.
 fn trim_end_blanks(line: &[u8]) -> &[u8]
     ensures { result.now ≡ without_end_blanks line.now }
 {
@@ -54,7 +54,7 @@ fn trim_end_blanks(line: &[u8]) -> &[u8]
     &line[..end]
 }
 
-/// The first word of a line and what stands behind it, or `None` for a line that has no word.
+/// The first word of a line and what follows it, or `None` if the line has no word.
 /// Spaces and tabs separate words.
 pub fn next_word(line: &[u8]) -> Option<(&[u8], &[u8])>
     ensures none { IfNone result (words line.now ≡ []) }

@@ -50,7 +50,8 @@ too_long bits is = let none : prefix_in (codes "10.0.0.0/33") ≡ None = refl in
 -- nor does a group of 256
 too_large : (bits : List Bool) → IsPrefix (codes "10.256.0.0/8") bits → ⊥
 unfolding prefix_in address_in groups_in parts_at number_in decimal_value bits
-too_large bits is = let none : prefix_in (codes "10.256.0.0/8") ≡ None = refl in let some = prefix_in-only (codes "10.256.0.0/8") bits is in cc
+too_large bits is = let none : prefix_in (codes "10.256.0.0/8") ≡ None = refl in let some =
+    prefix_in-only (codes "10.256.0.0/8") bits is in cc
 
 -- nor do three groups, or five
 three_groups : prefix_in (codes "1.2.3/8") ≡ None

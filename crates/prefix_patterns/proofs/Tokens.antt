@@ -1,5 +1,6 @@
 -- What reading finds is written in the text, and what is written there is found.
-use Rattle.std.proofs.Common.{◌≡◌, ◌≢◌, ℕ, ◌+◌, ◌*◌, ◌^◌, ◌<◌, ◌==◌, Bool, true, List, [], ◌∷◌, ◌++◌, length, take, drop, get_or, position, nat_lt, Option, Some, None, All, refl, sym, ◌∙◌, ap, arith, lit<, length-append}
+use Rattle.std.proofs.Common.{◌≡◌, ◌≢◌, ℕ, ◌+◌, ◌*◌, ◌^◌, ◌<◌, ◌==◌, Bool, true, List, [], ◌∷◌, ◌++◌, length, take, drop, get_or}
+use Rattle.std.proofs.Common.{position, nat_lt, Option, Some, None, All, refl, sym, ◌∙◌, ap, arith, lit<, length-append}
 use Rattle.std.specs.Char.{IsAsciiDigit}
 use Rattle.std.specs.Int.{w32, from_be_bytes}
 use Rattle.std.specs.List.{position_or_len, join_with_byte}
@@ -15,7 +16,8 @@ use Rattle.prefix_patterns.specs.Reading.{◌>>=◌, parts_at, groups_in, addres
 use Rattle.prefix_patterns.specs.Token.{dot, slash, IsAddress, IsPrefix}
 
 -- a reading that goes on found a value, and went on with it
-bind_some : {A B P : Type 0} (r : Option A) (next : A → Option B) (y : B) → (r >>= next) ≡ Some y → ((x : A) → r ≡ Some x → next x ≡ Some y → P) → P
+bind_some : {A B P : Type 0} (r : Option A) (next : A → Option B) (y : B) → (r >>= next) ≡ Some y →
+    ((x : A) → r ≡ Some x → next x ≡ Some y → P) → P
 bind_some None next y e then = absurd cc
 bind_some (Some x) next y e then = then x refl e
 
@@ -25,14 +27,16 @@ map_some f None y e = absurd cc
 map_some f (Some x) y e = (x, refl, cc)
 
 -- the place of the first separator, after bytes that are none
-place : (separator : ℕ) (front rest : List ℕ) → All (λ byte. byte ≢ separator) front → position_or_len (λ byte. byte == separator) (front ++ separator ∷ rest) ≡ length front
+place : (separator : ℕ) (front rest : List ℕ) → All (λ byte. byte ≢ separator) front →
+    position_or_len (λ byte. byte == separator) (front ++ separator ∷ rest) ≡ length front
 place separator [] rest others = rw (eq-eqb separator separator refl) refl
 place separator (byte ∷ front) rest others =
     rw (ne_eqb byte separator (All-head (λ byte. byte ≢ separator) byte front others))
     (ap (λ n. 1 + n) (place separator front rest (All-tail (λ byte. byte ≢ separator) byte front others)) ∙ omega arith)
 
 -- the parts of what a separator joins
-pub parts_at-joined : (separator : ℕ) (front rest : List ℕ) → All (λ byte. byte ≢ separator) front → parts_at separator (front ++ separator ∷ rest) ≡ Some (front, rest)
+pub parts_at-joined : (separator : ℕ) (front rest : List ℕ) → All (λ byte. byte ≢ separator) front →
+    parts_at separator (front ++ separator ∷ rest) ≡ Some (front, rest)
 unfolding parts_at
 parts_at-joined separator front rest others =
     let seam : drop (length front + 1) (front ++ separator ∷ rest) ≡ rest =
@@ -43,7 +47,8 @@ parts_at-joined separator front rest others =
     rw (place separator front rest others, within, take_at front (separator ∷ rest) (length front) refl, seam) refl
 
 -- parts are joined by the separator
-pub parts_at-found : (separator : ℕ) (text front rest : List ℕ) → parts_at separator text ≡ Some (front, rest) → text ≡ front ++ separator ∷ rest
+pub parts_at-found : (separator : ℕ) (text front rest : List ℕ) → parts_at separator text ≡ Some (front, rest) →
+    text ≡ front ++ separator ∷ rest
 unfolding parts_at
 parts_at-found separator text front rest e =
     let found = map_some (λ at. (take at text, drop (at + 1) text)) (position (λ byte. byte == separator) text) (front, rest) e in
@@ -56,10 +61,12 @@ parts_at-found separator text front rest e =
 
 -- digits are neither dots nor slashes
 digits_apart : (separator : ℕ) (text : List ℕ) → separator < 48 → IsDigits text → All (λ byte. byte ≢ separator) text
-digits_apart separator text below digits = All-weaker IsAsciiDigit (λ byte. byte ≢ separator) (λ byte digit same. omega (arith, digit.0)) text digits.each
+digits_apart separator text below digits =
+    All-weaker IsAsciiDigit (λ byte. byte ≢ separator) (λ byte digit same. omega (arith, digit.0)) text digits.each
 
 -- four groups and the dots between them
-four_joined : (text rest last a b c d : List ℕ) → text ≡ a ++ dot ∷ rest → rest ≡ b ++ dot ∷ last → last ≡ c ++ dot ∷ d → text ≡ join_with_byte dot (a ∷ b ∷ c ∷ d ∷ [])
+four_joined : (text rest last a b c d : List ℕ) → text ≡ a ++ dot ∷ rest → rest ≡ b ++ dot ∷ last → last ≡ c ++ dot ∷ d →
+    text ≡ join_with_byte dot (a ∷ b ∷ c ∷ d ∷ [])
 four_joined text rest last a b c d e f g = e ∙ ap (λ r. a ++ dot ∷ r) (f ∙ ap (λ r. b ++ dot ∷ r) g)
 
 pub address_in-found : (text : List ℕ) (address : ℕ) → address_in text ≡ Some address → IsAddress text address
@@ -88,7 +95,8 @@ address_in-found text address e =
       groups = (a.0, b.0, c.0, d.0);
       spelled =
           four_joined text one.1 two.1 one.0 two.0 three.0 three.1
-          (parts_at-found dot text one.0 one.1 at_one) (parts_at-found dot one.1 two.0 two.1 at_two) (parts_at-found dot two.1 three.0 three.1 at_three);
+          (parts_at-found dot text one.0 one.1 at_one) (parts_at-found dot one.1 two.0 two.1 at_two)
+          (parts_at-found dot two.1 three.0 three.1 at_three);
       value = cc;
     }))))))))
 

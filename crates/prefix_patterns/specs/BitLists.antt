@@ -1,6 +1,8 @@
--- Lists of bits and the numbers that they stand for.
+-- Lists of bits and their numbers. These lemmas are in specs/ since the model of `Prefix` cites the last of them that
+-- speaks of its fields, `fields_again`.
 use Rattle.std.proofs.Math.Nat.{pow-suc, add-mul-div_right}
-use Rattle.std.proofs.Common.{Bool, List, [], ◌∷◌, lit<, true, false, ◌≡◌, ℕ, zero, suc, ◌+◌, ◌-◌, ◌*◌, ◌/◌, ◌%◌, ◌^◌, ◌==◌, ◌<◌, ◌≤◌, cond, length, take, refl, sym, ◌∙◌, ap, arith}
+use Rattle.std.proofs.Common.{Bool, List, [], ◌∷◌, lit<, true, false, ◌≡◌, ℕ, zero, suc, ◌+◌, ◌-◌, ◌*◌, ◌/◌, ◌%◌, ◌^◌, ◌==◌, ◌<◌}
+use Rattle.std.proofs.Common.{◌≤◌, cond, length, take, refl, sym, ◌∙◌, ap, arith}
 use Rattle.std.proofs.lemmas.Nat.{shr_high, pow_pos, mod-pow-add, shr-shr, shl-shr}
 use Rattle.std.proofs.Math.Pow.{shr_mod}
 use Rattle.std.proofs.lemmas.List.{length-take-le}

@@ -1,12 +1,12 @@
 -- Addresses and prefixes as lists of bits.
 use Rattle.std.specs.Prelude.{◌≡◌, ℕ, zero, suc, ◌+◌, ◌-◌, ◌*◌, ◌/◌, ◌%◌, ◌^◌, ◌==◌, ◌≤◌, if◌then◌else◌, Bool, List, [], ◌∷◌, length, take}
 
--- the count lowest binary digits of a number, the highest of them first
+-- the lowest binary digits of a number, so many as count says, the highest of them first
 unfoldable pub bits : ℕ → ℕ → List Bool
 bits zero n = []
 bits (suc count) n = (n / 2 ^ count % 2 == 1) ∷ bits count n
 
--- the number that binary digits stand for, the highest of them first
+-- the number with these binary digits, the highest first
 unfoldable pub number : List Bool → ℕ
 number [] = 0
 number (digit ∷ digits) = (if digit then 2 ^ length digits else 0) + number digits

@@ -1,4 +1,5 @@
-pub mod BitLists
+-- What callers cite: bits of addresses and prefixes, matching, the texts of numbers, addresses and prefixes, the texts
+-- that are displayed, what reading a text gives, and the codes of faults.
 pub mod Bits
 pub mod Fault
 pub mod Matching
@@ -6,3 +7,5 @@ pub mod Number
 pub mod Reading
 pub mod Spelling
 pub mod Token
+-- What only bodies are proved against: lemmas on bits.
+pub mod BitLists

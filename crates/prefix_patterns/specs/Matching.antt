@@ -5,30 +5,30 @@ use Rattle.std.specs.Cmp.Lexicographic.{pointwise}
 use Rattle.std.specs.List.{Any, list_any}
 use Rattle.prefix_patterns.specs.Bits.{address_length}
 
--- the bits begin with those of a prefix: the address or the prefix that has them lies within it, or is that prefix
+-- the bits begin with those of a prefix: their address or prefix lies within it, or equals it
 abbrev pub LiesWithin : List Bool → List Bool → Type 0
 LiesWithin bits prefix = take (length prefix) bits ≡ prefix
 
 abbrev pub lies_within : List Bool → List Bool → Bool
 lies_within bits prefix = pointwise beq (take (length prefix) bits) prefix
 
--- a pattern: bits, and the least and the greatest length of a prefix that it takes
+-- a pattern: the bits of its prefix, and the least and the greatest length that it allows
 pub record PrefixPattern : Type 0 where
   pub bits : List Bool
   pub low : ℕ
   pub high : ℕ
 
--- a pattern's lengths are in order, and within those of an address
+-- a pattern's lengths are in order, and at most that of an address
 pub record HasOrderedLengths (low high : ℕ) : Type 0 where
   pub order : low ≤ high
   pub limit : high ≤ address_length
 
--- how many bits two lists both have
+-- the number of bits that both lists have
 abbrev pub shared_length : List Bool → List Bool → ℕ
 shared_length p q = min (length p) (length q)
 
--- the bits that the prefix and the pattern both have are the same, and the prefix's length is one that the pattern takes
--- (that the pattern's own length may be any is this project's own choice)
+-- The prefix agrees with the pattern on the bits that both have, and the pattern allows its length. (A pattern may have
+-- bits past the lengths that it allows: this project's own choice.)
 pub record Matches (prefix : List Bool) (pattern : PrefixPattern) : Type 0 where
   pub low : pattern.low ≤ length prefix
   pub high : length prefix ≤ pattern.high

@@ -1,5 +1,6 @@
 -- Reading a token from the left: what a text writes, or nothing.
-use Rattle.std.specs.Prelude.{ℕ, ◌+◌, ◌==◌, ◌&&◌, if◌then◌else◌, nat_le, Bool, false, List, [], ◌∷◌, take, drop, position, Option, Some, None}
+use Rattle.std.specs.Prelude.{ℕ, ◌+◌, ◌==◌, ◌&&◌, if◌then◌else◌, nat_le, Bool, false, List, [], ◌∷◌, take, drop, position, Option}
+use Rattle.std.specs.Prelude.{Some, None}
 use Rattle.std.specs.Int.{w32, from_be_bytes}
 use Rattle.std.specs.Option.{option_map}
 use Rattle.std.specs.Str.{all_ascii_digits}

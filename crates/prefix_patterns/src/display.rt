@@ -26,7 +26,7 @@ impl fmt::Display for Prefix {
     }
 }
 
-/// What is displayed of an address or a prefix is a text that writes it, so reading the text gives it back.
+/// A displayed address or prefix reads back as itself.
 pub fn displayed_text_is_read()
     ensures address { (address : ℕ) → address < 2 ^ address_length → IsAddress (address_text address) address }
     ensures prefix { (prefix : List Bool) → length prefix ≤ address_length → IsPrefix (prefix_text prefix) prefix }

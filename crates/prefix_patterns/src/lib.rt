@@ -1,4 +1,4 @@
-//! Addresses and prefixes of IPv4, and the readers of the tokens that write them.
+//! IPv4 addresses, prefixes, patterns for prefixes and sets of patterns, and the readers of addresses and prefixes.
 #![tactic(auto)]
 
 mod address;

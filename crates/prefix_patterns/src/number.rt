@@ -4,9 +4,9 @@ ghost use Rattle.std.specs.Prelude.{◌≡◌, ◌+◌, ◌-◌, ◌*◌, ◌≤
 ghost use Rattle.prefix_patterns.specs.Number.{IsNumber, decimal_value};
 ghost use Rattle.prefix_patterns.specs.Reading.{number_in};
 
-/// Reads a number of at most `most` from a text that is ASCII digits and nothing else.
+/// Reads a decimal number of at most `most` from a text that is ASCII digits and nothing else.
 ///
-/// Any count of digits will do, zeros in front too. None for the empty text, for any other byte and for a larger number.
+/// Leading zeros are allowed. None if the text is empty, has another byte, or writes a larger number.
 pub fn read_number(text: &[u8], most: u32) -> Option<u32>
     ensures cases { SomeIff result (IsNumber most text.now) (decimal_value text.now) }
     ensures exact { result ≡ number_in most text.now }
@@ -21,7 +21,7 @@ pub fn read_number(text: &[u8], most: u32) -> Option<u32>
     Some(value)
 }
 
-/// The number with one more digit at its end, if the byte is a digit and the number is then at most `most`.
+/// The number followed by one more digit, if the byte is a digit and the result is at most `most`.
 fn with_digit(value: u32, byte: u8, most: u32) -> Option<u32>
     ensures { SomeIff result (IsAsciiDigit byte × (value * 10 + (byte - 48) ≤ most)) (value * 10 + (byte - 48)) }
 {

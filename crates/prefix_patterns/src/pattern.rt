@@ -6,9 +6,9 @@ use crate::address::ADDRESS_LENGTH;
 use crate::prefix::Prefix;
 use std::marker::Model;
 
-/// A pattern for prefixes: bits, and the least and the greatest length of a prefix that it takes.
+/// A pattern for prefixes: a prefix, and the least and the greatest length that it allows.
 ///
-/// A prefix matches it if its length is one of these and its bits are those of the pattern, as far as both go.
+/// A prefix matches if its length is allowed and if it agrees with the pattern's prefix on the bits that both have.
 #[derive(Clone, Copy, Debug, PartialEq, Eq)]
 pub struct Pattern {
     prefix: Prefix,
@@ -29,8 +29,8 @@ impl Model for Pattern {
 }
 
 impl Pattern {
-    /// The pattern of a prefix's bits and the lengths from `low` to `high`.
-    /// None exactly where these are out of order or above 32.
+    /// The pattern of a prefix and the lengths from `low` to `high`.
+    /// None if and only if `low` is above `high` or `high` is above 32.
     pub fn new(prefix: Prefix, low: u8, high: u8) -> Option<Pattern>
         ensures { SomeIff result (HasOrderedLengths low high) (record { bits = prefix; low = low; high = high }) }
     {
@@ -41,7 +41,7 @@ impl Pattern {
         }
     }
 
-    /// The pattern's bits, as a prefix.
+    /// The pattern's prefix.
     pub fn prefix(&self) -> Prefix
         ensures { result ≡ self.now.bits }
     {
@@ -71,7 +71,7 @@ impl Pattern {
         prefix.has_same_bits(&self.prefix) && self.takes(prefix.len())
     }
 
-    /// Whether prefixes of a length can match.
+    /// Whether the pattern allows prefixes of a length.
     fn takes(&self, len: u8) -> bool
         ensures { result ≡ (nat_le self.now.low len && nat_le len self.now.high) }
     {

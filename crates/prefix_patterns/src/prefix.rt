@@ -10,9 +10,9 @@ ghost use Rattle.prefix_patterns.specs.Matching.{LiesWithin, lies_within, has_sa
 use crate::address::{ADDRESS_LENGTH, Ip};
 use std::marker::Model;
 
-/// An IPv4 prefix: the addresses that begin with its bits, of which there are 0 to 32.
+/// An IPv4 prefix of 0 to 32 bits: the addresses that begin with these bits.
 ///
-/// A contract sees a prefix as the list of its bits, the first bit first.
+/// A contract sees a prefix as the list of its bits, in order.
 #[derive(Clone, Copy, Debug)]
 pub struct Prefix {
     address: u32,
@@ -36,8 +36,7 @@ impl Model for Prefix {
 }
 
 impl Prefix {
-    /// The prefix of the first `len` bits of an address, whose other bits are left out.
-    /// None exactly where `len` is above 32.
+    /// The prefix of the first `len` bits of an address. None if and only if `len` is above 32.
     pub fn new(ip: Ip, len: u8) -> Option<Prefix>
         ensures { SomeIff result (len ≤ address_length) (prefix_bits ip.0 len) }
     {
@@ -47,7 +46,7 @@ impl Prefix {
         Some(Prefix::masked(ip, len))
     }
 
-    /// The prefix of the first `len` bits of an address, whose other bits are left out.
+    /// The prefix of the first `len` bits of an address.
     pub(crate) fn masked(ip: Ip, len: u8) -> Prefix
         requires { len ≤ address_length }
         ensures { result ≡ prefix_bits ip.0 len }
@@ -68,7 +67,7 @@ impl Prefix {
         Prefix::masked(ip, self.len()) == *self
     }
 
-    /// Whether the prefix lies within another one, or is that one.
+    /// Whether the prefix lies within another, or equals it.
     pub fn within(&self, other: &Prefix) -> bool
         ensures cases { IsTrue result ↔ LiesWithin self.now other.now }
         ensures exact { result ≡ lies_within self.now other.now }
@@ -76,7 +75,7 @@ impl Prefix {
         other.len() <= self.len() && self.first(other.len()) == *other
     }
 
-    /// Whether the bits of two prefixes are the same, as far as both go.
+    /// Whether two prefixes agree on the bits that both have.
     pub(crate) fn has_same_bits(&self, other: &Prefix) -> bool
         ensures { result ≡ has_same_bits self.now other.now }
     {
@@ -92,14 +91,14 @@ impl Prefix {
         Prefix::masked(Ip(self.address), len)
     }
 
-    /// The prefix's first address: its bits, and zeros after them.
+    /// The first address of the prefix: its bits followed by zeros.
     pub fn address(&self) -> Ip
         ensures { result.0 ≡ address_of self.now }
     {
         Ip(self.address)
     }
 
-    /// The number of the prefix's bits.
+    /// The length of the prefix in bits, 0 to 32.
     pub fn len(&self) -> u8
         ensures bits { result ≡ length self.now }
         ensures limit { result ≤ address_length }

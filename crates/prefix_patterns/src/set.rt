@@ -33,12 +33,12 @@ impl Model for PatternSet {
 pub enum SetFault {
     #[error("more than 1024 patterns in a set")]
     TooManyPatterns,
-    #[error("no memory for the patterns of a set")]
+    #[error("out of memory")]
     Memory,
 }
 
 impl SetFault {
-    /// The fault's code: S1 for too many patterns, S2 for want of memory.
+    /// The fault's code: S1 for too many patterns, S2 if memory was refused.
     pub fn code(&self) -> &'static str
         ensures { result.now ≡ set_fault_code self.now }
     {
@@ -48,7 +48,7 @@ impl SetFault {
         }
     }
 
-    /// The place of the fault. A set has none: 0.
+    /// The place of the fault: 0, since a set has no places.
     pub fn at(&self) -> usize
         ensures { result ≡ 0 }
     {
@@ -57,7 +57,8 @@ impl SetFault {
 }
 
 impl PatternSet {
-    /// The set of these patterns. Refused exactly where there are more than 1,024, want of memory aside.
+    /// Makes the set of these patterns. Refused with S1 if and only if there are more than 1,024, and with S2 if memory is
+    /// refused.
     pub fn build(alloc: Global, patterns: &[Pattern]) -> Result<PatternSet, SetFault>
         ensures built { IfOk result (λ set. set ≡ patterns.now) }
         ensures too_many { IsErrOf result SetFault.TooManyPatterns ↔ (pattern_limit < length patterns.now) }

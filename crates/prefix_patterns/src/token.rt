@@ -7,12 +7,12 @@ use crate::address::{ADDRESS_LENGTH, Ip};
 use crate::number::read_number;
 use crate::prefix::Prefix;
 
-/// Reads a text that is one prefix token and nothing else, as `10.0.0.0/8`. The bits past the length are left out.
+/// Reads a text that is exactly one prefix, such as `10.0.0.0/8`. Bits past the length are cleared.
 #[tactic(auto, unfolding(crate::specs::Reading::prefix_in))]
 pub fn read_prefix(text: &[u8]) -> Option<Prefix>
-    // What is read is written there.
+    // What is read is what the text writes.
     ensures found { IfSome result (λ prefix. IsPrefix text.now prefix) }
-    // A text that writes a prefix is read as that one.
+    // A text that writes a prefix is read as that prefix.
     ensures only { (bits : List Bool) → IsPrefix text.now bits → result ≡ Some bits }
     ensures exact { result ≡ prefix_in text.now }
 {
@@ -22,12 +22,12 @@ pub fn read_prefix(text: &[u8]) -> Option<Prefix>
     Some(Prefix::masked(ip, len as u8))
 }
 
-/// Reads a text that is one address token and nothing else, as `10.0.0.1`.
+/// Reads a text that is exactly one address, such as `10.0.0.1`.
 #[tactic(auto, unfolding(crate::specs::Reading::address_in))]
 pub fn read_ip(text: &[u8]) -> Option<Ip>
-    // What is read is written there.
+    // What is read is what the text writes.
     ensures found { IfSome result (λ ip. IsAddress text.now ip.0) }
-    // A text that writes an address is read as that one.
+    // A text that writes an address is read as that address.
     ensures only { (address : ℕ) → IsAddress text.now address → IsSomeAnd result (λ ip. ip.0 ≡ address) }
     ensures exact { address_in text.now ≡ option_map (λ ip. ip.0) result }
 {
@@ -67,10 +67,10 @@ fn cut(text: &[u8], separator: u8) -> Option<(&[u8], &[u8])>
     Some((&text[..at], &text[at + 1..]))
 }
 
-/// The index of the first byte that is `wanted`.
-fn find(text: &[u8], wanted: u8) -> Option<usize>
-    ensures at { result ≡ position (λ byte. byte == wanted) text.now }
+/// The index of the first separator.
+fn find(text: &[u8], separator: u8) -> Option<usize>
+    ensures at { result ≡ position (λ byte. byte == separator) text.now }
     ensures within { IfSome result (λ at. at < length text.now) }
 {
-    text.iter().position(|byte| *byte == wanted)
+    text.iter().position(|byte| *byte == separator)
 }

@@ -7,16 +7,26 @@ use Rattle.code_file.proofs.reading.sets.Goals as goal
 pub returns-in_err-set-clause-value : goal.returns-in_err-set-clause-value
 returns-in_err-set-clause-value c =
     let p = err_from_is_err_and c.from_residual-in_err-set.result c.from_residual-in_err-set.ensures.1 in
+    let l = c.loop in
+    let total = read (times c.args.count a_set) c.args.reader.now in
     rw (p.1, p.2) (elim c.in_err-set.ensures [
       | inl none ↦ inl none
-      | inr met ↦ inr (stops a_set c.loop.sets.items c.args.count c.loop.counter c.loop.reader c.in_err-set.field-0.0 (read (times c.args.count a_set) c.args.reader.now) c.loop-test.true met c.loop.invariant.told)
+      | inr met ↦ inr (stops a_set l.sets.items c.args.count l.counter l.reader c.in_err-set.field-0.0 total
+        c.loop-test.true met l.invariant.told)
     ])
 
 pub loop-preserved : goal.loop-preserved
-loop-preserved c = record {
-  told = rw c.in_ok-push.ensures.items (goes_on a_set c.loop.sets.items c.args.count c.loop.counter c.loop.reader c.set.new.reader c.in_ok-set.set (read (times c.args.count a_set) c.args.reader.now) c.loop-test.true c.in_ok-set.ensures c.loop.invariant.told);
-  count = search rules;
-}
+loop-preserved c =
+    let l = c.loop in
+    let total = read (times c.args.count a_set) c.args.reader.now in
+    record {
+      told = rw c.in_ok-push.ensures.items (goes_on a_set l.sets.items c.args.count l.counter l.reader c.set.new.reader c.in_ok-set.set
+              total c.loop-test.true c.in_ok-set.ensures l.invariant.told);
+      count = search rules;
+    }
 
 pub returns-clause-value : goal.returns-clause-value
-returns-clause-value c = ends a_set c.loop.sets.items c.args.count c.loop.counter c.loop.reader (read (times c.args.count a_set) c.args.reader.now) c.loop-test.false c.loop.invariant.told
+returns-clause-value c =
+    let l = c.loop in
+    let total = read (times c.args.count a_set) c.args.reader.now in
+    ends a_set l.sets.items c.args.count l.counter l.reader total c.loop-test.false l.invariant.told

@@ -4,6 +4,9 @@ use Rattle.code_file.proofs.writing.put_instructions.Goals as goal
 
 pub loop-instr-preserved : goal.loop-instr-preserved
 loop-instr-preserved c = record {
-  written = grown (λ i. bytes_of (instruction i)) c.args.out.now.items c.loop-instr.out.items c.put_instruction.new.out.items c.args.instrs.now c.loop-instr.instr-index c.instr-item.result c.loop-instr-test.true c.instr-item.is c.loop-instr.invariant.written c.in_ok-put_instruction.ensures.written;
-  fits = all_grown IsInstruction c.args.instrs.now c.loop-instr.instr-index c.instr-item.result c.loop-instr-test.true c.instr-item.is c.in_ok-put_instruction.ensures.fits c.loop-instr.invariant.fits;
+  written = grown (λ i. bytes_of (instruction i)) c.args.out.now.items c.loop-instr.out.items c.put_instruction.new.out.items
+      c.args.instrs.now c.loop-instr.instr-index c.instr-item.result c.loop-instr-test.true c.instr-item.is
+      c.loop-instr.invariant.written c.in_ok-put_instruction.ensures.written;
+  fits = all_grown IsInstruction c.args.instrs.now c.loop-instr.instr-index c.instr-item.result c.loop-instr-test.true
+      c.instr-item.is c.in_ok-put_instruction.ensures.fits c.loop-instr.invariant.fits;
 }

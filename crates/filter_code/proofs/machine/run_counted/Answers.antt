@@ -9,17 +9,20 @@ use Rattle.filter_code.proofs.machine.run_counted.Goals as goal
 
 pub loop-instr-init : goal.loop-instr-init
 loop-instr-init c =
-    rw (c.new-stack.ensures, c.new-locals.ensures, c.locals.ensures.value, c.metric-metric.ensures.value) (begun_in c.args.code.now c.args.route.now)
+    rw (c.new-stack.ensures, c.new-locals.ensures, c.locals.ensures.value, c.metric-metric.ensures.value)
+    (begun_in c.args.code.now c.args.route.now)
 
 pub loop-instr-preserved : goal.loop-instr-preserved
 loop-instr-preserved c =
     let config : Config = config_of c.loop-instr.pc c.loop-instr.stack c.loop-instr.locals c.loop-instr.metric in
-    carried_on c.args.code.now c.args.route.now c.loop-instr.steps config c.in-Some.instr.now _ c.loop-instr.invariant (grind (arith, common_steps, gets)) (c.in-Ok.ensures.step c.loop-instr.pc)
+    carried_on c.args.code.now c.args.route.now c.loop-instr.steps config c.in-Some.instr.now _ c.loop-instr.invariant
+    (grind (arith, common_steps, gets)) (c.in-Ok.ensures.step c.loop-instr.pc)
 
 pub returns-in-Err : goal.returns-in-Err
 returns-in-Err c =
     let config : Config = config_of c.loop-instr.pc c.loop-instr.stack c.loop-instr.locals c.loop-instr.metric in
-    let ended = carried_over c.args.code.now c.args.route.now c.loop-instr.steps config c.in-Some.instr.now _ c.loop-instr.invariant (grind (arith, common_steps, gets)) (c.in-Err.ensures.step c.loop-instr.pc) in
+    let ended = carried_over c.args.code.now c.args.route.now c.loop-instr.steps config c.in-Some.instr.now _
+    c.loop-instr.invariant (grind (arith, common_steps, gets)) (c.in-Err.ensures.step c.loop-instr.pc) in
     let ends = rw (← c.at.ensures) at ended in
     record {
       outcome = outcome_after _ _ _ _ ends;

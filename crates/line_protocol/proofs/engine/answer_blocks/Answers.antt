@@ -12,14 +12,16 @@ turns-init g c =
       cleared = c.requires.written;
       within = omega arith;
       short = omega arith;
-      under_way = begins g.S.Service.answers c.args.service.now (g.R.Read.remaining c.args.reader.now) (g.W.Write.contents c.args.writer.now) p.number p.refused c.requires.first c.requires.counted;
+      under_way = begins g.S.Service.answers c.args.service.now (g.R.Read.remaining c.args.reader.now)
+          (g.W.Write.contents c.args.writer.now) p.number p.refused c.requires.first c.requires.counted;
     }
 
 pub returns-in_err-n-clause-err : goal.returns-in_err-n-clause-err
 returns-in_err-n-clause-err g c =
     let p = err_from_is_err_and c.from_residual.result c.from_residual.ensures.1 in
     let was = c.turns.progress in
-    rw (p.1, p.2) (stop_read g.S.Service.answers c.args.service.now (g.W.Write.contents c.args.writer.now) c.in_err-n.field-0.0 (g.R.Read.remaining c.args.reader.now)
+    rw (p.1, p.2) (stop_read g.S.Service.answers c.args.service.now (g.W.Write.contents c.args.writer.now) c.in_err-n.field-0.0
+    (g.R.Read.remaining c.args.reader.now)
     c.turns.service (g.R.Read.remaining c.turns.reader) (g.R.Read.remaining c.read_block.new.reader) (g.W.Write.contents c.turns.writer)
     (take c.turns.begun c.turns.buffer.items) c.turns.total was.number was.refused c.turns.invariant.under_way c.in_err-n.ensures.err)
 
@@ -29,9 +31,12 @@ returns-in_err-answer_rest-clause-err g c =
     let was = c.turns.progress in
     let none = rw c.if-n-eq0.true at c.in_ok-n.ensures.bytes in
     let broken = rw (c.as_slice.ensures.value, c.in_ok-n.ensures.front) at c.in_err-answer_rest.ensures.err in
-    rw (p.1, p.2) (stop_rest g.S.Service.answers c.args.service.now (g.W.Write.contents c.args.writer.now) c.in_err-answer_rest.field-0.0 (g.R.Read.remaining c.args.reader.now)
-    c.turns.service c.answer_rest.new.service (g.R.Read.remaining c.turns.reader) (g.R.Read.remaining c.read_block.new.reader) (g.W.Write.contents c.turns.writer) (g.W.Write.contents c.answer_rest.new.writer)
-    (take c.turns.begun c.turns.buffer.items) c.turns.total was.number was.refused c.turns.invariant.under_way none (c.in_ok-n.ensures.end c.if-n-eq0.true) broken)
+    rw (p.1, p.2) (stop_rest g.S.Service.answers c.args.service.now (g.W.Write.contents c.args.writer.now)
+    c.in_err-answer_rest.field-0.0 (g.R.Read.remaining c.args.reader.now)
+    c.turns.service c.answer_rest.new.service (g.R.Read.remaining c.turns.reader) (g.R.Read.remaining c.read_block.new.reader)
+    (g.W.Write.contents c.turns.writer) (g.W.Write.contents c.answer_rest.new.writer)
+    (take c.turns.begun c.turns.buffer.items) c.turns.total was.number was.refused c.turns.invariant.under_way none
+    (c.in_ok-n.ensures.end c.if-n-eq0.true) broken)
 
 pub returns-then-n-eq0-clause-ok : goal.returns-then-n-eq0-clause-ok
 returns-then-n-eq0-clause-ok g c =
@@ -40,15 +45,20 @@ returns-then-n-eq0-clause-ok g c =
     let none = rw c.if-n-eq0.true at c.in_ok-n.ensures.bytes in
     let told = rw (c.as_slice.ensures.value, c.in_ok-n.ensures.front) at c.in_ok-answer_rest.ensures.ok in
     finish_end g.S.Service.answers c.args.service.now (g.W.Write.contents c.args.writer.now) (g.R.Read.remaining c.args.reader.now)
-    c.turns.service c.answer_rest.new.service (g.R.Read.remaining c.turns.reader) (g.R.Read.remaining c.read_block.new.reader) (g.W.Write.contents c.turns.writer) (g.W.Write.contents c.answer_rest.new.writer)
-    (take c.turns.begun c.turns.buffer.items) c.turns.total was.number now.number was.refused now.refused now.over c.turns.invariant.under_way none (c.in_ok-n.ensures.end c.if-n-eq0.true) told c.turns.invariant.short
+    c.turns.service c.answer_rest.new.service (g.R.Read.remaining c.turns.reader) (g.R.Read.remaining c.read_block.new.reader)
+    (g.W.Write.contents c.turns.writer) (g.W.Write.contents c.answer_rest.new.writer)
+    (take c.turns.begun c.turns.buffer.items) c.turns.total was.number now.number was.refused now.refused now.over
+    c.turns.invariant.under_way none (c.in_ok-n.ensures.end c.if-n-eq0.true) told c.turns.invariant.short
 
 pub answer_block-requires-clause-none : goal.answer_block-requires-clause-none
 answer_block-requires-clause-none g c =
     let (front, given, done, begun_open) = c.turns.invariant.under_way in
     let fits : c.turns.begun ≤ (c.turns.begun + c.in_ok-n.n) - c.saturating_sub.result = omega (arith, c.in_ok-n.ensures.room.0) in
-    let long : c.turns.begun ≤ length c.read_block.new.buffer.items = omega (arith, c.in_ok-n.ensures.room.1, c.read_block.new.buffer.ok.0) in
-    rw c.as_slice-in-turns.ensures.value (begun_none c.turns.buffer.items c.read_block.new.buffer.items c.turns.begun c.in_ok-n.ensures.front _ begun_open fits long)
+    let long : c.turns.begun ≤ length c.read_block.new.buffer.items =
+    omega (arith, c.in_ok-n.ensures.room.1, c.read_block.new.buffer.ok.0) in
+    rw c.as_slice-in-turns.ensures.value
+    (begun_none c.turns.buffer.items c.read_block.new.buffer.items c.turns.begun c.in_ok-n.ensures.front _ begun_open fits
+    long)
 
 pub returns-in_err-at-clause-err : goal.returns-in_err-at-clause-err
 returns-in_err-at-clause-err g c =
@@ -58,9 +68,12 @@ returns-in_err-at-clause-err g c =
     let end = (c.turns.begun + c.in_ok-n.n) - c.saturating_sub.result in
     let broken = rw c.as_slice-in-turns.ensures.value at c.in_err-at.ensures.err in
     let cut = begun_cut c.turns.buffer.items new c.turns.begun c.in_ok-n.ensures.front c.in_ok-n.n end (omega arith) in
-    rw (p.1, p.2) (stop_block g.S.Service.answers c.args.service.now (g.W.Write.contents c.args.writer.now) c.in_err-at.field-0.0 (g.R.Read.remaining c.args.reader.now)
-    c.turns.service c.answer_block.new.service (g.R.Read.remaining c.turns.reader) (g.R.Read.remaining c.read_block.new.reader) (g.W.Write.contents c.turns.writer) (g.W.Write.contents c.answer_block.new.writer)
-    (take c.turns.begun c.turns.buffer.items) (take c.in_ok-n.n (drop c.turns.begun new)) (take end new) (drop end (take (c.turns.begun + c.in_ok-n.n) new))
+    rw (p.1, p.2) (stop_block g.S.Service.answers c.args.service.now (g.W.Write.contents c.args.writer.now)
+    c.in_err-at.field-0.0 (g.R.Read.remaining c.args.reader.now)
+    c.turns.service c.answer_block.new.service (g.R.Read.remaining c.turns.reader) (g.R.Read.remaining c.read_block.new.reader)
+    (g.W.Write.contents c.turns.writer) (g.W.Write.contents c.answer_block.new.writer)
+    (take c.turns.begun c.turns.buffer.items) (take c.in_ok-n.n (drop c.turns.begun new)) (take end new)
+    (drop end (take (c.turns.begun + c.in_ok-n.n) new))
     c.turns.total was.number was.refused c.turns.invariant.under_way c.in_ok-n.ensures.bytes cut broken)
 
 pub returns-then-total-gt-INPUT_LIMIT-clause-err : goal.returns-then-total-gt-INPUT_LIMIT-clause-err
@@ -87,10 +100,14 @@ returns-then-total-gt-INPUT_LIMIT-clause-err g c =
     let long : c.turns.total + n ≡ 16777217 = omega (arith, c.in_ok-n.ensures.room.0) in
     stop_long g.S.Service.answers c.args.service.now (g.W.Write.contents c.args.writer.now) (g.R.Read.remaining c.args.reader.now)
     c.answer_block.new.service (g.R.Read.remaining c.read_block.new.reader) (g.W.Write.contents c.answer_block.new.writer)
-    (front ++ take c.in_ok-at.at (take end new)) (take end new) excess c.in_ok-at.at (given ++ found) (c.turns.total + n) now.number now.refused now.over
-    (step g.S.Service.answers c.args.service.now (g.R.Read.remaining c.args.reader.now) (g.W.Write.contents c.args.writer.now) c.turns.service c.answer_block.new.service
-    (g.R.Read.remaining c.turns.reader) (g.R.Read.remaining c.read_block.new.reader) (g.W.Write.contents c.turns.writer) (g.W.Write.contents c.answer_block.new.writer)
-    front (take c.turns.begun c.turns.buffer.items) more (take end new) excess c.in_ok-at.at given found c.turns.total (c.turns.total + n) was.number now.number was.refused now.refused now.over
+    (front ++ take c.in_ok-at.at (take end new)) (take end new) excess c.in_ok-at.at (given ++ found) (c.turns.total + n)
+    now.number now.refused now.over
+    (step g.S.Service.answers c.args.service.now (g.R.Read.remaining c.args.reader.now) (g.W.Write.contents c.args.writer.now)
+    c.turns.service c.answer_block.new.service
+    (g.R.Read.remaining c.turns.reader) (g.R.Read.remaining c.read_block.new.reader) (g.W.Write.contents c.turns.writer)
+    (g.W.Write.contents c.answer_block.new.writer)
+    front (take c.turns.begun c.turns.buffer.items) more (take end new) excess c.in_ok-at.at given found c.turns.total
+    (c.turns.total + n) was.number now.number was.refused now.refused now.over
     done c.in_ok-n.ensures.bytes cut sum told written)
     none long one
 
@@ -113,10 +130,14 @@ returns-then-progress-clause-ok g c =
     let sum : c.turns.total + n ≡ c.turns.total + length more = omega arith in
     finish_over g.S.Service.answers c.args.service.now (g.W.Write.contents c.args.writer.now) (g.R.Read.remaining c.args.reader.now)
     c.answer_block.new.service (g.R.Read.remaining c.read_block.new.reader) (g.W.Write.contents c.answer_block.new.writer)
-    (front ++ take c.in_ok-at.at (take end new)) (drop c.in_ok-at.at (take end new) ++ excess) (given ++ found) (c.turns.total + n) now.number now.refused
-    (step g.S.Service.answers c.args.service.now (g.R.Read.remaining c.args.reader.now) (g.W.Write.contents c.args.writer.now) c.turns.service c.answer_block.new.service
-    (g.R.Read.remaining c.turns.reader) (g.R.Read.remaining c.read_block.new.reader) (g.W.Write.contents c.turns.writer) (g.W.Write.contents c.answer_block.new.writer)
-    front (take c.turns.begun c.turns.buffer.items) more (take end new) excess c.in_ok-at.at given found c.turns.total (c.turns.total + n) was.number now.number was.refused now.refused true
+    (front ++ take c.in_ok-at.at (take end new)) (drop c.in_ok-at.at (take end new) ++ excess) (given ++ found)
+    (c.turns.total + n) now.number now.refused
+    (step g.S.Service.answers c.args.service.now (g.R.Read.remaining c.args.reader.now) (g.W.Write.contents c.args.writer.now)
+    c.turns.service c.answer_block.new.service
+    (g.R.Read.remaining c.turns.reader) (g.R.Read.remaining c.read_block.new.reader) (g.W.Write.contents c.turns.writer)
+    (g.W.Write.contents c.answer_block.new.writer)
+    front (take c.turns.begun c.turns.buffer.items) more (take end new) excess c.in_ok-at.at given found c.turns.total
+    (c.turns.total + n) was.number now.number was.refused now.refused true
     done c.in_ok-n.ensures.bytes cut sum told written)
     (omega arith)
 
@@ -141,8 +162,13 @@ turns-preserved g c =
       cleared = c.in_ok-at.ensures.cleared;
       within = omega (arith, c.in_ok-n.ensures.room.1);
       short = omega arith;
-      under_way = rw c.keep_begun-begun.ensures.kept (next g.S.Service.answers c.args.service.now (g.R.Read.remaining c.args.reader.now) (g.W.Write.contents c.args.writer.now)
-          c.turns.service c.answer_block.new.service (g.R.Read.remaining c.turns.reader) (g.R.Read.remaining c.read_block.new.reader) (g.W.Write.contents c.turns.writer) (g.W.Write.contents c.answer_block.new.writer)
-          (take c.turns.begun c.turns.buffer.items) more (take end new) c.in_ok-at.at c.turns.total (c.turns.total + n) was.number now.number was.refused now.refused
+      under_way = rw c.keep_begun-begun.ensures.kept
+          (next g.S.Service.answers c.args.service.now (g.R.Read.remaining c.args.reader.now)
+          (g.W.Write.contents c.args.writer.now)
+          c.turns.service c.answer_block.new.service (g.R.Read.remaining c.turns.reader)
+          (g.R.Read.remaining c.read_block.new.reader) (g.W.Write.contents c.turns.writer)
+          (g.W.Write.contents c.answer_block.new.writer)
+          (take c.turns.begun c.turns.buffer.items) more (take end new) c.in_ok-at.at c.turns.total (c.turns.total + n)
+          was.number now.number was.refused now.refused
           c.turns.invariant.under_way c.in_ok-n.ensures.bytes cut sum told none);
     }

@@ -10,7 +10,8 @@ invariant-lines g l = record {
   within : l.from ≤ length l.bytes;
   none : NoneEnds l.bytes l.at l.from;
   goes_on : l.progress.over ≡ false;
-  so_far : (given : List Answer) × AnswersFront g.S.Service.answers l.initial.service l.service l.bytes l.at given l.initial.progress.number l.progress.number l.initial.progress.refused l.progress.refused false
+  so_far : (given : List Answer) × AnswersFront g.S.Service.answers l.initial.service l.service l.bytes l.at given
+      l.initial.progress.number l.progress.number l.initial.progress.refused l.progress.refused false
       × (l.progress.text.items ≡ l.initial.progress.text.items ++ text_of given);
 }
 

@@ -13,4 +13,5 @@ pub returns-clause-found : goal.returns-clause-found
 returns-clause-found c =
     let rest = c.trim_front_blanks-line.result.now in
     rw (c.split_at.ensures.front, c.split_at.ensures.back)
-    (words-cut is_blank c.args.line.now rest c.trim_front_blanks-line.ensures c.word_len.result c.word_len.ensures.len (grind (arith, nat_tests)))
+    (words-cut is_blank c.args.line.now rest c.trim_front_blanks-line.ensures c.word_len.result c.word_len.ensures.len
+    (grind (arith, nat_tests)))

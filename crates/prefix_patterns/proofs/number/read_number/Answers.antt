@@ -14,7 +14,14 @@ unfolding decimal_value
 loop-byte-init c = record { digits = λ k d within. absurd (omega arith); value = refl; limit = omega arith }
 
 pub returns-then-is_empty-clause-exact : goal.returns-then-is_empty-clause-exact
-returns-then-is_empty-clause-exact c = sym (number_in-none c.args.most c.args.text.now (λ number. absurd (omega (arith, number.0.some, eqb-true (length c.args.text.now) 0 (sym c.is_empty.ensures ∙ c.if-is_empty.true)))))
+returns-then-is_empty-clause-exact c =
+    sym (number_in-none c.args.most c.args.text.now
+    (λ number. absurd (omega (
+      arith,
+      number.0.some,
+      eqb-true (length c.args.text.now) 0
+          (sym c.is_empty.ensures ∙ c.if-is_empty.true),
+    ))))
 
 -- a byte that is no digit, or a front that writes too large a number: the whole writes none
 refused : (most : ℕ) (text : List ℕ) (at value : ℕ) → at < length text → value ≡ decimal_value (take at text)
@@ -33,7 +40,8 @@ returns-in_err-value-clause-cases c =
 pub returns-in_err-value-clause-exact : goal.returns-in_err-value-clause-exact
 returns-in_err-value-clause-exact c =
     let within : c.loop-byte.byte-index < length c.args.text.now = omega arith in
-    c.from_residual.ensures ∙ sym (number_in-none _ _ (refused _ _ c.loop-byte.byte-index _ within c.loop-byte.invariant.value c.in_err-value.ensures))
+    c.from_residual.ensures ∙ sym (number_in-none _ _
+    (refused _ _ c.loop-byte.byte-index _ within c.loop-byte.invariant.value c.in_err-value.ensures))
 
 pub returns-clause-exact : goal.returns-clause-exact
 returns-clause-exact c =
@@ -41,8 +49,11 @@ returns-clause-exact c =
     let whole : take c.loop-byte.byte-index text ≡ text = take_all c.loop-byte.byte-index text c.loop-byte-test.false in
     let value : c.loop-byte.value ≡ decimal_value text = c.loop-byte.invariant.value ∙ ap decimal_value whole in
     let some : 0 < length text = pos_of_ne-zero (eqb-false (length text) 0 (sym c.is_empty.ensures ∙ c.if-is_empty.false)) in
-    let number : IsNumber c.args.most text =
-    (record { some = some; each = All-same IsAsciiDigit _ _ (sym whole) c.loop-byte.invariant.digits }, omega (arith, value, c.loop-byte.invariant.limit)) in
+    let number : IsNumber c.args.most text = (
+      record { some = some; each = All-same IsAsciiDigit _ _ (sym whole) c.loop-byte.invariant.digits },
+      omega
+          (arith, value, c.loop-byte.invariant.limit),
+    ) in
     ap Some value ∙ sym (number_in-some c.args.most text number)
 
 pub loop-byte-preserved : goal.loop-byte-preserved

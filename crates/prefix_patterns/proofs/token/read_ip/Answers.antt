@@ -10,7 +10,8 @@ found : (text : List ℕ) (result : Option Ip) → address_in text ≡ option_ma
 found text None e = tt
 found text (Some ip) e = address_in-found text ip.0 e
 
-only : (text : List ℕ) (result : Option Ip) → address_in text ≡ option_map (λ ip. ip.0) result → (address : ℕ) → IsAddress text address → IsSomeAnd result (λ ip. ip.0 ≡ address)
+only : (text : List ℕ) (result : Option Ip) → address_in text ≡ option_map (λ ip. ip.0) result →
+    (address : ℕ) → IsAddress text address → IsSomeAnd result (λ ip. ip.0 ≡ address)
 only text None e address is = let some = address_in-only text address is in absurd cc
 only text (Some ip) e address is = let some = address_in-only text address is in cc
 

@@ -6,7 +6,12 @@ use Rattle.prefix_patterns.proofs.prefix.Prefix.first.Goals as goal
 
 pub masked-requires : goal.masked-requires
 masked-requires c =
-    omega (arith, c.self.invariant.limit, length-prefix_bits c.self.inside.address c.self.inside.len c.self.invariant.limit, ap length c.self.view_is)
+    omega (
+      arith,
+      c.self.invariant.limit,
+      length-prefix_bits c.self.inside.address c.self.inside.len c.self.invariant.limit,
+      ap length c.self.view_is,
+    )
 
 pub returns : goal.returns
 returns c =

@@ -5,7 +5,8 @@ use Rattle.prefix_patterns.specs.BitLists.{prefix_bits-cleared, address_of-prefi
 use Rattle.prefix_patterns.proofs.prefix.Prefix.masked.Goals as goal
 
 -- the shifts lose nothing at 64 bits
-shifted : (n address len : ℕ) → n ≡ address → address < 2 ^ 32 → n / 2 ^ (32 - len) * 2 ^ (32 - len) % 2 ^ 64 ≡ address / 2 ^ (32 - len) * 2 ^ (32 - len)
+shifted : (n address len : ℕ) → n ≡ address → address < 2 ^ 32 →
+    n / 2 ^ (32 - len) * 2 ^ (32 - len) % 2 ^ 64 ≡ address / 2 ^ (32 - len) * 2 ^ (32 - len)
 shifted n address len e fits =
     rw e (shl_whole (address / 2 ^ (32 - len)) 32 (32 - len) 64 (omega (arith, shr_le address (32 - len))) (omega arith))
 

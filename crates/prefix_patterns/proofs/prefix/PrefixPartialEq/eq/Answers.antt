@@ -15,7 +15,8 @@ pub returns-then-self-other : goal.returns-then-self-other
 returns-then-self-other c =
     let p = c.self.inside in
     let q = c.other.inside in
-    let same_lengths = λ (e : p.len ≡ q.len). sym c.self.view_is ∙ (ap (λ n. prefix_bits n p.len) c.if-self-other.true ∙ ap (prefix_bits q.address) e) ∙ c.other.view_is in
+    let same_lengths = λ (e : p.len ≡ q.len). sym c.self.view_is
+    ∙ (ap (λ n. prefix_bits n p.len) c.if-self-other.true ∙ ap (prefix_bits q.address) e) ∙ c.other.view_is in
     let same_lists = λ (e : c.args.self.now ≡ c.args.other.now).
     sym (length-prefix_bits p.address p.len c.self.invariant.limit)
     ∙ ap length (c.self.view_is ∙ e ∙ sym c.other.view_is)
@@ -28,4 +29,5 @@ returns-else-self-other c =
     let q = c.other.inside in
     let same_addresses = λ (e : c.args.self.now ≡ c.args.other.now).
     sym c.self.invariant.clear ∙ ap address_of (c.self.view_is ∙ e ∙ sym c.other.view_is) ∙ c.other.invariant.clear in
-    same_from_decides _ _ (Decides-like _ (λ e. absurd (c.if-self-other.false e)) same_addresses (Decides-eqb p.address q.address)) (same_bits c.args.self.now c.args.other.now)
+    same_from_decides _ _ (Decides-like _ (λ e. absurd (c.if-self-other.false e)) same_addresses
+    (Decides-eqb p.address q.address)) (same_bits c.args.self.now c.args.other.now)
