@@ -229,16 +229,18 @@ fn tells_of_a_failed_flush(rt: HostRuntime) {
     }
 }
 
+/// What is read at once, and what has to be written before the next read.
+const TYPED: &[(&[u8], &[u8])] = &[
+    (b"a\n", b"1 a\n"),
+    (b"b\n!c\nbeg", b"2 b\nrefused O9 3\n"),
+    (b"un\n", b"4 begun\n"),
+    (b"# d\n", b""),
+    (b"e", b""),
+];
+
 #[test]
 fn answers_before_it_reads_on(rt: HostRuntime) {
-    let lines: [(&[u8], &[u8]); 5] = [
-        (b"a\n", b"1 a\n"),
-        (b"b\n!c\nbeg", b"2 b\nrefused O9 3\n"),
-        (b"un\n", b"4 begun\n"),
-        (b"# d\n", b""),
-        (b"e", b""),
-    ];
-    let terminal = Terminal::new(rt.alloc(), &lines);
+    let terminal = Terminal::new(rt.alloc(), TYPED);
     let result = answer_lines(rt.alloc(), &mut &terminal, &mut &terminal, &mut Echo);
     assert_eq!(&rt; result, Ok(1));
 }

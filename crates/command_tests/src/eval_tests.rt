@@ -265,18 +265,20 @@ fn answers_before_a_read_fault(rt: HostRuntime) {
     }
 }
 
+/// What is read at once, and what has to be written before the next read.
+const TYPED: &[(&[u8], &[u8])] = &[
+    (b"4e4346310000000170\n", b""),
+    (b"10.0.0.0/8 3 8\n", b"accept 3\n"),
+    (
+        b"10.0.0.0/8 4\n10.0.0.0/8 5 8\n",
+        b"refused O1 3\naccept 5\n",
+    ),
+    (b"# the end\n", b""),
+];
+
 #[test]
 fn answers_before_it_reads_on(rt: HostRuntime) {
-    let lines: [(&[u8], &[u8]); 4] = [
-        (b"4e4346310000000170\n", b""),
-        (b"10.0.0.0/8 3 8\n", b"accept 3\n"),
-        (
-            b"10.0.0.0/8 4\n10.0.0.0/8 5 8\n",
-            b"refused O1 3\naccept 5\n",
-        ),
-        (b"# the end\n", b""),
-    ];
-    let terminal = Terminal::new(rt.alloc(), &lines);
+    let terminal = Terminal::new(rt.alloc(), TYPED);
     let result = eval_lines(rt.alloc(), &mut &terminal, &mut &terminal);
     assert_eq!(&rt; result, Ok(1));
 }

@@ -109,19 +109,30 @@ fn nesting_of_32_is_read(rt: HostRuntime) -> Result<(), Fail> {
 }
 
 #[test]
-fn patterns_stand_for_their_lengths(rt: HostRuntime) -> Result<(), Fail> {
+fn patterns_keep_their_places_and_lengths(rt: HostRuntime) -> Result<(), Fail> {
     let text = text_with(
         rt.alloc(),
-        "net ~ [10.0.0.0/8, 10.0.0.0/8+, 10.0.0.0/8-, 10.0.0.0/8{9,24}]",
+        "net ~ [10.0.0.0/8, 10.0.0.0/8, 10.0.0.0/8+, 10.0.0.0/8+, \
+        10.0.0.0/8-, 10.0.0.0/8-, 10.0.0.0/8{9,24}, 10.0.0.0/8{10,11}]",
     )?;
     let filter = parse(rt.alloc(), text.as_bytes())?;
     let [Command::Assign(_, _, Expr::Member(_, _, set))] = filter.body() else {
         return Err(Fail::from("no set"));
     };
     let prefix = Prefix::new(Ip(0x0a00_0000), 8).ok_or("no prefix")?;
-    let lengths = [(8, 8), (8, 32), (0, 8), (9, 24)];
-    assert_eq!(rt; set.patterns.len(), lengths.len());
-    for (written, (low, high)) in set.patterns.iter().zip(lengths) {
+    let rows = [
+        (31, 8, 8),
+        (43, 8, 8),
+        (55, 8, 32),
+        (68, 8, 32),
+        (81, 0, 8),
+        (94, 0, 8),
+        (107, 9, 24),
+        (125, 10, 11),
+    ];
+    assert_eq!(rt; (set.at, set.patterns.len()), (30, rows.len()));
+    for (written, (at, low, high)) in set.patterns.iter().zip(rows) {
+        assert_eq!(rt; written.at(), at);
         assert_eq!(rt; Some(written.pattern()), Pattern::new(prefix, low, high));
     }
     Ok(())

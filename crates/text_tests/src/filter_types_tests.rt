@@ -165,6 +165,11 @@ const TAKEN: &[(&str, &[u8])] = &[
         "filter q { int a; { rip_metric = rip_metric + net.len; { a = rip_metric; } } }",
         &[0],
     ),
+    (
+        "filter q int a; int b; int c; int d; int e; int f; int g; int h; int i; int j; int k; int l; int m; int n; \
+        int o; { int p; p = a + o; a = b + p; }",
+        &[15, 0, 14, 0, 1, 15],
+    ),
 ];
 
 fn fault_of(alloc: Global, text: &[u8]) -> Result<(&'static str, usize), Fail> {

@@ -11,3 +11,5 @@ mod filter_tokens_tests;
 mod filter_types_tests;
 #[cfg(test)]
 mod left_out;
+#[cfg(test)]
+mod refusal_words_tests;

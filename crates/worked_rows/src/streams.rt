@@ -79,9 +79,9 @@ impl Write for FailingWriter {
 /// One who types a line at a time, and types the next only after the answer to the last was written and flushed: else a read
 /// fails. A reference to it is both a reader and a writer.
 #[derive(Drop)]
-pub struct Terminal<'a> {
+pub struct Terminal {
     /// Each line, and the answer that comes before the next.
-    lines: &'a [(&'a [u8], &'a [u8])],
+    lines: &'static [(&'static [u8], &'static [u8])],
     /// How many lines were typed.
     typed: Cell<usize>,
     /// What was written since the last line.
@@ -90,9 +90,9 @@ pub struct Terminal<'a> {
     flushed: Cell<bool>,
 }
 
-impl Terminal<'_> {
+impl Terminal {
     /// One who has typed nothing yet.
-    pub fn new<'a>(alloc: Global, lines: &'a [(&'a [u8], &'a [u8])]) -> Terminal<'a> {
+    pub fn new(alloc: Global, lines: &'static [(&'static [u8], &'static [u8])]) -> Terminal {
         Terminal {
             lines,
             typed: Cell::new(0),
@@ -114,7 +114,7 @@ impl Terminal<'_> {
     }
 }
 
-impl Read for &Terminal<'_> {
+impl Read for &Terminal {
     fn read(&mut self, buf: &mut [u8]) -> io::Result<usize> {
         if !self.is_answered() {
             return Err(io::Error::from(ErrorKind::TimedOut));
@@ -132,7 +132,7 @@ impl Read for &Terminal<'_> {
     }
 }
 
-impl Write for &Terminal<'_> {
+impl Write for &Terminal {
     fn write(&mut self, buf: &[u8]) -> io::Result<usize> {
         self.flushed.set(false);
         match self.answer.try_borrow_mut() {
