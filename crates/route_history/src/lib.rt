@@ -1,6 +1,7 @@
 //! The history of a router: its tables together with every event and reply, so that anyone can replay it.
 #![tactic(auto)]
 
+mod display;
 mod entry;
 mod fault;
 mod journal;
