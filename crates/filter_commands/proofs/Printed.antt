@@ -15,7 +15,7 @@ use Rattle.filter_source.specs.Limits.{source_limit}
 use Rattle.filter_source.specs.Sources.{code_in_bytes, code_in_hexadecimal, code_or_fault}
 use Rattle.filter_source.specs.declared.refusal.Refusal.{Refusal}
 use Rattle.filter_source.specs.declared.refusal.Refusal.TheVariants.{TooLong}
-use Rattle.filter_tokens.specs.Cutting as gaps
+use Rattle.filter_tokens.specs.Tokenization as gaps
 use Rattle.line_protocol.specs.Words as words
 use Rattle.filter_commands.proofs.FileBytes.{a_file}
 use Rattle.filter_commands.specs.Check.{IsCodeReport, IsReport, ReportView, printed, without_white_end}
@@ -40,14 +40,14 @@ trimmed_end : (bytes : List ℕ) → without_white_end (encode_lower bytes ++ 10
 trimmed_end bytes =
     let text = encode_lower bytes in
     let all : length (text ++ 10 ∷ []) ≡ length text + 1 = length-append text (10 ∷ []) in
-    let white : suffix_len gaps.is_blank (text ++ 10 ∷ []) ≡ length (text ++ 10 ∷ []) - length text =
-    suffix_len_is gaps.is_blank (text ++ 10 ∷ []) (length text) 0 (omega arith)
-    (λ k from below. let at : k ≡ length text = omega arith in ap (λ (j : ℕ). gaps.is_blank (get_or (text ++ 10 ∷ []) j 0)) at
-    ∙ ap gaps.is_blank (get_or-append_seam text 10 [] 0))
-    (λ some. let lt : length text - 1 < length text = omega arith in ap gaps.is_blank (get_or-append text (10 ∷ []) 0 (length text - 1) lt)
-    ∙ none_in gaps.is_blank refl refl bytes (length text - 1))
+    let white : suffix_len gaps.is_space (text ++ 10 ∷ []) ≡ length (text ++ 10 ∷ []) - length text =
+    suffix_len_is gaps.is_space (text ++ 10 ∷ []) (length text) 0 (omega arith)
+    (λ k from below. let at : k ≡ length text = omega arith in ap (λ (j : ℕ). gaps.is_space (get_or (text ++ 10 ∷ []) j 0)) at
+    ∙ ap gaps.is_space (get_or-append_seam text 10 [] 0))
+    (λ some. let lt : length text - 1 < length text = omega arith in ap gaps.is_space (get_or-append text (10 ∷ []) 0 (length text - 1) lt)
+    ∙ none_in gaps.is_space refl refl bytes (length text - 1))
     in
-    let kept : length (text ++ 10 ∷ []) - suffix_len gaps.is_blank (text ++ 10 ∷ []) ≡ length text = omega (arith, white, all) in
+    let kept : length (text ++ 10 ∷ []) - suffix_len gaps.is_space (text ++ 10 ∷ []) ≡ length text = omega (arith, white, all) in
     ap (λ (n : ℕ). take n (text ++ 10 ∷ [])) kept ∙ take-append-le (length text) text (10 ∷ []) (omega arith)
     ∙ take_all (length text) text (omega arith)
 

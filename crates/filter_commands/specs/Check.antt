@@ -11,7 +11,7 @@ use Rattle.filter_source.specs.Refusals.{place_in_line, refusal_code}
 use Rattle.filter_source.specs.Sources.{IsRefusedText, Translates, code_in_hexadecimal}
 use Rattle.filter_source.specs.declared.refusal.Refusal.{Refusal}
 use Rattle.filter_source.specs.declared.refusal.Refusal.TheVariants.{TooLong}
-use Rattle.filter_tokens.specs.Cutting.{is_blank}
+use Rattle.filter_tokens.specs.Tokenization.{is_space}
 use Rattle.filter_verifier.specs.FirstFault.{the_fault}
 use Rattle.filter_verifier.specs.Bounds.{cost, peak}
 use Rattle.filter_verifier.specs.Faults.{fault_code, fault_place}
@@ -61,7 +61,7 @@ pub record IsCodeReport (size : ℕ) (program : CodeView) (report : ReportView) 
 
 -- a text without the white space at its end: spaces, tabs, CRs and LFs
 abbrev pub without_white_end : List ℕ → List ℕ
-without_white_end text = take (length text - suffix_len is_blank text) text
+without_white_end text = take (length text - suffix_len is_space text) text
 
 -- the code of a code file in hexadecimal, or the translation of a filter's text
 abbrev pub IsCodeOf : Bool → List ℕ → CodeView → Type 0

@@ -1,7 +1,7 @@
 //! `ncroute check`: a filter's text, or a code file, becomes code, and the code is verified.
 ghost use Rattle.std.specs.Prelude.{◌≡◌, IfErr, IfOk, IfSome};
 ghost use Rattle.filter_source.specs.Failures.{OnRefusal};
-ghost use Rattle.filter_tokens.specs.Cutting.{is_blank};
+ghost use Rattle.filter_tokens.specs.Tokenization.{is_space};
 ghost use Rattle.filter_commands.specs.Check.{GivesCode, IsRefused, IsReport, without_white_end};
 ghost use Rattle.filter_commands.specs.Checking.{Checks, ChecksOff, report_of};
 ghost use Rattle.filter_commands.specs.Faults.{stream_fault};
