@@ -24,8 +24,8 @@ const NO_BOGONS: &[u8] = b"filter no_bogons {
 /// `examples/length_limits.filter`, without its comments.
 const LENGTH_LIMITS: &[u8] = b"filter length_limits
 prefix ours;
+bool host;
 {
-  bool host;
   ours = 203.0.112.0/20;
   host = net.len = 32 && net ~ 203.0.112.0/24;
   if host then accept;
@@ -46,9 +46,10 @@ int worse;
 }";
 
 /// `examples/floor_per_region.filter`, without its comments.
-const FLOOR_PER_REGION: &[u8] = b"filter floor_per_region {
-  int floor;
-  ip region;
+const FLOOR_PER_REGION: &[u8] = b"filter floor_per_region
+int floor;
+ip region;
+{
   region = net.ip.mask(16);
   if region = 10.1.0.0 then floor = 2;
   else if region >= 10.2.0.0 && region <= 10.3.0.0 then floor = 5;

@@ -1,0 +1,130 @@
+#!/usr/bin/env python3
+"""Runs what the documents show, and compares. Prints a line a document, and at last 'N passed, M failed'.
+
+usage: scripts/check_documents.py        (NCROUTE=PATH: the program; without it, the sources as they are, by `rt try`)
+
+- Each example: a line `    $ COMMAND` of README.md or docs/*.md, run at the top of the repository, writes the indented lines below it.
+- The table of the examples in docs/LANGUAGE.md: each filter of examples/ answers the route so.
+- Each listing of docs/VERIFIER.md (`    0 METRIC`, `    1 INT 2`, ..), as a code file with as many variables and sets as it names: `check --code`
+  refuses it as the listing says (`V3 at 6`), or verifies it. If a line of hexadecimal follows, it is that file.
+- The filters in crates/command_tests/src/examples_tests.rt are those of examples/, without the comments.
+"""
+import glob
+import os
+import re
+import sys
+
+sys.dont_write_bytecode = True
+import program  # noqa: E402
+
+SIZE = 8
+SET = "0001" + "01000000" + "080f11"
+
+
+def read(name):
+    with open(os.path.join(program.TOP, name), encoding="utf-8") as it:
+        return it.read()
+
+
+def examples(text):
+    """The commands of a document, and what they write."""
+    found = []
+    for line in text.split("\n"):
+        if line.startswith("    $ "):
+            found.append((line[6:], []))
+        elif line.startswith("    ") and found and found[-1][1] is not None:
+            found[-1][1].append(line[4:] + "\n")
+        elif found and not line.startswith("    "):
+            found.append(("", None))
+    return [(command, "".join(wanted)) for command, wanted in found if wanted is not None]
+
+
+def answers(text):
+    """The rows of the table of the examples: a filter's file, a route, and its answer in a domain of 16 nodes."""
+    name = None
+    for row in re.findall(r"(?m)^\| (?:`([\w.]+\.filter)`[^|]*)?\| `([\d./]+)` (\d+) \| `([^`]*)` \|$", text):
+        name = row[0] or name
+        route = f"{row[1]} {row[2]} 16"
+        command = f"(ncroute check --size 16 < examples/{name} | sed -n 's/^code //p'; echo {route}) | ncroute eval"
+        yield command, row[3] + "\n"
+
+
+def opcodes():
+    """The opcode of each instruction, and the bytes of its operand, from the table of docs/MACHINE.md."""
+    rows = re.findall(r"(?m)^\| ([0-9a-f]{2}) \| ([A-Z]+)[^|]*\| (?:(\d) bytes?)?", read("docs/MACHINE.md"))
+    return {name: (code, int(width or 0)) for code, name, width in rows}
+
+
+def listings(text):
+    """The listings of the verifier's document: the code file, the hexadecimal line if there is one, and the refusal that is stated."""
+    table = opcodes()
+    for block in re.findall(r"(?m)(?:^    \d+ [A-Z]+.*\n)+(?:    [0-9a-f]{16,}\n)?", text):
+        rows = re.findall(r"(?m)^    \d+ ([A-Z]+)(?: (\d+))?(?: +(.*))?$", block)
+        code = "".join(table[name][0] + (f"{int(operand):0{2 * table[name][1]}x}" if operand else "") for name, operand, _ in rows)
+        used = [int(operand) for name, operand, _ in rows if name in ("LOAD", "STORE")]
+        has_set = any(name == "MEMBER" for name, _, _ in rows)
+        file = f"4e434631{max(used, default=-1) + 1:02x}{has_set:02x}{SET if has_set else ''}{len(rows):04x}{code}"
+        shown = re.search(r"(?m)^    ([0-9a-f]{16,})$", block)
+        refusal = re.search(r"\b(V\d+) at (\d+)", block)
+        yield file, shown and shown.group(1), refusal and f"refused {refusal.group(1)} {refusal.group(2)}"
+
+
+def listed(text):
+    for file, shown, refusal in listings(text):
+        command = f"echo {shown or file} | ncroute check --size {SIZE} --code | sed 1d"
+        yield command, refusal and refusal + "\n", shown in (None, file)
+
+
+def without_comments(text):
+    return re.sub(r"(?m)^\s*#.*\n", "", text).strip()
+
+
+def copies():
+    """The filters that the tests of the examples have, each with its file."""
+    text = read("crates/command_tests/src/examples_tests.rt")
+    for name, filter in re.findall(r'`(examples/\w+\.filter)`.*\nconst \w+: &\[u8\] = b"((?:[^"\\]|\\.)*)"', text):
+        yield name, filter.replace('\\"', '"')
+
+
+def main():
+    ncroute = program.Program()
+    passed = failed = 0
+
+    def tell(name, kind, rows):
+        nonlocal passed, failed
+        wrong = [row for row in rows if row[1]]
+        passed += len(rows) - len(wrong)
+        failed += len(wrong)
+        print(f"{name}: {len(rows) - len(wrong)} {kind} passed, {len(wrong)} failed")
+        for what, why in wrong:
+            print(f"  {what}\n    {why}")
+
+    documents = [(name, list(examples(read(name)))) for name in ["README.md", *sorted(glob.glob("docs/*.md", root_dir=program.TOP))]]
+    table, codes = list(answers(read("docs/LANGUAGE.md"))), list(listed(read("docs/VERIFIER.md")))
+    lines = [command for _, rows in documents for command, _ in rows] + [row[0] for row in table] + [row[0] for row in codes]
+    said = iter(ncroute.runs([(line, b"") for line in lines]))
+
+    def compare(command, wanted):
+        wrote, _ = next(said)
+        return command, wrote != wanted.encode() and f"wrote {wrote.decode()!r}, and not {wanted!r}"
+
+    for name, rows in documents:
+        if rows:
+            tell(name, "examples", [compare(*row) for row in rows])
+    tell("docs/LANGUAGE.md", "routes under examples/", [compare(*row) for row in table])
+    judged = []
+    for command, wanted, is_shown in codes:
+        wrote = next(said)[0].decode()
+        well = wrote == wanted if wanted else wrote.startswith("verified ")
+        judged.append((command, not is_shown and "the hexadecimal is not the listing's" or not well and f"wrote {wrote!r}, and not {wanted or 'verified ..'!r}"))
+    tell("docs/VERIFIER.md", "listings", judged)
+    same = [(name, without_comments(read(name)) != without_comments(text) and "differs from its copy in the tests") for name, text in copies()]
+    found = {name for name, _ in same}
+    same += [(name, "has no copy in the tests") for name in sorted(glob.glob("examples/*.filter", root_dir=program.TOP)) if name not in found]
+    tell("examples", "filters as in the tests", same)
+    ncroute.close()
+    program.finish(passed, failed)
+
+
+if __name__ == "__main__":
+    main()

@@ -1,0 +1,74 @@
+#!/usr/bin/env python3
+"""Runs the program on inputs whose exit status is known, and compares status and output. Prints a line for each run that differs, and at
+last 'N passed, M failed'.
+
+usage: scripts/check_program_runs.py     (NCROUTE=PATH: the program; without it, the sources as they are, by `rt try`)
+
+With NCROUTE=PATH it runs the program on streams that fail too: closed ones, a full device, an input that is a folder.
+"""
+import os
+import sys
+
+sys.dont_write_bytecode = True
+import program  # noqa: E402
+
+FILTER = b"filter up2 { rip_metric = rip_metric + 2; accept; }\n"
+CODE = b"4e43463100000008130100000002201424157071"
+LINES = b"code " + CODE + b"\nverified 7 2\n"
+
+# The words, the input, the output and the exit status.
+RUNS = [
+    ("eval", CODE + b"\n10.0.0.0/8 3 8\n", b"accept 5\n", 0),
+    ("eval", CODE + b"\n", b"", 0),
+    ("eval", b"4e434631000000051301ffffffff201570\n10.0.0.0/8 3 8\n", b"fault K6 3\n", 0),
+    ("eval", CODE + b"\n10.0.0.0/8 3\n10.0.0.0/8 3 8\n", b"refused O1 2\naccept 5\n", 1),
+    ("eval", b"", b"refused O1 0\n", 1),
+    ("eval", b"4e4\n10.0.0.0/8 3 8\n", b"refused O3 1\n", 1),
+    ("check --size 8", FILTER, LINES, 0),
+    ("check --size=8 --code", CODE, LINES, 0),
+    ("check --size 1", FILTER, b"code " + CODE + b"\nrefused V8 0\n", 1),
+    ("check --size 65", FILTER, b"code " + CODE + b"\nrefused V8 0\n", 1),
+    ("check --size 4294967295", FILTER, b"code " + CODE + b"\nrefused V8 0\n", 1),
+    ("check --size 8", CODE, b"refused P2 0\n", 1),
+    ("check --size 8 --code", FILTER, b"refused O3 1\n", 1),
+    ("check --size 8", b"filter d { if 8 / rip_metric = 2 then accept; }", b"code 4e43463100000008010000000813230100000002306100017071\nrefused V3 2\n", 1),
+    ("check --size 8 --code", b"4e434631000000017000", b"refused C6 9\n", 1),
+    ("", b"", b"", 2),
+    ("check", FILTER, b"", 2),
+    ("check --size x", FILTER, b"", 2),
+    ("check --size 4294967296", FILTER, b"", 2),
+    ("eval --size 8", b"", b"", 2),
+    ("eval more", b"", b"", 2),
+    ("load", b"", b"", 2),
+]
+
+# Lines of a shell, each with what it writes at last: what `ncroute` says and its exit status.
+FAULTS = [
+    ("ncroute eval <&- 2>&1; echo $?", b"ncroute: E1\n1\n"),
+    ("ncroute check --size 8 < examples 2>&1; echo $?", b"ncroute: E1\n1\n"),
+    ("echo 'filter q { accept; }' | ncroute check --size 8 2>&1 >/dev/full; echo $?", b"ncroute: E2\n1\n"),
+    ("echo 4e4 | ncroute eval 2>&1 >/dev/full; echo $?", b"ncroute: E2\n1\n"),
+    ("ncroute eval < examples >/dev/null 2>/dev/full; echo $?", b"1\n"),
+    ("ncroute eval < examples 2>&-; echo $?", b"1\n"),
+    ("ncroute check 2>&-; echo $?", b"2\n"),
+    ("ncroute check 2>/dev/full; echo $?", b"2\n"),
+    ("ncroute --help >/dev/null; echo $?", b"0\n"),
+]
+
+
+def main():
+    ncroute = program.Program()
+    faults = FAULTS if os.environ.get("NCROUTE") else []
+    said = ncroute.runs([(f"ncroute {words}", given) for words, given, _, _ in RUNS] + [(line, b"") for line, _ in faults])
+    wanted = [(output, status) for _, _, output, status in RUNS] + [(output, 0) for _, output in faults]
+    names = [f"ncroute {words}".strip() for words, _, _, _ in RUNS] + [line for line, _ in faults]
+    failed = 0
+    for name, (wrote, status), (output, wanted_status) in zip(names, said, wanted):
+        if (wrote, status) != (output, wanted_status):
+            failed += 1
+            print(f"{name}: wrote {wrote!r} and ended with {status}, and not {output!r} with {wanted_status}")
+    ncroute.close()
+    program.finish(len(names) - failed, failed)
+
+
+main()

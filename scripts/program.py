@@ -1,0 +1,88 @@
+"""How the scripts run `ncroute`: a shell finds it as a command, whether or not it is built.
+
+With NCROUTE=PATH that program runs. Without, `rt try --cases` builds the sources as they are, unproved and with checks, and runs them on
+all inputs at once: a command that was not run yet stands for each input that the shell gave, and the shell runs again with its answers.
+"""
+import hashlib
+import os
+import re
+import shutil
+import subprocess
+import sys
+import tempfile
+
+TOP = os.path.realpath(os.path.join(os.path.dirname(os.path.abspath(__file__)), ".."))
+NOT_RUN = 125
+
+# The command that stands for the program: it answers what it was told, or leaves its words and input for the next round.
+STAND_IN = """#!{python} -S
+import hashlib, os, sys
+words, given = sys.argv[1:], sys.stdin.buffer.read()
+name = hashlib.sha256("\\0".join([*words, ""]).encode() + given).hexdigest()[:16]
+answer = os.path.join({answers!r}, name)
+if not os.path.exists(answer):
+    with open(os.path.join({asked!r}, name), "wb") as it:
+        it.write(given)
+    with open(os.path.join({asked!r}, name + ".args"), "w") as it:
+        it.write("".join(word + "\\n" for word in words))
+    sys.exit({not_run})
+with open(answer, "rb") as it:
+    sys.stdout.buffer.write(it.read())
+with open(answer + ".status") as it:
+    sys.exit(int(it.read()))
+"""
+
+
+class Program:
+    """The command `ncroute`, in a folder that is the first of the PATH of what `shell` runs."""
+
+    def __init__(self):
+        self.folder = tempfile.mkdtemp()
+        self.bin, self.asked, self.answers = (os.path.join(self.folder, name) for name in ("bin", "asked", "answers"))
+        for folder in (self.bin, self.asked, self.answers):
+            os.mkdir(folder)
+        built = os.environ.get("NCROUTE")
+        command = os.path.join(self.bin, "ncroute")
+        if built:
+            os.symlink(os.path.realpath(built), command)
+        else:
+            with open(command, "w") as it:
+                it.write(STAND_IN.format(python=sys.executable, answers=self.answers, asked=self.asked, not_run=NOT_RUN))
+            os.chmod(command, 0o755)
+
+    def close(self):
+        shutil.rmtree(self.folder)
+
+    def shell(self, line, given=b""):
+        """What a line writes and its status, at the top of the repository."""
+        path = self.bin + os.pathsep + os.environ["PATH"]
+        ran = subprocess.run(["bash", "-o", "pipefail", "-c", line], cwd=TOP, env={**os.environ, "PATH": path}, input=given, capture_output=True)
+        return ran.stdout, ran.returncode
+
+    def runs(self, lines):
+        """The same for many lines with their input."""
+        while True:
+            said = [self.shell(line, given) for line, given in lines]
+            if not os.listdir(self.asked):
+                return said
+            self.answer()
+
+    def answer(self):
+        """Runs the program on all that was asked."""
+        tried = subprocess.run(["rt", "try", "--cases", self.asked], cwd=os.path.join(TOP, "crates", "ncroute"), stdin=subprocess.DEVNULL, capture_output=True)
+        status = dict(re.findall(r"(?m)^case=(\w+) run=ended status=(\d+)", tried.stderr.decode()))
+        parts = re.split(rb"(?m)^== (\w+)\n", tried.stdout)[1:]
+        for name, text in zip(parts[::2], parts[1::2]):
+            with open(os.path.join(self.answers, name.decode()), "wb") as it:
+                it.write(text)
+            with open(os.path.join(self.answers, name.decode() + ".status"), "w") as it:
+                it.write(status.get(name.decode(), str(NOT_RUN)))
+        for name in os.listdir(self.asked):
+            if not name.endswith(".args") and not os.path.exists(os.path.join(self.answers, name)):
+                sys.exit(f"'rt try' gave no answer:\n{tried.stderr.decode()}")
+            os.remove(os.path.join(self.asked, name))
+
+
+def finish(passed, failed):
+    print(f"{passed} passed, {failed} failed")
+    sys.exit(1 if failed else 0)
