@@ -1,6 +1,6 @@
 -- On lists.
 use Rattle.std.specs.List.{position_or_len}
-use Rattle.std.proofs.Common.{◌≡◌, ℕ, ◌+◌, ◌≤◌, zero, suc, Bool, true, false, cond, not, Option, Some, None, nat_lt, List, [], ◌∷◌, ◌++◌, map, position, length, replicate, refl, ap, ◌∙◌, sym, get_or, arith, le_refl}
+use Rattle.std.proofs.Common.{◌≡◌, ℕ, ◌+◌, ◌≤◌, zero, suc, Bool, cond, not, Some, None, nat_lt, List, [], ◌∷◌, ◌++◌, map, position, length, replicate, refl, ap, ◌∙◌, get_or, arith, le_refl}
 use Rattle.std.proofs.lemmas.List.{length-map}
 
 place_map : {X Y : Type 0} (test : Y → Bool) (f : X → Y) (xs : List X) →

@@ -1,13 +1,14 @@
 -- The tables of an opening.
-use Rattle.std.proofs.Common.{◌≡◌, ℕ, ◌+◌, ◌<◌, ◌≤◌, All, map, length, get_or, sym, subst, zero, suc, min, cond, nat_lt, nat_eq, List, [], ◌∷◌, replicate, refl, ap, ◌∙◌, arith, eq-eqb, ne_eqb, le-ltb}
+use Rattle.std.proofs.Common.{◌≡◌, ℕ, ◌+◌, ◌<◌, ◌≤◌, get_or, sym, subst, zero, suc, min, cond, nat_eq, List, replicate, refl, ap, ◌∙◌, arith, eq-eqb, ne_eqb, le-ltb}
+use Rattle.std.proofs.lemmas.Bool.{cond_both}
 use Rattle.std.proofs.lemmas.List.{length-replicate, get_or-replicate}
-use Rattle.netchange_core.specs.declared.best_route.BestRoute.{BestRoute}
 use Rattle.netchange_core.specs.declared.reply.Via.TheVariants.{Local, Node, Nowhere}
 use Rattle.netchange_core.specs.Best.{best_by, least, nearest, neighbour_distance, first_at, route_of}
 use Rattle.netchange_core.specs.declared.destination.Destination.{Destination}
 use Rattle.netchange_core.specs.Calls.{newcomer}
-use Rattle.netchange_core.specs.Kept.{AreDestinations, AreKept, IsNeighbour}
+use Rattle.netchange_core.specs.Kept.{AreDestinations, AreKept, AreNeighbours, IsNeighbour}
 use Rattle.netchange_core.specs.World.{NeighbourView}
+use Rattle.netchange_core.proofs.Nearest.{nearest_within}
 use Rattle.netchange_core.proofs.Lists.{below_repeated, map_replicate}
 use Rattle.netchange_core.specs.OpeningView.{OpeningView}
 
@@ -39,6 +40,15 @@ new_neighbour o = record {
   exports = tt;
 }
 
+new_neighbours : (o : OpeningView) → AreNeighbours o.size (replicate o.size (newcomer o))
+new_neighbours o = record {
+  one_a_node = length-replicate o.size (newcomer o);
+  each = λ k d h.
+      let short : k < o.size = omega (arith, length-replicate o.size (newcomer o)) in
+      let Q : NeighbourView → Type 0 = IsNeighbour o.size in
+      subst Q (sym (get_or-replicate o.size k (newcomer o) d short)) (new_neighbour o);
+}
+
 -- what the tables keep while no neighbour was ever up
 pub kept_first : (o : OpeningView) (ns : List NeighbourView) (ds : List Destination) → ns ≡ replicate o.size (newcomer o) →
     AreDestinations o ds →
@@ -47,11 +57,14 @@ pub kept_first : (o : OpeningView) (ns : List NeighbourView) (ds : List Destinat
 kept_first o ns ds e right none =
     let P : List NeighbourView → Type 0 = λ ms. AreKept o ms ds in
     subst P (sym e) (record {
-      one_a_node = length-replicate o.size (newcomer o);
-      neighbours = λ k d h.
-          let short : k < o.size = omega (arith, length-replicate o.size (newcomer o)) in
-          let Q : NeighbourView → Type 0 = IsNeighbour o.size in
-          subst Q (sym (get_or-replicate o.size k (newcomer o) d short)) (new_neighbour o);
+      neighbours = new_neighbours o;
       destinations = right;
       distances = λ v d h. none v d h ∙ sym (map_replicate (neighbour_distance o v) o.size (newcomer o));
     })
+
+-- no route is longer than the size
+pub best_within : (o : OpeningView) (v : ℕ) (xs : List ℕ) → (best_by o v xs).dist ≤ o.size
+unfolding best_by
+best_within o v xs =
+    cond_both (nat_eq v o.me) (route_of 0 Local) (nearest o.size xs) (λ r. r.dist ≤ o.size) (λ _. omega arith)
+    (λ _. nearest_within o.size xs)

@@ -3,6 +3,8 @@ use Rattle.std.specs.Prelude.{◌≡◌, ℕ, ◌<◌, ◌≤◌, All, IfSome, O
 use Rattle.std.specs.Option.{option_map}
 use Rattle.std.specs.declared.sync.Arc.{Arc}
 use Rattle.filter_verifier.specs.VerifiedView.{VerifiedView}
+use Rattle.std.proofs.Common.{Global}
+use Rattle.netchange_core.specs.declared.best_route.BestRoute.{BestRoute}
 use Rattle.netchange_core.specs.declared.destination.Destination.{Destination}
 use Rattle.netchange_core.specs.declared.neighbour.Neighbour.{Neighbour}
 use Rattle.netchange_core.specs.Best.{best_by, neighbour_distance}
@@ -22,6 +24,10 @@ view_of n = record {
 abbrev pub world_of : OpeningView → ℕ → List Neighbour → World
 world_of o sessions ns = record { opening = o; sessions = sessions; neighbours = map view_of ns }
 
+-- the filter behind an optional handle
+abbrev pub filter_of : Option (Arc VerifiedView Global) → Option VerifiedView
+filter_of filter = option_map (λ f. f.value) filter
+
 -- a filter, if there is one, was verified for this size
 abbrev pub FitsSize : ℕ → Option VerifiedView → Type 0
 FitsSize size filter = IfSome filter (λ f. f.size ≡ size)
@@ -32,6 +38,11 @@ pub record IsNeighbour (size : ℕ) (n : NeighbourView) : Type 0 where
   pub reachable : (v : ℕ) → slice_index n.raw v ≤ size
   pub imports : FitsSize size n.imports
   pub exports : FitsSize size n.exports
+
+-- the neighbours of a domain of this size
+pub record AreNeighbours (size : ℕ) (ns : List NeighbourView) : Type 0 where
+  pub one_a_node : length ns ≡ size
+  pub each : All (IsNeighbour size) ns
 
 -- a destination has a distance from each neighbour, and the route that is best by these
 pub record IsDestination (o : OpeningView) (v : ℕ) (d : Destination) : Type 0 where
@@ -45,8 +56,17 @@ pub record AreDestinations (o : OpeningView) (ds : List Destination) : Type 0 wh
 -- what the tables keep: each node stands there as a neighbour and as a destination, and the distances kept there are those
 -- that the world gives
 pub record AreKept (o : OpeningView) (ns : List NeighbourView) (ds : List Destination) : Type 0 where
-  pub one_a_node : length ns ≡ o.size
-  pub neighbours : All (IsNeighbour o.size) ns
+  pub neighbours : AreNeighbours o.size ns
   pub destinations : AreDestinations o ds
   pub distances : (v : ℕ) (d : Destination) → v < o.size →
       (slice_index_or ds v d).distances.items ≡ map (neighbour_distance o v) ns
+
+-- the distances to the nodes, as kept, and as these neighbours give them
+abbrev pub kept_distance : List Destination → ℕ → ℕ
+kept_distance ds v = slice_index (map (λ d. d.route.dist) ds) v
+
+abbrev pub route_by : OpeningView → List NeighbourView → ℕ → BestRoute
+route_by o ns v = best_by o v (map (neighbour_distance o v) ns)
+
+abbrev pub distance_by : OpeningView → List NeighbourView → ℕ → ℕ
+distance_by o ns v = (route_by o ns v).dist

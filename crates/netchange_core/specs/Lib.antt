@@ -2,7 +2,10 @@ pub mod Best
 pub mod Calls
 pub mod Codes
 pub mod Kept
+pub mod Leading
 pub mod Next
 pub mod OpeningView
 pub mod Pass
+pub mod Room
+pub mod Settling
 pub mod World

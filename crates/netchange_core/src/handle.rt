@@ -1,16 +1,42 @@
-//! An event at a router. The events but the looks and the refusals are a stub: they answer that there is no memory.
+//! An event at a router.
 
-ghost use Rattle.std.specs.Prelude.{◌≡◌, ◌≤◌, IfOk, OnErr, length, map};
-ghost use Rattle.netchange_core.specs.Calls.{MayNeedMemory, carried, room_of};
+ghost use Rattle.std.specs.Prelude.{◌≡◌, ℕ, IfOk, OnErr, map};
+ghost use Rattle.netchange_core.specs.Calls.{MayNeedMemory};
 ghost use Rattle.netchange_core.specs.Kept.{AreKept, view_of, world_of};
-ghost use Rattle.netchange_core.specs.Next.{answered, next};
+ghost use Rattle.netchange_core.specs.Next.{answered, next, show};
 
 use crate::destination::Destination;
+use crate::down::down;
 use crate::event::Event;
-use crate::neighbour::{Neighbour, holder, is_no_neighbour};
+use crate::filters::{set_export, set_import};
+use crate::message::Message;
+use crate::neighbour::Neighbour;
 use crate::opening::Opening;
+use crate::receive::receive;
 use crate::reply::{Refusal, Reply};
+use crate::take::take;
+use crate::up::up;
 use std::alloc::AllocError;
+
+/// A look at the route to a node.
+fn show(
+    opening: &Opening,
+    neighbours: &[Neighbour],
+    destinations: &[Destination],
+    node: u16,
+) -> Reply
+    requires kept { AreKept opening.now (map view_of neighbours.now) destinations.now }
+    ensures { (n : ℕ) → let w = world_of opening.now n neighbours.now in show w node ≡ answered w result }
+{
+    if opening.size() <= node {
+        return Reply::Refused(Refusal::BadDest);
+    }
+    let route = destinations[usize::from(node)].route;
+    Reply::Route {
+        dist: route.dist,
+        via: route.via,
+    }
+}
 
 /// Carries out an event. After an error nothing is changed.
 pub(crate) fn handle(
@@ -27,63 +53,23 @@ pub(crate) fn handle(
     ensures same { OnErr result (world_of opening.now sessions.new neighbours.new ≡ world_of opening.now sessions.old neighbours.old) }
     ensures memory { OnErr result (MayNeedMemory (next (world_of opening.now sessions.old neighbours.old) event.now).reply) }
 {
-    let size = opening.size();
-    let refusal = match event {
-        Event::Up(node) => {
-            if is_no_neighbour(opening, *node) {
-                Refusal::NoNode
-            } else if 0 < neighbours[usize::from(*node)].session {
-                Refusal::AlreadyUp
-            } else if *sessions == u32::MAX {
-                Refusal::NoSession
-            } else {
-                return Err(AllocError);
-            }
-        }
-        Event::Down(session) => {
-            if holder(neighbours, *session).is_none() {
-                Refusal::Stale
-            } else {
-                return Err(AllocError);
-            }
-        }
+    match event {
+        Event::Up(node) => up(opening, sessions, neighbours, destinations, *node),
+        Event::Down(session) => down(opening, neighbours, destinations, *session),
         Event::Receive(session, dest, dist) => {
-            if holder(neighbours, *session).is_none() {
-                Refusal::Stale
-            } else if size <= *dest {
-                Refusal::BadDest
-            } else if size < *dist {
-                Refusal::BadDist
-            } else {
-                return Err(AllocError);
-            }
+            let message = Message {
+                dest: *dest,
+                dist: *dist,
+            };
+            receive(opening, neighbours, destinations, *session, message)
         }
-        Event::Take(session, _) => {
-            if holder(neighbours, *session).is_none() {
-                Refusal::Stale
-            } else {
-                return Err(AllocError);
-            }
+        Event::Take(session, max) => take(opening, neighbours, destinations, *session, *max),
+        Event::SetImport(node, filter) => {
+            set_import(opening, neighbours, destinations, *node, filter)
         }
-        Event::SetImport(node, filter) | Event::SetExport(node, filter) => {
-            if is_no_neighbour(opening, *node) {
-                Refusal::NoNode
-            } else if filter.size() != u32::from(size) {
-                Refusal::OtherSize
-            } else {
-                return Err(AllocError);
-            }
+        Event::SetExport(node, filter) => {
+            set_export(opening, neighbours, destinations, *node, filter)
         }
-        Event::Show(node) => {
-            if *node < size {
-                let route = destinations[usize::from(*node)].route;
-                return Ok(Reply::Route {
-                    dist: route.dist,
-                    via: route.via,
-                });
-            }
-            Refusal::BadDest
-        }
-    };
-    Ok(Reply::Refused(refusal))
+        Event::Show(node) => Ok(show(opening, neighbours, destinations, *node)),
+    }
 }

@@ -2,14 +2,24 @@
 #![tactic(auto)]
 
 mod best_route;
+mod changing;
 mod destination;
+mod down;
 mod event;
+mod filter;
+mod filters;
 mod handle;
 mod message;
 mod neighbour;
 mod opening;
+mod receive;
 mod reply;
+mod room;
+mod settling;
 mod tables;
+mod take;
+mod telling;
+mod up;
 
 pub use event::Event;
 pub use message::{Message, Messages};

@@ -1,6 +1,6 @@
 //! A node as a neighbour.
 
-ghost use Rattle.std.specs.Prelude.{◌≡◌, ℕ, ◌==◌, nat_le, ◌||◌, IfOk, map, position, replicate};
+ghost use Rattle.std.specs.Prelude.{◌≡◌, ℕ, ◌==◌, nat_le, ◌||◌, ◌<◌, IfOk, IfSome, length, map, position, replicate};
 ghost use Rattle.netchange_core.specs.Calls.{newcomer};
 ghost use Rattle.netchange_core.specs.Kept.{view_of};
 ghost use Rattle.netchange_core.specs.Next.{is_no_neighbour};
@@ -72,7 +72,8 @@ fn find(neighbours: &[Neighbour], session: u32) -> Option<usize>
 /// The up neighbour whose present session this is.
 #[tactic(auto, using(crate::proofs::Lists::position_map))]
 pub(crate) fn holder(neighbours: &[Neighbour], session: u32) -> Option<usize>
-    ensures { result ≡ position (has_session session) (map view_of neighbours.now) }
+    ensures value { result ≡ position (has_session session) (map view_of neighbours.now) }
+    ensures within { IfSome result (λ k. k < length neighbours.now) }
 {
     find(neighbours, session)
 }

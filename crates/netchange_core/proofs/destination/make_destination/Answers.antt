@@ -1,5 +1,5 @@
-use Rattle.std.proofs.Common.{sym, ◌∙◌, ap, ◌≡◌}
-use Rattle.netchange_core.specs.declared.reply.Via.TheVariants.{Local, Nowhere}
+use Rattle.std.proofs.Common.{sym, ◌∙◌, ap}
+use Rattle.netchange_core.specs.declared.reply.Via.TheVariants.{Nowhere}
 use Rattle.netchange_core.specs.Best.{route_of}
 use Rattle.netchange_core.proofs.Opened.{own_route, other_route, none_near}
 use Rattle.netchange_core.proofs.destination.make_destination.Goals as goal

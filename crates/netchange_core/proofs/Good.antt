@@ -1,0 +1,85 @@
+-- Each change leaves a neighbour of the domain, and each distance where it does not speak of it.
+use Rattle.std.proofs.Common.{◌≡◌, ℕ, ◌<◌, ◌≤◌, true, cond, nat_lt, Option, Some, None, length, replicate, slice_index, slice_set, ap, sym, subst, refl, ◌∙◌, ⊎_elim, arith, eq-eqb, length-set, get_or-set_same, get_or-set_other}
+use Rattle.std.proofs.lemmas.Bool.{cases_eq, cond_both}
+use Rattle.std.proofs.lemmas.List.{get_or-replicate, length-replicate}
+use Rattle.filter_code.specs.Machine.{outcome_of}
+use Rattle.filter_machine.specs.Verdicts.{announced}
+use Rattle.filter_verifier.specs.VerifiedView.{VerifiedView}
+use Rattle.netchange_core.specs.Best.{neighbour_distance}
+use Rattle.netchange_core.specs.Kept.{IsNeighbour}
+use Rattle.netchange_core.specs.Next.{exporting, gone, heard, importing, joined, relieved}
+use Rattle.netchange_core.specs.OpeningView.{OpeningView}
+use Rattle.netchange_core.specs.Pass.{distance_given, pass, prefix_of}
+use Rattle.netchange_core.specs.World.{NeighbourView, is_up}
+use Rattle.netchange_core.proofs.Lists.{below_repeated}
+
+pub gone_good : (o : OpeningView) (n : NeighbourView) → IsNeighbour o.size n → IsNeighbour o.size (gone o n)
+gone_good o n p = record {
+  one_a_node = length-replicate o.size o.size;
+  reachable = below_repeated o.size o.size;
+  imports = p.imports;
+  exports = p.exports;
+}
+
+pub joined_good : (o : OpeningView) (dist : ℕ → ℕ) (session : ℕ) (n : NeighbourView) → IsNeighbour o.size n →
+    IsNeighbour o.size (joined o dist session n)
+joined_good o dist session n p = record {
+  one_a_node = length-replicate o.size o.size;
+  reachable = below_repeated o.size o.size;
+  imports = p.imports;
+  exports = p.exports;
+}
+
+pub heard_good : (size v d : ℕ) (n : NeighbourView) → v < size → d ≤ size → IsNeighbour size n → IsNeighbour size (heard v d n)
+heard_good size v d n h within p = record {
+  one_a_node = length-set n.raw v d ∙ p.one_a_node;
+  reachable = λ u.
+      ⊎_elim (λ (same : u ≡ v).
+      subst (λ w. slice_index (slice_set n.raw v d) w ≤ size) (sym same)
+      (subst (λ x. x ≤ size) (sym (get_or-set_same n.raw v d 0 (omega (arith, p.one_a_node)))) within))
+      (λ (other : u ≡ v → ⊥). subst (λ x. x ≤ size) (sym (get_or-set_other n.raw v u d 0 other)) (p.reachable u)) (cases_eq u v);
+  imports = p.imports;
+  exports = p.exports;
+}
+
+pub importing_good : (size : ℕ) (f : VerifiedView) (n : NeighbourView) → f.size ≡ size → IsNeighbour size n →
+    IsNeighbour size (importing f n)
+importing_good size f n e p =
+    record { one_a_node = p.one_a_node; reachable = p.reachable; imports = e; exports = p.exports }
+
+pub exporting_good : (o : OpeningView) (dist : ℕ → ℕ) (f : VerifiedView) (n : NeighbourView) → f.size ≡ o.size →
+    IsNeighbour o.size n → IsNeighbour o.size (exporting o dist f n)
+exporting_good o dist f n e p =
+    record { one_a_node = p.one_a_node; reachable = p.reachable; imports = p.imports; exports = e }
+
+pub relieved_good : (size max : ℕ) (n : NeighbourView) → IsNeighbour size n → IsNeighbour size (relieved max n)
+relieved_good size max n p =
+    record { one_a_node = p.one_a_node; reachable = p.reachable; imports = p.imports; exports = p.exports }
+
+-- what cannot be reached stays so under each filter
+pub pass_unreached : (o : OpeningView) (f : Option VerifiedView) (v : ℕ) → pass o f v o.size ≡ o.size
+unfolding pass
+pass_unreached o None v = refl
+pass_unreached o (Some f) v =
+    ap (λ b. cond b o.size (distance_given o.size (outcome_of f.program (announced (prefix_of o v) o.size o.size))))
+    (eq-eqb o.size o.size refl)
+
+-- a neighbour that joins has told no distance, as one that is down
+pub joined_distance : (o : OpeningView) (dist : ℕ → ℕ) (session v : ℕ) (n : NeighbourView) → n.session ≡ 0 → v < o.size →
+    neighbour_distance o v (joined o dist session n) ≡ neighbour_distance o v n
+joined_distance o dist session v n e h =
+    cond_both (nat_lt 0 session) (pass o n.imports v (slice_index (replicate o.size o.size) v)) o.size (λ x. x ≡ o.size)
+    (λ _. ap (λ x. pass o n.imports v x) (get_or-replicate o.size v o.size 0 h) ∙ pass_unreached o n.imports v) (λ _. refl)
+    ∙ sym (ap (λ s. cond (nat_lt 0 s) (pass o n.imports v (slice_index n.raw v)) o.size) e)
+
+-- a distance that is heard is that of one node
+pub heard_distance : (o : OpeningView) (v d u : ℕ) (n : NeighbourView) → (u ≡ v → ⊥) →
+    neighbour_distance o u (heard v d n) ≡ neighbour_distance o u n
+heard_distance o v d u n other =
+    ap (λ x. cond (is_up n) (pass o n.imports u x) o.size) (get_or-set_other n.raw v u d 0 other)
+
+pub heard_here : (o : OpeningView) (v d : ℕ) (n : NeighbourView) → v < length n.raw → is_up n ≡ true →
+    neighbour_distance o v (heard v d n) ≡ pass o n.imports v d
+heard_here o v d n h up =
+    ap (λ b. cond b (pass o n.imports v (slice_index (slice_set n.raw v d) v)) o.size) up
+    ∙ ap (λ x. pass o n.imports v x) (get_or-set_same n.raw v d 0 h)

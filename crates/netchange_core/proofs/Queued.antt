@@ -1,0 +1,92 @@
+-- Messages put into the queues change nothing else.
+use Rattle.std.proofs.Common.{◌≡◌, ℕ, ◌+◌, ◌<◌, zero, suc, cond, nat_eq, List, [], ◌∷◌, ◌++◌, length, map, slice_index_or, ap, sym, subst, refl, ◌∙◌, arith, add-one}
+use Rattle.std.proofs.lemmas.Bool.{cond_both}
+use Rattle.std.proofs.lemmas.List.{get_or-map, length-map}
+use Rattle.netchange_core.specs.Best.{neighbour_distance}
+use Rattle.netchange_core.specs.Kept.{AreNeighbours, IsNeighbour}
+use Rattle.netchange_core.specs.Next.{count_changes, message_of, tell, tell_changes}
+use Rattle.netchange_core.specs.OpeningView.{OpeningView}
+use Rattle.netchange_core.specs.Settling.{told_if_differs}
+use Rattle.netchange_core.specs.World.{NeighbourView, is_up, neighbour_at, nobody}
+
+-- a longer queue leaves the rest of a neighbour
+queued_distance : (o : OpeningView) (u v d : ℕ) (n : NeighbourView) →
+    neighbour_distance o u (tell o v d n) ≡ neighbour_distance o u n
+queued_distance o u v d n =
+    cond_both (is_up n) (record n { queue = n.queue ++ message_of o n.exports v d ∷ [] }) n
+    (λ m. neighbour_distance o u m ≡ neighbour_distance o u n) (λ _. refl) (λ _. refl)
+
+queued_good : (o : OpeningView) (size v d : ℕ) (n : NeighbourView) → IsNeighbour size n → IsNeighbour size (tell o v d n)
+queued_good o size v d n p =
+    cond_both (is_up n) (record n { queue = n.queue ++ message_of o n.exports v d ∷ [] }) n (IsNeighbour size)
+    (λ _. record { one_a_node = p.one_a_node; reachable = p.reachable; imports = p.imports; exports = p.exports }) (λ _. p)
+
+-- what all messages leave
+pub tell_distances : (o : OpeningView) (u v d : ℕ) (ns : List NeighbourView) →
+    map (neighbour_distance o u) (map (tell o v d) ns) ≡ map (neighbour_distance o u) ns
+tell_distances o u v d [] = refl
+tell_distances o u v d (n ∷ ns) = λ i. queued_distance o u v d n i ∷ tell_distances o u v d ns i
+
+pub tell_good : (o : OpeningView) (size v d : ℕ) (ns : List NeighbourView) → AreNeighbours size ns →
+    AreNeighbours size (map (tell o v d) ns)
+tell_good o size v d ns good = record {
+  one_a_node = length-map ns (tell o v d) ∙ good.one_a_node;
+  each = λ k e h.
+      let short : k < length ns = omega (arith, length-map ns (tell o v d)) in
+      subst (IsNeighbour size) (sym (get_or-map (tell o v d) ns k nobody e short))
+      (queued_good o size v d (neighbour_at ns k) (good.each k nobody short));
+}
+
+-- what each round of messages leaves, all of them leave
+pub changes_leave : (P : List NeighbourView → Type 0) (o : OpeningView) (old new : ℕ → ℕ) (n : ℕ) (ns : List NeighbourView) →
+    ((v d : ℕ) (ms : List NeighbourView) → P ms → P (map (tell o v d) ms)) → P ns → P (tell_changes o old new n ns)
+changes_leave P o old new zero ns step p = p
+changes_leave P o old new (suc n) ns step p =
+    let rest : P (tell_changes o old new n ns) = changes_leave P o old new n ns step p in
+    cond_both (nat_eq (old n) (new n)) (tell_changes o old new n ns) (map (tell o n (new n)) (tell_changes o old new n ns)) P
+    (λ _. rest) (λ _. step n (new n) (tell_changes o old new n ns) rest)
+
+pub changes_good : (o : OpeningView) (size : ℕ) (old new : ℕ → ℕ) (n : ℕ) (ns : List NeighbourView) → AreNeighbours size ns →
+    AreNeighbours size (tell_changes o old new n ns)
+changes_good o size old new n ns good =
+    changes_leave (AreNeighbours size) o old new n ns (λ v d ms p. tell_good o size v d ms p) good
+
+pub changes_distances : (o : OpeningView) (u : ℕ) (old new : ℕ → ℕ) (n : ℕ) (ns : List NeighbourView) →
+    map (neighbour_distance o u) (tell_changes o old new n ns) ≡ map (neighbour_distance o u) ns
+changes_distances o u old new n ns =
+    changes_leave (λ ms. map (neighbour_distance o u) ms ≡ map (neighbour_distance o u) ns) o old new n ns
+    (λ v d ms e. tell_distances o u v d ms ∙ e) refl
+
+-- the distance of one neighbour
+pub changes_distance : (o : OpeningView) (u k : ℕ) (old new : ℕ → ℕ) (n : ℕ) (ns : List NeighbourView) → k < length ns →
+    neighbour_distance o u (neighbour_at (tell_changes o old new n ns) k) ≡ neighbour_distance o u (neighbour_at ns k)
+changes_distance o u k old new n ns h =
+    let long : k < length (tell_changes o old new n ns) = changes_leave (λ ms. k < length ms) o old new n ns
+    (λ v d ms e. omega (arith, length-map ms (tell o v d))) h in
+    sym (get_or-map (neighbour_distance o u) (tell_changes o old new n ns) k nobody 0 long)
+    ∙ ap (λ xs. slice_index_or xs k 0) (changes_distances o u old new n ns)
+    ∙ get_or-map (neighbour_distance o u) ns k nobody 0 h
+
+-- one node more
+pub changes_more : (o : OpeningView) (old new : ℕ → ℕ) (n : ℕ) (ns : List NeighbourView) →
+    tell_changes o old new (n + 1) ns ≡ told_if_differs o n (old n) (new n) (tell_changes o old new n ns)
+changes_more o old new n ns = ap (λ m. tell_changes o old new m ns) (add-one n)
+
+pub count_more : (old new : ℕ → ℕ) (n : ℕ) →
+    count_changes old new (n + 1) ≡ cond (nat_eq (old n) (new n)) (count_changes old new n) (count_changes old new n + 1)
+count_more old new n = ap (λ m. count_changes old new m) (add-one n)
+
+-- distances that are the same below a number tell the same
+pub changes_same : (o : OpeningView) (old older new : ℕ → ℕ) (n : ℕ) (ns : List NeighbourView) →
+    ((v : ℕ) → v < n → old v ≡ older v) → tell_changes o old new n ns ≡ tell_changes o older new n ns
+changes_same o old older new zero ns e = refl
+changes_same o old older new (suc n) ns e =
+    let rest = changes_same o old older new n ns (λ v h. e v (omega arith)) in
+    λ i. cond (nat_eq (e n (omega arith) i) (new n)) (rest i) (map (tell o n (new n)) (rest i))
+
+pub count_same : (old older new : ℕ → ℕ) (n : ℕ) → ((v : ℕ) → v < n → old v ≡ older v) →
+    count_changes old new n ≡ count_changes older new n
+count_same old older new zero e = refl
+count_same old older new (suc n) e =
+    let rest = count_same old older new n (λ v h. e v (omega arith)) in
+    λ i. cond (nat_eq (e n (omega arith) i) (new n)) (rest i) (rest i + 1)

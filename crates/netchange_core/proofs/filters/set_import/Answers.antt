@@ -1,0 +1,77 @@
+use Rattle.std.proofs.Common.{◌≡◌, ◌<◌, length, map, ap, sym, subst, ◌∙◌, arith}
+use Rattle.std.proofs.lemmas.List.{length-map}
+use Rattle.netchange_core.specs.Kept.{AreNeighbours, view_of, world_of}
+use Rattle.netchange_core.specs.Next.{importing, recomputed}
+use Rattle.netchange_core.specs.Room.{HaveRoom}
+use Rattle.netchange_core.specs.World.{changed, neighbour_at, nobody}
+use Rattle.netchange_core.proofs.Change.{change_good, change_stale, changed_after}
+use Rattle.netchange_core.proofs.Goes.{import_goes, neighbour_below}
+use Rattle.netchange_core.proofs.Good.{importing_good}
+use Rattle.netchange_core.proofs.Rooms.{room_set}
+use Rattle.netchange_core.proofs.Worlds.{recomputed_is}
+use Rattle.netchange_core.proofs.filters.set_import.Goals as goal
+
+pub settle-changed-requires-clause-neighbours : goal.settle-changed-requires-clause-neighbours
+settle-changed-requires-clause-neighbours c =
+    let o = c.args.opening.now in
+    let k = c.from-k.result in
+    let ns = map view_of c.args.neighbours.now in
+    let below = neighbour_below o c.args.node (sym c.is_no_neighbour.ensures ∙ c.if-is_no_neighbour.false) in
+    let h : k < length ns = omega (arith, below, c.requires.kept.neighbours.one_a_node) in
+    let short : k < length c.make_room.new.neighbours = omega (arith, h, length-map c.args.neighbours.now view_of) in
+    let fits = c.in_ok-filter.ensures in
+    let size : c.in_ok-filter.filter.value.size ≡ o.size =
+    ap (λ f. f.size) fits ∙ ap (λ f. f.size) (sym c.deref.ensures) ∙ sym c.size.ensures ∙ c.if-size-from.false
+    ∙ c.from.ensures ∙ c.size-2.ensures.value in
+    let e = changed_after c.args.neighbours.now c.make_room.new.neighbours k c.import.new.neighbour
+    c.index-neighbours-k.result (importing c.in_ok-filter.filter.value) short c.make_room.ensures.same c.import.ensures.view in
+    subst (AreNeighbours o.size) (sym e)
+    (change_good o.size k (importing c.in_ok-filter.filter.value) ns h c.requires.kept.neighbours
+    (importing_good o.size c.in_ok-filter.filter.value (neighbour_at ns k) size
+    (c.requires.kept.neighbours.each k nobody h)))
+
+pub settle-changed-requires-clause-stale : goal.settle-changed-requires-clause-stale
+settle-changed-requires-clause-stale c =
+    let o = c.args.opening.now in
+    let k = c.from-k.result in
+    let ns = map view_of c.args.neighbours.now in
+    let below = neighbour_below o c.args.node (sym c.is_no_neighbour.ensures ∙ c.if-is_no_neighbour.false) in
+    let h : k < length ns = omega (arith, below, c.requires.kept.neighbours.one_a_node) in
+    let short : k < length c.make_room.new.neighbours = omega (arith, h, length-map c.args.neighbours.now view_of) in
+    let e = changed_after c.args.neighbours.now c.make_room.new.neighbours k c.import.new.neighbour
+    c.index-neighbours-k.result (importing c.in_ok-filter.filter.value) short c.make_room.ensures.same c.import.ensures.view in
+    change_stale o k (importing c.in_ok-filter.filter.value) ns _ c.args.destinations.now h e c.requires.kept
+
+pub settle-changed-requires-clause-room : goal.settle-changed-requires-clause-room
+settle-changed-requires-clause-room c =
+    let o = c.args.opening.now in
+    let k = c.from-k.result in
+    let below = neighbour_below o c.args.node (sym c.is_no_neighbour.ensures ∙ c.if-is_no_neighbour.false) in
+    let short : k < length c.make_room.new.neighbours =
+    omega (arith, below, c.requires.kept.neighbours.one_a_node, length-map c.args.neighbours.now view_of) in
+    let more : c.from-2.result ≡ o.size = c.from-2.ensures ∙ c.size-3.ensures.value in
+    let room : HaveRoom o.size c.make_room.new.neighbours =
+    subst (λ n. HaveRoom n c.make_room.new.neighbours) more c.in_ok-make_room.ensures.room in
+    room_set o.size c.make_room.new.neighbours k c.import.new.neighbour short room
+    (c.import.ensures.room o.size (room k c.index-neighbours-k.result short))
+
+pub returns-clause-done : goal.returns-clause-done
+returns-clause-done c = λ n.
+    let o = c.args.opening.now in
+    let k = c.from-k.result in
+    let f = c.in_ok-filter.filter.value in
+    let ns = map view_of c.args.neighbours.now in
+    let neighbour = sym c.is_no_neighbour.ensures ∙ c.if-is_no_neighbour.false in
+    let below = neighbour_below o c.args.node neighbour in
+    let h : k < length ns = omega (arith, below, c.requires.kept.neighbours.one_a_node) in
+    let short : k < length c.make_room.new.neighbours = omega (arith, h, length-map c.args.neighbours.now view_of) in
+    let size : c.args.filter.now.value.size ≡ o.size =
+    ap (λ g. g.size) (sym c.deref.ensures) ∙ sym c.size.ensures ∙ c.if-size-from.false ∙ c.from.ensures
+    ∙ c.size-2.ensures.value in
+    let e = changed_after c.args.neighbours.now c.make_room.new.neighbours k c.import.new.neighbour
+    c.index-neighbours-k.result (importing f) short c.make_room.ensures.same c.import.ensures.view in
+    import_goes o n c.args.node ns c.args.filter.now.value neighbour size
+    ∙ (λ i. recomputed (world_of o n c.args.neighbours.now)
+    (changed (world_of o n c.args.neighbours.now) (sym c.from-k.ensures i) (importing (sym c.in_ok-filter.ensures i))))
+    ∙ recomputed_is o n ns _ _ c.args.destinations.now k (importing f) _ c.requires.kept e c.settle-changed.ensures.told
+    c.settle-changed.ensures.count

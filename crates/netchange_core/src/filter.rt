@@ -1,0 +1,33 @@
+//! Distances under filters.
+
+ghost use Rattle.std.specs.Prelude.{◌≡◌, ◌<◌, ◌≤◌};
+ghost use Rattle.netchange_core.specs.Kept.{FitsSize, filter_of};
+ghost use Rattle.netchange_core.specs.Pass.{pass};
+
+use crate::opening::Opening;
+use filter_machine::{Verdict, run};
+use filter_verifier::Verified;
+use std::sync::Arc;
+
+/// What a distance to a node becomes under a filter.
+#[tactic(auto, unfolding(crate::specs::Pass::pass))]
+pub(crate) fn pass(opening: &Opening, filter: &Option<Arc<Verified>>, node: u16, dist: u16) -> u16
+    requires fits { FitsSize opening.now.size (filter_of filter.now) }
+    requires node { node < opening.now.size }
+    requires reachable { dist ≤ opening.now.size }
+    ensures value { result ≡ pass opening.now (filter_of filter.now) node dist }
+    ensures reachable { result ≤ opening.now.size }
+{
+    let size = opening.size();
+    let Some(filter) = filter else {
+        return dist;
+    };
+    if dist == size {
+        return size;
+    }
+    let prefix = &opening.prefixes()[usize::from(node)];
+    match run(filter, prefix, u32::from(dist)).verdict {
+        Verdict::Accept(accepted) => accepted as u16,
+        Verdict::Reject => size,
+    }
+}

@@ -1,0 +1,54 @@
+//! Room in the queues, made before anything is changed.
+
+ghost use Rattle.std.specs.Prelude.{◌≡◌, ◌≢◌, ◌+◌, ◌≤◌, OnOk, map};
+ghost use Rattle.std.specs.VecDeque.{deque_len, deque_capacity};
+ghost use Rattle.netchange_core.specs.Kept.{view_of};
+ghost use Rattle.netchange_core.specs.Room.{HasRoom, HaveRoom};
+
+use crate::neighbour::Neighbour;
+use std::alloc::AllocError;
+
+/// Makes room for so many more messages to a neighbour.
+pub(crate) fn reserve(neighbour: &mut Neighbour, more: usize) -> Result<(), AllocError>
+    ensures same { view_of neighbour.new ≡ view_of neighbour.old }
+    ensures room { OnOk result (deque_len neighbour.new.queue + more ≤ deque_capacity neighbour.new.queue) }
+{
+    neighbour.queue.reserve(more)
+}
+
+/// Makes room for so many more messages to a neighbour, if it is up.
+pub(crate) fn make_room_for(neighbour: &mut Neighbour, more: usize) -> Result<(), AllocError>
+    ensures same { view_of neighbour.new ≡ view_of neighbour.old }
+    ensures room { OnOk result (HasRoom more neighbour.new) }
+{
+    if neighbour.session == 0 {
+        return Ok(());
+    }
+    reserve(neighbour, more)
+}
+
+/// Makes room for so many more messages to each up neighbour.
+pub(crate) fn make_room(neighbours: &mut [Neighbour], more: usize) -> Result<(), AllocError>
+    ensures same { map view_of neighbours.new ≡ map view_of neighbours.old }
+    ensures room { OnOk result (HaveRoom more neighbours.new) }
+{
+    for k in 0..neighbours.len() {
+        make_room_for(&mut neighbours[k], more)?;
+    }
+    Ok(())
+}
+
+/// Makes room for one more message to each up neighbour, where two distances differ.
+pub(crate) fn make_room_if_differs(
+    neighbours: &mut [Neighbour],
+    old: u16,
+    new: u16,
+) -> Result<(), AllocError>
+    ensures same { map view_of neighbours.new ≡ map view_of neighbours.old }
+    ensures room { OnOk result (old ≢ new → HaveRoom 1 neighbours.new) }
+{
+    if old == new {
+        return Ok(());
+    }
+    make_room(neighbours, 1)
+}

@@ -1,0 +1,146 @@
+//! Routes after a neighbour's distances changed.
+
+ghost use Rattle.std.specs.Prelude.{◌≡◌, ◌≢◌, ℕ, ◌+◌, ◌<◌, ◌≤◌, ◌==◌, not, if◌then◌else◌, map, length, slice_index_or, slice_set};
+ghost use Rattle.netchange_core.specs.Best.{best_by, neighbour_distance};
+ghost use Rattle.netchange_core.specs.Kept.{AreDestinations, AreKept, AreNeighbours, IsDestination, IsNeighbour, distance_by, kept_distance, view_of};
+ghost use Rattle.netchange_core.specs.Next.{count_changes, tell, tell_changes};
+ghost use Rattle.netchange_core.specs.Room.{HaveRoom};
+ghost use Rattle.netchange_core.specs.Settling.{AreStaleAt, told_if_differs};
+ghost use Rattle.netchange_core.specs.World.{neighbour_at};
+
+use crate::best_route::{BestRoute, revised};
+use crate::destination::Destination;
+use crate::filter::pass;
+use crate::neighbour::Neighbour;
+use crate::opening::Opening;
+use crate::telling::tell_all;
+
+/// How far a node is from a neighbour, after the import filter.
+pub(crate) fn neighbour_distance(opening: &Opening, neighbour: &Neighbour, node: u16) -> u16
+    requires neighbour { IsNeighbour opening.now.size (view_of neighbour.now) }
+    requires node { node < opening.now.size }
+    ensures value { result ≡ neighbour_distance opening.now node (view_of neighbour.now) }
+    ensures reachable { result ≤ opening.now.size }
+{
+    if neighbour.session == 0 {
+        return opening.size();
+    }
+    pass(
+        opening,
+        &neighbour.imports,
+        node,
+        neighbour.raw[usize::from(node)],
+    )
+}
+
+/// The best route to a node, where one neighbour is now at another distance from it.
+pub(crate) fn route_after(
+    opening: &Opening,
+    node: u16,
+    destination: &Destination,
+    hop: usize,
+    near: u16,
+) -> BestRoute
+    requires right { IsDestination opening.now node destination.now }
+    requires hop { hop < opening.now.size }
+    ensures best { result ≡ best_by opening.now node (slice_set destination.now.distances.items hop near) }
+    ensures reachable { result.dist ≤ opening.now.size }
+{
+    if node == opening.me() {
+        return destination.route;
+    }
+    revised(
+        opening.size(),
+        &destination.distances,
+        hop,
+        near,
+        destination.route,
+    )
+}
+
+/// Keeps a neighbour's new distance from a node and the new route to the node, and tells its distance if it changed, which
+/// is answered.
+pub(crate) fn put(
+    opening: &Opening,
+    neighbours: &mut [Neighbour],
+    destination: &mut Destination,
+    node: u16,
+    hop: usize,
+    near: u16,
+    route: BestRoute,
+) -> bool
+    requires node { node < opening.now.size }
+    requires reachable { route.dist ≤ opening.now.size }
+    requires neighbours { AreNeighbours opening.now.size (map view_of neighbours.old) }
+    requires hop { hop < length destination.old.distances.items }
+    requires room { destination.old.route.dist ≢ route.dist → HaveRoom 1 neighbours.old }
+    ensures changed { result ≡ not (destination.old.route.dist == route.dist) }
+    ensures told { map view_of neighbours.new ≡ told_if_differs opening.now node destination.old.route.dist route.dist (map view_of neighbours.old) }
+    ensures distances { destination.new.distances.items ≡ slice_set destination.old.distances.items hop near }
+    ensures route { destination.new.route ≡ route }
+    ensures room { (more : ℕ) → HaveRoom (more + 1) neighbours.old → HaveRoom more neighbours.new }
+{
+    let differs = destination.route.dist != route.dist;
+    destination.distances[hop] = near;
+    destination.route = route;
+    if differs {
+        tell_all(opening, neighbours, node, route.dist);
+    }
+    differs
+}
+
+/// Brings the route to a node up to date, after one neighbour changed. Answers whether its distance changed.
+fn settle_at(
+    opening: &Opening,
+    neighbours: &mut [Neighbour],
+    destination: &mut Destination,
+    node: u16,
+    hop: usize,
+) -> bool
+    requires node { node < opening.now.size }
+    requires hop { hop < opening.now.size }
+    requires neighbours { AreNeighbours opening.now.size (map view_of neighbours.old) }
+    requires right { IsDestination opening.now node destination.old }
+    requires room { HaveRoom 1 neighbours.old }
+    ensures changed { result ≡ not (destination.old.route.dist == destination.new.route.dist) }
+    ensures told { map view_of neighbours.new ≡ told_if_differs opening.now node destination.old.route.dist destination.new.route.dist (map view_of neighbours.old) }
+    ensures distances { destination.new.distances.items ≡ slice_set destination.old.distances.items hop
+        (neighbour_distance opening.now node (neighbour_at (map view_of neighbours.old) hop)) }
+    ensures right { IsDestination opening.now node destination.new }
+    ensures room { (more : ℕ) → HaveRoom (more + 1) neighbours.old → HaveRoom more neighbours.new }
+{
+    let near = neighbour_distance(opening, &neighbours[hop], node);
+    let route = route_after(opening, node, destination, hop, near);
+    put(opening, neighbours, destination, node, hop, near, route)
+}
+
+/// Brings all routes up to date, after one neighbour changed, and tells the distances that changed. Answers how many did.
+pub(crate) fn settle(
+    opening: &Opening,
+    neighbours: &mut [Neighbour],
+    destinations: &mut [Destination],
+    hop: usize,
+) -> u16
+    requires hop { hop < opening.now.size }
+    requires neighbours { AreNeighbours opening.now.size (map view_of neighbours.old) }
+    requires destinations { AreDestinations opening.now destinations.old }
+    requires stale { AreStaleAt opening.now hop (map view_of neighbours.old) destinations.old }
+    requires room { HaveRoom opening.now.size neighbours.old }
+    ensures told { map view_of neighbours.new ≡ tell_changes opening.now (kept_distance destinations.old)
+        (distance_by opening.now (map view_of neighbours.old)) opening.now.size (map view_of neighbours.old) }
+    ensures count { result ≡ count_changes (kept_distance destinations.old)
+        (distance_by opening.now (map view_of neighbours.old)) opening.now.size }
+    ensures kept { AreKept opening.now (map view_of neighbours.new) destinations.new }
+{
+    let mut changed = 0;
+    for node in 0..opening.size() {
+        changed += u16::from(settle_at(
+            opening,
+            neighbours,
+            &mut destinations[usize::from(node)],
+            node,
+            hop,
+        ));
+    }
+    changed
+}
