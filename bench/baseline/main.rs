@@ -9,6 +9,7 @@ mod machine;
 mod patterns;
 mod rounds;
 mod route;
+mod router;
 
 use std::io;
 use std::process::ExitCode;
@@ -111,6 +112,13 @@ fn measure(rounds: u32) -> Result<bool, StreamFault> {
     Ok(true)
 }
 
+/// Has a router answer events again and again, and prints what it said.
+fn measure_router(rounds: u32) -> Result<bool, StreamFault> {
+    let router::Sums { events, refused, changed, messages, distances } = router::measured(rounds)?;
+    println!("events {events} refused {refused} changed {changed} messages {messages} distances {distances}");
+    Ok(true)
+}
+
 fn main() -> ExitCode {
     let words: Vec<String> = std::env::args().skip(1).collect();
     let words: Vec<&str> = words.iter().map(String::as_str).collect();
@@ -118,6 +126,10 @@ fn main() -> ExitCode {
         ["eval"] => eval(),
         ["rounds", number] => match number.parse() {
             Ok(rounds) => measure(rounds),
+            Err(_) => return usage(),
+        },
+        ["router", number] => match number.parse() {
+            Ok(rounds) => measure_router(rounds),
             Err(_) => return usage(),
         },
         _ => return usage(),
@@ -133,6 +145,6 @@ fn main() -> ExitCode {
 }
 
 fn usage() -> ExitCode {
-    eprintln!("usage: baseline eval | rounds NUMBER");
+    eprintln!("usage: baseline eval | rounds NUMBER | router NUMBER");
     ExitCode::from(2)
 }
