@@ -5,7 +5,10 @@ use Rattle.std.proofs.Math.Nat.{div-mul-le_self, div-le_self}
 use Rattle.std.proofs.lemmas.Bool.{cond_both}
 use Rattle.std.proofs.lemmas.Nat.{mul-le, le-div}
 use Rattle.std.proofs.lemmas.Bool.Decides.{nat_tests}
-use Rattle.filter_verifier.specs.Ranges.{RangeView, range_in, any_number, range_of_number, range_of_metric, range_of_length, range_of_sum, range_of_difference, range_of_product, range_of_quotient, range_of_greater, join_ranges}
+use Rattle.filter_verifier.specs.PairwiseJoin.{join_two_ranges}
+use Rattle.filter_verifier.specs.Ranges.{RangeView, any_number, range_in, range_of_difference, range_of_greater}
+use Rattle.filter_verifier.specs.Ranges.{range_of_length, range_of_metric, range_of_number, range_of_product}
+use Rattle.filter_verifier.specs.Ranges.{range_of_quotient, range_of_sum}
 
 -- an int lies in a range, where so much was received
 pub record InRange (received : ℕ) (span : RangeView) (x : ℕ) : Type 0 where
@@ -132,7 +135,7 @@ module _ (received size : ℕ) (limit : received ≤ size) where
       (either_marked received (max a b) s.at_least_received t.at_least_received (λ m. omega (arith, p.marked m)) (λ m. omega (arith, q.marked m)))
 
 -- what lies in a range lies in one that holds it
-pub both_left : (received x : ℕ) (s t : RangeView) → InRange received s x → InRange received (join_ranges s t) x
+pub both_left : (received x : ℕ) (s t : RangeView) → InRange received s x → InRange received (join_two_ranges s t) x
 both_left received x s t p = record {
   above = omega (arith, p.above);
   below = omega (arith, p.below);
@@ -140,7 +143,7 @@ both_left received x s t p = record {
   marked = λ e. p.marked (ands_true s.at_least_received t.at_least_received e).0;
 }
 
-pub both_right : (received x : ℕ) (s t : RangeView) → InRange received t x → InRange received (join_ranges s t) x
+pub both_right : (received x : ℕ) (s t : RangeView) → InRange received t x → InRange received (join_two_ranges s t) x
 both_right received x s t p = record {
   above = omega (arith, p.above);
   below = omega (arith, p.below);

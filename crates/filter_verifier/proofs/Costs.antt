@@ -7,7 +7,8 @@ use Rattle.std.proofs.lemmas.Bool.Decides.{nat_tests}
 use Rattle.filter_code.specs.declared.instruction.Instr.{Instr}
 use Rattle.filter_code.specs.declared.instruction.Instr.TheVariants as instr
 use Rattle.filter_code.specs.Table.{height_after, leads}
-use Rattle.filter_verifier.specs.InStates.{leads_to, leads_below, leads_of}
+use Rattle.filter_verifier.specs.InStates.{leads_of}
+use Rattle.filter_verifier.specs.Transfer.{leads_below, leads_to}
 use Rattle.filter_verifier.specs.Bounds.{greatest_at, costs, cost, highest_at, peaks, peak}
 
 -- the greatest cost at some distances from an index, and the highest peak from a height there

@@ -6,15 +6,23 @@ use Rattle.std.proofs.lemmas.Bool.Decides.{nat_tests}
 use Rattle.filter_code.specs.declared.instruction.Instr.{Instr}
 use Rattle.filter_code.specs.CodeView.{CodeView}
 use Rattle.filter_code.specs.Table.{height_after, leads}
-use Rattle.filter_verifier.specs.FirstFault.{refused_by, first_fault, the_fault}
-use Rattle.filter_verifier.specs.InStates.{InStateView, Unreached, UnlikeDepths, Known, OutStateView, Skipped, Refused, Passed, join_states, leads_to, leads_of, propagated, out_state, entry, joined_below, in_state, out_state_at}
+use Rattle.filter_verifier.specs.FirstFault.{first_fault, refused_by, the_fault}
+use Rattle.filter_verifier.specs.InStateView.{InStateView, Known, UnlikeDepths, Unreached}
+use Rattle.filter_verifier.specs.InStates.{in_state, leads_of, out_state_at, propagated}
+use Rattle.filter_verifier.specs.OutStateView.{OutStateView, Passed, Refused, Skipped}
+use Rattle.filter_verifier.specs.PairwiseJoin.{join_two_states}
+use Rattle.filter_verifier.specs.Pass.{height_of, highest, joined_below}
+use Rattle.filter_verifier.specs.Transfer.{leads_to, out_state}
 use Rattle.filter_verifier.specs.Bounds.{peak}
-use Rattle.filter_verifier.specs.Pass.{height_of, highest}
 use Rattle.filter_verifier.proofs.Propagation.{below_or_at, arrives_at}
 use Rattle.filter_verifier.proofs.Costs.{highest_peak, height_behind, none_past, peak_is, peak_falls, peak_least, led_below, led_later}
 use Rattle.filter_verifier.proofs.Heights.{IsHigh, HandsOn, Passes, passes_on}
-use Rattle.filter_verifier.proofs.Joins.{HasHeight, height_left, height_right, common_length}
+use Rattle.filter_verifier.proofs.JoinedPlaces.{length_joined}
+use Rattle.filter_verifier.proofs.Joins.{HasHeight, height_left, height_right}
 use Rattle.filter_verifier.proofs.Sound.{none_refused, lead_on_from, faultless}
+use Rattle.filter_verifier.specs.Pass.{as_in_state, entry_state}
+use Rattle.filter_verifier.specs.AbstractFrameView.{AbstractFrameView}
+use Rattle.filter_verifier.proofs.Propagation.{joined_at_entry, joined_next}
 
 -- what arrives at an index goes no higher from there than the code from its beginning, and fits
 pub record IsLow (instrs : List Instr) (index height : ℕ) : Type 0 where
@@ -22,71 +30,71 @@ pub record IsLow (instrs : List Instr) (index height : ℕ) : Type 0 where
   pub fits : height ≤ 32
 
 abbrev ArrivesLow : List Instr → ℕ → InStateView → Type 0
-ArrivesLow instrs index (Known stack locals) = IsLow instrs index (length stack)
+ArrivesLow instrs index (Known frame) = IsLow instrs index (length frame.stack)
 ArrivesLow instrs index _ = Unit {0}
 
 low_met : (instrs : List Instr) (index : ℕ) (a b : InStateView) → ArrivesLow instrs index a → ArrivesLow instrs index b →
-    ArrivesLow instrs index (join_states a b)
+    ArrivesLow instrs index (join_two_states a b)
 low_met instrs index Unreached b p q = q
 low_met instrs index UnlikeDepths b p q = tt
-low_met instrs index (Known stack locals) Unreached p q = p
-low_met instrs index (Known stack locals) UnlikeDepths p q = tt
-low_met instrs index (Known stack locals) (Known others more) p q =
-    cond_both (length stack == length others) _ _ (ArrivesLow instrs index)
-    (λ e. subst (λ n. IsLow instrs index n) (sym (common_length stack others)) p) (λ e. tt)
+low_met instrs index (Known frame) Unreached p q = p
+low_met instrs index (Known frame) UnlikeDepths p q = tt
+low_met instrs index (Known frame) (Known other) p q =
+    cond_both (length frame.stack == length other.stack) _ _ (ArrivesLow instrs index)
+    (λ e. subst (λ n. IsLow instrs index n) (sym (length_joined frame.stack other.stack)) p) (λ e. tt)
 
 -- from an index that is low to one where the text leads
-low_next : (instrs : List Instr) (at target height : ℕ) (next : InStateView) →
+low_next : (instrs : List Instr) (at target height : ℕ) (next : AbstractFrameView) →
     HandsOn (length instrs) at height (slice_get instrs at) next → IsLow instrs at height →
-    leads_to at target (leads_of (slice_get instrs at)) ≡ true → ArrivesLow instrs target next
-low_next instrs at target height Unreached h low led = tt
-low_next instrs at target height UnlikeDepths h low led = tt
-low_next instrs at target height (Known stack locals) h low led =
-    let high : length stack ≡ height_behind (slice_get instrs at) height = h.high in
+    leads_to at target (leads_of (slice_get instrs at)) ≡ true → ArrivesLow instrs target (Known next)
+low_next instrs at target height next h low led =
+    let high : length next.stack ≡ height_behind (slice_get instrs at) height = h.high in
     let falls = peak_falls instrs at target height (slice_get instrs at) refl led in
     subst (λ n. IsLow instrs target n) (sym high) (record { peak = omega (arith, low.peak); fits = h.fits low.fits })
 
 low_handed : (program : CodeView) (at target height : ℕ) (v : OutStateView) →
     Passes (length program.instrs) at height (slice_get program.instrs at) v → IsLow program.instrs at height →
-    ArrivesLow program.instrs target (propagated program at v target)
+    ArrivesLow program.instrs target (as_in_state (propagated program at v target))
 low_handed program at target height Skipped h low = tt
 low_handed program at target height (Refused why) h low = tt
 low_handed program at target height (Passed next) h low =
-    cond_both (leads_to at target (leads_of (slice_get program.instrs at))) next Unreached (ArrivesLow program.instrs target)
+    cond_both (leads_to at target (leads_of (slice_get program.instrs at))) (Some next) None
+    (λ o. ArrivesLow program.instrs target (as_in_state o))
     (λ led. low_next program.instrs at target height next h low led) (λ e. tt)
 
 low_visited : (program : CodeView) (size at target : ℕ) (a : InStateView) → ArrivesLow program.instrs at a →
-    ArrivesLow program.instrs target (propagated program at (out_state program size at a) target)
+    ArrivesLow program.instrs target (as_in_state (propagated program at (out_state program size at a) target))
 low_visited program size at target Unreached low = tt
 low_visited program size at target UnlikeDepths low = tt
-low_visited program size at target (Known stack locals) low =
-    low_handed program at target (length stack) (out_state program size at (Known stack locals))
-    (passes_on program size at (length stack) stack locals refl) low
+low_visited program size at target (Known frame) low =
+    low_handed program at target (length frame.stack) (out_state program size at (Known frame))
+    (passes_on program size at (length frame.stack) frame refl) low
 
-low_beginning : (program : CodeView) (index : ℕ) → ArrivesLow program.instrs index (entry program index)
-low_beginning program zero = record { peak = omega arith; fits = omega arith }
-low_beginning program (suc index) = tt
+low_entry : (program : CodeView) (index : ℕ) → ArrivesLow program.instrs index (entry_state program index)
+low_entry program zero = record { peak = omega arith; fits = omega arith }
+low_entry program (suc index) = tt
 
 low_arriving : (program : CodeView) (size n index : ℕ) → ArrivesLow program.instrs index (joined_below program size n index)
-unfolding joined_below
-low_arriving program size zero index = low_beginning program index
+low_arriving program size zero index =
+    subst (ArrivesLow program.instrs index) (sym (joined_at_entry program size index)) (low_entry program index)
 low_arriving program size (suc n) index =
-    low_met program.instrs index (joined_below program size n index) (propagated program n (out_state_at program size n) index)
+    subst (ArrivesLow program.instrs index) (sym (joined_next program size n index))
+    (low_met program.instrs index (joined_below program size n index) (as_in_state (propagated program n (out_state_at program size n) index))
     (low_arriving program size n index)
-    (low_visited program size n index (joined_below program size n n) (low_arriving program size n n))
+    (low_visited program size n index (in_state program size n) (low_arriving program size n n)))
 
 -- so each height is no more than the peak, and fits
 height_low : (instrs : List Instr) (index : ℕ) (a : InStateView) → ArrivesLow instrs index a → height_of a ≤ peak instrs 0 0
 height_low instrs index Unreached low = omega arith
 height_low instrs index UnlikeDepths low = omega arith
-height_low instrs index (Known stack locals) low =
-    let least = peak_least instrs index (length stack) (slice_get instrs index) refl in
+height_low instrs index (Known frame) low =
+    let least = peak_least instrs index (length frame.stack) (slice_get instrs index) refl in
     omega (arith, low.peak)
 
 height_fits : (instrs : List Instr) (index : ℕ) (a : InStateView) → ArrivesLow instrs index a → height_of a ≤ 32
 height_fits instrs index Unreached low = omega arith
 height_fits instrs index UnlikeDepths low = omega arith
-height_fits instrs index (Known stack locals) low = low.fits
+height_fits instrs index (Known frame) low = low.fits
 
 highest_low : (program : CodeView) (size n : ℕ) → highest program size n ≤ peak program.instrs 0 0
 unfolding highest
@@ -125,18 +133,13 @@ highest_within instrs at height limit (d ∷ offsets) each =
     (λ target led. each target (leads_rest (at + d == target) (leads_to at target offsets) led)) in
     omega arith
 
--- what is handed on arrives at its height
-high_has : (height : ℕ) (a : InStateView) → IsHigh height a → HasHeight height a
-high_has height Unreached h = absurd h
-high_has height UnlikeDepths h = tt
-high_has height (Known stack locals) h = h
-
-pub height_next : (program : CodeView) (size at target height : ℕ) (next : InStateView) → out_state_at program size at ≡ Passed next →
+-- what is propagated has its height at each successor
+pub height_next : (program : CodeView) (size at target height : ℕ) (next : AbstractFrameView) → out_state_at program size at ≡ Passed next →
     at < target → leads_to at target (leads_of (slice_get program.instrs at)) ≡ true → IsHigh height next →
     HasHeight height (in_state program size target)
 height_next program size at target height next passed later led h =
     arrives_at program size (HasHeight height) (height_left height)
-    (λ a b w v p. height_right height a b p) at target next passed later led (high_has height next h)
+    (λ a b w v p. height_right height a b p) at target next passed later led h
 
 -- from an index that arrives at a height, the peak is no more than any bound on all heights
 module _ (program : CodeView) (size limit : ℕ) (none : first_fault program size (length program.instrs) ≡ None)
@@ -173,10 +176,10 @@ module _ (program : CodeView) (size limit : ℕ) (none : first_fault program siz
       peak program.instrs at height ≤ limit
   peak_arrived at height Unreached e q h inside later = absurd h
   peak_arrived at height UnlikeDepths e q h inside later = absurd (cc)
-  peak_arrived at height (Known stack locals) e q h inside later =
-      let low : length stack ≤ limit = subst (λ a. height_of a ≤ limit) e (each at inside) in
-      peak_passed at height (out_state program size at (Known stack locals)) (ap (out_state program size at) e) q
-      (passes_on program size at height stack locals h) inside (subst (λ n. n ≤ limit) h low) later
+  peak_arrived at height (Known frame) e q h inside later =
+      let low : length frame.stack ≤ limit = subst (λ a. height_of a ≤ limit) e (each at inside) in
+      peak_passed at height (out_state program size at (Known frame)) (ap (out_state program size at) e) q
+      (passes_on program size at height frame h) inside (subst (λ n. n ≤ limit) h low) later
 
   peak_within : (fuel at height : ℕ) → length program.instrs ≤ at + fuel → at < length program.instrs →
       HasHeight height (in_state program size at) → peak program.instrs at height ≤ limit
@@ -186,8 +189,8 @@ module _ (program : CodeView) (size limit : ℕ) (none : first_fault program siz
       λ target next on within arrived. peak_within fuel target next (omega arith) within arrived
 
   peak_bounded : 0 < length program.instrs → peak program.instrs 0 0 ≤ limit
-  unfolding joined_below
-  peak_bounded some = peak_within (length program.instrs) 0 0 (omega arith) some refl
+  peak_bounded some =
+      peak_within (length program.instrs) 0 0 (omega arith) some (subst (HasHeight 0) (sym (joined_at_entry program size 0)) refl)
 
 -- where nothing is unknown, the greatest height is the peak
 pub depth_is : (program : CodeView) (size : ℕ) → the_fault program size ≡ None →

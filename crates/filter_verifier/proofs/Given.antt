@@ -19,9 +19,11 @@ use Rattle.filter_code.specs.Values.{int_of, bool_of, ip_of, net_of, number_of, 
 use Rattle.filter_code.proofs.Metrics.{IsInRange}
 use Rattle.filter_verifier.specs.declared.fact.Fact.{Fact}
 use Rattle.filter_verifier.specs.declared.fact.Fact.TheVariants as fact
-use Rattle.filter_verifier.specs.Facts.{range_of, known_bool, known_ip, known_prefix, known_number, known_bits, fact_given, fact_fault}
+use Rattle.filter_verifier.specs.Facts.{fact_fault, fact_given, known_bits, known_bool, known_ip, known_number, known_prefix}
+use Rattle.filter_verifier.specs.Facts.{range_of}
+use Rattle.filter_verifier.specs.Ranges.{RangeView, range_of_difference, range_of_greater, range_of_length, range_of_product}
+use Rattle.filter_verifier.specs.Ranges.{range_of_quotient, range_of_sum}
 use Rattle.filter_verifier.specs.Safe.{HasLiteral, IsRouteOf}
-use Rattle.filter_verifier.specs.Ranges.{RangeView, range_of_length, range_of_sum, range_of_difference, range_of_product, range_of_quotient, range_of_greater}
 use Rattle.filter_verifier.proofs.Arithmetic.{InRange, number_fits, metric_fits, length_fits, sum_fits, difference_fits, product_fits, quotient_fits, greater_fits}
 use Rattle.filter_verifier.proofs.Fits.{IsAs, OperandsAre}
 use Rattle.filter_verifier.proofs.Parts.{Alike, Any, LiesIn, IsShort, PartsAre, one_alike, two_alike, ints_are, bools_are, ips_are, nets_are, numbers_are, bits_are, wholes_are}

@@ -12,11 +12,16 @@ use Rattle.filter_code.specs.CodeView.{CodeView}
 use Rattle.filter_code.specs.Table.{Frame, Source, Nowhere, Top, TopTwo, Local, Operands, Zero, One, Two, Drawn, Bad, Good, each_is, both_are, is_int, is_bool, is_ip, is_prefix, are_ordered, are_nested, fits_kinds, names_exist, one_of, two_of, value_in, taken, passing, source_of, draw, taken_off, gives, height_after}
 use Rattle.filter_verifier.specs.declared.fact.Fact.{Fact}
 use Rattle.filter_verifier.specs.declared.fact.Fact.TheVariants as fact
-use Rattle.filter_verifier.specs.InStates.{InStateView, Known, OutStateView, Skipped, Refused, Passed, leads_below, judge, out_state_of_known, out_state_of_frame, out_state, leads_of}
-use Rattle.filter_verifier.specs.Facts.{kind_of_fact, range_of, known_bool, known_ip, known_prefix, known_number, known_bits, fact_given, all_known}
+use Rattle.filter_verifier.specs.Facts.{all_known, fact_given, kind_of_fact, known_bits, known_bool, known_ip, known_number}
+use Rattle.filter_verifier.specs.Facts.{known_prefix, range_of}
+use Rattle.filter_verifier.specs.InStateView.{Known}
+use Rattle.filter_verifier.specs.InStates.{leads_of}
+use Rattle.filter_verifier.specs.OutStateView.{OutStateView, Passed, Refused, Skipped}
 use Rattle.filter_verifier.specs.Ranges.{RangeView}
+use Rattle.filter_verifier.specs.Transfer.{judge, leads_below, out_state, out_state_of_frame, out_state_of_known}
 use Rattle.filter_verifier.proofs.Propagation.{judged}
 use Rattle.filter_verifier.proofs.Costs.{height_behind}
+use Rattle.filter_verifier.specs.AbstractFrameView.{AbstractFrameView}
 
 -- as many operands as a source has
 abbrev pub IsTakenFrom : Source → Operands Fact → Type 0
@@ -170,11 +175,10 @@ drawn_for sets i frame =
     (λ e. passed_for i frame.stack (taken (source_of i) frame) (taken_from (source_of i) frame)) (λ e. tt)
 
 -- what is handed on has as many operands as the table says, no more than fit, and goes to indices of the code
-abbrev pub IsHigh : ℕ → InStateView → Type 0
-IsHigh height (Known stack locals) = length stack ≡ height
-IsHigh height _ = ⊥
+abbrev pub IsHigh : ℕ → AbstractFrameView → Type 0
+IsHigh height next = length next.stack ≡ height
 
-pub record HandsOn (instrs at height : ℕ) (found : Option Instr) (next : InStateView) : Type 0 where
+pub record HandsOn (instrs at height : ℕ) (found : Option Instr) (next : AbstractFrameView) : Type 0 where
   pub high : IsHigh (height_behind found height) next
   pub fits : height ≤ 32 → height_behind found height ≤ 32
   pub within : leads_below at instrs (leads_of found) ≡ true
@@ -238,7 +242,8 @@ passes_places program size at height locals (Some stack) p =
     (passes_known program size at locals stack (slice_get program.instrs at))
 
 -- an index at which so many operands arrive
-pub passes_on : (program : CodeView) (size at height : ℕ) (stack locals : List (Option Fact)) → length stack ≡ height →
-    Passes (length program.instrs) at height (slice_get program.instrs at) (out_state program size at (Known stack locals))
-passes_on program size at height stack locals e =
-    passes_places program size at height locals (all_known stack) (subst (λ n. HasLength n (all_known stack)) e (known_length stack))
+pub passes_on : (program : CodeView) (size at height : ℕ) (frame : AbstractFrameView) → length frame.stack ≡ height →
+    Passes (length program.instrs) at height (slice_get program.instrs at) (out_state program size at (Known frame))
+passes_on program size at height frame e =
+    passes_places program size at height frame.locals (all_known frame.stack)
+    (subst (λ n. HasLength n (all_known frame.stack)) e (known_length frame.stack))

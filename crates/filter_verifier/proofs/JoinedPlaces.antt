@@ -3,29 +3,30 @@ use Rattle.std.proofs.Common.{◌≡◌, ℕ, zero, suc, ◌+◌, ◌<◌, Optio
 use Rattle.std.proofs.Math.Seq.{drop-nil, drop-cons}
 use Rattle.std.specs.Prelude.{option_and_then}
 use Rattle.filter_verifier.specs.declared.fact.Fact.{Fact}
-use Rattle.filter_verifier.specs.Facts.{join_place, join_places, all_known}
+use Rattle.filter_verifier.specs.Facts.{all_known}
+use Rattle.filter_verifier.specs.PairwiseJoin.{join_two_at, join_two_places}
 
 -- what is known of both has as many places as the first
-pub length_joined : (xs ys : List (Option Fact)) → length (join_places xs ys) ≡ length xs
+pub length_joined : (xs ys : List (Option Fact)) → length (join_two_places xs ys) ≡ length xs
 length_joined [] ys = refl
 length_joined (x ∷ xs) [] = ap suc (length_joined xs [])
 length_joined (x ∷ xs) (y ∷ ys) = ap suc (length_joined xs ys)
 
-nothing_joined : (x : Option Fact) → join_place x None ≡ None
+nothing_joined : (x : Option Fact) → join_two_at x None ≡ None
 nothing_joined None = refl
 nothing_joined (Some a) = refl
 
 -- from one place on
-joined_from : (xs ys : List (Option Fact)) (i : ℕ) → i < length xs → join_places (drop i xs) (drop i ys)
-    ≡ join_place (get_or xs i None) (get_or ys i None) ∷ join_places (drop (suc i) xs) (drop (suc i) ys)
+joined_from : (xs ys : List (Option Fact)) (i : ℕ) → i < length xs → join_two_places (drop i xs) (drop i ys)
+    ≡ join_two_at (get_or xs i None) (get_or ys i None) ∷ join_two_places (drop (suc i) xs) (drop (suc i) ys)
 joined_from [] ys i inside = absurd (omega arith)
-joined_from (x ∷ xs) [] zero inside = ap (λ (a : Option Fact). a ∷ join_places xs []) (sym (nothing_joined x))
+joined_from (x ∷ xs) [] zero inside = ap (λ (a : Option Fact). a ∷ join_two_places xs []) (sym (nothing_joined x))
 joined_from (x ∷ xs) (y ∷ ys) zero inside = refl
 joined_from (x ∷ xs) [] (suc i) inside = rw (drop-nil {A = Option Fact} i) at (joined_from xs [] i (omega arith))
 joined_from (x ∷ xs) (y ∷ ys) (suc i) inside = joined_from xs ys i (omega arith)
 
-pub joined_step : (xs ys : List (Option Fact)) (i : ℕ) → i < length xs → join_places (drop i xs) (drop i ys)
-    ≡ join_place (get_or xs i None) (get_or ys i None) ∷ join_places (drop (i + 1) xs) (drop (i + 1) ys)
+pub joined_step : (xs ys : List (Option Fact)) (i : ℕ) → i < length xs → join_two_places (drop i xs) (drop i ys)
+    ≡ join_two_at (get_or xs i None) (get_or ys i None) ∷ join_two_places (drop (i + 1) xs) (drop (i + 1) ys)
 joined_step xs ys i inside = rw add-one (joined_from xs ys i inside)
 
 -- a stack is known from a place on

@@ -7,6 +7,7 @@ pub mod Examples
 pub mod Fits
 pub mod Given
 pub mod Heights
+pub mod JoinedFrames
 pub mod JoinedPlaces
 pub mod Joins
 pub mod OutStates

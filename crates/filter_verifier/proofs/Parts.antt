@@ -9,7 +9,7 @@ use Rattle.filter_code.specs.Table.{Operands, Zero, One, Two}
 use Rattle.filter_code.specs.Values.{int_of, bool_of, ip_of, net_of, number_of, bits_of}
 use Rattle.filter_verifier.specs.declared.fact.Fact.{Fact}
 use Rattle.filter_verifier.specs.declared.fact.Fact.TheVariants as fact
-use Rattle.filter_verifier.specs.Facts.{range_of, known_bool, known_ip, known_prefix, known_number, known_bits}
+use Rattle.filter_verifier.specs.Facts.{known_bits, known_bool, known_ip, known_number, known_prefix, range_of}
 use Rattle.filter_verifier.specs.Ranges.{RangeView}
 use Rattle.filter_verifier.proofs.Arithmetic.{InRange}
 use Rattle.filter_verifier.proofs.Fits.{IsAs, OperandsAre}

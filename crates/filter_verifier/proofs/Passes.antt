@@ -1,5 +1,5 @@
 -- What waits at each index is what has arrived there from all indices below.
-use Rattle.std.proofs.Common.{◌≡◌, ℕ, zero, suc, ◌+◌, ◌-◌, ◌≤◌, ◌<◌, max, true, false, Option, Some, None, List, [], ◌∷◌, ◌++◌, length, get_or, refl, sym, ◌∙◌, ap, subst, add-one, arith}
+use Rattle.std.proofs.Common.{◌≡◌, ℕ, zero, suc, ◌+◌, ◌-◌, ◌≤◌, ◌<◌, max, Bool, true, false, Option, Some, None, List, [], ◌∷◌, ◌++◌, length, get_or, refl, sym, ◌∙◌, ap, subst, add-one, arith}
 use Rattle.std.proofs.lemmas.Bool.Decides.{nat_tests}
 use Rattle.std.proofs.lemmas.List.{get_or_default}
 use Rattle.std.specs.Prelude.{◌==◌, if◌then◌else◌, slice_get}
@@ -11,9 +11,17 @@ use Rattle.filter_code.specs.Table.{leads}
 use Rattle.filter_verifier.specs.declared.fault.VerifyFault.{VerifyFault}
 use Rattle.filter_verifier.specs.declared.in_state.InState.{InState}
 use Rattle.filter_verifier.specs.declared.in_state.InState.TheVariants as state
-use Rattle.filter_verifier.specs.FirstFault.{is_size, the_fault, refused_by, or_else, first_fault}
-use Rattle.filter_verifier.specs.InStates.{InStateView, Unreached, OutStateView, Passed, leads_of, leads_to, join_states, propagated, out_state, entry, joined_below, out_state_at, in_state}
-use Rattle.filter_verifier.specs.Pass.{in_state_view, state_at, height_of, highest}
+use Rattle.filter_verifier.specs.FirstFault.{first_fault, is_size, or_else, refused_by, the_fault}
+use Rattle.filter_verifier.specs.InStateView.{InStateView, Unreached}
+use Rattle.filter_verifier.specs.InStates.{in_state, leads_of, out_state_at, propagated}
+use Rattle.filter_verifier.specs.OutStateView.{OutStateView, Passed}
+use Rattle.filter_verifier.specs.PairwiseJoin.{join_two_states}
+use Rattle.filter_verifier.specs.Pass.{height_of, highest, in_state_view, joined_below, state_at}
+use Rattle.filter_verifier.specs.Transfer.{leads_to, out_state}
+use Rattle.filter_verifier.specs.Pass.{as_in_state, entry_state}
+use Rattle.filter_verifier.specs.InStateView.{Known}
+use Rattle.filter_verifier.specs.AbstractFrameView.{AbstractFrameView}
+use Rattle.filter_verifier.proofs.Propagation.{joined_at_entry, joined_next}
 
 -- before the visit of an index: what waits, the greatest height so far, and nothing is unknown below
 pub record Before (program : CodeView) (size n : ℕ) (in_states : List InState) (depth : ℕ) : Type 0 where
@@ -23,10 +31,9 @@ pub record Before (program : CodeView) (size n : ℕ) (in_states : List InState)
   pub deepest : depth ≡ highest program size n
   pub limit : depth ≤ stack_limit
 
-joined_next : (program : CodeView) (size n k : ℕ) → joined_below program size (n + 1) k
-    ≡ join_states (joined_below program size n k) (propagated program n (out_state program size n (joined_below program size n n)) k)
-unfolding joined_below
-joined_next program size n k = rw add-one refl
+next_joined : (program : CodeView) (size n k : ℕ) → joined_below program size (n + 1) k
+    ≡ join_two_states (joined_below program size n k) (as_in_state (propagated program n (out_state_at program size n) k))
+next_joined program size n k = rw add-one (joined_next program size n k)
 
 fault_next : (program : CodeView) (size n : ℕ) → first_fault program size (n + 1)
     ≡ or_else (first_fault program size n) (refused_by (out_state_at program size n))
@@ -40,9 +47,9 @@ highest_next program size n = rw add-one refl
 
 -- before the first visit
 pub begun : (program : CodeView) (size : ℕ) (in_states : List InState) → length in_states ≡ length program.instrs →
-    ((k : ℕ) → state_at in_states k ≡ entry program k) → Before program size 0 in_states 0
-unfolding joined_below first_fault highest
-begun program size in_states wide waits = record { wide = wide; none = refl; waits = waits; deepest = refl; limit = omega arith }
+    ((k : ℕ) → state_at in_states k ≡ entry_state program k) → Before program size 0 in_states 0
+unfolding first_fault highest
+begun program size in_states wide waits = record { wide = wide; none = refl; waits = λ k. waits k ∙ sym (joined_at_entry program size k); deepest = refl; limit = omega arith }
 
 -- what becomes of an index is the verdict on it
 pub judged : (program : CodeView) (size n : ℕ) (in_states : List InState) (depth : ℕ) →
@@ -54,7 +61,8 @@ pub advanced : (program : CodeView) (size n : ℕ) (in_states next : List InStat
     Before program size n in_states depth →
     length next ≡ length in_states →
     refused_by (out_state program size n (state_at in_states n)) ≡ None →
-    ((k : ℕ) → state_at next k ≡ join_states (state_at in_states k) (propagated program n (out_state program size n (state_at in_states n)) k)) →
+    ((k : ℕ) → state_at next k
+    ≡ join_two_states (state_at in_states k) (as_in_state (propagated program n (out_state program size n (state_at in_states n)) k))) →
     height ≡ height_of (state_at in_states n) →
     height ≤ stack_limit →
     Before program size (n + 1) next (max depth height)
@@ -64,10 +72,10 @@ advanced program size n in_states next depth height before wide none waits heigh
       wide = wide ∙ before.wide;
       none = fault_next program size n ∙ (ap (λ (o : Option VerifyFault). or_else o
           (refused_by (out_state_at program size n))) before.none ∙ (sym (ap refused_by same) ∙ none));
-      waits = λ k. waits k ∙ (ap (λ (a : InStateView). join_states a
-          (propagated program n (out_state program size n (state_at in_states n)) k)) (before.waits k)
-          ∙ (ap (λ (v : OutStateView). join_states (joined_below program size n k) (propagated program n v k)) same
-          ∙ sym (joined_next program size n k)));
+      waits = λ k. waits k ∙ (ap (λ (a : InStateView). join_two_states a
+          (as_in_state (propagated program n (out_state program size n (state_at in_states n)) k))) (before.waits k)
+          ∙ (ap (λ (v : OutStateView). join_two_states (joined_below program size n k) (as_in_state (propagated program n v k))) same
+          ∙ sym (next_joined program size n k)));
       deepest = ap (λ (d : ℕ). max d height) before.deepest
           ∙ (ap (λ (h : ℕ). max (highest program size n) h) (height_is ∙ ap height_of (before.waits n))
           ∙ sym (highest_next program size n));
@@ -108,17 +116,26 @@ pub state_is : (in_states : List InState) (at : ℕ) (w : InState) → at < leng
     in_state_view w ≡ state_at in_states at
 state_is in_states at w inside is = ap in_state_view (is ∙ get_or_default in_states at w state.Unreached inside)
 
--- what is handed on where a visit passed
-pub handed : (program : CodeView) (size at target : ℕ) (w next old new : InStateView) (i : Instr) (offsets : List ℕ) →
+-- what is propagated, by whether it leads there
+led_state : (led : Bool) (next : AbstractFrameView) →
+    (if led then Known next else Unreached) ≡ as_in_state (if led then Some next else None)
+led_state true next = refl
+led_state false next = refl
+
+-- what is propagated where all tests passed
+pub handed : (program : CodeView) (size at target : ℕ) (w : InStateView) (next : AbstractFrameView) (old new : InStateView) (i : Instr)
+    (offsets : List ℕ) →
     slice_get program.instrs at ≡ Some i →
     offsets ≡ leads i →
     out_state program size at w ≡ Passed next →
-    new ≡ join_states old (if leads_to at target offsets then next else Unreached) →
-    new ≡ join_states old (propagated program at (out_state program size at w) target)
+    new ≡ join_two_states old (if leads_to at target offsets then Known next else Unreached) →
+    new ≡ join_two_states old (as_in_state (propagated program at (out_state program size at w) target))
 handed program size at target w next old new i offsets is ways passed met =
-    met ∙ (ap (λ (ds : List ℕ). join_states old (if leads_to at target ds then next else Unreached)) ways
-    ∙ (sym (ap (λ (found : Option Instr). join_states old (if leads_to at target (leads_of found) then next else Unreached)) is)
-    ∙ sym (ap (λ (v : OutStateView). join_states old (propagated program at v target)) passed)))
+    met ∙ (ap (λ (ds : List ℕ). join_two_states old (if leads_to at target ds then Known next else Unreached)) ways
+    ∙ (ap (join_two_states old) (led_state (leads_to at target (leads i)) next)
+    ∙ (sym (ap (λ (found : Option Instr). join_two_states old (as_in_state
+    (if leads_to at target (leads_of found) then Some next else None))) is)
+    ∙ sym (ap (λ (v : OutStateView). join_two_states old (as_in_state (propagated program at v target))) passed))))
 
 -- code of which nothing is unknown
 pub nothing_unknown : (program : CodeView) (size : ℕ) → smallest_size ≤ size → size ≤ largest_size →

@@ -1,5 +1,5 @@
 -- What an index hands on arrives: it is part of what meets at each index after it to which the text leads.
-use Rattle.std.proofs.Common.{◌≡◌, ℕ, zero, suc, ◌<◌, ◌⊎◌, Bool, true, false, Option, Some, None, List, length, refl, subst, sym, ◌∙◌, inl, inr, arith}
+use Rattle.std.proofs.Common.{◌≡◌, ℕ, zero, suc, ◌<◌, ◌⊎◌, Bool, true, false, Option, Some, None, List, [], ◌∷◌, map, length, refl, subst, sym, ◌∙◌, inl, inr, arith}
 use Rattle.std.specs.Prelude.{slice_get, if◌then◌else◌}
 use Rattle.std.proofs.lemmas.Bool.{cond_both}
 use Rattle.std.proofs.lemmas.List.{length-replicate, length-set}
@@ -11,9 +11,20 @@ use Rattle.filter_code.specs.CodeView.{CodeView}
 use Rattle.filter_code.specs.Table.{Frame, Operands, Zero, One, Two, Drawn, Bad, Good, draw, leads}
 use Rattle.filter_verifier.specs.declared.fact.Fact.{Fact}
 use Rattle.filter_verifier.specs.declared.fault.VerifyFault.{VerifyFault}
-use Rattle.filter_verifier.specs.InStates.{InStateView, Unreached, UnlikeDepths, Known, OutStateView, Skipped, Refused, Passed, join_states, leads_to, leads_below, unless_refused, unless_over, if_inside, frame_after, judge, out_state_of_known, out_state_of_frame, out_state, leads_of, propagated, entry, joined_below, in_state, out_state_at}
-use Rattle.filter_verifier.specs.Facts.{kind_of_fact, fact_given, fact_fault, all_known}
-use Rattle.filter_verifier.proofs.Joins.{Wide, wide_met}
+use Rattle.filter_verifier.specs.Facts.{all_known, fact_fault, fact_given, kind_of_fact}
+use Rattle.filter_verifier.specs.InStateView.{InStateView, Known, UnlikeDepths, Unreached}
+use Rattle.filter_verifier.specs.InStates.{in_state, leads_of, out_state_at, propagated}
+use Rattle.filter_verifier.specs.OutStateView.{OutStateView, Passed, Refused, Skipped}
+use Rattle.filter_verifier.specs.PairwiseJoin.{join_two_states}
+use Rattle.filter_verifier.specs.Pass.{joined_below}
+use Rattle.filter_verifier.specs.Transfer.{frame_after, if_inside, judge, leads_below, leads_to, out_state, out_state_of_frame}
+use Rattle.filter_verifier.specs.Transfer.{out_state_of_known, unless_over, unless_refused}
+use Rattle.filter_verifier.proofs.Joins.{Wide}
+use Rattle.filter_verifier.specs.Pass.{as_in_state, entry_state}
+use Rattle.filter_verifier.specs.Join.{join_frames, any_two_differ}
+use Rattle.filter_verifier.specs.InStates.{incoming, entry_frame, with_frame}
+use Rattle.filter_verifier.specs.AbstractFrameView.{AbstractFrameView}
+use Rattle.filter_verifier.proofs.JoinedFrames.{joined_count, joined_with_none, joined_one_more, joined_alone}
 
 -- the last tests of an instruction: each refuses, or holds and lets through
 module _ (P : OutStateView → Type 0) (refused : (why : VerifyFault) → P (Refused why)) where
@@ -48,7 +59,7 @@ locals_width locals _ operands = refl
 
 -- what passes tells of as many
 abbrev WideVisit : ℕ → OutStateView → Type 0
-WideVisit width (Passed next) = Wide width next
+WideVisit width (Passed next) = Wide width (Known next)
 WideVisit width _ = Unit {0}
 
 wide_judged : (width instrs size at : ℕ) (locals : List (Option Fact)) (i : Instr) (drawn : Drawn Fact) → length locals ≡ width →
@@ -72,52 +83,77 @@ wide_places width program size at locals (Some stack) w = wide_known width progr
 wide_visited : (width : ℕ) (program : CodeView) (size at : ℕ) (a : InStateView) → Wide width a → WideVisit width (out_state program size at a)
 wide_visited width program size at Unreached w = tt
 wide_visited width program size at UnlikeDepths w = tt
-wide_visited width program size at (Known stack locals) w = wide_places width program size at locals (all_known stack) w
+wide_visited width program size at (Known frame) w = wide_places width program size at frame.locals (all_known frame.stack) w
 
 wide_handed : (width : ℕ) (program : CodeView) (at : ℕ) (v : OutStateView) (target : ℕ) → WideVisit width v →
-    Wide width (propagated program at v target)
+    Wide width (as_in_state (propagated program at v target))
 wide_handed width program at Skipped target w = tt
 wide_handed width program at (Refused why) target w = tt
 wide_handed width program at (Passed next) target w =
-    cond_both (leads_to at target (leads_of (slice_get program.instrs at))) next Unreached (Wide width) (λ e. w) (λ e. tt)
+    cond_both (leads_to at target (leads_of (slice_get program.instrs at))) (Some next) None
+    (λ o. Wide width (as_in_state o)) (λ e. w) (λ e. tt)
 
-wide_beginning : (program : CodeView) (index : ℕ) → Wide program.locals (entry program index)
-wide_beginning program zero = length-replicate program.locals None
-wide_beginning program (suc index) = tt
+-- an in-state tells of as many local variables as the code has
+pub wide_joined : (count : ℕ) (frames : List AbstractFrameView) → Wide count (join_frames count frames)
+wide_joined count [] = tt
+wide_joined count (f ∷ frames) =
+    cond_both (any_two_differ (map (λ g. length g.stack) (f ∷ frames))) _ _ (Wide count) (λ e. tt)
+    (λ e. joined_count count (map (λ g. g.locals) (f ∷ frames)))
 
-pub wide_arriving : (program : CodeView) (size n index : ℕ) → Wide program.locals (joined_below program size n index)
-unfolding joined_below
-wide_arriving program size zero index = wide_beginning program index
-wide_arriving program size (suc n) index =
-    wide_met program.locals (joined_below program size n index) (propagated program n (out_state_at program size n) index)
-    (wide_arriving program size n index)
-    (wide_handed program.locals program n (out_state_at program size n) index
-    (wide_visited program.locals program size n (joined_below program size n n) (wide_arriving program size n n)))
+wide_below : (program : CodeView) (size n index : ℕ) → Wide program.locals (joined_below program size n index)
+wide_below program size n index = wide_joined program.locals (incoming program size n index)
+
+-- and so does what is propagated
+pub wide_propagated : (program : CodeView) (size n index : ℕ) →
+    Wide program.locals (as_in_state (propagated program n (out_state_at program size n) index))
+wide_propagated program size n index =
+    wide_handed program.locals program n (out_state_at program size n) index
+    (wide_visited program.locals program size n (in_state program size n) (wide_below program size n n))
+
+-- one frame more is joined to the others
+frame_joined : (count : ℕ) (o : Option AbstractFrameView) (frames : List AbstractFrameView) → Wide count (as_in_state o) →
+    join_frames count (with_frame o frames) ≡ join_two_states (join_frames count frames) (as_in_state o)
+frame_joined count None frames w = sym (joined_with_none (join_frames count frames))
+frame_joined count (Some frame) frames w = joined_one_more count frame frames w
+
+-- before the pass visits the next index
+pub joined_next : (program : CodeView) (size n index : ℕ) → joined_below program size (suc n) index
+    ≡ join_two_states (joined_below program size n index) (as_in_state (propagated program n (out_state_at program size n) index))
+unfolding incoming
+joined_next program size n index =
+    frame_joined program.locals (propagated program n (out_state_at program size n) index) (incoming program size n index)
+    (wide_propagated program size n index)
+
+-- before the pass
+pub joined_at_entry : (program : CodeView) (size index : ℕ) → joined_below program size 0 index ≡ entry_state program index
+unfolding incoming
+joined_at_entry program size zero = joined_alone program.locals (entry_frame program) (length-replicate program.locals None)
+joined_at_entry program size (suc index) = refl
 
 -- below the next number is below a number, or at it
 pub below_or_at : (k n : ℕ) → k < suc n → (k < n) ⊎ (k ≡ n)
 below_or_at k n h = grind arith
 
--- a property of what an index hands on, that each side of a meeting keeps, is one of what arrives
-module _ (program : CodeView) (size : ℕ) (P : InStateView → Type 0) (left : (a b : InStateView) → P a → P (join_states a b))
-    (right : (a b : InStateView) → Wide program.locals a → Wide program.locals b → P b → P (join_states a b)) where
-  pub arrives : (n k target : ℕ) → k < n → P (propagated program k (out_state_at program size k) target) → P (joined_below program size n target)
-  unfolding joined_below
+-- a property of what an index propagates, that each side of a join keeps, is one of the join
+module _ (program : CodeView) (size : ℕ) (P : InStateView → Type 0) (left : (a b : InStateView) → P a → P (join_two_states a b))
+    (right : (a b : InStateView) → Wide program.locals a → Wide program.locals b → P b → P (join_two_states a b)) where
+  pub arrives : (n k target : ℕ) → k < n → P (as_in_state (propagated program k (out_state_at program size k) target)) →
+      P (joined_below program size n target)
   arrives zero k target h p = absurd (omega arith)
   arrives (suc n) k target h p =
-      elim (below_or_at k n h) [
-        | inl before ↦ left (joined_below program size n target) (propagated program n (out_state_at program size n) target) (arrives n k target before p)
-        | inr same ↦ right (joined_below program size n target) (propagated program n (out_state_at program size n) target)
-            (wide_arriving program size n target)
-            (wide_handed program.locals program n (out_state_at program size n) target
-            (wide_visited program.locals program size n (joined_below program size n n) (wide_arriving program size n n)))
-            (subst (λ m. P (propagated program m (out_state_at program size m) target)) same p)
-      ]
+      subst P (sym (joined_next program size n target))
+      (elim (below_or_at k n h) [
+        | inl before ↦ left (joined_below program size n target) (as_in_state (propagated program n (out_state_at program size n) target))
+            (arrives n k target before p)
+        | inr same ↦ right (joined_below program size n target) (as_in_state (propagated program n (out_state_at program size n) target))
+            (wide_below program size n target) (wide_propagated program size n target)
+            (subst (λ m. P (as_in_state (propagated program m (out_state_at program size m) target))) same p)
+      ])
 
   -- what passes is a part of what is known wherever the text leads
-  pub arrives_at : (k target : ℕ) (next : InStateView) → out_state_at program size k ≡ Passed next → k < target →
-      leads_to k target (leads_of (slice_get program.instrs k)) ≡ true → P next → P (in_state program size target)
+  pub arrives_at : (k target : ℕ) (next : AbstractFrameView) → out_state_at program size k ≡ Passed next → k < target →
+      leads_to k target (leads_of (slice_get program.instrs k)) ≡ true → P (Known next) → P (in_state program size target)
   arrives_at k target next passed later led p =
       arrives target k target later
-      (subst (λ v. P (propagated program k v target)) (sym passed)
-      (subst (λ b. P (if b then next else Unreached)) (sym led) p))
+      (subst (λ v. P (as_in_state (propagated program k v target))) (sym passed)
+      (subst (λ b. P (as_in_state (if b then Some next else None))) (sym led) p))

@@ -1,5 +1,6 @@
 -- Only the size is refused as a size.
-use Rattle.std.proofs.Common.{◌≡◌, ℕ, zero, suc, ◌≤◌, ◌<◌, Bool, true, false, Option, Some, None, List, subst, arith}
+use Rattle.std.proofs.Common.{refl, ◌≡◌, ℕ, zero, suc, ◌≤◌, ◌<◌, Bool, true, false, Option, Some, None, List, subst, arith}
+use Rattle.std.proofs.lemmas.Bool.{and_parts}
 use Rattle.std.proofs.lemmas.Bool.Decides.{nat_tests}
 use Rattle.filter_code.specs.declared.instruction.Instr.{Instr}
 use Rattle.filter_code.specs.Limits.{smallest_size, largest_size}
@@ -7,16 +8,21 @@ use Rattle.filter_code.specs.declared.outcome.FaultKind.{FaultKind}
 use Rattle.filter_code.specs.declared.outcome.FaultKind.TheVariants as fault
 use Rattle.filter_code.specs.CodeView.{CodeView}
 use Rattle.filter_code.specs.Table.{Drawn, Bad, Good, draw, leads}
-use Rattle.std.specs.Prelude.{length, slice_get}
+use Rattle.std.specs.Prelude.{◌==◌, nat_le, length, slice_get, if◌then◌else◌}
 use Rattle.filter_code.specs.Machine.{overfills}
 use Rattle.filter_verifier.specs.declared.fact.Fact.{Fact}
 use Rattle.filter_verifier.specs.declared.fault.VerifyFault.{VerifyFault}
 use Rattle.filter_verifier.specs.declared.fault.VerifyFault.TheVariants as refusal
-use Rattle.filter_verifier.specs.FirstFault.{first_fault, is_size, or_else, refused_by}
-use Rattle.filter_verifier.specs.InStates.{InStateView, Unreached, UnlikeDepths, Known, OutStateView, Skipped, Refused, Passed, in_state, frame_after, if_inside, judge, leads_below, unless_over, unless_refused, out_state_at, out_state, out_state_of_known, out_state_of_frame}
 use Rattle.filter_verifier.specs.Facts.{all_known, fact_fault, fact_given, kind_of_fact}
-use Rattle.filter_verifier.specs.Faults.{refusal_of}
+use Rattle.filter_verifier.specs.FirstFault.{first_fault, is_size, or_else, refused_by, the_fault}
+use Rattle.filter_verifier.specs.InStateView.{InStateView, Known, UnlikeDepths, Unreached}
+use Rattle.filter_verifier.specs.InStates.{in_state, out_state_at}
+use Rattle.filter_verifier.specs.OutStateView.{OutStateView, Passed, Refused, Skipped}
 use Rattle.filter_verifier.specs.Pass.{frame_of}
+use Rattle.filter_verifier.specs.Transfer.{frame_after, if_inside, judge, leads_below, out_state, out_state_of_frame}
+use Rattle.filter_verifier.specs.Transfer.{out_state_of_known, unless_over, unless_refused}
+use Rattle.filter_verifier.specs.Faults.{refusal_of}
+use Rattle.filter_verifier.specs.AbstractFrameView.{AbstractFrameView}
 
 -- not refused as a size
 abbrev AtPlace : VerifyFault → Type 0
@@ -44,7 +50,7 @@ over_at_place : (over : Bool) (at : ℕ) (v : OutStateView) → VisitAtPlace v �
 over_at_place true at v h = tt
 over_at_place false at v h = h
 
-inside_at_place : (inside : Bool) (at : ℕ) (next : InStateView) → VisitAtPlace (if_inside inside at (Passed next))
+inside_at_place : (inside : Bool) (at : ℕ) (next : AbstractFrameView) → VisitAtPlace (if_inside inside at (Passed next))
 inside_at_place true at next = tt
 inside_at_place false at next = tt
 
@@ -69,7 +75,7 @@ places_at_place program size at locals (Some stack) = known_at_place program siz
 visit_at_place : (program : CodeView) (size at : ℕ) (a : InStateView) → VisitAtPlace (out_state program size at a)
 visit_at_place program size at Unreached = tt
 visit_at_place program size at UnlikeDepths = tt
-visit_at_place program size at (Known stack locals) = places_at_place program size at locals (all_known stack)
+visit_at_place program size at (Known frame) = places_at_place program size at frame.locals (all_known frame.stack)
 
 abbrev FoundAtPlace : Option VerifyFault → Type 0
 FoundAtPlace None = Unit {0}
@@ -95,9 +101,21 @@ first_at_place program size (suc n) = either_at_place (first_fault program size 
 pub not_the_size : (program : CodeView) (size n : ℕ) → first_fault program size n ≡ Some refusal.BadSize → ⊥
 not_the_size program size n e = subst FoundAtPlace e (first_at_place program size n)
 
--- the sizes that networks have, and no others
+good_size : (fits empty : Bool) (found : Option VerifyFault) →
+    (if fits then (if empty then Some (refusal.OutsideCode 0) else found) else Some refusal.BadSize) ≡ None → fits ≡ true
+good_size true empty found e = refl
+good_size false empty found e = cc
+
+-- the sizes that a domain may have, and no others
 pub size_fits : (size : ℕ) → smallest_size ≤ size → size ≤ largest_size → is_size size ≡ true
 size_fits size low high = grind (arith, nat_tests)
+
+-- the sizes of code that no test refuses
+pub size_is_good : (program : CodeView) (size : ℕ) → the_fault program size ≡ None → (smallest_size ≤ size) × (size ≤ largest_size)
+size_is_good program size e =
+    let fits = good_size (is_size size) (length program.instrs == 0) (first_fault program size (length program.instrs)) e in
+    let parts = and_parts (nat_le smallest_size size) (nat_le size largest_size) fits in
+    (grind (arith, nat_tests, parts.0), grind (arith, nat_tests, parts.1))
 
 pub size_small : (size : ℕ) → size < smallest_size → is_size size ≡ false
 size_small size low = grind (arith, nat_tests)

@@ -12,8 +12,11 @@ use Rattle.filter_code.specs.Machine.{Config, State, Going, Ended, start, next, 
 use Rattle.filter_code.specs.CodeView.{CodeView}
 use Rattle.filter_code.proofs.Metrics.{IsInRange}
 use Rattle.filter_verifier.specs.declared.fault.VerifyFault.{VerifyFault}
-use Rattle.filter_verifier.specs.FirstFault.{refused_by, or_else, first_fault, is_size, the_fault}
-use Rattle.filter_verifier.specs.InStates.{InStateView, Unreached, UnlikeDepths, Known, OutStateView, Skipped, Refused, Passed, leads_of, out_state, joined_below, in_state, out_state_at}
+use Rattle.filter_verifier.specs.FirstFault.{first_fault, is_size, or_else, refused_by, the_fault}
+use Rattle.filter_verifier.specs.InStateView.{InStateView, Known, UnlikeDepths, Unreached}
+use Rattle.filter_verifier.specs.InStates.{in_state, leads_of, out_state_at}
+use Rattle.filter_verifier.specs.OutStateView.{OutStateView, Passed, Refused, Skipped}
+use Rattle.filter_verifier.specs.Transfer.{out_state}
 use Rattle.filter_verifier.specs.Bounds.{cost, peak}
 use Rattle.filter_verifier.specs.Safe.{HasLiteral, IsRouteOf, IsSafe}
 use Rattle.filter_verifier.proofs.Propagation.{below_or_at, arrives_at}
@@ -22,6 +25,9 @@ use Rattle.filter_verifier.proofs.Fits.{PlaceIsAs, Pairwise, pairwise_length}
 use Rattle.filter_verifier.proofs.Heights.{IsHigh, Passes, passes_on}
 use Rattle.filter_verifier.proofs.Joins.{Agrees, agrees_left, agrees_right}
 use Rattle.filter_verifier.proofs.Steps.{EndsWell, StepIs, stepped}
+use Rattle.filter_verifier.specs.Pass.{entry_state}
+use Rattle.filter_verifier.specs.AbstractFrameView.{AbstractFrameView}
+use Rattle.filter_verifier.proofs.Propagation.{joined_at_entry}
 
 -- neither of two is there
 neither : (o p : Option VerifyFault) → or_else o p ≡ None → (o ≡ None) × (p ≡ None)
@@ -41,12 +47,10 @@ none_refused program size (suc n) k e h =
     ]
 
 -- a stack that agrees with what is handed on is as high
-high_as : (route : RouteView) (d : Config) (height : ℕ) (a : InStateView) → Agrees route d a → IsHigh height a →
+high_as : (route : RouteView) (d : Config) (height : ℕ) (next : AbstractFrameView) → Agrees route d (Known next) → IsHigh height next →
     length d.frame.stack ≡ height
-high_as route d height Unreached p q = absurd p
-high_as route d height UnlikeDepths p q = absurd q
-high_as route d height (Known stack locals) p q =
-    pairwise_length (λ v place. PlaceIsAs route.metric (Some v) place) d.frame.stack stack p.on_stack ∙ q
+high_as route d height next p q =
+    pairwise_length (λ v place. PlaceIsAs route.metric (Some v) place) d.frame.stack next.stack p.on_stack ∙ q
 
 pub lead_on_from : (found : Option Instr) → LeadOn (leads_of found)
 lead_on_from None = tt
@@ -87,9 +91,9 @@ module _ (program : CodeView) (size : ℕ) (route : RouteView) (literals : All H
       Passes (length program.instrs) c.pc (length c.frame.stack) (slice_get program.instrs c.pc) (out_state program size c.pc a)
   stack_passes c Unreached p = absurd p
   stack_passes c UnlikeDepths p = tt
-  stack_passes c (Known stack locals) p =
-      passes_on program size c.pc (length c.frame.stack) stack locals
-      (sym (pairwise_length (λ v place. PlaceIsAs route.metric (Some v) place) c.frame.stack stack p.on_stack))
+  stack_passes c (Known frame) p =
+      passes_on program size c.pc (length c.frame.stack) frame
+      (sym (pairwise_length (λ v place. PlaceIsAs route.metric (Some v) place) c.frame.stack frame.stack p.on_stack))
 
   -- where something passes, the run stands well again
   moved : (n : ℕ) (c : Config) (v : OutStateView) (state : State) → Stands program route size n c → out_state_at program size c.pc ≡ v →
@@ -129,15 +133,17 @@ module _ (program : CodeView) (size : ℕ) (route : RouteView) (literals : All H
   next_stands n (Going c) here = step_stands n c here
   next_stands n (Ended end) here = here
 
+  at_entry : Agrees route (start program route) (entry_state program 0)
+  at_entry = record {
+    on_stack = tt;
+    in_locals = empty_locals route.metric program.locals;
+    metric = record { least = omega arith; most = omega (arith, of_size.reachable, of_size.size_is) };
+  }
+
   begun : Stands program route size 0 (start program route)
-  unfolding joined_below
   begun = record {
     inside = some;
-    agrees = record {
-      on_stack = tt;
-      in_locals = empty_locals route.metric program.locals;
-      metric = record { least = omega arith; most = omega (arith, of_size.reachable, of_size.size_is) };
-    };
+    agrees = subst (Agrees route (start program route)) (sym (joined_at_entry program size 0)) at_entry;
     soon = omega arith;
     low = omega arith;
     fits = omega arith;

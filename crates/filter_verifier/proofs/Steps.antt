@@ -16,27 +16,31 @@ use Rattle.filter_code.specs.Table.{Frame, Operands, Zero, One, Two, Drawn, Bad,
 use Rattle.filter_code.specs.Values.{bool_of, kind_of}
 use Rattle.filter_code.proofs.Metrics.{IsInRange, metric_in_range}
 use Rattle.filter_verifier.specs.declared.fact.Fact.{Fact}
-use Rattle.filter_verifier.specs.InStates.{InStateView, Unreached, UnlikeDepths, Known, OutStateView, Skipped, Refused, Passed, leads_to, frame_after, judge, out_state_of_known, out_state_of_frame, out_state, leads_of}
-use Rattle.filter_verifier.specs.Facts.{kind_of_fact, fact_given, fact_fault, all_known}
+use Rattle.filter_verifier.specs.Facts.{all_known, fact_fault, fact_given, kind_of_fact}
+use Rattle.filter_verifier.specs.InStateView.{InStateView, Known, UnlikeDepths, Unreached}
+use Rattle.filter_verifier.specs.InStates.{leads_of}
+use Rattle.filter_verifier.specs.OutStateView.{OutStateView, Passed, Refused, Skipped}
+use Rattle.filter_verifier.specs.Transfer.{frame_after, judge, leads_to, out_state, out_state_of_frame, out_state_of_known}
 use Rattle.filter_verifier.specs.Safe.{HasLiteral, IsRouteOf}
 use Rattle.filter_verifier.proofs.Propagation.{judged}
 use Rattle.filter_verifier.proofs.Fits.{IsAs, PlaceIsAs, Pairwise, OperandsAre, DrawnAre, drawn_are, pairwise_length}
 use Rattle.filter_verifier.proofs.Given.{given_is, no_value_fault}
 use Rattle.filter_verifier.proofs.Parts.{Alike}
 use Rattle.filter_verifier.proofs.Joins.{Agrees}
+use Rattle.filter_verifier.specs.AbstractFrameView.{AbstractFrameView}
 
--- the ends that are wanted: accepted at a metric in range, or rejected
+-- the good ends: accepted at a metric in range, or rejected
 abbrev pub EndsWell : RouteView → Outcome → Type 0
 EndsWell route (outcome.Accept metric) = IsInRange route metric
 EndsWell route outcome.Reject = Unit {0}
 EndsWell route (outcome.Fault why at) = ⊥
 
 -- from a configuration to one where the text leads, and that agrees with what is handed on
-pub record Moves (route : RouteView) (at : ℕ) (found : Option Instr) (next : InStateView) (d : Config) : Type 0 where
+pub record Moves (route : RouteView) (at : ℕ) (found : Option Instr) (next : AbstractFrameView) (d : Config) : Type 0 where
   pub led : leads_to at d.pc (leads_of found) ≡ true
-  pub agrees : Agrees route d next
+  pub agrees : Agrees route d (Known next)
 
-abbrev pub GoesWell : RouteView → ℕ → Option Instr → InStateView → State → Type 0
+abbrev pub GoesWell : RouteView → ℕ → Option Instr → AbstractFrameView → State → Type 0
 GoesWell route at found next (Ended end) = EndsWell route end
 GoesWell route at found next (Going d) = Moves route at found next d
 
@@ -124,7 +128,7 @@ let_through P None true pc state none room p = absurd (cc)
 let_through P (Some why) full pc state none room p = absurd (cc)
 
 -- the end of a run, or the way on
-ended_or_on : (route : RouteView) (at : ℕ) (found : Option Instr) (next : InStateView) (metric : ℕ) (i : Instr) (d : Config) →
+ended_or_on : (route : RouteView) (at : ℕ) (found : Option Instr) (next : AbstractFrameView) (metric : ℕ) (i : Instr) (d : Config) →
     IsInRange route metric → (ending_of metric i ≡ None → Moves route at found next d) →
     GoesWell route at found next (unless_ended (ending_of metric i) (Going d))
 ended_or_on route at found next metric instr.Accept d here p = here
@@ -217,5 +221,6 @@ module _ (program : CodeView) (route : RouteView) (size : ℕ) (of_size : IsRout
       StepIs route c.pc (slice_get program.instrs c.pc) (step program route c) (out_state program size c.pc a)
   stepped c Unreached literal p = absurd p
   stepped c UnlikeDepths literal p = tt
-  stepped c (Known stack locals) literal p =
-      places_step c c.pc locals (all_known stack) literal refl (known_is c.frame.stack stack p.on_stack) p.in_locals p.metric
+  stepped c (Known frame) literal p =
+      places_step c c.pc frame.locals (all_known frame.stack) literal refl (known_is c.frame.stack frame.stack p.on_stack)
+      p.in_locals p.metric

@@ -10,7 +10,7 @@ use Rattle.filter_code.specs.Machine.{fault_where, on_one, on_two, whole}
 use Rattle.filter_code.specs.Table.{Operands}
 use Rattle.filter_verifier.specs.declared.fact.Fact.{Fact}
 use Rattle.filter_verifier.specs.declared.fact.Fact.TheVariants as fact
-use Rattle.filter_verifier.specs.Ranges.{RangeView, join_ranges, range_of_number, range_of_metric, range_of_length, range_of_sum}
+use Rattle.filter_verifier.specs.Ranges.{RangeView, range_of_number, range_of_metric, range_of_length, range_of_sum}
 use Rattle.filter_verifier.specs.Ranges.{range_of_difference, range_of_product, range_of_quotient, range_of_greater}
 
 -- the kind of the value
@@ -80,25 +80,6 @@ abbrev pub fact_fault : Instr → Operands Fact → Option FaultKind
 fact_fault instr.SetMetric operands = fault_where fault.LowerMetric (on_one range_of (λ v. not v.at_least_received) operands)
 fact_fault instr.Div operands = fault_where fault.ZeroDivisor (on_two range_of range_of (λ a b. b.low == 0) operands)
 fact_fault _ operands = None
-
--- the join of two facts: what holds of a value if one or the other does; None if their kinds differ
-abbrev pub join_facts : Fact → Fact → Option Fact
-join_facts (fact.Int a) (fact.Int b) = Some (fact.Int (join_ranges a b))
-join_facts fact.Bool fact.Bool = Some fact.Bool
-join_facts fact.Ip fact.Ip = Some fact.Ip
-join_facts fact.Prefix fact.Prefix = Some fact.Prefix
-join_facts _ _ = None
-
--- the join of what is known at one place of the stack or of the local variables
-abbrev pub join_place : Option Fact → Option Fact → Option Fact
-join_place (Some a) (Some b) = join_facts a b
-join_place _ _ = None
-
--- place by place, as far as the first list goes
-abbrev pub join_places : List (Option Fact) → List (Option Fact) → List (Option Fact)
-join_places [] ys = []
-join_places (x ∷ xs) [] = None ∷ join_places xs []
-join_places (x ∷ xs) (y ∷ ys) = join_place x y ∷ join_places xs ys
 
 -- the facts of places, if each place is known
 abbrev pub all_known : List (Option Fact) → Option (List Fact)

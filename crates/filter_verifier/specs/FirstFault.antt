@@ -4,7 +4,8 @@ use Rattle.filter_code.specs.CodeView.{CodeView}
 use Rattle.filter_code.specs.Limits.{smallest_size, largest_size}
 use Rattle.filter_verifier.specs.declared.fault.VerifyFault.{VerifyFault}
 use Rattle.filter_verifier.specs.declared.fault.VerifyFault.TheVariants as refusal
-use Rattle.filter_verifier.specs.InStates.{OutStateView, Refused, out_state_at}
+use Rattle.filter_verifier.specs.InStates.{out_state_at}
+use Rattle.filter_verifier.specs.OutStateView.{OutStateView, Refused}
 
 -- the fault of an out-state
 abbrev pub refused_by : OutStateView → Option VerifyFault

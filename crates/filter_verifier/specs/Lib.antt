@@ -1,10 +1,17 @@
+-- What the contracts of public calls cite, and so what a caller reads.
 pub mod AbstractFrameView
 pub mod Bounds
 pub mod Facts
 pub mod Faults
 pub mod FirstFault
 pub mod InStates
-pub mod Pass
+pub mod InStateView
+pub mod Join
+pub mod OutStateView
 pub mod Ranges
 pub mod Safe
+pub mod Transfer
 pub mod VerifiedView
+-- What only bodies are proved against.
+pub mod PairwiseJoin
+pub mod Pass

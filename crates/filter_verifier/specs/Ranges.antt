@@ -1,5 +1,5 @@
 -- What is known of an int: its range, and whether it is at least the metric received. (This project's own choice.)
-use Rattle.std.specs.Prelude.{ℕ, ◌+◌, ◌-◌, ◌*◌, ◌/◌, ◌^◌, min, max, nat_lt, nat_le, Bool, true, false, ◌&&◌, ◌||◌, if◌then◌else◌}
+use Rattle.std.specs.Prelude.{ℕ, ◌+◌, ◌-◌, ◌*◌, ◌/◌, ◌^◌, max, nat_lt, nat_le, Bool, true, false, ◌&&◌, ◌||◌, if◌then◌else◌}
 
 -- the least and the greatest value, and whether the int is known to be at least the metric received
 pub record RangeView : Type 0 where
@@ -55,7 +55,3 @@ range_of_quotient size a b = range_in size (a.low / b.high) (a.high / b.low) fal
 -- the greater of two
 abbrev pub range_of_greater : ℕ → RangeView → RangeView → RangeView
 range_of_greater size a b = range_in size (max a.low b.low) (max a.high b.high) (a.at_least_received || b.at_least_received)
-
--- the join of two ranges: the smallest that holds both, at least the metric received if both are
-abbrev pub join_ranges : RangeView → RangeView → RangeView
-join_ranges a b = record { low = min a.low b.low; high = max a.high b.high; at_least_received = a.at_least_received && b.at_least_received }

@@ -2,7 +2,8 @@
 
 ghost use Rattle.std.specs.Prelude.{◌≡◌, ◌≤◌, None, Some, [], IfOk, MatchOption, length, map, replicate};
 ghost use Rattle.filter_code.specs.Limits.{stack_limit};
-ghost use Rattle.filter_verifier.specs.Facts.{all_known, join_places};
+ghost use Rattle.filter_verifier.specs.Facts.{all_known};
+ghost use Rattle.filter_verifier.specs.PairwiseJoin.{join_two_places};
 ghost use Rattle.filter_verifier.specs.Pass.{fact_at};
 
 use crate::fact::{Fact, join_place};
@@ -60,7 +61,7 @@ fn join_places(
     places: &[Option<Fact>],
     others: &[Option<Fact>],
 ) -> Result<Vec<Option<Fact>>, AllocError>
-    ensures { IfOk result (λ v. v.items ≡ join_places places.now others.now) }
+    ensures { IfOk result (λ v. v.items ≡ join_two_places places.now others.now) }
 {
     let mut joined = Vec::with_capacity(alloc, places.len())?;
     for (at, place) in places.iter().enumerate() {
@@ -137,8 +138,8 @@ impl AbstractFrame {
     #[tactic(auto, using(crate::proofs::JoinedPlaces::length_joined))]
     pub fn join(&self, alloc: Global, other: &AbstractFrame) -> Result<AbstractFrame, AllocError>
         ensures { IfOk result (λ f. f ≡ record {
-          stack = join_places self.now.stack other.now.stack;
-          locals = join_places self.now.locals other.now.locals;
+          stack = join_two_places self.now.stack other.now.stack;
+          locals = join_two_places self.now.locals other.now.locals;
         }) }
     {
         Ok(AbstractFrame {

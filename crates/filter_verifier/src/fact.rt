@@ -1,7 +1,7 @@
 //! What is known of a value.
 
 ghost use Rattle.std.specs.Prelude.{◌≡◌};
-ghost use Rattle.filter_verifier.specs.Facts.{join_facts, join_place};
+ghost use Rattle.filter_verifier.specs.PairwiseJoin.{join_two_at, join_two_facts};
 
 use crate::range::Range;
 
@@ -29,7 +29,7 @@ impl Default for Fact {
 impl Fact {
     /// The join of two facts: what holds of a value if one or the other does. None if their kinds differ.
     pub fn join(&self, other: &Fact) -> Option<Fact>
-        ensures { result ≡ join_facts self.now other.now }
+        ensures { result ≡ join_two_facts self.now other.now }
     {
         match (self, other) {
             (Fact::Int(a), Fact::Int(b)) => Some(Fact::Int(Range::join(*a, *b))),
@@ -43,7 +43,7 @@ impl Fact {
 
 /// The join of what is known at a place on two paths. None if it is not known on one of them, or if the kinds differ.
 pub fn join_place(a: &Option<Fact>, b: &Option<Fact>) -> Option<Fact>
-    ensures { result ≡ join_place a.now b.now }
+    ensures { result ≡ join_two_at a.now b.now }
 {
     match (a, b) {
         (Some(a), Some(b)) => a.join(b),

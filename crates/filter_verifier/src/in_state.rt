@@ -2,8 +2,9 @@
 
 ghost use Rattle.std.specs.Prelude.{◌≡◌, ◌≤◌, IfOk};
 ghost use Rattle.filter_code.specs.Limits.{stack_limit};
-ghost use Rattle.filter_verifier.specs.InStates.{join_states};
-ghost use Rattle.filter_verifier.specs.Pass.{height_of, in_state_view, known_frame};
+ghost use Rattle.filter_verifier.specs.InStateView.{Known};
+ghost use Rattle.filter_verifier.specs.PairwiseJoin.{join_two_states};
+ghost use Rattle.filter_verifier.specs.Pass.{height_of, in_state_view};
 
 use crate::abstract_frame::AbstractFrame;
 use std::alloc::{AllocError, Global};
@@ -33,7 +34,7 @@ impl InState {
 
     /// The join with one more frame.
     pub fn join(&self, alloc: Global, next: &AbstractFrame) -> Result<InState, AllocError>
-        ensures { IfOk result (λ s. in_state_view s ≡ join_states (in_state_view self.now) (known_frame next.now)) }
+        ensures { IfOk result (λ s. in_state_view s ≡ join_two_states (in_state_view self.now) (Known next.now)) }
     {
         match self {
             InState::Unreached => Ok(InState::Known(next.copy(alloc)?)),
@@ -49,7 +50,7 @@ fn join_known(
     frame: &AbstractFrame,
     next: &AbstractFrame,
 ) -> Result<InState, AllocError>
-    ensures { IfOk result (λ s. in_state_view s ≡ join_states (known_frame frame.now) (known_frame next.now)) }
+    ensures { IfOk result (λ s. in_state_view s ≡ join_two_states (Known frame.now) (Known next.now)) }
 {
     if frame.height() != next.height() {
         return Ok(InState::UnlikeDepths);

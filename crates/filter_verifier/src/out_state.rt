@@ -2,8 +2,9 @@
 
 ghost use Rattle.std.specs.Prelude.{◌≡◌, ◌<◌, IfOk, length, slice_get};
 ghost use Rattle.filter_verifier.specs.Faults.{refusal_of};
-ghost use Rattle.filter_verifier.specs.InStates.{out_state, out_state_of_known};
-ghost use Rattle.filter_verifier.specs.Pass.{in_state_view, known_frame, out_state_view};
+ghost use Rattle.filter_verifier.specs.InStateView.{Known};
+ghost use Rattle.filter_verifier.specs.Pass.{in_state_view, out_state_view};
+ghost use Rattle.filter_verifier.specs.Transfer.{out_state, out_state_of_known};
 
 use crate::abstract_frame::AbstractFrame;
 use crate::fact::Fact;
@@ -74,7 +75,7 @@ fn out_state_of_frame(
     frame: &AbstractFrame,
 ) -> Result<OutState, AllocError>
     requires { at < length code.now.instrs }
-    ensures { IfOk result (λ s. out_state_view s ≡ out_state code.now size at (known_frame frame.now)) }
+    ensures { IfOk result (λ s. out_state_view s ≡ out_state code.now size at (Known frame.now)) }
 {
     match frame.known_stack() {
         Some(stack) => out_state_of_known(alloc, code, size, at, stack, frame.locals()),

@@ -4,11 +4,13 @@ ghost use Rattle.std.specs.Prelude.{◌≡◌, ◌⊎◌, ◌<◌, ◌≤◌, �
 ghost use Rattle.std.specs.Prelude.{length, slice_get, if◌then◌else◌};
 ghost use Rattle.filter_code.specs.Limits.{stack_limit};
 ghost use Rattle.filter_verifier.specs.declared.fault.VerifyFault.TheVariants as refusal;
-ghost use Rattle.filter_verifier.specs.FirstFault.{first_fault};
-ghost use Rattle.filter_verifier.specs.InStates.{Passed, Unreached, entry, join_states, leads_below, leads_to};
-ghost use Rattle.filter_verifier.specs.FirstFault.{refused_by};
-ghost use Rattle.filter_verifier.specs.InStates.{out_state, propagated};
-ghost use Rattle.filter_verifier.specs.Pass.{highest, known_frame, offsets, state_at};
+ghost use Rattle.filter_verifier.specs.FirstFault.{first_fault, refused_by};
+ghost use Rattle.filter_verifier.specs.InStateView.{Known, Unreached};
+ghost use Rattle.filter_verifier.specs.InStates.{propagated};
+ghost use Rattle.filter_verifier.specs.OutStateView.{Passed};
+ghost use Rattle.filter_verifier.specs.PairwiseJoin.{join_two_states};
+ghost use Rattle.filter_verifier.specs.Pass.{as_in_state, entry_state, highest, offsets, state_at};
+ghost use Rattle.filter_verifier.specs.Transfer.{leads_below, leads_to, out_state};
 
 use crate::abstract_frame::AbstractFrame;
 use crate::fault::VerifyFault;
@@ -22,7 +24,7 @@ use std::alloc::{AllocError, Global};
 fn entry_states(alloc: Global, code: &Code) -> Result<Vec<InState>, AllocError>
     requires { 0 < length code.now.instrs }
     ensures wide { IfOk result (λ v. length v.items ≡ length code.now.instrs) }
-    ensures entry { IfOk result (λ v. (k : ℕ) → state_at v.items k ≡ entry code.now k) }
+    ensures entry { IfOk result (λ v. (k : ℕ) → state_at v.items k ≡ entry_state code.now k) }
 {
     let count = code.instrs().len();
     let mut in_states = Vec::with_capacity(alloc, count)?;
@@ -44,7 +46,7 @@ fn join_into(
     ensures wide { IfOk result (λ _. length in_states.new.items ≡ length in_states.old.items) }
     ensures joined { IfOk result (λ _. (k : ℕ) → state_at in_states.new.items k
         ≡ (if target == k
-        then join_states (state_at in_states.old.items k) (known_frame next.now)
+        then join_two_states (state_at in_states.old.items k) (Known next.now)
         else state_at in_states.old.items k)) }
 {
     let joined = in_states[target].join(alloc, next)?;
@@ -63,8 +65,8 @@ fn propagate(
     requires { leads_below at (length in_states.old.items) (offsets successors) ≡ true }
     ensures wide { IfOk result (λ _. length in_states.new.items ≡ length in_states.old.items) }
     ensures propagated { IfOk result (λ _. (k : ℕ) → state_at in_states.new.items k
-        ≡ join_states (state_at in_states.old.items k)
-        (if leads_to at k (offsets successors) then known_frame next.now else Unreached)) }
+        ≡ join_two_states (state_at in_states.old.items k)
+        (if leads_to at k (offsets successors) then Known next.now else Unreached)) }
 {
     match successors {
         Successors::Nowhere => Ok(()),
@@ -92,8 +94,8 @@ fn visit(
     ensures wide { IfOk result (λ _. length in_states.new.items ≡ length in_states.old.items) }
     ensures refused { IfOk result (λ found. found ≡ refused_by (out_state code.now size at (state_at in_states.old.items at))) }
     ensures propagated { IfOk result (λ _. (k : ℕ) → state_at in_states.new.items k
-        ≡ join_states (state_at in_states.old.items k)
-        (propagated code.now at (out_state code.now size at (state_at in_states.old.items at)) k)) }
+        ≡ join_two_states (state_at in_states.old.items k)
+        (as_in_state (propagated code.now at (out_state code.now size at (state_at in_states.old.items at)) k))) }
 {
     match out_state(alloc, code, size, at, &in_states[at])? {
         OutState::Skipped => Ok(None),

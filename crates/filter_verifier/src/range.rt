@@ -2,9 +2,10 @@
 
 ghost use Rattle.std.specs.Prelude.{◌≡◌, ◌<◌, ◌≤◌};
 ghost use Rattle.std.specs.Option.{SomeIff};
-ghost use Rattle.filter_verifier.specs.Ranges.{any_number, join_ranges, range_in, range_of_difference, range_of_greater};
-ghost use Rattle.filter_verifier.specs.Ranges.{range_of_length, range_of_metric, range_of_number, range_of_product};
-ghost use Rattle.filter_verifier.specs.Ranges.{range_of_quotient, range_of_sum};
+ghost use Rattle.filter_verifier.specs.PairwiseJoin.{join_two_ranges};
+ghost use Rattle.filter_verifier.specs.Ranges.{any_number, range_in, range_of_difference, range_of_greater, range_of_length};
+ghost use Rattle.filter_verifier.specs.Ranges.{range_of_metric, range_of_number, range_of_product, range_of_quotient};
+ghost use Rattle.filter_verifier.specs.Ranges.{range_of_sum};
 
 use std::marker::Model;
 
@@ -148,7 +149,7 @@ impl Range {
 
     /// The join of two ranges: the smallest that holds both, at least the metric received if both are.
     pub fn join(a: Range, b: Range) -> Range
-        ensures { result ≡ join_ranges a b }
+        ensures { result ≡ join_two_ranges a b }
     {
         Range {
             low: a.low.min(b.low),

@@ -2,8 +2,8 @@
 
 ghost use Rattle.std.specs.Prelude.{◌≡◌, ◌<◌, ◌≤◌, All};
 ghost use Rattle.filter_code.specs.Table.{leads};
-ghost use Rattle.filter_verifier.specs.InStates.{leads_below};
 ghost use Rattle.filter_verifier.specs.Pass.{offsets};
+ghost use Rattle.filter_verifier.specs.Transfer.{leads_below};
 
 use filter_code::Instr;
 

@@ -6,11 +6,12 @@ ghost use Rattle.filter_code.specs.declared.outcome.FaultKind.TheVariants as fau
 ghost use Rattle.filter_code.specs.Table.{One, Two, Good, Bad, are_alike, are_nested, are_ordered, draw, each_is};
 ghost use Rattle.filter_code.specs.Table.{is_bool, is_int, is_ip, is_prefix, one_of, passing, two_of};
 ghost use Rattle.filter_verifier.specs.declared.fact.Fact.TheVariants as fact;
-ghost use Rattle.filter_verifier.specs.InStates.{Refused, judge};
 ghost use Rattle.filter_verifier.specs.Facts.{kind_of_fact};
-ghost use Rattle.filter_verifier.specs.Faults.{refusal_of};
+ghost use Rattle.filter_verifier.specs.OutStateView.{Refused};
 ghost use Rattle.filter_verifier.specs.Pass.{frame_of, transferred};
 ghost use Rattle.filter_verifier.specs.Ranges.{range_of_quotient};
+ghost use Rattle.filter_verifier.specs.Transfer.{judge};
+ghost use Rattle.filter_verifier.specs.Faults.{refusal_of};
 
 use crate::fact::Fact;
 use crate::range::Range;

@@ -1,10 +1,9 @@
 use Rattle.std.proofs.Common.{◌≡◌, ℕ, length}
-use Rattle.filter_verifier.specs.InStates.{entry}
-use Rattle.filter_verifier.specs.Pass.{state_at}
+use Rattle.filter_verifier.specs.Pass.{entry_state, state_at}
 use Rattle.filter_verifier.proofs.pass.entry_states.Given as goal
 
 abbrev pub invariant-loop : goal.invariant-loop
 invariant-loop l = record {
   wide : length l.in_states.items ≡ l.counter;
-  waits : (k : ℕ) → state_at l.in_states.items k ≡ entry l.code k;
+  waits : (k : ℕ) → state_at l.in_states.items k ≡ entry_state l.code k;
 }
