@@ -1,6 +1,6 @@
 -- The bounds by their sentences: a cost is one more than the greatest cost of those that may follow, and a peak the height
 -- or the greatest peak of those that may follow.
-use Rattle.std.proofs.Common.{◌≡◌, ℕ, zero, suc, ◌+◌, ◌<◌, ◌≤◌, ◌==◌, max, ◌||◌, ◌⊎◌, inl, inr, Bool, true, false, Option, Some, None, List, [], ◌∷◌, length, refl, ap, sym, ◌∙◌, subst, arith, zero-add}
+use Rattle.std.proofs.Common.{map, ◌≡◌, ℕ, zero, suc, ◌+◌, ◌<◌, ◌≤◌, ◌==◌, max, ◌||◌, ◌⊎◌, inl, inr, Bool, true, false, Option, Some, None, List, [], ◌∷◌, length, refl, ap, sym, ◌∙◌, subst, arith, zero-add}
 use Rattle.std.specs.Prelude.{nat_lt, slice_get, slice_index, slice_index_or}
 use Rattle.std.proofs.lemmas.Bool.{and_parts}
 use Rattle.std.proofs.lemmas.Bool.Decides.{nat_tests}
@@ -9,7 +9,8 @@ use Rattle.filter_code.specs.declared.instruction.Instr.TheVariants as instr
 use Rattle.filter_code.specs.Table.{height_after, leads}
 use Rattle.filter_verifier.specs.InStates.{leads_of}
 use Rattle.filter_verifier.specs.Transfer.{leads_below, leads_to}
-use Rattle.filter_verifier.specs.Bounds.{greatest_at, costs, cost, highest_at, peaks, peak}
+use Rattle.filter_verifier.specs.Bounds.{greatest_at, costs, cost, highest_at, peaks, peak, HasBounds, IsEnd}
+use Rattle.filter_verifier.specs.Numbers.{greatest}
 
 -- the greatest cost at some distances from an index, and the highest peak from a height there
 abbrev pub greatest_cost : List Instr → ℕ → List ℕ → ℕ
@@ -193,3 +194,38 @@ led_later at target (d ∷ offsets) on led =
       | inl here ↦ omega arith
       | inr more ↦ led_later at target offsets on.1 more
     ]
+
+-- the same by the indices of the successors
+greatest_by : (instrs : List Instr) (at : ℕ) (offsets : List ℕ) →
+    greatest_cost instrs at offsets ≡ greatest (map (cost instrs) (map (λ offset. at + offset) offsets))
+greatest_by instrs at [] = refl
+greatest_by instrs at (d ∷ offsets) = ap (λ (n : ℕ). max (cost instrs (at + d)) n) (greatest_by instrs at offsets)
+
+highest_by : (instrs : List Instr) (at height : ℕ) (offsets : List ℕ) → highest_peak instrs at offsets height
+    ≡ greatest (map (λ target. peak instrs target height) (map (λ offset. at + offset) offsets))
+highest_by instrs at height [] = refl
+highest_by instrs at height (d ∷ offsets) = ap (λ (n : ℕ). max (peak instrs (at + d) height) n) (highest_by instrs at height offsets)
+
+cost_at_end : (instrs : List Instr) (pc : ℕ) (found : Option Instr) → slice_get instrs pc ≡ found → IsEnd found → cost instrs pc ≡ 1
+cost_at_end instrs pc None e h = absurd h
+cost_at_end instrs pc (Some instr.Accept) e h = cost_is instrs pc instr.Accept e
+cost_at_end instrs pc (Some instr.Reject) e h = cost_is instrs pc instr.Reject e
+cost_at_end instrs pc (Some i) e h = absurd h
+
+peak_at_end : (instrs : List Instr) (pc height : ℕ) (found : Option Instr) → slice_get instrs pc ≡ found → IsEnd found →
+    peak instrs pc height ≡ height
+peak_at_end instrs pc height None e h = absurd h
+peak_at_end instrs pc height (Some instr.Accept) e h = let is = peak_is instrs pc instr.Accept height e in omega arith
+peak_at_end instrs pc height (Some instr.Reject) e h = let is = peak_is instrs pc instr.Reject height e in omega arith
+peak_at_end instrs pc height (Some i) e h = absurd h
+
+pub has_bounds : (instrs : List Instr) (pc : ℕ) → HasBounds instrs pc
+has_bounds instrs pc = record {
+  cost_outside = λ h. cost_outside instrs pc h;
+  cost_at_end = λ h. cost_at_end instrs pc (slice_get instrs pc) refl h;
+  cost_is = λ i e. cost_is instrs pc i e ∙ ap (λ (n : ℕ). 1 + n) (greatest_by instrs pc (leads i));
+  peak_outside = λ height h. peak_outside instrs pc height h;
+  peak_at_end = λ height h. peak_at_end instrs pc height (slice_get instrs pc) refl h;
+  peak_is = λ height i e. peak_is instrs pc i height e
+      ∙ ap (λ (n : ℕ). max height n) (highest_by instrs pc (height_after i height) (leads i));
+}

@@ -12,7 +12,8 @@ use Rattle.filter_verifier.specs.declared.fact.Fact.TheVariants as fact
 use Rattle.filter_verifier.specs.AbstractFrameView.{AbstractFrameView}
 use Rattle.filter_verifier.specs.Facts.{kind_of_fact, all_known}
 use Rattle.filter_verifier.specs.InStateView.{InStateView, Unreached, UnlikeDepths, Known}
-use Rattle.filter_verifier.specs.Join.{any_two_differ, join_ranges, ranges_of, join_facts, join_place, first_place}
+use Rattle.filter_verifier.specs.Join.{join_ranges, ranges_of, join_facts, join_place, first_place}
+use Rattle.filter_verifier.specs.Numbers.{any_two_differ}
 use Rattle.filter_verifier.specs.Join.{other_places, join_places, join_frames}
 use Rattle.filter_verifier.specs.PairwiseJoin.{join_two_ranges, join_two_facts, join_two_at, join_two_places, join_two_states}
 use Rattle.filter_verifier.specs.Ranges.{RangeView}

@@ -21,7 +21,8 @@ use Rattle.filter_verifier.specs.Transfer.{frame_after, if_inside, judge, leads_
 use Rattle.filter_verifier.specs.Transfer.{out_state_of_known, unless_over, unless_refused}
 use Rattle.filter_verifier.proofs.Joins.{Wide}
 use Rattle.filter_verifier.specs.Pass.{as_in_state, entry_state}
-use Rattle.filter_verifier.specs.Join.{join_frames, any_two_differ}
+use Rattle.filter_verifier.specs.Join.{join_frames}
+use Rattle.filter_verifier.specs.Numbers.{any_two_differ}
 use Rattle.filter_verifier.specs.InStates.{incoming, entry_frame, with_frame}
 use Rattle.filter_verifier.specs.AbstractFrameView.{AbstractFrameView}
 use Rattle.filter_verifier.proofs.JoinedFrames.{joined_count, joined_with_none, joined_one_more, joined_alone}

@@ -1,8 +1,8 @@
 -- The join of what is known on any number of paths, all at once and in no order: what holds whichever path was taken.
 -- (This project's own choice.)
-use Rattle.std.specs.Prelude.{ℕ, zero, suc, ◌==◌, min, max, not, Bool, if◌then◌else◌, Option, Some, None, option_and_then}
+use Rattle.std.specs.Prelude.{ℕ, zero, suc, if◌then◌else◌, Option, Some, None, option_and_then}
 use Rattle.std.specs.Prelude.{List, [], ◌∷◌, length, map}
-use Rattle.std.specs.List.{list_all, list_any}
+use Rattle.std.specs.List.{list_all}
 use Rattle.std.specs.Option.{option_map}
 use Rattle.filter_code.specs.Table.{is_bool, is_ip, is_prefix}
 use Rattle.filter_verifier.specs.declared.fact.Fact.{Fact}
@@ -10,21 +10,8 @@ use Rattle.filter_verifier.specs.declared.fact.Fact.TheVariants as fact
 use Rattle.filter_verifier.specs.AbstractFrameView.{AbstractFrameView}
 use Rattle.filter_verifier.specs.Facts.{kind_of_fact, all_known}
 use Rattle.filter_verifier.specs.InStateView.{InStateView, Unreached, UnlikeDepths, Known}
+use Rattle.filter_verifier.specs.Numbers.{any_two_differ, greatest, least}
 use Rattle.filter_verifier.specs.Ranges.{RangeView}
-
--- the least and the greatest of some numbers
-abbrev pub least : List ℕ → ℕ
-least [] = 0
-least (n ∷ []) = n
-least (n ∷ (m ∷ others)) = min n (least (m ∷ others))
-
-abbrev pub greatest : List ℕ → ℕ
-greatest [] = 0
-greatest (n ∷ others) = max n (greatest others)
-
--- whether any two of some numbers differ
-abbrev pub any_two_differ : List ℕ → Bool
-any_two_differ numbers = list_any (λ m. list_any (λ n. not (m == n)) numbers) numbers
 
 -- the join of ranges: the least low, the greatest high, and at least the metric received if all are
 abbrev pub join_ranges : List RangeView → RangeView

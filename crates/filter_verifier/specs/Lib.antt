@@ -7,11 +7,13 @@ pub mod FirstFault
 pub mod InStates
 pub mod InStateView
 pub mod Join
+pub mod Numbers
 pub mod OutStateView
 pub mod Ranges
 pub mod Safe
 pub mod Transfer
 pub mod VerifiedView
+
 -- What only bodies are proved against.
 pub mod PairwiseJoin
 pub mod Pass

@@ -8,6 +8,7 @@ mod bounds;
 mod fact;
 mod fault;
 mod in_state;
+mod laws;
 mod literals;
 mod out_state;
 mod pass;
@@ -17,4 +18,5 @@ mod transfer;
 mod verified;
 
 pub use fault::VerifyFault;
+pub use laws::bounds_follow_the_successors;
 pub use verified::{Verified, verify};
