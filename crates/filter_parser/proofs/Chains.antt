@@ -1,15 +1,17 @@
 -- The loops of the parser, turn by turn.
-use Rattle.std.proofs.Common.{◌≡◌, refl, ap, ◌∙◌, ◌<◌, List, [], ◌∷◌, ◌++◌, length, map, Option, Some, None}
+use Rattle.std.proofs.Common.{◌≡◌, ℕ, suc, Result, refl, ap, ◌∙◌, ◌<◌, List, [], ◌∷◌, ◌++◌, length, map, Option, Some, None}
 use Rattle.filter_tokens.specs.Lexemes.{Lexeme}
 use Rattle.filter_tokens.specs.declared.symbol.Symbol.TheVariants as symbols
 use Rattle.filter_parser.specs.declared.expr_level.Level.{Level}
 use Rattle.filter_parser.specs.declared.tree.expr.Expr.{Expr}
 use Rattle.filter_parser.specs.declared.tree.op.Op.{Op}
 use Rattle.filter_parser.specs.declared.tree.op.Suffix.{Suffix}
-use Rattle.filter_parser.specs.Reading.{set_opening, member_of, right_operand_with}
+use Rattle.filter_parser.specs.Reading.{set_opening, member_of, right_operand_with, group_end, primary_with, inner_at, expr_at, read_of}
+use Rattle.filter_parser.specs.declared.fault.ParseFault.{ParseFault}
+use Rattle.filter_parser.specs.declared.input.Input.{Input}
 use Rattle.filter_parser.specs.Reading.{Reader, set_pattern_first, adds_set_pattern, joins, op_first, suffix_of, suffixes}
 use Rattle.prefix_patterns.specs.Reading.{◌>>=◌}
-use Rattle.filter_parser.specs.Steps.{with_some, after_symbol}
+use Rattle.filter_parser.specs.Steps.{ReadsAs, with_some, after_symbol}
 use Rattle.filter_parser.specs.Syntax.{SetPatternView, ExprView, view, view_more}
 use Rattle.filter_parser.proofs.Turns.{Goes, goes_on, ends, refuses}
 
@@ -81,3 +83,9 @@ pub right_none : (sum : Reader ExprView) (left : ExprView) (op : Op) (ws : List 
 right_none sum left op ws b s =
     ap (λ r. with_some r (sum ws >>= λ right. Some (ExprView.binary op left right.0, right.1)) (λ k. member_of left k.0 k.1)) b
     ∙ ap (λ r. r >>= λ right. Some (ExprView.binary op left right.0, right.1)) s
+
+-- an expression in parentheses
+pub group_read : (r : Result (Expr × Input) ParseFault) (depth n : ℕ) (ws after : List Lexeme) (x : ExprView × List Lexeme) → depth ≡ suc n
+    → after_symbol symbols.LeftParen ws ≡ Some after → expr_at n after ≡ Some x → ReadsAs read_of r (group_end x.0 x.1)
+    → ReadsAs read_of r (primary_with (inner_at depth) ws)
+group_read r depth n ws after x e found inner h = rw (e, found, inner) h

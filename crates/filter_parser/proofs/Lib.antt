@@ -11,6 +11,7 @@ pub mod Decls
 pub mod FilterLaws
 pub mod Joined
 pub mod Operators
+pub mod Placing
 pub mod Sound
 pub mod SoundSets
 pub mod SoundWords

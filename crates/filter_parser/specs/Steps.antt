@@ -1,5 +1,5 @@
 -- The parser's steps on lists of lexemes: what is read first, and what is left. Nothing that is published cites them.
-use Rattle.std.specs.Prelude.{◌≡◌, ◌≢◌, ℕ, Bool, false, List, [], ◌∷◌, length, Option, Some, None, Result, Ok, Err, nat_eq, if◌then◌else◌}
+use Rattle.std.specs.Prelude.{◌≡◌, ◌≢◌, ℕ, Bool, false, List, [], ◌∷◌, ◌++◌, length, map, Option, Some, None, Result, Ok, Err, nat_eq, if◌then◌else◌}
 use Rattle.std.specs.Cmp.Lexicographic.{pointwise}
 use denote.Enum.Bare.{sameb}
 use Rattle.filter_tokens.specs.Lexemes.{Lexeme, lexemes}
@@ -9,6 +9,7 @@ use Rattle.filter_tokens.specs.declared.token.Token.{Token}
 use Rattle.filter_parser.specs.declared.fault.ParseFault.{ParseFault}
 use Rattle.filter_parser.specs.declared.fault.ParseFault.TheVariants as fault
 use Rattle.filter_parser.specs.declared.input.Input.{Input}
+use Rattle.filter_parser.specs.Placed.{Kept, AreAt, joined}
 
 -- the lexemes that are left
 abbrev pub remaining : Input → List Lexeme
@@ -22,6 +23,23 @@ first_place_of end (token ∷ tokens) = token.from
 -- the same of what is left to read
 abbrev pub first_place : Input → ℕ
 first_place i = first_place_of (length i.text.now) i.tokens.now
+
+-- the tokens between two states of the input of one text, and the places that the tree keeps for them
+pub record Spans (kept : Kept) (before after : Input) : Type 0 where
+  pub tokens : List Token
+  pub whole : before.tokens.now ≡ tokens ++ after.tokens.now
+  pub same_text : after.text.now ≡ before.text.now
+  pub placed : AreAt kept tokens
+
+-- what was read further, after a part that kept so much: the whole keeps this
+abbrev pub Continues : Kept → Kept → Input → Input → Type 0
+Continues so_far all before after = (start : Input) → Spans so_far start before → Spans all start after
+
+-- a list that has grown by what was read between two states of the input
+pub record Grown {A : Type 0} (kept_of : A → Kept) (old new : List A) (before after : Input) : Type 0 where
+  pub more : List A
+  pub whole : new ≡ old ++ more
+  pub spans : Spans (joined (map kept_of more)) before after
 
 -- one step if there is a first, and another one otherwise
 abbrev pub with_some : {A B : Type 0} → Option A → Option B → (A → Option B) → Option B

@@ -1,11 +1,11 @@
 //! Commands.
 
-ghost use Rattle.std.specs.Prelude.{◌≡◌, ◌≢◌, ◌<◌, ◌≤◌, length, Some, IfOk};
+ghost use Rattle.std.specs.Prelude.{◌≡◌, ◌≢◌, ◌∷◌, ◌++◌, ◌<◌, ◌≤◌, [], length, map, Some, None, IfOk};
 ghost use Rattle.filter_parser.specs.declared.fault.ParseFault.TheVariants.{Memory};
 ghost use Rattle.filter_parser.specs.ReadingCommands as spec;
-ghost use Rattle.filter_parser.specs.Places.{command_place};
+ghost use Rattle.filter_parser.specs.Placed.{command_kept, end_kept, expr_kept, joined};
 ghost use Rattle.filter_parser.specs.Reading.{expr_at};
-ghost use Rattle.filter_parser.specs.Steps.{ReadsAs, first_place, remaining};
+ghost use Rattle.filter_parser.specs.Steps.{Continues, ReadsAs, Spans, remaining};
 ghost use Rattle.filter_parser.specs.Syntax.{view};
 ghost use Rattle.filter_parser.specs.SyntaxCommands.{view_command, view_target};
 ghost use Rattle.filter_parser.specs.SyntaxCommands.CommandView.{if_then, if_else};
@@ -22,6 +22,7 @@ use std::alloc::{AllocError, Global};
 fn parse_end<'a>(input: Input<'a>) -> Result<(bool, Input<'a>), ParseFault>
     ensures reads { ReadsAs (λ x. (x.0, remaining x.1)) result (spec.end_of (remaining input.entry)) }
     ensures shorter { IfOk result (λ x. length (remaining x.1) < length (remaining input.entry)) }
+    ensures placed { IfOk result (λ x. Spans (end_kept x.0) input.entry x.1) }
 {
     match input.eat_text() {
         Some(rest) => Ok((true, rest.expect(Symbol::Semicolon, Expected::Semicolon)?)),
@@ -42,7 +43,7 @@ fn parse_assignment<'a>(
 ) -> Result<(Command, Input<'a>), ParseFault>
     ensures reads { ReadsAs spec.command_read_of result (spec.assign_with (expr_at depth) (view_target target) (remaining input.entry)) }
     ensures shorter { IfOk result (λ x. length (remaining x.1) < length (remaining input.entry)) }
-    ensures placed { IfOk result (λ x. command_place x.0 ≡ at) }
+    ensures placed { IfOk result (λ x. Continues (Some at ∷ []) (command_kept x.0) input.entry x.1) }
 {
     let value = input.expect(Symbol::Equal, Expected::Assign)?;
     let (value, end) = parse_expr(alloc, depth, value)?;
@@ -53,7 +54,7 @@ fn parse_assignment<'a>(
 /// An `if` without `else`.
 fn if_command(alloc: Global, at: usize, test: Expr, chosen: Command) -> Result<Command, AllocError>
     ensures is { IfOk result (λ c. view_command c ≡ if_then (view test) (view_command chosen)) }
-    ensures placed { IfOk result (λ c. command_place c ≡ at) }
+    ensures placed { IfOk result (λ c. command_kept c ≡ Some at ∷ (expr_kept test ++ None ∷ command_kept chosen)) }
 {
     Ok(Command::If(at, test, Box::new(alloc, chosen)?, None))
 }
@@ -67,7 +68,8 @@ fn if_else_command(
     other: Command,
 ) -> Result<Command, AllocError>
     ensures is { IfOk result (λ c. view_command c ≡ if_else (view test) (view_command chosen) (view_command other)) }
-    ensures placed { IfOk result (λ c. command_place c ≡ at) }
+    ensures placed { IfOk result (λ c. command_kept c
+        ≡ Some at ∷ (expr_kept test ++ None ∷ (command_kept chosen ++ None ∷ command_kept other))) }
 {
     Ok(Command::If(
         at,
@@ -89,7 +91,7 @@ fn parse_else<'a>(
 ) -> Result<(Command, Input<'a>), ParseFault>
     ensures reads { ReadsAs spec.command_read_of result (spec.else_with (spec.command_at depth) (view test) (view_command chosen) (remaining input.entry)) }
     ensures shorter { IfOk result (λ x. length (remaining x.1) ≤ length (remaining input.entry)) }
-    ensures placed { IfOk result (λ x. command_place x.0 ≡ at) }
+    ensures placed { IfOk result (λ x. Continues (Some at ∷ (expr_kept test ++ None ∷ command_kept chosen)) (command_kept x.0) input.entry x.1) }
 {
     match input.eat(Symbol::Else) {
         None => Ok((if_command(alloc, at, test, chosen)?, input)),
@@ -110,7 +112,7 @@ fn parse_if<'a>(
 ) -> Result<(Command, Input<'a>), ParseFault>
     ensures reads { ReadsAs spec.command_read_of result (spec.if_at depth (remaining input.entry)) }
     ensures shorter { IfOk result (λ x. length (remaining x.1) < length (remaining input.entry)) }
-    ensures placed { IfOk result (λ x. command_place x.0 ≡ at) }
+    ensures placed { IfOk result (λ x. Continues (Some at ∷ []) (command_kept x.0) input.entry x.1) }
 {
     if depth == 0 {
         return Err(ParseFault::TooDeep(at));
@@ -130,6 +132,7 @@ pub fn parse_commands<'a>(
 ) -> Result<(Vec<Command>, Input<'a>), ParseFault>
     ensures reads { ReadsAs spec.body_read_of result (spec.commands_with (spec.command_at depth) (remaining input.entry)) }
     ensures shorter { IfOk result (λ x. length (remaining x.1) < length (remaining input.entry)) }
+    ensures placed { IfOk result (λ x. Spans (joined (map command_kept x.0.items) ++ None ∷ []) input.entry x.1) }
 {
     let mut commands = Vec::new(alloc);
     let mut rest = input;
@@ -157,7 +160,7 @@ fn parse_block<'a>(
 ) -> Result<(Command, Input<'a>), ParseFault>
     ensures reads { ReadsAs spec.command_read_of result (spec.block_at depth (remaining input.entry)) }
     ensures shorter { IfOk result (λ x. length (remaining x.1) < length (remaining input.entry)) }
-    ensures placed { IfOk result (λ x. command_place x.0 ≡ at) }
+    ensures placed { IfOk result (λ x. Continues (Some at ∷ []) (command_kept x.0) input.entry x.1) }
 {
     if depth == 0 {
         return Err(ParseFault::TooDeep(at));
@@ -176,7 +179,7 @@ fn parse_variable_assignment<'a>(
 ) -> Result<(Command, Input<'a>), ParseFault>
     ensures reads { ReadsAs spec.command_read_of result (spec.assign_with (expr_at depth) (spec.target_of input.entry.text.now name.now) (remaining rest.entry)) }
     ensures shorter { IfOk result (λ x. length (remaining x.1) < length (remaining rest.entry)) }
-    ensures placed { IfOk result (λ x. command_place x.0 ≡ name.now.from) }
+    ensures placed { IfOk result (λ x. Continues (Some name.now.from ∷ []) (command_kept x.0) rest.entry x.1) }
 {
     let text = input.bytes(alloc, name)?;
     parse_assignment(alloc, depth, name.from, Target::Name(text), rest)
@@ -186,7 +189,7 @@ fn parse_variable_assignment<'a>(
 fn parse_accept<'a>(at: usize, input: Input<'a>) -> Result<(Command, Input<'a>), ParseFault>
     ensures reads { ReadsAs spec.command_read_of result (spec.accepts (remaining input.entry)) }
     ensures shorter { IfOk result (λ x. length (remaining x.1) < length (remaining input.entry)) }
-    ensures placed { IfOk result (λ x. command_place x.0 ≡ at) }
+    ensures placed { IfOk result (λ x. Continues (Some at ∷ []) (command_kept x.0) input.entry x.1) }
 {
     let (has_text, rest) = parse_end(input)?;
     Ok((Command::Accept(at, has_text), rest))
@@ -196,7 +199,7 @@ fn parse_accept<'a>(at: usize, input: Input<'a>) -> Result<(Command, Input<'a>),
 fn parse_reject<'a>(at: usize, input: Input<'a>) -> Result<(Command, Input<'a>), ParseFault>
     ensures reads { ReadsAs spec.command_read_of result (spec.rejects (remaining input.entry)) }
     ensures shorter { IfOk result (λ x. length (remaining x.1) < length (remaining input.entry)) }
-    ensures placed { IfOk result (λ x. command_place x.0 ≡ at) }
+    ensures placed { IfOk result (λ x. Continues (Some at ∷ []) (command_kept x.0) input.entry x.1) }
 {
     let (has_text, rest) = parse_end(input)?;
     Ok((Command::Reject(at, has_text), rest))
@@ -215,7 +218,7 @@ fn parse_command_by<'a>(
     requires { other ≢ Memory }
     ensures reads { ReadsAs spec.command_read_of result (spec.command_by (expr_at depth) (spec.block_at depth) (spec.if_at depth) symbol (remaining rest.entry)) }
     ensures shorter { IfOk result (λ x. length (remaining x.1) ≤ length (remaining rest.entry)) }
-    ensures placed { IfOk result (λ x. command_place x.0 ≡ at) }
+    ensures placed { IfOk result (λ x. Continues (Some at ∷ []) (command_kept x.0) rest.entry x.1) }
 {
     match symbol {
         Symbol::Semicolon => Ok((Command::Empty(at), rest)),
@@ -240,7 +243,7 @@ pub fn parse_command<'a>(
 ) -> Result<(Command, Input<'a>), ParseFault>
     ensures reads { ReadsAs spec.command_read_of result (spec.command_at depth (remaining input.entry)) }
     ensures shorter { IfOk result (λ x. length (remaining x.1) < length (remaining input.entry)) }
-    ensures placed { IfOk result (λ x. command_place x.0 ≡ first_place input.entry) }
+    ensures placed { IfOk result (λ x. Spans (command_kept x.0) input.entry x.1) }
 {
     let other = input.unexpected(expected);
     let Some((first, rest)) = input.next() else {

@@ -1,8 +1,9 @@
 //! Declarations.
 
-ghost use Rattle.std.specs.Prelude.{◌≡◌, ◌<◌, ◌≤◌, length, map, Some, None, IfOk, IfSome};
+ghost use Rattle.std.specs.Prelude.{◌≡◌, ◌∷◌, ◌<◌, ◌≤◌, [], length, map, Some, None, IfOk, IfSome};
+ghost use Rattle.filter_parser.specs.Placed.{decl_kept};
 ghost use Rattle.filter_parser.specs.ReadingCommands as spec;
-ghost use Rattle.filter_parser.specs.Steps.{Finds, ReadsAs, first_place, remaining};
+ghost use Rattle.filter_parser.specs.Steps.{Continues, Finds, Grown, ReadsAs, Spans, first_place, remaining};
 ghost use Rattle.filter_parser.specs.SyntaxCommands.{view_decl};
 
 use crate::expected::Expected;
@@ -29,6 +30,7 @@ fn kind_of(symbol: Symbol) -> Option<Kind>
 fn eat_kind<'a>(input: Input<'a>) -> Option<(Kind, Input<'a>)>
     ensures found { Finds (λ x. (x.0, remaining x.1)) result (spec.kind_first (remaining input.entry)) }
     ensures shorter { IfSome result (λ x. length (remaining x.1) < length (remaining input.entry)) }
+    ensures placed { IfSome result (λ x. Spans (Some (first_place input.entry) ∷ []) input.entry x.1) }
 {
     let (first, rest) = input.next()?;
     let TokenKind::Symbol(symbol) = first.kind else {
@@ -47,7 +49,7 @@ pub fn parse_name<'a>(
 ) -> Result<(usize, Vec<u8>, Input<'a>), ParseFault>
     ensures reads { ReadsAs (λ x. (x.1.items, remaining x.2)) result (spec.name_first (remaining input.entry)) }
     ensures shorter { IfOk result (λ x. length (remaining x.2) < length (remaining input.entry)) }
-    ensures placed { IfOk result (λ x. x.0 ≡ first_place input.entry) }
+    ensures placed { IfOk result (λ x. Spans (Some x.0 ∷ []) input.entry x.2) }
 {
     let Some((first, rest)) = input.next() else {
         return Err(input.unexpected(Expected::Name));
@@ -66,7 +68,7 @@ fn parse_declaration<'a>(
 ) -> Result<(Decl, Input<'a>), ParseFault>
     ensures reads { ReadsAs (λ x. (view_decl x.0, remaining x.1)) result (spec.decl_with kind (remaining input.entry)) }
     ensures shorter { IfOk result (λ x. length (remaining x.1) < length (remaining input.entry)) }
-    ensures placed { IfOk result (λ x. x.0.at ≡ first_place input.entry) }
+    ensures placed { IfOk result (λ x. Continues (None ∷ []) (decl_kept x.0) input.entry x.1) }
 {
     let (at, name, rest) = parse_name(alloc, input)?;
     let rest = rest.expect(Symbol::Semicolon, Expected::Semicolon)?;
@@ -79,7 +81,8 @@ pub fn parse_declarations<'a>(
     before: Vec<Decl>,
     input: Input<'a>,
 ) -> Result<(Vec<Decl>, Input<'a>), ParseFault>
-    ensures { ReadsAs (λ x. (map view_decl x.0.items, remaining x.1)) result (spec.decls_after (map view_decl before.items) (remaining input.entry)) }
+    ensures reads { ReadsAs (λ x. (map view_decl x.0.items, remaining x.1)) result (spec.decls_after (map view_decl before.items) (remaining input.entry)) }
+    ensures placed { IfOk result (λ x. Grown decl_kept before.items x.0.items input.entry x.1) }
 {
     let mut decls = before;
     let mut rest = input;

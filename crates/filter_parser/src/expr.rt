@@ -1,9 +1,10 @@
-ghost use Rattle.std.specs.Prelude.{◌≡◌, ◌<◌, ◌≤◌, Some, None, IfOk, IfSome, length};
-ghost use Rattle.filter_parser.specs.Places.{expr_place};
+ghost use Rattle.std.specs.Prelude.{◌≡◌, ◌∷◌, ◌++◌, ◌<◌, ◌≤◌, [], Some, None, IfOk, IfSome, length};
+ghost use Rattle.filter_parser.specs.Placed.{expr_kept};
 ghost use Rattle.filter_parser.specs.Reading as spec;
-ghost use Rattle.filter_parser.specs.Steps.{Finds, ReadsAs, first_place, remaining};
+ghost use Rattle.filter_parser.specs.Steps.{Continues, Finds, ReadsAs, Spans, first_place, remaining};
 ghost use Rattle.filter_parser.specs.Syntax.{view};
 ghost use Rattle.filter_parser.specs.declared.fault.ParseFault.TheVariants.{Memory};
+ghost use Rattle.filter_parser.specs.declared.input.Input.{Input as TheInput};
 
 use crate::expected::Expected;
 use crate::expr_atom::{parse_atom, parse_suffixes};
@@ -20,7 +21,7 @@ use std::alloc::Global;
 fn unmixed<'a>(whole: Expr, rest: Input<'a>) -> Result<(Expr, Input<'a>), ParseFault>
     ensures reads { ReadsAs spec.read_of result (spec.unmixed (view whole, remaining rest.entry)) }
     ensures same { IfOk result (λ x. length (remaining x.1) ≤ length (remaining rest.entry)) }
-    ensures placed { IfOk result (λ x. expr_place x.0 ≡ expr_place whole) }
+    ensures placed { IfOk result (λ x. Continues (expr_kept whole) (expr_kept x.0) rest.entry x.1) }
 {
     if eat_operator(Level::And, rest).is_some() {
         return Err(ParseFault::MixedOperators(rest.at()));
@@ -41,7 +42,8 @@ fn parse_member<'a>(
 ) -> Result<(Expr, Input<'a>), ParseFault>
     ensures reads { ReadsAs spec.read_of result (spec.member_of (view left) op (remaining input.entry)) }
     ensures shorter { IfOk result (λ x. length (remaining x.1) < length (remaining input.entry)) }
-    ensures placed { IfOk result (λ x. expr_place x.0 ≡ expr_place left) }
+    ensures placed { IfOk result (λ x. (start middle : TheInput) → Spans (expr_kept left ++ None ∷ []) start middle
+        → Spans (Some at ∷ []) middle input.entry → Spans (expr_kept x.0) start x.1) }
 {
     let (found, rest) = parse_set(alloc, at, input)?;
     Ok((member(alloc, op, left, found)?, rest))
@@ -62,6 +64,7 @@ fn membership_of(op: Op) -> Option<Membership>
 fn eat_set_opening<'a>(op: Op, input: Input<'a>) -> Option<(Membership, Input<'a>)>
     ensures found { Finds (λ x. (x.0, remaining x.1)) result (spec.set_opening op (remaining input.entry)) }
     ensures shorter { IfSome result (λ x. length (remaining x.1) < length (remaining input.entry)) }
+    ensures placed { IfSome result (λ x. Spans (Some (first_place input.entry) ∷ []) input.entry x.1) }
 {
     let found = membership_of(op)?;
     let rest = input.eat(Symbol::LeftBracket)?;
@@ -87,7 +90,7 @@ fn parse_group_end<'a>(
 ) -> Result<(Expr, Input<'a>), ParseFault>
     ensures reads { ReadsAs spec.read_of result (spec.group_end (view inner) (remaining input.entry)) }
     ensures shorter { IfOk result (λ x. length (remaining x.1) < length (remaining input.entry)) }
-    ensures placed { IfOk result (λ x. expr_place x.0 ≡ at) }
+    ensures placed { IfOk result (λ x. Continues (Some at ∷ expr_kept inner) (expr_kept x.0) input.entry x.1) }
 {
     match input.expect(Symbol::RightParen, Expected::RightParen) {
         Ok(rest) => Ok((group(alloc, at, inner)?, rest)),
@@ -104,7 +107,7 @@ pub fn parse_expr<'a>(
 ) -> Result<(Expr, Input<'a>), ParseFault>
     ensures reads { ReadsAs spec.read_of result (spec.expr_at depth (remaining input.entry)) }
     ensures shorter { IfOk result (λ x. length (remaining x.1) < length (remaining input.entry)) }
-    ensures placed { IfOk result (λ x. expr_place x.0 ≡ first_place input.entry) }
+    ensures placed { IfOk result (λ x. Spans (expr_kept x.0) input.entry x.1) }
 {
     let (first, rest) = parse_comparison(alloc, depth, input)?;
     let (whole, rest) = parse_chain(alloc, depth, join_level(rest), first, rest)?;
@@ -122,7 +125,7 @@ fn parse_chain<'a>(
 ) -> Result<(Expr, Input<'a>), ParseFault>
     ensures reads { ReadsAs spec.read_of result (spec.chain_with (spec.unary_at depth) level (view first) (remaining input.entry)) }
     ensures shorter { IfOk result (λ x. length (remaining x.1) ≤ length (remaining input.entry)) }
-    ensures placed { IfOk result (λ x. expr_place x.0 ≡ expr_place first) }
+    ensures placed { IfOk result (λ x. Continues (expr_kept first) (expr_kept x.0) input.entry x.1) }
 {
     let mut more = Vec::new(alloc);
     let mut rest = input;
@@ -148,7 +151,7 @@ fn parse_operand<'a>(
 ) -> Result<(Expr, Input<'a>), ParseFault>
     ensures reads { ReadsAs spec.read_of result (spec.next_with (spec.unary_at depth) level (remaining input.entry)) }
     ensures shorter { IfOk result (λ x. length (remaining x.1) < length (remaining input.entry)) }
-    ensures placed { IfOk result (λ x. expr_place x.0 ≡ first_place input.entry) }
+    ensures placed { IfOk result (λ x. Spans (expr_kept x.0) input.entry x.1) }
 {
     match level {
         Level::Or => parse_comparison(alloc, depth, input),
@@ -168,7 +171,7 @@ fn parse_comparison<'a>(
 ) -> Result<(Expr, Input<'a>), ParseFault>
     ensures reads { ReadsAs spec.read_of result (spec.comparison_with (spec.unary_at depth) (remaining input.entry)) }
     ensures shorter { IfOk result (λ x. length (remaining x.1) < length (remaining input.entry)) }
-    ensures placed { IfOk result (λ x. expr_place x.0 ≡ first_place input.entry) }
+    ensures placed { IfOk result (λ x. Spans (expr_kept x.0) input.entry x.1) }
 {
     let (left, rest) = parse_sum(alloc, depth, input)?;
     match eat_operator(Level::Comparison, rest) {
@@ -188,7 +191,7 @@ fn parse_right_operand<'a>(
 ) -> Result<(Expr, Input<'a>), ParseFault>
     ensures reads { ReadsAs spec.read_of result (spec.right_operand_with (spec.sum_with (spec.unary_at depth)) (view left) op (remaining input.entry)) }
     ensures shorter { IfOk result (λ x. length (remaining x.1) < length (remaining input.entry)) }
-    ensures placed { IfOk result (λ x. expr_place x.0 ≡ expr_place left) }
+    ensures placed { IfOk result (λ x. Continues (expr_kept left ++ None ∷ []) (expr_kept x.0) input.entry x.1) }
 {
     if let Some((found, after)) = eat_set_opening(op, input) {
         return parse_member(alloc, input.at(), found, left, after);
@@ -208,7 +211,7 @@ fn parse_sum<'a>(
 ) -> Result<(Expr, Input<'a>), ParseFault>
     ensures reads { ReadsAs spec.read_of result (spec.sum_with (spec.unary_at depth) (remaining input.entry)) }
     ensures shorter { IfOk result (λ x. length (remaining x.1) < length (remaining input.entry)) }
-    ensures placed { IfOk result (λ x. expr_place x.0 ≡ first_place input.entry) }
+    ensures placed { IfOk result (λ x. Spans (expr_kept x.0) input.entry x.1) }
 {
     let (first, rest) = parse_product(alloc, depth, input)?;
     parse_chain(alloc, depth, Level::Sum, first, rest)
@@ -223,7 +226,7 @@ fn parse_product<'a>(
 ) -> Result<(Expr, Input<'a>), ParseFault>
     ensures reads { ReadsAs spec.read_of result (spec.product_with (spec.unary_at depth) (remaining input.entry)) }
     ensures shorter { IfOk result (λ x. length (remaining x.1) < length (remaining input.entry)) }
-    ensures placed { IfOk result (λ x. expr_place x.0 ≡ first_place input.entry) }
+    ensures placed { IfOk result (λ x. Spans (expr_kept x.0) input.entry x.1) }
 {
     let (first, rest) = parse_unary(alloc, depth, input)?;
     parse_chain(alloc, depth, Level::Product, first, rest)
@@ -239,7 +242,7 @@ fn parse_unary<'a>(
 ) -> Result<(Expr, Input<'a>), ParseFault>
     ensures reads { ReadsAs spec.read_of result (spec.unary_at depth (remaining input.entry)) }
     ensures shorter { IfOk result (λ x. length (remaining x.1) < length (remaining input.entry)) }
-    ensures placed { IfOk result (λ x. expr_place x.0 ≡ first_place input.entry) }
+    ensures placed { IfOk result (λ x. Spans (expr_kept x.0) input.entry x.1) }
 {
     let Some(rest) = input.eat(Symbol::Not) else {
         return parse_postfix(alloc, depth, input);
@@ -260,7 +263,7 @@ fn parse_postfix<'a>(
 ) -> Result<(Expr, Input<'a>), ParseFault>
     ensures reads { ReadsAs spec.read_of result (spec.postfix_with (spec.inner_at depth) (remaining input.entry)) }
     ensures shorter { IfOk result (λ x. length (remaining x.1) < length (remaining input.entry)) }
-    ensures placed { IfOk result (λ x. expr_place x.0 ≡ first_place input.entry) }
+    ensures placed { IfOk result (λ x. Spans (expr_kept x.0) input.entry x.1) }
 {
     let (inner, rest) = parse_primary(alloc, depth, input)?;
     parse_suffixes(alloc, inner, rest)
@@ -275,7 +278,7 @@ fn parse_primary<'a>(
 ) -> Result<(Expr, Input<'a>), ParseFault>
     ensures reads { ReadsAs spec.read_of result (spec.primary_with (spec.inner_at depth) (remaining input.entry)) }
     ensures shorter { IfOk result (λ x. length (remaining x.1) < length (remaining input.entry)) }
-    ensures placed { IfOk result (λ x. expr_place x.0 ≡ first_place input.entry) }
+    ensures placed { IfOk result (λ x. Spans (expr_kept x.0) input.entry x.1) }
 {
     let Some(after) = input.eat(Symbol::LeftParen) else {
         return parse_atom(alloc, input);

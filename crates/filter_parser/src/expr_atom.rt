@@ -1,7 +1,7 @@
-ghost use Rattle.std.specs.Prelude.{◌≡◌, ◌<◌, ◌≤◌, Some, None, IfOk, IfSome, length};
-ghost use Rattle.filter_parser.specs.Places.{expr_place};
+ghost use Rattle.std.specs.Prelude.{◌≡◌, ◌∷◌, ◌<◌, ◌≤◌, [], Some, None, IfOk, IfSome, length};
+ghost use Rattle.filter_parser.specs.Placed.{expr_kept, suffix_kept};
 ghost use Rattle.filter_parser.specs.Reading as spec;
-ghost use Rattle.filter_parser.specs.Steps.{Finds, ReadsAs, first_place, remaining};
+ghost use Rattle.filter_parser.specs.Steps.{Continues, Finds, ReadsAs, Spans, first_place, remaining};
 ghost use Rattle.filter_parser.specs.Syntax.{view};
 
 use crate::expected::Expected;
@@ -27,6 +27,7 @@ fn attribute_of(symbol: Symbol) -> Option<Attribute>
 fn parse_attribute<'a>(input: Input<'a>) -> Result<(Attribute, Input<'a>), ParseFault>
     ensures reads { ReadsAs (λ x. (x.0, remaining x.1)) result (spec.attribute_first (remaining input.entry)) }
     ensures shorter { IfOk result (λ x. length (remaining x.1) < length (remaining input.entry)) }
+    ensures placed { IfOk result (λ x. Spans (Some (first_place input.entry) ∷ []) input.entry x.1) }
 {
     let Some((first, rest)) = input.next() else {
         return Err(input.unexpected(Expected::Attribute));
@@ -44,7 +45,7 @@ fn parse_attribute<'a>(input: Input<'a>) -> Result<(Attribute, Input<'a>), Parse
 fn parse_defined<'a>(at: usize, input: Input<'a>) -> Result<(Expr, Input<'a>), ParseFault>
     ensures reads { ReadsAs spec.read_of result (spec.defined_of (remaining input.entry)) }
     ensures shorter { IfOk result (λ x. length (remaining x.1) < length (remaining input.entry)) }
-    ensures placed { IfOk result (λ x. expr_place x.0 ≡ at) }
+    ensures placed { IfOk result (λ x. Continues (Some at ∷ []) (expr_kept x.0) input.entry x.1) }
 {
     let rest = input.expect(Symbol::LeftParen, Expected::LeftParen)?;
     let (found, rest) = parse_attribute(rest)?;
@@ -55,7 +56,7 @@ fn parse_defined<'a>(at: usize, input: Input<'a>) -> Result<(Expr, Input<'a>), P
 /// The expression that a keyword is, at a place.
 fn keyword_expr(at: usize, symbol: Symbol) -> Option<Expr>
     ensures is { Finds view result (spec.keyword_of symbol) }
-    ensures placed { IfSome result (λ t. expr_place t ≡ at) }
+    ensures placed { IfSome result (λ t. expr_kept t ≡ Some at ∷ []) }
 {
     match symbol {
         Symbol::True => Some(Expr::Truth(at, true)),
@@ -70,7 +71,7 @@ fn keyword_expr(at: usize, symbol: Symbol) -> Option<Expr>
 fn parse_single<'a>(alloc: Global, input: Input<'a>) -> Result<(Expr, Input<'a>), ParseFault>
     ensures reads { ReadsAs spec.read_of result (spec.single_first (remaining input.entry)) }
     ensures shorter { IfOk result (λ x. length (remaining x.1) < length (remaining input.entry)) }
-    ensures placed { IfOk result (λ x. expr_place x.0 ≡ first_place input.entry) }
+    ensures placed { IfOk result (λ x. Spans (expr_kept x.0) input.entry x.1) }
 {
     let Some((first, rest)) = input.next() else {
         return Err(input.unexpected(Expected::Operand));
@@ -93,7 +94,7 @@ fn parse_single<'a>(alloc: Global, input: Input<'a>) -> Result<(Expr, Input<'a>)
 pub fn parse_atom<'a>(alloc: Global, input: Input<'a>) -> Result<(Expr, Input<'a>), ParseFault>
     ensures reads { ReadsAs spec.read_of result (spec.atom_of (remaining input.entry)) }
     ensures shorter { IfOk result (λ x. length (remaining x.1) < length (remaining input.entry)) }
-    ensures placed { IfOk result (λ x. expr_place x.0 ≡ first_place input.entry) }
+    ensures placed { IfOk result (λ x. Spans (expr_kept x.0) input.entry x.1) }
 {
     match input.eat(Symbol::Defined) {
         Some(rest) => parse_defined(input.at(), rest),
@@ -103,7 +104,8 @@ pub fn parse_atom<'a>(alloc: Global, input: Input<'a>) -> Result<(Expr, Input<'a
 
 /// `.mask` of this number, where it is one of bits of an address.
 fn mask_of_bits(n: u32) -> Option<Suffix>
-    ensures { result ≡ spec.mask_suffix n }
+    ensures is { result ≡ spec.mask_suffix n }
+    ensures kept { IfSome result (λ s. suffix_kept s ≡ None ∷ None ∷ None ∷ None ∷ None ∷ []) }
 {
     match MaskLength::new(n) {
         Some(bits) => Some(Suffix::Mask(bits)),
@@ -115,6 +117,7 @@ fn mask_of_bits(n: u32) -> Option<Suffix>
 fn parse_mask<'a>(input: Input<'a>) -> Result<(Suffix, Input<'a>), ParseFault>
     ensures reads { ReadsAs (λ x. (x.0, remaining x.1)) result (spec.mask_of (remaining input.entry)) }
     ensures shorter { IfOk result (λ x. length (remaining x.1) < length (remaining input.entry)) }
+    ensures placed { IfOk result (λ x. Continues (None ∷ None ∷ []) (suffix_kept x.0) input.entry x.1) }
 {
     let after = input.expect(Symbol::LeftParen, Expected::LeftParen)?;
     let (n, rest) = after.expect_number()?;
@@ -129,6 +132,7 @@ fn parse_mask<'a>(input: Input<'a>) -> Result<(Suffix, Input<'a>), ParseFault>
 fn parse_suffix<'a>(input: Input<'a>) -> Result<(Suffix, Input<'a>), ParseFault>
     ensures reads { ReadsAs (λ x. (x.0, remaining x.1)) result (spec.suffix_of (remaining input.entry)) }
     ensures shorter { IfOk result (λ x. length (remaining x.1) < length (remaining input.entry)) }
+    ensures placed { IfOk result (λ x. Continues (None ∷ []) (suffix_kept x.0) input.entry x.1) }
 {
     if let Some(rest) = input.eat(Symbol::Ip) {
         return Ok((Suffix::Ip, rest));
@@ -150,7 +154,7 @@ pub fn parse_suffixes<'a>(
 ) -> Result<(Expr, Input<'a>), ParseFault>
     ensures reads { ReadsAs spec.read_of result (spec.suffixes_from (view inner) (remaining input.entry)) }
     ensures shorter { IfOk result (λ x. length (remaining x.1) ≤ length (remaining input.entry)) }
-    ensures placed { IfOk result (λ x. expr_place x.0 ≡ expr_place inner) }
+    ensures placed { IfOk result (λ x. Continues (expr_kept inner) (expr_kept x.0) input.entry x.1) }
 {
     let mut all = Vec::new(alloc);
     let mut rest = input;

@@ -1,5 +1,5 @@
-ghost use Rattle.std.specs.Prelude.{◌≡◌, IfOk, map};
-ghost use Rattle.filter_parser.specs.Places.{expr_place};
+ghost use Rattle.std.specs.Prelude.{◌≡◌, ◌∷◌, ◌++◌, [], Some, None, IfOk, map};
+ghost use Rattle.filter_parser.specs.Placed.{expr_kept, joined, kept_more, operand_kept, set_kept, suffix_kept};
 ghost use Rattle.filter_parser.specs.Syntax.{ExprView, chain_of, suffixes_of, view, view_set_pattern, view_more};
 
 use crate::tree::{Expr, Membership, Op, Set, Suffix};
@@ -8,7 +8,7 @@ use std::alloc::{AllocError, Global};
 /// An expression in parentheses, the first of which has the place `at`.
 pub fn group(alloc: Global, at: usize, inner: Expr) -> Result<Expr, AllocError>
     ensures is { IfOk result (λ t. view t ≡ ExprView.group (view inner)) }
-    ensures placed { IfOk result (λ t. expr_place t ≡ at) }
+    ensures placed { IfOk result (λ t. expr_kept t ≡ Some at ∷ (expr_kept inner ++ None ∷ [])) }
 {
     Ok(Expr::Group(at, Box::new(alloc, inner)?))
 }
@@ -16,7 +16,7 @@ pub fn group(alloc: Global, at: usize, inner: Expr) -> Result<Expr, AllocError>
 /// `!`, which has the place `at`, and its operand.
 pub fn negation(alloc: Global, at: usize, inner: Expr) -> Result<Expr, AllocError>
     ensures is { IfOk result (λ t. view t ≡ ExprView.negation (view inner)) }
-    ensures placed { IfOk result (λ t. expr_place t ≡ at) }
+    ensures placed { IfOk result (λ t. expr_kept t ≡ Some at ∷ expr_kept inner) }
 {
     Ok(Expr::Not(at, Box::new(alloc, inner)?))
 }
@@ -24,7 +24,7 @@ pub fn negation(alloc: Global, at: usize, inner: Expr) -> Result<Expr, AllocErro
 /// An operand and the operators after it, if there are any.
 pub fn chain(alloc: Global, first: Expr, more: Vec<(Op, Expr)>) -> Result<Expr, AllocError>
     ensures is { IfOk result (λ t. view t ≡ chain_of (view first) (view_more more.items)) }
-    ensures placed { IfOk result (λ t. expr_place t ≡ expr_place first) }
+    ensures placed { IfOk result (λ t. expr_kept t ≡ expr_kept first ++ joined (map operand_kept (kept_more more.items))) }
 {
     if more.is_empty() {
         return Ok(first);
@@ -35,7 +35,7 @@ pub fn chain(alloc: Global, first: Expr, more: Vec<(Op, Expr)>) -> Result<Expr, 
 /// Two operands and the operator between them.
 pub fn binary(alloc: Global, op: Op, left: Expr, right: Expr) -> Result<Expr, AllocError>
     ensures is { IfOk result (λ t. view t ≡ ExprView.binary op (view left) (view right)) }
-    ensures placed { IfOk result (λ t. expr_place t ≡ expr_place left) }
+    ensures placed { IfOk result (λ t. expr_kept t ≡ expr_kept left ++ None ∷ expr_kept right) }
 {
     let mut more = Vec::new(alloc);
     more.push((op, right))?;
@@ -45,7 +45,7 @@ pub fn binary(alloc: Global, op: Op, left: Expr, right: Expr) -> Result<Expr, Al
 /// An operand and a set.
 pub fn member(alloc: Global, op: Membership, left: Expr, set: Set) -> Result<Expr, AllocError>
     ensures is { IfOk result (λ t. view t ≡ ExprView.member op (view left) (map view_set_pattern set.patterns.items)) }
-    ensures placed { IfOk result (λ t. expr_place t ≡ expr_place left) }
+    ensures placed { IfOk result (λ t. expr_kept t ≡ expr_kept left ++ None ∷ set_kept set) }
 {
     Ok(Expr::Member(op, Box::new(alloc, left)?, set))
 }
@@ -53,7 +53,7 @@ pub fn member(alloc: Global, op: Membership, left: Expr, set: Set) -> Result<Exp
 /// An operand and its suffixes, if there are any.
 pub fn suffixed(alloc: Global, inner: Expr, suffixes: Vec<Suffix>) -> Result<Expr, AllocError>
     ensures is { IfOk result (λ t. view t ≡ suffixes_of (view inner) suffixes.items) }
-    ensures placed { IfOk result (λ t. expr_place t ≡ expr_place inner) }
+    ensures placed { IfOk result (λ t. expr_kept t ≡ expr_kept inner ++ joined (map suffix_kept suffixes.items)) }
 {
     if suffixes.is_empty() {
         return Ok(inner);

@@ -32,13 +32,14 @@ fn is_symbol(token: &Token, text: &[u8], symbol: Symbol) -> bool
 }
 
 impl<'a> Input<'a> {
-    ghost use Rattle.filter_parser.specs.Steps.{Finds, ReadsAs, after_symbol, after_name, after_quote, first_place, remaining};
+    ghost use Rattle.filter_parser.specs.Steps.{Finds, ReadsAs, Spans, after_symbol, after_name, after_quote, first_place, remaining};
     ghost use Rattle.filter_parser.specs.Steps.{number_first, prefix_first};
 
     /// The first token, and what is left after it.
     pub fn next(self) -> Option<(&'a Token, Input<'a>)>
         ensures is { let w = remaining self.entry in MatchOption result (w ≡ []) (λ x. w ≡ lexemes.lexeme self.entry.text.now x.0.now ∷ remaining x.1) }
-        ensures placed { IfSome result (λ x. x.0.now.from ≡ first_place self.entry) }
+        ensures first { IfSome result (λ x. x.0.now.from ≡ first_place self.entry) }
+        ensures placed { IfSome result (λ x. Spans (Some x.0.now.from ∷ []) self.entry x.1) }
     {
         let (first, tokens) = self.tokens.split_first()?;
         Some((
@@ -87,6 +88,7 @@ impl<'a> Input<'a> {
     /// What is left after a symbol, if that comes first.
     pub fn eat(self, symbol: Symbol) -> Option<Input<'a>>
         ensures found { Finds remaining result (after_symbol symbol (remaining self.entry)) }
+        ensures placed { IfSome result (λ rest. Spans (Some (first_place self.entry) ∷ []) self.entry rest) }
         ensures shorter { IfSome result (λ rest. length (remaining rest) < length (remaining self.entry)) }
     {
         let (first, rest) = self.next()?;
@@ -101,6 +103,7 @@ impl<'a> Input<'a> {
     pub fn expect(self, symbol: Symbol, expected: Expected) -> Result<Input<'a>, ParseFault>
         ensures reads { ReadsAs remaining result (after_symbol symbol (remaining self.entry)) }
         ensures shorter { IfOk result (λ rest. length (remaining rest) < length (remaining self.entry)) }
+        ensures placed { IfOk result (λ rest. Spans (Some (first_place self.entry) ∷ []) self.entry rest) }
     {
         match self.eat(symbol) {
             Some(rest) => Ok(rest),
@@ -112,6 +115,7 @@ impl<'a> Input<'a> {
     pub fn eat_text(self) -> Option<Input<'a>>
         ensures found { Finds remaining result (after_quote (remaining self.entry)) }
         ensures shorter { IfSome result (λ rest. length (remaining rest) < length (remaining self.entry)) }
+        ensures placed { IfSome result (λ rest. Spans (Some (first_place self.entry) ∷ []) self.entry rest) }
     {
         let (first, rest) = self.next()?;
         match &first.kind {
@@ -124,6 +128,7 @@ impl<'a> Input<'a> {
     pub fn eat_name(self, word: &[u8]) -> Option<Input<'a>>
         ensures found { Finds remaining result (after_name word.now (remaining self.entry)) }
         ensures shorter { IfSome result (λ rest. length (remaining rest) < length (remaining self.entry)) }
+        ensures placed { IfSome result (λ rest. Spans (Some (first_place self.entry) ∷ []) self.entry rest) }
     {
         let (first, rest) = self.next()?;
         match &first.kind {
@@ -140,6 +145,7 @@ impl<'a> Input<'a> {
     pub fn expect_number(self) -> Result<(u32, Input<'a>), ParseFault>
         ensures reads { ReadsAs (λ x. (x.0, remaining x.1)) result (number_first (remaining self.entry)) }
         ensures shorter { IfOk result (λ x. length (remaining x.1) < length (remaining self.entry)) }
+        ensures placed { IfOk result (λ x. Spans (Some (first_place self.entry) ∷ []) self.entry x.1) }
     {
         let Some((first, rest)) = self.next() else {
             return Err(self.unexpected(Expected::Number));
@@ -154,6 +160,7 @@ impl<'a> Input<'a> {
     pub fn expect_prefix(self) -> Result<(Prefix, Input<'a>), ParseFault>
         ensures reads { ReadsAs (λ x. (x.0, remaining x.1)) result (prefix_first (remaining self.entry)) }
         ensures shorter { IfOk result (λ x. length (remaining x.1) < length (remaining self.entry)) }
+        ensures placed { IfOk result (λ x. Spans (Some (first_place self.entry) ∷ []) self.entry x.1) }
     {
         let Some((first, rest)) = self.next() else {
             return Err(self.unexpected(Expected::Prefix));

@@ -1,7 +1,7 @@
-ghost use Rattle.std.specs.Prelude.{◌≡◌, ◌<◌, ◌≤◌, Some, None, IfOk, length, map};
-ghost use Rattle.filter_parser.specs.Places.{pattern_place};
+ghost use Rattle.std.specs.Prelude.{◌≡◌, ◌∷◌, ◌<◌, ◌≤◌, [], Some, None, IfOk, length, map};
+ghost use Rattle.filter_parser.specs.Placed.{next_pattern_kept, set_kept, set_pattern_kept};
 ghost use Rattle.filter_parser.specs.Reading as spec;
-ghost use Rattle.filter_parser.specs.Steps.{Finds, ReadsAs, first_place, remaining};
+ghost use Rattle.filter_parser.specs.Steps.{Continues, Finds, Grown, ReadsAs, Spans, remaining};
 ghost use Rattle.filter_parser.specs.Syntax.{SetPatternView, view_set_pattern};
 
 use crate::expected::Expected;
@@ -31,7 +31,7 @@ fn parse_braces<'a>(
 ) -> Result<(SetPattern, Input<'a>), ParseFault>
     ensures reads { ReadsAs spec.set_pattern_read_of result (spec.braces_of prefix (remaining input.entry)) }
     ensures shorter { IfOk result (λ x. length (remaining x.1) < length (remaining input.entry)) }
-    ensures placed { IfOk result (λ x. pattern_place x.0 ≡ at) }
+    ensures placed { IfOk result (λ x. Continues (Some at ∷ None ∷ []) (set_pattern_kept x.0) input.entry x.1) }
 {
     let (low, rest) = input.expect_number()?;
     let rest = rest.expect(Symbol::Comma, Expected::Comma)?;
@@ -51,7 +51,7 @@ fn parse_lengths<'a>(
 ) -> Result<(SetPattern, Input<'a>), ParseFault>
     ensures reads { ReadsAs spec.set_pattern_read_of result (spec.lengths_of prefix (remaining input.entry)) }
     ensures shorter { IfOk result (λ x. length (remaining x.1) ≤ length (remaining input.entry)) }
-    ensures placed { IfOk result (λ x. pattern_place x.0 ≡ at) }
+    ensures placed { IfOk result (λ x. Continues (Some at ∷ []) (set_pattern_kept x.0) input.entry x.1) }
 {
     if let Some(rest) = input.eat(Symbol::Plus) {
         return Ok((SetPattern::OrLonger(at, prefix), rest));
@@ -69,7 +69,7 @@ fn parse_lengths<'a>(
 fn parse_set_pattern<'a>(input: Input<'a>) -> Result<(SetPattern, Input<'a>), ParseFault>
     ensures reads { ReadsAs spec.set_pattern_read_of result (spec.set_pattern_first (remaining input.entry)) }
     ensures shorter { IfOk result (λ x. length (remaining x.1) < length (remaining input.entry)) }
-    ensures placed { IfOk result (λ x. pattern_place x.0 ≡ first_place input.entry) }
+    ensures placed { IfOk result (λ x. Spans (set_pattern_kept x.0) input.entry x.1) }
 {
     match input.expect_prefix() {
         Ok((prefix, rest)) => parse_lengths(input.at(), prefix, rest),
@@ -84,6 +84,7 @@ fn parse_set_patterns<'a>(
 ) -> Result<(Vec<SetPattern>, Input<'a>), ParseFault>
     ensures reads { ReadsAs spec.set_patterns_read_of result (spec.set_patterns_from (map view_set_pattern patterns.items) (remaining input.entry)) }
     ensures shorter { IfOk result (λ x. length (remaining x.1) ≤ length (remaining input.entry)) }
+    ensures placed { IfOk result (λ x. Grown next_pattern_kept patterns.items x.0.items input.entry x.1) }
 {
     let mut all = patterns;
     let mut rest = input;
@@ -103,7 +104,7 @@ fn parse_set_patterns<'a>(
 fn parse_first_pattern<'a>(input: Input<'a>) -> Result<(SetPattern, Input<'a>), ParseFault>
     ensures reads { ReadsAs spec.set_pattern_read_of result (spec.set_pattern_first (remaining input.entry)) }
     ensures shorter { IfOk result (λ x. length (remaining x.1) < length (remaining input.entry)) }
-    ensures placed { IfOk result (λ x. pattern_place x.0 ≡ first_place input.entry) }
+    ensures placed { IfOk result (λ x. Spans (set_pattern_kept x.0) input.entry x.1) }
 {
     match input.expect_number() {
         Ok(_) => Err(ParseFault::NumberSet(input.at())),
@@ -119,7 +120,7 @@ fn parse_set_after_first<'a>(
     input: Input<'a>,
 ) -> Result<(Set, Input<'a>), ParseFault>
     ensures reads { ReadsAs spec.set_read_of result (spec.set_after_first (view_set_pattern first) (remaining input.entry)) }
-    ensures placed { IfOk result (λ x. x.0.at ≡ at) }
+    ensures placed { IfOk result (λ x. Continues (Some at ∷ set_pattern_kept first) (set_kept x.0) input.entry x.1) }
     ensures shorter { IfOk result (λ x. length (remaining x.1) < length (remaining input.entry)) }
 {
     let mut patterns = Vec::new(alloc);
@@ -140,7 +141,7 @@ pub fn parse_set<'a>(
     input: Input<'a>,
 ) -> Result<(Set, Input<'a>), ParseFault>
     ensures reads { ReadsAs spec.set_read_of result (spec.set_of (remaining input.entry)) }
-    ensures placed { IfOk result (λ x. x.0.at ≡ at) }
+    ensures placed { IfOk result (λ x. Continues (Some at ∷ []) (set_kept x.0) input.entry x.1) }
     ensures shorter { IfOk result (λ x. length (remaining x.1) < length (remaining input.entry)) }
 {
     match parse_first_pattern(input) {

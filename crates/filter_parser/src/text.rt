@@ -3,6 +3,7 @@
 ghost use Rattle.std.specs.Prelude.{◌≡◌, ◌≢◌, ◌≤◌, List, None, IfOk, IfErr, length};
 ghost use Rattle.filter_tokens.specs.Tokenization.{AreInOrder, IsTokenization};
 ghost use Rattle.filter_tokens.specs.declared.token.Token.{Token as TheToken};
+ghost use Rattle.filter_parser.specs.Placed.{IsPlaced};
 ghost use Rattle.filter_parser.specs.SyntaxText.{IsText, FilterView, text_limit, view_filter};
 ghost use Rattle.filter_parser.specs.declared.fault.ParseFault.TheVariants.{Memory};
 
@@ -28,6 +29,7 @@ fn filter_of_tokens(
     ensures unique { IfOk result (λ f. (t : FilterView) → IsText text.now t → t ≡ view_filter f) }
     ensures refused { IfErr result (λ e. e ≢ Memory → (t : FilterView) → IsText text.now t → ⊥) }
     ensures spans { IfOk result (λ f. AreInOrder 0 (view_filter f).tokens (length text.now)) }
+    ensures placed { IfOk result (λ f. IsPlaced text.now f) }
 {
     let read = parse_filter(
         alloc,
@@ -66,6 +68,8 @@ pub fn parse(alloc: Global, text: &[u8]) -> Result<Filter, ParseFault>
     ensures refused { IfErr result (λ e. e ≢ Memory → (t : FilterView) → IsText text.now t → ⊥) }
     // The tokens stand in order in the text.
     ensures spans { IfOk result (λ f. AreInOrder 0 (view_filter f).tokens (length text.now)) }
+    // Each part of the tree has the place of its own token.
+    ensures placed { IfOk result (λ f. IsPlaced text.now f) }
 {
     if text.len() > TEXT_LIMIT {
         return Err(ParseFault::TooLong);

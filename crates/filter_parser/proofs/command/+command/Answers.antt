@@ -1,8 +1,11 @@
-use Rattle.std.proofs.Common.{[], refl, arith}
+use Rattle.std.proofs.Common.{◌∙◌, ◌∷◌, ◌++◌, [], None, Some, List, ap, map, sym, append_assoc, refl, arith}
+use Rattle.filter_parser.specs.declared.tree.command.Command.{Command}
+use Rattle.filter_parser.specs.Placed.{Kept, command_kept, expr_kept, joined}
 use Rattle.filter_parser.specs.ReadingCommands.{command_at}
 use Rattle.filter_parser.specs.Steps.{remaining}
 use Rattle.filter_parser.specs.SyntaxCommands.{view_command}
 use Rattle.filter_parser.proofs.Bodies.{command_is, by_lexeme, begins, goes_on, map_one, stops, ends}
+use Rattle.filter_parser.proofs.Placing.{grown_more, grown_none, kept_block, ok_map, spans_as, spans_both, unkept}
 use Rattle.filter_parser.proofs.command.+command.Goals as goal
 
 pub parse_commands-returns-in-Some-clause-reads : goal.parse_commands-returns-in-Some-clause-reads
@@ -14,6 +17,7 @@ parse_commands-returns-in-Err-clause-reads t c = λ other. stops c.loop-after.in
 pub parse_commands-loop-after-init : goal.parse_commands-loop-after-init
 parse_commands-loop-after-init t c = record {
   goes = rw c.new-commands.ensures.items (begins (command_at c.args.depth) (remaining c.args.input));
+  grown = rw c.new-commands.ensures.items grown_none;
   shorter = omega arith;
 }
 
@@ -21,6 +25,7 @@ pub parse_commands-loop-after-preserved : goal.parse_commands-loop-after-preserv
 parse_commands-loop-after-preserved t c = record {
   goes = rw (c.in_ok-push-in-Ok.ensures.items, map_one view_command c.loop-after.commands.items c.in-Ok.command)
       (goes_on c.loop-after.invariant.goes c.in_default.ensures.found c.in-Ok.ensures.reads c.in-Ok.ensures.shorter);
+  grown = grown_more c.loop-after.invariant.grown c.in-Ok.ensures.placed c.in_ok-push-in-Ok.ensures.items;
   shorter = omega (arith, c.in-Ok.ensures.shorter);
 }
 
@@ -34,3 +39,27 @@ parse_command-returns-in-Name-clause-reads t c =
 pub parse_command-returns-in-Symbol-clause-reads : goal.parse_command-returns-in-Symbol-clause-reads
 parse_command-returns-in-Symbol-clause-reads t c =
     by_lexeme c.parse_command_by.result c.args.depth _ _ (rw (c.in-Symbol.is) at c.in-Some.ensures.is) c.parse_command_by.ensures.reads
+
+pub parse_commands-returns-in-Some-clause-placed : goal.parse_commands-returns-in-Some-clause-placed
+parse_commands-returns-in-Some-clause-placed t c =
+    let g = c.loop-after.invariant.grown in
+    spans_as (ap (λ (xs : List Command). joined (map command_kept xs) ++ None ∷ []) g.whole) (spans_both g.spans (unkept c.in-Some.ensures.placed))
+
+pub parse_block-returns-clause-placed : goal.parse_block-returns-clause-placed
+parse_block-returns-clause-placed t c = λ start first.
+    spans_as (kept_block c.args.at c.in_ok-commands.commands) (spans_both first c.in_ok-commands.ensures.placed)
+
+pub parse_if-returns-clause-placed : goal.parse_if-returns-clause-placed
+parse_if-returns-clause-placed t c =
+    ok_map c.parse_else.result
+    (λ x h start first. h start (spans_both first (spans_both c.in_ok-test.ensures.placed
+    (spans_both (unkept c.in_ok-rest.ensures.placed) c.in_ok-chosen.ensures.placed))))
+    c.parse_else.ensures.placed
+
+pub parse_else-returns-in_ok-if_else_command-in-Some-clause-placed : goal.parse_else-returns-in_ok-if_else_command-in-Some-clause-placed
+parse_else-returns-in_ok-if_else_command-in-Some-clause-placed t c = λ start first.
+    let chosen = command_kept c.args.chosen in
+    let other = command_kept c.in_ok-other-in-Some.other in
+    spans_as (c.in_ok-if_else_command-in-Some.ensures.placed
+    ∙ ap (λ (k : Kept). Some c.args.at ∷ k) (sym (append_assoc (expr_kept c.args.test) (None ∷ chosen) (None ∷ other))))
+    (spans_both first (spans_both (unkept c.in-Some.ensures.placed) c.in_ok-other-in-Some.ensures.placed))

@@ -1,8 +1,9 @@
-use Rattle.std.proofs.Common.{Some, ap, sym, ◌∙◌}
+use Rattle.std.proofs.Common.{◌∷◌, ◌++◌, None, Some, ap, sym, ◌∙◌}
 use Rattle.filter_parser.specs.declared.tree.command.Command.TheVariants.{rolls-If}
 use Rattle.filter_parser.specs.declared.tree.command.Command.TheFolds.{fold-roll-Command}
 use Rattle.filter_parser.specs.declared.tree.command.Command.TheOpen.{Command-F}
 use Rattle.filter_parser.specs.declared.tree.command.Command.{Command}
+use Rattle.filter_parser.specs.Placed.{Kept, command_kept, command_kept_step, expr_kept}
 use Rattle.filter_parser.specs.Syntax.{view}
 use Rattle.filter_parser.specs.SyntaxCommands.{CommandView, view_command, view_step}
 use Rattle.filter_parser.proofs.command.if_else_command.Goals as goal
@@ -14,3 +15,12 @@ returns-clause-is c =
     ∙ ap (λ (x : Command). CommandView.if_else (view c.args.test) (view_command x)
     (view_command c.in_ok-new-2.field-0.value)) c.in_ok-new.ensures.ok
     ∙ ap (λ (x : Command). CommandView.if_else (view c.args.test) (view_command c.args.chosen) (view_command x)) c.in_ok-new-2.ensures.ok
+
+pub returns-clause-placed : goal.returns-clause-placed
+returns-clause-placed c =
+    ap command_kept (sym (rolls-If c.args.at c.args.test c.in_ok-new.field-0 (Some c.in_ok-new-2.field-0)))
+    ∙ fold-roll-Command Kept command_kept_step (Command-F.If c.args.at c.args.test c.in_ok-new.field-0 (Some c.in_ok-new-2.field-0))
+    ∙ ap (λ (x : Command). Some c.args.at ∷ (expr_kept c.args.test ++ None ∷ (command_kept x ++ None ∷ command_kept c.in_ok-new-2.field-0.value)))
+    c.in_ok-new.ensures.ok
+    ∙ ap (λ (x : Command). Some c.args.at ∷ (expr_kept c.args.test ++ None ∷ (command_kept c.args.chosen ++ None ∷ command_kept x)))
+    c.in_ok-new-2.ensures.ok

@@ -1,9 +1,14 @@
-use Rattle.std.proofs.Common.{arith}
+use Rattle.std.proofs.Common.{◌-◌, ◌∙◌, ◌∷◌, ◌++◌, [], None, Some, List, ap, map, sym, append_assoc, arith}
+use Rattle.filter_parser.specs.Placed.{Kept, expr_kept, joined, operand_kept, kept_more}
+use Rattle.filter_parser.specs.declared.tree.expr.Expr.{Expr}
+use Rattle.filter_parser.specs.declared.tree.op.Op.{Op}
 use Rattle.filter_parser.specs.Reading.{unary_at, next_with, sum_with}
 use Rattle.filter_parser.specs.Steps.{remaining}
 use Rattle.filter_parser.specs.Syntax.{view}
 use Rattle.filter_parser.proofs.Chains.{more_one, right_none, chain_on, chain_ends, chain_stops}
+use Rattle.filter_parser.proofs.Placing.{grown_more, ok_map, right_kept, rights_kept, spans_as, spans_at, spans_both, unkept}
 use Rattle.filter_parser.proofs.Views.{chain_more}
+use Rattle.filter_parser.proofs.Chains.{group_read}
 use Rattle.filter_parser.proofs.expr.+expr.Goals as goal
 
 pub parse_chain-returns-in-Err-clause-reads : goal.parse_chain-returns-in-Err-clause-reads
@@ -17,6 +22,7 @@ parse_chain-loop-op-preserved t c = record {
       (chain_on (next_with (unary_at c.args.depth) c.args.level) c.args.level c.in-Some.ensures.found c.in-Ok.ensures.reads
       (omega (arith, c.in-Ok.ensures.shorter, c.in-Some.ensures.shorter)) c.loop-op.invariant.goes);
   kept = c.loop-op.invariant.kept;
+  grown = grown_more c.loop-op.invariant.grown (spans_both (unkept c.in-Some.ensures.placed) c.in-Ok.ensures.placed) c.in_ok-push-in-Ok.ensures.items;
   shorter = omega (arith, c.in-Ok.ensures.shorter, c.in-Some.ensures.shorter);
 }
 
@@ -29,3 +35,37 @@ pub parse_right_operand-returns-in-Err-clause-reads : goal.parse_right_operand-r
 parse_right_operand-returns-in-Err-clause-reads t c =
     λ other. right_none (sum_with (unary_at c.args.depth)) (view c.args.left) c.args.op (remaining c.args.input) c.in_default.ensures.found
     (c.in-Err.ensures.reads (λ e. other (c.right_operand_fault.ensures e)))
+
+pub parse_chain-returns-clause-placed : goal.parse_chain-returns-clause-placed
+parse_chain-returns-clause-placed t c = λ start first.
+    let g = c.loop-op.invariant.grown in
+    spans_as (c.in_ok-chain.ensures.placed
+    ∙ ap (λ (k : Kept). expr_kept c.loop-op.first-1 ++ k) (rights_kept c.loop-op.more.items
+    ∙ ap (λ (xs : List (Op × Expr)). joined (map right_kept xs)) g.whole))
+    (spans_both (rw c.loop-op.invariant.kept first) g.spans)
+
+pub parse_comparison-returns-in-Some-clause-placed : goal.parse_comparison-returns-in-Some-clause-placed
+parse_comparison-returns-in-Some-clause-placed t c =
+    ok_map c.parse_right_operand.result (λ x h. h c.args.input (spans_both c.in_ok-left.ensures.placed (unkept c.in-Some.ensures.placed)))
+    c.parse_right_operand.ensures.placed
+
+pub parse_primary-returns-clause-reads : goal.parse_primary-returns-clause-reads
+parse_primary-returns-clause-reads t c =
+    group_read c.parse_group_end.result c.args.depth (c.args.depth - 1) (remaining c.args.input) (remaining c.in-Some.after)
+    (view c.in_ok-inner.inner, remaining c.in_ok-inner.rest) (omega arith) c.in-Some.ensures.found c.in_ok-inner.ensures.reads
+    c.parse_group_end.ensures.reads
+
+pub parse_primary-returns-clause-placed : goal.parse_primary-returns-clause-placed
+parse_primary-returns-clause-placed t c =
+    ok_map c.parse_group_end.result
+    (λ x h. h c.args.input (spans_both (spans_at c.at-2.ensures c.in-Some.ensures.placed) c.in_ok-inner.ensures.placed))
+    c.parse_group_end.ensures.placed
+
+pub parse_right_operand-returns-in_ok-binary-in-Ok-clause-placed : goal.parse_right_operand-returns-in_ok-binary-in-Ok-clause-placed
+parse_right_operand-returns-in_ok-binary-in-Ok-clause-placed t c = λ start first.
+    spans_as (c.in_ok-binary-in-Ok.ensures.placed ∙ sym (append_assoc (expr_kept c.args.left) (None ∷ []) (expr_kept c.in-Ok.other)))
+    (spans_both first c.in-Ok.ensures.placed)
+
+pub parse_unary-returns-clause-placed : goal.parse_unary-returns-clause-placed
+parse_unary-returns-clause-placed t c =
+    spans_as c.in_ok-negation.ensures.placed (spans_both (spans_at c.at-2.ensures c.in-Some.ensures.placed) c.in_ok-inner.ensures.placed)

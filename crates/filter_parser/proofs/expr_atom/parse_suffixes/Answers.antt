@@ -1,5 +1,8 @@
-use Rattle.std.proofs.Common.{arith}
+use Rattle.std.proofs.Common.{◌∙◌, ◌++◌, ap, map, List, arith}
+use Rattle.filter_parser.specs.Placed.{expr_kept, joined, suffix_kept}
+use Rattle.filter_parser.specs.declared.tree.op.Suffix.{Suffix}
 use Rattle.filter_parser.proofs.Chains.{suffix_on, suffix_ends, suffix_stops}
+use Rattle.filter_parser.proofs.Placing.{grown_more, spans_as, spans_both, unkept}
 use Rattle.filter_parser.proofs.Views.{suffixes_more}
 use Rattle.filter_parser.proofs.expr_atom.parse_suffixes.Goals as goal
 
@@ -12,9 +15,16 @@ loop-after-preserved c = record {
       (suffix_on c.in-Some.ensures.found c.in-Ok.ensures.reads (omega (arith, c.in-Ok.ensures.shorter, c.in-Some.ensures.shorter))
       c.loop-after.invariant.goes);
   kept = c.loop-after.invariant.kept;
+  grown = grown_more c.loop-after.invariant.grown (c.in-Ok.ensures.placed _ (unkept c.in-Some.ensures.placed)) c.in_ok-push-in-Ok.ensures.items;
   shorter = omega (arith, c.in-Ok.ensures.shorter, c.in-Some.ensures.shorter);
 }
 
 pub returns-clause-reads : goal.returns-clause-reads
 returns-clause-reads c = rw (c.in_ok-suffixed.ensures.is, c.loop-after.invariant.kept)
     (suffix_ends c.in_default.ensures.found c.loop-after.invariant.goes)
+
+pub returns-clause-placed : goal.returns-clause-placed
+returns-clause-placed c = λ start first.
+    let g = c.loop-after.invariant.grown in
+    spans_as (c.in_ok-suffixed.ensures.placed ∙ ap (λ (xs : List Suffix). expr_kept c.loop-after.inner-1 ++ joined (map suffix_kept xs)) g.whole)
+    (spans_both (rw c.loop-after.invariant.kept first) g.spans)

@@ -1,6 +1,7 @@
 use Rattle.std.proofs.Common.{arith}
 use Rattle.filter_parser.specs.Syntax.{view_set_pattern}
 use Rattle.filter_parser.proofs.Chains.{set_pattern_on, set_pattern_ends, map_one}
+use Rattle.filter_parser.proofs.Placing.{grown_more, spans_both, unkept}
 use Rattle.filter_parser.proofs.set_reader.parse_set_patterns.Goals as goal
 
 pub loop-after-preserved : goal.loop-after-preserved
@@ -8,6 +9,8 @@ loop-after-preserved c = record {
   goes = rw (c.in_ok-push-in-Ok.ensures.items, map_one view_set_pattern c.loop-after.all.items c.in-Ok.pattern)
       (set_pattern_on c.in-Some.ensures.found c.in-Ok.ensures.reads (omega (arith, c.in-Ok.ensures.shorter, c.in-Some.ensures.shorter))
       c.loop-after.invariant.goes);
+  grown = grown_more c.loop-after.invariant.grown (spans_both (unkept c.in-Some.ensures.placed) c.in-Ok.ensures.placed)
+      c.in_ok-push-in-Ok.ensures.items;
   shorter = omega (arith, c.in-Ok.ensures.shorter, c.in-Some.ensures.shorter);
 }
 

@@ -7,11 +7,11 @@ use Rattle.filter_parser.proofs.text.filter_of_tokens.Goals as goal
 pub returns-in-None-clause-found : goal.returns-in-None-clause-found
 returns-in-None-clause-found c =
     text_found c.args.text.now c.args.tokens.items (view_parts c.in-Ok.parts) c.requires.size (c.requires.cut c.in-None.is)
-    (rw (c.as_slice.ensures.value) at c.in-Ok.ensures)
+    (rw (c.as_slice.ensures.value) at c.in-Ok.ensures.reads)
 
 pub returns-in-None-clause-unique : goal.returns-in-None-clause-unique
 returns-in-None-clause-unique c = λ t is.
-    text_once c.args.text.now c.args.tokens.items (view_parts c.in-Ok.parts) t (rw (c.as_slice.ensures.value) at c.in-Ok.ensures) is
+    text_once c.args.text.now c.args.tokens.items (view_parts c.in-Ok.parts) t (rw (c.as_slice.ensures.value) at c.in-Ok.ensures.reads) is
     (c.requires.only t.tokens is.cut).1
 
 pub returns-in-Some-clause-refused : goal.returns-in-Some-clause-refused
@@ -22,6 +22,9 @@ returns-in-Some-clause-refused c = λ other t is.
 
 pub returns-in-Err-clause-refused : goal.returns-in-Err-clause-refused
 returns-in-Err-clause-refused c = λ other t is.
-    let none : filter_of (lexemes c.args.text.now c.args.tokens.items) ≡ None = rw (c.as_slice.ensures.value) at (c.in-Err.ensures other) in
+    let none : filter_of (lexemes c.args.text.now c.args.tokens.items) ≡ None = rw (c.as_slice.ensures.value) at (c.in-Err.ensures.reads other) in
     let some = text_only c.args.text.now c.args.tokens.items t is (c.requires.only t.tokens is.cut).1 in
     absurd (cc)
+
+pub returns-in-None-clause-placed : goal.returns-in-None-clause-placed
+returns-in-None-clause-placed c = rw (c.as_slice.ensures.value) at c.in-Ok.ensures.placed
