@@ -6,6 +6,10 @@ use Rattle.filter_tokens.specs.Lexemes.{Lexeme, lexemes}
 use Rattle.filter_tokens.specs.declared.symbol.Symbol.{Symbol}
 use Rattle.filter_tokens.specs.contracts.symbol.Symbol.{the_type}
 use Rattle.filter_tokens.specs.declared.token.Token.{Token}
+use Rattle.filter_tokens.specs.declared.fault.TokenFault.{TokenFault}
+use Rattle.filter_tokens.specs.declared.token_kind.TokenKind.{TokenKind}
+use Rattle.filter_tokens.specs.declared.token_kind.TokenKind.TheVariants as kind
+use Rattle.filter_parser.specs.declared.expected.Expected.{Expected}
 use Rattle.filter_parser.specs.declared.fault.ParseFault.{ParseFault}
 use Rattle.filter_parser.specs.declared.fault.ParseFault.TheVariants as fault
 use Rattle.filter_parser.specs.declared.input.Input.{Input}
@@ -55,6 +59,24 @@ ReadsAs view (Err e) read = e ≢ fault.Memory → read ≡ None
 abbrev pub Finds : {X A : Type 0} → (X → A) → Option X → Option A → Type 0
 Finds view None read = read ≡ None
 Finds view (Some x) read = read ≡ Some (view x)
+
+-- why there are no more tokens: the text ends, or goes on with no token
+abbrev pub end_fault_of : ℕ → Option TokenFault → ParseFault
+end_fault_of end None = fault.EndsEarly end
+end_fault_of end (Some found) = fault.Token found
+
+-- what is wrong at a token, where something else is expected
+abbrev pub unexpected_token : TokenKind → ℕ → Expected → ParseFault
+unexpected_token kind.Text at wanted = fault.TextElsewhere at
+unexpected_token _ at wanted = fault.Unexpected at wanted
+
+-- what is wrong at the first of the tokens that are left
+abbrev pub unexpected_of : ParseFault → List Token → Expected → ParseFault
+unexpected_of none [] wanted = none
+unexpected_of none (token ∷ tokens) wanted = unexpected_token token.kind token.from wanted
+
+abbrev pub unexpected : Input → Expected → ParseFault
+unexpected i wanted = unexpected_of (end_fault_of (length i.text.now) i.end) i.tokens.now wanted
 
 -- whether two symbols are the same
 abbrev pub same_symbol : Symbol → Symbol → Bool

@@ -1,4 +1,4 @@
-ghost use Rattle.std.specs.Prelude.{◌≡◌, ◌≢◌, ◌∷◌, ◌<◌, ℕ, List, [], Some, None, IfOk, IfSome, MatchOption, length};
+ghost use Rattle.std.specs.Prelude.{◌≡◌, ◌≢◌, ◌∷◌, ◌<◌, ℕ, List, [], Some, None, IfErr, IfOk, IfSome, MatchOption, length};
 ghost use Rattle.std.specs.Cmp.Lexicographic.{pointwise};
 ghost use Rattle.filter_tokens.specs.Lexemes as lexemes;
 ghost use Rattle.filter_parser.specs.Steps as spec;
@@ -64,7 +64,8 @@ impl<'a> Input<'a> {
 
     /// Why there are no more tokens.
     fn end_fault(self) -> ParseFault
-        ensures { result ≢ Memory }
+        ensures is { result ≡ spec.end_fault_of (length self.entry.text.now) self.entry.end }
+        ensures not_memory { result ≢ Memory }
     {
         match self.end {
             None => ParseFault::EndsEarly(self.text.len()),
@@ -74,7 +75,8 @@ impl<'a> Input<'a> {
 
     /// What is wrong at the first token, where something else is expected.
     pub fn unexpected(self, expected: Expected) -> ParseFault
-        ensures { result ≢ Memory }
+        ensures is { result ≡ spec.unexpected self.entry expected }
+        ensures not_memory { result ≢ Memory }
     {
         match self.tokens.first() {
             None => self.end_fault(),
@@ -104,6 +106,7 @@ impl<'a> Input<'a> {
         ensures reads { ReadsAs remaining result (after_symbol symbol (remaining self.entry)) }
         ensures shorter { IfOk result (λ rest. length (remaining rest) < length (remaining self.entry)) }
         ensures placed { IfOk result (λ rest. Spans (Some (first_place self.entry) ∷ []) self.entry rest) }
+        ensures refusal { IfErr result (λ why. why ≡ spec.unexpected self.entry expected) }
     {
         match self.eat(symbol) {
             Some(rest) => Ok(rest),
@@ -146,6 +149,7 @@ impl<'a> Input<'a> {
         ensures reads { ReadsAs (λ x. (x.0, remaining x.1)) result (number_first (remaining self.entry)) }
         ensures shorter { IfOk result (λ x. length (remaining x.1) < length (remaining self.entry)) }
         ensures placed { IfOk result (λ x. Spans (Some (first_place self.entry) ∷ []) self.entry x.1) }
+        ensures refusal { IfErr result (λ why. why ≡ spec.unexpected self.entry Expected.Number) }
     {
         let Some((first, rest)) = self.next() else {
             return Err(self.unexpected(Expected::Number));
@@ -161,6 +165,7 @@ impl<'a> Input<'a> {
         ensures reads { ReadsAs (λ x. (x.0, remaining x.1)) result (prefix_first (remaining self.entry)) }
         ensures shorter { IfOk result (λ x. length (remaining x.1) < length (remaining self.entry)) }
         ensures placed { IfOk result (λ x. Spans (Some (first_place self.entry) ∷ []) self.entry x.1) }
+        ensures refusal { IfErr result (λ why. why ≡ spec.unexpected self.entry Expected.Prefix) }
     {
         let Some((first, rest)) = self.next() else {
             return Err(self.unexpected(Expected::Prefix));

@@ -4,4 +4,5 @@ pub mod Kinds
 pub mod Table
 -- What only the bodies of this crate are proved against.
 pub mod Answers
+pub mod Refusals
 pub mod Turns

@@ -33,7 +33,7 @@ fn target_kind(
     }
 }
 
-/// Judges an operand where a kind is wanted.
+/// Judges an operand where a kind is expected.
 fn check_kind(operand: Operand, expected: Kind) -> Result<(), TypeFault>
     ensures { Judges result (operand.entry.kind ≡ expected) }
 {

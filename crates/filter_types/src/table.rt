@@ -1,7 +1,9 @@
 //! The kinds table: what each form takes, and what it gives.
 
-ghost use Rattle.std.specs.Prelude.{◌≡◌};
+ghost use Rattle.std.specs.Prelude.{◌≡◌, IfErr};
 ghost use Rattle.filter_types.specs.Answers.{AnswersKind};
+ghost use Rattle.filter_types.specs.Refusals.{arithmetic_refusal, equality_refusal, logic_refusal, operator_refusal};
+ghost use Rattle.filter_types.specs.Refusals.{order_refusal, suffix_refusal, within_refusal, wrong_kind};
 ghost use Rattle.filter_types.specs.Table.{arithmetic, attribute_kind, equality, in_set, logic};
 ghost use Rattle.filter_types.specs.Table.{negated, operator, order, suffixed_by, within};
 
@@ -16,15 +18,18 @@ pub(crate) struct Operand<'a> {
 }
 
 impl Operand<'_> {
-    /// The fault of an operand that has another kind than is wanted.
-    pub(crate) fn wrong_kind(self, expected: ExpectedKind) -> TypeFault {
+    /// The fault of an operand that has another kind than is expected.
+    pub(crate) fn wrong_kind(self, expected: ExpectedKind) -> TypeFault
+        ensures { result ≡ wrong_kind self.entry expected }
+    {
         TypeFault::WrongKind(self.expr.at(), expected, self.kind)
     }
 }
 
 /// `+ - * /`
 fn arithmetic(left: Operand, right: Operand) -> Result<Kind, TypeFault>
-    ensures { AnswersKind result (arithmetic left.entry.kind right.entry.kind) }
+    ensures kind { AnswersKind result (arithmetic left.entry.kind right.entry.kind) }
+    ensures refusal { IfErr result (λ why. why ≡ arithmetic_refusal left.entry right.entry) }
 {
     match (left.kind, right.kind) {
         (Kind::Int, Kind::Int) => Ok(Kind::Int),
@@ -35,7 +40,8 @@ fn arithmetic(left: Operand, right: Operand) -> Result<Kind, TypeFault>
 
 /// `= !=`
 fn equality(left: Operand, right: Operand) -> Result<Kind, TypeFault>
-    ensures { AnswersKind result (equality left.entry.kind right.entry.kind) }
+    ensures kind { AnswersKind result (equality left.entry.kind right.entry.kind) }
+    ensures refusal { IfErr result (λ why. why ≡ equality_refusal left.entry right.entry) }
 {
     match (left.kind, right.kind) {
         (Kind::Int, Kind::Int)
@@ -48,7 +54,8 @@ fn equality(left: Operand, right: Operand) -> Result<Kind, TypeFault>
 
 /// `< > <= >=`
 fn order(left: Operand, right: Operand) -> Result<Kind, TypeFault>
-    ensures { AnswersKind result (order left.entry.kind right.entry.kind) }
+    ensures kind { AnswersKind result (order left.entry.kind right.entry.kind) }
+    ensures refusal { IfErr result (λ why. why ≡ order_refusal left.entry right.entry) }
 {
     match (left.kind, right.kind) {
         (Kind::Int, Kind::Int) | (Kind::Ip, Kind::Ip) => Ok(Kind::Bool),
@@ -59,7 +66,8 @@ fn order(left: Operand, right: Operand) -> Result<Kind, TypeFault>
 
 /// `~ !~` between two operands
 fn within(left: Operand, right: Operand) -> Result<Kind, TypeFault>
-    ensures { AnswersKind result (within left.entry.kind right.entry.kind) }
+    ensures kind { AnswersKind result (within left.entry.kind right.entry.kind) }
+    ensures refusal { IfErr result (λ why. why ≡ within_refusal left.entry right.entry) }
 {
     match (left.kind, right.kind) {
         (Kind::Ip, Kind::Prefix) | (Kind::Prefix, Kind::Prefix) => Ok(Kind::Bool),
@@ -70,7 +78,8 @@ fn within(left: Operand, right: Operand) -> Result<Kind, TypeFault>
 
 /// `&& ||`
 fn logic(left: Operand, right: Operand) -> Result<Kind, TypeFault>
-    ensures { AnswersKind result (logic left.entry.kind right.entry.kind) }
+    ensures kind { AnswersKind result (logic left.entry.kind right.entry.kind) }
+    ensures refusal { IfErr result (λ why. why ≡ logic_refusal left.entry right.entry) }
 {
     match (left.kind, right.kind) {
         (Kind::Bool, Kind::Bool) => Ok(Kind::Bool),
@@ -81,7 +90,8 @@ fn logic(left: Operand, right: Operand) -> Result<Kind, TypeFault>
 
 /// An operator between two operands.
 pub(crate) fn operator(op: Op, left: Operand, right: Operand) -> Result<Kind, TypeFault>
-    ensures { AnswersKind result (operator op left.entry.kind right.entry.kind) }
+    ensures kind { AnswersKind result (operator op left.entry.kind right.entry.kind) }
+    ensures refusal { IfErr result (λ why. why ≡ operator_refusal op left.entry right.entry) }
 {
     match op {
         Op::Add | Op::Sub | Op::Mul | Op::Div => arithmetic(left, right),
@@ -94,7 +104,8 @@ pub(crate) fn operator(op: Op, left: Operand, right: Operand) -> Result<Kind, Ty
 
 /// `!`
 pub(crate) fn negated(operand: Operand) -> Result<Kind, TypeFault>
-    ensures { AnswersKind result (negated operand.entry.kind) }
+    ensures kind { AnswersKind result (negated operand.entry.kind) }
+    ensures refusal { IfErr result (λ why. why ≡ wrong_kind operand.entry ExpectedKind.Bool) }
 {
     match operand.kind {
         Kind::Bool => Ok(Kind::Bool),
@@ -104,7 +115,8 @@ pub(crate) fn negated(operand: Operand) -> Result<Kind, TypeFault>
 
 /// `~ !~` with a set
 pub(crate) fn in_set(operand: Operand) -> Result<Kind, TypeFault>
-    ensures { AnswersKind result (in_set operand.entry.kind) }
+    ensures kind { AnswersKind result (in_set operand.entry.kind) }
+    ensures refusal { IfErr result (λ why. why ≡ wrong_kind operand.entry ExpectedKind.Prefix) }
 {
     match operand.kind {
         Kind::Prefix => Ok(Kind::Bool),
@@ -114,7 +126,8 @@ pub(crate) fn in_set(operand: Operand) -> Result<Kind, TypeFault>
 
 /// `.ip`, `.len` and `.mask(n)`
 pub(crate) fn suffixed_by(suffix: Suffix, operand: Operand) -> Result<Kind, TypeFault>
-    ensures { AnswersKind result (suffixed_by suffix operand.entry.kind) }
+    ensures kind { AnswersKind result (suffixed_by suffix operand.entry.kind) }
+    ensures refusal { IfErr result (λ why. why ≡ suffix_refusal suffix operand.entry) }
 {
     match (suffix, operand.kind) {
         (Suffix::Ip, Kind::Prefix) => Ok(Kind::Ip),

@@ -1,0 +1,82 @@
+-- What the kinds table says of operands that it does not take: which of them is blamed, and what is expected there. The left
+-- operand is judged first; where each could stand but the two differ, the right one is blamed. (This project's own choice.)
+use Rattle.std.specs.Prelude.{Bool, true, false, if◌then◌else◌}
+use Rattle.filter_parser.specs.Places.{expr_place}
+use Rattle.filter_parser.specs.declared.tree.decl.Kind.{Kind}
+use Rattle.filter_parser.specs.declared.tree.decl.Kind.TheVariants as kind
+use Rattle.filter_parser.specs.declared.tree.op.Op.{Op}
+use Rattle.filter_parser.specs.declared.tree.op.Op.TheVariants as o
+use Rattle.filter_parser.specs.declared.tree.op.Suffix.{Suffix}
+use Rattle.filter_parser.specs.declared.tree.op.Suffix.TheVariants as suffix
+use Rattle.filter_types.specs.Codes.{expected_of}
+use Rattle.filter_types.specs.declared.fault.ExpectedKind.{ExpectedKind}
+use Rattle.filter_types.specs.declared.fault.ExpectedKind.TheVariants as expected
+use Rattle.filter_types.specs.declared.fault.TypeFault.{TypeFault}
+use Rattle.filter_types.specs.declared.fault.TypeFault.TheVariants as fault
+use Rattle.filter_types.specs.declared.table.Operand.{Operand}
+
+-- the operand at its place has another kind than is expected
+abbrev pub wrong_kind : Operand → ExpectedKind → TypeFault
+wrong_kind operand wanted = fault.WrongKind (expr_place operand.expr.now) wanted operand.kind
+
+-- the kinds that the left side of a form takes
+abbrev pub is_int : Kind → Bool
+is_int kind.Int = true
+is_int _ = false
+
+abbrev pub is_bool : Kind → Bool
+is_bool kind.Bool = true
+is_bool _ = false
+
+abbrev pub is_ordered : Kind → Bool
+is_ordered kind.Int = true
+is_ordered kind.Ip = true
+is_ordered _ = false
+
+abbrev pub is_within : Kind → Bool
+is_within kind.Ip = true
+is_within kind.Prefix = true
+is_within _ = false
+
+-- `+ - * /`
+abbrev pub arithmetic_refusal : Operand → Operand → TypeFault
+arithmetic_refusal left right = if is_int left.kind then wrong_kind right expected.Int else wrong_kind left expected.Int
+
+-- `= !=`
+abbrev pub equality_refusal : Operand → Operand → TypeFault
+equality_refusal left right = wrong_kind right (expected_of left.kind)
+
+-- `< > <= >=`
+abbrev pub order_refusal : Operand → Operand → TypeFault
+order_refusal left right = if is_ordered left.kind then wrong_kind right (expected_of left.kind) else wrong_kind left expected.IntOrIp
+
+-- `~ !~` between two operands
+abbrev pub within_refusal : Operand → Operand → TypeFault
+within_refusal left right = if is_within left.kind then wrong_kind right expected.Prefix else wrong_kind left expected.IpOrPrefix
+
+-- `&& ||`
+abbrev pub logic_refusal : Operand → Operand → TypeFault
+logic_refusal left right = if is_bool left.kind then wrong_kind right expected.Bool else wrong_kind left expected.Bool
+
+-- the row of each operator between two operands
+abbrev pub operator_refusal : Op → Operand → Operand → TypeFault
+operator_refusal o.Add = arithmetic_refusal
+operator_refusal o.Sub = arithmetic_refusal
+operator_refusal o.Mul = arithmetic_refusal
+operator_refusal o.Div = arithmetic_refusal
+operator_refusal o.Equal = equality_refusal
+operator_refusal o.NotEqual = equality_refusal
+operator_refusal o.Less = order_refusal
+operator_refusal o.Greater = order_refusal
+operator_refusal o.LessEqual = order_refusal
+operator_refusal o.GreaterEqual = order_refusal
+operator_refusal o.Match = within_refusal
+operator_refusal o.NotMatch = within_refusal
+operator_refusal o.And = logic_refusal
+operator_refusal o.Or = logic_refusal
+
+-- `.ip`, `.len` and `.mask(n)`
+abbrev pub suffix_refusal : Suffix → Operand → TypeFault
+suffix_refusal suffix.Ip operand = wrong_kind operand expected.Prefix
+suffix_refusal suffix.Len operand = wrong_kind operand expected.Prefix
+suffix_refusal (suffix.Mask n) operand = wrong_kind operand expected.Ip
