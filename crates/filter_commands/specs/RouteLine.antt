@@ -1,7 +1,9 @@
 -- What a route line says (this project's own choice).
-use Rattle.std.specs.Prelude.{ℕ, Bool, List, [], ◌∷◌, length, Option, Some, None, Result, Ok, Err, nat_lt, if◌then◌else◌, codes}
+use Rattle.std.specs.Prelude.{◌≡◌, ◌≢◌, ◌<◌, ◌≤◌, ℕ, Bool, List, [], ◌∷◌, length, Option, Some, None, Result, Ok, Err, nat_lt, if◌then◌else◌, codes}
+use Rattle.prefix_patterns.specs.Number.{IsNumber, decimal_value}
 use Rattle.prefix_patterns.specs.Reading.{number_in, prefix_in}
-use Rattle.filter_code.specs.RouteView.{RouteView, is_within_limits}
+use Rattle.prefix_patterns.specs.Token.{IsPrefix}
+use Rattle.filter_code.specs.RouteView.{IsWithinLimits, RouteView, is_within_limits}
 use Rattle.line_protocol.specs.Words.{words}
 use Rattle.line_protocol.specs.Limits.{line_limit}
 use Rattle.filter_commands.specs.Limits.{number_limit}
@@ -39,3 +41,34 @@ route_of_words (Some (net, metric, size)) = route_of_parts (prefix_in net) (numb
 -- the route that a line gives, `PREFIX METRIC SIZE`
 abbrev pub route_in : List ℕ → Result RouteView LineFault
 route_in line = if nat_lt line_limit (length line) then Err TooLong else route_of_words (three_of (words line))
+
+-- The three words of a line within the limit.
+pub record HasThreeWords (line first second third : List ℕ) : Type 0 where
+  pub within : length line ≤ line_limit
+  pub are : words line ≡ first ∷ second ∷ third ∷ []
+
+-- The numbers of a metric and of a size: each is in decimal digits and at most 65,535, and they are within their limits.
+pub record AreNumbers (metric size : List ℕ) : Type 0 where
+  pub is_metric : IsNumber number_limit metric
+  pub is_size : IsNumber number_limit size
+  pub limits : IsWithinLimits (decimal_value metric) (decimal_value size)
+
+-- A line gives this route: its three words are the route's prefix, its metric and its size.
+pub record IsRouteLine (line : List ℕ) (route : RouteView) : Type 0 where
+  pub first : List ℕ
+  pub second : List ℕ
+  pub third : List ℕ
+  pub three : HasThreeWords line first second third
+  pub prefix : IsPrefix first route.net
+  pub numbers : AreNumbers second third
+  pub metric : route.metric ≡ decimal_value second
+  pub size : route.size ≡ decimal_value third
+
+-- Why a line gives no route: the first of these that holds.
+abbrev pub IsLineFault : List ℕ → LineFault → Type 0
+IsLineFault line TooLong = line_limit < length line
+IsLineFault line Words = (length line ≤ line_limit) × (length (words line) ≢ 3)
+IsLineFault line Prefix = (first : List ℕ) × (second : List ℕ) × (third : List ℕ) × HasThreeWords line first second third
+    × ((bits : List Bool) → IsPrefix first bits → ⊥)
+IsLineFault line Numbers = (first : List ℕ) × (second : List ℕ) × (third : List ℕ) × HasThreeWords line first second third
+    × ((bits : List Bool) × IsPrefix first bits) × ¬ AreNumbers second third
