@@ -1,0 +1,5 @@
+//! Tests of the router: its tables, its journal and replay.
+#![tactic(auto)]
+
+#[cfg(test)]
+mod history_tests;
