@@ -2,10 +2,10 @@
 # Builds the proved programs and the plain one, checks that they answer the same, and prints their times and ratios:
 # first of `ncroute eval` as a whole, then of the machines alone.
 #
-# usage: bench/run.sh [eval|machines|instructions]     (without a word: eval and machines)
+# usage: bench/run.sh [eval|machines|instructions|router]     (without a word: eval and machines)
 #   instructions counts instructions of the machines with valgrind, in place of their time
 #   NCROUTE=PATH       a proved `ncroute` that is built already: then none is built here
-#   FILTER_BENCH=PATH  the same for `filter_bench`
+#   FILTER_BENCH=PATH  the same for `filter_bench`, and ROUTER_BENCH=PATH for `router_bench`
 #   ROUNDS=N           how often each program is run on each input (7)
 #   ROUTES=N           the number of route lines of each input of `eval` (200,000, of straight_filter 100,000)
 set -eu
@@ -38,7 +38,20 @@ if [ "$wanted" = both ] || [ "$wanted" = eval ]; then
     "$bench/compare.py" "$NCROUTE" "$folder/plain" "${ROUNDS:-7}" "${inputs[@]}"
 fi
 
-if [ "$wanted" != eval ]; then
+if [ "$wanted" = router ]; then
+    if [ -z "${ROUTER_BENCH:-}" ]; then
+        build router_bench tables 0
+        ROUTER_BENCH="$bench/../crates/router_bench/out/router_bench"
+    fi
+    inputs=()
+    for size in 16 64; do
+        for kind_rounds in changes=25000 no_changes=11000 show=62000 down_up=40000 imports=99000; do
+            "$bench/events.py" "${kind_rounds%=*}" "$size" >"$folder/${kind_rounds%=*}_$size"
+            inputs+=("$folder/${kind_rounds%=*}_$size=$((${kind_rounds#*=} * 16 / size))")
+        done
+    done
+    "$bench/router.py" "$ROUTER_BENCH" "$folder/plain" "${ROUNDS:-7}" "${inputs[@]}"
+elif [ "$wanted" != eval ]; then
     if [ -z "${FILTER_BENCH:-}" ]; then
         build filter_bench verified 0
         FILTER_BENCH="$bench/../crates/filter_bench/out/filter_bench"
