@@ -9,6 +9,8 @@ mod calls;
 #[cfg(test)]
 mod filters;
 #[cfg(test)]
+mod history;
+#[cfg(test)]
 mod lines;
 #[cfg(test)]
 mod verification;

@@ -1,0 +1,76 @@
+//! A journal and its replay, with memory and without.
+
+use netchange_core::{Event, Message, Messages, Opening, Reply};
+use prefix_patterns::{Ip, Prefix};
+use route_history::{CallFault, Journal, ReplayFault, replay};
+use std::alloc::Global;
+use std::process::Abort;
+use std::test::Fail;
+
+/// Node 0 of a domain of two nodes.
+fn opening(alloc: Global) -> Result<Opening, Fail> {
+    let near = Prefix::new(Ip(0x0a00_0000), 16).ok_or("a prefix")?;
+    let far = Prefix::new(Ip(0x0a01_0000), 16).ok_or("a prefix")?;
+    Ok(Opening::new(2, 0, vec![in alloc; near, far]?).ok_or("an opening")?)
+}
+
+/// The event at a place of the history.
+fn event(at: u32) -> Event {
+    match at {
+        0 => Event::Up(1),
+        1 => Event::Receive(1, 1, 0),
+        _ => Event::Take(1, 9),
+    }
+}
+
+/// Asserts that the event at a place was entered there, with the reply that it has with ample memory.
+fn expect_answer(
+    rt: &impl Abort,
+    alloc: Global,
+    at: u32,
+    answer: (u32, Reply),
+) -> Result<(), Fail> {
+    let told = [(0, 0), (1, 2), (1, 1)];
+    let wanted = match at {
+        0 => Reply::Opened(1),
+        1 => Reply::Done { changed: 1 },
+        _ => {
+            let mut items = Vec::new(alloc);
+            for (dest, dist) in told {
+                items.push(Message { dest, dist })?;
+            }
+            Reply::Messages(Messages::from_vec(items))
+        }
+    };
+    assert_eq!(rt; answer.0, at);
+    assert!(rt; answer.1.is_same(&wanted));
+    Ok(())
+}
+
+#[test]
+fn an_event_is_entered_or_j2_and_the_journal_stays(rt: HostRuntime) -> Result<(), Fail> {
+    let alloc = rt.alloc();
+    let mut journal = Journal::open(alloc, opening(alloc)?, 3)?;
+    for at in 0..3 {
+        match journal.apply(event(at)) {
+            Ok(answer) => expect_answer(&rt, alloc, at, answer)?,
+            Err(fault) => {
+                assert_eq!(rt; fault, CallFault::Memory);
+                assert_eq!(rt; (fault.code(), fault.at()), ("J2", 0));
+                assert_eq!(rt; journal.entries().len(), at as usize);
+                expect_answer(&rt, alloc, at, journal.apply(event(at))?)?;
+                return Err(Fail::from(fault));
+            }
+        }
+    }
+    match replay(alloc, journal.opening(), journal.entries()) {
+        Ok(tables) => assert_eq!(rt; tables.session(1), 1),
+        Err(fault) => {
+            assert_eq!(rt; fault, ReplayFault::Memory);
+            let tables = replay(alloc, journal.opening(), journal.entries())?;
+            assert_eq!(rt; tables.session(1), 1);
+            return Err(Fail::from(fault));
+        }
+    }
+    Ok(())
+}
