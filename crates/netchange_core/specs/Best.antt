@@ -36,9 +36,13 @@ nearest size distances =
 unfoldable pub best_by : OpeningView → ℕ → List ℕ → BestRoute
 best_by o v distances = if v == o.me then route_of 0 Local else nearest o.size distances
 
+-- how far a node is from each neighbour
+abbrev pub neighbour_distances : World → ℕ → List ℕ
+neighbour_distances w v = map (neighbour_distance w.opening v) w.neighbours
+
 -- the best route to a node
 abbrev pub best : World → ℕ → BestRoute
-best w v = best_by w.opening v (map (neighbour_distance w.opening v) w.neighbours)
+best w v = best_by w.opening v (neighbour_distances w v)
 
 -- its distance
 abbrev pub distance : World → ℕ → ℕ

@@ -9,6 +9,7 @@ mod event;
 mod filter;
 mod filters;
 mod handle;
+mod laws;
 mod message;
 mod neighbour;
 mod opening;
@@ -22,6 +23,7 @@ mod telling;
 mod up;
 
 pub use event::Event;
+pub use laws::best_route_leads;
 pub use message::{Message, Messages};
 pub use opening::Opening;
 pub use reply::{Refusal, Reply, Via};

@@ -3,3 +3,5 @@
 
 #[cfg(test)]
 mod history_tests;
+#[cfg(test)]
+mod netchange_core_tests;
