@@ -300,14 +300,23 @@ fn reads_up_to_the_limit(rt: HostRuntime) {
 }
 
 #[test]
-fn hands_on_a_long_line(rt: HostRuntime) -> Result<(), Fail> {
-    let mut input = vec![in rt.alloc(); b'x'; LINE_LIMIT + 1]?;
-    input.extend_from_slice(b"\r\nb\n")?;
-    let mut reader = make_pieces(input.as_slice(), 5000, false);
-    let mut out = make_sink(100_000, 10_000_000);
-    let refused = answer_lines(rt.alloc(), &mut reader, &mut out, &mut Echo)?;
-    assert_eq!(rt; refused, 0);
-    assert_eq!(rt; out.len, LINE_LIMIT + 1 + 3 + 4);
+fn hands_on_long_lines(rt: HostRuntime) -> Result<(), Fail> {
+    for len in [
+        1000,
+        65_535,
+        65_536,
+        65_537,
+        300_000,
+        LINE_LIMIT,
+        LINE_LIMIT + 1,
+    ] {
+        let mut input = vec![in rt.alloc(); b'x'; len]?;
+        input.extend_from_slice(b"\r\nb\n")?;
+        let mut reader = make_pieces(input.as_slice(), 5000, false);
+        let mut out = make_sink(100_000, 10_000_000);
+        let refused = answer_lines(rt.alloc(), &mut reader, &mut out, &mut Echo)?;
+        assert_eq!(rt; (refused, out.len), (0, len + 3 + 4));
+    }
     Ok(())
 }
 

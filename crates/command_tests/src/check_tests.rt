@@ -51,8 +51,16 @@ fn filters_are_compiled_and_verified(rt: HostRuntime) -> Result<(), Fail> {
             true,
             want.as_str(),
         )?;
-        let want = format!(in alloc; "code {}\nrefused V8 0\n", row.file)?;
-        expect_lines(&rt, alloc, row.text.as_bytes(), 1, false, want.as_str())?;
+    }
+    Ok(())
+}
+
+#[test]
+fn domains_have_2_to_64_nodes(rt: HostRuntime) -> Result<(), Fail> {
+    let want = "code 4e434631000000027071\nrefused V8 0\n";
+    for size in [0, 1, 65, 250, u32::MAX] {
+        expect_lines(&rt, rt.alloc(), b"filter q { accept; }", size, false, want)?;
+        expect_lines(&rt, rt.alloc(), b"4e434631000000027071", size, true, want)?;
     }
     Ok(())
 }
