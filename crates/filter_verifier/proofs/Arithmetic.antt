@@ -1,5 +1,6 @@
 -- Ints and ranges: what arithmetic on numbers in ranges gives lies in the range that is known of it.
-use Rattle.std.proofs.Common.{◌≡◌, ℕ, ◌+◌, ◌-◌, ◌*◌, ◌/◌, ◌%◌, ◌^◌, ◌<◌, ◌≤◌, max, Bool, true, false, ◌||◌, ◌&&◌, refl, subst, mul_comm, arith}
+use Rattle.std.proofs.Common.{◌≡◌, ℕ, ◌+◌, ◌-◌, ◌*◌, ◌/◌, ◌%◌, ◌^◌, ◌<◌, ◌≤◌, max, Bool, true, false, ◌||◌, ◌&&◌, refl, subst}
+use Rattle.std.proofs.Common.{mul_comm, arith}
 use Rattle.std.specs.Prelude.{nat_lt, nat_le}
 use Rattle.std.proofs.Math.Nat.{div-mul-le_self, div-le_self}
 use Rattle.std.proofs.lemmas.Bool.{cond_both}
@@ -9,6 +10,8 @@ use Rattle.filter_verifier.specs.PairwiseJoin.{join_two_ranges}
 use Rattle.filter_verifier.specs.Ranges.{RangeView, any_number, range_in, range_of_difference, range_of_greater}
 use Rattle.filter_verifier.specs.Ranges.{range_of_length, range_of_metric, range_of_number, range_of_product}
 use Rattle.filter_verifier.specs.Ranges.{range_of_quotient, range_of_sum}
+use Rattle.filter_code.specs.Limits.{largest_size}
+use Rattle.prefix_patterns.specs.Bits.{address_length}
 
 -- an int lies in a range, where so much was received
 pub record InRange (received : ℕ) (span : RangeView) (x : ℕ) : Type 0 where
@@ -53,12 +56,12 @@ pub number_fits : (received size k : ℕ) → received ≤ size → k < 2 ^ 32 �
 number_fits received size k limit narrow =
     spanning_fits received size k k false k limit (omega arith) (omega arith) narrow (no_mark received k)
 
-pub metric_fits : (received size metric : ℕ) → size ≤ 64 → received ≤ metric → metric ≤ size →
+pub metric_fits : (received size metric : ℕ) → size ≤ largest_size → received ≤ metric → metric ≤ size →
     InRange received (range_of_metric size) metric
 metric_fits received size metric small least most =
     spanning_fits received size 0 size true metric (omega arith) (omega arith) most (omega arith) (λ _. least)
 
-pub length_fits : (received size n : ℕ) → received ≤ size → n ≤ 32 → InRange received (range_of_length size) n
+pub length_fits : (received size n : ℕ) → received ≤ size → n ≤ address_length → InRange received (range_of_length size) n
 length_fits received size n limit most =
     spanning_fits received size 0 32 false n limit (omega arith) most (omega arith) (no_mark received n)
 

@@ -1,5 +1,6 @@
 -- The costs of instructions, from the last one back.
-use Rattle.std.proofs.Common.{◌≡◌, ℕ, zero, suc, ◌+◌, ◌-◌, ◌≤◌, ◌<◌, List, [], ◌∷◌, length, take, drop, get_or, sym, ◌∙◌, ap, subst, arith, add-one, length-drop}
+use Rattle.std.proofs.Common.{◌≡◌, ℕ, zero, suc, ◌+◌, ◌-◌, ◌≤◌, ◌<◌, List, [], ◌∷◌, length, take, drop, get_or, sym, ◌∙◌, ap}
+use Rattle.std.proofs.Common.{subst, arith, add-one, length-drop}
 use Rattle.std.proofs.Math.Seq.{take-length, drop-cons}
 use Rattle.std.specs.Prelude.{slice_index}
 use Rattle.filter_code.specs.declared.instruction.Instr.{Instr}
@@ -21,7 +22,7 @@ costs_below (i ∷ instrs) (suc k) = let rest = costs_below instrs k in omega ar
 pub greatest_is_below : (instrs : List Instr) (offsets : List ℕ) → greatest_at (costs instrs) offsets ≤ length instrs
 greatest_is_below instrs offsets = greatest_below (costs instrs) offsets (length instrs) (costs_below instrs)
 
--- the costs behind a place, as a slice
+-- the costs after a place, as a slice
 sliced : (all : List ℕ) (instrs : List Instr) (at from : ℕ) → from ≡ at → drop at all ≡ costs (drop at instrs) →
     take (length all - from) (drop from all) ≡ costs (drop at instrs)
 sliced all instrs at from same known =
@@ -29,7 +30,7 @@ sliced all instrs at from same known =
     let whole : take (length all - at) (drop at all) ≡ drop at all = rw (← length-drop at all) (take-length (drop at all)) in
     subst P (sym same) (whole ∙ known)
 
--- the costs behind a place are at most the number of instructions
+-- the costs after a place are at most the number of instructions
 pub sliced_below : (all : List ℕ) (instrs : List Instr) (at from : ℕ) (offsets : List ℕ) → from ≡ at →
     drop at all ≡ costs (drop at instrs) → greatest_at (take (length all - from) (drop from all)) offsets ≤ length instrs
 sliced_below all instrs at from offsets same known =
@@ -37,7 +38,7 @@ sliced_below all instrs at from offsets same known =
     let P : List ℕ → Type 0 = λ xs. greatest_at xs offsets ≤ length instrs in
     subst P (sym (sliced all instrs at from same known)) (omega (arith, small, length-drop at instrs))
 
--- the cost at a place, from those behind it
+-- the cost at a place, from those after it
 pub costs_at : (all : List ℕ) (instrs : List Instr) (at from : ℕ) (i : Instr) (offsets : List ℕ) → from ≡ at + 1 →
     at < length instrs → i ≡ get_or instrs at i → offsets ≡ leads i →
     drop (at + 1) all ≡ costs (drop (at + 1) instrs) →

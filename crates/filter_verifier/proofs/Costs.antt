@@ -1,6 +1,7 @@
 -- The bounds by their sentences: a cost is one more than the greatest cost of those that may follow, and a peak the height
 -- or the greatest peak of those that may follow.
-use Rattle.std.proofs.Common.{map, ◌≡◌, ℕ, zero, suc, ◌+◌, ◌<◌, ◌≤◌, ◌==◌, max, ◌||◌, ◌⊎◌, inl, inr, Bool, true, false, Option, Some, None, List, [], ◌∷◌, length, refl, ap, sym, ◌∙◌, subst, arith, zero-add}
+use Rattle.std.proofs.Common.{map, ◌≡◌, ℕ, zero, suc, ◌+◌, ◌<◌, ◌≤◌, ◌==◌, max, ◌||◌, ◌⊎◌, inl, inr, Bool, true, false, Option}
+use Rattle.std.proofs.Common.{Some, None, List, [], ◌∷◌, length, refl, ap, sym, ◌∙◌, subst, arith, zero-add}
 use Rattle.std.specs.Prelude.{nat_lt, slice_get, slice_index, slice_index_or}
 use Rattle.std.proofs.lemmas.Bool.{and_parts}
 use Rattle.std.proofs.lemmas.Bool.Decides.{nat_tests}
@@ -160,7 +161,7 @@ peak_falls instrs at target height (Some i) e led =
     let has = highest_has instrs at target (leads i) (height_after i height) led in
     omega arith
 
--- no instruction stands past the end
+-- there is no instruction past the end
 pub none_past : (instrs : List Instr) (at : ℕ) → slice_get instrs at ≡ None → length instrs ≤ at
 none_past [] at e = omega arith
 none_past (i ∷ instrs) zero e = cc

@@ -1,5 +1,6 @@
 -- The greatest height at any index is the peak of the code, and no more than the stack holds.
-use Rattle.std.proofs.Common.{◌≡◌, ℕ, zero, suc, ◌+◌, ◌<◌, ◌≤◌, ◌==◌, ◌||◌, inl, inr, max, Bool, true, false, Option, Some, None, List, [], ◌∷◌, length, refl, ap, sym, subst, arith}
+use Rattle.std.proofs.Common.{◌≡◌, ℕ, zero, suc, ◌+◌, ◌<◌, ◌≤◌, ◌==◌, ◌||◌, inl, inr, max, Bool, true, false, Option, Some}
+use Rattle.std.proofs.Common.{None, List, [], ◌∷◌, length, refl, ap, sym, subst, arith}
 use Rattle.std.specs.Prelude.{slice_get}
 use Rattle.std.proofs.lemmas.Bool.{cond_both}
 use Rattle.std.proofs.lemmas.Bool.Decides.{nat_tests}
@@ -23,11 +24,12 @@ use Rattle.filter_verifier.proofs.Sound.{none_refused, lead_on_from, faultless}
 use Rattle.filter_verifier.specs.Pass.{as_in_state, entry_state}
 use Rattle.filter_verifier.specs.AbstractFrameView.{AbstractFrameView}
 use Rattle.filter_verifier.proofs.Propagation.{joined_at_entry, joined_next}
+use Rattle.filter_code.specs.Limits.{stack_limit}
 
--- what arrives at an index goes no higher from there than the code from its beginning, and fits
+-- from the in-state of an index the stack gets no deeper than from the first instruction, and it fits
 pub record IsLow (instrs : List Instr) (index height : ℕ) : Type 0 where
   pub peak : peak instrs index height ≤ peak instrs 0 0
-  pub fits : height ≤ 32
+  pub fits : height ≤ stack_limit
 
 abbrev ArrivesLow : List Instr → ℕ → InStateView → Type 0
 ArrivesLow instrs index (Known frame) = IsLow instrs index (length frame.stack)
@@ -91,7 +93,7 @@ height_low instrs index (Known frame) low =
     let least = peak_least instrs index (length frame.stack) (slice_get instrs index) refl in
     omega (arith, low.peak)
 
-height_fits : (instrs : List Instr) (index : ℕ) (a : InStateView) → ArrivesLow instrs index a → height_of a ≤ 32
+height_fits : (instrs : List Instr) (index : ℕ) (a : InStateView) → ArrivesLow instrs index a → height_of a ≤ stack_limit
 height_fits instrs index Unreached low = omega arith
 height_fits instrs index UnlikeDepths low = omega arith
 height_fits instrs index (Known frame) low = low.fits
@@ -141,7 +143,7 @@ height_next program size at target height next passed later led h =
     arrives_at program size (HasHeight height) (height_left height)
     (λ a b w v p. height_right height a b p) at target next passed later led h
 
--- from an index that arrives at a height, the peak is no more than any bound on all heights
+-- from an index whose stack has a height, the peak is at most any bound on all heights
 module _ (program : CodeView) (size limit : ℕ) (none : first_fault program size (length program.instrs) ≡ None)
     (each : (k : ℕ) → k < length program.instrs → height_of (in_state program size k) ≤ limit) where
   peak_found : (at height : ℕ) (found : Option Instr) → slice_get program.instrs at ≡ found → at < length program.instrs →
@@ -203,7 +205,7 @@ depth_is program size e =
     omega arith
 
 -- and no more than the stack holds
-pub depth_limit : (program : CodeView) (size : ℕ) → the_fault program size ≡ None → peak program.instrs 0 0 ≤ 32
+pub depth_limit : (program : CodeView) (size : ℕ) → the_fault program size ≡ None → peak program.instrs 0 0 ≤ stack_limit
 depth_limit program size e =
     let good = faultless program size e in
     peak_bounded program size 32 good.none

@@ -9,7 +9,7 @@ use Rattle.filter_verifier.specs.FirstFault.{first_fault, the_fault}
 use Rattle.filter_verifier.specs.InStates.{incoming}
 use Rattle.filter_verifier.specs.Bounds.{cost, peak}
 
--- what is not known of instructions with one local variable and one empty set, in a network of a size
+-- the fault of instructions with one local variable and one empty set, in a domain of a size
 abbrev fault_at : ℕ → List Instr → Option VerifyFault
 fault_at size instrs =
     let program : CodeView = record { locals = 1; sets = [] ∷ []; instrs = instrs } in

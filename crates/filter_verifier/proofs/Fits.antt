@@ -7,22 +7,25 @@ use Rattle.filter_code.specs.declared.outcome.FaultKind.{FaultKind}
 use Rattle.filter_code.specs.declared.value.Kind.{Kind}
 use Rattle.filter_code.specs.declared.value.Value.{Value}
 use Rattle.filter_code.specs.declared.value.Value.TheVariants as value
-use Rattle.filter_code.specs.Table.{Frame, Source, Nowhere, Top, TopTwo, Local, Operands, Zero, One, Two, Drawn, Bad, Good, each_is, both_are, is_int, is_bool, is_ip, is_prefix, are_alike, are_ordered, are_nested, fits_kinds, names_exist, one_of, two_of, value_in, taken, passing, source_of, draw}
+use Rattle.filter_code.specs.Table.{Frame, Source, Nowhere, Top, TopTwo, Local, Operands, Zero, One, Two, Drawn, Bad, Good}
+use Rattle.filter_code.specs.Table.{each_is, both_are, is_int, is_bool, is_ip, is_prefix, are_alike, are_ordered, are_nested}
+use Rattle.filter_code.specs.Table.{fits_kinds, names_exist, one_of, two_of, value_in, taken, passing, source_of, draw}
 use Rattle.filter_code.specs.Values.{kind_of}
 use Rattle.filter_verifier.specs.declared.fact.Fact.{Fact}
 use Rattle.filter_verifier.specs.declared.fact.Fact.TheVariants as fact
 use Rattle.filter_verifier.specs.Facts.{kind_of_fact}
 use Rattle.filter_verifier.proofs.Arithmetic.{InRange}
+use Rattle.prefix_patterns.specs.Bits.{address_length}
 
 -- a value is as is known of it, where so much was received
 abbrev pub IsAs : ℕ → Value → Fact → Type 0
 IsAs received (value.Int x) (fact.Int span) = InRange received span x
 IsAs received (value.Bool b) fact.Bool = Unit {0}
 IsAs received (value.Addr a) fact.Ip = Unit {0}
-IsAs received (value.Net bits) fact.Prefix = length bits ≤ 32
+IsAs received (value.Net bits) fact.Prefix = length bits ≤ address_length
 IsAs received _ _ = ⊥
 
--- what stands at a place is as is known of it: where nothing is known, anything or nothing
+-- the value at a place is as is known of it: if nothing is known, any value or none
 abbrev pub PlaceIsAs : ℕ → Option Value → Option Fact → Type 0
 PlaceIsAs received place None = Unit {0}
 PlaceIsAs received None (Some f) = ⊥
@@ -110,7 +113,7 @@ local_is received (None ∷ locals) (Some f ∷ known) zero stack facts p q = ab
 local_is received (v ∷ locals) (None ∷ known) zero stack facts p q = tt
 local_is received (v ∷ locals) (f ∷ known) (suc index) stack facts p q = local_is received locals known index stack facts p.1 q
 
--- what stands at a source
+-- the operands at a source
 one_is : (received : ℕ) (stack : List Value) (facts : List Fact) → Pairwise (IsAs received) stack facts →
     DrawnAre received (one_of stack) (one_of facts)
 one_is received stack [] p = tt

@@ -1,9 +1,10 @@
 -- What an instruction gives is as is known of it, and it has no fault of which its operands are not known to be free.
-use Rattle.std.proofs.Common.{◌≡◌, ℕ, zero, suc, ◌+◌, ◌-◌, ◌*◌, ◌/◌, ◌%◌, ◌^◌, ◌<◌, ◌≤◌, ◌==◌, max, not, Bool, true, false, Option, Some, None, List, [], length, refl, arith}
+use Rattle.std.proofs.Common.{◌≡◌, ℕ, zero, suc, ◌+◌, ◌-◌, ◌*◌, ◌/◌, ◌%◌, ◌^◌, ◌<◌, ◌≤◌, ◌==◌, max, not, Bool, true, false}
+use Rattle.std.proofs.Common.{Option, Some, None, List, [], length, refl, arith}
 use Rattle.std.specs.Prelude.{nat_lt, nat_le, option_and_then, slice_get, unwrap_or}
 use Rattle.std.specs.Option.{option_map}
 use Rattle.std.proofs.lemmas.Bool.Decides.{nat_tests}
-use Rattle.prefix_patterns.specs.Bits.{address_of}
+use Rattle.prefix_patterns.specs.Bits.{address_of, address_length}
 use Rattle.prefix_patterns.specs.Matching.{lies_within, matches_any}
 use Rattle.filter_code.specs.declared.instruction.Instr.{Instr}
 use Rattle.filter_code.specs.declared.instruction.Instr.TheVariants as instr
@@ -24,9 +25,12 @@ use Rattle.filter_verifier.specs.Facts.{range_of}
 use Rattle.filter_verifier.specs.Ranges.{RangeView, range_of_difference, range_of_greater, range_of_length, range_of_product}
 use Rattle.filter_verifier.specs.Ranges.{range_of_quotient, range_of_sum}
 use Rattle.filter_verifier.specs.Safe.{HasLiteral, IsRouteOf}
-use Rattle.filter_verifier.proofs.Arithmetic.{InRange, number_fits, metric_fits, length_fits, sum_fits, difference_fits, product_fits, quotient_fits, greater_fits}
+use Rattle.filter_verifier.proofs.Arithmetic.{InRange, number_fits, metric_fits, length_fits, sum_fits, difference_fits}
+use Rattle.filter_verifier.proofs.Arithmetic.{product_fits, quotient_fits, greater_fits}
 use Rattle.filter_verifier.proofs.Fits.{IsAs, OperandsAre}
-use Rattle.filter_verifier.proofs.Parts.{Alike, Any, LiesIn, IsShort, PartsAre, one_alike, two_alike, ints_are, bools_are, ips_are, nets_are, numbers_are, bits_are, wholes_are}
+use Rattle.filter_verifier.proofs.Parts.{Alike, Any, LiesIn, IsShort, PartsAre, one_alike, two_alike, ints_are, bools_are}
+use Rattle.filter_verifier.proofs.Parts.{ips_are, nets_are, numbers_are, bits_are, wholes_are}
+use Rattle.filter_code.specs.Limits.{largest_size}
 
 -- where a test of what is known shows no fault
 no_fault_where : (kind : FaultKind) (b : Bool) → fault_where kind (Some b) ≡ None → b ≡ false
@@ -76,7 +80,7 @@ module _ (received size : ℕ) (limit : received ≤ size) where
   quotient_given _ _ e p = absurd p
 
 -- the value given is as is known of it: one line for each instruction
-module _ (program : CodeView) (route : RouteView) (size metric : ℕ) (of_size : IsRouteOf size route) (small : size ≤ 64)
+module _ (program : CodeView) (route : RouteView) (size metric : ℕ) (of_size : IsRouteOf size route) (small : size ≤ largest_size)
     (here : IsInRange route metric) where
   -- ints that are calculated, and what tests and other parts give
   calculated : (f : ℕ → ℕ → ℕ) (g : RangeView → RangeView → RangeView) →
@@ -96,7 +100,7 @@ module _ (program : CodeView) (route : RouteView) (size metric : ℕ) (of_size :
   compared first second part known other told one two test =
       two_alike route.metric first second (IsAs route.metric) part known other told _ _ one two (λ a b c d p q. tt)
 
-  of_net : (f : List Bool → Value) (g : Fact) → ((bits : List Bool) → length bits ≤ 32 → IsAs route.metric (f bits) g) →
+  of_net : (f : List Bool → Value) (g : Fact) → ((bits : List Bool) → length bits ≤ address_length → IsAs route.metric (f bits) g) →
       (operands : Operands Value) (facts : Operands Fact) → OperandsAre route.metric operands facts →
       Alike (IsAs route.metric) (on_one net_of f operands) (on_one known_prefix (λ p. g) facts)
   of_net f g fits =

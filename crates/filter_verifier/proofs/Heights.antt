@@ -1,5 +1,6 @@
 -- How many operands are known of after an instruction.
-use Rattle.std.proofs.Common.{◌≡◌, ℕ, ◌+◌, ◌-◌, ◌≤◌, true, false, Option, Some, None, List, [], ◌∷◌, length, suc, refl, ap, ◌∙◌, subst, arith}
+use Rattle.std.proofs.Common.{◌≡◌, ℕ, ◌+◌, ◌-◌, ◌≤◌, true, false, Option, Some, None, List, [], ◌∷◌, length, suc, refl, ap, ◌∙◌}
+use Rattle.std.proofs.Common.{subst, arith}
 use Rattle.std.specs.Prelude.{slice_get, option_and_then}
 use Rattle.std.proofs.lemmas.Bool.{cond_both}
 use Rattle.std.proofs.lemmas.Bool.Decides.{nat_tests}
@@ -9,7 +10,10 @@ use Rattle.filter_code.specs.declared.instruction.Instr.TheVariants as instr
 use Rattle.filter_code.specs.declared.outcome.FaultKind.TheVariants as fault
 use Rattle.filter_code.specs.Machine.{on_one, on_two, whole, overfills, with_given}
 use Rattle.filter_code.specs.CodeView.{CodeView}
-use Rattle.filter_code.specs.Table.{Frame, Source, Nowhere, Top, TopTwo, Local, Operands, Zero, One, Two, Drawn, Bad, Good, each_is, both_are, is_int, is_bool, is_ip, is_prefix, are_ordered, are_nested, fits_kinds, names_exist, one_of, two_of, value_in, taken, passing, source_of, draw, taken_off, gives, height_after}
+use Rattle.filter_code.specs.Table.{Frame, Source, Nowhere, Top, TopTwo, Local, Operands, Zero, One, Two, Drawn, Bad, Good}
+use Rattle.filter_code.specs.Table.{each_is, both_are, is_int, is_bool, is_ip, is_prefix, are_ordered, are_nested, fits_kinds}
+use Rattle.filter_code.specs.Table.{names_exist, one_of, two_of, value_in, taken, passing, source_of, draw, taken_off, gives}
+use Rattle.filter_code.specs.Table.{height_after}
 use Rattle.filter_verifier.specs.declared.fact.Fact.{Fact}
 use Rattle.filter_verifier.specs.declared.fact.Fact.TheVariants as fact
 use Rattle.filter_verifier.specs.Facts.{all_known, fact_given, kind_of_fact, known_bits, known_bool, known_ip, known_number}
@@ -22,6 +26,7 @@ use Rattle.filter_verifier.specs.Transfer.{judge, leads_below, out_state, out_st
 use Rattle.filter_verifier.proofs.Propagation.{judged}
 use Rattle.filter_verifier.proofs.Costs.{height_behind}
 use Rattle.filter_verifier.specs.AbstractFrameView.{AbstractFrameView}
+use Rattle.filter_code.specs.Limits.{stack_limit}
 
 -- as many operands as a source has
 abbrev pub IsTakenFrom : Source → Operands Fact → Type 0
@@ -174,13 +179,13 @@ drawn_for sets i frame =
     (Bad fault.UnknownName) (IsDrawnFor i frame.stack)
     (λ e. passed_for i frame.stack (taken (source_of i) frame) (taken_from (source_of i) frame)) (λ e. tt)
 
--- what is handed on has as many operands as the table says, no more than fit, and goes to indices of the code
+-- what is propagated has as many operands as the table says, no more than fit, and goes to indices of the code
 abbrev pub IsHigh : ℕ → AbstractFrameView → Type 0
 IsHigh height next = length next.stack ≡ height
 
 pub record HandsOn (instrs at height : ℕ) (found : Option Instr) (next : AbstractFrameView) : Type 0 where
   pub high : IsHigh (height_behind found height) next
-  pub fits : height ≤ 32 → height_behind found height ≤ 32
+  pub fits : height ≤ stack_limit → height_behind found height ≤ stack_limit
   pub within : leads_below at instrs (leads_of found) ≡ true
 
 abbrev pub Passes : ℕ → ℕ → ℕ → Option Instr → OutStateView → Type 0
@@ -189,8 +194,8 @@ Passes instrs at height found (Refused why) = Unit {0}
 Passes instrs at height found Skipped = ⊥
 
 -- the stack fits with what is given, if it did before
-fits_with : (given : Option Fact) (rest : List Fact) → overfills given rest ≡ false → length rest ≤ 32 →
-    length (with_given given rest) ≤ 32
+fits_with : (given : Option Fact) (rest : List Fact) → overfills given rest ≡ false → length rest ≤ stack_limit →
+    length (with_given given rest) ≤ stack_limit
 fits_with None rest e h = h
 fits_with (Some f) rest e h = grind (arith, nat_tests)
 
@@ -205,7 +210,7 @@ passes_judged instrs size at locals stack i (Good operands rest) p =
     count ∙ ap (λ n. n + gives i) left in
     record {
       high = length-map (with_given (fact_given size i operands) rest) (λ f. Some f) ∙ after;
-      fits = λ low. subst (λ n. n ≤ 32) after (fits_with (fact_given size i operands) rest fits (omega arith));
+      fits = λ low. subst (λ n. n ≤ stack_limit) after (fits_with (fact_given size i operands) rest fits (omega arith));
       within = within;
     }
 
@@ -241,7 +246,7 @@ passes_places program size at height locals (Some stack) p =
     (out_state_of_known program size at locals stack (slice_get program.instrs at))) p
     (passes_known program size at locals stack (slice_get program.instrs at))
 
--- an index at which so many operands arrive
+-- an index whose in-state has a stack of this height
 pub passes_on : (program : CodeView) (size at height : ℕ) (frame : AbstractFrameView) → length frame.stack ≡ height →
     Passes (length program.instrs) at height (slice_get program.instrs at) (out_state program size at (Known frame))
 passes_on program size at height frame e =

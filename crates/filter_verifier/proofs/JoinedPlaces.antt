@@ -1,5 +1,6 @@
 -- Places, one by one.
-use Rattle.std.proofs.Common.{◌≡◌, ℕ, zero, suc, ◌+◌, ◌<◌, Option, Some, None, List, [], ◌∷◌, length, drop, get_or, refl, sym, ◌∙◌, ap, arith, add-one}
+use Rattle.std.proofs.Common.{◌≡◌, ℕ, zero, suc, ◌+◌, ◌<◌, Option, Some, None, List, [], ◌∷◌, length, drop, get_or, refl, sym}
+use Rattle.std.proofs.Common.{◌∙◌, ap, arith, add-one}
 use Rattle.std.proofs.Math.Seq.{drop-nil, drop-cons}
 use Rattle.std.specs.Prelude.{option_and_then}
 use Rattle.filter_verifier.specs.declared.fact.Fact.{Fact}

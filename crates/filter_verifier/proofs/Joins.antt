@@ -1,5 +1,5 @@
--- What agrees with what one way hands on agrees with the meeting of it and another: a meeting only forgets.
-use Rattle.std.proofs.Common.{◌≡◌, ℕ, ◌==◌, true, Option, Some, None, List, [], ◌∷◌, length, suc, refl, ap, sym, ◌∙◌, arith}
+-- What agrees with one state agrees with its join with another: a join only loses information.
+use Rattle.std.proofs.Common.{◌≡◌, ℕ, ◌==◌, true, Option, Some, None, List, [], ◌∷◌, length, sym, ◌∙◌, arith}
 use Rattle.std.proofs.lemmas.Bool.{cond_both}
 use Rattle.std.proofs.lemmas.Bool.Decides.{nat_tests}
 use Rattle.filter_code.specs.declared.value.Value.{Value}
@@ -21,7 +21,7 @@ pub record Holds (route : RouteView) (c : Config) (stack locals : List (Option F
   pub in_locals : Pairwise (PlaceIsAs route.metric) c.frame.locals locals
   pub metric : IsInRange route c.metric
 
--- a configuration agrees with what arrives where it stands
+-- a configuration agrees with an in-state
 abbrev pub Agrees : RouteView → Config → InStateView → Type 0
 Agrees route c Unreached = ⊥
 Agrees route c UnlikeDepths = Unit {0}
@@ -32,7 +32,7 @@ abbrev pub Wide : ℕ → InStateView → Type 0
 Wide width (Known frame) = length frame.locals ≡ width
 Wide width _ = Unit {0}
 
--- a stack of so many operands arrives, or stacks of unlike depths
+-- the stack has this height, or stacks of unlike depths are joined
 abbrev pub HasHeight : ℕ → InStateView → Type 0
 HasHeight height Unreached = ⊥
 HasHeight height UnlikeDepths = Unit {0}
@@ -119,7 +119,7 @@ holds_second route c stack locals others more deep wide p = record {
   metric = p.metric;
 }
 
--- what agrees with one side agrees with the meeting; for the second, both tell of as many local variables
+-- what agrees with one side agrees with the join; for the second, both have as many local variables
 pub agrees_left : (route : RouteView) (c : Config) (a b : InStateView) → Agrees route c a → Agrees route c (join_two_states a b)
 agrees_left route c Unreached b p = absurd p
 agrees_left route c UnlikeDepths b p = tt

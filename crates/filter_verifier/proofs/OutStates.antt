@@ -1,4 +1,4 @@
--- What is handed on goes on inside the code.
+-- What passes is propagated to instructions of the code alone.
 use Rattle.std.proofs.Common.{◌≡◌, ℕ, Bool, true, false, Option, Some, None, List, ◌++◌, length, map, take, refl, ap, sym, subst, ◌∙◌}
 use Rattle.std.proofs.Math.Seq.{take-append_seam}
 use Rattle.prefix_patterns.specs.Matching.{PrefixPattern}

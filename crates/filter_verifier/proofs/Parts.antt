@@ -13,6 +13,7 @@ use Rattle.filter_verifier.specs.Facts.{known_bits, known_bool, known_ip, known_
 use Rattle.filter_verifier.specs.Ranges.{RangeView}
 use Rattle.filter_verifier.proofs.Arithmetic.{InRange}
 use Rattle.filter_verifier.proofs.Fits.{IsAs, OperandsAre}
+use Rattle.prefix_patterns.specs.Bits.{address_length}
 
 -- both are there and related, or neither is there
 abbrev pub Alike : {A B : Type 0} → (A → B → Type 0) → Option A → Option B → Type 0
@@ -75,7 +76,7 @@ LiesIn received x span = InRange received span x
 
 -- the bits of a prefix, of which there are at most 32
 abbrev pub IsShort : List Bool → Unit {0} → Type 0
-IsShort bits known = length bits ≤ 32
+IsShort bits known = length bits ≤ address_length
 
 -- the parts of values
 pub ints_are : (received : ℕ) → PartsAre received (LiesIn received) int_of range_of

@@ -1,5 +1,6 @@
--- What an index hands on arrives: it is part of what meets at each index after it to which the text leads.
-use Rattle.std.proofs.Common.{◌≡◌, ℕ, zero, suc, ◌<◌, ◌⊎◌, Bool, true, false, Option, Some, None, List, [], ◌∷◌, map, length, refl, subst, sym, ◌∙◌, inl, inr, arith}
+-- What an instruction propagates is part of the in-state of each of its successors.
+use Rattle.std.proofs.Common.{◌≡◌, ℕ, zero, suc, ◌<◌, ◌⊎◌, Bool, true, false, Option, Some, None, List, [], ◌∷◌, map, length}
+use Rattle.std.proofs.Common.{refl, subst, sym, ◌∙◌, inl, inr, arith}
 use Rattle.std.specs.Prelude.{slice_get, if◌then◌else◌}
 use Rattle.std.proofs.lemmas.Bool.{cond_both}
 use Rattle.std.proofs.lemmas.List.{length-replicate, length-set}

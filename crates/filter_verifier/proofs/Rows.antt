@@ -1,4 +1,4 @@
--- Worked rows: the definitions compute the verdicts and the bounds that are wanted of them.
+-- Worked rows: the definitions compute these faults and bounds.
 use Rattle.std.proofs.Common.{◌≡◌, ℕ, List, [], ◌∷◌, ◌++◌, replicate, true, false, Option, Some, None, refl}
 use Rattle.filter_code.specs.declared.instruction.Instr.{Instr}
 use Rattle.filter_code.specs.declared.instruction.Instr.TheVariants as instr
@@ -9,7 +9,7 @@ use Rattle.filter_verifier.specs.FirstFault.{first_fault, the_fault}
 use Rattle.filter_verifier.specs.InStates.{incoming}
 use Rattle.filter_verifier.specs.Bounds.{cost, peak}
 
--- what is not known of instructions with some local variables and without sets, in a network of a size
+-- the fault of instructions with some local variables and without sets, in a domain of a size
 abbrev fault_of : ℕ → List Instr → ℕ → Option VerifyFault
 fault_of locals instrs size =
     let program : CodeView = record { locals = locals; sets = []; instrs = instrs } in
@@ -30,7 +30,7 @@ raised_cost = refl
 pub raised_peak : peak raising 0 0 ≡ 2
 raised_peak = refl
 
--- no network has one node
+-- no domain has one node
 pub too_small : fault_of 0 raising 1 ≡ Some refusal.BadSize
 unfolding incoming first_fault
 too_small = refl
@@ -52,7 +52,7 @@ pub empty : fault_of 0 [] 8 ≡ Some (refusal.OutsideCode 0)
 unfolding incoming first_fault
 empty = refl
 
--- the depths 1 and 2 meet at the last instruction
+-- paths with the depths 1 and 2 meet at the last instruction
 abbrev uneven : List Instr
 uneven = instr.Int 0 ∷ (instr.Bool true ∷ (instr.JumpIfNot 1 ∷ (instr.Int 1 ∷ (instr.Accept ∷ []))))
 
@@ -60,7 +60,7 @@ pub unlike_depths : fault_of 0 uneven 8 ≡ Some (refusal.UnlikeDepths 4)
 unfolding incoming first_fault
 unlike_depths = refl
 
--- a local variable is an int on one way and a bool on the other, and empty where they meet
+-- a local variable is an int on one path and a bool on the other, and empty where they meet
 abbrev int_or_bool : List Instr
 int_or_bool = instr.Bool true ∷ (instr.JumpIfNot 3
     ∷ (instr.Int 1 ∷ (instr.Store 0 ∷ (instr.Jump 2
@@ -78,7 +78,7 @@ pub unlike_operand : fault_of 0 int_or_ip 8 ≡ Some (refusal.WrongKind 5)
 unfolding incoming first_fault
 unlike_operand = refl
 
--- three ways meet at 8: two with unlike kinds, and a third, the last, with another depth
+-- three paths meet at 8: two with unlike kinds, and a third, the last, with another depth
 abbrev three_ways : List Instr
 three_ways = instr.Bool true ∷ (instr.JumpIfNot 2
     ∷ (instr.Int 1 ∷ (instr.Jump 4 ∷ (instr.Bool true

@@ -1,6 +1,7 @@
--- Code of which nothing is unknown never goes wrong: wherever a run stands, it agrees with what is known there, the steps
+-- Code that no test refuses never goes wrong: wherever a run is, it agrees with the in-state there, the steps
 -- that are left are no more than the cost there, and the stack goes no higher than the peak there.
-use Rattle.std.proofs.Common.{◌≡◌, ℕ, zero, suc, ◌+◌, ◌<◌, ◌≤◌, ◌==◌, inl, inr, Bool, true, false, Option, Some, None, List, length, replicate, All, refl, sym, ◌∙◌, subst, arith}
+use Rattle.std.proofs.Common.{◌≡◌, ℕ, zero, suc, ◌+◌, ◌<◌, ◌≤◌, ◌==◌, inl, inr, Bool, true, false, Option, Some, None, List}
+use Rattle.std.proofs.Common.{length, replicate, All, refl, sym, ◌∙◌, subst, arith}
 use Rattle.std.specs.Prelude.{slice_get, nat_le, if◌then◌else◌}
 use Rattle.std.proofs.lemmas.Bool.{and_parts}
 use Rattle.std.proofs.lemmas.Bool.Decides.{nat_tests}
@@ -20,7 +21,8 @@ use Rattle.filter_verifier.specs.Transfer.{out_state}
 use Rattle.filter_verifier.specs.Bounds.{cost, peak}
 use Rattle.filter_verifier.specs.Safe.{HasLiteral, IsRouteOf, IsSafe}
 use Rattle.filter_verifier.proofs.Propagation.{below_or_at, arrives_at}
-use Rattle.filter_verifier.proofs.Costs.{LeadOn, leads_on, cost_is, cost_falls, peak_falls, peak_least, none_past, led_below, led_later, height_behind}
+use Rattle.filter_verifier.proofs.Costs.{LeadOn, leads_on, cost_is, cost_falls, peak_falls, peak_least, none_past, led_below}
+use Rattle.filter_verifier.proofs.Costs.{led_later, height_behind}
 use Rattle.filter_verifier.proofs.Fits.{PlaceIsAs, Pairwise, pairwise_length}
 use Rattle.filter_verifier.proofs.Heights.{IsHigh, Passes, passes_on}
 use Rattle.filter_verifier.proofs.Joins.{Agrees, agrees_left, agrees_right}
@@ -28,6 +30,7 @@ use Rattle.filter_verifier.proofs.Steps.{EndsWell, StepIs, stepped}
 use Rattle.filter_verifier.specs.Pass.{entry_state}
 use Rattle.filter_verifier.specs.AbstractFrameView.{AbstractFrameView}
 use Rattle.filter_verifier.proofs.Propagation.{joined_at_entry}
+use Rattle.filter_code.specs.Limits.{largest_size, smallest_size, stack_limit}
 
 -- neither of two is there
 neither : (o p : Option VerifyFault) → or_else o p ≡ None → (o ≡ None) × (p ≡ None)
@@ -46,7 +49,7 @@ none_refused program size (suc n) k e h =
       | inr same ↦ subst (λ m. refused_by (out_state_at program size m) ≡ None) (sym same) both.1
     ]
 
--- a stack that agrees with what is handed on is as high
+-- a stack that agrees with what is propagated is as high
 high_as : (route : RouteView) (d : Config) (height : ℕ) (next : AbstractFrameView) → Agrees route d (Known next) → IsHigh height next →
     length d.frame.stack ≡ height
 high_as route d height next p q =
@@ -71,13 +74,13 @@ empty_locals received (suc n) = (tt, empty_locals received n)
 literal_at : (instrs : List Instr) → All HasLiteral instrs → (at : ℕ) (i : Instr) → slice_get instrs at ≡ Some i → HasLiteral i
 literal_at instrs all at i e = subst HasLiteral (get_or_from_slice_get instrs at i i e) (all at i (slice_get_within instrs at i e))
 
--- where a run stands after some steps
+-- what holds of a run after some steps
 pub record Stands (program : CodeView) (route : RouteView) (size n : ℕ) (c : Config) : Type 0 where
   pub inside : c.pc < length program.instrs
   pub agrees : Agrees route c (in_state program size c.pc)
   pub soon : n + cost program.instrs c.pc ≤ cost program.instrs 0
   pub low : peak program.instrs c.pc (length c.frame.stack) ≤ peak program.instrs 0 0
-  pub fits : length c.frame.stack ≤ 32
+  pub fits : length c.frame.stack ≤ stack_limit
 
 -- a run goes on so, or has ended well
 abbrev pub IsWell : CodeView → RouteView → ℕ → ℕ → State → Type 0
@@ -85,7 +88,7 @@ IsWell program route size n (Going c) = Stands program route size n c
 IsWell program route size n (Ended end) = EndsWell route end
 
 module _ (program : CodeView) (size : ℕ) (route : RouteView) (literals : All HasLiteral program.instrs)
-    (some : 0 < length program.instrs) (small : size ≤ 64) (none : first_fault program size (length program.instrs) ≡ None)
+    (some : 0 < length program.instrs) (small : size ≤ largest_size) (none : first_fault program size (length program.instrs) ≡ None)
     (of_size : IsRouteOf size route) where
   stack_passes : (c : Config) (a : InStateView) → Agrees route c a →
       Passes (length program.instrs) c.pc (length c.frame.stack) (slice_get program.instrs c.pc) (out_state program size c.pc a)
@@ -95,7 +98,7 @@ module _ (program : CodeView) (size : ℕ) (route : RouteView) (literals : All H
       passes_on program size c.pc (length c.frame.stack) frame
       (sym (pairwise_length (λ v place. PlaceIsAs route.metric (Some v) place) c.frame.stack frame.stack p.on_stack))
 
-  -- where something passes, the run stands well again
+  -- if an instruction passes, the same holds after it
   moved : (n : ℕ) (c : Config) (v : OutStateView) (state : State) → Stands program route size n c → out_state_at program size c.pc ≡ v →
       refused_by v ≡ None → StepIs route c.pc (slice_get program.instrs c.pc) state v →
       Passes (length program.instrs) c.pc (length c.frame.stack) (slice_get program.instrs c.pc) v →
@@ -119,7 +122,7 @@ module _ (program : CodeView) (size : ℕ) (route : RouteView) (literals : All H
             (λ x y w v. agrees_right route d program.locals x y w v) c.pc d.pc a e later p.led p.agrees;
         soon = omega (arith, here.soon);
         low = omega (arith, here.low);
-        fits = subst (λ n. n ≤ 32) (sym high) (h.fits here.fits);
+        fits = subst (λ n. n ≤ stack_limit) (sym high) (h.fits here.fits);
       }
 
   step_stands : (n : ℕ) (c : Config) → Stands program route size n c → IsWell program route size (suc n) (step program route c)
@@ -169,15 +172,15 @@ not_empty : (n : ℕ) → (n == 0) ≡ false → 0 < n
 not_empty zero e = cc
 not_empty (suc n) e = omega arith
 
-largest : (size : ℕ) → is_size size ≡ true → size ≤ 64
+largest : (size : ℕ) → is_size size ≡ true → size ≤ largest_size
 largest size e =
-    let most : nat_le size 64 ≡ true = (and_parts (nat_le 2 size) (nat_le size 64) e).1 in
+    let most : nat_le size largest_size ≡ true = (and_parts (nat_le smallest_size size) (nat_le size largest_size) e).1 in
     grind (arith, nat_tests)
 
 -- what is known of a code of which nothing is unknown
 pub record Faultless (program : CodeView) (size : ℕ) : Type 0 where
   pub some : 0 < length program.instrs
-  pub small : size ≤ 64
+  pub small : size ≤ largest_size
   pub none : first_fault program size (length program.instrs) ≡ None
 
 pub faultless : (program : CodeView) (size : ℕ) → the_fault program size ≡ None → Faultless program size

@@ -1,6 +1,7 @@
--- One step from a configuration that agrees with what is known where it stands: it is no fault, and what follows agrees
--- with what is handed on.
-use Rattle.std.proofs.Common.{◌≡◌, ℕ, zero, ◌+◌, ◌≤◌, ◌==◌, ◌||◌, Bool, true, false, Option, Some, None, List, [], ◌∷◌, length, map, suc, refl, ap, ◌∙◌, subst, arith}
+-- One step from a configuration that agrees with the in-state at its place: it is no fault, and the next configuration
+-- agrees with what is propagated.
+use Rattle.std.proofs.Common.{◌≡◌, ℕ, zero, ◌+◌, ◌≤◌, ◌==◌, ◌||◌, Bool, true, false, Option, Some, None, List, [], ◌∷◌, length}
+use Rattle.std.proofs.Common.{map, suc, refl, ap, ◌∙◌, subst, arith}
 use Rattle.std.specs.Prelude.{slice_get, slice_set, nat_lt, option_and_then, unwrap_or, if◌then◌else◌}
 use Rattle.std.proofs.lemmas.Bool.Decides.{nat_tests}
 use Rattle.filter_code.specs.declared.instruction.Instr.{Instr}
@@ -10,7 +11,9 @@ use Rattle.filter_code.specs.declared.outcome.Outcome.{Outcome}
 use Rattle.filter_code.specs.declared.outcome.Outcome.TheVariants as outcome
 use Rattle.filter_code.specs.declared.value.Value.{Value}
 use Rattle.filter_code.specs.RouteView.{RouteView}
-use Rattle.filter_code.specs.Machine.{Config, State, Going, Ended, value_given, value_fault, locals_after, advance, on_one, ending_of, overfills, with_given, moved_on, unless_fault, unless_full, unless_ended, act, carry_out, step}
+use Rattle.filter_code.specs.Machine.{Config, State, Going, Ended, value_given, value_fault, locals_after, advance, on_one}
+use Rattle.filter_code.specs.Machine.{ending_of, overfills, with_given, moved_on, unless_fault, unless_full, unless_ended, act}
+use Rattle.filter_code.specs.Machine.{carry_out, step}
 use Rattle.filter_code.specs.CodeView.{CodeView}
 use Rattle.filter_code.specs.Table.{Frame, Operands, Zero, One, Two, Drawn, Bad, Good, draw, leads}
 use Rattle.filter_code.specs.Values.{bool_of, kind_of}
@@ -28,6 +31,7 @@ use Rattle.filter_verifier.proofs.Given.{given_is, no_value_fault}
 use Rattle.filter_verifier.proofs.Parts.{Alike}
 use Rattle.filter_verifier.proofs.Joins.{Agrees}
 use Rattle.filter_verifier.specs.AbstractFrameView.{AbstractFrameView}
+use Rattle.filter_code.specs.Limits.{largest_size, stack_limit}
 
 -- the good ends: accepted at a metric in range, or rejected
 abbrev pub EndsWell : RouteView → Outcome → Type 0
@@ -35,7 +39,7 @@ EndsWell route (outcome.Accept metric) = IsInRange route metric
 EndsWell route outcome.Reject = Unit {0}
 EndsWell route (outcome.Fault why at) = ⊥
 
--- from a configuration to one where the text leads, and that agrees with what is handed on
+-- from a configuration to one at a successor, which agrees with what is propagated
 pub record Moves (route : RouteView) (at : ℕ) (found : Option Instr) (next : AbstractFrameView) (d : Config) : Type 0 where
   pub led : leads_to at d.pc (leads_of found) ≡ true
   pub agrees : Agrees route d (Known next)
@@ -117,7 +121,7 @@ stack_is received _ _ rest facts p q = absurd p
 over_same : (received : ℕ) (given : Option Value) (known : Option Fact) (rest : List Value) (facts : List Fact) →
     Alike (IsAs received) given known → Pairwise (IsAs received) rest facts → overfills given rest ≡ overfills known facts
 over_same received None None rest facts p q = refl
-over_same received (Some v) (Some f) rest facts p q = ap (λ n. nat_lt 32 (suc n)) (pairwise_length (IsAs received) rest facts q)
+over_same received (Some v) (Some f) rest facts p q = ap (λ n. nat_lt stack_limit (suc n)) (pairwise_length (IsAs received) rest facts q)
 over_same received _ _ rest facts p q = absurd p
 
 -- the last tests let through
@@ -136,7 +140,7 @@ ended_or_on route at found next metric instr.Reject d here p = tt
 ended_or_on route at found next metric _ d here p = p refl
 
 -- a step with its premises: a route of the size, and a configuration in range
-module _ (program : CodeView) (route : RouteView) (size : ℕ) (of_size : IsRouteOf size route) (small : size ≤ 64) where
+module _ (program : CodeView) (route : RouteView) (size : ℕ) (of_size : IsRouteOf size route) (small : size ≤ largest_size) where
   performed : (c : Config) (locals : List (Option Fact)) (i : Instr) (operands : Operands Value) (rest : List Value)
       (facts : Operands Fact) (left : List Fact) →
       HasLiteral i → Pairwise (PlaceIsAs route.metric) c.frame.locals locals → IsInRange route c.metric →
@@ -216,7 +220,7 @@ module _ (program : CodeView) (route : RouteView) (size : ℕ) (of_size : IsRout
       (out_state_of_known program size at locals stack (slice_get program.instrs at))) same
       (known_step c at locals stack (slice_get program.instrs at) literal on_stack in_locals here)
 
-  -- a step from a configuration that agrees with what arrives where it stands
+  -- a step from a configuration that agrees with the in-state at its place
   pub stepped : (c : Config) (a : InStateView) → ((i : Instr) → slice_get program.instrs c.pc ≡ Some i → HasLiteral i) → Agrees route c a →
       StepIs route c.pc (slice_get program.instrs c.pc) (step program route c) (out_state program size c.pc a)
   stepped c Unreached literal p = absurd p

@@ -13,7 +13,6 @@ pub mod Ranges
 pub mod Safe
 pub mod Transfer
 pub mod VerifiedView
-
 -- What only bodies are proved against.
 pub mod PairwiseJoin
 pub mod Pass

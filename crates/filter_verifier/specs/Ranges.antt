@@ -1,5 +1,6 @@
 -- What is known of an int: its range, and whether it is at least the metric received. (This project's own choice.)
 use Rattle.std.specs.Prelude.{ℕ, ◌+◌, ◌-◌, ◌*◌, ◌/◌, ◌^◌, max, nat_lt, nat_le, Bool, true, false, ◌&&◌, ◌||◌, if◌then◌else◌}
+use Rattle.prefix_patterns.specs.Bits.{address_length}
 
 -- the least and the greatest value, and whether the int is known to be at least the metric received
 pub record RangeView : Type 0 where
@@ -25,7 +26,7 @@ range_of_metric size = range_in size 0 size true
 
 -- the length of a prefix
 abbrev pub range_of_length : ℕ → RangeView
-range_of_length size = range_in size 0 32 false
+range_of_length size = range_in size 0 address_length false
 
 -- a sum that cannot wrap is at least each operand
 abbrev pub range_of_sum : ℕ → RangeView → RangeView → RangeView

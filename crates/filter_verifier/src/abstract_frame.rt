@@ -6,7 +6,7 @@ ghost use Rattle.filter_verifier.specs.Facts.{all_known};
 ghost use Rattle.filter_verifier.specs.PairwiseJoin.{join_two_places};
 ghost use Rattle.filter_verifier.specs.Pass.{fact_at};
 
-use crate::fact::{Fact, join_place};
+use crate::fact::{Fact, join_two_at};
 use filter_code::Stack;
 use std::alloc::{AllocError, Global};
 use std::marker::Model;
@@ -56,7 +56,7 @@ fn fact_at(places: &[Option<Fact>], at: usize) -> Option<Fact>
 }
 
 /// The join of two lists of places, place by place.
-fn join_places(
+fn join_two_places(
     alloc: Global,
     places: &[Option<Fact>],
     others: &[Option<Fact>],
@@ -65,7 +65,7 @@ fn join_places(
 {
     let mut joined = Vec::with_capacity(alloc, places.len())?;
     for (at, place) in places.iter().enumerate() {
-        joined.push(join_place(place, &fact_at(others, at)))?;
+        joined.push(join_two_at(place, &fact_at(others, at)))?;
     }
     Ok(joined)
 }
@@ -143,8 +143,8 @@ impl AbstractFrame {
         }) }
     {
         Ok(AbstractFrame {
-            stack: join_places(alloc, &self.stack, &other.stack)?,
-            locals: join_places(alloc, &self.locals, &other.locals)?,
+            stack: join_two_places(alloc, &self.stack, &other.stack)?,
+            locals: join_two_places(alloc, &self.locals, &other.locals)?,
         })
     }
 }
