@@ -12,6 +12,7 @@ pub mod FilterLaws
 pub mod Joined
 pub mod Operators
 pub mod Placing
+pub mod Rows
 pub mod Sound
 pub mod SoundSets
 pub mod SoundWords

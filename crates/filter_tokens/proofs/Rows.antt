@@ -17,12 +17,12 @@ use Rattle.filter_tokens.proofs.Tokenized.{lexes-start, lexes-stopped}
 use Rattle.filter_tokens.proofs.PartLaws.{part-found}
 
 -- these parts are read from a text, one after the other
-abbrev AreRead : List Part → List ℕ → Type 0
+abbrev pub AreRead : List Part → List ℕ → Type 0
 AreRead [] text = text ≡ []
 AreRead (one ∷ parts) text = (part_in text ≡ Some one) × AreRead parts (drop (part_len one) text)
 
 -- what is read are the parts
-are_parts : (parts : List Part) (text : List ℕ) → AreRead parts text → AreParts parts text
+pub are_parts : (parts : List Part) (text : List ℕ) → AreRead parts text → AreParts parts text
 are_parts [] text read = read
 are_parts (one ∷ parts) text read = (part-found text one read.0, are_parts parts (drop (part_len one) text) read.1)
 
