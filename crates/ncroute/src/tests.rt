@@ -1,39 +1,113 @@
 //! Which words of the command line ask for what.
-use crate::words::{Request, request_of};
+use crate::serve::serve;
+use crate::words::{Request, Words, request_of};
+use line_protocol::StreamFault;
 use std::test::Fail;
 
 #[test]
 fn reads_words(rt: HostRuntime) -> Result<(), Fail> {
-    let rows: [(&[&str], Request); 11] = [
-        (&["ncroute", "eval"], Request::Eval),
-        (&["ncroute"], Request::Shown(2)),
-        (&["ncroute", "check"], Request::Shown(2)),
+    let rows: [(&[&str], Words); 11] = [
+        (&["ncroute", "eval"], Words::Asked(Request::Eval)),
+        (&["ncroute"], Words::Shown(2)),
+        (&["ncroute", "check"], Words::Shown(2)),
         (
             &["ncroute", "check", "--size", "16"],
-            Request::Check {
+            Words::Asked(Request::Check {
                 size: 16,
                 is_code: false,
-            },
+            }),
         ),
         (
             &["ncroute", "check", "--code", "--size=4294967295"],
-            Request::Check {
+            Words::Asked(Request::Check {
                 size: 4_294_967_295,
                 is_code: true,
-            },
+            }),
         ),
         (
             &["ncroute", "check", "--size", "4294967296"],
-            Request::Shown(2),
+            Words::Shown(2),
         ),
-        (&["ncroute", "check", "--size", "x"], Request::Shown(2)),
-        (&["ncroute", "eval", "more"], Request::Shown(2)),
-        (&["ncroute", "eval", "--size"], Request::Shown(2)),
-        (&["ncroute", "--help"], Request::Shown(0)),
-        (&["ncroute", "eval", "--help"], Request::Shown(0)),
+        (&["ncroute", "check", "--size", "x"], Words::Shown(2)),
+        (&["ncroute", "eval", "more"], Words::Shown(2)),
+        (&["ncroute", "eval", "--size"], Words::Shown(2)),
+        (&["ncroute", "--help"], Words::Shown(0)),
+        (&["ncroute", "eval", "--help"], Words::Shown(0)),
     ];
     for (words, want) in rows {
         assert_eq!(&rt; request_of(&rt, rt.alloc(), words)?, want);
     }
+    Ok(())
+}
+
+/// What `eval` and `check` answer, and the exit status.
+#[test]
+fn requests_end_with_their_status(rt: HostRuntime) -> Result<(), Fail> {
+    let check = Request::Check {
+        size: 8,
+        is_code: false,
+    };
+    let rows: [(Request, &str, &str, u8); 5] = [
+        (
+            Request::Eval,
+            "4e4346310000000170\n10.0.0.0/8 3 8\n",
+            "accept 3\n",
+            0,
+        ),
+        (
+            Request::Eval,
+            "4e4346310000000170\n10.0.0.0/8 9 8\n",
+            "refused O2 2\n",
+            1,
+        ),
+        (Request::Eval, "", "refused O1 0\n", 1),
+        (
+            check,
+            "filter a { accept; }",
+            "code 4e434631000000027071\nverified 1 0\n",
+            0,
+        ),
+        (check, "filter a { accept }", "refused P2 18\n", 1),
+    ];
+    for (request, input, output, status) in rows {
+        let mut reader = input.as_bytes();
+        let (mut writer, mut errors) = (Vec::new(rt.alloc()), Vec::new(rt.alloc()));
+        let served = serve(rt.alloc(), request, &mut reader, &mut writer, &mut errors);
+        assert_eq!(&rt; served, Ok(status));
+        assert_eq!(&rt; writer.as_slice(), output.as_bytes());
+        assert!(&rt; errors.is_empty());
+    }
+    Ok(())
+}
+
+/// A fault ends with status 1, and is told on standard error.
+#[test]
+fn faults_are_reported(rt: HostRuntime) -> Result<(), Fail> {
+    let mut reader: &[u8] = b"filter a { accept; }";
+    let mut room = [0; 4];
+    let mut writer = room.as_mut_slice();
+    let mut errors = Vec::new(rt.alloc());
+    let check = Request::Check {
+        size: 8,
+        is_code: false,
+    };
+    let served = serve(rt.alloc(), check, &mut reader, &mut writer, &mut errors);
+    assert_eq!(&rt; served, Ok(1));
+    assert_eq!(&rt; errors.as_slice(), b"ncroute: E2\n".as_slice());
+    Ok(())
+}
+
+/// Where standard error takes no text, the fault of `errors` is handed on.
+#[test]
+fn a_closed_standard_error_is_told(rt: HostRuntime) -> Result<(), Fail> {
+    let mut reader: &[u8] = b"filter a { accept; }";
+    let (mut none, mut few) = ([0; 4], [0; 4]);
+    let (mut writer, mut errors) = (none.as_mut_slice(), few.as_mut_slice());
+    let check = Request::Check {
+        size: 8,
+        is_code: false,
+    };
+    let served = serve(rt.alloc(), check, &mut reader, &mut writer, &mut errors);
+    assert_eq!(&rt; served, Err(StreamFault::Write));
     Ok(())
 }

@@ -10,32 +10,39 @@ use std::{env, io};
 /// The exit status of a run whose words were wrong.
 const WRONG_WORDS: u8 = 2;
 
-/// What the words of the command line ask for.
+/// What the program is asked to do.
 #[derive(Clone, Copy, Debug, PartialEq, Eq)]
 pub enum Request {
     /// Take the routes of standard input through a code file.
     Eval,
     /// Compile the filter of standard input, or read its code file, and verify the code.
     Check {
-        /// The number of nodes of the networks that the code is for.
+        /// The number of nodes of the domains that the code is for.
         size: u32,
-        /// Standard input is a code file in hexadecimal, and no filter's text.
+        /// Standard input is a code file in hexadecimal, and not a filter's text.
         is_code: bool,
     },
-    /// Nothing more: a text was shown, and the program ends with this status.
+}
+
+/// What the words of the command line come to.
+#[derive(Clone, Copy, Debug, PartialEq, Eq)]
+pub enum Words {
+    /// They ask for this.
+    Asked(Request),
+    /// Help, or what is wrong with them, was shown. The program ends with this status.
     Shown(u8),
 }
 
 /// Reads the words that the program was started with. Help goes to standard output, and what is wrong with the words to
 /// standard error.
-pub fn read<R: Env + AllocGlobal + Print + Eprint>(rt: &R) -> Result<Request, ProgramFault> {
+pub fn read<R: Env + AllocGlobal + Print + Eprint>(rt: &R) -> Result<Words, ProgramFault> {
     let alloc = rt.alloc();
     let words = match env::args(rt) {
         Ok(words) => words,
         Err(error) if error.kind() == io::ErrorKind::OutOfMemory => return Err(
             ProgramFault::MEMORY,
         ),
-        Err(_) => return show_not_text(rt),
+        Err(_) => return Ok(show_not_text(rt)),
     };
     let words: Vec<String> = words.collect(alloc)?;
     request_of(rt, alloc, words.as_slice())
@@ -46,44 +53,46 @@ pub fn request_of<R: Print + Eprint, S: AsStr>(
     rt: &R,
     alloc: Global,
     words: &[S],
-) -> Result<Request, ProgramFault> {
+) -> Result<Words, ProgramFault> {
     match command(alloc)?.try_get_matches_from(words) {
-        Ok(matches) => Ok(request_in(&matches)),
+        Ok(matches) => Ok(words_in(&matches)),
         Err(error) => show(rt, &error),
     }
 }
 
-/// What words ask for that the parser of words took.
-fn request_in(matches: &ArgMatches<'_>) -> Request {
+/// What the words ask for, where the parser of words accepted them.
+fn words_in(matches: &ArgMatches<'_>) -> Words {
     let Some(check) = matches.subcommand_matches("check") else {
-        return Request::Eval;
+        return Words::Asked(Request::Eval);
     };
     match check.get_one::<u32>("size") {
-        Some(size) => Request::Check {
+        Some(size) => Words::Asked(Request::Check {
             size,
             is_code: check.get_flag("code"),
-        },
-        // The parser takes no words without a size.
-        None => Request::Shown(WRONG_WORDS),
+        }),
+        // The parser accepts no words without a size.
+        None => Words::Shown(WRONG_WORDS),
     }
 }
 
-/// Shows what the parser of words answered in place of matches.
-fn show<R: Print + Eprint>(rt: &R, error: &Error) -> Result<Request, ProgramFault> {
+/// Shows what the parser of words answered in place of matches: help on standard output, or what is wrong with the words on
+/// standard error. Wrong words have their status also where standard error takes no text.
+fn show<R: Print + Eprint>(rt: &R, error: &Error) -> Result<Words, ProgramFault> {
     if error.kind() == ErrorKind::OutOfMemory {
         return Err(ProgramFault::MEMORY);
     }
-    error.print(rt).map_err(|_| ProgramFault::WRITE)?;
-    let status = if error.use_stderr() { WRONG_WORDS } else { 0 };
-    Ok(Request::Shown(status))
+    let printed = error.print(rt);
+    if error.use_stderr() {
+        return Ok(Words::Shown(WRONG_WORDS));
+    }
+    printed.map_err(|_| ProgramFault::WRITE)?;
+    Ok(Words::Shown(0))
 }
 
 /// Says that a word is not text.
-fn show_not_text<R: Eprint>(rt: &R) -> Result<Request, ProgramFault> {
-    eprintln!(rt; "error: a word of the command line is not UTF-8").map_err(
-        |_| ProgramFault::WRITE,
-    )?;
-    Ok(Request::Shown(WRONG_WORDS))
+fn show_not_text<R: Eprint>(rt: &R) -> Words {
+    let _ = eprintln!(rt; "error: a word of the command line is not UTF-8");
+    Words::Shown(WRONG_WORDS)
 }
 
 /// The commands of the program, and their help.
@@ -106,7 +115,7 @@ fn check_command<'a>(alloc: Global) -> Result<Command<'a>, AllocError> {
         .value_name("N")
         .required(true)
         .value_parser(clap::value_parser!(u32))
-        .help("The number of nodes of the network (2 to 64)");
+        .help("The number of nodes of the routing domain (2 to 64)");
     let code = Arg::new(alloc, "code")
         .long("code")
         .action(ArgAction::SetTrue)
@@ -124,35 +133,35 @@ Standard input is one filter, or with --code a code file in hexadecimal.
 Two lines are printed:
   code HEX                the filter's code, as `ncroute eval` reads it
   verified BUDGET DEPTH   the code can never go wrong, takes at most BUDGET steps on
-                          a route, and holds at most DEPTH operands
-A filter or code that is refused ends with the line `refused CODE AT` instead:
-  P1 to P10   no filter: the text is wrong at byte AT
-  Y1 to Y5    a name or a kind is wrong at byte AT
+                          a route, and holds at most DEPTH operands at a time
+For a filter or code that is refused, the last line is `refused CODE AT` instead:
+  P1 to P10   the text is not a filter: a syntax error at byte AT
+  Y1 to Y5    a name or a type is wrong at byte AT
   G1, G2      the code would be too long, or have too many sets
-  V1 to V9    it is not known that instruction AT cannot go wrong
-  C1 to C6    no code file: byte AT is wrong
-  O3, O7      no hexadecimal; more than 1,048,576 bytes
+  V1 to V9    instruction AT might go wrong on some route; V8: N is not 2 to 64
+  C1 to C6    not a code file: an error at byte AT
+  O3, O7      not hexadecimal; more than 1,048,576 bytes
 
 Example:
   echo 'filter up { rip_metric = rip_metric + 2; accept; }' | ncroute check --size 16
 The exit status is 0; 1 if something was refused or a fault ended the run; 2 if
-the words are wrong.
+the command line is wrong.
 ";
 
 const EVAL_HELP: &str = "\
-Standard input is lines. The first is a code file in hexadecimal, each other a route:
-the network, the metric that a neighbour sent, and the number of nodes (2 to 64).
+Standard input is lines. The first is a code file in hexadecimal; each other line is a route:
+its prefix, the metric that a neighbour sent, and the domain's number of nodes (2 to 64).
 Empty lines and lines that begin with # are skipped.
 
 Each route is answered on standard output:
   accept D         the filter accepts it with the metric D
   reject           the filter rejects it
   fault K AT       the code went wrong at instruction AT (K1 to K7)
-  refused O AT     line AT is no route (O1 words, O2 numbers, O7 length, O8 network)
-A first line that is no code file is refused, and ends the run.
+  refused O AT     line AT is not a route (O1 words, O2 numbers, O7 length, O8 prefix)
+A first line that is not a code file is refused, and ends the run.
 
 Example:
   printf '4e4346310000000170\\n10.0.0.0/8 3 8\\n' | ncroute eval
 prints `accept 3`. The exit status is 0; 1 if a line was refused or a fault
-ended the run; 2 if the words are wrong.
+ended the run; 2 if the command line is wrong.
 ";
