@@ -1,7 +1,7 @@
 //! Commands.
 
-ghost use Rattle.std.specs.Prelude.{◌≡◌, ◌≢◌, ◌∷◌, ◌++◌, ◌<◌, ◌≤◌, [], length, map, Some, None, IfOk};
-ghost use Rattle.filter_parser.specs.declared.fault.ParseFault.TheVariants.{Memory};
+ghost use Rattle.std.specs.Prelude.{◌≡◌, ◌≢◌, ◌∷◌, ◌++◌, ◌<◌, ◌≤◌, [], length, map, Some, None, IfErr, IfOk};
+ghost use Rattle.filter_parser.specs.declared.fault.ParseFault.TheVariants.{Memory, TooLong};
 ghost use Rattle.filter_parser.specs.ReadingCommands as spec;
 ghost use Rattle.filter_parser.specs.Placed.{command_kept, end_kept, expr_kept, joined};
 ghost use Rattle.filter_parser.specs.Reading.{expr_at};
@@ -23,6 +23,7 @@ fn parse_end<'a>(input: Input<'a>) -> Result<(bool, Input<'a>), ParseFault>
     ensures reads { ReadsAs (λ x. (x.0, remaining x.1)) result (spec.end_of (remaining input.entry)) }
     ensures shorter { IfOk result (λ x. length (remaining x.1) < length (remaining input.entry)) }
     ensures placed { IfOk result (λ x. Spans (end_kept x.0) input.entry x.1) }
+    ensures short { IfErr result (λ why. why ≢ TooLong) }
 {
     match input.eat_text() {
         Some(rest) => Ok((true, rest.expect(Symbol::Semicolon, Expected::Semicolon)?)),
@@ -44,6 +45,7 @@ fn parse_assignment<'a>(
     ensures reads { ReadsAs spec.command_read_of result (spec.assign_with (expr_at depth) (view_target target) (remaining input.entry)) }
     ensures shorter { IfOk result (λ x. length (remaining x.1) < length (remaining input.entry)) }
     ensures placed { IfOk result (λ x. Continues (Some at ∷ []) (command_kept x.0) input.entry x.1) }
+    ensures short { IfErr result (λ why. why ≢ TooLong) }
 {
     let value = input.expect(Symbol::Equal, Expected::Assign)?;
     let (value, end) = parse_expr(alloc, depth, value)?;
@@ -92,6 +94,7 @@ fn parse_else<'a>(
     ensures reads { ReadsAs spec.command_read_of result (spec.else_with (spec.command_at depth) (view test) (view_command chosen) (remaining input.entry)) }
     ensures shorter { IfOk result (λ x. length (remaining x.1) ≤ length (remaining input.entry)) }
     ensures placed { IfOk result (λ x. Continues (Some at ∷ (expr_kept test ++ None ∷ command_kept chosen)) (command_kept x.0) input.entry x.1) }
+    ensures short { IfErr result (λ why. why ≢ TooLong) }
 {
     match input.eat(Symbol::Else) {
         None => Ok((if_command(alloc, at, test, chosen)?, input)),
@@ -113,6 +116,7 @@ fn parse_if<'a>(
     ensures reads { ReadsAs spec.command_read_of result (spec.if_at depth (remaining input.entry)) }
     ensures shorter { IfOk result (λ x. length (remaining x.1) < length (remaining input.entry)) }
     ensures placed { IfOk result (λ x. Continues (Some at ∷ []) (command_kept x.0) input.entry x.1) }
+    ensures short { IfErr result (λ why. why ≢ TooLong) }
 {
     if depth == 0 {
         return Err(ParseFault::TooDeep(at));
@@ -133,6 +137,7 @@ pub fn parse_commands<'a>(
     ensures reads { ReadsAs spec.body_read_of result (spec.commands_with (spec.command_at depth) (remaining input.entry)) }
     ensures shorter { IfOk result (λ x. length (remaining x.1) < length (remaining input.entry)) }
     ensures placed { IfOk result (λ x. Spans (joined (map command_kept x.0.items) ++ None ∷ []) input.entry x.1) }
+    ensures short { IfErr result (λ why. why ≢ TooLong) }
 {
     let mut commands = Vec::new(alloc);
     let mut rest = input;
@@ -161,6 +166,7 @@ fn parse_block<'a>(
     ensures reads { ReadsAs spec.command_read_of result (spec.block_at depth (remaining input.entry)) }
     ensures shorter { IfOk result (λ x. length (remaining x.1) < length (remaining input.entry)) }
     ensures placed { IfOk result (λ x. Continues (Some at ∷ []) (command_kept x.0) input.entry x.1) }
+    ensures short { IfErr result (λ why. why ≢ TooLong) }
 {
     if depth == 0 {
         return Err(ParseFault::TooDeep(at));
@@ -180,6 +186,7 @@ fn parse_variable_assignment<'a>(
     ensures reads { ReadsAs spec.command_read_of result (spec.assign_with (expr_at depth) (spec.target_of input.entry.text.now name.now) (remaining rest.entry)) }
     ensures shorter { IfOk result (λ x. length (remaining x.1) < length (remaining rest.entry)) }
     ensures placed { IfOk result (λ x. Continues (Some name.now.from ∷ []) (command_kept x.0) rest.entry x.1) }
+    ensures short { IfErr result (λ why. why ≢ TooLong) }
 {
     let text = input.bytes(alloc, name)?;
     parse_assignment(alloc, depth, name.from, Target::Name(text), rest)
@@ -190,6 +197,7 @@ fn parse_accept<'a>(at: usize, input: Input<'a>) -> Result<(Command, Input<'a>),
     ensures reads { ReadsAs spec.command_read_of result (spec.accepts (remaining input.entry)) }
     ensures shorter { IfOk result (λ x. length (remaining x.1) < length (remaining input.entry)) }
     ensures placed { IfOk result (λ x. Continues (Some at ∷ []) (command_kept x.0) input.entry x.1) }
+    ensures short { IfErr result (λ why. why ≢ TooLong) }
 {
     let (has_text, rest) = parse_end(input)?;
     Ok((Command::Accept(at, has_text), rest))
@@ -200,6 +208,7 @@ fn parse_reject<'a>(at: usize, input: Input<'a>) -> Result<(Command, Input<'a>),
     ensures reads { ReadsAs spec.command_read_of result (spec.rejects (remaining input.entry)) }
     ensures shorter { IfOk result (λ x. length (remaining x.1) < length (remaining input.entry)) }
     ensures placed { IfOk result (λ x. Continues (Some at ∷ []) (command_kept x.0) input.entry x.1) }
+    ensures short { IfErr result (λ why. why ≢ TooLong) }
 {
     let (has_text, rest) = parse_end(input)?;
     Ok((Command::Reject(at, has_text), rest))
@@ -215,10 +224,12 @@ fn parse_command_by<'a>(
     other: ParseFault,
     rest: Input<'a>,
 ) -> Result<(Command, Input<'a>), ParseFault>
-    requires { other ≢ Memory }
+    requires not_memory { other ≢ Memory }
+    requires short { other ≢ TooLong }
     ensures reads { ReadsAs spec.command_read_of result (spec.command_by (expr_at depth) (spec.block_at depth) (spec.if_at depth) symbol (remaining rest.entry)) }
     ensures shorter { IfOk result (λ x. length (remaining x.1) ≤ length (remaining rest.entry)) }
     ensures placed { IfOk result (λ x. Continues (Some at ∷ []) (command_kept x.0) rest.entry x.1) }
+    ensures short { IfErr result (λ why. why ≢ TooLong) }
 {
     match symbol {
         Symbol::Semicolon => Ok((Command::Empty(at), rest)),
@@ -244,6 +255,7 @@ pub fn parse_command<'a>(
     ensures reads { ReadsAs spec.command_read_of result (spec.command_at depth (remaining input.entry)) }
     ensures shorter { IfOk result (λ x. length (remaining x.1) < length (remaining input.entry)) }
     ensures placed { IfOk result (λ x. Spans (command_kept x.0) input.entry x.1) }
+    ensures short { IfErr result (λ why. why ≢ TooLong) }
 {
     let other = input.unexpected(expected);
     let Some((first, rest)) = input.next() else {

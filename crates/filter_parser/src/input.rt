@@ -2,7 +2,7 @@ ghost use Rattle.std.specs.Prelude.{◌≡◌, ◌≢◌, ◌∷◌, ◌<◌, �
 ghost use Rattle.std.specs.Cmp.Lexicographic.{pointwise};
 ghost use Rattle.filter_tokens.specs.Lexemes as lexemes;
 ghost use Rattle.filter_parser.specs.Steps as spec;
-ghost use Rattle.filter_parser.specs.declared.fault.ParseFault.TheVariants.{Memory};
+ghost use Rattle.filter_parser.specs.declared.fault.ParseFault.TheVariants.{Memory, TooLong};
 
 use crate::expected::Expected;
 use crate::fault::ParseFault;
@@ -66,6 +66,7 @@ impl<'a> Input<'a> {
     fn end_fault(self) -> ParseFault
         ensures is { result ≡ spec.end_fault_of (length self.entry.text.now) self.entry.end }
         ensures not_memory { result ≢ Memory }
+        ensures short { result ≢ TooLong }
     {
         match self.end {
             None => ParseFault::EndsEarly(self.text.len()),
@@ -77,6 +78,7 @@ impl<'a> Input<'a> {
     pub fn unexpected(self, expected: Expected) -> ParseFault
         ensures is { result ≡ spec.unexpected self.entry expected }
         ensures not_memory { result ≢ Memory }
+        ensures short { result ≢ TooLong }
     {
         match self.tokens.first() {
             None => self.end_fault(),
@@ -107,6 +109,7 @@ impl<'a> Input<'a> {
         ensures shorter { IfOk result (λ rest. length (remaining rest) < length (remaining self.entry)) }
         ensures placed { IfOk result (λ rest. Spans (Some (first_place self.entry) ∷ []) self.entry rest) }
         ensures refusal { IfErr result (λ why. why ≡ spec.unexpected self.entry expected) }
+        ensures short { IfErr result (λ why. why ≢ TooLong) }
     {
         match self.eat(symbol) {
             Some(rest) => Ok(rest),
@@ -150,6 +153,7 @@ impl<'a> Input<'a> {
         ensures shorter { IfOk result (λ x. length (remaining x.1) < length (remaining self.entry)) }
         ensures placed { IfOk result (λ x. Spans (Some (first_place self.entry) ∷ []) self.entry x.1) }
         ensures refusal { IfErr result (λ why. why ≡ spec.unexpected self.entry Expected.Number) }
+        ensures short { IfErr result (λ why. why ≢ TooLong) }
     {
         let Some((first, rest)) = self.next() else {
             return Err(self.unexpected(Expected::Number));
@@ -166,6 +170,7 @@ impl<'a> Input<'a> {
         ensures shorter { IfOk result (λ x. length (remaining x.1) < length (remaining self.entry)) }
         ensures placed { IfOk result (λ x. Spans (Some (first_place self.entry) ∷ []) self.entry x.1) }
         ensures refusal { IfErr result (λ why. why ≡ spec.unexpected self.entry Expected.Prefix) }
+        ensures short { IfErr result (λ why. why ≢ TooLong) }
     {
         let Some((first, rest)) = self.next() else {
             return Err(self.unexpected(Expected::Prefix));

@@ -1,8 +1,9 @@
-ghost use Rattle.std.specs.Prelude.{◌≡◌, ◌∷◌, ◌<◌, ◌≤◌, [], Some, None, IfOk, length, map};
+ghost use Rattle.std.specs.Prelude.{◌≡◌, ◌≢◌, ◌∷◌, ◌<◌, ◌≤◌, [], Some, None, IfErr, IfOk, length, map};
 ghost use Rattle.filter_parser.specs.Placed.{next_pattern_kept, set_kept, set_pattern_kept};
 ghost use Rattle.filter_parser.specs.Reading as spec;
 ghost use Rattle.filter_parser.specs.Steps.{Continues, Finds, Grown, ReadsAs, Spans, remaining};
 ghost use Rattle.filter_parser.specs.Syntax.{SetPatternView, view_set_pattern};
+ghost use Rattle.filter_parser.specs.declared.fault.ParseFault.TheVariants.{TooLong};
 
 use crate::expected::Expected;
 use crate::fault::ParseFault;
@@ -32,6 +33,7 @@ fn parse_braces<'a>(
     ensures reads { ReadsAs spec.set_pattern_read_of result (spec.braces_of prefix (remaining input.entry)) }
     ensures shorter { IfOk result (λ x. length (remaining x.1) < length (remaining input.entry)) }
     ensures placed { IfOk result (λ x. Continues (Some at ∷ None ∷ []) (set_pattern_kept x.0) input.entry x.1) }
+    ensures short { IfErr result (λ why. why ≢ TooLong) }
 {
     let (low, rest) = input.expect_number()?;
     let rest = rest.expect(Symbol::Comma, Expected::Comma)?;
@@ -52,6 +54,7 @@ fn parse_lengths<'a>(
     ensures reads { ReadsAs spec.set_pattern_read_of result (spec.lengths_of prefix (remaining input.entry)) }
     ensures shorter { IfOk result (λ x. length (remaining x.1) ≤ length (remaining input.entry)) }
     ensures placed { IfOk result (λ x. Continues (Some at ∷ []) (set_pattern_kept x.0) input.entry x.1) }
+    ensures short { IfErr result (λ why. why ≢ TooLong) }
 {
     if let Some(rest) = input.eat(Symbol::Plus) {
         return Ok((SetPattern::OrLonger(at, prefix), rest));
@@ -70,6 +73,7 @@ fn parse_set_pattern<'a>(input: Input<'a>) -> Result<(SetPattern, Input<'a>), Pa
     ensures reads { ReadsAs spec.set_pattern_read_of result (spec.set_pattern_first (remaining input.entry)) }
     ensures shorter { IfOk result (λ x. length (remaining x.1) < length (remaining input.entry)) }
     ensures placed { IfOk result (λ x. Spans (set_pattern_kept x.0) input.entry x.1) }
+    ensures short { IfErr result (λ why. why ≢ TooLong) }
 {
     match input.expect_prefix() {
         Ok((prefix, rest)) => parse_lengths(input.at(), prefix, rest),
@@ -85,6 +89,7 @@ fn parse_set_patterns<'a>(
     ensures reads { ReadsAs spec.set_patterns_read_of result (spec.set_patterns_from (map view_set_pattern patterns.items) (remaining input.entry)) }
     ensures shorter { IfOk result (λ x. length (remaining x.1) ≤ length (remaining input.entry)) }
     ensures placed { IfOk result (λ x. Grown next_pattern_kept patterns.items x.0.items input.entry x.1) }
+    ensures short { IfErr result (λ why. why ≢ TooLong) }
 {
     let mut all = patterns;
     let mut rest = input;
@@ -105,6 +110,7 @@ fn parse_first_pattern<'a>(input: Input<'a>) -> Result<(SetPattern, Input<'a>), 
     ensures reads { ReadsAs spec.set_pattern_read_of result (spec.set_pattern_first (remaining input.entry)) }
     ensures shorter { IfOk result (λ x. length (remaining x.1) < length (remaining input.entry)) }
     ensures placed { IfOk result (λ x. Spans (set_pattern_kept x.0) input.entry x.1) }
+    ensures short { IfErr result (λ why. why ≢ TooLong) }
 {
     match input.expect_number() {
         Ok(_) => Err(ParseFault::NumberSet(input.at())),
@@ -122,6 +128,7 @@ fn parse_set_after_first<'a>(
     ensures reads { ReadsAs spec.set_read_of result (spec.set_after_first (view_set_pattern first) (remaining input.entry)) }
     ensures placed { IfOk result (λ x. Continues (Some at ∷ set_pattern_kept first) (set_kept x.0) input.entry x.1) }
     ensures shorter { IfOk result (λ x. length (remaining x.1) < length (remaining input.entry)) }
+    ensures short { IfErr result (λ why. why ≢ TooLong) }
 {
     let mut patterns = Vec::new(alloc);
     patterns.push(first)?;
@@ -143,6 +150,7 @@ pub fn parse_set<'a>(
     ensures reads { ReadsAs spec.set_read_of result (spec.set_of (remaining input.entry)) }
     ensures placed { IfOk result (λ x. Continues (Some at ∷ []) (set_kept x.0) input.entry x.1) }
     ensures shorter { IfOk result (λ x. length (remaining x.1) < length (remaining input.entry)) }
+    ensures short { IfErr result (λ why. why ≢ TooLong) }
 {
     match parse_first_pattern(input) {
         Ok((first, rest)) => parse_set_after_first(alloc, at, first, rest),

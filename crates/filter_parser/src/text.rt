@@ -1,11 +1,11 @@
 //! From a text to its filter.
 
-ghost use Rattle.std.specs.Prelude.{◌≡◌, ◌≢◌, ◌≤◌, List, None, IfOk, IfErr, length};
+ghost use Rattle.std.specs.Prelude.{◌≡◌, ◌≢◌, ◌<◌, ◌≤◌, List, None, IfOk, IfErr, IsErrOf, length};
 ghost use Rattle.filter_tokens.specs.Tokenization.{AreInOrder, IsTokenization};
 ghost use Rattle.filter_tokens.specs.declared.token.Token.{Token as TheToken};
 ghost use Rattle.filter_parser.specs.Placed.{IsPlaced};
 ghost use Rattle.filter_parser.specs.SyntaxText.{IsText, FilterView, text_limit, view_filter};
-ghost use Rattle.filter_parser.specs.declared.fault.ParseFault.TheVariants.{Memory};
+ghost use Rattle.filter_parser.specs.declared.fault.ParseFault.TheVariants.{Memory, TooLong};
 
 use crate::fault::{ParseFault, TEXT_LIMIT};
 use crate::filter::parse_filter;
@@ -30,6 +30,7 @@ fn filter_of_tokens(
     ensures refused { IfErr result (λ e. e ≢ Memory → (t : FilterView) → IsText text.now t → ⊥) }
     ensures spans { IfOk result (λ f. AreInOrder 0 (view_filter f).tokens (length text.now)) }
     ensures placed { IfOk result (λ f. IsPlaced text.now f) }
+    ensures short { IfErr result (λ e. e ≢ TooLong) }
 {
     let read = parse_filter(
         alloc,
@@ -70,6 +71,9 @@ pub fn parse(alloc: Global, text: &[u8]) -> Result<Filter, ParseFault>
     ensures spans { IfOk result (λ f. AreInOrder 0 (view_filter f).tokens (length text.now)) }
     // Each part of the tree has the place of its own token.
     ensures placed { IfOk result (λ f. IsPlaced text.now f) }
+    // P7 is the answer if and only if the text is over the limit.
+    ensures long { text_limit < length text.now → IsErrOf result TooLong }
+    ensures short { length text.now ≤ text_limit → IfErr result (λ e. e ≢ TooLong) }
 {
     if text.len() > TEXT_LIMIT {
         return Err(ParseFault::TooLong);

@@ -34,7 +34,7 @@ parse_chain-returns-clause-reads t c =
 pub parse_right_operand-returns-in-Err-clause-reads : goal.parse_right_operand-returns-in-Err-clause-reads
 parse_right_operand-returns-in-Err-clause-reads t c =
     λ other. right_none (sum_with (unary_at c.args.depth)) (view c.args.left) c.args.op (remaining c.args.input) c.in_default.ensures.found
-    (c.in-Err.ensures.reads (λ e. other (c.right_operand_fault.ensures e)))
+    (c.in-Err.ensures.reads (λ e. other (c.right_operand_fault.ensures.memory e)))
 
 pub parse_chain-returns-clause-placed : goal.parse_chain-returns-clause-placed
 parse_chain-returns-clause-placed t c = λ start first.
