@@ -13,4 +13,6 @@ mod history;
 #[cfg(test)]
 mod lines;
 #[cfg(test)]
+mod tables;
+#[cfg(test)]
 mod verification;

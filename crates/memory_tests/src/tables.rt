@@ -1,0 +1,184 @@
+//! A router's tables, with memory and without.
+
+use filter_code::{Code, Instr};
+use filter_verifier::{Verified, verify};
+use netchange_core::{Event, Message, Opening, Reply, Tables, Via};
+use prefix_patterns::{Ip, Prefix};
+use std::alloc::Global;
+use std::process::Abort;
+use std::sync::Arc;
+use std::test::Fail;
+
+/// Node 0 of three.
+fn opening(alloc: Global) -> Result<Opening, Fail> {
+    let prefix = Prefix::new(Ip(0x0a00_0000), 16).ok_or("16 bits")?;
+    Ok(Opening::new(3, 0, vec![in alloc; prefix; 3]?).ok_or("a domain")?)
+}
+
+/// A filter that rejects every route.
+fn rejecting(alloc: Global) -> Result<Arc<Verified>, Fail> {
+    let code = Code::new(0, Vec::new(alloc), [Instr::Reject].to_vec(alloc)?).ok_or("a code")?;
+    match verify(alloc, code, 3) {
+        Ok(verified) => Ok(Arc::new(alloc, verified)?),
+        Err((_, fault)) => Err(Fail::from(fault)),
+    }
+}
+
+/// The tables after both neighbours came up, node 1 told its distance from itself, and its messages were taken.
+fn tables(alloc: Global) -> Result<Tables, Fail> {
+    let mut tables = Tables::open(alloc, opening(alloc)?)?;
+    tables.apply(&Event::Up(1))?;
+    tables.apply(&Event::Up(2))?;
+    tables.apply(&Event::Receive(1, 1, 0))?;
+    tables.apply(&Event::Take(1, 9))?;
+    Ok(tables)
+}
+
+/// Asserts that the tables are those.
+fn expect_tables(rt: &impl Abort, tables: &mut Tables) -> Result<(), Fail> {
+    assert_eq!(rt; (tables.session(1), tables.session(2)), (1, 2));
+    assert_eq!(rt; (tables.queued(1), tables.queued(2)), (0, 4));
+    let near = Reply::Route {
+        dist: 1,
+        via: Via::Node(1),
+    };
+    assert!(rt; tables.apply(&Event::Show(1))?.is_same(&near));
+    let none = Reply::Route {
+        dist: 3,
+        via: Via::Nowhere,
+    };
+    assert!(rt; tables.apply(&Event::Show(2))?.is_same(&none));
+    Ok(())
+}
+
+/// Applies an event. Where memory is refused the tables are as they were, and the event has its reply when it is applied again.
+fn apply_twice(
+    rt: &impl Abort,
+    tables: &mut Tables,
+    event: &Event,
+    wanted: &Reply,
+) -> Result<(), Fail> {
+    match tables.apply(event) {
+        Ok(reply) => {
+            assert!(rt; reply.is_same(wanted));
+            Ok(())
+        }
+        Err(error) => {
+            expect_tables(rt, tables)?;
+            assert!(rt; tables.apply(event)?.is_same(wanted));
+            Err(Fail::from(error))
+        }
+    }
+}
+
+#[test]
+fn tables_are_opened_or_not(rt: HostRuntime) -> Result<(), Fail> {
+    let opened = Tables::open(rt.alloc(), opening(rt.alloc())?);
+    let mut tables = match opened {
+        Ok(tables) => tables,
+        Err(error) => {
+            let again = Tables::open(rt.alloc(), opening(rt.alloc())?)?;
+            assert_eq!(rt; again.session(1), 0);
+            return Err(Fail::from(error));
+        }
+    };
+    let local = Reply::Route {
+        dist: 0,
+        via: Via::Local,
+    };
+    assert!(rt; tables.apply(&Event::Show(0))?.is_same(&local));
+    Ok(())
+}
+
+#[test]
+fn a_neighbour_joins_or_nothing_changes(rt: HostRuntime) -> Result<(), Fail> {
+    let mut tables = tables(rt.alloc())?;
+    tables.apply(&Event::Down(1))?;
+    let joined = tables.apply(&Event::Up(1));
+    if let Err(error) = joined {
+        assert_eq!(rt; (tables.session(1), tables.session(2)), (0, 2));
+        assert!(rt; tables.apply(&Event::Up(1))?.is_same(&Reply::Opened(3)));
+        return Err(Fail::from(error));
+    }
+    assert_eq!(rt; (tables.session(1), tables.queued(3)), (3, 3));
+    Ok(())
+}
+
+#[test]
+fn a_neighbour_leaves_or_nothing_changes(rt: HostRuntime) -> Result<(), Fail> {
+    let mut tables = tables(rt.alloc())?;
+    apply_twice(
+        &rt,
+        &mut tables,
+        &Event::Down(1),
+        &Reply::Done { changed: 1 },
+    )?;
+    assert_eq!(rt; (tables.session(1), tables.queued(2)), (0, 5));
+    Ok(())
+}
+
+#[test]
+fn a_distance_is_received_or_nothing_changes(rt: HostRuntime) -> Result<(), Fail> {
+    let mut tables = tables(rt.alloc())?;
+    apply_twice(
+        &rt,
+        &mut tables,
+        &Event::Receive(2, 2, 0),
+        &Reply::Done { changed: 1 },
+    )?;
+    assert_eq!(rt; (tables.queued(1), tables.queued(2)), (1, 5));
+    Ok(())
+}
+
+#[test]
+fn messages_are_taken_or_stay(rt: HostRuntime) -> Result<(), Fail> {
+    let mut tables = tables(rt.alloc())?;
+    let told = match tables.apply(&Event::Take(2, 2)) {
+        Ok(reply) => reply,
+        Err(error) => {
+            expect_tables(&rt, &mut tables)?;
+            return Err(Fail::from(error));
+        }
+    };
+    let Reply::Messages(messages) = told else {
+        return Err(Fail::from("messages"));
+    };
+    let first = Message { dest: 0, dist: 0 };
+    let second = Message { dest: 1, dist: 3 };
+    assert_eq!(rt; messages.as_slice(), [first, second].as_slice());
+    assert_eq!(rt; tables.queued(2), 2);
+    Ok(())
+}
+
+#[test]
+fn an_import_filter_is_set_or_nothing_changes(rt: HostRuntime) -> Result<(), Fail> {
+    let mut tables = tables(rt.alloc())?;
+    let event = Event::SetImport(1, rejecting(rt.alloc())?);
+    apply_twice(&rt, &mut tables, &event, &Reply::Done { changed: 1 })?;
+    assert_eq!(rt; (tables.queued(1), tables.queued(2)), (1, 5));
+    Ok(())
+}
+
+#[test]
+fn an_export_filter_is_set_or_nothing_changes(rt: HostRuntime) -> Result<(), Fail> {
+    let mut tables = tables(rt.alloc())?;
+    let event = Event::SetExport(1, rejecting(rt.alloc())?);
+    apply_twice(&rt, &mut tables, &event, &Reply::Done { changed: 0 })?;
+    assert_eq!(rt; (tables.queued(1), tables.queued(2)), (3, 4));
+    Ok(())
+}
+
+#[test]
+fn looks_and_refused_events_need_no_memory(rt: HostRuntime) -> Result<(), Fail> {
+    let mut tables = tables(rt.alloc())?;
+    expect_tables(&rt, &mut tables)?;
+    for event in [
+        Event::Up(1),
+        Event::Down(7),
+        Event::Receive(2, 3, 0),
+        Event::Take(3, 1),
+    ] {
+        assert!(rt; matches!(&tables.apply(&event)?, Reply::Refused(_)));
+    }
+    expect_tables(&rt, &mut tables)
+}
