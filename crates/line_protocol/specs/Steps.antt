@@ -5,7 +5,7 @@ use Rattle.line_protocol.specs.Answers.{Answer, is_over, refusals, text_of}
 use Rattle.line_protocol.specs.Lines.{answerable_from, is_line_feed}
 use Rattle.line_protocol.specs.Runs.{Runs, RunsFront, IsWritten}
 use Rattle.line_protocol.specs.declared.faults.StreamFault.{StreamFault}
-use Rattle.line_protocol.specs.declared.faults.StreamFault.TheVariants.{Read, Write, Memory}
+use Rattle.line_protocol.specs.declared.faults.StreamFault.TheVariants.{Write, Memory}
 
 -- From one state of the service to the next these lines got these answers. `first` and `next` are the numbers of the lines
 -- before and after them, `already` and `refused` the refusals counted before and with them; `over` says that one ended the stream.

@@ -12,7 +12,7 @@ returns-in_err-instr-clause-value c =
     let l = c.loop in
     let total = read (times c.args.count an_instruction) c.args.reader.now in
     rw (p.1, p.2) (inr (stops an_instruction l.instrs.items c.args.count l.counter l.reader c.in_err-instr.field-0.0 total
-        c.loop-test.true c.in_err-instr.ensures.value l.invariant.told))
+    c.loop-test.true c.in_err-instr.ensures.value l.invariant.told))
 
 pub loop-preserved : goal.loop-preserved
 loop-preserved c =
@@ -20,7 +20,7 @@ loop-preserved c =
     let total = read (times c.args.count an_instruction) c.args.reader.now in
     record {
       told = rw c.in_ok-push.ensures.items (goes_on an_instruction l.instrs.items c.args.count l.counter l.reader c.instruction.new.self c.in_ok-instr.instr
-              total c.loop-test.true c.in_ok-instr.ensures.value l.invariant.told);
+          total c.loop-test.true c.in_ok-instr.ensures.value l.invariant.told);
       count = search rules;
       masks = rw c.in_ok-push.ensures.items (All-push HasMask l.instrs.items c.in_ok-instr.instr l.invariant.masks c.in_ok-instr.ensures.mask);
     }

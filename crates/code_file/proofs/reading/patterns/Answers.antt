@@ -10,7 +10,7 @@ returns-in_err-pattern-clause-value c =
     let l = c.loop in
     let total = read (times c.args.count a_pattern) c.args.reader.now in
     rw (p.1, p.2) (inr (stops a_pattern l.patterns.items c.args.count l.counter l.reader c.in_err-pattern.field-0.0 total
-        c.loop-test.true c.in_err-pattern.ensures l.invariant.told))
+    c.loop-test.true c.in_err-pattern.ensures l.invariant.told))
 
 pub loop-preserved : goal.loop-preserved
 loop-preserved c =
@@ -18,7 +18,7 @@ loop-preserved c =
     let total = read (times c.args.count a_pattern) c.args.reader.now in
     record {
       told = rw c.in_ok-push.ensures.items (goes_on a_pattern l.patterns.items c.args.count l.counter l.reader c.pattern.new.self c.in_ok-pattern.pattern
-              total c.loop-test.true c.in_ok-pattern.ensures l.invariant.told);
+          total c.loop-test.true c.in_ok-pattern.ensures l.invariant.told);
       count = search rules;
     }
 

@@ -12,7 +12,7 @@ returns-in_err-set-clause-value c =
     rw (p.1, p.2) (elim c.in_err-set.ensures [
       | inl none ↦ inl none
       | inr met ↦ inr (stops a_set l.sets.items c.args.count l.counter l.reader c.in_err-set.field-0.0 total
-        c.loop-test.true met l.invariant.told)
+          c.loop-test.true met l.invariant.told)
     ])
 
 pub loop-preserved : goal.loop-preserved
@@ -21,7 +21,7 @@ loop-preserved c =
     let total = read (times c.args.count a_set) c.args.reader.now in
     record {
       told = rw c.in_ok-push.ensures.items (goes_on a_set l.sets.items c.args.count l.counter l.reader c.set.new.reader c.in_ok-set.set
-              total c.loop-test.true c.in_ok-set.ensures l.invariant.told);
+          total c.loop-test.true c.in_ok-set.ensures l.invariant.told);
       count = search rules;
     }
 
