@@ -34,17 +34,19 @@ by_limits : (line first second third : List ℕ) → HasThreeWords line first se
     → IsNumber number_limit second → IsNumber number_limit third → (b : Bool)
     → is_within_limits (decimal_value second) (decimal_value third) ≡ b → Decided line
 by_limits line first second third h bits p m s true e =
-    inl (record { net = bits; metric = decimal_value second; size = decimal_value third },
-    record {
-      first = first;
-      second = second;
-      third = third;
-      three = h;
-      prefix = p;
-      numbers = record { is_metric = m; is_size = s; limits = are_limits (decimal_value second) (decimal_value third) e };
-      metric = refl;
-      size = refl;
-    })
+    inl (
+      record { net = bits; metric = decimal_value second; size = decimal_value third },
+      record {
+        first = first;
+        second = second;
+        third = third;
+        three = h;
+        prefix = p;
+        numbers = record { is_metric = m; is_size = s; limits = are_limits (decimal_value second) (decimal_value third) e };
+        metric = refl;
+        size = refl;
+      },
+    )
 by_limits line first second third h bits p m s false e =
     inr (Numbers, (first, second, third, h, (bits, p), λ n. let yes = within_limits _ _ n.limits in cc))
 
@@ -159,15 +161,21 @@ read_fault line Numbers h =
 
 -- and the other way round, since each line has a route or a fault
 pub routes : (line : List ℕ) (route : RouteView) → (route_in line ≡ Ok route) ↔ IsRouteLine line route
-routes line route = (λ e. elim (decided line) [
-  | inl found ↦ let same : found.0 ≡ route = let f = read_route line found.0 found.1 in cc in
-  subst (λ (r : RouteView). IsRouteLine line r) same found.1
-  | inr fault ↦ absurd (let f = read_fault line fault.0 fault.1 in cc)
-], read_route line route)
+routes line route = (
+  λ e. elim (decided line) [
+    | inl found ↦ let same : found.0 ≡ route = let f = read_route line found.0 found.1 in cc in
+        subst (λ (r : RouteView). IsRouteLine line r) same found.1
+    | inr fault ↦ absurd (let f = read_fault line fault.0 fault.1 in cc)
+  ],
+  read_route line route,
+)
 
 pub faults : (line : List ℕ) (why : LineFault) → (route_in line ≡ Err why) ↔ IsLineFault line why
-faults line why = (λ e. elim (decided line) [
-  | inl found ↦ absurd (let f = read_route line found.0 found.1 in cc)
-  | inr fault ↦ let same : fault.0 ≡ why = let f = read_fault line fault.0 fault.1 in cc in
-  subst (λ (w : LineFault). IsLineFault line w) same fault.1
-], read_fault line why)
+faults line why = (
+  λ e. elim (decided line) [
+    | inl found ↦ absurd (let f = read_route line found.0 found.1 in cc)
+    | inr fault ↦ let same : fault.0 ≡ why = let f = read_fault line fault.0 fault.1 in cc in
+        subst (λ (w : LineFault). IsLineFault line w) same fault.1
+  ],
+  read_fault line why,
+)

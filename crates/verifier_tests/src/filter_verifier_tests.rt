@@ -446,7 +446,11 @@ fn texts(rt: HostRuntime) -> Result<(), Fail> {
         assert_eq!(rt; format!(in rt.alloc(); "{fault}")?.as_str(), text);
     }
     for (fault, code, text) in [
-        (VerifyFault::BadSize, "V8", "the size of a domain must be 2 to 64"),
+        (
+            VerifyFault::BadSize,
+            "V8",
+            "the size of a domain must be 2 to 64",
+        ),
         (VerifyFault::Memory, "V10", "out of memory"),
     ] {
         assert_eq!(rt; fault.code(), code);
