@@ -5,3 +5,5 @@
 mod filter_machine_tests;
 #[cfg(test)]
 mod filter_verifier_tests;
+#[cfg(test)]
+mod machine_agreement_tests;

@@ -1,0 +1,239 @@
+//! The machine for verified code beside the checked machine, on random verified code and random routes.
+
+use filter_code::{Code, Instr, Outcome, Route, run_counted};
+use filter_machine::{Verdict, run};
+use filter_verifier::{Verified, verify};
+use prefix_patterns::{Ip, Pattern, PatternSet, Prefix};
+use std::alloc::{AllocError, Global};
+use std::process::Abort;
+use std::test::Fail;
+
+/// The size of the domain.
+const SIZE: u32 = 64;
+
+/// The instructions that take operands and give a value, and SETMETRIC.
+const OPERATIONS: [Instr; 18] = [
+    Instr::Add,
+    Instr::Sub,
+    Instr::Mul,
+    Instr::Div,
+    Instr::Max,
+    Instr::Eq,
+    Instr::Lt,
+    Instr::Le,
+    Instr::Not,
+    Instr::Addr,
+    Instr::Len,
+    Instr::Mask(0),
+    Instr::Mask(9),
+    Instr::Mask(32),
+    Instr::Within,
+    Instr::Member(0),
+    Instr::Member(1),
+    Instr::SetMetric,
+];
+
+/// Numbers that look random; the same seed gives the same ones.
+#[derive(Drop)]
+struct Numbers {
+    state: u64,
+}
+
+impl Numbers {
+    /// The next number, below a limit that is not 0.
+    fn below(&mut self, limit: u32) -> u32 {
+        self.state = self
+            .state
+            .wrapping_mul(6_364_136_223_846_793_005)
+            .wrapping_add(1_442_695_040_888_963_407);
+        let high = u32::try_from(self.state >> 33).unwrap_or(0);
+        high.checked_rem(limit).unwrap_or(0)
+    }
+
+    /// An address of few distinct first bits, so that many lie within one another.
+    fn ip(&mut self) -> Ip {
+        Ip(
+            self.below(8)
+                .wrapping_mul(0x2000_0000)
+                .wrapping_add(self.below(3)),
+        )
+    }
+
+    /// A prefix of such an address.
+    fn prefix(&mut self) -> Option<Prefix> {
+        let len = match self.below(8) {
+            0 => 0,
+            1 => 1,
+            2 => 2,
+            3 => 3,
+            4 => 8,
+            5 => 30,
+            6 => 31,
+            _ => 32,
+        };
+        Prefix::new(self.ip(), len)
+    }
+
+    /// The number of a local variable, one of four.
+    fn local(&mut self) -> u8 {
+        u8::try_from(self.below(4)).unwrap_or(0)
+    }
+
+    /// An int, often one at a limit.
+    fn int(&mut self) -> u32 {
+        match self.below(7) {
+            0 => 0,
+            1 => 1,
+            2 => 63,
+            3 => 64,
+            4 => u32::MAX,
+            5 => 0x8000_0000,
+            _ => self.below(u32::MAX),
+        }
+    }
+}
+
+/// An instruction that pushes a value and takes none.
+fn literal(numbers: &mut Numbers) -> Option<Instr> {
+    Some(match numbers.below(9) {
+        0 => Instr::Int(numbers.int()),
+        1 => Instr::Bool(numbers.below(2) == 0),
+        2 => Instr::Ip(numbers.ip()),
+        3 => Instr::Prefix(numbers.prefix()?),
+        4 => Instr::Net,
+        5 => Instr::Metric,
+        6 => Instr::Received,
+        _ => Instr::Load(numbers.local()),
+    })
+}
+
+/// A few instructions to go on with.
+fn piece(numbers: &mut Numbers) -> Option<[Option<Instr>; 3]> {
+    Some(match numbers.below(20) {
+        0..=5 => [Some(literal(numbers)?), None, None],
+        6..=14 => [
+            OPERATIONS.get(numbers.below(18) as usize).copied(),
+            None,
+            None,
+        ],
+        15 | 16 => [Some(Instr::Store(numbers.local())), None, None],
+        17 => [
+            Some(Instr::JumpIfNot(2)),
+            Some(literal(numbers)?),
+            Some(Instr::Store(numbers.local())),
+        ],
+        18 => [
+            Some(Instr::Jump(2)),
+            Some(literal(numbers)?),
+            Some(Instr::Store(numbers.local())),
+        ],
+        _ => [
+            Some(Instr::JumpIfNot(1)),
+            Some(if numbers.below(2) == 0 {
+                Instr::Accept
+            } else {
+                Instr::Reject
+            }),
+            None,
+        ],
+    })
+}
+
+/// The sets of each code.
+fn sets(alloc: Global) -> Result<Vec<PatternSet>, Fail> {
+    let ten = Prefix::new(Ip(0x2000_0000), 3).ok_or("a prefix of 3 bits")?;
+    let all = Prefix::new(Ip(0), 0).ok_or("a prefix of 0 bits")?;
+    let longer = Pattern::new(ten, 3, 31).ok_or("lengths in order")?;
+    let short = Pattern::new(all, 0, 2).ok_or("lengths in order")?;
+    let mut sets = Vec::new(alloc);
+    sets.push(PatternSet::build(alloc, &[longer, short]).map_err(|fault| Fail::from(fault))?)?;
+    sets.push(PatternSet::build(alloc, &[]).map_err(|fault| Fail::from(fault))?)?;
+    Ok(sets)
+}
+
+/// The code of these instructions, if it verifies.
+fn verified(alloc: Global, instrs: &[Instr]) -> Result<Option<Verified>, Fail> {
+    let code = Code::new(4, sets(alloc)?, instrs.to_vec(alloc)?).ok_or("a code within the limits")?;
+    Ok(verify(alloc, code, SIZE).ok())
+}
+
+/// Adds what there is of some instructions.
+fn extend(instrs: &mut Vec<Instr>, piece: &[Option<Instr>]) -> Result<(), AllocError> {
+    for instr in piece {
+        if let Some(instr) = instr {
+            instrs.push(*instr)?;
+        }
+    }
+    Ok(())
+}
+
+/// Random code that verifies: a piece stays in it if the code with it, ended by ACCEPT, verifies.
+fn random_code(alloc: Global, numbers: &mut Numbers) -> Result<Vec<Instr>, Fail> {
+    let mut instrs = Vec::new(alloc);
+    for _ in 0..120 {
+        let mut longer = instrs.as_slice().to_vec(alloc)?;
+        extend(&mut longer, &piece(numbers).ok_or("a piece")?)?;
+        let mut ended = longer.as_slice().to_vec(alloc)?;
+        ended.push(Instr::Accept)?;
+        if verified(alloc, &ended)?.is_some() {
+            instrs = longer;
+        }
+    }
+    instrs.push(Instr::Accept)?;
+    Ok(instrs)
+}
+
+/// The outcome that a verdict is.
+fn outcome_of(verdict: Verdict) -> Outcome {
+    match verdict {
+        Verdict::Accept(metric) => Outcome::Accept(metric),
+        Verdict::Reject => Outcome::Reject,
+    }
+}
+
+/// Runs verified code by both machines on some routes, and counts the steps of all runs.
+fn compare(rt: &impl Abort, verified: &Verified, numbers: &mut Numbers) -> Result<u64, Fail> {
+    let mut steps: u64 = 0;
+    for _ in 0..12 {
+        let net = numbers.prefix().ok_or("a prefix")?;
+        let metric = numbers.below(SIZE + 1).min(verified.size());
+        let route = Route::new(net, metric, verified.size()).ok_or("a route")?;
+        let ran = run(verified, &net, metric);
+        let counted = run_counted(verified.code(), &route);
+        assert_eq!(rt; outcome_of(ran.verdict), counted.outcome, "{route:?}");
+        assert_eq!(rt; ran.steps, counted.steps, "{route:?}");
+        steps = steps.saturating_add(u64::from(ran.steps));
+    }
+    Ok(steps)
+}
+
+/// How many of the instructions have an opcode.
+fn count(instrs: &[Instr], opcode: u8) -> usize {
+    instrs
+        .iter()
+        .filter(|instr| instr.opcode() == opcode)
+        .count()
+}
+
+#[test]
+fn random_code_runs_the_same(rt: HostRuntime) -> Result<(), Fail> {
+    let alloc = rt.alloc();
+    let mut numbers = Numbers { state: 2026 };
+    let mut all = Vec::new(alloc);
+    let mut steps: u64 = 0;
+    for _ in 0..40 {
+        let instrs = random_code(alloc, &mut numbers)?;
+        let code = verified(alloc, &instrs)?.ok_or("code that verifies")?;
+        steps = steps.saturating_add(compare(&rt, &code, &mut numbers)?);
+        all.extend_from_slice(&instrs)?;
+    }
+    // The code has each instruction, and the runs are long enough to tell the machines apart.
+    for opcode in [
+        0x01, 0x02, 0x03, 0x04, 0x10, 0x11, 0x12, 0x13, 0x14, 0x15, 0x20, 0x21, 0x22, 0x23, 0x24,
+        0x30, 0x31, 0x32, 0x33, 0x40, 0x41, 0x42, 0x50, 0x51, 0x60, 0x61, 0x70, 0x71,
+    ] {
+        assert!(rt; count(&all, opcode) > 0, "opcode {opcode:x}");
+    }
+    assert!(rt; steps > 10_000, "{steps} steps");
+    Ok(())
+}
