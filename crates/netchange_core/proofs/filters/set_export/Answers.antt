@@ -36,7 +36,7 @@ returns-clause-done c = λ n.
     let h : k < length ns = omega (arith, below, c.requires.kept.neighbours.one_a_node) in
     let short : k < length c.args.neighbours.now = omega (arith, h, length-map c.args.neighbours.now view_of) in
     let size : c.args.filter.now.value.size ≡ o.size =
-    ap (λ g. g.size) (sym c.deref.ensures) ∙ sym c.size.ensures ∙ c.if-size-from.false ∙ c.from.ensures
+    ap (λ g. g.size) (sym c.deref.ensures) ∙ sym c.size.ensures.value ∙ c.if-size-from.false ∙ c.from.ensures
     ∙ c.size-2.ensures.value in
     let e =
     changed_views c.args.neighbours.now k c.export.new.neighbour c.index-neighbours-from.result
@@ -60,7 +60,7 @@ returns-clause-kept c =
     let h : k < length ns = omega (arith, below, c.requires.kept.neighbours.one_a_node) in
     let short : k < length c.args.neighbours.now = omega (arith, h, length-map c.args.neighbours.now view_of) in
     let size : f.size ≡ o.size =
-    ap (λ g. g.size) c.in_ok-filter.ensures ∙ ap (λ g. g.size) (sym c.deref.ensures) ∙ sym c.size.ensures
+    ap (λ g. g.size) c.in_ok-filter.ensures ∙ ap (λ g. g.size) (sym c.deref.ensures) ∙ sym c.size.ensures.value
     ∙ c.if-size-from.false ∙ c.from.ensures ∙ c.size-2.ensures.value in
     let e = changed_views c.args.neighbours.now k c.export.new.neighbour c.index-neighbours-from.result
     (exporting o (kept_distance ds) f) short

@@ -21,7 +21,7 @@ settle-changed-requires-clause-neighbours c =
     let short : k < length c.make_room.new.neighbours = omega (arith, h, length-map c.args.neighbours.now view_of) in
     let fits = c.in_ok-filter.ensures in
     let size : c.in_ok-filter.filter.value.size ≡ o.size =
-    ap (λ f. f.size) fits ∙ ap (λ f. f.size) (sym c.deref.ensures) ∙ sym c.size.ensures ∙ c.if-size-from.false
+    ap (λ f. f.size) fits ∙ ap (λ f. f.size) (sym c.deref.ensures) ∙ sym c.size.ensures.value ∙ c.if-size-from.false
     ∙ c.from.ensures ∙ c.size-2.ensures.value in
     let e = changed_after c.args.neighbours.now c.make_room.new.neighbours k c.import.new.neighbour
     c.index-neighbours-k.result (importing c.in_ok-filter.filter.value) short c.make_room.ensures.same c.import.ensures.view in
@@ -66,7 +66,7 @@ returns-clause-done c = λ n.
     let h : k < length ns = omega (arith, below, c.requires.kept.neighbours.one_a_node) in
     let short : k < length c.make_room.new.neighbours = omega (arith, h, length-map c.args.neighbours.now view_of) in
     let size : c.args.filter.now.value.size ≡ o.size =
-    ap (λ g. g.size) (sym c.deref.ensures) ∙ sym c.size.ensures ∙ c.if-size-from.false ∙ c.from.ensures
+    ap (λ g. g.size) (sym c.deref.ensures) ∙ sym c.size.ensures.value ∙ c.if-size-from.false ∙ c.from.ensures
     ∙ c.size-2.ensures.value in
     let e = changed_after c.args.neighbours.now c.make_room.new.neighbours k c.import.new.neighbour
     c.index-neighbours-k.result (importing f) short c.make_room.ensures.same c.import.ensures.view in
