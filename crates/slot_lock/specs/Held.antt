@@ -1,0 +1,51 @@
+-- What a contract sees of a router and of a pass.
+use Rattle.std.specs.Prelude.{◌≡◌, ℕ, ◌<◌, ◌≤◌, Some, None, Option, List, []}
+use Rattle.atomic_table.specs.Seated.{TableId}
+use Rattle.netchange_core.specs.OpeningView.{OpeningView}
+use Rattle.route_history.specs.JournalView.{JournalView}
+use Rattle.route_history.specs.Positions.{times}
+use Rattle.slot_lock.specs.declared.rule.Part.{Part}
+use Rattle.slot_lock.specs.declared.rule.View.{View}
+use Rattle.slot_lock.specs.Rule.{AreIn}
+use Rattle.slot_lock.specs.Steps.{Seated}
+use Rattle.slot_lock.specs.Views.{all_shares, idle}
+
+-- which router it is, what it was opened with, and its limit
+pub record RouterView : Type 0 where
+  pub table : TableId
+  pub opening : OpeningView
+  pub limit : ℕ
+
+-- which router it is of, what that was opened with and its limit, and what the caller knows
+pub record PassView : Type 0 where
+  pub table : TableId
+  pub about : Option (OpeningView × ℕ)
+  pub part : Part
+
+abbrev pub pass_view : TableId → View → PassView
+pass_view table v = record { table = table; about = v.about; part = v.own }
+
+-- the pass is one of this router
+pub record IsPassOf (r : RouterView) (p : PassView) : Type 0 where
+  pub table : p.table ≡ r.table
+  pub about : p.about ≡ Some (r.opening, r.limit)
+
+-- each position of the caller's own calls is one of what it has seen, and stands there once
+pub record IsOwn (p : Part) : Type 0 where
+  pub within : AreIn p.mine p.seen
+  pub once : (x : ℕ) → times x p.mine ≤ 1
+
+-- a pass between two calls
+pub record IsSound (m : Seated) (n : ℕ) : Type 0 where
+  pub slots : m.1 ≡ []
+  pub note : m.0.note ≡ None
+  pub guest : m.0.guest ≡ idle
+  pub shares : m.0.own.shares ≡ n
+  pub some_shares : 0 < n
+  pub at_most : n ≤ all_shares
+  pub own : IsOwn m.0.own
+
+-- the pass of a router that was just opened has seen nothing and has all shares
+pub record IsFirst (r : RouterView) (p : PassView) : Type 0 where
+  pub of : IsPassOf r p
+  pub part : p.part ≡ record { seen = []; mine = []; missed = 0; shares = all_shares }

@@ -1,0 +1,14 @@
+//! The lock: many threads call one router, and all their answers stand in one history.
+#![tactic(auto)]
+
+mod answer;
+mod fault;
+mod pass;
+mod router;
+mod rule;
+mod seat;
+
+pub use answer::Answer;
+pub use fault::{LockFault, TryFault};
+pub use pass::Pass;
+pub use router::{ALL_SHARES, Router};

@@ -1,0 +1,86 @@
+//! A router that many threads call.
+
+ghost use Rattle.std.specs.Prelude.{◌≡◌, ◌≤◌, [], IfErr, IfOk};
+ghost use Rattle.slot_lock.specs.Calls.{Answered, TryRefused};
+ghost use Rattle.slot_lock.specs.declared.fault.LockFault.TheVariants as lock_fault;
+ghost use Rattle.slot_lock.specs.Held.{IsFirst, IsOwn, IsPassOf};
+
+use crate::answer::Answer;
+use crate::fault::{LockFault, TryFault};
+use crate::pass::Pass;
+use crate::rule::Desk;
+use crate::seat::{enter, take};
+use netchange_core::Event;
+use route_history::{CallFault, Journal};
+use std::alloc::Global;
+use std::marker::Model;
+use std::snapshot::Snapshot;
+
+/// The shares of a router that all its passes have together.
+pub const ALL_SHARES: u32 = 65_536;
+
+/// A router: a journal that its callers take in turn. A contract sees it as a `RouterView`.
+#[derive(Drop)]
+pub struct Router {
+    pub(crate) desk: Desk,
+}
+
+impl Model for Router {
+    ghost use Rattle.std.specs.Prelude.{◌≡◌};
+    ghost use Rattle.slot_lock.specs.Held.{RouterView};
+
+    ghost Value = { RouterView };
+
+    ghost view = { λ r. record {
+        table = r.desk.shared.table_id;
+        opening = r.desk.shared.key.value.opening;
+        limit = r.desk.shared.key.value.limit;
+    } };
+
+    ghost invariant = { λ r. (r.desk.shared.table_id.words ≡ 1) × (r.desk.shared.table_id.slots ≡ 1) };
+}
+
+impl Router {
+    /// A router with this journal, which is empty, and the first pass, which has all 65,536 shares. L3 where the memory was
+    /// refused; the journal is then dropped.
+    pub fn open(alloc: Global, journal: Journal) -> Result<(Router, Pass), LockFault>
+        requires { journal.entries ≡ [] }
+        ensures router { IfOk result (λ r. (r.0.opening ≡ journal.opening) × (r.0.limit ≡ journal.limit)) }
+        ensures pass { IfOk result (λ r. IsFirst r.0 r.1) }
+        ensures refused { IfErr result (λ f. f ≡ lock_fault.Memory) }
+    {
+        let key = Snapshot::of(&journal);
+        let Ok(mut slots) = Vec::with_capacity(alloc, 1) else {
+            return Err(LockFault::Memory);
+        };
+        slots.push_reserved(journal);
+        match Desk::new(alloc, &[0], slots, &key) {
+            Ok((desk, seat)) => Ok((
+                Router { desk },
+                Pass {
+                    seat,
+                    shares: ALL_SHARES,
+                },
+            )),
+            Err(_) => Err(LockFault::Memory),
+        }
+    }
+
+    /// Tries once to enter an event.
+    pub fn try_call(&self, pass: &mut Pass, event: Event) -> Result<Answer, TryFault>
+        requires { IsPassOf self.now pass.old }
+        ensures pass { IsPassOf self.now pass.new × (pass.new.part.shares ≡ pass.old.part.shares) }
+        ensures own { IsOwn pass.new.part }
+        ensures answered { IfOk result (λ a. Answered self.now pass.old event a pass.new × (pass.new.part.missed ≡ pass.old.part.missed)) }
+        ensures refused { IfErr result (λ f. TryRefused f self.now pass.old event pass.new) }
+    {
+        if !take(&self.desk, &mut pass.seat) {
+            return Err(TryFault::Busy(event));
+        }
+        match enter(&self.desk, &mut pass.seat, event) {
+            Ok(answer) => Ok(answer),
+            Err(CallFault::Full) => Err(TryFault::Full),
+            Err(CallFault::Memory) => Err(TryFault::Memory),
+        }
+    }
+}
