@@ -1,0 +1,134 @@
+-- What command a line gives, or the first thing that is wrong with it. (This project's own choice.)
+use Rattle.std.specs.Prelude.{ℕ, Bool, ◌&&◌, List, [], ◌∷◌, length, nat_le, nat_lt, Option, Some, None, Result, Ok, Err, option_map, if◌then◌else◌}
+use Rattle.filter_code.specs.Limits.{smallest_size, largest_size}
+use Rattle.hex.specs.Hex.{decode_of}
+use Rattle.hex.specs.declared.error.FromHexError.{FromHexError}
+use Rattle.line_protocol.specs.Limits.{line_limit}
+use Rattle.line_protocol.specs.Words.{words, without_front_blanks}
+use Rattle.prefix_patterns.specs.Reading.{number_in, prefix_in}
+use Rattle.operator_cmds.specs.CommandView.{CommandView, Network, Prefix, Load, Code, Import, Export, Up, Down, Receive, Take, Show}
+use Rattle.operator_cmds.specs.Limits.{number_limit, largest_limit}
+use Rattle.operator_cmds.specs.Names.{is_name}
+use Rattle.operator_cmds.specs.Verbs.{verb_in}
+use Rattle.operator_cmds.specs.WordLists.{after_word, one_of, two_of, three_of}
+use Rattle.operator_cmds.specs.declared.fault.CommandFault.{CommandFault}
+use Rattle.operator_cmds.specs.declared.fault.CommandFault.TheVariants as fault
+use Rattle.operator_cmds.specs.declared.verb.Verb.{Verb}
+use Rattle.operator_cmds.specs.declared.verb.Verb.TheVariants as verb
+
+-- a command, or what is wrong with its line
+abbrev pub Read : Type 0
+Read = Result CommandView CommandFault
+
+-- a domain has 2 to 64 nodes, the router is one of them, and a history has at least one entry
+abbrev pub is_network : ℕ → ℕ → Bool
+is_network size me = nat_le smallest_size size && nat_le size largest_size && nat_lt me size
+
+abbrev pub network_parts : Option ℕ → Option ℕ → Read
+network_parts None me = Err fault.Numbers
+network_parts (Some size) None = Err fault.Numbers
+network_parts (Some size) (Some me) = if is_network size me then Ok (Network size me None) else Err fault.Numbers
+
+abbrev pub limited_parts : Option ℕ → Option ℕ → Option ℕ → Read
+limited_parts None me limit = Err fault.Numbers
+limited_parts (Some size) None limit = Err fault.Numbers
+limited_parts (Some size) (Some me) None = Err fault.Numbers
+limited_parts (Some size) (Some me) (Some limit) =
+    if is_network size me && nat_lt 0 limit then Ok (Network size me (Some limit)) else Err fault.Numbers
+
+-- `network N ME [LIMIT]`
+abbrev pub network_of : List (List ℕ) → Read
+network_of [] = Err fault.Words
+network_of (size ∷ []) = Err fault.Words
+network_of (size ∷ (me ∷ [])) = network_parts (number_in number_limit size) (number_in number_limit me)
+network_of (size ∷ (me ∷ (limit ∷ []))) =
+    limited_parts (number_in number_limit size) (number_in number_limit me) (number_in largest_limit limit)
+network_of (size ∷ (me ∷ (limit ∷ (word ∷ more)))) = Err fault.Words
+
+abbrev pub prefix_parts : Option ℕ → Option (List Bool) → Read
+prefix_parts None prefix = Err fault.Numbers
+prefix_parts (Some node) None = Err fault.Prefix
+prefix_parts (Some node) (Some prefix) = Ok (Prefix node prefix)
+
+-- `prefix V P`
+abbrev pub prefix_of : Option (List ℕ × List ℕ) → Read
+prefix_of None = Err fault.Words
+prefix_of (Some (node, prefix)) = prefix_parts (number_in number_limit node) (prefix_in prefix)
+
+-- `load NAME TEXT`, where the text has at least one word
+abbrev pub load_of : List (List ℕ) → List ℕ → Read
+load_of [] text = Err fault.Words
+load_of (name ∷ []) text = Err fault.Words
+load_of (name ∷ (word ∷ more)) text = if is_name name then Ok (Load name text) else Err fault.Words
+
+abbrev pub code_parts : List ℕ → Result (List ℕ) FromHexError → Read
+code_parts name (Ok bytes) = Ok (Code name bytes)
+code_parts name (Err why) = Err fault.Hexadecimal
+
+-- `code NAME HEX`
+abbrev pub code_of : Option (List ℕ × List ℕ) → Read
+code_of None = Err fault.Words
+code_of (Some (name, digits)) = if is_name name then code_parts name (decode_of digits) else Err fault.Words
+
+-- the number of a node that a text writes
+abbrev pub number_or : Option ℕ → Result ℕ CommandFault
+number_or None = Err fault.Numbers
+number_or (Some node) = Ok node
+
+-- the number of a node, as the only word
+abbrev pub node_in : Option (List ℕ) → Result ℕ CommandFault
+node_in None = Err fault.Words
+node_in (Some node) = number_or (number_in number_limit node)
+
+abbrev pub named : List ℕ → Option ℕ → Result (ℕ × List ℕ) CommandFault
+named name None = Err fault.Numbers
+named name (Some node) = Ok (node, name)
+
+-- the number of a node and the name of a filter, as the only two words: a bad name counts before a bad number
+abbrev pub filter_in : Option (List ℕ × List ℕ) → Result (ℕ × List ℕ) CommandFault
+filter_in None = Err fault.Words
+filter_in (Some (node, name)) = if is_name name then named name (number_in number_limit node) else Err fault.Words
+
+-- the command that is made of what was read
+abbrev pub made : {X : Type 0} → (X → CommandView) → Result X CommandFault → Read
+made make (Ok x) = Ok (make x)
+made make (Err why) = Err why
+
+abbrev pub receive_parts : Option ℕ → Option ℕ → Option ℕ → Read
+receive_parts None dest dist = Err fault.Numbers
+receive_parts (Some node) None dist = Err fault.Numbers
+receive_parts (Some node) (Some dest) None = Err fault.Numbers
+receive_parts (Some node) (Some dest) (Some dist) = Ok (Receive node dest dist)
+
+-- `recv W V D`
+abbrev pub receive_of : Option (List ℕ × List ℕ × List ℕ) → Read
+receive_of None = Err fault.Words
+receive_of (Some (node, dest, dist)) =
+    receive_parts (number_in number_limit node) (number_in number_limit dest) (number_in number_limit dist)
+
+-- a command by its verb and the words after it; `text` is what follows the second word of the line, without blanks at its front
+abbrev pub command_of : Option Verb → List (List ℕ) → List ℕ → Read
+command_of None args text = Err fault.Words
+command_of (Some verb.Network) args text = network_of args
+command_of (Some verb.Prefix) args text = prefix_of (two_of args)
+command_of (Some verb.Load) args text = load_of args text
+command_of (Some verb.Code) args text = code_of (two_of args)
+command_of (Some verb.Import) args text = made (λ p. Import p.0 p.1) (filter_in (two_of args))
+command_of (Some verb.Export) args text = made (λ p. Export p.0 p.1) (filter_in (two_of args))
+command_of (Some verb.Up) args text = made Up (node_in (one_of args))
+command_of (Some verb.Down) args text = made Down (node_in (one_of args))
+command_of (Some verb.Receive) args text = receive_of (three_of args)
+command_of (Some verb.Take) args text = made Take (node_in (one_of args))
+command_of (Some verb.Show) args text = made Show (node_in (one_of args))
+
+abbrev pub command_of_words : List (List ℕ) → List ℕ → Read
+command_of_words [] text = Err fault.Words
+command_of_words (first ∷ args) text = command_of (verb_in first) args text
+
+-- the text of a filter in a line: what follows the second word, from its first byte that is no blank
+abbrev pub text_in : List ℕ → List ℕ
+text_in line = without_front_blanks (after_word (after_word line))
+
+-- the command that a line gives
+abbrev pub command_in : List ℕ → Read
+command_in line = if nat_lt line_limit (length line) then Err fault.TooLong else command_of_words (words line) (text_in line)

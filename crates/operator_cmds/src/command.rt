@@ -1,0 +1,68 @@
+//! A command of the script.
+use prefix_patterns::Prefix;
+
+/// One command with the words after it. Contracts see it as a `CommandView`.
+#[derive(Debug, Drop)]
+pub enum Command<'a> {
+    /// `network N ME [LIMIT]`: a domain of N nodes, of which the router is ME, and the most entries of its history.
+    Network {
+        /// N, 2 to 64.
+        size: u16,
+        /// ME, below N.
+        me: u16,
+        /// LIMIT, 1 to 1,000,000; `None` if it is left out.
+        limit: Option<u32>,
+    },
+    /// `prefix V P`: the prefix of a node.
+    Prefix {
+        /// V; whether there is such a node is judged by the script.
+        node: u16,
+        /// P.
+        prefix: Prefix,
+    },
+    /// `load NAME TEXT`: a filter by its text.
+    Load {
+        /// NAME.
+        name: &'a [u8],
+        /// TEXT, from its first byte that is no blank to the end of the line.
+        text: &'a [u8],
+    },
+    /// `code NAME HEX`: a filter by its code file.
+    Code {
+        /// NAME.
+        name: &'a [u8],
+        /// The bytes that HEX writes.
+        bytes: Vec<u8>,
+    },
+    /// `import W NAME`: a filter of what a neighbour tells.
+    Import {
+        /// W.
+        node: u16,
+        /// NAME.
+        name: &'a [u8],
+    },
+    /// `export W NAME`: a filter of what a neighbour is told.
+    Export {
+        /// W.
+        node: u16,
+        /// NAME.
+        name: &'a [u8],
+    },
+    /// `up W`: the channel to a neighbour works.
+    Up(u16),
+    /// `down W`: the channel to a neighbour failed.
+    Down(u16),
+    /// `recv W V D`: a neighbour told a distance.
+    Receive {
+        /// W.
+        node: u16,
+        /// V, the destination.
+        dest: u16,
+        /// D, the distance.
+        dist: u16,
+    },
+    /// `take W`: all messages that wait for a neighbour.
+    Take(u16),
+    /// `show V`: the route to a node.
+    Show(u16),
+}

@@ -1,0 +1,233 @@
+//! A line of a script is read as a command.
+ghost use Rattle.std.specs.Prelude.{◌≡◌, Some, Ok, Err, MatchResult};
+ghost use Rattle.line_protocol.specs.Words.{words, without_front_blanks};
+ghost use Rattle.prefix_patterns.specs.Reading.{number_in};
+ghost use Rattle.operator_cmds.specs.Commands as spec;
+ghost use Rattle.operator_cmds.specs.Limits.{largest_limit, number_limit};
+ghost use Rattle.operator_cmds.specs.Readings.{IsRead, IsReadIn};
+ghost use Rattle.operator_cmds.specs.WordLists.{after_word, one_of, two_of, three_of};
+
+use crate::command::Command;
+use crate::fault::CommandFault;
+use crate::name::is_name;
+use crate::verb::{Verb, read_verb};
+use crate::words::{cut_word, one_word, three_words, trim_front_blanks, two_words};
+use crate::{LARGEST_LIMIT, NUMBER_LIMIT};
+use filter_code::{LARGEST_SIZE, SMALLEST_SIZE};
+use hex::FromHexError;
+use line_protocol::{LINE_LIMIT, next_word};
+use prefix_patterns::{read_number, read_prefix};
+use std::alloc::Global;
+
+/// A number of at most `NUMBER_LIMIT`.
+fn read_small(text: &[u8]) -> Option<u16>
+    ensures { result ≡ number_in number_limit text.now }
+{
+    let n = read_number(text, NUMBER_LIMIT)?;
+    Some(n as u16)
+}
+
+/// Whether a domain can have so many nodes and this one.
+fn is_network(size: u16, me: u16) -> bool
+    ensures { result ≡ spec.is_network size me }
+{
+    let nodes = u32::from(size);
+    SMALLEST_SIZE <= nodes && nodes <= LARGEST_SIZE && me < size
+}
+
+/// `network N ME`.
+fn read_network<'a>(size: &[u8], me: &[u8]) -> Result<Command<'a>, CommandFault>
+    ensures { IsRead result (spec.network_parts (number_in number_limit size.now) (number_in number_limit me.now)) }
+{
+    let Some(size) = read_small(size) else {
+        return Err(CommandFault::Numbers);
+    };
+    let Some(me) = read_small(me) else {
+        return Err(CommandFault::Numbers);
+    };
+    if !is_network(size, me) {
+        return Err(CommandFault::Numbers);
+    }
+    Ok(Command::Network {
+        size,
+        me,
+        limit: None,
+    })
+}
+
+/// `network N ME LIMIT`.
+fn read_limited<'a>(size: &[u8], me: &[u8], limit: &[u8]) -> Result<Command<'a>, CommandFault>
+    ensures { IsRead result (spec.limited_parts (number_in number_limit size.now) (number_in number_limit me.now)
+        (number_in largest_limit limit.now)) }
+{
+    let Some(size) = read_small(size) else {
+        return Err(CommandFault::Numbers);
+    };
+    let Some(me) = read_small(me) else {
+        return Err(CommandFault::Numbers);
+    };
+    let Some(limit) = read_number(limit, LARGEST_LIMIT) else {
+        return Err(CommandFault::Numbers);
+    };
+    if !is_network(size, me) || limit == 0 {
+        return Err(CommandFault::Numbers);
+    }
+    Ok(Command::Network {
+        size,
+        me,
+        limit: Some(limit),
+    })
+}
+
+/// A `network` command by the bytes after its first word.
+fn read_domain<'a>(rest: &[u8]) -> Result<Command<'a>, CommandFault>
+    ensures { IsRead result (spec.network_of (words rest.now)) }
+{
+    if let Some((size, me)) = two_words(rest) {
+        return read_network(size, me);
+    }
+    match three_words(rest) {
+        Some((size, me, limit)) => read_limited(size, me, limit),
+        None => Err(CommandFault::Words),
+    }
+}
+
+/// A `prefix` command by the bytes after its first word.
+fn read_node_prefix<'a>(rest: &[u8]) -> Result<Command<'a>, CommandFault>
+    ensures { IsRead result (spec.prefix_of (two_of (words rest.now))) }
+{
+    let Some((node, prefix)) = two_words(rest) else {
+        return Err(CommandFault::Words);
+    };
+    let Some(node) = read_small(node) else {
+        return Err(CommandFault::Numbers);
+    };
+    match read_prefix(prefix) {
+        Some(prefix) => Ok(Command::Prefix { node, prefix }),
+        None => Err(CommandFault::Prefix),
+    }
+}
+
+/// A `load` command by the bytes after its first word.
+fn read_load(rest: &[u8]) -> Result<Command<'_>, CommandFault>
+    ensures { IsRead result (spec.load_of (words rest.now) (without_front_blanks (after_word rest.now))) }
+{
+    let Some((name, rest)) = cut_word(rest) else {
+        return Err(CommandFault::Words);
+    };
+    if next_word(rest).is_none() || !is_name(name) {
+        return Err(CommandFault::Words);
+    }
+    Ok(Command::Load {
+        name,
+        text: trim_front_blanks(rest),
+    })
+}
+
+/// A `code` command by the bytes after its first word.
+fn read_code(alloc: Global, rest: &[u8]) -> Result<Command<'_>, CommandFault>
+    ensures { IsReadIn result (spec.code_of (two_of (words rest.now))) }
+{
+    let Some((name, digits)) = two_words(rest) else {
+        return Err(CommandFault::Words);
+    };
+    if !is_name(name) {
+        return Err(CommandFault::Words);
+    }
+    match hex::decode(alloc, digits) {
+        Ok(bytes) => Ok(Command::Code { name, bytes }),
+        Err(FromHexError::OutOfMemory) => Err(CommandFault::Memory),
+        Err(_) => Err(CommandFault::Hexadecimal),
+    }
+}
+
+/// The number of a node and the name of a filter.
+fn read_filter(rest: &[u8]) -> Result<(u16, &[u8]), CommandFault>
+    ensures { MatchResult result (λ p. spec.filter_in (two_of (words rest.now)) ≡ Ok (p.0, p.1.now))
+        (λ why. spec.filter_in (two_of (words rest.now)) ≡ Err why) }
+{
+    let Some((node, name)) = two_words(rest) else {
+        return Err(CommandFault::Words);
+    };
+    if !is_name(name) {
+        return Err(CommandFault::Words);
+    }
+    match read_small(node) {
+        Some(node) => Ok((node, name)),
+        None => Err(CommandFault::Numbers),
+    }
+}
+
+/// The number of a node, where nothing follows it.
+fn read_node(rest: &[u8]) -> Result<u16, CommandFault>
+    ensures { result ≡ spec.node_in (one_of (words rest.now)) }
+{
+    let Some(node) = one_word(rest) else {
+        return Err(CommandFault::Words);
+    };
+    match read_small(node) {
+        Some(node) => Ok(node),
+        None => Err(CommandFault::Numbers),
+    }
+}
+
+/// A `recv` command by the bytes after its first word.
+fn read_receive<'a>(rest: &[u8]) -> Result<Command<'a>, CommandFault>
+    ensures { IsRead result (spec.receive_of (three_of (words rest.now))) }
+{
+    let Some((node, dest, dist)) = three_words(rest) else {
+        return Err(CommandFault::Words);
+    };
+    let Some(node) = read_small(node) else {
+        return Err(CommandFault::Numbers);
+    };
+    let Some(dest) = read_small(dest) else {
+        return Err(CommandFault::Numbers);
+    };
+    let Some(dist) = read_small(dist) else {
+        return Err(CommandFault::Numbers);
+    };
+    Ok(Command::Receive { node, dest, dist })
+}
+
+/// A command by its verb and the bytes after it.
+fn read_rest(alloc: Global, verb: Verb, rest: &[u8]) -> Result<Command<'_>, CommandFault>
+    ensures { IsReadIn result (spec.command_of (Some verb) (words rest.now) (without_front_blanks (after_word rest.now))) }
+{
+    match verb {
+        Verb::Network => read_domain(rest),
+        Verb::Prefix => read_node_prefix(rest),
+        Verb::Load => read_load(rest),
+        Verb::Code => read_code(alloc, rest),
+        Verb::Import => {
+            let (node, name) = read_filter(rest)?;
+            Ok(Command::Import { node, name })
+        }
+        Verb::Export => {
+            let (node, name) = read_filter(rest)?;
+            Ok(Command::Export { node, name })
+        }
+        Verb::Up => Ok(Command::Up(read_node(rest)?)),
+        Verb::Down => Ok(Command::Down(read_node(rest)?)),
+        Verb::Receive => read_receive(rest),
+        Verb::Take => Ok(Command::Take(read_node(rest)?)),
+        Verb::Show => Ok(Command::Show(read_node(rest)?)),
+    }
+}
+
+/// Reads a line of a script as a command, or finds the first thing that is wrong with it. The tests that need the script's state
+/// are not made here.
+pub fn read_command(alloc: Global, line: &[u8]) -> Result<Command<'_>, CommandFault>
+    ensures { IsReadIn result (spec.command_in line.now) }
+{
+    if line.len() > LINE_LIMIT {
+        return Err(CommandFault::TooLong);
+    }
+    let Some((word, rest)) = cut_word(line) else {
+        return Err(CommandFault::Words);
+    };
+    match read_verb(word) {
+        Some(verb) => read_rest(alloc, verb, rest),
+        None => Err(CommandFault::Words),
+    }
+}

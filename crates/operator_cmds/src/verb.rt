@@ -1,0 +1,88 @@
+//! The first word of a command.
+ghost use Rattle.std.specs.Prelude.{◌≡◌, find};
+ghost use Rattle.operator_cmds.specs.Verbs as spec;
+
+/// What a command does, as its first word says.
+#[derive(Clone, Copy, Debug, PartialEq, Eq)]
+pub enum Verb {
+    /// `network`
+    Network,
+    /// `prefix`
+    Prefix,
+    /// `load`
+    Load,
+    /// `code`
+    Code,
+    /// `import`
+    Import,
+    /// `export`
+    Export,
+    /// `up`
+    Up,
+    /// `down`
+    Down,
+    /// `recv`
+    Receive,
+    /// `take`
+    Take,
+    /// `show`
+    Show,
+}
+
+/// All of them.
+pub static VERBS: [Verb; 11] = [
+    Verb::Network,
+    Verb::Prefix,
+    Verb::Load,
+    Verb::Code,
+    Verb::Import,
+    Verb::Export,
+    Verb::Up,
+    Verb::Down,
+    Verb::Receive,
+    Verb::Take,
+    Verb::Show,
+];
+
+impl Verb {
+    ghost use Rattle.operator_cmds.specs.Verbs.{verb_text};
+
+    /// How it is written.
+    fn text(&self) -> &'static str
+        ensures { result.now ≡ verb_text self.now }
+    {
+        match self {
+            Verb::Network => "network",
+            Verb::Prefix => "prefix",
+            Verb::Load => "load",
+            Verb::Code => "code",
+            Verb::Import => "import",
+            Verb::Export => "export",
+            Verb::Up => "up",
+            Verb::Down => "down",
+            Verb::Receive => "recv",
+            Verb::Take => "take",
+            Verb::Show => "show",
+        }
+    }
+}
+
+/// The verb that is written so.
+#[tactic(auto, unfolding(crate::specs::Verbs::verb_in))]
+pub fn read_verb(word: &[u8]) -> Option<Verb>
+    ensures { spec.verb_in word.now ≡ result }
+{
+    first_spelled(&VERBS, word)
+}
+
+/// The first of the verbs that is written so.
+fn first_spelled(verbs: &[Verb], word: &[u8]) -> Option<Verb>
+    ensures { find (spec.is_spelled word.now) verbs.now ≡ result }
+{
+    for verb in verbs {
+        if verb.text().as_bytes() == word {
+            return Some(*verb);
+        }
+    }
+    None
+}

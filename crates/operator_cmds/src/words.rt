@@ -1,0 +1,80 @@
+//! The words after the first of a command, and the text of a filter.
+ghost use Rattle.std.specs.Prelude.{◌≡◌, ◌≤◌, [], ◌∷◌, length, IfNone, IfSome};
+ghost use Rattle.std.specs.List.{prefix_len};
+ghost use Rattle.std.specs.Option.{option_map};
+ghost use Rattle.line_protocol.specs.Words.{is_blank, words, without_front_blanks};
+ghost use Rattle.operator_cmds.specs.WordLists as spec;
+
+use line_protocol::next_word;
+
+/// The first word of a line, and the bytes after it.
+pub fn cut_word(line: &[u8]) -> Option<(&[u8], &[u8])>
+    ensures none { IfNone result (words line.now ≡ []) }
+    ensures found { IfSome result (λ cut. words line.now ≡ cut.0.now ∷ words cut.1.now) }
+    ensures after { IfSome result (λ cut. spec.after_word line.now ≡ cut.1.now) }
+{
+    next_word(line)
+}
+
+/// The word of a line of just one.
+pub fn one_word(line: &[u8]) -> Option<&[u8]>
+    ensures { spec.one_of (words line.now) ≡ option_map (λ a. a.now) result }
+{
+    let (first, rest) = next_word(line)?;
+    match next_word(rest) {
+        None => Some(first),
+        Some(_) => None,
+    }
+}
+
+/// The words of a line of just two.
+pub fn two_words(line: &[u8]) -> Option<(&[u8], &[u8])>
+    ensures { spec.two_of (words line.now) ≡ option_map (λ all. (all.0.now, all.1.now)) result }
+{
+    let (first, rest) = next_word(line)?;
+    let (second, rest) = next_word(rest)?;
+    match next_word(rest) {
+        None => Some((first, second)),
+        Some(_) => None,
+    }
+}
+
+/// The words of a line of just three.
+pub fn three_words(line: &[u8]) -> Option<(&[u8], &[u8], &[u8])>
+    ensures { spec.three_of (words line.now) ≡ option_map (λ all. (all.0.now, all.1.now, all.2.now)) result }
+{
+    let (first, rest) = next_word(line)?;
+    let (second, rest) = next_word(rest)?;
+    let (third, rest) = next_word(rest)?;
+    match next_word(rest) {
+        None => Some((first, second, third)),
+        Some(_) => None,
+    }
+}
+
+/// A byte between words.
+fn is_blank(byte: u8) -> bool
+    ensures { result ≡ is_blank byte }
+{
+    byte == b' ' || byte == b'\t'
+}
+
+/// The number of blanks at the front.
+fn count_front_blanks(line: &[u8]) -> usize
+    ensures len { result ≡ prefix_len is_blank line.now }
+    ensures within { result ≤ length line.now }
+{
+    for (i, byte) in line.iter().enumerate() {
+        if !is_blank(*byte) {
+            return i;
+        }
+    }
+    line.len()
+}
+
+/// The line without the blanks at its front.
+pub fn trim_front_blanks(line: &[u8]) -> &[u8]
+    ensures { result.now ≡ without_front_blanks line.now }
+{
+    &line[count_front_blanks(line)..]
+}
