@@ -17,10 +17,10 @@ use Rattle.route_history.specs.JournalView.{JournalView}
 use Rattle.route_history.specs.Positions.{once_below, times}
 use Rattle.slot_lock.specs.declared.rule.View.{View}
 use Rattle.slot_lock.specs.Views.{claims, noted, seeing, shares_of, unnoted}
-use Rattle.slot_lock.specs.Rule.{AreIn, AreKnown, Fits, IsHome, IsKept, IsOut, journal}
+use Rattle.slot_lock.specs.Rule.{AreIn, AreKnown, Fits, IsKept, IsOut, journal}
 use Rattle.slot_lock.specs.Steps.{after_give, after_leave, after_show}
-use Rattle.slot_lock.proofs.Prefixes.{further, shorter, whole}
-use Rattle.slot_lock.proofs.Keeping.{fits_on, known_set, once_more, sees_on, times_append}
+use Rattle.slot_lock.proofs.Prefixes.{shorter, whole}
+use Rattle.slot_lock.proofs.Keeping.{known_set, once_more, sees_on, times_append}
 
 -- what a seat that has the journal has to show to give it back, with a new view
 pub record MayGive (v : View) (j : JournalView) (w : View) : Type 0 where

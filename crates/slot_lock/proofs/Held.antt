@@ -1,12 +1,11 @@
 -- The steps of the lock, for a seat as a function has it.
-use Rattle.std.proofs.Common.{◌≡◌, ◌∙◌, sym, ap, refl, subst, ℕ, ◌+◌, ◌<◌, ◌≤◌, Some, None, Option, List, [], ◌∷◌, ◌++◌, eqb, length, arith}
+use Rattle.std.proofs.Common.{◌≡◌, ◌∙◌, sym, ap, subst, ℕ, ◌<◌, ◌≤◌, Some, None, Option, List, [], ◌∷◌, ◌++◌, eqb, length}
 use prog.Atomic.{either}
 use Rattle.atomic_table.specs.Table.{Allows, rest}
 use Rattle.netchange_core.specs.OpeningView.{OpeningView}
 use Rattle.route_history.specs.declared.entry.Entry.{Entry}
 use Rattle.route_history.specs.History.{IsLegal}
 use Rattle.route_history.specs.JournalView.{JournalView}
-use Rattle.slot_lock.specs.declared.rule.View.{View}
 use Rattle.slot_lock.specs.Entering.{IsHolding}
 use Rattle.slot_lock.specs.Rule.{IsKept}
 use Rattle.slot_lock.specs.Steps.{Seated, Takes, after_give, after_leave, after_show}

@@ -1,7 +1,7 @@
 -- The rule after a change of one view.
-use Rattle.std.proofs.Common.{◌≡◌, ◌∙◌, sym, ap, refl, subst, ℕ, zero, suc, ◌+◌, ◌<◌, ◌≤◌, ◌≢◌, ◌⊎◌, inl, inr, ⊎_elim, Some, None, Option, List, [], ◌∷◌, ◌++◌, length, set, arith}
+use Rattle.std.proofs.Common.{◌≡◌, sym, ap, refl, subst, ℕ, zero, suc, ◌+◌, ◌<◌, ◌≤◌, ⊎_elim, Some, None, Option, List, [], ◌∷◌, ◌++◌, length, set, arith}
 use Rattle.std.proofs.lemmas.Bool.Decides.{nat_tests}
-use mathlib.Core.Option.{none, some, some-injective, some-ne-none}
+use mathlib.Core.Option.{some, some-ne-none}
 use lib.ListN.{get_elem?}
 use Rattle.atomic_table.proofs.Lists.{at_set}
 use Rattle.netchange_core.specs.OpeningView.{OpeningView}
@@ -11,7 +11,7 @@ use Rattle.route_history.specs.Positions.{once_below, times}
 use Rattle.slot_lock.specs.declared.rule.Part.{Part}
 use Rattle.slot_lock.specs.declared.rule.View.{View}
 use Rattle.slot_lock.specs.Views.{claims, shares_of, spent}
-use Rattle.slot_lock.specs.Rule.{AreKnown, Fits, Sees, total}
+use Rattle.slot_lock.specs.Rule.{AreKnown, Fits, Sees}
 use Rattle.slot_lock.proofs.Totals.{total_set}
 use Rattle.slot_lock.proofs.Prefixes.{further}
 

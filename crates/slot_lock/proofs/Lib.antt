@@ -5,3 +5,7 @@ mod Taking
 mod Giving
 mod Held
 mod Sound
+mod Trying
+mod Dividing
+mod Joining
+mod Longer

@@ -1,5 +1,5 @@
 -- A pass stays sound through a call.
-use Rattle.std.proofs.Common.{◌≡◌, ◌∙◌, sym, ap, refl, subst, ℕ, zero, suc, ◌+◌, ◌<◌, ◌≤◌, ◌⊎◌, inl, inr, ⊎_elim, Some, None, Ok, Err, Result, IfOk, IfErr, List, [], ◌∷◌, ◌++◌, length, length-append, arith}
+use Rattle.std.proofs.Common.{◌≡◌, ◌∙◌, sym, ap, refl, subst, ℕ, ◌≤◌, ⊎_elim, Some, Ok, Err, Result, IfOk, IfErr, List, [], ◌∷◌, ◌++◌, length, length-append, arith}
 use Rattle.std.proofs.lemmas.Bool.Decides.{nat_tests}
 use Rattle.netchange_core.specs.declared.event.Event.{Event}
 use Rattle.route_history.specs.declared.entry.Entry.{Entry}
@@ -10,11 +10,10 @@ use Rattle.route_history.specs.Positions.{times}
 use Rattle.slot_lock.specs.declared.answer.Answer.{Answer}
 use Rattle.slot_lock.specs.declared.rule.Part.{Part}
 use Rattle.slot_lock.specs.declared.rule.View.{View}
-use Rattle.slot_lock.specs.Entering.{Enters, EntersNot}
+use Rattle.slot_lock.specs.Entering.{Enters, EntersNot, TookLate}
 use Rattle.slot_lock.specs.Held.{IsOwn, IsSound}
-use Rattle.slot_lock.specs.Rule.{AreIn}
 use Rattle.slot_lock.specs.Steps.{Seated, Took}
-use Rattle.slot_lock.specs.Views.{noted, seeing, unnoted}
+use Rattle.slot_lock.specs.Views.{missing_by, noted, seeing, unnoted}
 use Rattle.slot_lock.proofs.Giving.{more_within, single, zero_or_more}
 use Rattle.slot_lock.proofs.Keeping.{times_append}
 use Rattle.slot_lock.proofs.Prefixes.{shorter}
@@ -91,3 +90,15 @@ pub sound_after : (m mid new : Seated) (event : Event) (r : Result Answer CallFa
 sound_after m mid new event (Ok a) n s took ok err = entered m mid new event a n s took ok
 sound_after m mid new event (Err fault.Full) n s took ok err = shown m mid new n s took err.0
 sound_after m mid new event (Err fault.Memory) n s took ok err = left m mid new n s took err
+
+pub sound_after_tries : (m mid new : Seated) (event : Event) (r : Result Answer CallFault) (n : ℕ) → IsSound m n → TookLate m mid →
+    IfOk r (λ a. Enters mid event a new) → IfErr r (λ f. EntersNot f mid new) → IsSound new n
+sound_after_tries m mid new event r n s late = sound_after (missing_by late.tries m.0, []) mid new event r n (record {
+  slots = refl;
+  note = s.note;
+  guest = s.guest;
+  shares = s.shares;
+  some_shares = s.some_shares;
+  at_most = s.at_most;
+  own = record { within = s.own.within; once = s.own.once };
+}) late.took

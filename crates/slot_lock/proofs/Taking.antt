@@ -1,21 +1,18 @@
 -- The try to take the journal keeps the rule.
-use Rattle.std.proofs.Common.{◌≡◌, ◌∙◌, sym, ap, refl, subst, ℕ, zero, suc, ◌+◌, ◌<◌, ◌≤◌, ◌≢◌, ◌⊎◌, inl, inr, ⊎_elim, Some, None, Option, List, [], ◌∷◌, ◌++◌, length, get_or, set, eqb, arith}
+use Rattle.std.proofs.Common.{◌≡◌, ◌∙◌, sym, ap, refl, subst, ℕ, ◌<◌, ◌≢◌, inr, ⊎_elim, Some, None, Option, List, [], ◌∷◌, get_or, set, eqb, arith}
 use mathlib.Core.Option.{none, some, some-injective, some-ne-none}
 use mathlib.Core.Option as core_option
-use mathlib.Core.Logic.{dite}
-use native.Mathlib.Decide.{ℕ_discrete}
 use lib.ListN.{get_elem?}
 use prog.Atomic.{either}
-use Rattle.atomic_table.specs.Table.{State, Act, keeps, takes, gives, Valid, homes_after, carried_after, Allows, step}
+use Rattle.atomic_table.specs.Table.{State, Act, keeps, takes, Valid, homes_after, carried_after, Allows}
 use Rattle.atomic_table.proofs.Lists.{at_set, set_here, set_else}
 use Rattle.netchange_core.specs.OpeningView.{OpeningView}
 use Rattle.route_history.specs.declared.entry.Entry.{Entry}
-use Rattle.route_history.specs.Beginning.{Begins}
 use Rattle.route_history.specs.JournalView.{JournalView}
 use Rattle.slot_lock.specs.declared.rule.View.{View}
-use Rattle.slot_lock.specs.Views.{all_shares, missing_by, noting, shares_of}
-use Rattle.slot_lock.specs.Rule.{AreKnown, Fits, IsHome, IsKept, IsOut, journal, total}
-use Rattle.slot_lock.specs.Steps.{Missed, Takes, Took}
+use Rattle.slot_lock.specs.Views.{missing_by, noting, shares_of}
+use Rattle.slot_lock.specs.Rule.{Fits, IsHome, IsKept, IsOut, journal}
+use Rattle.slot_lock.specs.Steps.{Takes}
 use Rattle.slot_lock.proofs.Totals.{total_two}
 use Rattle.slot_lock.proofs.Prefixes.{whole}
 use Rattle.slot_lock.proofs.Keeping.{holder_has_shares, known_set, there_below}
@@ -114,7 +111,7 @@ takes_out o l id v s kept out at some_shares note apart = let log = kept.log in 
 both_notes : (x : Option (List Entry)) (es : List Entry) → x ≡ None → x ≡ Some es → ⊥
 both_notes x es p q = cc
 
-not_holder : (s : State JournalView View) (log : List Entry) (out : IsOut log s) (id : ℕ) (v : View) → get_elem? s.views id ≡ some v → v.note ≡ None → out.holder ≢ id
+pub not_holder : (s : State JournalView View) (log : List Entry) (out : IsOut log s) (id : ℕ) (v : View) → get_elem? s.views id ≡ some v → v.note ≡ None → out.holder ≢ id
 not_holder s log out id v at note e =
     let same : out.who ≡ v = some-injective out.who v (sym out.there ∙ ap (λ (k : ℕ). get_elem? s.views k) e ∙ at) in
     both_notes v.note log note (ap (λ (z : View). z.note) (sym same) ∙ out.note)

@@ -10,7 +10,6 @@ use Rattle.route_history.specs.History.{IsLegal}
 use Rattle.slot_lock.specs.declared.answer.Answer.{Answer}
 use Rattle.slot_lock.specs.declared.fault.TryFault.{TryFault}
 use Rattle.slot_lock.specs.declared.fault.TryFault.TheVariants as try_fault
-use Rattle.slot_lock.specs.declared.rule.Part.{Part}
 use Rattle.slot_lock.specs.Held.{PassView, RouterView}
 use Rattle.slot_lock.specs.Views.{all_shares}
 

@@ -1,5 +1,5 @@
 -- What a seat does with the journal that it took. (This project's own choice.)
-use Rattle.std.specs.Prelude.{◌≡◌, ℕ, ◌<◌, ◌≤◌, Some, List, [], ◌∷◌, ◌++◌, length}
+use Rattle.std.specs.Prelude.{◌≡◌, ℕ, ◌<◌, Some, [], ◌∷◌, ◌++◌, length}
 use Rattle.atomic_table.specs.Seated.{TableId}
 use Rattle.netchange_core.specs.OpeningView.{OpeningView}
 use Rattle.netchange_core.specs.declared.event.Event.{Event}
@@ -9,8 +9,8 @@ use Rattle.route_history.specs.Calls.{entry}
 use Rattle.route_history.specs.History.{IsLegal}
 use Rattle.route_history.specs.JournalView.{JournalView}
 use Rattle.slot_lock.specs.declared.answer.Answer.{Answer}
-use Rattle.slot_lock.specs.Steps.{Seated}
-use Rattle.slot_lock.specs.Views.{noted, seeing, shares_of, unnoted}
+use Rattle.slot_lock.specs.Steps.{Seated, Took}
+use Rattle.slot_lock.specs.Views.{missing_by, noted, seeing, shares_of, unnoted}
 
 -- the seat is one of this table, which has one word and one slot
 pub record IsAtDesk (desk seat : TableId) : Type 0 where
@@ -37,3 +37,8 @@ abbrev pub EntersNot : CallFault → Seated → Seated → Type 0
 EntersNot fault.Full m w = (w ≡ (seeing m.0 (noted m.0) m.0.own.mine, []))
     × ((opening : OpeningView) (limit : ℕ) → m.0.about ≡ Some (opening, limit) → length (noted m.0) ≡ limit)
 EntersNot fault.Memory m w = w ≡ (unnoted m.0, [])
+
+-- the seat has the journal, after it found the lock taken so many times
+pub record TookLate (m w : Seated) : Type 0 where
+  pub tries : ℕ
+  pub took : Took (missing_by tries m.0, []) w

@@ -1,8 +1,7 @@
 -- What a contract sees of a router and of a pass.
-use Rattle.std.specs.Prelude.{◌≡◌, ℕ, ◌<◌, ◌≤◌, Some, None, Option, List, []}
+use Rattle.std.specs.Prelude.{◌≡◌, ℕ, ◌<◌, ◌≤◌, Some, None, Option, []}
 use Rattle.atomic_table.specs.Seated.{TableId}
 use Rattle.netchange_core.specs.OpeningView.{OpeningView}
-use Rattle.route_history.specs.JournalView.{JournalView}
 use Rattle.route_history.specs.Positions.{times}
 use Rattle.slot_lock.specs.declared.rule.Part.{Part}
 use Rattle.slot_lock.specs.declared.rule.View.{View}

@@ -1,7 +1,7 @@
 //! A router that many threads call.
 
-ghost use Rattle.std.specs.Prelude.{◌≡◌, ◌≤◌, [], IfErr, IfOk};
-ghost use Rattle.slot_lock.specs.Calls.{Answered, TryRefused};
+ghost use Rattle.std.specs.Prelude.{◌≡◌, ◌-◌, ◌<◌, ◌≤◌, [], IfErr, IfOk};
+ghost use Rattle.slot_lock.specs.Calls.{Answered, Refused, TryRefused};
 ghost use Rattle.slot_lock.specs.declared.fault.LockFault.TheVariants as lock_fault;
 ghost use Rattle.slot_lock.specs.Held.{IsFirst, IsOwn, IsPassOf};
 
@@ -9,12 +9,13 @@ use crate::answer::Answer;
 use crate::fault::{LockFault, TryFault};
 use crate::pass::Pass;
 use crate::rule::Desk;
-use crate::seat::{enter, take};
+use crate::seat::{cut, enter, take, take_in_the_end};
 use netchange_core::Event;
 use route_history::{CallFault, Journal};
 use std::alloc::Global;
-use std::marker::Model;
+use std::marker::{Brand, Model};
 use std::snapshot::Snapshot;
+use std::sync::Wait;
 
 /// The shares of a router that all its passes have together.
 pub const ALL_SHARES: u32 = 65_536;
@@ -82,5 +83,31 @@ impl Router {
             Err(CallFault::Full) => Err(TryFault::Full),
             Err(CallFault::Memory) => Err(TryFault::Memory),
         }
+    }
+
+    /// Enters an event: tries until it has the lock.
+    pub fn call<R: Wait>(&self, rt: &R, pass: &mut Pass, event: Event) -> Result<Answer, CallFault>
+        requires { IsPassOf self.now pass.old }
+        ensures pass { IsPassOf self.now pass.new × (pass.new.part.shares ≡ pass.old.part.shares) }
+        ensures own { IsOwn pass.new.part }
+        ensures missed { pass.old.part.missed ≤ pass.new.part.missed }
+        ensures answered { IfOk result (λ a. Answered self.now pass.old event a pass.new) }
+        ensures refused { IfErr result (λ f. Refused f self.now pass.old pass.new) }
+    {
+        take_in_the_end(rt, &self.desk, &mut pass.seat);
+        enter(&self.desk, &mut pass.seat, event)
+    }
+
+    /// Divides a pass: the new one has this many of its shares, has seen the same, and has made no calls.
+    pub fn split(&self, pass: &mut Pass, shares: u32) -> Pass
+        requires of { IsPassOf self.now pass.old }
+        requires shares { (1 ≤ shares) × (shares < pass.old.part.shares) }
+        ensures of { IsPassOf self.now pass.new × IsPassOf self.now result }
+        ensures old { pass.new ≡ record pass.old { part = record pass.old.part { shares = pass.old.part.shares - shares } } }
+        ensures new { result.part ≡ record { seen = pass.old.part.seen; mine = []; missed = 0; shares = shares } }
+    {
+        let seat = cut::<Brand>(&self.desk, &mut pass.seat, shares);
+        pass.shares -= shares;
+        Pass { seat, shares }
     }
 }

@@ -1,14 +1,16 @@
 //! What one seat does at the table of a router.
 
 ghost use Rattle.std.specs.Prelude.{◌≡◌, ◌<◌, IfErr, IfOk, MatchBool, None, []};
-ghost use Rattle.slot_lock.specs.Entering.{Enters, EntersNot, IsAtDesk, IsHolding};
+ghost use Rattle.slot_lock.specs.Entering.{Enters, EntersNot, IsAtDesk, IsHolding, TookLate};
 ghost use Rattle.slot_lock.specs.Steps.{Missed, Took};
-ghost use Rattle.slot_lock.specs.Views.{shares_of};
+ghost use Rattle.slot_lock.specs.Views.{cut_left, cut_right, idle, shares_of};
 
 use crate::answer::Answer;
-use crate::rule::{Desk, Give, Leave, Place, Show, Take};
+use crate::rule::{Amount, Cut, Desk, Give, Leave, Place, Show, Take};
 use netchange_core::Event;
 use route_history::CallFault;
+use std::sync::Wait;
+use std::thread;
 
 /// Tries once to take the journal, and says whether it did.
 pub(crate) fn take(desk: &Desk, seat: &mut Place) -> bool
@@ -18,6 +20,22 @@ pub(crate) fn take(desk: &Desk, seat: &mut Place) -> bool
     ensures tried { MatchBool result (Took seat.old.me seat.new.me) (Missed seat.old.me seat.new.me) }
 {
     desk.shared.compare_exchange::<Take>(seat, 0, 0, 1) == 0
+}
+
+/// Tries until it takes the journal.
+pub(crate) fn take_in_the_end<R: Wait>(rt: &R, desk: &Desk, seat: &mut Place)
+    requires desk { IsAtDesk desk.now.shared.table_id seat.old.table_id }
+    requires free { (seat.old.me.1 ≡ []) × (seat.old.me.0.note ≡ None) × (0 < shares_of seat.old.me.0) }
+    ensures same { (seat.new.table_id ≡ seat.old.table_id) × (seat.new.id ≡ seat.old.id) }
+    ensures taken { TookLate seat.old.me seat.new.me }
+{
+    for _ in rt.forever() {
+        if take(desk, seat) {
+            return;
+        }
+        thread::yield_now();
+    }
+    unreachable!()
 }
 
 /// Enters an event in the journal that the seat has, and gives the journal back.
@@ -43,4 +61,18 @@ pub(crate) fn enter(desk: &Desk, seat: &mut Place, event: Event) -> Result<Answe
             Err(CallFault::Memory)
         }
     }
+}
+
+/// Divides a seat: the new one has this many of its shares.
+pub(crate) fn cut<N: Amount>(desk: &Desk, seat: &mut Place, shares: u32) -> Place
+    requires amount { shares ≡ N.amount }
+    requires desk { IsAtDesk desk.now.shared.table_id seat.old.table_id }
+    requires free { (seat.old.me.0.note ≡ None) × (seat.old.me.0.guest ≡ idle) }
+    requires shares { (0 < shares) × (shares < seat.old.me.0.own.shares) }
+    ensures same { (seat.new.table_id ≡ seat.old.table_id) × (seat.new.id ≡ seat.old.id) × (result.table_id ≡ seat.old.table_id) }
+    ensures old { seat.new.me ≡ (cut_left shares seat.old.me.0, seat.old.me.1) }
+    ensures new { result.me ≡ (cut_right shares seat.old.me.0, []) }
+{
+    let _ = shares;
+    desk.shared.split_seat::<Cut<N>>(seat)
 }

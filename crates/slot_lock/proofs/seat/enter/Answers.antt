@@ -1,4 +1,4 @@
-use Rattle.std.proofs.Common.{arith, sym}
+use Rattle.std.proofs.Common.{arith}
 use Rattle.route_history.specs.Calls.{entry}
 use Rattle.slot_lock.proofs.Held.{giving_held, leaving_held, showing_held}
 use Rattle.slot_lock.proofs.seat.enter.Goals as goal

@@ -1,4 +1,4 @@
-use Rattle.std.proofs.Common.{arith, sym}
+use Rattle.std.proofs.Common.{arith}
 use Rattle.slot_lock.proofs.Held.{taking_held}
 use Rattle.slot_lock.proofs.seat.take.Goals as goal
 
