@@ -49,8 +49,8 @@ holder_is : (s : State JournalView View) (log es : List Entry) (out : IsOut log 
     v.note ≡ Some es → (id ≡ out.holder) × (log ≡ es)
 holder_is s log es out id v at note = dite (ℕ_discrete id out.holder)
     (λ e.
-        let same : out.who ≡ v = some-injective out.who v (sym out.there ∙ ap (λ (k : ℕ). get_elem? s.views k) (sym e) ∙ at) in
-        (e, same_note log es v.note (ap (λ (z : View). z.note) (sym same) ∙ out.note) note))
+    let same : out.who ≡ v = some-injective out.who v (sym out.there ∙ ap (λ (k : ℕ). get_elem? s.views k) (sym e) ∙ at) in
+    (e, same_note log es v.note (ap (λ (z : View). z.note) (sym same) ∙ out.note) note))
     (λ apart. absurd (no_note es v.note (out.others id v at apart) note))
 
 given : (o : OpeningView) (l id : ℕ) (v : View) (j : JournalView) (w : View) (views : List View) → MayGive v j w →
@@ -85,13 +85,13 @@ pub puts_back : (o : OpeningView) (l slots id : ℕ) (v : View) (j : JournalView
 puts_back o l slots id v j w then_is may tells s kept _ at _ = ⊎_elim
     (λ home. absurd (no_note (noted v) v.note (home.notes id v at) may.note))
     (λ out.
-        let is = holder_is s kept.log (noted v) out id v at may.note in
-        let known : AreKnown o l (noted v) s.views = subst (λ (log : List Entry). AreKnown o l log s.views) is.1 kept.known in
-        let others : (k : ℕ) (u : View) → get_elem? s.views k ≡ some u → k ≢ id → u.note ≡ None =
-            λ k u there apart. out.others k u there (λ e. apart (e ∙ sym is.0)) in
-        subst (λ (p : List ℕ × List (core_option.Option JournalView)). GivesAt o l id v j s.views then_is p.0 p.1)
-            (λ i. (sym out.words i, sym out.homes i))
-            (w, gives, tt, given o l id v j w s.views may at known others, tells))
+    let is = holder_is s kept.log (noted v) out id v at may.note in
+    let known : AreKnown o l (noted v) s.views = subst (λ (log : List Entry). AreKnown o l log s.views) is.1 kept.known in
+    let others : (k : ℕ) (u : View) → get_elem? s.views k ≡ some u → k ≢ id → u.note ≡ None =
+    λ k u there apart. out.others k u there (λ e. apart (e ∙ sym is.0)) in
+    subst (λ (p : List ℕ × List (core_option.Option JournalView)). GivesAt o l id v j s.views then_is p.0 p.1)
+    (λ i. (sym out.words i, sym out.homes i))
+    (w, gives, tt, given o l id v j w s.views may at known others, tells))
     kept.lies
 
 pub single : (x n : ℕ) → 0 < times x (n ∷ []) → x ≡ n
@@ -106,8 +106,8 @@ pub more_within : (mine : List ℕ) (seen log grown : List Entry) → AreIn mine
     AreIn (mine ++ length log ∷ []) grown
 more_within mine seen log grown within le more x h = ⊎_elim
     (λ none_here.
-        let sum = times_append x mine (length log ∷ []) in
-        let is : x ≡ length log = single x (length log) (omega arith) in omega arith)
+    let sum = times_append x mine (length log ∷ []) in
+    let is : x ≡ length log = single x (length log) (omega arith) in omega arith)
     (λ some_here. let below = within x some_here in omega arith)
     (zero_or_more (times x mine))
 

@@ -17,7 +17,7 @@ pub taking_held : (o : OpeningView) (l slots id : ℕ) (m : Seated) → m.1 ≡ 
     Allows (IsKept o l) slots id m 0 (λ n. either (eqb n 0) 1 n) (Takes m)
 taking_held o l slots id m empty note some_shares =
     subst (λ (c : List (ℕ × JournalView)). Allows (IsKept o l) slots id (m.0, c) 0 (λ n. either (eqb n 0) 1 n) (Takes (m.0, c)))
-        (sym empty) (taking o l slots id m.0 note some_shares)
+    (sym empty) (taking o l slots id m.0 note some_shares)
 
 -- a journal that has the opening and the limit of the one that was taken
 pub record IsSameRouter (m : Seated) (old new : JournalView) : Type 0 where
@@ -62,22 +62,22 @@ pub giving_held : (o : OpeningView) (l slots id : ℕ) (m : Seated) (h : IsHoldi
     Allows (IsKept o l) slots id (m.0, (0, new) ∷ rest m.1) 0 (λ _. 0) (λ _ w. w ≡ after_give (m.0, (0, new) ∷ rest m.1))
 giving_held o l slots id m h old new e r is =
     subst (λ (c : List (ℕ × JournalView)). Allows (IsKept o l) slots id (m.0, (0, new) ∷ c) 0 (λ _. 0) (λ _ w. w ≡ after_give (m.0, (0, new) ∷ c)))
-        (sym (no_rest m h))
-        (giving o l slots id m.0 new e h.some_shares (notes m h) (about_new m h old new r) r.legal r.room
-            (is ∙ ap (λ (es : List Entry). es ++ e ∷ []) (entries_after m h old new r)))
+    (sym (no_rest m h))
+    (giving o l slots id m.0 new e h.some_shares (notes m h) (about_new m h old new r) r.legal r.room
+    (is ∙ ap (λ (es : List Entry). es ++ e ∷ []) (entries_after m h old new r)))
 
 pub showing_held : (o : OpeningView) (l slots id : ℕ) (m : Seated) (h : IsHolding m) (old new : JournalView) → IsSameRouter m old new → new ≡ old →
     Allows (IsKept o l) slots id (m.0, (0, new) ∷ rest m.1) 0 (λ _. 0) (λ _ w. w ≡ after_show (m.0, (0, new) ∷ rest m.1))
 showing_held o l slots id m h old new r is =
     subst (λ (c : List (ℕ × JournalView)). Allows (IsKept o l) slots id (m.0, (0, new) ∷ c) 0 (λ _. 0) (λ _ w. w ≡ after_show (m.0, (0, new) ∷ c)))
-        (sym (no_rest m h))
-        (showing_all o l slots id m.0 new h.some_shares (notes m h) (about_new m h old new r) r.legal r.room
-            (ap (λ (j : JournalView). j.entries) is ∙ entries_after m h old new r))
+    (sym (no_rest m h))
+    (showing_all o l slots id m.0 new h.some_shares (notes m h) (about_new m h old new r) r.legal r.room
+    (ap (λ (j : JournalView). j.entries) is ∙ entries_after m h old new r))
 
 pub leaving_held : (o : OpeningView) (l slots id : ℕ) (m : Seated) (h : IsHolding m) (old new : JournalView) → IsSameRouter m old new → new ≡ old →
     Allows (IsKept o l) slots id (m.0, (0, new) ∷ rest m.1) 0 (λ _. 0) (λ _ w. w ≡ after_leave (m.0, (0, new) ∷ rest m.1))
 leaving_held o l slots id m h old new r is =
     subst (λ (c : List (ℕ × JournalView)). Allows (IsKept o l) slots id (m.0, (0, new) ∷ c) 0 (λ _. 0) (λ _ w. w ≡ after_leave (m.0, (0, new) ∷ c)))
-        (sym (no_rest m h))
-        (leaving o l slots id m.0 new h.some_shares (notes m h) (about_new m h old new r) r.legal r.room
-            (ap (λ (j : JournalView). j.entries) is ∙ entries_after m h old new r))
+    (sym (no_rest m h))
+    (leaving o l slots id m.0 new h.some_shares (notes m h) (about_new m h old new r) r.legal r.room
+    (ap (λ (j : JournalView). j.entries) is ∙ entries_after m h old new r))

@@ -1,17 +1,16 @@
 -- Two seats become one and keep the rule.
-use Rattle.std.proofs.Common.{◌≡◌, ◌∙◌, sym, ap, refl, subst, ℕ, ◌+◌, ◌<◌, ◌≤◌, ◌≢◌, ◌⊎◌, inl, inr, ⊎_elim, Some, None, List, [], ◌∷◌, ◌++◌, length, set, arith}
-use mathlib.Core.Option.{none, some}
+use Rattle.std.proofs.Common.{◌≡◌, ◌∙◌, sym, ap, refl, subst, ℕ, ◌+◌, ◌<◌, inl, inr, ⊎_elim, None, List, set, arith}
+use mathlib.Core.Option.{some}
 use lib.ListN.{get_elem?}
-use Rattle.atomic_table.specs.Table.{State, Joins}
+use Rattle.atomic_table.specs.Table.{Joins}
 use Rattle.atomic_table.proofs.Lists.{at_set, set_else}
 use Rattle.netchange_core.specs.OpeningView.{OpeningView}
 use Rattle.route_history.specs.declared.entry.Entry.{Entry}
-use Rattle.route_history.specs.JournalView.{JournalView}
 use Rattle.route_history.specs.Positions.{times}
 use Rattle.slot_lock.specs.declared.rule.Part.{Part}
 use Rattle.slot_lock.specs.declared.rule.View.{View}
 use Rattle.slot_lock.specs.Views.{claims, idle, shares_of, spent, united}
-use Rattle.slot_lock.specs.Rule.{AreKnown, Fits, IsHome, IsKept, IsOut, Sees, total}
+use Rattle.slot_lock.specs.Rule.{AreKnown, Fits, IsKept, total}
 use Rattle.slot_lock.proofs.Dividing.{sees_nothing}
 use Rattle.slot_lock.proofs.Taking.{not_holder}
 use Rattle.slot_lock.proofs.Totals.{total_set}

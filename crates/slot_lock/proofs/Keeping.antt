@@ -63,6 +63,7 @@ holder_has_shares o l log es v fits note = positive (shares_of v) (λ e. no_note
     positive : (n : ℕ) → (n ≡ 0 → ⊥) → 0 < n
     positive zero h = absurd (h refl)
     positive (suc n) h = omega arith
+
     no_note : v ≡ spent → ⊥
     no_note e = let none_noted : v.note ≡ None = ap (λ (u : View). u.note) e in both none_noted note
       where

@@ -9,3 +9,4 @@ mod Trying
 mod Dividing
 mod Joining
 mod Longer
+mod SoundJoined

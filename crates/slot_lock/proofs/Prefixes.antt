@@ -32,4 +32,4 @@ nested (x ∷ xs) (y ∷ ys) zs a b le =
     let same : x ∷ (xs ++ a.rest) ≡ y ∷ (ys ++ b.rest) = sym a.is ∙ b.is in
     let tails : xs ++ a.rest ≡ ys ++ b.rest = cc in
     behind x y xs ys (xs ++ a.rest) b.rest same
-        (nested xs ys (xs ++ a.rest) (record { rest = a.rest; is = refl }) (record { rest = b.rest; is = tails }) (omega arith))
+    (nested xs ys (xs ++ a.rest) (record { rest = a.rest; is = refl }) (record { rest = b.rest; is = tails }) (omega arith))

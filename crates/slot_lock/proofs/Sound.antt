@@ -29,10 +29,10 @@ own_more p log e own le = record {
   once = λ x.
       let sum = times_append x p.mine (length log ∷ []) in let before = own.once x in let last = at_most_once x (length log) in
       ⊎_elim (λ none_here. omega arith)
-          (λ some_here. ⊎_elim (λ none_before. omega arith)
-              (λ some_before. let below = own.within x some_before in let is = single x (length log) some_here in absurd (omega arith))
-              (zero_or_more (times x p.mine)))
-          (zero_or_more (times x (length log ∷ [])));
+      (λ some_here. ⊎_elim (λ none_before. omega arith)
+      (λ some_before. let below = own.within x some_before in let is = single x (length log) some_here in absurd (omega arith))
+      (zero_or_more (times x p.mine)))
+      (zero_or_more (times x (length log ∷ [])));
 }
 
 own_longer : (p : Part) (log : List Entry) → IsOwn p → length p.seen ≤ length log → IsOwn (record p { seen = log })
@@ -45,7 +45,7 @@ entered m mid new event a n s took h =
     let view : mid.0 ≡ record m.0 { note = Some log } = took.view in
     let at : a.at ≡ length log = h.position ∙ ap (λ (v : View). length (noted v)) view in
     let is : new ≡ (seeing m.0 (log ++ e ∷ []) (m.0.own.mine ++ length log ∷ []), []) =
-        h.after ∙ (λ i. (seeing (view i) (noted (view i) ++ e ∷ []) ((view i).own.mine ++ at i ∷ []), [])) in
+    h.after ∙ (λ i. (seeing (view i) (noted (view i) ++ e ∷ []) ((view i).own.mine ++ at i ∷ []), [])) in
     subst (λ (u : Seated). IsSound u n) (sym is) (record {
       slots = refl;
       note = refl;

@@ -120,8 +120,8 @@ pub taking : (o : OpeningView) (l slots id : ℕ) (v : View) → v.note ≡ None
     Allows (IsKept o l) slots id (v, []) 0 (λ n. either (eqb n 0) 1 n) (Takes (v, []))
 taking o l slots id v note some_shares s kept _ at _ = ⊎_elim
     (λ home. subst (λ (p : List ℕ × List (core_option.Option JournalView)). TakesAt o l id v s.views p.0 p.1)
-        (λ i. (sym home.words i, sym home.homes i)) (takes_home o l id v s kept home at some_shares))
+    (λ i. (sym home.words i, sym home.homes i)) (takes_home o l id v s kept home at some_shares))
     (λ out. subst (λ (p : List ℕ × List (core_option.Option JournalView)). TakesAt o l id v s.views p.0 p.1)
-        (λ i. (sym out.words i, sym out.homes i))
-        (takes_out o l id v s kept out at some_shares note (not_holder s kept.log out id v at note)))
+    (λ i. (sym out.words i, sym out.homes i))
+    (takes_out o l id v s kept out at some_shares note (not_holder s kept.log out id v at note)))
     kept.lies

@@ -18,7 +18,7 @@ missed_again v n =
 pub one_more_try : (first m w : Seated) (n : ℕ) → m ≡ (missing_by n first.0, []) → Missed m w → w ≡ (missing_by (n + 1) first.0, [])
 one_more_try first m w n is missed =
     let view : w.0 ≡ missing_by (n + 1) first.0 =
-        missed.view ∙ ap (λ (u : Seated). missing_by 1 u.0) is ∙ missed_again first.0 n in
+    missed.view ∙ ap (λ (u : Seated). missing_by 1 u.0) is ∙ missed_again first.0 n in
     let slots : w.1 ≡ [] = missed.slots ∙ ap (λ (u : Seated). u.1) is in
     λ i. (view i, slots i)
 

@@ -10,7 +10,9 @@ use Rattle.route_history.specs.History.{IsLegal}
 use Rattle.slot_lock.specs.declared.answer.Answer.{Answer}
 use Rattle.slot_lock.specs.declared.fault.TryFault.{TryFault}
 use Rattle.slot_lock.specs.declared.fault.TryFault.TheVariants as try_fault
+use Rattle.slot_lock.specs.declared.rule.Part.{Part}
 use Rattle.slot_lock.specs.Held.{PassView, RouterView}
+use Rattle.slot_lock.specs.Steps.{Agree, joined}
 use Rattle.slot_lock.specs.Views.{all_shares}
 
 -- what the pass has seen goes on from before and ends with the event and its reply, at the position answered; the position
@@ -50,3 +52,9 @@ TryRefused try_fault.Memory r old event new = new ≡ old
 abbrev pub Refused : CallFault → RouterView → PassView → PassView → Type 0
 Refused fault.Full r old new = IsAtLimit r old new
 Refused fault.Memory r old new = (n : ℕ) × (new ≡ missing n old)
+
+-- two passes in one: the shares and the tries that missed add up, the second's positions follow the first's, and the
+-- longer history is kept
+pub record Joined (p q new : Part) : Type 0 where
+  pub part : new ≡ joined p q
+  pub agree : Agree p q

@@ -48,11 +48,12 @@ after_show m = (seeing m.0 (entries_held m.1) m.0.own.mine, [])
 abbrev pub after_leave : Seated → Seated
 after_leave m = (unnoted m.0, [])
 
--- two parts of one history: each begins the longer, and no position is in both
+-- two parts of one history: each begins the longer, no position is in both, and they have no more than all shares
 pub record Agree (p q : Part) : Type 0 where
   pub first : Begins p.seen (longer p.seen q.seen)
   pub second : Begins q.seen (longer p.seen q.seen)
   pub apart : (x : ℕ) → times x p.mine + times x q.mine ≤ 1
+  pub shares : p.shares + q.shares ≤ all_shares
 
 -- two parts in one
 abbrev pub joined : Part → Part → Part
@@ -73,8 +74,11 @@ pub record Absorbs (m w : Seated) : Type 0 where
 
 -- both parts have seen the longer history
 pub record Compares (m w : Seated) : Type 0 where
-  pub after : w ≡ (record m.0 {
-    own = showing m.0.own (longer m.0.own.seen m.0.guest.seen);
-    guest = showing m.0.guest (longer m.0.own.seen m.0.guest.seen)
-  }, m.1)
+  pub after : w ≡ (
+    record m.0 {
+      own = showing m.0.own (longer m.0.own.seen m.0.guest.seen);
+      guest = showing m.0.guest (longer m.0.own.seen m.0.guest.seen);
+    },
+    m.1,
+  )
   pub agree : Agree m.0.own m.0.guest

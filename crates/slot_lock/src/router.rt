@@ -1,7 +1,7 @@
 //! A router that many threads call.
 
 ghost use Rattle.std.specs.Prelude.{◌≡◌, ◌-◌, ◌<◌, ◌≤◌, [], IfErr, IfOk};
-ghost use Rattle.slot_lock.specs.Calls.{Answered, Refused, TryRefused};
+ghost use Rattle.slot_lock.specs.Calls.{Answered, Joined, Refused, TryRefused};
 ghost use Rattle.slot_lock.specs.declared.fault.LockFault.TheVariants as lock_fault;
 ghost use Rattle.slot_lock.specs.Held.{IsFirst, IsOwn, IsPassOf};
 
@@ -9,7 +9,7 @@ use crate::answer::Answer;
 use crate::fault::{LockFault, TryFault};
 use crate::pass::Pass;
 use crate::rule::Desk;
-use crate::seat::{cut, enter, take, take_in_the_end};
+use crate::seat::{absorb, cut, enter, take, take_in_the_end};
 use netchange_core::Event;
 use route_history::{CallFault, Journal};
 use std::alloc::Global;
@@ -33,9 +33,9 @@ impl Model for Router {
     ghost Value = { RouterView };
 
     ghost view = { λ r. record {
-        table = r.desk.shared.table_id;
-        opening = r.desk.shared.key.value.opening;
-        limit = r.desk.shared.key.value.limit;
+      table = r.desk.shared.table_id;
+      opening = r.desk.shared.key.value.opening;
+      limit = r.desk.shared.key.value.limit;
     } };
 
     ghost invariant = { λ r. (r.desk.shared.table_id.words ≡ 1) × (r.desk.shared.table_id.slots ≡ 1) };
@@ -109,5 +109,17 @@ impl Router {
         let seat = cut::<Brand>(&self.desk, &mut pass.seat, shares);
         pass.shares -= shares;
         Pass { seat, shares }
+    }
+
+    /// Makes two passes one.
+    pub fn join(&self, pass: &mut Pass, other: Pass)
+        requires { IsPassOf self.now pass.old × IsPassOf self.now other }
+        ensures of { IsPassOf self.now pass.new }
+        ensures own { IsOwn pass.new.part }
+        ensures joined { Joined pass.old.part other.part pass.new.part }
+    {
+        let Pass { seat, shares } = other;
+        absorb(&self.desk, &mut pass.seat, seat);
+        pass.shares += shares;
     }
 }

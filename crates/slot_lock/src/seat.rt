@@ -2,11 +2,11 @@
 
 ghost use Rattle.std.specs.Prelude.{◌≡◌, ◌<◌, IfErr, IfOk, MatchBool, None, []};
 ghost use Rattle.slot_lock.specs.Entering.{Enters, EntersNot, IsAtDesk, IsHolding, TookLate};
-ghost use Rattle.slot_lock.specs.Steps.{Missed, Took};
-ghost use Rattle.slot_lock.specs.Views.{cut_left, cut_right, idle, shares_of};
+ghost use Rattle.slot_lock.specs.Steps.{Absorbs, Missed, Took};
+ghost use Rattle.slot_lock.specs.Views.{cut_left, cut_right, idle, shares_of, united};
 
 use crate::answer::Answer;
-use crate::rule::{Amount, Cut, Desk, Give, Leave, Place, Show, Take};
+use crate::rule::{Absorb, Amount, Cut, Desk, Give, Leave, Place, Show, Take, Unite};
 use netchange_core::Event;
 use route_history::CallFault;
 use std::sync::Wait;
@@ -75,4 +75,16 @@ pub(crate) fn cut<N: Amount>(desk: &Desk, seat: &mut Place, shares: u32) -> Plac
 {
     let _ = shares;
     desk.shared.split_seat::<Cut<N>>(seat)
+}
+
+/// Makes two seats one, which has both parts in one.
+pub(crate) fn absorb(desk: &Desk, seat: &mut Place, other: Place)
+    requires desk { IsAtDesk desk.now.shared.table_id seat.old.table_id × (other.table_id ≡ desk.now.shared.table_id) }
+    requires free { (seat.old.me.0.note ≡ None) × (seat.old.me.0.guest ≡ idle) × (0 < seat.old.me.0.own.shares) }
+    requires other_free { (other.me.1 ≡ []) × (other.me.0.note ≡ None) × (other.me.0.guest ≡ idle) }
+    ensures same { (seat.new.table_id ≡ seat.old.table_id) × (seat.new.id ≡ seat.old.id) }
+    ensures joined { Absorbs (united seat.old.me.0 other.me.0, seat.old.me.1) seat.new.me }
+{
+    desk.shared.join_seat::<Unite>(seat, other);
+    desk.shared.load::<Absorb>(seat, 0);
 }

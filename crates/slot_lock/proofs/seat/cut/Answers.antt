@@ -11,8 +11,8 @@ split_seat-requires g c =
       c.requires.desk.same,
       omega arith,
       subst (λ (n : ℕ). Splits (IsKept c.args.desk.now.shared.key.value.opening c.args.desk.now.shared.key.value.limit) c.args.seat.now.id
-              c.args.seat.now.me.0 (cut_left n c.args.seat.now.me.0) (cut_right n c.args.seat.now.me.0))
+          c.args.seat.now.me.0 (cut_left n c.args.seat.now.me.0) (cut_right n c.args.seat.now.me.0))
           c.requires.amount
           (cutting c.args.desk.now.shared.key.value.opening c.args.desk.now.shared.key.value.limit c.args.seat.now.id c.args.shares
-              c.args.seat.now.me.0 c.requires.free.0 c.requires.free.1 c.requires.shares.0 c.requires.shares.1),
+          c.args.seat.now.me.0 c.requires.free.0 c.requires.free.1 c.requires.shares.0 c.requires.shares.1),
     )
