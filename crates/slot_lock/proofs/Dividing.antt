@@ -7,7 +7,7 @@ use Rattle.atomic_table.proofs.Lists.{at_longer, at_set, at_snoc, set_else}
 use Rattle.netchange_core.specs.OpeningView.{OpeningView}
 use Rattle.route_history.specs.declared.entry.Entry.{Entry}
 use Rattle.slot_lock.specs.declared.rule.View.{View}
-use Rattle.slot_lock.specs.Views.{claims, cut_left, cut_right, idle, shares_of}
+use Rattle.slot_lock.specs.Views.{claims, cut_left, cut_right, guest_alone, host_alone, idle, shares_of}
 use Rattle.slot_lock.specs.Rule.{AreKnown, Fits, IsKept, Sees}
 use Rattle.slot_lock.proofs.Totals.{total_append, total_set}
 use Rattle.slot_lock.proofs.Prefixes.{nothing}
@@ -87,6 +87,28 @@ cutting o l id n v note alone some_shares fewer = dividing o l id v (cut_left n 
   };
   second = λ o l log h. record {
     own = record { begins = h.own.begins; within = λ x there. absurd (omega arith) };
+    guest = sees_nothing log;
+    about = λ _. h.about (omega arith);
+    spent = λ none_left. absurd (omega arith);
+  };
+  shares = omega arith;
+  once = λ x. omega arith;
+})
+
+pub parting : (o : OpeningView) (l id : ℕ) (v : View) → v.note ≡ None → 0 < v.own.shares → 0 < v.guest.shares →
+    Splits (IsKept o l) id v (host_alone v) (guest_alone v)
+parting o l id v note first_shares second_shares = dividing o l id v (host_alone v) (guest_alone v) (record {
+  note = note;
+  first_note = note;
+  second_note = refl;
+  first = λ o l log h. record {
+    own = h.own;
+    guest = sees_nothing log;
+    about = λ _. h.about (omega arith);
+    spent = λ none_left. absurd (omega arith);
+  };
+  second = λ o l log h. record {
+    own = h.guest;
     guest = sees_nothing log;
     about = λ _. h.about (omega arith);
     spent = λ none_left. absurd (omega arith);

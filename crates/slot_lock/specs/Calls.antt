@@ -12,8 +12,8 @@ use Rattle.slot_lock.specs.declared.fault.TryFault.{TryFault}
 use Rattle.slot_lock.specs.declared.fault.TryFault.TheVariants as try_fault
 use Rattle.slot_lock.specs.declared.rule.Part.{Part}
 use Rattle.slot_lock.specs.Held.{PassView, RouterView}
-use Rattle.slot_lock.specs.Steps.{Agree, joined}
-use Rattle.slot_lock.specs.Views.{all_shares}
+use Rattle.slot_lock.specs.Steps.{Agree, joined, showing}
+use Rattle.slot_lock.specs.Views.{all_shares, longer}
 
 -- what the pass has seen goes on from before and ends with the event and its reply, at the position answered; the position
 -- is the caller's, and the history is legal
@@ -58,3 +58,9 @@ Refused fault.Memory r old new = (n : ℕ) × (new ≡ missing n old)
 pub record Joined (p q new : Part) : Type 0 where
   pub part : new ≡ joined p q
   pub agree : Agree p q
+
+-- two passes after they met: both have seen the longer history, and all else is as it was
+pub record Met (p q new other : PassView) : Type 0 where
+  pub first : new ≡ record p { part = showing p.part (longer p.part.seen q.part.seen) }
+  pub second : other ≡ record q { part = showing q.part (longer p.part.seen q.part.seen) }
+  pub agree : Agree p.part q.part

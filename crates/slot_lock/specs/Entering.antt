@@ -1,5 +1,5 @@
 -- What a seat does with the journal that it took. (This project's own choice.)
-use Rattle.std.specs.Prelude.{◌≡◌, ℕ, ◌<◌, Some, [], ◌∷◌, ◌++◌, length}
+use Rattle.std.specs.Prelude.{◌≡◌, ℕ, ◌<◌, None, Some, [], ◌∷◌, ◌++◌, length}
 use Rattle.atomic_table.specs.Seated.{TableId}
 use Rattle.netchange_core.specs.OpeningView.{OpeningView}
 use Rattle.netchange_core.specs.declared.event.Event.{Event}
@@ -9,8 +9,8 @@ use Rattle.route_history.specs.Calls.{entry}
 use Rattle.route_history.specs.History.{IsLegal}
 use Rattle.route_history.specs.JournalView.{JournalView}
 use Rattle.slot_lock.specs.declared.answer.Answer.{Answer}
-use Rattle.slot_lock.specs.Steps.{Seated, Took}
-use Rattle.slot_lock.specs.Views.{missing_by, noted, seeing, shares_of, unnoted}
+use Rattle.slot_lock.specs.Steps.{Agree, Seated, Took, showing}
+use Rattle.slot_lock.specs.Views.{idle, longer, missing_by, noted, seeing, shares_of, unnoted}
 
 -- the seat is one of this table, which has one word and one slot
 pub record IsAtDesk (desk seat : TableId) : Type 0 where
@@ -42,3 +42,9 @@ EntersNot fault.Memory m w = w ≡ (unnoted m.0, [])
 pub record TookLate (m w : Seated) : Type 0 where
   pub tries : ℕ
   pub took : Took (missing_by tries m.0, []) w
+
+-- two seats after they met: each has seen the longer history
+pub record IsMet (m v w u : Seated) : Type 0 where
+  pub first : w ≡ (record m.0 { own = showing m.0.own (longer m.0.own.seen v.0.own.seen); guest = idle }, m.1)
+  pub second : u ≡ (record m.0 { note = None; own = showing v.0.own (longer m.0.own.seen v.0.own.seen); guest = idle }, [])
+  pub agree : Agree m.0.own v.0.own

@@ -1,7 +1,7 @@
 //! A router that many threads call.
 
 ghost use Rattle.std.specs.Prelude.{◌≡◌, ◌-◌, ◌<◌, ◌≤◌, [], IfErr, IfOk};
-ghost use Rattle.slot_lock.specs.Calls.{Answered, Joined, Refused, TryRefused};
+ghost use Rattle.slot_lock.specs.Calls.{Answered, Joined, Met, Refused, TryRefused};
 ghost use Rattle.slot_lock.specs.declared.fault.LockFault.TheVariants as lock_fault;
 ghost use Rattle.slot_lock.specs.Held.{IsFirst, IsOwn, IsPassOf};
 
@@ -9,7 +9,7 @@ use crate::answer::Answer;
 use crate::fault::{LockFault, TryFault};
 use crate::pass::Pass;
 use crate::rule::Desk;
-use crate::seat::{absorb, cut, enter, take, take_in_the_end};
+use crate::seat::{absorb, compare, cut, enter, take, take_in_the_end};
 use netchange_core::Event;
 use route_history::{CallFault, Journal};
 use std::alloc::Global;
@@ -121,5 +121,17 @@ impl Router {
         let Pass { seat, shares } = other;
         absorb(&self.desk, &mut pass.seat, seat);
         pass.shares += shares;
+    }
+
+    /// Lets two passes tell each other what they have seen. No entry is added.
+    pub fn meet(&self, pass: &mut Pass, other: Pass) -> Pass
+        requires { IsPassOf self.now pass.old × IsPassOf self.now other }
+        ensures of { IsPassOf self.now pass.new × IsPassOf self.now result }
+        ensures own { IsOwn pass.new.part × IsOwn result.part }
+        ensures met { Met pass.old other pass.new result }
+    {
+        let Pass { seat, shares } = other;
+        let seat = compare(&self.desk, &mut pass.seat, seat);
+        Pass { seat, shares }
     }
 }

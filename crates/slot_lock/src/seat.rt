@@ -1,12 +1,14 @@
 //! What one seat does at the table of a router.
 
 ghost use Rattle.std.specs.Prelude.{◌≡◌, ◌<◌, IfErr, IfOk, MatchBool, None, []};
-ghost use Rattle.slot_lock.specs.Entering.{Enters, EntersNot, IsAtDesk, IsHolding, TookLate};
+ghost use Rattle.slot_lock.specs.Entering.{Enters, EntersNot, IsAtDesk, IsHolding, IsMet, TookLate};
 ghost use Rattle.slot_lock.specs.Steps.{Absorbs, Missed, Took};
 ghost use Rattle.slot_lock.specs.Views.{cut_left, cut_right, idle, shares_of, united};
 
 use crate::answer::Answer;
-use crate::rule::{Absorb, Amount, Cut, Desk, Give, Leave, Place, Show, Take, Unite};
+use crate::rule::{
+    Absorb, Amount, Compare, Cut, Desk, Give, Leave, Place, Separate, Show, Take, Unite,
+};
 use netchange_core::Event;
 use route_history::CallFault;
 use std::sync::Wait;
@@ -87,4 +89,17 @@ pub(crate) fn absorb(desk: &Desk, seat: &mut Place, other: Place)
 {
     desk.shared.join_seat::<Unite>(seat, other);
     desk.shared.load::<Absorb>(seat, 0);
+}
+
+/// Compares two seats: both have then seen the longer history.
+pub(crate) fn compare(desk: &Desk, seat: &mut Place, other: Place) -> Place
+    requires desk { IsAtDesk desk.now.shared.table_id seat.old.table_id × (other.table_id ≡ desk.now.shared.table_id) }
+    requires free { (seat.old.me.0.note ≡ None) × (seat.old.me.0.guest ≡ idle) × (0 < seat.old.me.0.own.shares) }
+    requires other_free { (other.me.1 ≡ []) × (other.me.0.note ≡ None) × (other.me.0.guest ≡ idle) × (0 < other.me.0.own.shares) }
+    ensures same { (seat.new.table_id ≡ seat.old.table_id) × (result.table_id ≡ seat.old.table_id) }
+    ensures met { IsMet seat.old.me other.me seat.new.me result.me }
+{
+    desk.shared.join_seat::<Unite>(seat, other);
+    desk.shared.load::<Compare>(seat, 0);
+    desk.shared.split_seat::<Separate>(seat)
 }
