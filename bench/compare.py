@@ -1,9 +1,9 @@
 #!/usr/bin/env python3
 """Compares two programs on the same inputs: first their output, byte for byte, and then their time.
 
-usage: compare.py PROVED PLAIN ROUNDS INPUT..
+usage: compare.py PROVED PLAIN COMMAND ROUNDS INPUT..
 
-Each program is started with the word `eval` and an input file as its standard input. Where the two differ in output or
+Each program is started with the word COMMAND (`eval` or `run`) and an input file as its standard input. Where the two differ in output or
 exit status, that is said and the status is 1; nothing is timed then. Otherwise they are run ROUNDS times each, by
 turns, and the least and the median time of each are printed with the ratio PROVED / PLAIN. A time is the processor time
 of the whole process, with its output to the null device.
@@ -40,7 +40,7 @@ def instructions(command, path):
 
 
 def agree(proved, plain, path):
-    first, second = answer([proved, "eval"], path), answer([plain, "eval"], path)
+    first, second = answer(proved, path), answer(plain, path)
     if first == second:
         return True
     print(f"{os.path.basename(path)}: the two programs differ, in output or exit status", file=sys.stderr)
@@ -58,15 +58,15 @@ def report(path, proved, plain):
 
 
 def main(words):
-    if len(words) < 4:
+    if len(words) < 5:
         sys.exit(__doc__)
-    proved, plain = map(os.path.abspath, words[:2])
-    rounds, paths = int(words[2]), words[3:]
+    proved, plain = ([os.path.abspath(word), words[2]] for word in words[:2])
+    rounds, paths = int(words[3]), words[4:]
     if not all([agree(proved, plain, path) for path in paths]):
         sys.exit(1)
     print(f"outputs are the same; {rounds} runs of each program by turns")
     for path in paths:
-        taken = [(seconds([proved, "eval"], path), seconds([plain, "eval"], path)) for _ in range(rounds)]
+        taken = [(seconds(proved, path), seconds(plain, path)) for _ in range(rounds)]
         report(path, *zip(*taken))
 
 

@@ -1,8 +1,8 @@
 #!/usr/bin/env bash
 # Builds the proved programs and the plain one, checks that they answer the same, and prints their times and ratios:
-# first of `ncroute eval` as a whole, then of the machines alone.
+# of `ncroute eval` and `ncroute run` as a whole, of the machines alone, or of the router alone.
 #
-# usage: bench/run.sh [eval|machines|instructions|router]     (without a word: eval and machines)
+# usage: bench/run.sh [eval|machines|instructions|router|script]     (without a word: eval and machines)
 #   instructions counts instructions of the machines with valgrind, in place of their time
 #   NCROUTE=PATH       a proved `ncroute` that is built already: then none is built here
 #   FILTER_BENCH=PATH  the same for `filter_bench`, and ROUTER_BENCH=PATH for `router_bench`
@@ -25,17 +25,32 @@ build() {
 
 rustc --edition 2021 -O -o "$folder/plain" "$bench/baseline/main.rs"
 
-if [ "$wanted" = both ] || [ "$wanted" = eval ]; then
+# Compares `ncroute` and the plain program, started with a word, on inputs.
+compare() {
     if [ -z "${NCROUTE:-}" ]; then
         build ncroute --help
         NCROUTE="$bench/../crates/ncroute/out/ncroute"
     fi
+    "$bench/compare.py" "$NCROUTE" "$folder/plain" "$1" "${ROUNDS:-7}" "${@:2}"
+}
+
+if [ "$wanted" = both ] || [ "$wanted" = eval ]; then
     inputs=()
     for name in accept_alone add_two_and_clip set_of_1024 straight_filter; do
         "$bench/generate.py" "$name" ${ROUTES:+"$ROUTES"} >"$folder/$name"
         inputs+=("$folder/$name")
     done
-    "$bench/compare.py" "$NCROUTE" "$folder/plain" "${ROUNDS:-7}" "${inputs[@]}"
+    compare eval "${inputs[@]}"
+fi
+
+if [ "$wanted" = script ]; then
+    inputs=()
+    for size in 16 64; do
+        "$bench/script.py" "$size" >"$folder/script_of_$size"
+        inputs+=("$folder/script_of_$size")
+    done
+    compare run "${inputs[@]}"
+    exit
 fi
 
 if [ "$wanted" = router ]; then

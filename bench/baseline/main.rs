@@ -1,15 +1,19 @@
-//! The plain program that `ncroute eval` is compared with: the same work, without proofs.
+//! The plain program that `ncroute` is compared with: the same work, without proofs.
 //!
-//! Standard input is a code file in hexadecimal on the first line that is not skipped, and then lines
+//! `eval`: standard input is a code file in hexadecimal on the first line that is not skipped, and then lines
 //! `NET METRIC SIZE`. Each gives one line: `accept D`, `reject`, `fault K AT` or `refused CODE LINE`.
+//!
+//! `run`: standard input is an operator's script; see `script.rs`.
 
 mod code;
+mod events;
 mod lines;
 mod machine;
 mod patterns;
 mod rounds;
 mod route;
 mod router;
+mod script;
 
 use std::io;
 use std::process::ExitCode;
@@ -19,6 +23,7 @@ use lines::{answer_lines, push_decimal, push_refusal, trim_blanks, words, Reply,
 use machine::{run, Memory, Outcome};
 use rounds::{measured, Sums};
 use route::{read_prefix, read_route};
+use script::Script;
 
 /// Answers route lines with the code of the file line, once that was read.
 struct Eval {
@@ -105,6 +110,11 @@ fn eval() -> Result<bool, StreamFault> {
     Ok(answer_lines(&mut io::stdin().lock(), &mut io::stdout().lock(), &mut eval)? == 0)
 }
 
+/// Answers the script of standard input. Whether no line was refused.
+fn run_script() -> Result<bool, StreamFault> {
+    Ok(answer_lines(&mut io::stdin().lock(), &mut io::stdout().lock(), &mut Script::new())? == 0)
+}
+
 /// Takes routes through the machine again and again, and prints what it said.
 fn measure(rounds: u32) -> Result<bool, StreamFault> {
     let Sums { accepted, rejected, metrics } = measured(rounds)?;
@@ -114,7 +124,7 @@ fn measure(rounds: u32) -> Result<bool, StreamFault> {
 
 /// Has a router answer events again and again, and prints what it said.
 fn measure_router(rounds: u32) -> Result<bool, StreamFault> {
-    let router::Sums { events, refused, changed, messages, distances } = router::measured(rounds)?;
+    let events::Sums { events, refused, changed, messages, distances } = events::measured(rounds)?;
     println!("events {events} refused {refused} changed {changed} messages {messages} distances {distances}");
     Ok(true)
 }
@@ -124,6 +134,7 @@ fn main() -> ExitCode {
     let words: Vec<&str> = words.iter().map(String::as_str).collect();
     let done = match words[..] {
         ["eval"] => eval(),
+        ["run"] => run_script(),
         ["rounds", number] => match number.parse() {
             Ok(rounds) => measure(rounds),
             Err(_) => return usage(),
@@ -145,6 +156,6 @@ fn main() -> ExitCode {
 }
 
 fn usage() -> ExitCode {
-    eprintln!("usage: baseline eval | rounds NUMBER | router NUMBER");
+    eprintln!("usage: baseline eval | run | rounds NUMBER | router NUMBER");
     ExitCode::from(2)
 }

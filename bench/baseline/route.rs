@@ -27,6 +27,11 @@ impl Prefix {
     }
 }
 
+/// The prefix of a node for which none is set, `10.V.0.0/16`.
+pub fn default_prefix(node: u16) -> Prefix {
+    Prefix { address: 0x0a00_0000 | u32::from(node) << 16, length: 16 }
+}
+
 /// What a filter is shown: the prefix, the metric as it was received, and the size of the network, which is also the
 /// metric of what cannot be reached.
 #[derive(Clone, Copy, Debug)]
@@ -84,6 +89,11 @@ fn after_blanks(text: &[u8]) -> &[u8] {
         rest = more;
     }
     rest
+}
+
+/// The number that the whole of `text` spells in decimal digits. A number that no `u32` holds gives the greatest one.
+pub fn read_number(text: &[u8]) -> Option<u32> {
+    leading_number(text).filter(|(_, rest)| rest.is_empty()).map(|(number, _)| number)
 }
 
 /// The prefix that the whole of `text` spells.

@@ -1,100 +1,44 @@
-//! `router ROUNDS`: the same router as the proved one, without proofs: tables of distances that are kept step by step, queues,
-//! sessions and filters. It answers the events of standard input again and again.
-//!
-//! `network SIZE ME` comes first, then `filter HEX` lines and the events `up W`, `down W`, `recv W V D`, `take W`, `import W K`,
-//! `export W K` and `show V`. The events before a line `begin` are answered once.
+//! The same router as the proved one, without proofs: tables of distances that are kept step by step, queues, sessions and filters.
 
 use std::collections::VecDeque;
-use std::io;
+use std::rc::Rc;
 
-use crate::code::{decode_hexadecimal, read_code, Code};
-use crate::lines::{answer_lines, Reply, Service, StreamFault};
+use crate::code::Code;
 use crate::machine::{run, Memory, Outcome};
 use crate::route::{Prefix, Route};
 
-/// The prefix of a node, `10.V.0.0/16`.
-fn prefix_of(node: u16) -> Prefix {
-    Prefix::new(0x0a00_0000 | u32::from(node) << 16, 16).expect("16 is a length")
-}
-
-#[derive(Clone, Copy)]
-enum Step {
+/// What happens to a router.
+pub enum Event {
     Up(u16),
-    Down(u16),
-    Receive(u16, u16, u16),
-    Take(u16),
-    Import(u16, usize),
-    Export(u16, usize),
+    Down(u32),
+    Receive(u32, u16, u16),
+    Take(u32, u16),
+    Import(u16, Rc<Code>),
+    Export(u16, Rc<Code>),
     Show(u16),
 }
 
-struct Input {
-    size: u16,
-    me: u16,
-    filters: Vec<Code>,
-    once: usize,
-    steps: Vec<Step>,
-}
-
-impl Input {
-    fn take(&mut self, line: &[u8]) -> Option<()> {
-        let line = std::str::from_utf8(line).ok()?;
-        let words: Vec<&str> = line.split_ascii_whitespace().collect();
-        let number = |at: usize| words.get(at)?.parse::<u16>().ok();
-        let step = match *words.first()? {
-            "network" => {
-                (self.size, self.me) = (number(1)?, number(2)?);
-                return Some(());
-            }
-            "begin" => {
-                self.once = self.steps.len();
-                return Some(());
-            }
-            "filter" => {
-                self.filters.push(read_code(&decode_hexadecimal(words.get(1)?.as_bytes())?).ok()?);
-                return Some(());
-            }
-            "up" => Step::Up(number(1)?),
-            "down" => Step::Down(number(1)?),
-            "recv" => Step::Receive(number(1)?, number(2)?, number(3)?),
-            "take" => Step::Take(number(1)?),
-            "import" => Step::Import(number(1)?, usize::from(number(2)?)),
-            "export" => Step::Export(number(1)?, usize::from(number(2)?)),
-            "show" => Step::Show(number(1)?),
-            _ => return None,
-        };
-        self.steps.push(step);
-        Some(())
-    }
-}
-
-impl Service for Input {
-    fn answer(&mut self, _number: u32, line: &[u8], _out: &mut Vec<u8>) -> Reply {
-        match self.take(line) {
-            Some(()) => Reply::Answered,
-            None => Reply::Ended,
-        }
-    }
-
-    fn finish(&mut self, _out: &mut Vec<u8>) -> Reply {
-        Reply::Answered
-    }
-}
-
-/// What all replies said.
-#[derive(Default)]
-pub struct Sums {
-    pub events: u64,
-    pub refused: u64,
-    pub changed: u64,
-    pub messages: u64,
-    pub distances: u64,
+#[derive(Clone, Copy, Debug, PartialEq, Eq)]
+pub enum Via {
+    Local,
+    Node(u16),
+    Nowhere,
 }
 
 #[derive(Clone, Copy)]
-struct Message {
-    dest: u16,
-    dist: u16,
+pub struct Message {
+    pub dest: u16,
+    pub dist: u16,
+}
+
+/// The answer to an event.
+#[derive(Clone)]
+pub enum Reply {
+    Opened(u32),
+    Done(u16),
+    Messages(Vec<Message>),
+    Route(u16, Via),
+    Refused(&'static str),
 }
 
 #[derive(Default)]
@@ -103,8 +47,8 @@ struct Neighbour {
     session: u32,
     /// What it told last, by node.
     raw: Vec<u16>,
-    imports: Option<usize>,
-    exports: Option<usize>,
+    imports: Option<Rc<Code>>,
+    exports: Option<Rc<Code>>,
     queue: VecDeque<Message>,
 }
 
@@ -116,47 +60,46 @@ struct Best {
 }
 
 /// The distance that a filter makes of another.
-fn pass(memory: &mut Memory, filters: &[Code], filter: Option<usize>, size: u16, node: u16, dist: u16) -> u16 {
+fn pass(memory: &mut Memory, filter: Option<&Code>, size: u16, net: Prefix, dist: u16) -> u16 {
     let Some(filter) = filter else { return dist };
     if dist == size {
         return size;
     }
-    let route = Route { net: prefix_of(node), metric: u32::from(dist), size: u32::from(size) };
-    match run(memory, &filters[filter], &route) {
+    let route = Route { net, metric: u32::from(dist), size: u32::from(size) };
+    match run(memory, filter, &route) {
         Outcome::Accepted(metric) => metric as u16,
         _ => size,
     }
 }
 
-struct Router<'a> {
+pub struct Router {
     size: u16,
     me: u16,
-    filters: &'a [Code],
+    prefixes: Vec<Prefix>,
     memory: Memory,
     sessions: u32,
     neighbours: Vec<Neighbour>,
-    /// By node and then by neighbour: how far the node is from it, behind the import filter.
+    /// By node and then by neighbour: how far the node is from it, after the import filter.
     through: Vec<u16>,
     best: Vec<Best>,
-    sums: Sums,
 }
 
-impl Router<'_> {
-    fn new(input: &Input) -> Router<'_> {
-        let size = input.size;
-        let count = usize::from(size);
+impl Router {
+    /// The router of node `me`, with one prefix a node.
+    pub fn new(me: u16, prefixes: Vec<Prefix>) -> Router {
+        let count = prefixes.len();
+        let size = count as u16;
         let mut best = vec![Best { dist: size, via: size }; count];
-        best[usize::from(input.me)].dist = 0;
+        best[usize::from(me)].dist = 0;
         Router {
             size,
-            me: input.me,
-            filters: &input.filters,
+            me,
+            prefixes,
             memory: Memory::new(),
             sessions: 0,
             neighbours: (0..count).map(|_| Neighbour { raw: vec![size; count], ..Neighbour::default() }).collect(),
             through: vec![size; count * count],
             best,
-            sums: Sums::default(),
         }
     }
 
@@ -164,12 +107,13 @@ impl Router<'_> {
         node < self.size && node != self.me
     }
 
-    fn holder(&self, session: u32) -> Option<u16> {
+    fn holder(&self, session: u32) -> Result<u16, &'static str> {
         let found = self.neighbours.iter().position(|neighbour| session != 0 && neighbour.session == session);
-        found.map(|node| node as u16)
+        found.map(|node| node as u16).ok_or("N3")
     }
 
-    fn session(&self, node: u16) -> u32 {
+    /// The present session of a node, 0 where it is not up.
+    pub fn session(&self, node: u16) -> u32 {
         self.neighbours.get(usize::from(node)).map_or(0, |neighbour| neighbour.session)
     }
 
@@ -210,128 +154,125 @@ impl Router<'_> {
 
     /// Queues a distance for every up neighbour.
     fn tell(&mut self, node: u16, dist: u16) {
-        let Router { neighbours, memory, filters, size, .. } = self;
+        let Router { neighbours, memory, prefixes, size, .. } = self;
         for neighbour in neighbours.iter_mut().filter(|neighbour| neighbour.session != 0) {
-            let dist = pass(memory, filters, neighbour.exports, *size, node, dist);
+            let dist = pass(memory, neighbour.exports.as_deref(), *size, prefixes[usize::from(node)], dist);
             neighbour.queue.push_back(Message { dest: node, dist });
         }
     }
 
     /// Queues all distances for one neighbour.
     fn tell_all(&mut self, node: u16) {
-        let Router { neighbours, memory, filters, size, best, .. } = self;
-        let neighbour = &mut neighbours[usize::from(node)];
-        for (dest, best) in best.iter().enumerate() {
-            let dist = pass(memory, filters, neighbour.exports, *size, dest as u16, best.dist);
-            neighbour.queue.push_back(Message { dest: dest as u16, dist });
+        let Router { neighbours, memory, prefixes, size, best, .. } = self;
+        let Neighbour { exports, queue, .. } = &mut neighbours[usize::from(node)];
+        for (dest, (best, prefix)) in best.iter().zip(prefixes).enumerate() {
+            let dist = pass(memory, exports.as_deref(), *size, *prefix, best.dist);
+            queue.push_back(Message { dest: dest as u16, dist });
         }
     }
 
-    /// Takes in anew how far all nodes are from a neighbour.
-    fn put_all(&mut self, neighbour: u16) {
+    /// Takes in anew how far all nodes are from a neighbour. How many distances changed.
+    fn put_all(&mut self, neighbour: u16) -> u16 {
+        let mut changed = 0;
         for node in 0..self.size {
             let Neighbour { session, raw, imports, .. } = &self.neighbours[usize::from(neighbour)];
+            let net = self.prefixes[usize::from(node)];
             let dist = match session {
                 0 => self.size,
-                _ => pass(&mut self.memory, self.filters, *imports, self.size, node, raw[usize::from(node)]),
+                _ => pass(&mut self.memory, imports.as_deref(), self.size, net, raw[usize::from(node)]),
             };
-            if self.put(node, neighbour, dist) {
-                self.sums.changed += 1;
-            }
+            changed += u16::from(self.put(node, neighbour, dist));
         }
+        changed
     }
 
-    fn up(&mut self, node: u16) -> bool {
-        if !self.is_neighbour(node) || self.session(node) != 0 {
-            return false;
+    fn up(&mut self, node: u16) -> Result<Reply, &'static str> {
+        if !self.is_neighbour(node) {
+            return Err("N1");
         }
-        self.sessions += 1;
+        if self.session(node) != 0 {
+            return Err("N2");
+        }
+        self.sessions = self.sessions.checked_add(1).ok_or("N7")?;
         let size = self.size;
         let neighbour = &mut self.neighbours[usize::from(node)];
         neighbour.session = self.sessions;
         neighbour.raw.fill(size);
         self.tell_all(node);
-        true
+        Ok(Reply::Opened(self.sessions))
     }
 
-    fn down(&mut self, session: u32) -> bool {
-        let Some(node) = self.holder(session) else { return false };
+    fn down(&mut self, session: u32) -> Result<Reply, &'static str> {
+        let node = self.holder(session)?;
         let neighbour = &mut self.neighbours[usize::from(node)];
         neighbour.session = 0;
         neighbour.queue.clear();
-        self.put_all(node);
-        true
+        Ok(Reply::Done(self.put_all(node)))
     }
 
-    fn receive(&mut self, session: u32, dest: u16, dist: u16) -> bool {
-        let Some(node) = self.holder(session) else { return false };
-        if dest >= self.size || dist > self.size {
-            return false;
+    fn receive(&mut self, session: u32, dest: u16, dist: u16) -> Result<Reply, &'static str> {
+        let node = self.holder(session)?;
+        if dest >= self.size {
+            return Err("N4");
+        }
+        if dist > self.size {
+            return Err("N5");
         }
         let neighbour = &mut self.neighbours[usize::from(node)];
         neighbour.raw[usize::from(dest)] = dist;
-        let dist = pass(&mut self.memory, self.filters, neighbour.imports, self.size, dest, dist);
-        if self.put(dest, node, dist) {
-            self.sums.changed += 1;
-        }
-        true
+        let net = self.prefixes[usize::from(dest)];
+        let dist = pass(&mut self.memory, neighbour.imports.as_deref(), self.size, net, dist);
+        Ok(Reply::Done(u16::from(self.put(dest, node, dist))))
     }
 
-    fn take(&mut self, session: u32, most: usize) -> bool {
-        let Some(node) = self.holder(session) else { return false };
+    fn take(&mut self, session: u32, most: u16) -> Result<Reply, &'static str> {
+        let node = self.holder(session)?;
         let queue = &mut self.neighbours[usize::from(node)].queue;
-        let taken: Vec<Message> = queue.drain(..most.min(queue.len())).collect();
-        for message in &taken {
-            debug_assert!(message.dest < self.size);
-            self.sums.messages += 1;
-            self.sums.distances += u64::from(message.dist);
-        }
-        true
+        Ok(Reply::Messages(queue.drain(..usize::from(most).min(queue.len())).collect()))
     }
 
-    fn answer(&mut self, step: Step) {
-        self.sums.events += 1;
-        let is_done = match step {
-            Step::Up(node) => self.up(node),
-            Step::Down(node) => self.down(self.session(node)),
-            Step::Receive(node, dest, dist) => self.receive(self.session(node), dest, dist),
-            Step::Take(node) => self.take(self.session(node), 65_535),
-            Step::Import(node, filter) if self.is_neighbour(node) => {
-                self.neighbours[usize::from(node)].imports = Some(filter);
-                self.put_all(node);
-                true
-            }
-            Step::Export(node, filter) if self.is_neighbour(node) => {
-                self.neighbours[usize::from(node)].exports = Some(filter);
-                if self.session(node) != 0 {
-                    self.tell_all(node);
-                }
-                true
-            }
-            Step::Show(node) if node < self.size => {
-                self.sums.distances += u64::from(self.best[usize::from(node)].dist);
-                true
-            }
-            _ => false,
+    fn import(&mut self, node: u16, filter: &Rc<Code>) -> Result<Reply, &'static str> {
+        if !self.is_neighbour(node) {
+            return Err("N1");
+        }
+        self.neighbours[usize::from(node)].imports = Some(Rc::clone(filter));
+        Ok(Reply::Done(self.put_all(node)))
+    }
+
+    fn export(&mut self, node: u16, filter: &Rc<Code>) -> Result<Reply, &'static str> {
+        if !self.is_neighbour(node) {
+            return Err("N1");
+        }
+        self.neighbours[usize::from(node)].exports = Some(Rc::clone(filter));
+        if self.session(node) != 0 {
+            self.tell_all(node);
+        }
+        Ok(Reply::Done(0))
+    }
+
+    fn show(&self, node: u16) -> Result<Reply, &'static str> {
+        let best = self.best.get(usize::from(node)).ok_or("N4")?;
+        let via = if node == self.me {
+            Via::Local
+        } else if best.via == self.size {
+            Via::Nowhere
+        } else {
+            Via::Node(best.via)
         };
-        if !is_done {
-            self.sums.refused += 1;
-        }
+        Ok(Reply::Route(best.dist, via))
     }
-}
 
-/// Has a router answer the events of standard input.
-pub fn measured(rounds: u32) -> Result<Sums, StreamFault> {
-    let mut input = Input { size: 0, me: 0, filters: Vec::new(), once: 0, steps: Vec::new() };
-    answer_lines(&mut io::stdin().lock(), &mut io::sink(), &mut input)?;
-    let mut router = Router::new(&input);
-    for step in &input.steps[..input.once] {
-        router.answer(*step);
+    /// Answers an event. A refused one changes nothing.
+    pub fn apply(&mut self, event: &Event) -> Reply {
+        let replied = match event {
+            Event::Up(node) => self.up(*node),
+            Event::Down(session) => self.down(*session),
+            Event::Receive(session, dest, dist) => self.receive(*session, *dest, *dist),
+            Event::Take(session, most) => self.take(*session, *most),
+            Event::Import(node, filter) => self.import(*node, filter),
+            Event::Export(node, filter) => self.export(*node, filter),
+            Event::Show(node) => self.show(*node),
+        };
+        replied.unwrap_or_else(Reply::Refused)
     }
-    for _ in 0..rounds {
-        for step in &input.steps[input.once..] {
-            router.answer(*step);
-        }
-    }
-    Ok(router.sums)
 }
