@@ -10,3 +10,5 @@ mod Dividing
 mod Joining
 mod Longer
 mod SoundJoined
+mod Counting
+mod Closing

@@ -15,6 +15,9 @@ pub record RouterView : Type 0 where
   pub opening : OpeningView
   pub limit : ℕ
 
+abbrev pub router_view : TableId → OpeningView → ℕ → RouterView
+router_view table opening limit = record { table = table; opening = opening; limit = limit }
+
 -- which router it is of, what that was opened with and its limit, and what the caller knows
 pub record PassView : Type 0 where
   pub table : TableId

@@ -1,5 +1,7 @@
 -- what callers cite
 pub mod Calls
+pub mod Codes
+pub mod Counts
 pub mod Held
 pub mod Rule
 pub mod Steps

@@ -19,6 +19,28 @@ pub enum TryFault {
     Memory,
 }
 
+impl TryFault {
+    ghost use Rattle.slot_lock.specs.Codes.{try_code};
+
+    /// The fault's code, `L1`, `J1` or `J2`.
+    pub fn code(&self) -> &'static str
+        ensures { result.now ≡ try_code self.now }
+    {
+        match self {
+            TryFault::Busy(_) => "L1",
+            TryFault::Full => "J1",
+            TryFault::Memory => "J2",
+        }
+    }
+
+    /// The fault's place: always 0, since no fault of a call has one.
+    pub fn at(&self) -> usize
+        ensures { result ≡ 0 }
+    {
+        0
+    }
+}
+
 /// Why a router was not opened or closed.
 #[derive(Clone, Copy, Debug, PartialEq, Eq, Error)]
 pub enum LockFault {
@@ -28,4 +50,25 @@ pub enum LockFault {
     /// L3: the memory for the router was refused.
     #[error("out of memory")]
     Memory,
+}
+
+impl LockFault {
+    ghost use Rattle.slot_lock.specs.Codes.{lock_code};
+
+    /// The fault's code, `L2` or `L3`.
+    pub fn code(self) -> &'static str
+        ensures { result.now ≡ lock_code self }
+    {
+        match self {
+            LockFault::Held => "L2",
+            LockFault::Memory => "L3",
+        }
+    }
+
+    /// The fault's place: always 0, since neither fault has one.
+    pub fn at(self) -> usize
+        ensures { result ≡ 0 }
+    {
+        0
+    }
 }

@@ -3,6 +3,7 @@
 
 mod answer;
 mod fault;
+mod laws;
 mod pass;
 mod router;
 mod rule;
@@ -10,5 +11,6 @@ mod seat;
 
 pub use answer::Answer;
 pub use fault::{LockFault, TryFault};
+pub use laws::{counts_add_up, each_position_is_there, none_is_twice};
 pub use pass::Pass;
 pub use router::{ALL_SHARES, Router};

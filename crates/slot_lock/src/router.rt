@@ -1,7 +1,7 @@
 //! A router that many threads call.
 
-ghost use Rattle.std.specs.Prelude.{◌≡◌, ◌-◌, ◌<◌, ◌≤◌, [], IfErr, IfOk};
-ghost use Rattle.slot_lock.specs.Calls.{Answered, Joined, Met, Refused, TryRefused};
+ghost use Rattle.std.specs.Prelude.{◌≡◌, ◌≢◌, ◌-◌, ◌<◌, ◌≤◌, [], IfErr, IfOk, length};
+ghost use Rattle.slot_lock.specs.Calls.{Answered, Closed, Joined, Met, Refused, TryRefused};
 ghost use Rattle.slot_lock.specs.declared.fault.LockFault.TheVariants as lock_fault;
 ghost use Rattle.slot_lock.specs.Held.{IsFirst, IsOwn, IsPassOf};
 
@@ -9,7 +9,7 @@ use crate::answer::Answer;
 use crate::fault::{LockFault, TryFault};
 use crate::pass::Pass;
 use crate::rule::Desk;
-use crate::seat::{absorb, compare, cut, enter, take, take_in_the_end};
+use crate::seat::{absorb, compare, cut, enter, take, take_apart, take_in_the_end};
 use netchange_core::Event;
 use route_history::{CallFault, Journal};
 use std::alloc::Global;
@@ -28,15 +28,11 @@ pub struct Router {
 
 impl Model for Router {
     ghost use Rattle.std.specs.Prelude.{◌≡◌};
-    ghost use Rattle.slot_lock.specs.Held.{RouterView};
+    ghost use Rattle.slot_lock.specs.Held.{RouterView, router_view};
 
     ghost Value = { RouterView };
 
-    ghost view = { λ r. record {
-      table = r.desk.shared.table_id;
-      opening = r.desk.shared.key.value.opening;
-      limit = r.desk.shared.key.value.limit;
-    } };
+    ghost view = { λ r. router_view r.desk.shared.table_id r.desk.shared.key.value.opening r.desk.shared.key.value.limit };
 
     ghost invariant = { λ r. (r.desk.shared.table_id.words ≡ 1) × (r.desk.shared.table_id.slots ≡ 1) };
 }
@@ -133,5 +129,18 @@ impl Router {
         let Pass { seat, shares } = other;
         let seat = compare(&self.desk, &mut pass.seat, seat);
         Pass { seat, shares }
+    }
+
+    /// Closes the router, and returns its journal. L2 if the lock is held, to which no call of this crate leads; router, pass
+    /// and journal are then dropped.
+    pub fn close(self, pass: Pass) -> Result<Journal, LockFault>
+        requires { IsPassOf self pass }
+        ensures closed { IfOk result (λ j. Closed self pass.part j) }
+        ensures count { IfOk result (λ j. pass.part.shares ≡ ALL_SHARES → length pass.part.mine ≡ length j.entries) }
+        ensures held { IfErr result (λ f. (f ≡ lock_fault.Held) × (pass.part.shares ≢ ALL_SHARES)) }
+    {
+        let Router { desk } = self;
+        let Pass { seat, shares: _ } = pass;
+        take_apart(desk, seat)
     }
 }

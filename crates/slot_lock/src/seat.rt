@@ -1,16 +1,20 @@
 //! What one seat does at the table of a router.
 
-ghost use Rattle.std.specs.Prelude.{◌≡◌, ◌<◌, IfErr, IfOk, MatchBool, None, []};
+ghost use Rattle.std.specs.Prelude.{◌≡◌, ◌≢◌, ◌<◌, IfErr, IfOk, MatchBool, None, []};
+ghost use Rattle.slot_lock.specs.Calls.{Closed};
+ghost use Rattle.slot_lock.specs.declared.fault.LockFault.TheVariants as lock_fault;
 ghost use Rattle.slot_lock.specs.Entering.{Enters, EntersNot, IsAtDesk, IsHolding, IsMet, TookLate};
+ghost use Rattle.slot_lock.specs.Held.{router_view};
 ghost use Rattle.slot_lock.specs.Steps.{Absorbs, Missed, Took};
-ghost use Rattle.slot_lock.specs.Views.{cut_left, cut_right, idle, shares_of, united};
+ghost use Rattle.slot_lock.specs.Views.{all_shares, cut_left, cut_right, idle, shares_of, united};
 
 use crate::answer::Answer;
+use crate::fault::LockFault;
 use crate::rule::{
     Absorb, Amount, Compare, Cut, Desk, Give, Leave, Place, Separate, Show, Take, Unite,
 };
 use netchange_core::Event;
-use route_history::CallFault;
+use route_history::{CallFault, Journal};
 use std::sync::Wait;
 use std::thread;
 
@@ -102,4 +106,23 @@ pub(crate) fn compare(desk: &Desk, seat: &mut Place, other: Place) -> Place
     desk.shared.join_seat::<Unite>(seat, other);
     desk.shared.load::<Compare>(seat, 0);
     desk.shared.split_seat::<Separate>(seat)
+}
+
+/// Takes the table apart, and returns its journal, unless a seat still has it.
+pub(crate) fn take_apart(desk: Desk, seat: Place) -> Result<Journal, LockFault>
+    requires desk { IsAtDesk desk.shared.table_id seat.table_id }
+    requires free { (seat.me.0.note ≡ None) × (seat.me.0.guest ≡ idle) }
+    ensures closed { IfOk result (λ j.
+        Closed (router_view desk.shared.table_id desk.shared.key.value.opening desk.shared.key.value.limit) seat.me.0.own j) }
+    ensures held { IfErr result (λ f. (f ≡ lock_fault.Held) × (seat.me.0.own.shares ≢ all_shares)) }
+{
+    let mut closed = desk.close_with(seat);
+    let word = closed.word(0);
+    let journal = closed.take(0);
+    closed.free();
+    if word == 0 {
+        Ok(journal)
+    } else {
+        Err(LockFault::Held)
+    }
 }

@@ -1,0 +1,23 @@
+//! What follows from counts of positions, for callers who gather what several passes did.
+
+ghost use Rattle.std.specs.Prelude.{◌≡◌, ℕ, ◌+◌, ◌<◌, ◌++◌, List, length};
+ghost use Rattle.route_history.specs.Positions.{times};
+ghost use Rattle.slot_lock.specs.Counts.{HasEachOnce, HasNoneTwice, StandsAt};
+
+/// Where each position of a history of n entries stands in a list once, and nothing else does, the list has n positions;
+/// each number below n stands at one of its indices, and each of its positions is below n.
+pub fn each_position_is_there()
+    ensures number { (n : ℕ) (xs : List ℕ) → HasEachOnce n xs → length xs ≡ n }
+    ensures there { (n x : ℕ) (xs : List ℕ) → HasEachOnce n xs → x < n → (k : ℕ) × StandsAt x xs k }
+    ensures within { (n x k : ℕ) (xs : List ℕ) → HasEachOnce n xs → StandsAt x xs k → x < n }
+{}
+
+/// Where nothing stands in a list twice, one position stands at one index.
+pub fn none_is_twice()
+    ensures { (x j k : ℕ) (xs : List ℕ) → HasNoneTwice xs → StandsAt x xs j → StandsAt x xs k → j ≡ k }
+{}
+
+/// A position stands in two lists, one after the other, as often as in both.
+pub fn counts_add_up()
+    ensures { (x : ℕ) (xs ys : List ℕ) → times x (xs ++ ys) ≡ times x xs + times x ys }
+{}
