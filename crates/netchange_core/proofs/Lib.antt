@@ -7,6 +7,7 @@ pub mod Lists
 pub mod Mapped
 pub mod Nearest
 pub mod Opened
+pub mod Presence
 pub mod Queued
 pub mod Received
 pub mod Replaced

@@ -1,19 +1,5 @@
 -- On lists.
-use Rattle.std.specs.List.{position_or_len}
-use Rattle.std.proofs.Common.{◌≡◌, ℕ, ◌+◌, ◌≤◌, zero, suc, Bool, cond, not, Some, None, nat_lt, List, [], ◌∷◌, ◌++◌, map, position, length, replicate, refl, ap, ◌∙◌, get_or, arith, le_refl}
-use Rattle.std.proofs.lemmas.List.{length-map}
-
-place_map : {X Y : Type 0} (test : Y → Bool) (f : X → Y) (xs : List X) →
-    position_or_len test (map f xs) ≡ position_or_len (λ x. test (f x)) xs
-place_map test f [] = refl
-place_map test f (x ∷ xs) = ap (λ n. cond (not (test (f x))) (1 + n) 0) (place_map test f xs)
-
--- the first place in a list of images
-pub position_map : {X Y : Type 0} (test : Y → Bool) (f : X → Y) (xs : List X) →
-    position test (map f xs) ≡ position (λ x. test (f x)) xs
-position_map test f xs =
-    ap (λ n. cond (nat_lt n (length (map f xs))) (Some n) None) (place_map test f xs)
-    ∙ ap (λ n. cond (nat_lt (position_or_len (λ x. test (f x)) xs) n) (Some (position_or_len (λ x. test (f x)) xs)) None) (length-map xs f)
+use Rattle.std.proofs.Common.{◌≡◌, ℕ, ◌≤◌, zero, suc, List, [], ◌∷◌, ◌++◌, map, replicate, refl, ap, get_or, arith, le_refl}
 
 -- the images of one element many times
 pub map_replicate : {X Y : Type 0} (f : X → Y) (n : ℕ) (x : X) → map f (replicate n x) ≡ replicate n (f x)

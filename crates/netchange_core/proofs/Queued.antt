@@ -2,40 +2,27 @@
 use Rattle.std.proofs.Common.{◌≡◌, ℕ, ◌+◌, ◌<◌, zero, suc, cond, nat_eq, List, [], ◌∷◌, ◌++◌, length, map, slice_index_or, ap, sym, subst, refl, ◌∙◌, arith, add-one}
 use Rattle.std.proofs.lemmas.Bool.{cond_both}
 use Rattle.std.proofs.lemmas.List.{get_or-map, length-map}
+use Rattle.netchange_core.specs.declared.message.Message.{Message}
 use Rattle.netchange_core.specs.Best.{neighbour_distance}
 use Rattle.netchange_core.specs.Kept.{AreNeighbours, IsNeighbour}
 use Rattle.netchange_core.specs.Next.{count_changes, message_of, tell, tell_changes}
 use Rattle.netchange_core.specs.OpeningView.{OpeningView}
+use Rattle.netchange_core.specs.Room.{queueing}
 use Rattle.netchange_core.specs.Settling.{told_if_differs}
 use Rattle.netchange_core.specs.World.{NeighbourView, is_up, neighbour_at, nobody}
 
--- a longer queue leaves the rest of a neighbour
-queued_distance : (o : OpeningView) (u v d : ℕ) (n : NeighbourView) →
-    neighbour_distance o u (tell o v d n) ≡ neighbour_distance o u n
-queued_distance o u v d n =
-    cond_both (is_up n) (record n { queue = n.queue ++ message_of o n.exports v d ∷ [] }) n
-    (λ m. neighbour_distance o u m ≡ neighbour_distance o u n) (λ _. refl) (λ _. refl)
+-- what a function doesn't see where it doesn't see the queue
+tell_unseen : {A : Type 0} (g : NeighbourView → A) (o : OpeningView) (v d : ℕ) →
+    ((n : NeighbourView) (m : List Message) → g (queueing m n) ≡ g n) → (n : NeighbourView) → g (tell o v d n) ≡ g n
+tell_unseen g o v d unseen n =
+    cond_both (is_up n) (queueing (message_of o n.exports v d ∷ []) n) n (λ m. g m ≡ g n)
+    (λ _. unseen n (message_of o n.exports v d ∷ [])) (λ _. refl)
 
-queued_good : (o : OpeningView) (size v d : ℕ) (n : NeighbourView) → IsNeighbour size n → IsNeighbour size (tell o v d n)
-queued_good o size v d n p =
-    cond_both (is_up n) (record n { queue = n.queue ++ message_of o n.exports v d ∷ [] }) n (IsNeighbour size)
-    (λ _. record { one_a_node = p.one_a_node; reachable = p.reachable; imports = p.imports; exports = p.exports }) (λ _. p)
-
--- what all messages leave
-pub tell_distances : (o : OpeningView) (u v d : ℕ) (ns : List NeighbourView) →
-    map (neighbour_distance o u) (map (tell o v d) ns) ≡ map (neighbour_distance o u) ns
-tell_distances o u v d [] = refl
-tell_distances o u v d (n ∷ ns) = λ i. queued_distance o u v d n i ∷ tell_distances o u v d ns i
-
-pub tell_good : (o : OpeningView) (size v d : ℕ) (ns : List NeighbourView) → AreNeighbours size ns →
-    AreNeighbours size (map (tell o v d) ns)
-tell_good o size v d ns good = record {
-  one_a_node = length-map ns (tell o v d) ∙ good.one_a_node;
-  each = λ k e h.
-      let short : k < length ns = omega (arith, length-map ns (tell o v d)) in
-      subst (IsNeighbour size) (sym (get_or-map (tell o v d) ns k nobody e short))
-      (queued_good o size v d (neighbour_at ns k) (good.each k nobody short));
-}
+pub map_tell : {A : Type 0} (g : NeighbourView → A) (o : OpeningView) (v d : ℕ) →
+    ((n : NeighbourView) (m : List Message) → g (queueing m n) ≡ g n) → (ns : List NeighbourView) →
+    map g (map (tell o v d) ns) ≡ map g ns
+map_tell g o v d unseen [] = refl
+map_tell g o v d unseen (n ∷ ns) = λ i. tell_unseen g o v d unseen n i ∷ map_tell g o v d unseen ns i
 
 -- what each round of messages leaves, all of them leave
 pub changes_leave : (P : List NeighbourView → Type 0) (o : OpeningView) (old new : ℕ → ℕ) (n : ℕ) (ns : List NeighbourView) →
@@ -46,6 +33,34 @@ changes_leave P o old new (suc n) ns step p =
     cond_both (nat_eq (old n) (new n)) (tell_changes o old new n ns) (map (tell o n (new n)) (tell_changes o old new n ns)) P
     (λ _. rest) (λ _. step n (new n) (tell_changes o old new n ns) rest)
 
+pub map_told : {A : Type 0} (g : NeighbourView → A) (o : OpeningView) (old new : ℕ → ℕ) →
+    ((n : NeighbourView) (m : List Message) → g (queueing m n) ≡ g n) → (v : ℕ) (ns : List NeighbourView) →
+    map g (tell_changes o old new v ns) ≡ map g ns
+map_told g o old new unseen v ns =
+    changes_leave (λ ms. map g ms ≡ map g ns) o old new v ns (λ u d ms e. map_tell g o u d unseen ms ∙ e) refl
+
+queued_good : (o : OpeningView) (size v d : ℕ) (n : NeighbourView) → IsNeighbour size n → IsNeighbour size (tell o v d n)
+queued_good o size v d n p =
+    cond_both (is_up n) (record n { queue = n.queue ++ message_of o n.exports v d ∷ [] }) n (IsNeighbour size)
+    (λ _. record { one_a_node = p.one_a_node; reachable = p.reachable; imports = p.imports; exports = p.exports }) (λ _. p)
+
+pub map_told_if_differs : {A : Type 0} (g : NeighbourView → A) (o : OpeningView) (v a b : ℕ) →
+    ((n : NeighbourView) (m : List Message) → g (queueing m n) ≡ g n) → (ns : List NeighbourView) →
+    map g (told_if_differs o v a b ns) ≡ map g ns
+map_told_if_differs g o v a b unseen ns =
+    cond_both (nat_eq a b) ns (map (tell o v b) ns) (λ ms. map g ms ≡ map g ns) (λ _. refl) (λ _. map_tell g o v b unseen ns)
+
+-- what all messages leave
+pub tell_good : (o : OpeningView) (size v d : ℕ) (ns : List NeighbourView) → AreNeighbours size ns →
+    AreNeighbours size (map (tell o v d) ns)
+tell_good o size v d ns good = record {
+  one_a_node = length-map ns (tell o v d) ∙ good.one_a_node;
+  each = λ k e h.
+      let short : k < length ns = omega (arith, length-map ns (tell o v d)) in
+      subst (IsNeighbour size) (sym (get_or-map (tell o v d) ns k nobody e short))
+      (queued_good o size v d (neighbour_at ns k) (good.each k nobody short));
+}
+
 pub changes_good : (o : OpeningView) (size : ℕ) (old new : ℕ → ℕ) (n : ℕ) (ns : List NeighbourView) → AreNeighbours size ns →
     AreNeighbours size (tell_changes o old new n ns)
 changes_good o size old new n ns good =
@@ -53,9 +68,7 @@ changes_good o size old new n ns good =
 
 pub changes_distances : (o : OpeningView) (u : ℕ) (old new : ℕ → ℕ) (n : ℕ) (ns : List NeighbourView) →
     map (neighbour_distance o u) (tell_changes o old new n ns) ≡ map (neighbour_distance o u) ns
-changes_distances o u old new n ns =
-    changes_leave (λ ms. map (neighbour_distance o u) ms ≡ map (neighbour_distance o u) ns) o old new n ns
-    (λ v d ms e. tell_distances o u v d ms ∙ e) refl
+changes_distances o u old new n ns = map_told (neighbour_distance o u) o old new (λ _ _. refl) n ns
 
 -- the distance of one neighbour
 pub changes_distance : (o : OpeningView) (u k : ℕ) (old new : ℕ → ℕ) (n : ℕ) (ns : List NeighbourView) → k < length ns →

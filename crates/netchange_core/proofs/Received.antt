@@ -15,7 +15,7 @@ use Rattle.netchange_core.specs.Settling.{told_if_differs}
 use Rattle.netchange_core.specs.World.{NeighbourView, change, changed, is_up, neighbour_at, nobody}
 use Rattle.netchange_core.proofs.Change.{change_good, changed_at, map_change, map_change_same}
 use Rattle.netchange_core.proofs.Good.{heard_distance, heard_good, heard_here}
-use Rattle.netchange_core.proofs.Queued.{tell_distances, tell_good}
+use Rattle.netchange_core.proofs.Queued.{map_told_if_differs, tell_good}
 use Rattle.netchange_core.proofs.Replaced.{set_each}
 use Rattle.netchange_core.proofs.Worlds.{kept_is, world}
 
@@ -79,9 +79,7 @@ byte_is false = refl
 
 told_distances : (o : OpeningView) (u v a b : ℕ) (ns : List NeighbourView) →
     map (neighbour_distance o u) (told_if_differs o v a b ns) ≡ map (neighbour_distance o u) ns
-told_distances o u v a b ns =
-    cond_both (nat_eq a b) ns (map (tell o v b) ns) (λ ms. map (neighbour_distance o u) ms ≡ map (neighbour_distance o u) ns)
-    (λ _. refl) (λ _. tell_distances o u v b ns)
+told_distances o u v a b ns = map_told_if_differs (neighbour_distance o u) o v a b (λ _ _. refl) ns
 
 told_good : (o : OpeningView) (size v a b : ℕ) (ns : List NeighbourView) → AreNeighbours size ns →
     AreNeighbours size (told_if_differs o v a b ns)

@@ -8,7 +8,9 @@ use Rattle.netchange_core.specs.declared.best_route.BestRoute.{BestRoute}
 use Rattle.netchange_core.specs.declared.destination.Destination.{Destination}
 use Rattle.netchange_core.specs.declared.neighbour.Neighbour.{Neighbour}
 use Rattle.netchange_core.specs.Best.{best_by, neighbour_distance}
+use Rattle.netchange_core.specs.declared.sessions.Sessions.{Sessions}
 use Rattle.netchange_core.specs.OpeningView.{OpeningView}
+use Rattle.netchange_core.specs.Present.{ArePresent, sessions_of}
 use Rattle.netchange_core.specs.World.{NeighbourView, World}
 
 -- a neighbour as the world has it
@@ -60,6 +62,11 @@ pub record AreKept (o : OpeningView) (ns : List NeighbourView) (ds : List Destin
   pub destinations : AreDestinations o ds
   pub distances : (v : ℕ) (d : Destination) → v < o.size →
       (slice_index_or ds v d).distances.items ≡ map (neighbour_distance o v) ns
+
+-- and the list of the present sessions is that of the neighbours
+pub record AreTables (o : OpeningView) (sessions : Sessions) (ns : List NeighbourView) (ds : List Destination) : Type 0 where
+  pub kept : AreKept o ns ds
+  pub present : ArePresent sessions.count (sessions_of ns) sessions.present.items
 
 -- the distances to the nodes, as kept, and as these neighbours give them
 abbrev pub kept_distance : List Destination → ℕ → ℕ

@@ -6,6 +6,7 @@ pub mod Leading
 pub mod Next
 pub mod OpeningView
 pub mod Pass
+pub mod Present
 pub mod Room
 pub mod Settling
 pub mod World

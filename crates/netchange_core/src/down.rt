@@ -1,40 +1,44 @@
 //! A channel fails.
 
-ghost use Rattle.std.specs.Prelude.{◌≡◌, ℕ, IfOk, OnErr, map};
-ghost use Rattle.netchange_core.specs.Calls.{MayNeedMemory};
+ghost use Rattle.std.specs.Prelude.{◌≡◌, ◌<◌, true, IfOk, OnErr, length, map};
 ghost use Rattle.netchange_core.specs.Kept.{AreKept, view_of, world_of};
 ghost use Rattle.netchange_core.specs.Next.{answered, down};
-ghost use Rattle.netchange_core.specs.World.{holder};
+ghost use Rattle.netchange_core.specs.Present.{ArePresent, sessions_of};
+ghost use Rattle.netchange_core.specs.World.{is_up, neighbour_at};
 
 use crate::changing::leave;
 use crate::destination::Destination;
-use crate::neighbour::{Neighbour, holder};
+use crate::neighbour::Neighbour;
 use crate::opening::Opening;
-use crate::reply::{Refusal, Reply};
+use crate::reply::Reply;
 use crate::room::make_room;
+use crate::sessions::{Sessions, close};
 use crate::settling::settle;
 use std::alloc::AllocError;
 
-/// The channel of a session failed.
+/// The channel to an up neighbour failed.
 pub(crate) fn down(
     opening: &Opening,
+    sessions: &mut Sessions,
     neighbours: &mut [Neighbour],
     destinations: &mut [Destination],
-    session: u32,
+    hop: usize,
 ) -> Result<Reply, AllocError>
     requires kept { AreKept opening.now (map view_of neighbours.old) destinations.old }
-    ensures done { (n : ℕ) → let w = world_of opening.now n neighbours.old in
-        IfOk result (λ r. down w (holder w session) ≡ answered (world_of opening.now n neighbours.new) r) }
+    requires present { ArePresent sessions.old.count (sessions_of (map view_of neighbours.old)) sessions.old.present.items }
+    requires hop { hop < length neighbours.old }
+    requires up { is_up (neighbour_at (map view_of neighbours.old) hop) ≡ true }
+    ensures done { let w = world_of opening.now sessions.old.count neighbours.old in
+        IfOk result (λ r. down w (Some hop) ≡ answered (world_of opening.now sessions.new.count neighbours.new) r) }
     ensures kept { AreKept opening.now (map view_of neighbours.new) destinations.new }
-    ensures same { OnErr result (map view_of neighbours.new ≡ map view_of neighbours.old) }
-    ensures memory { (n : ℕ) → let w = world_of opening.now n neighbours.old in
-        OnErr result (MayNeedMemory (down w (holder w session)).reply) }
+    ensures present { ArePresent sessions.new.count (sessions_of (map view_of neighbours.new)) sessions.new.present.items }
+    ensures same { OnErr result (world_of opening.now sessions.new.count neighbours.new
+        ≡ world_of opening.now sessions.old.count neighbours.old) }
 {
-    let Some(k) = holder(neighbours, session) else {
-        return Ok(Reply::Refused(Refusal::Stale));
-    };
     make_room(neighbours, usize::from(opening.size()))?;
-    leave(opening, &mut neighbours[k]);
-    let changed = settle(opening, neighbours, destinations, k);
+    let neighbour = &mut neighbours[hop];
+    close(&mut sessions.present, neighbour.session);
+    leave(opening, neighbour);
+    let changed = settle(opening, neighbours, destinations, hop);
     Ok(Reply::Done { changed })
 }

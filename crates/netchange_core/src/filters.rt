@@ -4,6 +4,7 @@ ghost use Rattle.std.specs.Prelude.{◌≡◌, ℕ, IfOk, OnErr, map};
 ghost use Rattle.netchange_core.specs.Calls.{MayNeedMemory};
 ghost use Rattle.netchange_core.specs.Kept.{AreKept, view_of, world_of};
 ghost use Rattle.netchange_core.specs.Next.{answered, set_export, set_import};
+ghost use Rattle.netchange_core.specs.Present.{sessions_of};
 
 use crate::changing::{export, import};
 use crate::destination::Destination;
@@ -28,6 +29,7 @@ pub(crate) fn set_import(
     ensures done { (n : ℕ) → IfOk result (λ r. set_import (world_of opening.now n neighbours.old) node filter.now.value
         ≡ answered (world_of opening.now n neighbours.new) r) }
     ensures kept { AreKept opening.now (map view_of neighbours.new) destinations.new }
+    ensures sessions { sessions_of (map view_of neighbours.new) ≡ sessions_of (map view_of neighbours.old) }
     ensures same { OnErr result (map view_of neighbours.new ≡ map view_of neighbours.old) }
     ensures memory { (n : ℕ) →
         OnErr result (MayNeedMemory (set_import (world_of opening.now n neighbours.old) node filter.now.value).reply) }
@@ -58,6 +60,7 @@ pub(crate) fn set_export(
     ensures done { (n : ℕ) → IfOk result (λ r. set_export (world_of opening.now n neighbours.old) node filter.now.value
         ≡ answered (world_of opening.now n neighbours.new) r) }
     ensures kept { AreKept opening.now (map view_of neighbours.new) destinations.now }
+    ensures sessions { sessions_of (map view_of neighbours.new) ≡ sessions_of (map view_of neighbours.old) }
     ensures same { OnErr result (map view_of neighbours.new ≡ map view_of neighbours.old) }
     ensures memory { (n : ℕ) →
         OnErr result (MayNeedMemory (set_export (world_of opening.now n neighbours.old) node filter.now.value).reply) }

@@ -4,6 +4,7 @@ ghost use Rattle.std.specs.Prelude.{◌≡◌, ℕ, IfOk, OnErr, map};
 ghost use Rattle.netchange_core.specs.Calls.{MayNeedMemory};
 ghost use Rattle.netchange_core.specs.Kept.{AreKept, view_of, world_of};
 ghost use Rattle.netchange_core.specs.Next.{answered, next, show};
+ghost use Rattle.netchange_core.specs.Present.{ArePresent, sessions_of};
 
 use crate::destination::Destination;
 use crate::down::down;
@@ -14,6 +15,7 @@ use crate::neighbour::Neighbour;
 use crate::opening::Opening;
 use crate::receive::receive;
 use crate::reply::{Refusal, Reply};
+use crate::sessions::{Sessions, holder};
 use crate::take::take;
 use crate::up::up;
 use std::alloc::AllocError;
@@ -41,29 +43,41 @@ fn show(
 /// Carries out an event. After an error nothing is changed.
 pub(crate) fn handle(
     opening: &Opening,
-    sessions: &mut u32,
+    sessions: &mut Sessions,
     neighbours: &mut [Neighbour],
     destinations: &mut [Destination],
     event: &Event,
 ) -> Result<Reply, AllocError>
     requires kept { AreKept opening.now (map view_of neighbours.old) destinations.old }
-    ensures done { IfOk result (λ r. next (world_of opening.now sessions.old neighbours.old) event.now
-        ≡ answered (world_of opening.now sessions.new neighbours.new) r) }
+    requires present { ArePresent sessions.old.count (sessions_of (map view_of neighbours.old)) sessions.old.present.items }
+    ensures done { IfOk result (λ r. next (world_of opening.now sessions.old.count neighbours.old) event.now
+        ≡ answered (world_of opening.now sessions.new.count neighbours.new) r) }
     ensures kept { AreKept opening.now (map view_of neighbours.new) destinations.new }
-    ensures same { OnErr result (world_of opening.now sessions.new neighbours.new ≡ world_of opening.now sessions.old neighbours.old) }
-    ensures memory { OnErr result (MayNeedMemory (next (world_of opening.now sessions.old neighbours.old) event.now).reply) }
+    ensures present { ArePresent sessions.new.count (sessions_of (map view_of neighbours.new)) sessions.new.present.items }
+    ensures same { OnErr result (world_of opening.now sessions.new.count neighbours.new
+        ≡ world_of opening.now sessions.old.count neighbours.old) }
+    ensures memory { OnErr result (MayNeedMemory (next (world_of opening.now sessions.old.count neighbours.old) event.now).reply) }
 {
     match event {
         Event::Up(node) => up(opening, sessions, neighbours, destinations, *node),
-        Event::Down(session) => down(opening, neighbours, destinations, *session),
-        Event::Receive(session, dest, dist) => {
-            let message = Message {
-                dest: *dest,
-                dist: *dist,
-            };
-            receive(opening, neighbours, destinations, *session, message)
-        }
-        Event::Take(session, max) => take(opening, neighbours, destinations, *session, *max),
+        Event::Down(session) => match holder(sessions, *session) {
+            Some(hop) => down(opening, sessions, neighbours, destinations, hop),
+            None => Ok(Reply::Refused(Refusal::Stale)),
+        },
+        Event::Receive(session, dest, dist) => match holder(sessions, *session) {
+            Some(hop) => {
+                let message = Message {
+                    dest: *dest,
+                    dist: *dist,
+                };
+                receive(opening, neighbours, destinations, hop, message)
+            }
+            None => Ok(Reply::Refused(Refusal::Stale)),
+        },
+        Event::Take(session, max) => match holder(sessions, *session) {
+            Some(hop) => take(opening, neighbours, destinations, hop, *max),
+            None => Ok(Reply::Refused(Refusal::Stale)),
+        },
         Event::SetImport(node, filter) => {
             set_import(opening, neighbours, destinations, *node, filter)
         }

@@ -16,6 +16,7 @@ mod opening;
 mod receive;
 mod reply;
 mod room;
+mod sessions;
 mod settling;
 mod tables;
 mod take;

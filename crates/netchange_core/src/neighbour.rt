@@ -1,10 +1,9 @@
 //! A node as a neighbour.
 
-ghost use Rattle.std.specs.Prelude.{◌≡◌, ℕ, ◌==◌, nat_le, ◌||◌, ◌<◌, IfOk, IfSome, length, map, position, replicate};
+ghost use Rattle.std.specs.Prelude.{◌≡◌, IfOk, map, replicate};
 ghost use Rattle.netchange_core.specs.Calls.{newcomer};
 ghost use Rattle.netchange_core.specs.Kept.{view_of};
 ghost use Rattle.netchange_core.specs.Next.{is_no_neighbour};
-ghost use Rattle.netchange_core.specs.World.{has_session};
 
 use crate::message::Message;
 use crate::opening::Opening;
@@ -58,22 +57,4 @@ pub(crate) fn is_no_neighbour(opening: &Opening, node: u16) -> bool
     ensures { result ≡ is_no_neighbour opening.now node }
 {
     opening.size() <= node || node == opening.me()
-}
-
-/// The neighbour for which a test of the session holds.
-fn find(neighbours: &[Neighbour], session: u32) -> Option<usize>
-    ensures { result ≡ position (λ n. has_session session (view_of n)) neighbours.now }
-{
-    neighbours
-        .iter()
-        .position(|n| 0 < n.session && n.session == session)
-}
-
-/// The up neighbour whose present session this is.
-#[tactic(auto, using(crate::proofs::Lists::position_map))]
-pub(crate) fn holder(neighbours: &[Neighbour], session: u32) -> Option<usize>
-    ensures value { result ≡ position (has_session session) (map view_of neighbours.now) }
-    ensures within { IfSome result (λ k. k < length neighbours.now) }
-{
-    find(neighbours, session)
 }

@@ -1,41 +1,42 @@
 //! A neighbour tells a distance.
 
-ghost use Rattle.std.specs.Prelude.{◌≡◌, ℕ, IfOk, OnErr, map};
+ghost use Rattle.std.specs.Prelude.{◌≡◌, ℕ, ◌<◌, true, IfOk, OnErr, length, map};
 ghost use Rattle.netchange_core.specs.Calls.{MayNeedMemory};
 ghost use Rattle.netchange_core.specs.Kept.{AreKept, view_of, world_of};
 ghost use Rattle.netchange_core.specs.Next.{answered, receive};
-ghost use Rattle.netchange_core.specs.World.{holder};
+ghost use Rattle.netchange_core.specs.Present.{sessions_of};
+ghost use Rattle.netchange_core.specs.World.{is_up, neighbour_at};
 
 use crate::changing::hear;
 use crate::destination::Destination;
 use crate::filter::pass;
 use crate::message::Message;
-use crate::neighbour::{Neighbour, holder};
+use crate::neighbour::Neighbour;
 use crate::opening::Opening;
 use crate::reply::{Refusal, Reply};
 use crate::room::make_room_if_differs;
 use crate::settling::{put, route_after};
 use std::alloc::AllocError;
 
-/// In a session, a message came.
+/// A message of an up neighbour came.
 pub(crate) fn receive(
     opening: &Opening,
     neighbours: &mut [Neighbour],
     destinations: &mut [Destination],
-    session: u32,
+    hop: usize,
     message: Message,
 ) -> Result<Reply, AllocError>
     requires kept { AreKept opening.now (map view_of neighbours.old) destinations.old }
+    requires hop { hop < length neighbours.old }
+    requires up { is_up (neighbour_at (map view_of neighbours.old) hop) ≡ true }
     ensures done { (n : ℕ) → let w = world_of opening.now n neighbours.old in
-        IfOk result (λ r. receive w (holder w session) message.dest message.dist ≡ answered (world_of opening.now n neighbours.new) r) }
+        IfOk result (λ r. receive w (Some hop) message.dest message.dist ≡ answered (world_of opening.now n neighbours.new) r) }
     ensures kept { AreKept opening.now (map view_of neighbours.new) destinations.new }
+    ensures sessions { sessions_of (map view_of neighbours.new) ≡ sessions_of (map view_of neighbours.old) }
     ensures same { OnErr result (map view_of neighbours.new ≡ map view_of neighbours.old) }
     ensures memory { (n : ℕ) → let w = world_of opening.now n neighbours.old in
-        OnErr result (MayNeedMemory (receive w (holder w session) message.dest message.dist).reply) }
+        OnErr result (MayNeedMemory (receive w (Some hop) message.dest message.dist).reply) }
 {
-    let Some(k) = holder(neighbours, session) else {
-        return Ok(Reply::Refused(Refusal::Stale));
-    };
     let Message { dest, dist } = message;
     if opening.size() <= dest {
         return Ok(Reply::Refused(Refusal::BadDest));
@@ -43,12 +44,12 @@ pub(crate) fn receive(
     if opening.size() < dist {
         return Ok(Reply::Refused(Refusal::BadDist));
     }
-    let near = pass(opening, &neighbours[k].imports, dest, dist);
+    let near = pass(opening, &neighbours[hop].imports, dest, dist);
     let destination = &mut destinations[usize::from(dest)];
-    let route = route_after(opening, dest, destination, k, near);
+    let route = route_after(opening, dest, destination, hop, near);
     make_room_if_differs(neighbours, destination.route.dist, route.dist)?;
-    hear(&mut neighbours[k], dest, dist);
-    let differs = put(opening, neighbours, destination, dest, k, near, route);
+    hear(&mut neighbours[hop], dest, dist);
+    let differs = put(opening, neighbours, destination, dest, hop, near, route);
     Ok(Reply::Done {
         changed: u16::from(differs),
     })

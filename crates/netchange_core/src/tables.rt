@@ -7,9 +7,10 @@ ghost use Rattle.netchange_core.specs.Next.{answered, next};
 use crate::destination::{Destination, make_destinations};
 use crate::event::Event;
 use crate::handle::handle;
-use crate::neighbour::{Neighbour, holder, make_newcomers};
+use crate::neighbour::{Neighbour, make_newcomers};
 use crate::opening::Opening;
 use crate::reply::Reply;
+use crate::sessions::{Sessions, holder};
 use std::alloc::{AllocError, Global};
 use std::marker::Model;
 
@@ -17,21 +18,21 @@ use std::marker::Model;
 #[derive(Debug, Drop)]
 pub struct Tables {
     opening: Opening,
-    sessions: u32,
+    sessions: Sessions,
     neighbours: Vec<Neighbour>,
     destinations: Vec<Destination>,
 }
 
 impl Model for Tables {
     ghost use Rattle.std.specs.Prelude.{map};
-    ghost use Rattle.netchange_core.specs.Kept.{AreKept, view_of, world_of};
+    ghost use Rattle.netchange_core.specs.Kept.{AreTables, view_of, world_of};
     ghost use Rattle.netchange_core.specs.World.{World};
 
     ghost Value = { World };
 
-    ghost view = { λ t. world_of t.opening t.sessions t.neighbours.items };
+    ghost view = { λ t. world_of t.opening t.sessions.count t.neighbours.items };
 
-    ghost invariant = { λ t. AreKept t.opening (map view_of t.neighbours.items) t.destinations.items };
+    ghost invariant = { λ t. AreTables t.opening t.sessions (map view_of t.neighbours.items) t.destinations.items };
 }
 
 impl Tables {
@@ -43,7 +44,10 @@ impl Tables {
         let destinations = make_destinations(alloc, &opening)?;
         Ok(Tables {
             opening,
-            sessions: 0,
+            sessions: Sessions {
+                count: 0,
+                present: Vec::new(alloc),
+            },
             neighbours,
             destinations,
         })
@@ -70,7 +74,7 @@ impl Tables {
     pub fn queued(&self, session: u32) -> usize
         ensures { result ≡ queued_of self.now session }
     {
-        match holder(&self.neighbours, session) {
+        match holder(&self.sessions, session) {
             Some(node) => self.neighbours[node].queue.len(),
             None => 0,
         }

@@ -11,8 +11,9 @@ use Rattle.netchange_core.specs.declared.reply.Refusal.TheVariants as refusal
 use Rattle.netchange_core.specs.Calls.{session_of}
 use Rattle.netchange_core.specs.Next.{down, gone, heard, importing, is_no_neighbour, last_session, next, receive, set_export, set_import, show, take_from, up}
 use Rattle.netchange_core.specs.World.{World, holder, is_up, neighbour_at}
+use Rattle.netchange_core.proofs.Holders.{found_holds}
 use Rattle.route_history.proofs.Advances.{Advances, refused_advances, shown_advances}
-use Rattle.route_history.proofs.Holders.{AreOwn, found_holds}
+use Rattle.route_history.proofs.Holders.{AreOwn}
 use Rattle.route_history.proofs.Queueing.{exported_advances, taken_advances}
 use Rattle.route_history.proofs.Recomputing.{recomputed_advances}
 use Rattle.route_history.proofs.Starting.{opened_advances}
@@ -39,19 +40,19 @@ module _ (w : World) (s : ℕ) (own : AreOwn w) (present : 0 < s) where
   down_advances : (t : ℕ) (o : Option ℕ) → holder w t ≡ o → Advances w s (event.Down t) (down w o)
   down_advances t None h = refused_advances w s (event.Down t) refusal.Stale own
   down_advances t (Some k) h =
-      recomputed_advances w s k (gone w.opening) (event.Down t) own present (found_holds w t k h).0 (λ p. inr refl) (λ new i. refl)
+      recomputed_advances w s k (gone w.opening) (event.Down t) own present (found_holds w.neighbours t k h).0 (λ p. inr refl) (λ new i. refl)
 
   receive_advances : (t v d : ℕ) (o : Option ℕ) → holder w t ≡ o → Advances w s (event.Receive t v d) (receive w o v d)
   receive_advances t v d None h = refused_advances w s (event.Receive t v d) refusal.Stale own
   receive_advances t v d (Some k) h =
       cond_both (nat_le w.opening.size v) _ _ (Advances w s (event.Receive t v d)) (λ _. refused_advances w s (event.Receive t v d) refusal.BadDest own) (λ _.
       cond_both (nat_lt w.opening.size d) _ _ (Advances w s (event.Receive t v d)) (λ _. refused_advances w s (event.Receive t v d) refusal.BadDist own) (λ _.
-      recomputed_advances w s k (heard v d) (event.Receive t v d) own present (found_holds w t k h).0 (λ p. inl (refl, refl)) (λ new i. refl)))
+      recomputed_advances w s k (heard v d) (event.Receive t v d) own present (found_holds w.neighbours t k h).0 (λ p. inl (refl, refl)) (λ new i. refl)))
 
   take_advances : (t max : ℕ) (o : Option ℕ) → holder w t ≡ o → Advances w s (event.Take t max) (take_from w o max)
   take_advances t max None h = refused_advances w s (event.Take t max) refusal.Stale own
   take_advances t max (Some k) h =
-      let holds = found_holds w t k h in
+      let holds = found_holds w.neighbours t k h in
       taken_advances w s t max k own present holds.0 holds.2
 
   import_advances : (k : ℕ) (f : Arc VerifiedView Global) → Advances w s (event.SetImport k f) (set_import w k f.value)

@@ -1,5 +1,5 @@
 -- One neighbour in the lists that an event makes.
-use Rattle.std.proofs.Common.{◌≡◌, ◌∙◌, sym, ap, refl, ℕ, zero, suc, ◌<◌, ◌==◌, true, false, inl, inr, if◌then◌else◌, Option, List, [], ◌∷◌, ◌++◌, map, length, append_assoc, append-nil, arith}
+use Rattle.std.proofs.Common.{◌≡◌, ◌∙◌, sym, ap, refl, ℕ, zero, suc, ◌==◌, true, false, inl, inr, if◌then◌else◌, Option, List, [], ◌∷◌, ◌++◌, map, length, append_assoc, append-nil}
 use Rattle.std.proofs.lemmas.List.{length-map}
 use Rattle.std.proofs.lemmas.Bool.{cases_Bool}
 use Rattle.filter_verifier.specs.VerifiedView.{VerifiedView}
@@ -7,6 +7,7 @@ use Rattle.netchange_core.specs.declared.message.Message.{Message}
 use Rattle.netchange_core.specs.Next.{message_of, tell, tell_changes}
 use Rattle.netchange_core.specs.OpeningView.{OpeningView}
 use Rattle.netchange_core.specs.World.{NeighbourView, change, is_up, neighbour_at, nobody}
+use Rattle.netchange_core.proofs.Queued.{map_told}
 use Rattle.route_history.specs.Sent.{news}
 
 pub at_map : (g : NeighbourView → NeighbourView) → g nobody ≡ nobody → (ns : List NeighbourView) (k : ℕ) →
@@ -14,12 +15,6 @@ pub at_map : (g : NeighbourView → NeighbourView) → g nobody ≡ nobody → (
 at_map g e [] k = sym e
 at_map g e (n ∷ ns) zero = refl
 at_map g e (n ∷ ns) (suc k) = at_map g e ns k
-
-pub at_changed : (f : NeighbourView → NeighbourView) (ns : List NeighbourView) (k : ℕ) → k < length ns →
-    neighbour_at (change k f ns) k ≡ f (neighbour_at ns k)
-at_changed f [] k h = absurd (omega arith)
-at_changed f (n ∷ ns) zero h = refl
-at_changed f (n ∷ ns) (suc k) h = at_changed f ns k (omega arith)
 
 pub at_another : (f : NeighbourView → NeighbourView) (ns : List NeighbourView) (k j : ℕ) → (j ≡ k → ⊥) →
     neighbour_at (change k f ns) j ≡ neighbour_at ns j
@@ -113,28 +108,6 @@ pub hears_exports : (o : OpeningView) (old new : ℕ → ℕ) (n : ℕ) (p : Nei
 hears_exports o old new n p = elim (cases_Bool (is_up p)) [
   | inl e ↦ ap (λ (q : NeighbourView). q.exports) (up_hears o old new n p e)
   | inr e ↦ ap (λ (q : NeighbourView). q.exports) (down_hears o old new n p e)
-]
-
--- what a function doesn't see where it doesn't see the queue
-tell_unseen : {A : Type 0} (g : NeighbourView → A) (o : OpeningView) (v d : ℕ) → ((p : NeighbourView) (m : List Message) → g (waiting p m) ≡ g p) →
-    (p : NeighbourView) → g (tell o v d p) ≡ g p
-tell_unseen g o v d unseen p = elim (cases_Bool (is_up p)) [
-  | inl e ↦ ap g (tell_up o v d p e) ∙ unseen p (message_of o p.exports v d ∷ [])
-  | inr e ↦ ap g (tell_down o v d p e)
-]
-
-map_tell : {A : Type 0} (g : NeighbourView → A) (o : OpeningView) (v d : ℕ) → ((p : NeighbourView) (m : List Message) → g (waiting p m) ≡ g p) →
-    (ns : List NeighbourView) → map g (map (tell o v d) ns) ≡ map g ns
-map_tell g o v d unseen [] = refl
-map_tell g o v d unseen (p ∷ ns) = λ i. tell_unseen g o v d unseen p i ∷ map_tell g o v d unseen ns i
-
-pub map_told : {A : Type 0} (g : NeighbourView → A) (o : OpeningView) (old new : ℕ → ℕ) → ((p : NeighbourView) (m : List Message) → g (waiting p m) ≡ g p) →
-    (n : ℕ) (ns : List NeighbourView) → map g (tell_changes o old new n ns) ≡ map g ns
-map_told g o old new unseen zero ns = refl
-map_told g o old new unseen (suc v) ns = elim (cases_Bool (old v == new v)) [
-  | inl e ↦ ap (map g) (told_same o old new v ns e) ∙ map_told g o old new unseen v ns
-  | inr e ↦ ap (map g) (told_more o old new v ns e) ∙ map_tell g o v (new v) unseen (tell_changes o old new v ns)
-      ∙ map_told g o old new unseen v ns
 ]
 
 pub length_told : (o : OpeningView) (old new : ℕ → ℕ) (n : ℕ) (ns : List NeighbourView) → length (tell_changes o old new n ns) ≡ length ns

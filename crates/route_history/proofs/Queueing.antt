@@ -14,10 +14,12 @@ use Rattle.netchange_core.specs.Best.{distance}
 use Rattle.netchange_core.specs.Calls.{session_of}
 use Rattle.netchange_core.specs.Next.{answered, exporting, relieved}
 use Rattle.netchange_core.specs.World.{NeighbourView, World, changed, holder, neighbour_at}
+use Rattle.netchange_core.proofs.Change.{changed_at}
+use Rattle.netchange_core.proofs.Holders.{holder_found, holder_none}
 use Rattle.route_history.specs.Sent.{all_of, queued_at, queued_for, queued_in}
 use Rattle.route_history.proofs.Advances.{Advances, took_in}
-use Rattle.route_history.proofs.Holders.{AreOwn, holder_found, holder_none}
-use Rattle.route_history.proofs.Neighbours.{at_another, at_changed, change_length}
+use Rattle.route_history.proofs.Holders.{AreOwn}
+use Rattle.route_history.proofs.Neighbours.{at_another, change_length}
 
 module _ (w : World) (s j : ℕ) (f : NeighbourView → NeighbourView) (own : AreOwn w) (up : 0 < s)
     (there : j < length w.neighbours) (keeps : (p : NeighbourView) → (f p).session ≡ p.session) where
@@ -25,7 +27,7 @@ module _ (w : World) (s j : ℕ) (f : NeighbourView → NeighbourView) (own : Ar
   after = changed w j f
 
   pub changed_here : (k : ℕ) → k ≡ j → neighbour_at after.neighbours k ≡ f (neighbour_at w.neighbours k)
-  changed_here k is = ap (neighbour_at after.neighbours) is ∙ at_changed f w.neighbours j there ∙ ap (λ i. f (neighbour_at w.neighbours i)) (sym is)
+  changed_here k is = ap (neighbour_at after.neighbours) is ∙ changed_at j f w.neighbours there ∙ ap (λ i. f (neighbour_at w.neighbours i)) (sym is)
 
   pub another : (k : ℕ) → (k ≡ j → ⊥) → neighbour_at after.neighbours k ≡ neighbour_at w.neighbours k
   another k other = at_another f w.neighbours j k other
@@ -54,10 +56,10 @@ module _ (w : World) (s j : ℕ) (f : NeighbourView → NeighbourView) (own : Ar
   one_queue e r queues goes quiet = record {
     goes_on = λ k now before.
         ap (λ m. (neighbour_at w.neighbours k).queue ++ m)
-        (queues [] ∙ ap (queued_for w after e) (holder_found after s k own_after up now))
+        (queues [] ∙ ap (queued_for w after e) (holder_found after.neighbours s k own_after.apart up now))
         ∙ goes k before;
     begins = λ k now before. absurd (before (sym (same_session k) ∙ now));
-    is_gone = λ nobody_has. (quiet nobody_has, queues [] ∙ ap (queued_for w after e) (holder_none after s nobody_has));
+    is_gone = λ nobody_has. (quiet nobody_has, queues [] ∙ ap (queued_for w after e) (holder_none after.neighbours s (λ k _. nobody_has k)));
     own = own_after;
     more = omega arith;
   }

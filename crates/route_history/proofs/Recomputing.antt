@@ -7,10 +7,13 @@ use Rattle.netchange_core.specs.Best.{best_by, distance, neighbour_distance}
 use Rattle.netchange_core.specs.Calls.{session_of}
 use Rattle.netchange_core.specs.Next.{recomputed}
 use Rattle.netchange_core.specs.World.{NeighbourView, World, changed, is_up, neighbour_at}
+use Rattle.netchange_core.proofs.Change.{changed_at}
+use Rattle.netchange_core.proofs.Holders.{holder_found, holder_none}
+use Rattle.netchange_core.proofs.Queued.{map_told}
 use Rattle.route_history.specs.Sent.{changes_for, news, queued_at, queued_for, queued_in}
 use Rattle.route_history.proofs.Advances.{Advances, takes_nothing}
-use Rattle.route_history.proofs.Holders.{AreOwn, holder_found, holder_none}
-use Rattle.route_history.proofs.Neighbours.{at_another, at_changed, change_length, hears_session, length_told, map_told, told_at, up_hears}
+use Rattle.route_history.proofs.Holders.{AreOwn}
+use Rattle.route_history.proofs.Neighbours.{at_another, change_length, hears_session, length_told, told_at, up_hears}
 
 -- the neighbour keeps its session and its queue, or leaves
 abbrev pub Keeps : NeighbourView → NeighbourView → Type 0
@@ -25,11 +28,11 @@ module _ (w : World) (s j : ℕ) (f : NeighbourView → NeighbourView) (e : Even
   abbrev after : World
   after = (recomputed w mid).world
 
-  changed_at : (k : ℕ) → Keeps (neighbour_at w.neighbours k) (neighbour_at mid.neighbours k)
-  changed_at k = elim (cases_eq k j) [
+  kept_at : (k : ℕ) → Keeps (neighbour_at w.neighbours k) (neighbour_at mid.neighbours k)
+  kept_at k = elim (cases_eq k j) [
     | inl is ↦
         let P : NeighbourView → Type 0 = λ q. Keeps (neighbour_at w.neighbours k) q in
-        subst P (sym (ap (neighbour_at mid.neighbours) is ∙ at_changed f w.neighbours j there ∙ ap (λ i. f (neighbour_at w.neighbours i)) (sym is)))
+        subst P (sym (ap (neighbour_at mid.neighbours) is ∙ changed_at j f w.neighbours there ∙ ap (λ i. f (neighbour_at w.neighbours i)) (sym is)))
         (keeps (neighbour_at w.neighbours k))
     | inr other ↦
         let same = at_another f w.neighbours j k other in
@@ -41,7 +44,7 @@ module _ (w : World) (s j : ℕ) (f : NeighbourView → NeighbourView) (e : Even
       ∙ hears_session w.opening (distance w) (distance mid) w.opening.size (neighbour_at mid.neighbours k)
 
   session_kept : (k : ℕ) → 0 < session_of after k → session_of after k ≡ session_of w k
-  session_kept k here = elim (changed_at k) [
+  session_kept k here = elim (kept_at k) [
     | inl same ↦ session_told k ∙ same.0
     | inr none ↦ let e : session_of after k ≡ 0 = session_told k ∙ none in absurd (omega arith)
   ]
@@ -59,7 +62,7 @@ module _ (w : World) (s j : ℕ) (f : NeighbourView → NeighbourView) (e : Even
       let is_up_now : is_up p ≡ true = lt-ltb 0 p.session (omega arith) in
       let waits = told ∙ up_hears w.opening (distance w) (distance mid) w.opening.size p is_up_now in
       let exports = ap (λ (q : NeighbourView). q.exports) waits in
-      let same_queue : p.queue ≡ (neighbour_at w.neighbours k).queue = elim (changed_at k) [
+      let same_queue : p.queue ≡ (neighbour_at w.neighbours k).queue = elim (kept_at k) [
         | inl same ↦ same.1
         | inr none ↦ absurd (omega arith)
       ] in
@@ -70,7 +73,7 @@ module _ (w : World) (s j : ℕ) (f : NeighbourView → NeighbourView) (e : Even
 
   own_after : AreOwn after
   own_after = record {
-    opened = λ k. elim (changed_at k) [
+    opened = λ k. elim (kept_at k) [
       | inl same ↦ let e : session_of after k ≡ session_of w k = session_told k ∙ same.0 in omega (arith, own.opened k)
       | inr none ↦ let e : session_of after k ≡ 0 = session_told k ∙ none in omega arith
     ];
@@ -83,7 +86,7 @@ module _ (w : World) (s j : ℕ) (f : NeighbourView → NeighbourView) (e : Even
   }
 
   queued_now : (k : ℕ) → session_of after k ≡ s → queued_in w s e (recomputed w mid) ≡ queued_at w after k e
-  queued_now k now = ap (queued_for w after e) (holder_found after s k own_after up now)
+  queued_now k now = ap (queued_for w after e) (holder_found after.neighbours s k own_after.apart up now)
 
   pub recomputed_advances : Advances w s e (recomputed w mid)
   recomputed_advances = record {
@@ -93,7 +96,7 @@ module _ (w : World) (s j : ℕ) (f : NeighbourView → NeighbourView) (e : Even
     begins = λ k now before.
         let held : session_of after k ≡ session_of w k = session_kept k (omega arith) in
         absurd (before (sym held ∙ now));
-    is_gone = λ nobody_has. (takes_nothing e s, ap (queued_for w after e) (holder_none after s nobody_has));
+    is_gone = λ nobody_has. (takes_nothing e s, ap (queued_for w after e) (holder_none after.neighbours s (λ k _. nobody_has k)));
     own = own_after;
     more = omega arith;
   }

@@ -9,6 +9,7 @@ use Rattle.netchange_core.specs.Calls.{carried, newcomer, opened, session_of}
 use Rattle.netchange_core.specs.Next.{Answered, next}
 use Rattle.netchange_core.specs.OpeningView.{OpeningView}
 use Rattle.netchange_core.specs.World.{World, holder, neighbour_at}
+use Rattle.netchange_core.proofs.Holders.{found_holds, holder_found}
 use Rattle.route_history.specs.declared.entry.Entry.{Entry}
 use Rattle.route_history.specs.Beginning.{Begins}
 use Rattle.route_history.specs.History.{IsLegal, IsLegalFrom, world_after, world_of}
@@ -17,7 +18,7 @@ use Rattle.route_history.specs.Sent.{queued_by, queued_in, sent, sent_from, take
 use Rattle.route_history.proofs.Advances.{Advances, took_in}
 use Rattle.route_history.proofs.Events.{event_advances}
 use Rattle.route_history.proofs.Histories.{legal_append, sent_append, taken_append}
-use Rattle.route_history.proofs.Holders.{AreOwn, found_holds, holder_found}
+use Rattle.route_history.proofs.Holders.{AreOwn}
 
 -- so much was sent to a session, and so much was taken
 pub record IsKept (w : World) (s : ℕ) (sent_so_far taken_so_far : List Message) : Type 0 where
@@ -43,10 +44,10 @@ module _ (w : World) (s : ℕ) (e : Event) (a : Answered) (S T : List Message) (
   begins_held : (o : Option ℕ) → holder a.world s ≡ o → Begins (T ++ took_in s e a) (S ++ queued_in w s e a)
   begins_held (Some k) h = record {
     rest = (neighbour_at a.world.neighbours k).queue;
-    is = waits_now k (found_holds a.world s k h).2;
+    is = waits_now k (found_holds a.world.neighbours s k h).2;
   }
   begins_held None h =
-      let quiet = step.is_gone (λ k now. none-some k (sym h ∙ holder_found a.world s k step.own present now)) in
+      let quiet = step.is_gone (λ k now. none-some k (sym h ∙ holder_found a.world.neighbours s k step.own.apart present now)) in
       record {
         rest = kept.begins.rest;
         is = (λ i. S ++ quiet.1 i) ∙ append-nil S ∙ kept.begins.is

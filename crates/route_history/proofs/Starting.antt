@@ -8,10 +8,12 @@ use Rattle.netchange_core.specs.Best.{distance}
 use Rattle.netchange_core.specs.Calls.{session_of}
 use Rattle.netchange_core.specs.Next.{Answered, answered, joined}
 use Rattle.netchange_core.specs.World.{NeighbourView, World, changed, neighbour_at}
+use Rattle.netchange_core.proofs.Change.{changed_at}
+use Rattle.netchange_core.proofs.Holders.{holder_found, holder_none}
 use Rattle.route_history.specs.Sent.{all_of, queued_at, queued_for, queued_in}
 use Rattle.route_history.proofs.Advances.{Advances}
-use Rattle.route_history.proofs.Holders.{AreOwn, holder_found, holder_none}
-use Rattle.route_history.proofs.Neighbours.{at_another, at_changed, change_length}
+use Rattle.route_history.proofs.Holders.{AreOwn}
+use Rattle.route_history.proofs.Neighbours.{at_another, change_length}
 
 module _ (w : World) (s j : ℕ) (own : AreOwn w) (up : 0 < s) (there : j < length w.neighbours) (was_down : session_of w j ≡ 0) where
   abbrev join : NeighbourView → NeighbourView
@@ -24,7 +26,7 @@ module _ (w : World) (s j : ℕ) (own : AreOwn w) (up : 0 < s) (there : j < leng
   opened_by = answered after (reply.Opened (w.sessions + 1))
 
   joined_at : neighbour_at after.neighbours j ≡ join (neighbour_at w.neighbours j)
-  joined_at = at_changed join w.neighbours j there
+  joined_at = changed_at j join w.neighbours there
 
   session_joined : session_of after j ≡ w.sessions + 1
   session_joined = ap (λ (p : NeighbourView). p.session) joined_at
@@ -58,7 +60,7 @@ module _ (w : World) (s j : ℕ) (own : AreOwn w) (up : 0 < s) (there : j < leng
   }
 
   queued_here : (k : ℕ) → session_of after k ≡ s → queued_in w s (event.Up j) opened_by ≡ queued_at w after k (event.Up j)
-  queued_here k now = ap (queued_for w after (event.Up j)) (holder_found after s k own_after up now)
+  queued_here k now = ap (queued_for w after (event.Up j)) (holder_found after.neighbours s k own_after.apart up now)
 
   abbrev nothing : List Message
   nothing = []
@@ -85,7 +87,7 @@ module _ (w : World) (s j : ℕ) (own : AreOwn w) (up : 0 < s) (there : j < leng
       | inl is ↦ (omega (arith, session_at_joined k is), refl, queued_here k now ∙ all_told k is)
       | inr other ↦ absurd (before (sym (another_session k other) ∙ now))
     ];
-    is_gone = λ nobody_has. (refl, ap (queued_for w after (event.Up j)) (holder_none after s nobody_has));
+    is_gone = λ nobody_has. (refl, ap (queued_for w after (event.Up j)) (holder_none after.neighbours s (λ k _. nobody_has k)));
     own = own_after;
     more = omega arith;
   }

@@ -1,12 +1,14 @@
-use Rattle.std.proofs.Common.{◌≡◌, ◌<◌, length, map, ap, sym, subst, ◌∙◌, arith}
+use Rattle.std.proofs.Common.{◌≡◌, ◌<◌, length, map, ap, refl, sym, subst, ◌∙◌, arith}
 use Rattle.std.proofs.lemmas.List.{length-map}
 use Rattle.netchange_core.specs.Kept.{AreNeighbours, view_of, world_of}
 use Rattle.netchange_core.specs.Next.{importing, recomputed}
+use Rattle.netchange_core.specs.Present.{sessions_of}
 use Rattle.netchange_core.specs.Room.{HaveRoom}
 use Rattle.netchange_core.specs.World.{changed, neighbour_at, nobody}
 use Rattle.netchange_core.proofs.Change.{change_good, change_stale, changed_after}
 use Rattle.netchange_core.proofs.Goes.{import_goes, neighbour_below}
 use Rattle.netchange_core.proofs.Good.{importing_good}
+use Rattle.netchange_core.proofs.Presence.{sessions_kept, sessions_told}
 use Rattle.netchange_core.proofs.Rooms.{room_set}
 use Rattle.netchange_core.proofs.Worlds.{recomputed_is}
 use Rattle.netchange_core.proofs.filters.set_import.Goals as goal
@@ -75,3 +77,16 @@ returns-clause-done c = λ n.
     (changed (world_of o n c.args.neighbours.now) (sym c.from-k.ensures i) (importing (sym c.in_ok-filter.ensures i))))
     ∙ recomputed_is o n ns _ _ c.args.destinations.now k (importing f) _ c.requires.kept e c.settle-changed.ensures.told
     c.settle-changed.ensures.count
+
+pub returns-clause-sessions : goal.returns-clause-sessions
+returns-clause-sessions c =
+    let o = c.args.opening.now in
+    let k = c.from-k.result in
+    let f = importing c.in_ok-filter.filter.value in
+    let ns = map view_of c.args.neighbours.now in
+    let below = neighbour_below o c.args.node (sym c.is_no_neighbour.ensures ∙ c.if-is_no_neighbour.false) in
+    let short : k < length c.make_room.new.neighbours =
+    omega (arith, below, c.requires.kept.neighbours.one_a_node, length-map c.args.neighbours.now view_of) in
+    let e = changed_after c.args.neighbours.now c.make_room.new.neighbours k c.import.new.neighbour
+    c.index-neighbours-k.result f short c.make_room.ensures.same c.import.ensures.view in
+    ap sessions_of c.settle-changed.ensures.told ∙ sessions_told o _ _ o.size _ ∙ sessions_kept ns _ k f e (λ _. refl)

@@ -1,4 +1,4 @@
-use Rattle.std.proofs.Common.{◌≡◌, ℕ, length, refl, sym, subst, ◌∙◌}
+use Rattle.std.proofs.Common.{length, refl, sym, subst, ◌∙◌}
 use Rattle.netchange_core.specs.declared.best_route.BestRoute.{BestRoute}
 use Rattle.netchange_core.specs.Best.{neighbour_distances}
 use Rattle.netchange_core.specs.Leading.{Leads}

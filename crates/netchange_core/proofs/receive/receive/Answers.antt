@@ -1,13 +1,14 @@
-use Rattle.std.proofs.Common.{◌<◌, length, map, ap, sym, subst, ◌∙◌, arith}
+use Rattle.std.proofs.Common.{◌<◌, length, map, ap, refl, sym, subst, ◌∙◌, arith}
 use Rattle.std.specs.Int.{from_bool}
 use Rattle.std.proofs.lemmas.List.{length-map}
-use Rattle.netchange_core.specs.Kept.{AreNeighbours, view_of, world_of}
-use Rattle.netchange_core.specs.Next.{heard, receive}
+use Rattle.netchange_core.specs.Kept.{AreNeighbours, view_of}
+use Rattle.netchange_core.specs.Next.{heard}
 use Rattle.netchange_core.specs.Pass.{pass}
+use Rattle.netchange_core.specs.Present.{sessions_of}
 use Rattle.netchange_core.specs.World.{neighbour_at, nobody}
 use Rattle.netchange_core.proofs.Change.{change_good, changed_after}
 use Rattle.netchange_core.proofs.Good.{heard_good}
-use Rattle.netchange_core.proofs.Holders.{holder_up}
+use Rattle.netchange_core.proofs.Presence.{sessions_kept, sessions_told_one}
 use Rattle.netchange_core.proofs.Received.{receive_goes, received, received_kept}
 use Rattle.netchange_core.proofs.Rooms.{room_set}
 use Rattle.netchange_core.proofs.Views.{good_at, view_at}
@@ -15,25 +16,25 @@ use Rattle.netchange_core.proofs.receive.receive.Goals as goal
 
 pub pass-near-requires-clause-fits : goal.pass-near-requires-clause-fits
 pass-near-requires-clause-fits c =
-    (good_at c.args.opening.now.size c.args.neighbours.now c.in-Some.k c.index-neighbours-k.result
-    c.requires.kept.neighbours c.in-Some.ensures.within).imports
+    (good_at c.args.opening.now.size c.args.neighbours.now c.args.hop c.index-neighbours-hop.result
+    c.requires.kept.neighbours c.requires.hop).imports
 
 pub hear-requires : goal.hear-requires
 hear-requires c =
-    let good = good_at c.args.opening.now.size c.make_room_if_differs.new.neighbours c.in-Some.k c.index-neighbours-k-2.result
+    let good = good_at c.args.opening.now.size c.make_room_if_differs.new.neighbours c.args.hop c.index-neighbours-hop-2.result
     (subst (AreNeighbours c.args.opening.now.size) (sym c.make_room_if_differs.ensures.same) c.requires.kept.neighbours)
-    (omega (arith, c.in-Some.ensures.within)) in
+    (omega (arith, c.requires.hop)) in
     omega (arith, good.one_a_node)
 
 pub put-differs-requires-clause-neighbours : goal.put-differs-requires-clause-neighbours
 put-differs-requires-clause-neighbours c =
     let o = c.args.opening.now in
-    let k = c.in-Some.k in
+    let k = c.args.hop in
     let f = heard c.args.message.dest c.args.message.dist in
     let ns = map view_of c.args.neighbours.now in
-    let h : k < length ns = omega (arith, length-map c.args.neighbours.now view_of, c.in-Some.ensures.within) in
+    let h : k < length ns = omega (arith, length-map c.args.neighbours.now view_of, c.requires.hop) in
     let e = changed_after c.args.neighbours.now c.make_room_if_differs.new.neighbours k c.hear.new.neighbour
-    c.index-neighbours-k-2.result f (omega (arith, c.in-Some.ensures.within)) c.make_room_if_differs.ensures.same
+    c.index-neighbours-hop-2.result f (omega (arith, c.requires.hop)) c.make_room_if_differs.ensures.same
     c.hear.ensures.view in
     subst (AreNeighbours o.size) (sym e)
     (change_good o.size k f ns h c.requires.kept.neighbours
@@ -43,46 +44,54 @@ put-differs-requires-clause-neighbours c =
 pub put-differs-requires-clause-room : goal.put-differs-requires-clause-room
 put-differs-requires-clause-room c = λ differs.
     let room = c.in_ok-make_room_if_differs.ensures.room differs in
-    let short : c.in-Some.k < length c.make_room_if_differs.new.neighbours = omega (arith, c.in-Some.ensures.within) in
-    room_set 1 c.make_room_if_differs.new.neighbours c.in-Some.k c.hear.new.neighbour short room
-    (c.hear.ensures.room 1 (room c.in-Some.k c.index-neighbours-k-2.result short))
+    let short : c.args.hop < length c.make_room_if_differs.new.neighbours = omega (arith, c.requires.hop) in
+    room_set 1 c.make_room_if_differs.new.neighbours c.args.hop c.hear.new.neighbour short room
+    (c.hear.ensures.room 1 (room c.args.hop c.index-neighbours-hop-2.result short))
 
 pub returns-clause-done : goal.returns-clause-done
 returns-clause-done c = λ n.
     let o = c.args.opening.now in
-    let k = c.in-Some.k in
+    let k = c.args.hop in
     let v = c.args.message.dest in
     let d = c.args.message.dist in
     let ns = map view_of c.args.neighbours.now in
-    let h : k < length ns = omega (arith, length-map c.args.neighbours.now view_of, c.in-Some.ensures.within) in
+    let h : k < length ns = omega (arith, length-map c.args.neighbours.now view_of, c.requires.hop) in
     let e = changed_after c.args.neighbours.now c.make_room_if_differs.new.neighbours k c.hear.new.neighbour
-    c.index-neighbours-k-2.result (heard v d) (omega (arith, c.in-Some.ensures.within)) c.make_room_if_differs.ensures.same
+    c.index-neighbours-hop-2.result (heard v d) (omega (arith, c.requires.hop)) c.make_room_if_differs.ensures.same
     c.hear.ensures.view in
     let near = c.pass-near.ensures.value
-    ∙ ap (λ m. pass o m.imports v d) (view_at c.args.neighbours.now k c.index-neighbours-k.result c.in-Some.ensures.within) in
-    ap (λ s. receive (world_of o n c.args.neighbours.now) s v d) (sym c.in-Some.ensures.value)
-    ∙ receive_goes o n ns k v d (omega arith) (omega arith)
+    ∙ ap (λ m. pass o m.imports v d) (view_at c.args.neighbours.now k c.index-neighbours-hop.result c.requires.hop) in
+    receive_goes o n ns k v d (omega arith) (omega arith)
     ∙ received o k v d ns _ c.args.destinations.now c.index-destinations-from.result c.pass-near.result
     c.route_after-route.result c.requires.kept h e (omega arith) (omega arith)
-    (holder_up c.args.session ns k c.in-Some.ensures.value) near c.from.result c.from.ensures
+    c.requires.up near c.from.result c.from.ensures
     c.route_after-route.ensures.best n _ c.from-2.result c.put-differs.ensures.told
     (c.from-2.ensures ∙ ap from_bool c.put-differs.ensures.changed)
 
 pub returns-clause-kept : goal.returns-clause-kept
 returns-clause-kept c =
     let o = c.args.opening.now in
-    let k = c.in-Some.k in
+    let k = c.args.hop in
     let v = c.args.message.dest in
     let d = c.args.message.dist in
     let ns = map view_of c.args.neighbours.now in
-    let h : k < length ns = omega (arith, length-map c.args.neighbours.now view_of, c.in-Some.ensures.within) in
+    let h : k < length ns = omega (arith, length-map c.args.neighbours.now view_of, c.requires.hop) in
     let e = changed_after c.args.neighbours.now c.make_room_if_differs.new.neighbours k c.hear.new.neighbour
-    c.index-neighbours-k-2.result (heard v d) (omega (arith, c.in-Some.ensures.within)) c.make_room_if_differs.ensures.same
+    c.index-neighbours-hop-2.result (heard v d) (omega (arith, c.requires.hop)) c.make_room_if_differs.ensures.same
     c.hear.ensures.view in
     let near = c.pass-near.ensures.value
-    ∙ ap (λ m. pass o m.imports v d) (view_at c.args.neighbours.now k c.index-neighbours-k.result c.in-Some.ensures.within) in
+    ∙ ap (λ m. pass o m.imports v d) (view_at c.args.neighbours.now k c.index-neighbours-hop.result c.requires.hop) in
     received_kept o k v d ns _ c.args.destinations.now c.index-destinations-from.result c.pass-near.result
     c.route_after-route.result c.requires.kept h e (omega arith) (omega arith)
-    (holder_up c.args.session ns k c.in-Some.ensures.value) near c.from.result c.from.ensures
+    c.requires.up near c.from.result c.from.ensures
     c.route_after-route.ensures.best _ c.put-differs.new.destination c.put-differs.ensures.told
     c.put-differs.ensures.distances c.put-differs.ensures.route
+
+pub returns-clause-sessions : goal.returns-clause-sessions
+returns-clause-sessions c =
+    let k = c.args.hop in
+    let f = heard c.args.message.dest c.args.message.dist in
+    let e = changed_after c.args.neighbours.now c.make_room_if_differs.new.neighbours k c.hear.new.neighbour
+    c.index-neighbours-hop-2.result f (omega (arith, c.requires.hop)) c.make_room_if_differs.ensures.same c.hear.ensures.view in
+    ap sessions_of c.put-differs.ensures.told ∙ sessions_told_one c.args.opening.now c.args.message.dest _ _ _
+    ∙ sessions_kept (map view_of c.args.neighbours.now) _ k f e (λ _. refl)

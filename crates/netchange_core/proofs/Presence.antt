@@ -1,0 +1,216 @@
+-- The list of the present sessions.
+use Rattle.std.proofs.Common.{◌≡◌, ◌≢◌, ap, refl, ℕ, zero, suc, ◌+◌, ◌-◌, ◌<◌, ◌≤◌, ◌∙◌, sym, subst, inl, inr, Result, Ok, Err, IfNone, IfSome, Some, None, List, [], ◌∷◌, ◌++◌, length, get_or, replicate, set, All, Contains, position, arith, get_or-set_same, get_or-set_other}
+use Rattle.std.specs.List.{HoldsAt, remove}
+use Rattle.std.specs.Result.{result_ok}
+use Rattle.std.specs.List.Sorted.{IsBinarySearchResult, IsNonDecreasingBy, IsSearchInRange}
+use Rattle.std.specs.Ordering.{nat_cmp, ordering_index}
+use Rattle.std.proofs.lemmas.Bool.{cases_eq, cases_lt}
+use Rattle.std.proofs.lemmas.Bool.Decides.{nat_tests}
+use Rattle.std.proofs.lemmas.Cmp.{ranked}
+use Rattle.std.proofs.lemmas.List.{get_or_default, map-set}
+use Rattle.std.proofs.lemmas.List.Edits.{get_or-remove_above, get_or-remove_below, length-remove}
+use Rattle.std.proofs.lemmas.List.Elements.{All-push, All-weaker, Contains-append_left, Contains-push}
+use Rattle.std.proofs.lemmas.List.Quantifiers.{all_pairs_push, all_pairs_remove}
+use Rattle.std.proofs.lemmas.List.Sorted.{IsNonDecreasingBy-from_default}
+use Rattle.netchange_core.specs.declared.sessions.Present.{Present}
+use Rattle.netchange_core.specs.Calls.{newcomer}
+use Rattle.netchange_core.specs.Next.{tell_changes}
+use Rattle.netchange_core.specs.OpeningView.{OpeningView}
+use Rattle.netchange_core.specs.Present.{ArePresent, AreRising, IsPresent, present, sessions_of}
+use Rattle.netchange_core.specs.Settling.{told_if_differs}
+use Rattle.netchange_core.specs.World.{NeighbourView, change, has_session, neighbour_at}
+use Rattle.netchange_core.proofs.Change.{change_set, map_change_same}
+use Rattle.netchange_core.proofs.Holders.{AreApart, holder_found, holder_none}
+use Rattle.netchange_core.proofs.Queued.{map_told, map_told_if_differs}
+
+abbrev none : Present
+none = present 0 0
+
+-- a search among numbers that rise
+module _ (ps : List Present) (rising : AreRising ps) (s : ℕ) where
+  comparisons_rise : IsNonDecreasingBy (λ p. ordering_index (nat_cmp p.session s)) ps
+  comparisons_rise = IsNonDecreasingBy-from_default (λ p. ordering_index (nat_cmp p.session s)) ps none (λ i j le in_range.
+      let rises : (get_or ps i none).session ≤ (get_or ps j none).session =
+      grind (arith, rising i j none, λ (same : i ≡ j). ap (λ k. (get_or ps k none).session) same) in
+      grind (arith, nat_tests))
+
+  pub searched : (r : Result ℕ ℕ) → IsSearchInRange r (length ps) → IsBinarySearchResult (λ p. nat_cmp p.session s) ps r →
+      IfSome (result_ok r) (λ i. (i < length ps) × HoldsAt (λ p. p.session ≡ s) ps i) × IfNone (result_ok r) (All (λ p. p.session ≢ s) ps)
+  searched (Ok i) in_range equal = ((in_range, λ d. ranked _ s _ (sym (equal d))), tt)
+  searched (Err i) in_range parted = (
+    tt,
+    λ k d h same.
+        let halves = parted comparisons_rise in
+        elim (cases_lt k i) [
+          | inl before ↦
+              let less : (get_or ps k d).session < s = ranked _ s _ (sym (halves.0 k d (omega arith) before)) in
+              omega arith
+          | inr behind ↦
+              let more : s < (get_or ps k d).session = ranked _ s _ (sym (halves.1 k d behind h)) in
+              omega arith
+        ],
+  )
+
+-- the session of a neighbour
+pub session_at : (ns : List NeighbourView) (k : ℕ) → get_or (sessions_of ns) k 0 ≡ (neighbour_at ns k).session
+session_at [] k = refl
+session_at (n ∷ ns) zero = refl
+session_at (n ∷ ns) (suc k) = session_at ns k
+
+-- one neighbour changed, and then distances were told
+pub sessions_changed : (ns : List NeighbourView) (k : ℕ) (f : NeighbourView → NeighbourView) → k < length ns →
+    sessions_of (change k f ns) ≡ set (sessions_of ns) k (f (neighbour_at ns k)).session
+sessions_changed ns k f h =
+    ap sessions_of (change_set k f ns h) ∙ map-set (λ n. n.session) ns k (f (neighbour_at ns k))
+
+pub sessions_kept : (ns ms : List NeighbourView) (k : ℕ) (f : NeighbourView → NeighbourView) → ms ≡ change k f ns →
+    ((n : NeighbourView) → (f n).session ≡ n.session) → sessions_of ms ≡ sessions_of ns
+sessions_kept ns ms k f e same = ap sessions_of e ∙ map_change_same (λ n. n.session) k f ns (same (neighbour_at ns k))
+
+pub sessions_told_one : (o : OpeningView) (v a b : ℕ) (ns : List NeighbourView) →
+    sessions_of (told_if_differs o v a b ns) ≡ sessions_of ns
+sessions_told_one o v a b ns = map_told_if_differs (λ n. n.session) o v a b (λ _ _. refl) ns
+
+pub sessions_told : (o : OpeningView) (old new : ℕ → ℕ) (v : ℕ) (ns : List NeighbourView) →
+    sessions_of (tell_changes o old new v ns) ≡ sessions_of ns
+sessions_told o old new v ns = map_told (λ n. n.session) o old new (λ _ _. refl) v ns
+
+-- two places with one session are one place
+one_place : (ps : List Present) (i j : ℕ) (d : Present) → AreRising ps → i < length ps → j < length ps →
+    (get_or ps i d).session ≡ (get_or ps j d).session → i ≡ j
+one_place ps i j d rising here there same = elim (cases_eq i j) [
+  | inl is ↦ is
+  | inr other ↦ elim (cases_lt i j) [
+    | inl less ↦ absurd (omega (arith, rising i j d less there))
+    | inr more ↦ let above : j < i = omega arith in absurd (omega (arith, rising j i d above here))
+  ]
+]
+
+module _ (count : ℕ) (sessions : List ℕ) (ps : List Present) (are : ArePresent count sessions ps) where
+  -- two nodes with one session are one node
+  pub one_node : (j k : ℕ) → 0 < get_or sessions k 0 → get_or sessions j 0 ≡ get_or sessions k 0 → j ≡ k
+  one_node j k up same =
+      let at_j = are.listed j (omega arith) in
+      let at_k = are.listed k up in
+      let pj = present (get_or sessions j 0) j in
+      let pk = present (get_or sessions k 0) k in
+      let shown : get_or ps at_k.0 pj ≡ pk = get_or_default ps at_k.0 pj pk at_k.1 ∙ at_k.2 in
+      let place : at_j.0 ≡ at_k.0 = one_place ps at_j.0 at_k.0 pj are.rising at_j.1 at_k.1
+      (ap (λ p. p.session) at_j.2 ∙ same ∙ sym (ap (λ p. p.session) shown)) in
+      ap (λ p. p.node) (sym at_j.2 ∙ ap (λ i. get_or ps i pj) place ∙ shown)
+
+-- who holds a session is listed with it
+module _ (count : ℕ) (ns : List NeighbourView) (ps : List Present) (are : ArePresent count (sessions_of ns) ps) (s : ℕ) where
+  apart : AreApart ns
+  apart j k up same = one_node count (sessions_of ns) ps are j k (omega (arith, session_at ns k))
+      (session_at ns j ∙ same ∙ sym (session_at ns k))
+
+  pub listed_holds : (i : ℕ) (d : Present) → i < length ps → (get_or ps i d).session ≡ s →
+      position (has_session s) ns ≡ Some (get_or ps i d).node
+  listed_holds i d h is =
+      let p = get_or ps i d in
+      let here = are.each i d h in
+      holder_found ns s p.node apart (omega (arith, here.numbered)) (sym (session_at ns p.node) ∙ here.held ∙ is)
+
+  pub unlisted : All (λ p. p.session ≢ s) ps → position (has_session s) ns ≡ None
+  unlisted absent = holder_none ns s (λ k up is.
+      let here = are.listed k (omega (arith, session_at ns k)) in
+      absent here.0 (present (get_or (sessions_of ns) k 0) k) here.1 (ap (λ p. p.session) here.2 ∙ session_at ns k ∙ is))
+
+-- no session yet
+pub none_present : (o : OpeningView) (n : ℕ) (ns : List NeighbourView) → ns ≡ replicate n (newcomer o) →
+    ArePresent 0 (sessions_of ns) []
+none_present o n ns e = record {
+  rising = λ i j d h short. absurd (omega arith);
+  each = λ i d short. absurd (omega arith);
+  listed = λ k up. absurd (omega (arith, ap (λ ms. get_or (sessions_of ms) k 0) e, all_down n k));
+}
+  where
+    all_down : (n k : ℕ) → get_or (sessions_of (replicate n (newcomer o))) k 0 ≡ 0
+    all_down zero k = refl
+    all_down (suc n) zero = refl
+    all_down (suc n) (suc k) = all_down n k
+
+-- a session begins
+pub one_more : (count k : ℕ) (sessions : List ℕ) (ps : List Present) → k < length sessions → get_or sessions k 0 ≡ 0 →
+    ArePresent count sessions ps → ArePresent (count + 1) (set sessions k (count + 1)) (ps ++ present (count + 1) k ∷ [])
+one_more count k sessions ps h down are = record {
+  rising = all_pairs_push (λ p q. p.session < q.session) ps (present (count + 1) k) are.rising
+      (λ i d short. omega (arith, (are.each i d short).opened));
+  each = All-push (IsPresent (count + 1) (set sessions k (count + 1))) ps (present (count + 1) k)
+      (All-weaker (IsPresent count sessions) (IsPresent (count + 1) (set sessions k (count + 1))) (λ p was. record {
+        numbered = was.numbered;
+        opened = omega (arith, was.opened);
+        held =
+            let other : p.node ≢ k = λ is. omega (arith, was.numbered, was.held, ap (λ i. get_or sessions i 0) is) in
+            get_or-set_other sessions k p.node (count + 1) 0 other ∙ was.held;
+      }) ps are.each)
+      (record { numbered = omega arith; opened = omega arith; held = get_or-set_same sessions k (count + 1) 0 h });
+  listed = λ j up. elim (cases_eq j k) [
+    | inl is ↦
+        let e : get_or (set sessions k (count + 1)) j 0 ≡ count + 1 =
+        ap (λ i. get_or (set sessions k (count + 1)) i 0) is ∙ get_or-set_same sessions k (count + 1) 0 h in
+        subst (Contains (ps ++ present (count + 1) k ∷ [])) (λ i. present (sym e i) (sym is i))
+        (Contains-push ps (present (count + 1) k))
+    | inr other ↦
+        let e : get_or (set sessions k (count + 1)) j 0 ≡ get_or sessions j 0 = get_or-set_other sessions k j (count + 1) 0 other in
+        subst (Contains (ps ++ present (count + 1) k ∷ [])) (ap (λ s. present s j) (sym e))
+        (Contains-append_left ps (present (count + 1) k ∷ []) (present (get_or sessions j 0) j) (are.listed j (omega arith)))
+  ];
+}
+
+-- what holds of each element but one
+remove_each : {X : Type 0} (P : X → Type 0) (xs : List X) (i : ℕ) → i < length xs →
+    ((j : ℕ) (d : X) → j < length xs → j ≢ i → P (get_or xs j d)) → All P (remove xs i)
+remove_each P xs i h each j d short =
+    let length_is = length-remove xs i h in
+    elim (cases_lt j i) [
+      | inl before ↦ subst P (sym (get_or-remove_below xs i d j before h)) (each j d (omega arith) (λ is. omega arith))
+      | inr behind ↦ subst P (sym (get_or-remove_above xs i d j behind h)) (each (j + 1) d (omega arith) (λ is. omega arith))
+    ]
+
+contains_remove : {X : Type 0} (xs : List X) (i j : ℕ) (x : X) → i < length xs → j < length xs → get_or xs j x ≡ x → j ≢ i →
+    Contains (remove xs i) x
+contains_remove xs i j x h short at other =
+    let length_is = length-remove xs i h in
+    elim (cases_lt j i) [
+      | inl before ↦ (j, omega arith, get_or-remove_below xs i x j before h ∙ at)
+      | inr behind ↦
+          let above : j - 1 + 1 ≡ j = omega arith in
+          (j - 1, omega arith, get_or-remove_above xs i x (j - 1) (omega arith) h ∙ ap (λ k. get_or xs k x) above ∙ at)
+    ]
+
+-- a session is over
+pub one_less : (count i k s : ℕ) (sessions : List ℕ) (ps : List Present) → i < length ps → HoldsAt (λ p. p.session ≡ s) ps i →
+    0 < s → get_or sessions k 0 ≡ s → ArePresent count sessions ps → ArePresent count (set sessions k 0) (remove ps i)
+one_less count i k s sessions ps h here up held are =
+    let not_here : (j : ℕ) (d : Present) → j < length ps → j ≢ i → (get_or ps j d).session ≢ s =
+    λ j d short other is. other (one_place ps j i d are.rising short h (is ∙ sym (here d))) in
+    record {
+      rising = all_pairs_remove (λ p q. p.session < q.session) ps i h are.rising;
+      each = remove_each (IsPresent count (set sessions k 0)) ps i h (λ j d short other.
+          let was = are.each j d short in
+          let apart : (get_or ps j d).node ≢ k =
+          λ is. not_here j d short other (sym was.held ∙ ap (λ n. get_or sessions n 0) is ∙ held) in
+          record {
+            numbered = was.numbered;
+            opened = was.opened;
+            held = get_or-set_other sessions k (get_or ps j d).node 0 0 apart ∙ was.held;
+          });
+      listed = λ j there. elim (cases_eq j k) [
+        | inl is ↦ absurd (omega (arith, ap (λ n. get_or (set sessions k 0) n 0) is, gone k sessions))
+        | inr other ↦
+            let e : get_or (set sessions k 0) j 0 ≡ get_or sessions j 0 = get_or-set_other sessions k j 0 0 other in
+            let p = present (get_or sessions j 0) j in
+            let was = are.listed j (omega arith) in
+            let apart : was.0 ≢ i = λ is.
+            other (one_node count sessions ps are j k (omega arith)
+            (ap (λ q. q.session) (sym was.2 ∙ ap (λ n. get_or ps n p) is) ∙ here p ∙ sym held)) in
+            subst (Contains (remove ps i)) (ap (λ n. present n j) (sym e)) (contains_remove ps i was.0 p h was.1 was.2 apart)
+      ];
+    }
+  where
+    gone : (k : ℕ) (xs : List ℕ) → get_or (set xs k 0) k 0 ≡ 0
+    gone k [] = refl
+    gone zero (x ∷ xs) = refl
+    gone (suc k) (x ∷ xs) = gone k xs
