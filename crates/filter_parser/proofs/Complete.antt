@@ -27,7 +27,7 @@ is_join l.Comparison = ⊥
 is_join l.And = Unit {0}
 is_join l.Or = Unit {0}
 
--- after the first operand of such a chain stands one of its operators
+-- after the first operand of such a chain comes one of its operators
 record First (unary : Reader ExprView) (level : Level) (ws : List Lexeme) : Type 0 where
   first : ExprView
   op : Op

@@ -52,7 +52,7 @@ side_top l.Or = omega arith
 op_symbol_stops : (level : Level) (op : Op) (ws : List Lexeme) → rank_of op ≡ top level → Stops (side level) (Lexeme.symbol (op_symbol op) ∷ ws)
 op_symbol_stops level op ws e = omega (arith, binds_op_symbol op, side_top level)
 
--- where the loop over a level's operators stands with a chain in hand
+-- where the loop over a level's operators is when it has made a chain
 chain_reach : (depth : ℕ) (level : Level) (next : Reader ExprView) → level ≢ l.Comparison → IsComplete depth (side level) next →
     (t : ExprView) (rest : List Lexeme) →
     Fits t depth → FitsLeft level (rank t) → Stops (side level) rest →

@@ -21,3 +21,4 @@ pub mod Stops
 pub mod Texts
 pub mod Turns
 pub mod Views
+pub mod Within

@@ -27,7 +27,7 @@ side l.Comparison = 3
 side l.And = 4
 side l.Or = 4
 
--- what may stand at its left
+-- what may be at its left
 abbrev pub FitsLeft : Level → ℕ → Type 0
 FitsLeft l.Product a = a ≤ 2
 FitsLeft l.Sum a = a ≤ 3
@@ -128,7 +128,7 @@ op_read l.Comparison op e = read_comparison op e
 op_read l.And op e = read_and op e
 op_read l.Or op e = read_or op e
 
--- at the left of a level's operator stands one of that level, or what could stand at its right too
+-- at the left of a level's operator is one of that level, or what could be at its right too
 pub left_cases : (level : Level) (a : ℕ) → level ≢ l.Comparison → FitsLeft level a → (a ≡ top level) ⊎ (a ≤ side level)
 left_cases l.Product a n h = elim (eq-or-lt_of_le h) [ inl e ↦ inl e | inr k ↦ inr (omega arith) ]
 left_cases l.Sum a n h = elim (eq-or-lt_of_le h) [ inl e ↦ inl e | inr k ↦ inr (omega arith) ]

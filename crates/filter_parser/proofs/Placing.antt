@@ -1,5 +1,5 @@
 -- The places that the parts of a tree keep, put together as the parts are read.
-use Rattle.std.proofs.Common.{◌≡◌, refl, sym, ap, subst, ◌∙◌, ℕ, List, [], ◌∷◌, ◌++◌, map, Option, Some, None, append_assoc}
+use Rattle.std.proofs.Common.{◌≡◌, refl, sym, ap, subst, ◌∙◌, ℕ, List, [], ◌∷◌, ◌++◌, map, Some, None, append_assoc}
 use Rattle.std.proofs.lemmas.List.{append-nil}
 use Rattle.filter_tokens.specs.Lexemes.{Lexeme, lexeme, lexemes}
 use Rattle.filter_tokens.specs.declared.symbol.Symbol.TheVariants as symbols

@@ -56,7 +56,7 @@ chain_found l.Comparison a h = (omega arith, omega arith)
 chain_found l.And a h = (omega arith, omega arith)
 chain_found l.Or a h = ((omega arith, λ e. absurd (omega arith)), omega arith)
 
--- the operator that was read stands at the left of the next
+-- the operator that was read is at the left of the next
 left_again : (level : Level) (op : Op) → level ≢ l.Comparison → rank_of op ≡ top level →
     (FitsLeft level (rank_of op)) × (rank_of op ≤ top level)
 left_again l.Product op n e = (omega arith, omega arith)

@@ -39,6 +39,6 @@ symbol_found m (w ∷ ws) rest e = go (is_symbol m w) refl e
     go true s h = let a : w ≡ Lexeme.symbol m = symbol_is m w s in let b : ws ≡ rest = some_is h in cc
     go false s h = absurd (cc)
 
--- a symbol is found where it stands
+-- a symbol is found where it is
 pub symbol_there : (m : Symbol) (ws : List Lexeme) → after_symbol m (Lexeme.symbol m ∷ ws) ≡ Some ws
 symbol_there m ws = rw (true_same the_type m m refl) refl

@@ -1,5 +1,5 @@
 -- The codes and places of the faults of a filter's text. (This project's own choice.)
-use Rattle.std.specs.Prelude.{ℕ, List, codes}
+use Rattle.std.specs.Prelude.{◌≡◌, ℕ, ◌<◌, List, codes, ⊤}
 use Rattle.filter_tokens.specs.Codes.{fault_code as token_fault_code, fault_place as token_fault_place}
 use Rattle.filter_parser.specs.declared.fault.ParseFault.{ParseFault}
 use Rattle.filter_parser.specs.declared.fault.ParseFault.TheVariants as fault
@@ -32,3 +32,18 @@ fault_place (fault.EndsEarly at) = at
 fault_place (fault.TextElsewhere at) = at
 fault_place (fault.NumberSet at) = at
 fault_place fault.Memory = 0
+
+-- where the fault of a text of so many bytes is: an early end at the end of the text, and any other at one of its bytes; refused
+-- memory has no place
+abbrev pub LiesWithin : ℕ → ParseFault → Type 0
+LiesWithin len (fault.Token found) = token_fault_place found < len
+LiesWithin len (fault.Unexpected at wanted) = at < len
+LiesWithin len (fault.MaskOverLimit at) = at < len
+LiesWithin len (fault.PatternLengths at) = at < len
+LiesWithin len (fault.TooDeep at) = at < len
+LiesWithin len (fault.MixedOperators at) = at < len
+LiesWithin len fault.TooLong = text_limit < len
+LiesWithin len (fault.EndsEarly at) = at ≡ len
+LiesWithin len (fault.TextElsewhere at) = at < len
+LiesWithin len (fault.NumberSet at) = at < len
+LiesWithin len fault.Memory = ⊤

@@ -1,7 +1,8 @@
 -- The parser's steps on lists of lexemes: what is read first, and what is left. Nothing that is published cites them.
-use Rattle.std.specs.Prelude.{◌≡◌, ◌≢◌, ℕ, Bool, false, List, [], ◌∷◌, ◌++◌, length, map, Option, Some, None, Result, Ok, Err, nat_eq, if◌then◌else◌}
+use Rattle.std.specs.Prelude.{◌≡◌, ◌≢◌, ℕ, ◌<◌, ⊤, Bool, false, List, [], ◌∷◌, ◌++◌, length, map, Option, Some, None, Result, Ok, Err, MatchResult, nat_eq, if◌then◌else◌}
 use Rattle.std.specs.Cmp.Lexicographic.{pointwise}
 use denote.Enum.Bare.{sameb}
+use Rattle.filter_tokens.specs.Codes.{fault_place as token_fault_place}
 use Rattle.filter_tokens.specs.Lexemes.{Lexeme, lexemes}
 use Rattle.filter_tokens.specs.declared.symbol.Symbol.{Symbol}
 use Rattle.filter_tokens.specs.contracts.symbol.Symbol.{the_type}
@@ -13,6 +14,7 @@ use Rattle.filter_parser.specs.declared.expected.Expected.{Expected}
 use Rattle.filter_parser.specs.declared.fault.ParseFault.{ParseFault}
 use Rattle.filter_parser.specs.declared.fault.ParseFault.TheVariants as fault
 use Rattle.filter_parser.specs.declared.input.Input.{Input}
+use Rattle.filter_parser.specs.Codes.{LiesWithin}
 use Rattle.filter_parser.specs.Placed.{Kept, AreAt, joined}
 
 -- the lexemes that are left
@@ -44,6 +46,43 @@ pub record Grown {A : Type 0} (kept_of : A → Kept) (old new : List A) (before 
   pub more : List A
   pub whole : new ≡ old ++ more
   pub spans : Spans (joined (map kept_of more)) before after
+
+-- each of these tokens begins within so many bytes
+abbrev pub BeginWithin : ℕ → List Token → Type 0
+BeginWithin len [] = ⊤
+BeginWithin len (token ∷ tokens) = (token.from < len) × BeginWithin len tokens
+
+-- so does what ends them, where a fault does
+abbrev pub EndsWithin : ℕ → Option TokenFault → Type 0
+EndsWithin len None = ⊤
+EndsWithin len (Some found) = token_fault_place found < len
+
+-- what is left is of a text of so many bytes, in which its tokens and their end have their places
+pub record IsWithin (len : ℕ) (input : Input) : Type 0 where
+  pub text : length input.text.now ≡ len
+  pub tokens : BeginWithin len input.tokens.now
+  pub end : EndsWithin len input.end
+
+-- what is left later is of the same text
+abbrev pub Follows : Input → Input → Type 0
+Follows before after = (len : ℕ) → IsWithin len before → IsWithin len after
+
+-- a fault has its place in the text of which this is left
+abbrev pub FailsWithin : Input → ParseFault → Type 0
+FailsWithin input why = (len : ℕ) → IsWithin len input → LiesWithin len why
+
+-- a function of the program leaves what is of the same text, or has its fault there
+abbrev pub LeavesWithin : {X : Type 0} → (X → Input) → Input → Result X ParseFault → Type 0
+LeavesWithin rest input result = (len : ℕ) → IsWithin len input → MatchResult result (λ x. IsWithin len (rest x)) (LiesWithin len)
+
+-- the same of one that reads a thing
+abbrev pub StaysWithin : {X : Type 0} → Input → Result (X × Input) ParseFault → Type 0
+StaysWithin input result = LeavesWithin (λ x. x.1) input result
+
+-- the same of one whose fault may be at a place before what is left
+abbrev pub StaysWithinAfter : {X : Type 0} → ℕ → Input → Result (X × Input) ParseFault → Type 0
+StaysWithinAfter at input result =
+    (len : ℕ) → at < len → IsWithin len input → MatchResult result (λ x. IsWithin len x.1) (LiesWithin len)
 
 -- one step if there is a first, and another one otherwise
 abbrev pub with_some : {A B : Type 0} → Option A → Option B → (A → Option B) → Option B

@@ -1,5 +1,5 @@
 -- The grammar of filters: which text spells which filter. As in the BIRD 2.0 User's Guide on filters; where declarations
--- may stand, the limits, and what is left out are this project's own choice.
+-- may be, the limits, and what is left out are this project's own choice.
 use Rattle.std.specs.Prelude.{◌≡◌, ℕ, ◌≤◌, List, [], ◌∷◌, ◌++◌, length, map}
 use Rattle.filter_tokens.specs.Tokenization.{IsTokenization}
 use Rattle.filter_tokens.specs.Lexemes.{Lexeme, lexemes}

@@ -1,11 +1,12 @@
 //! Commands.
 
-ghost use Rattle.std.specs.Prelude.{◌≡◌, ◌≢◌, ◌∷◌, ◌++◌, ◌<◌, ◌≤◌, [], length, map, Some, None, IfErr, IfOk};
-ghost use Rattle.filter_parser.specs.declared.fault.ParseFault.TheVariants.{Memory, TooLong};
+ghost use Rattle.std.specs.Prelude.{◌≡◌, ◌≢◌, ◌∷◌, ◌++◌, ℕ, ◌<◌, ◌≤◌, [], length, map, Some, None, IfOk, MatchResult};
+ghost use Rattle.filter_parser.specs.declared.fault.ParseFault.TheVariants.{Memory};
+ghost use Rattle.filter_parser.specs.Codes.{LiesWithin};
 ghost use Rattle.filter_parser.specs.ReadingCommands as spec;
 ghost use Rattle.filter_parser.specs.Placed.{command_kept, end_kept, expr_kept, joined};
 ghost use Rattle.filter_parser.specs.Reading.{expr_at};
-ghost use Rattle.filter_parser.specs.Steps.{Continues, ReadsAs, Spans, remaining};
+ghost use Rattle.filter_parser.specs.Steps.{Continues, IsWithin, ReadsAs, Spans, StaysWithin, StaysWithinAfter, remaining};
 ghost use Rattle.filter_parser.specs.Syntax.{view};
 ghost use Rattle.filter_parser.specs.SyntaxCommands.{view_command, view_target};
 ghost use Rattle.filter_parser.specs.SyntaxCommands.CommandView.{if_then, if_else};
@@ -23,7 +24,7 @@ fn parse_end<'a>(input: Input<'a>) -> Result<(bool, Input<'a>), ParseFault>
     ensures reads { ReadsAs (λ x. (x.0, remaining x.1)) result (spec.end_of (remaining input.entry)) }
     ensures shorter { IfOk result (λ x. length (remaining x.1) < length (remaining input.entry)) }
     ensures placed { IfOk result (λ x. Spans (end_kept x.0) input.entry x.1) }
-    ensures short { IfErr result (λ why. why ≢ TooLong) }
+    ensures within { StaysWithin input.entry result }
 {
     match input.eat_text() {
         Some(rest) => Ok((true, rest.expect(Symbol::Semicolon, Expected::Semicolon)?)),
@@ -45,7 +46,7 @@ fn parse_assignment<'a>(
     ensures reads { ReadsAs spec.command_read_of result (spec.assign_with (expr_at depth) (view_target target) (remaining input.entry)) }
     ensures shorter { IfOk result (λ x. length (remaining x.1) < length (remaining input.entry)) }
     ensures placed { IfOk result (λ x. Continues (Some at ∷ []) (command_kept x.0) input.entry x.1) }
-    ensures short { IfErr result (λ why. why ≢ TooLong) }
+    ensures within { StaysWithin input.entry result }
 {
     let value = input.expect(Symbol::Equal, Expected::Assign)?;
     let (value, end) = parse_expr(alloc, depth, value)?;
@@ -91,10 +92,12 @@ fn parse_else<'a>(
     chosen: Command,
     input: Input<'a>,
 ) -> Result<(Command, Input<'a>), ParseFault>
-    ensures reads { ReadsAs spec.command_read_of result (spec.else_with (spec.command_at depth) (view test) (view_command chosen) (remaining input.entry)) }
+    ensures reads { ReadsAs spec.command_read_of result
+        (spec.else_with (spec.command_at depth) (view test) (view_command chosen) (remaining input.entry)) }
     ensures shorter { IfOk result (λ x. length (remaining x.1) ≤ length (remaining input.entry)) }
-    ensures placed { IfOk result (λ x. Continues (Some at ∷ (expr_kept test ++ None ∷ command_kept chosen)) (command_kept x.0) input.entry x.1) }
-    ensures short { IfErr result (λ why. why ≢ TooLong) }
+    ensures placed { IfOk result (λ x.
+        Continues (Some at ∷ (expr_kept test ++ None ∷ command_kept chosen)) (command_kept x.0) input.entry x.1) }
+    ensures within { StaysWithin input.entry result }
 {
     match input.eat(Symbol::Else) {
         None => Ok((if_command(alloc, at, test, chosen)?, input)),
@@ -116,7 +119,7 @@ fn parse_if<'a>(
     ensures reads { ReadsAs spec.command_read_of result (spec.if_at depth (remaining input.entry)) }
     ensures shorter { IfOk result (λ x. length (remaining x.1) < length (remaining input.entry)) }
     ensures placed { IfOk result (λ x. Continues (Some at ∷ []) (command_kept x.0) input.entry x.1) }
-    ensures short { IfErr result (λ why. why ≢ TooLong) }
+    ensures within { StaysWithinAfter at input.entry result }
 {
     if depth == 0 {
         return Err(ParseFault::TooDeep(at));
@@ -137,7 +140,7 @@ pub fn parse_commands<'a>(
     ensures reads { ReadsAs spec.body_read_of result (spec.commands_with (spec.command_at depth) (remaining input.entry)) }
     ensures shorter { IfOk result (λ x. length (remaining x.1) < length (remaining input.entry)) }
     ensures placed { IfOk result (λ x. Spans (joined (map command_kept x.0.items) ++ None ∷ []) input.entry x.1) }
-    ensures short { IfErr result (λ why. why ≢ TooLong) }
+    ensures within { StaysWithin input.entry result }
 {
     let mut commands = Vec::new(alloc);
     let mut rest = input;
@@ -166,7 +169,7 @@ fn parse_block<'a>(
     ensures reads { ReadsAs spec.command_read_of result (spec.block_at depth (remaining input.entry)) }
     ensures shorter { IfOk result (λ x. length (remaining x.1) < length (remaining input.entry)) }
     ensures placed { IfOk result (λ x. Continues (Some at ∷ []) (command_kept x.0) input.entry x.1) }
-    ensures short { IfErr result (λ why. why ≢ TooLong) }
+    ensures within { StaysWithinAfter at input.entry result }
 {
     if depth == 0 {
         return Err(ParseFault::TooDeep(at));
@@ -183,10 +186,11 @@ fn parse_variable_assignment<'a>(
     name: &Token,
     rest: Input<'a>,
 ) -> Result<(Command, Input<'a>), ParseFault>
-    ensures reads { ReadsAs spec.command_read_of result (spec.assign_with (expr_at depth) (spec.target_of input.entry.text.now name.now) (remaining rest.entry)) }
+    ensures reads { ReadsAs spec.command_read_of result
+        (spec.assign_with (expr_at depth) (spec.target_of input.entry.text.now name.now) (remaining rest.entry)) }
     ensures shorter { IfOk result (λ x. length (remaining x.1) < length (remaining rest.entry)) }
     ensures placed { IfOk result (λ x. Continues (Some name.now.from ∷ []) (command_kept x.0) rest.entry x.1) }
-    ensures short { IfErr result (λ why. why ≢ TooLong) }
+    ensures within { StaysWithin rest.entry result }
 {
     let text = input.bytes(alloc, name)?;
     parse_assignment(alloc, depth, name.from, Target::Name(text), rest)
@@ -197,7 +201,7 @@ fn parse_accept<'a>(at: usize, input: Input<'a>) -> Result<(Command, Input<'a>),
     ensures reads { ReadsAs spec.command_read_of result (spec.accepts (remaining input.entry)) }
     ensures shorter { IfOk result (λ x. length (remaining x.1) < length (remaining input.entry)) }
     ensures placed { IfOk result (λ x. Continues (Some at ∷ []) (command_kept x.0) input.entry x.1) }
-    ensures short { IfErr result (λ why. why ≢ TooLong) }
+    ensures within { StaysWithin input.entry result }
 {
     let (has_text, rest) = parse_end(input)?;
     Ok((Command::Accept(at, has_text), rest))
@@ -208,7 +212,7 @@ fn parse_reject<'a>(at: usize, input: Input<'a>) -> Result<(Command, Input<'a>),
     ensures reads { ReadsAs spec.command_read_of result (spec.rejects (remaining input.entry)) }
     ensures shorter { IfOk result (λ x. length (remaining x.1) < length (remaining input.entry)) }
     ensures placed { IfOk result (λ x. Continues (Some at ∷ []) (command_kept x.0) input.entry x.1) }
-    ensures short { IfErr result (λ why. why ≢ TooLong) }
+    ensures within { StaysWithin input.entry result }
 {
     let (has_text, rest) = parse_end(input)?;
     Ok((Command::Reject(at, has_text), rest))
@@ -224,12 +228,13 @@ fn parse_command_by<'a>(
     other: ParseFault,
     rest: Input<'a>,
 ) -> Result<(Command, Input<'a>), ParseFault>
-    requires not_memory { other ≢ Memory }
-    requires short { other ≢ TooLong }
-    ensures reads { ReadsAs spec.command_read_of result (spec.command_by (expr_at depth) (spec.block_at depth) (spec.if_at depth) symbol (remaining rest.entry)) }
+    requires { other ≢ Memory }
+    ensures reads { ReadsAs spec.command_read_of result
+        (spec.command_by (expr_at depth) (spec.block_at depth) (spec.if_at depth) symbol (remaining rest.entry)) }
     ensures shorter { IfOk result (λ x. length (remaining x.1) ≤ length (remaining rest.entry)) }
     ensures placed { IfOk result (λ x. Continues (Some at ∷ []) (command_kept x.0) rest.entry x.1) }
-    ensures short { IfErr result (λ why. why ≢ TooLong) }
+    ensures within { (len : ℕ) → at < len → LiesWithin len other → IsWithin len rest.entry
+        → MatchResult result (λ x. IsWithin len x.1) (LiesWithin len) }
 {
     match symbol {
         Symbol::Semicolon => Ok((Command::Empty(at), rest)),
@@ -255,7 +260,7 @@ pub fn parse_command<'a>(
     ensures reads { ReadsAs spec.command_read_of result (spec.command_at depth (remaining input.entry)) }
     ensures shorter { IfOk result (λ x. length (remaining x.1) < length (remaining input.entry)) }
     ensures placed { IfOk result (λ x. Spans (command_kept x.0) input.entry x.1) }
-    ensures short { IfErr result (λ why. why ≢ TooLong) }
+    ensures within { StaysWithin input.entry result }
 {
     let other = input.unexpected(expected);
     let Some((first, rest)) = input.next() else {

@@ -1,11 +1,10 @@
 //! Declarations.
 
-ghost use Rattle.std.specs.Prelude.{◌≡◌, ◌≢◌, ◌∷◌, ◌<◌, ◌≤◌, [], length, map, Some, None, IfErr, IfOk, IfSome};
+ghost use Rattle.std.specs.Prelude.{◌≡◌, ◌∷◌, ◌<◌, ◌≤◌, [], length, map, Some, None, IfOk, IfSome};
 ghost use Rattle.filter_parser.specs.Placed.{decl_kept};
 ghost use Rattle.filter_parser.specs.ReadingCommands as spec;
-ghost use Rattle.filter_parser.specs.Steps.{Continues, Finds, Grown, ReadsAs, Spans, first_place, remaining};
+ghost use Rattle.filter_parser.specs.Steps.{Continues, Finds, Follows, Grown, LeavesWithin, ReadsAs, Spans, StaysWithin, first_place, remaining};
 ghost use Rattle.filter_parser.specs.SyntaxCommands.{view_decl};
-ghost use Rattle.filter_parser.specs.declared.fault.ParseFault.TheVariants.{TooLong};
 
 use crate::expected::Expected;
 use crate::fault::ParseFault;
@@ -32,6 +31,7 @@ fn eat_kind<'a>(input: Input<'a>) -> Option<(Kind, Input<'a>)>
     ensures found { Finds (λ x. (x.0, remaining x.1)) result (spec.kind_first (remaining input.entry)) }
     ensures shorter { IfSome result (λ x. length (remaining x.1) < length (remaining input.entry)) }
     ensures placed { IfSome result (λ x. Spans (Some (first_place input.entry) ∷ []) input.entry x.1) }
+    ensures within { IfSome result (λ x. Follows input.entry x.1) }
 {
     let (first, rest) = input.next()?;
     let TokenKind::Symbol(symbol) = first.kind else {
@@ -51,7 +51,7 @@ pub fn parse_name<'a>(
     ensures reads { ReadsAs (λ x. (x.1.items, remaining x.2)) result (spec.name_first (remaining input.entry)) }
     ensures shorter { IfOk result (λ x. length (remaining x.2) < length (remaining input.entry)) }
     ensures placed { IfOk result (λ x. Spans (Some x.0 ∷ []) input.entry x.2) }
-    ensures short { IfErr result (λ why. why ≢ TooLong) }
+    ensures within { LeavesWithin (λ x. x.2) input.entry result }
 {
     let Some((first, rest)) = input.next() else {
         return Err(input.unexpected(Expected::Name));
@@ -71,7 +71,7 @@ fn parse_declaration<'a>(
     ensures reads { ReadsAs (λ x. (view_decl x.0, remaining x.1)) result (spec.decl_with kind (remaining input.entry)) }
     ensures shorter { IfOk result (λ x. length (remaining x.1) < length (remaining input.entry)) }
     ensures placed { IfOk result (λ x. Continues (None ∷ []) (decl_kept x.0) input.entry x.1) }
-    ensures short { IfErr result (λ why. why ≢ TooLong) }
+    ensures within { StaysWithin input.entry result }
 {
     let (at, name, rest) = parse_name(alloc, input)?;
     let rest = rest.expect(Symbol::Semicolon, Expected::Semicolon)?;
@@ -84,9 +84,10 @@ pub fn parse_declarations<'a>(
     before: Vec<Decl>,
     input: Input<'a>,
 ) -> Result<(Vec<Decl>, Input<'a>), ParseFault>
-    ensures reads { ReadsAs (λ x. (map view_decl x.0.items, remaining x.1)) result (spec.decls_after (map view_decl before.items) (remaining input.entry)) }
+    ensures reads { ReadsAs (λ x. (map view_decl x.0.items, remaining x.1)) result
+        (spec.decls_after (map view_decl before.items) (remaining input.entry)) }
     ensures placed { IfOk result (λ x. Grown decl_kept before.items x.0.items input.entry x.1) }
-    ensures short { IfErr result (λ why. why ≢ TooLong) }
+    ensures within { StaysWithin input.entry result }
 {
     let mut decls = before;
     let mut rest = input;

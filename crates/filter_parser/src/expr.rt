@@ -1,9 +1,10 @@
-ghost use Rattle.std.specs.Prelude.{◌≡◌, ◌≢◌, ◌∷◌, ◌++◌, ◌<◌, ◌≤◌, [], Some, None, IfErr, IfOk, IfSome, length};
+ghost use Rattle.std.specs.Prelude.{◌≡◌, ◌∷◌, ◌++◌, ℕ, ◌<◌, ◌≤◌, [], Some, None, IfOk, IfSome, length};
+ghost use Rattle.filter_parser.specs.Codes.{LiesWithin};
 ghost use Rattle.filter_parser.specs.Placed.{expr_kept};
 ghost use Rattle.filter_parser.specs.Reading as spec;
-ghost use Rattle.filter_parser.specs.Steps.{Continues, Finds, ReadsAs, Spans, first_place, remaining};
+ghost use Rattle.filter_parser.specs.Steps.{Continues, Finds, Follows, ReadsAs, Spans, StaysWithin, first_place, remaining};
 ghost use Rattle.filter_parser.specs.Syntax.{view};
-ghost use Rattle.filter_parser.specs.declared.fault.ParseFault.TheVariants.{Memory, TooLong};
+ghost use Rattle.filter_parser.specs.declared.fault.ParseFault.TheVariants.{Memory};
 ghost use Rattle.filter_parser.specs.declared.input.Input.{Input as TheInput};
 
 use crate::expected::Expected;
@@ -22,7 +23,7 @@ fn unmixed<'a>(whole: Expr, rest: Input<'a>) -> Result<(Expr, Input<'a>), ParseF
     ensures reads { ReadsAs spec.read_of result (spec.unmixed (view whole, remaining rest.entry)) }
     ensures same { IfOk result (λ x. length (remaining x.1) ≤ length (remaining rest.entry)) }
     ensures placed { IfOk result (λ x. Continues (expr_kept whole) (expr_kept x.0) rest.entry x.1) }
-    ensures short { IfErr result (λ why. why ≢ TooLong) }
+    ensures within { StaysWithin rest.entry result }
 {
     if eat_operator(Level::And, rest).is_some() {
         return Err(ParseFault::MixedOperators(rest.at()));
@@ -45,7 +46,7 @@ fn parse_member<'a>(
     ensures shorter { IfOk result (λ x. length (remaining x.1) < length (remaining input.entry)) }
     ensures placed { IfOk result (λ x. (start middle : TheInput) → Spans (expr_kept left ++ None ∷ []) start middle
         → Spans (Some at ∷ []) middle input.entry → Spans (expr_kept x.0) start x.1) }
-    ensures short { IfErr result (λ why. why ≢ TooLong) }
+    ensures within { StaysWithin input.entry result }
 {
     let (found, rest) = parse_set(alloc, at, input)?;
     Ok((member(alloc, op, left, found)?, rest))
@@ -67,16 +68,17 @@ fn eat_set_opening<'a>(op: Op, input: Input<'a>) -> Option<(Membership, Input<'a
     ensures found { Finds (λ x. (x.0, remaining x.1)) result (spec.set_opening op (remaining input.entry)) }
     ensures shorter { IfSome result (λ x. length (remaining x.1) < length (remaining input.entry)) }
     ensures placed { IfSome result (λ x. Spans (Some (first_place input.entry) ∷ []) input.entry x.1) }
+    ensures within { IfSome result (λ x. Follows input.entry x.1) }
 {
     let found = membership_of(op)?;
     let rest = input.eat(Symbol::LeftBracket)?;
     Some((found, rest))
 }
 
-/// A fault at the right of an operator, before which a set could stand too if the operator is `~` or `!~`.
+/// A fault at the right of an operator. After `~` and `!~` a set would do as well, and the fault says so.
 fn right_operand_fault(op: Op, at: usize, fault: ParseFault) -> ParseFault
     ensures memory { fault ≡ Memory → result ≡ Memory }
-    ensures short { fault ≢ TooLong → result ≢ TooLong }
+    ensures within { (len : ℕ) → LiesWithin len fault → LiesWithin len result }
 {
     if membership_of(op).is_some() && fault == ParseFault::Unexpected(at, Expected::Operand) {
         return ParseFault::Unexpected(at, Expected::OperandOrSet);
@@ -94,7 +96,7 @@ fn parse_group_end<'a>(
     ensures reads { ReadsAs spec.read_of result (spec.group_end (view inner) (remaining input.entry)) }
     ensures shorter { IfOk result (λ x. length (remaining x.1) < length (remaining input.entry)) }
     ensures placed { IfOk result (λ x. Continues (Some at ∷ expr_kept inner) (expr_kept x.0) input.entry x.1) }
-    ensures short { IfErr result (λ why. why ≢ TooLong) }
+    ensures within { StaysWithin input.entry result }
 {
     match input.expect(Symbol::RightParen, Expected::RightParen) {
         Ok(rest) => Ok((group(alloc, at, inner)?, rest)),
@@ -112,7 +114,7 @@ pub fn parse_expr<'a>(
     ensures reads { ReadsAs spec.read_of result (spec.expr_at depth (remaining input.entry)) }
     ensures shorter { IfOk result (λ x. length (remaining x.1) < length (remaining input.entry)) }
     ensures placed { IfOk result (λ x. Spans (expr_kept x.0) input.entry x.1) }
-    ensures short { IfErr result (λ why. why ≢ TooLong) }
+    ensures within { StaysWithin input.entry result }
 {
     let (first, rest) = parse_comparison(alloc, depth, input)?;
     let (whole, rest) = parse_chain(alloc, depth, join_level(rest), first, rest)?;
@@ -131,7 +133,7 @@ fn parse_chain<'a>(
     ensures reads { ReadsAs spec.read_of result (spec.chain_with (spec.unary_at depth) level (view first) (remaining input.entry)) }
     ensures shorter { IfOk result (λ x. length (remaining x.1) ≤ length (remaining input.entry)) }
     ensures placed { IfOk result (λ x. Continues (expr_kept first) (expr_kept x.0) input.entry x.1) }
-    ensures short { IfErr result (λ why. why ≢ TooLong) }
+    ensures within { StaysWithin input.entry result }
 {
     let mut more = Vec::new(alloc);
     let mut rest = input;
@@ -158,7 +160,7 @@ fn parse_operand<'a>(
     ensures reads { ReadsAs spec.read_of result (spec.next_with (spec.unary_at depth) level (remaining input.entry)) }
     ensures shorter { IfOk result (λ x. length (remaining x.1) < length (remaining input.entry)) }
     ensures placed { IfOk result (λ x. Spans (expr_kept x.0) input.entry x.1) }
-    ensures short { IfErr result (λ why. why ≢ TooLong) }
+    ensures within { StaysWithin input.entry result }
 {
     match level {
         Level::Or => parse_comparison(alloc, depth, input),
@@ -179,7 +181,7 @@ fn parse_comparison<'a>(
     ensures reads { ReadsAs spec.read_of result (spec.comparison_with (spec.unary_at depth) (remaining input.entry)) }
     ensures shorter { IfOk result (λ x. length (remaining x.1) < length (remaining input.entry)) }
     ensures placed { IfOk result (λ x. Spans (expr_kept x.0) input.entry x.1) }
-    ensures short { IfErr result (λ why. why ≢ TooLong) }
+    ensures within { StaysWithin input.entry result }
 {
     let (left, rest) = parse_sum(alloc, depth, input)?;
     match eat_operator(Level::Comparison, rest) {
@@ -197,10 +199,11 @@ fn parse_right_operand<'a>(
     left: Expr,
     input: Input<'a>,
 ) -> Result<(Expr, Input<'a>), ParseFault>
-    ensures reads { ReadsAs spec.read_of result (spec.right_operand_with (spec.sum_with (spec.unary_at depth)) (view left) op (remaining input.entry)) }
+    ensures reads { ReadsAs spec.read_of result
+        (spec.right_operand_with (spec.sum_with (spec.unary_at depth)) (view left) op (remaining input.entry)) }
     ensures shorter { IfOk result (λ x. length (remaining x.1) < length (remaining input.entry)) }
     ensures placed { IfOk result (λ x. Continues (expr_kept left ++ None ∷ []) (expr_kept x.0) input.entry x.1) }
-    ensures short { IfErr result (λ why. why ≢ TooLong) }
+    ensures within { StaysWithin input.entry result }
 {
     if let Some((found, after)) = eat_set_opening(op, input) {
         return parse_member(alloc, input.at(), found, left, after);
@@ -221,7 +224,7 @@ fn parse_sum<'a>(
     ensures reads { ReadsAs spec.read_of result (spec.sum_with (spec.unary_at depth) (remaining input.entry)) }
     ensures shorter { IfOk result (λ x. length (remaining x.1) < length (remaining input.entry)) }
     ensures placed { IfOk result (λ x. Spans (expr_kept x.0) input.entry x.1) }
-    ensures short { IfErr result (λ why. why ≢ TooLong) }
+    ensures within { StaysWithin input.entry result }
 {
     let (first, rest) = parse_product(alloc, depth, input)?;
     parse_chain(alloc, depth, Level::Sum, first, rest)
@@ -237,7 +240,7 @@ fn parse_product<'a>(
     ensures reads { ReadsAs spec.read_of result (spec.product_with (spec.unary_at depth) (remaining input.entry)) }
     ensures shorter { IfOk result (λ x. length (remaining x.1) < length (remaining input.entry)) }
     ensures placed { IfOk result (λ x. Spans (expr_kept x.0) input.entry x.1) }
-    ensures short { IfErr result (λ why. why ≢ TooLong) }
+    ensures within { StaysWithin input.entry result }
 {
     let (first, rest) = parse_unary(alloc, depth, input)?;
     parse_chain(alloc, depth, Level::Product, first, rest)
@@ -254,7 +257,7 @@ fn parse_unary<'a>(
     ensures reads { ReadsAs spec.read_of result (spec.unary_at depth (remaining input.entry)) }
     ensures shorter { IfOk result (λ x. length (remaining x.1) < length (remaining input.entry)) }
     ensures placed { IfOk result (λ x. Spans (expr_kept x.0) input.entry x.1) }
-    ensures short { IfErr result (λ why. why ≢ TooLong) }
+    ensures within { StaysWithin input.entry result }
 {
     let Some(rest) = input.eat(Symbol::Not) else {
         return parse_postfix(alloc, depth, input);
@@ -276,7 +279,7 @@ fn parse_postfix<'a>(
     ensures reads { ReadsAs spec.read_of result (spec.postfix_with (spec.inner_at depth) (remaining input.entry)) }
     ensures shorter { IfOk result (λ x. length (remaining x.1) < length (remaining input.entry)) }
     ensures placed { IfOk result (λ x. Spans (expr_kept x.0) input.entry x.1) }
-    ensures short { IfErr result (λ why. why ≢ TooLong) }
+    ensures within { StaysWithin input.entry result }
 {
     let (inner, rest) = parse_primary(alloc, depth, input)?;
     parse_suffixes(alloc, inner, rest)
@@ -292,7 +295,7 @@ fn parse_primary<'a>(
     ensures reads { ReadsAs spec.read_of result (spec.primary_with (spec.inner_at depth) (remaining input.entry)) }
     ensures shorter { IfOk result (λ x. length (remaining x.1) < length (remaining input.entry)) }
     ensures placed { IfOk result (λ x. Spans (expr_kept x.0) input.entry x.1) }
-    ensures short { IfErr result (λ why. why ≢ TooLong) }
+    ensures within { StaysWithin input.entry result }
 {
     let Some(after) = input.eat(Symbol::LeftParen) else {
         return parse_atom(alloc, input);

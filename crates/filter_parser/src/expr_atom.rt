@@ -1,9 +1,8 @@
-ghost use Rattle.std.specs.Prelude.{◌≡◌, ◌≢◌, ◌∷◌, ◌<◌, ◌≤◌, [], Some, None, IfErr, IfOk, IfSome, length};
+ghost use Rattle.std.specs.Prelude.{◌≡◌, ◌∷◌, ◌<◌, ◌≤◌, [], Some, None, IfOk, IfSome, length};
 ghost use Rattle.filter_parser.specs.Placed.{expr_kept, suffix_kept};
 ghost use Rattle.filter_parser.specs.Reading as spec;
-ghost use Rattle.filter_parser.specs.Steps.{Continues, Finds, ReadsAs, Spans, first_place, remaining};
+ghost use Rattle.filter_parser.specs.Steps.{Continues, Finds, ReadsAs, Spans, StaysWithin, first_place, remaining};
 ghost use Rattle.filter_parser.specs.Syntax.{view};
-ghost use Rattle.filter_parser.specs.declared.fault.ParseFault.TheVariants.{TooLong};
 
 use crate::expected::Expected;
 use crate::expr_make::suffixed;
@@ -29,7 +28,7 @@ fn parse_attribute<'a>(input: Input<'a>) -> Result<(Attribute, Input<'a>), Parse
     ensures reads { ReadsAs (λ x. (x.0, remaining x.1)) result (spec.attribute_first (remaining input.entry)) }
     ensures shorter { IfOk result (λ x. length (remaining x.1) < length (remaining input.entry)) }
     ensures placed { IfOk result (λ x. Spans (Some (first_place input.entry) ∷ []) input.entry x.1) }
-    ensures short { IfErr result (λ why. why ≢ TooLong) }
+    ensures within { StaysWithin input.entry result }
 {
     let Some((first, rest)) = input.next() else {
         return Err(input.unexpected(Expected::Attribute));
@@ -48,7 +47,7 @@ fn parse_defined<'a>(at: usize, input: Input<'a>) -> Result<(Expr, Input<'a>), P
     ensures reads { ReadsAs spec.read_of result (spec.defined_of (remaining input.entry)) }
     ensures shorter { IfOk result (λ x. length (remaining x.1) < length (remaining input.entry)) }
     ensures placed { IfOk result (λ x. Continues (Some at ∷ []) (expr_kept x.0) input.entry x.1) }
-    ensures short { IfErr result (λ why. why ≢ TooLong) }
+    ensures within { StaysWithin input.entry result }
 {
     let rest = input.expect(Symbol::LeftParen, Expected::LeftParen)?;
     let (found, rest) = parse_attribute(rest)?;
@@ -75,7 +74,7 @@ fn parse_single<'a>(alloc: Global, input: Input<'a>) -> Result<(Expr, Input<'a>)
     ensures reads { ReadsAs spec.read_of result (spec.single_first (remaining input.entry)) }
     ensures shorter { IfOk result (λ x. length (remaining x.1) < length (remaining input.entry)) }
     ensures placed { IfOk result (λ x. Spans (expr_kept x.0) input.entry x.1) }
-    ensures short { IfErr result (λ why. why ≢ TooLong) }
+    ensures within { StaysWithin input.entry result }
 {
     let Some((first, rest)) = input.next() else {
         return Err(input.unexpected(Expected::Operand));
@@ -99,7 +98,7 @@ pub fn parse_atom<'a>(alloc: Global, input: Input<'a>) -> Result<(Expr, Input<'a
     ensures reads { ReadsAs spec.read_of result (spec.atom_of (remaining input.entry)) }
     ensures shorter { IfOk result (λ x. length (remaining x.1) < length (remaining input.entry)) }
     ensures placed { IfOk result (λ x. Spans (expr_kept x.0) input.entry x.1) }
-    ensures short { IfErr result (λ why. why ≢ TooLong) }
+    ensures within { StaysWithin input.entry result }
 {
     match input.eat(Symbol::Defined) {
         Some(rest) => parse_defined(input.at(), rest),
@@ -123,7 +122,7 @@ fn parse_mask<'a>(input: Input<'a>) -> Result<(Suffix, Input<'a>), ParseFault>
     ensures reads { ReadsAs (λ x. (x.0, remaining x.1)) result (spec.mask_of (remaining input.entry)) }
     ensures shorter { IfOk result (λ x. length (remaining x.1) < length (remaining input.entry)) }
     ensures placed { IfOk result (λ x. Continues (None ∷ None ∷ []) (suffix_kept x.0) input.entry x.1) }
-    ensures short { IfErr result (λ why. why ≢ TooLong) }
+    ensures within { StaysWithin input.entry result }
 {
     let after = input.expect(Symbol::LeftParen, Expected::LeftParen)?;
     let (n, rest) = after.expect_number()?;
@@ -139,7 +138,7 @@ fn parse_suffix<'a>(input: Input<'a>) -> Result<(Suffix, Input<'a>), ParseFault>
     ensures reads { ReadsAs (λ x. (x.0, remaining x.1)) result (spec.suffix_of (remaining input.entry)) }
     ensures shorter { IfOk result (λ x. length (remaining x.1) < length (remaining input.entry)) }
     ensures placed { IfOk result (λ x. Continues (None ∷ []) (suffix_kept x.0) input.entry x.1) }
-    ensures short { IfErr result (λ why. why ≢ TooLong) }
+    ensures within { StaysWithin input.entry result }
 {
     if let Some(rest) = input.eat(Symbol::Ip) {
         return Ok((Suffix::Ip, rest));
@@ -162,7 +161,7 @@ pub fn parse_suffixes<'a>(
     ensures reads { ReadsAs spec.read_of result (spec.suffixes_from (view inner) (remaining input.entry)) }
     ensures shorter { IfOk result (λ x. length (remaining x.1) ≤ length (remaining input.entry)) }
     ensures placed { IfOk result (λ x. Continues (expr_kept inner) (expr_kept x.0) input.entry x.1) }
-    ensures short { IfErr result (λ why. why ≢ TooLong) }
+    ensures within { StaysWithin input.entry result }
 {
     let mut all = Vec::new(alloc);
     let mut rest = input;

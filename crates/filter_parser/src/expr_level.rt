@@ -1,6 +1,6 @@
 ghost use Rattle.std.specs.Prelude.{◌≡◌, ◌∷◌, ◌<◌, [], Some, None, IfSome, length};
 ghost use Rattle.filter_parser.specs.Reading as spec;
-ghost use Rattle.filter_parser.specs.Steps.{Finds, Spans, first_place, remaining};
+ghost use Rattle.filter_parser.specs.Steps.{Finds, Follows, Spans, first_place, remaining};
 
 use crate::input::Input;
 use crate::tree::Op;
@@ -98,6 +98,7 @@ pub fn eat_operator<'a>(level: Level, input: Input<'a>) -> Option<(Op, Input<'a>
     ensures found { Finds (λ x. (x.0, remaining x.1)) result (spec.op_first level (remaining input.entry)) }
     ensures shorter { IfSome result (λ x. length (remaining x.1) < length (remaining input.entry)) }
     ensures placed { IfSome result (λ x. Spans (Some (first_place input.entry) ∷ []) input.entry x.1) }
+    ensures within { IfSome result (λ x. Follows input.entry x.1) }
 {
     let (first, rest) = input.next()?;
     match &first.kind {

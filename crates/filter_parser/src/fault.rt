@@ -11,13 +11,13 @@ pub const TEXT_LIMIT: usize = 65_536;
 
 /// Why a text is no filter: its first fault, from the left.
 ///
-/// A place is a number of bytes, those that stand before it.
+/// A place is the number of bytes before it.
 #[derive(Clone, Copy, Debug, PartialEq, Eq, Error)]
 pub enum ParseFault {
-    /// P1, P3, P4, P8, P9 or P10: what stands there is no token of the language.
+    /// P1, P3, P4, P8, P9 or P10: no token of the language begins at this place.
     #[error(transparent)]
     Token(TokenFault),
-    /// P2: the token at this place cannot stand there.
+    /// P2: the token at this place cannot follow what comes before it.
     #[error("expected {1} at byte {0}")]
     Unexpected(usize, Expected),
     /// P4: the argument of `mask` at this place is over 32.

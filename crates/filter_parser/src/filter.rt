@@ -1,12 +1,12 @@
 //! A whole filter.
 
-ghost use Rattle.std.specs.Prelude.{◌≡◌, ◌≢◌, ◌∷◌, [], None, IfErr, IfOk, length, map};
+ghost use Rattle.std.specs.Prelude.{◌≡◌, ◌∷◌, ℕ, [], None, IfErr, IfOk, length, map};
+ghost use Rattle.filter_parser.specs.Codes.{LiesWithin};
 ghost use Rattle.filter_parser.specs.Placed.{ArePlaced, decl_kept, joined};
 ghost use Rattle.filter_parser.specs.ReadingCommands as spec;
-ghost use Rattle.filter_parser.specs.Steps.{ReadsAs, Spans, remaining};
+ghost use Rattle.filter_parser.specs.Steps.{IsWithin, ReadsAs, Spans, remaining};
 ghost use Rattle.filter_parser.specs.SyntaxCommands.{view_decl};
 ghost use Rattle.filter_parser.specs.declared.input.Input.{Input as TheInput};
-ghost use Rattle.filter_parser.specs.declared.fault.ParseFault.TheVariants.{TooLong};
 
 use crate::command::parse_commands;
 use crate::decl::{parse_declarations, parse_name};
@@ -26,7 +26,7 @@ fn nothing_after<'a>(parts: Parts, rest: Input<'a>) -> Result<Parts, ParseFault>
     ensures reads { ReadsAs spec.view_parts result (spec.nothing_after (spec.view_parts parts) (remaining rest.entry)) }
     ensures same { IfOk result (λ p. p ≡ parts) }
     ensures end { IfOk result (λ _. rest.entry.tokens.now ≡ []) }
-    ensures short { IfErr result (λ why. why ≢ TooLong) }
+    ensures within { (len : ℕ) → IsWithin len rest.entry → IfErr result (LiesWithin len) }
 {
     match rest.next() {
         None => Ok(parts),
@@ -44,7 +44,7 @@ fn parse_body<'a>(
     ensures reads { ReadsAs spec.view_parts result (spec.body_of name.items (map view_decl head.items) (remaining input.entry)) }
     ensures placed { IfOk result (λ parts. (start : TheInput) → Spans (None ∷ None ∷ joined (map decl_kept head.items)) start input.entry
         → ArePlaced start.text.now start.tokens.now parts.decls.items parts.body.items) }
-    ensures short { IfErr result (λ why. why ≢ TooLong) }
+    ensures within { (len : ℕ) → IsWithin len input.entry → IfErr result (LiesWithin len) }
 {
     let rest = input.expect(Symbol::LeftBrace, Expected::Body)?;
     let (decls, rest) = parse_declarations(alloc, head, rest)?;
@@ -56,7 +56,7 @@ fn parse_body<'a>(
 pub fn parse_filter<'a>(alloc: Global, input: Input<'a>) -> Result<Parts, ParseFault>
     ensures reads { ReadsAs spec.view_parts result (spec.filter_of (remaining input.entry)) }
     ensures placed { IfOk result (λ parts. ArePlaced input.entry.text.now input.entry.tokens.now parts.decls.items parts.body.items) }
-    ensures short { IfErr result (λ why. why ≢ TooLong) }
+    ensures within { (len : ℕ) → IsWithin len input.entry → IfErr result (LiesWithin len) }
 {
     let rest = input.expect(Symbol::Filter, Expected::FilterWord)?;
     let (_, name, rest) = parse_name(alloc, rest)?;

@@ -2,7 +2,7 @@ ghost use Rattle.std.specs.Prelude.{◌≡◌, ◌≢◌, ◌∷◌, ◌<◌, �
 ghost use Rattle.std.specs.Cmp.Lexicographic.{pointwise};
 ghost use Rattle.filter_tokens.specs.Lexemes as lexemes;
 ghost use Rattle.filter_parser.specs.Steps as spec;
-ghost use Rattle.filter_parser.specs.declared.fault.ParseFault.TheVariants.{Memory, TooLong};
+ghost use Rattle.filter_parser.specs.declared.fault.ParseFault.TheVariants.{Memory};
 
 use crate::expected::Expected;
 use crate::fault::ParseFault;
@@ -32,14 +32,16 @@ fn is_symbol(token: &Token, text: &[u8], symbol: Symbol) -> bool
 }
 
 impl<'a> Input<'a> {
-    ghost use Rattle.filter_parser.specs.Steps.{Finds, ReadsAs, Spans, after_symbol, after_name, after_quote, first_place, remaining};
+    ghost use Rattle.filter_parser.specs.Steps.{FailsWithin, Finds, Follows, LeavesWithin, ReadsAs, Spans, StaysWithin, after_symbol, after_name, after_quote, first_place, remaining};
     ghost use Rattle.filter_parser.specs.Steps.{number_first, prefix_first};
 
     /// The first token, and what is left after it.
     pub fn next(self) -> Option<(&'a Token, Input<'a>)>
-        ensures is { let w = remaining self.entry in MatchOption result (w ≡ []) (λ x. w ≡ lexemes.lexeme self.entry.text.now x.0.now ∷ remaining x.1) }
+        ensures is { let w = remaining self.entry in
+            MatchOption result (w ≡ []) (λ x. w ≡ lexemes.lexeme self.entry.text.now x.0.now ∷ remaining x.1) }
         ensures first { IfSome result (λ x. x.0.now.from ≡ first_place self.entry) }
         ensures placed { IfSome result (λ x. Spans (Some x.0.now.from ∷ []) self.entry x.1) }
+        ensures within { IfSome result (λ x. Follows self.entry x.1) }
     {
         let (first, tokens) = self.tokens.split_first()?;
         Some((
@@ -66,7 +68,7 @@ impl<'a> Input<'a> {
     fn end_fault(self) -> ParseFault
         ensures is { result ≡ spec.end_fault_of (length self.entry.text.now) self.entry.end }
         ensures not_memory { result ≢ Memory }
-        ensures short { result ≢ TooLong }
+        ensures within { FailsWithin self.entry result }
     {
         match self.end {
             None => ParseFault::EndsEarly(self.text.len()),
@@ -78,7 +80,7 @@ impl<'a> Input<'a> {
     pub fn unexpected(self, expected: Expected) -> ParseFault
         ensures is { result ≡ spec.unexpected self.entry expected }
         ensures not_memory { result ≢ Memory }
-        ensures short { result ≢ TooLong }
+        ensures within { FailsWithin self.entry result }
     {
         match self.tokens.first() {
             None => self.end_fault(),
@@ -93,6 +95,7 @@ impl<'a> Input<'a> {
     pub fn eat(self, symbol: Symbol) -> Option<Input<'a>>
         ensures found { Finds remaining result (after_symbol symbol (remaining self.entry)) }
         ensures placed { IfSome result (λ rest. Spans (Some (first_place self.entry) ∷ []) self.entry rest) }
+        ensures within { IfSome result (Follows self.entry) }
         ensures shorter { IfSome result (λ rest. length (remaining rest) < length (remaining self.entry)) }
     {
         let (first, rest) = self.next()?;
@@ -109,7 +112,7 @@ impl<'a> Input<'a> {
         ensures shorter { IfOk result (λ rest. length (remaining rest) < length (remaining self.entry)) }
         ensures placed { IfOk result (λ rest. Spans (Some (first_place self.entry) ∷ []) self.entry rest) }
         ensures refusal { IfErr result (λ why. why ≡ spec.unexpected self.entry expected) }
-        ensures short { IfErr result (λ why. why ≢ TooLong) }
+        ensures within { LeavesWithin (λ rest. rest) self.entry result }
     {
         match self.eat(symbol) {
             Some(rest) => Ok(rest),
@@ -122,6 +125,7 @@ impl<'a> Input<'a> {
         ensures found { Finds remaining result (after_quote (remaining self.entry)) }
         ensures shorter { IfSome result (λ rest. length (remaining rest) < length (remaining self.entry)) }
         ensures placed { IfSome result (λ rest. Spans (Some (first_place self.entry) ∷ []) self.entry rest) }
+        ensures within { IfSome result (Follows self.entry) }
     {
         let (first, rest) = self.next()?;
         match &first.kind {
@@ -135,6 +139,7 @@ impl<'a> Input<'a> {
         ensures found { Finds remaining result (after_name word.now (remaining self.entry)) }
         ensures shorter { IfSome result (λ rest. length (remaining rest) < length (remaining self.entry)) }
         ensures placed { IfSome result (λ rest. Spans (Some (first_place self.entry) ∷ []) self.entry rest) }
+        ensures within { IfSome result (Follows self.entry) }
     {
         let (first, rest) = self.next()?;
         match &first.kind {
@@ -153,7 +158,7 @@ impl<'a> Input<'a> {
         ensures shorter { IfOk result (λ x. length (remaining x.1) < length (remaining self.entry)) }
         ensures placed { IfOk result (λ x. Spans (Some (first_place self.entry) ∷ []) self.entry x.1) }
         ensures refusal { IfErr result (λ why. why ≡ spec.unexpected self.entry Expected.Number) }
-        ensures short { IfErr result (λ why. why ≢ TooLong) }
+        ensures within { StaysWithin self.entry result }
     {
         let Some((first, rest)) = self.next() else {
             return Err(self.unexpected(Expected::Number));
@@ -170,7 +175,7 @@ impl<'a> Input<'a> {
         ensures shorter { IfOk result (λ x. length (remaining x.1) < length (remaining self.entry)) }
         ensures placed { IfOk result (λ x. Spans (Some (first_place self.entry) ∷ []) self.entry x.1) }
         ensures refusal { IfErr result (λ why. why ≡ spec.unexpected self.entry Expected.Prefix) }
-        ensures short { IfErr result (λ why. why ≢ TooLong) }
+        ensures within { StaysWithin self.entry result }
     {
         let Some((first, rest)) = self.next() else {
             return Err(self.unexpected(Expected::Prefix));

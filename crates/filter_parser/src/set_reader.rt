@@ -1,23 +1,23 @@
-ghost use Rattle.std.specs.Prelude.{◌≡◌, ◌≢◌, ◌∷◌, ◌<◌, ◌≤◌, [], Some, None, IfErr, IfOk, length, map};
+ghost use Rattle.std.specs.Prelude.{◌≡◌, ◌∷◌, ◌<◌, ◌≤◌, [], Some, None, IfOk, length, map};
 ghost use Rattle.filter_parser.specs.Placed.{next_pattern_kept, set_kept, set_pattern_kept};
 ghost use Rattle.filter_parser.specs.Reading as spec;
-ghost use Rattle.filter_parser.specs.Steps.{Continues, Finds, Grown, ReadsAs, Spans, remaining};
+ghost use Rattle.filter_parser.specs.Steps.{Continues, Finds, Grown, ReadsAs, Spans, StaysWithin, StaysWithinAfter, remaining};
 ghost use Rattle.filter_parser.specs.Syntax.{SetPatternView, view_set_pattern};
-ghost use Rattle.filter_parser.specs.declared.fault.ParseFault.TheVariants.{TooLong};
 
 use crate::expected::Expected;
 use crate::fault::ParseFault;
 use crate::input::Input;
 use crate::tree::{Set, SetPattern};
 use filter_tokens::Symbol;
-use prefix_patterns::{Pattern, Prefix};
+use prefix_patterns::{ADDRESS_LENGTH, Pattern, Prefix};
 use std::alloc::Global;
 
 /// The pattern with these lengths, where they are in order.
 fn between(prefix: Prefix, low: u32, high: u32) -> Option<Pattern>
     ensures { Finds (λ p. SetPatternView.between p.bits p.low p.high) result (spec.between_of prefix low high) }
 {
-    if low > 32 || high > 32 {
+    let limit = u32::from(ADDRESS_LENGTH);
+    if low > limit || high > limit {
         return None;
     }
     Pattern::new(prefix, low as u8, high as u8)
@@ -33,7 +33,7 @@ fn parse_braces<'a>(
     ensures reads { ReadsAs spec.set_pattern_read_of result (spec.braces_of prefix (remaining input.entry)) }
     ensures shorter { IfOk result (λ x. length (remaining x.1) < length (remaining input.entry)) }
     ensures placed { IfOk result (λ x. Continues (Some at ∷ None ∷ []) (set_pattern_kept x.0) input.entry x.1) }
-    ensures short { IfErr result (λ why. why ≢ TooLong) }
+    ensures within { StaysWithinAfter brace input.entry result }
 {
     let (low, rest) = input.expect_number()?;
     let rest = rest.expect(Symbol::Comma, Expected::Comma)?;
@@ -54,7 +54,7 @@ fn parse_lengths<'a>(
     ensures reads { ReadsAs spec.set_pattern_read_of result (spec.lengths_of prefix (remaining input.entry)) }
     ensures shorter { IfOk result (λ x. length (remaining x.1) ≤ length (remaining input.entry)) }
     ensures placed { IfOk result (λ x. Continues (Some at ∷ []) (set_pattern_kept x.0) input.entry x.1) }
-    ensures short { IfErr result (λ why. why ≢ TooLong) }
+    ensures within { StaysWithin input.entry result }
 {
     if let Some(rest) = input.eat(Symbol::Plus) {
         return Ok((SetPattern::OrLonger(at, prefix), rest));
@@ -73,7 +73,7 @@ fn parse_set_pattern<'a>(input: Input<'a>) -> Result<(SetPattern, Input<'a>), Pa
     ensures reads { ReadsAs spec.set_pattern_read_of result (spec.set_pattern_first (remaining input.entry)) }
     ensures shorter { IfOk result (λ x. length (remaining x.1) < length (remaining input.entry)) }
     ensures placed { IfOk result (λ x. Spans (set_pattern_kept x.0) input.entry x.1) }
-    ensures short { IfErr result (λ why. why ≢ TooLong) }
+    ensures within { StaysWithin input.entry result }
 {
     match input.expect_prefix() {
         Ok((prefix, rest)) => parse_lengths(input.at(), prefix, rest),
@@ -86,10 +86,11 @@ fn parse_set_patterns<'a>(
     patterns: Vec<SetPattern>,
     input: Input<'a>,
 ) -> Result<(Vec<SetPattern>, Input<'a>), ParseFault>
-    ensures reads { ReadsAs spec.set_patterns_read_of result (spec.set_patterns_from (map view_set_pattern patterns.items) (remaining input.entry)) }
+    ensures reads { ReadsAs spec.set_patterns_read_of result
+        (spec.set_patterns_from (map view_set_pattern patterns.items) (remaining input.entry)) }
     ensures shorter { IfOk result (λ x. length (remaining x.1) ≤ length (remaining input.entry)) }
     ensures placed { IfOk result (λ x. Grown next_pattern_kept patterns.items x.0.items input.entry x.1) }
-    ensures short { IfErr result (λ why. why ≢ TooLong) }
+    ensures within { StaysWithin input.entry result }
 {
     let mut all = patterns;
     let mut rest = input;
@@ -110,7 +111,7 @@ fn parse_first_pattern<'a>(input: Input<'a>) -> Result<(SetPattern, Input<'a>), 
     ensures reads { ReadsAs spec.set_pattern_read_of result (spec.set_pattern_first (remaining input.entry)) }
     ensures shorter { IfOk result (λ x. length (remaining x.1) < length (remaining input.entry)) }
     ensures placed { IfOk result (λ x. Spans (set_pattern_kept x.0) input.entry x.1) }
-    ensures short { IfErr result (λ why. why ≢ TooLong) }
+    ensures within { StaysWithin input.entry result }
 {
     match input.expect_number() {
         Ok(_) => Err(ParseFault::NumberSet(input.at())),
@@ -128,7 +129,7 @@ fn parse_set_after_first<'a>(
     ensures reads { ReadsAs spec.set_read_of result (spec.set_after_first (view_set_pattern first) (remaining input.entry)) }
     ensures placed { IfOk result (λ x. Continues (Some at ∷ set_pattern_kept first) (set_kept x.0) input.entry x.1) }
     ensures shorter { IfOk result (λ x. length (remaining x.1) < length (remaining input.entry)) }
-    ensures short { IfErr result (λ why. why ≢ TooLong) }
+    ensures within { StaysWithin input.entry result }
 {
     let mut patterns = Vec::new(alloc);
     patterns.push(first)?;
@@ -150,7 +151,7 @@ pub fn parse_set<'a>(
     ensures reads { ReadsAs spec.set_read_of result (spec.set_of (remaining input.entry)) }
     ensures placed { IfOk result (λ x. Continues (Some at ∷ []) (set_kept x.0) input.entry x.1) }
     ensures shorter { IfOk result (λ x. length (remaining x.1) < length (remaining input.entry)) }
-    ensures short { IfErr result (λ why. why ≢ TooLong) }
+    ensures within { StaysWithin input.entry result }
 {
     match parse_first_pattern(input) {
         Ok((first, rest)) => parse_set_after_first(alloc, at, first, rest),

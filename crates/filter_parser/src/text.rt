@@ -1,8 +1,10 @@
 //! From a text to its filter.
 
-ghost use Rattle.std.specs.Prelude.{◌≡◌, ◌≢◌, ◌<◌, ◌≤◌, List, None, IfOk, IfErr, IsErrOf, length};
+ghost use Rattle.std.specs.Prelude.{◌≡◌, ◌≢◌, ◌<◌, ◌≤◌, List, None, IfOk, IfErr, IfSome, IsErrOf, length};
+ghost use Rattle.filter_tokens.specs.Codes.{fault_place};
 ghost use Rattle.filter_tokens.specs.Tokenization.{AreInOrder, IsTokenization};
 ghost use Rattle.filter_tokens.specs.declared.token.Token.{Token as TheToken};
+ghost use Rattle.filter_parser.specs.Codes.{LiesWithin};
 ghost use Rattle.filter_parser.specs.Placed.{IsPlaced};
 ghost use Rattle.filter_parser.specs.SyntaxText.{IsText, FilterView, text_limit, view_filter};
 ghost use Rattle.filter_parser.specs.declared.fault.ParseFault.TheVariants.{Memory, TooLong};
@@ -24,13 +26,14 @@ fn filter_of_tokens(
     requires size { length text.now ≤ text_limit }
     requires spans { AreInOrder 0 tokens.items (length text.now) }
     requires cut { fault ≡ None → IsTokenization tokens.items 0 text.now }
+    requires stops { IfSome fault (λ why. fault_place why < length text.now) }
     requires only { (all : List TheToken) → IsTokenization all 0 text.now → (fault ≡ None) × (tokens.items ≡ all) }
     ensures found { IfOk result (λ f. IsText text.now (view_filter f)) }
     ensures unique { IfOk result (λ f. (t : FilterView) → IsText text.now t → t ≡ view_filter f) }
     ensures refused { IfErr result (λ e. e ≢ Memory → (t : FilterView) → IsText text.now t → ⊥) }
     ensures spans { IfOk result (λ f. AreInOrder 0 (view_filter f).tokens (length text.now)) }
     ensures placed { IfOk result (λ f. IsPlaced text.now f) }
-    ensures short { IfErr result (λ e. e ≢ TooLong) }
+    ensures within { IfErr result (LiesWithin (length text.now)) }
 {
     let read = parse_filter(
         alloc,
@@ -57,7 +60,7 @@ fn filter_of_tokens(
 /// The filter that a text spells.
 ///
 /// A text that spells none is refused with its first fault. Each token has the place of its first byte and the place after
-/// its last one, and the tokens stand in order.
+/// its last one, and the tokens are in order.
 pub fn parse(alloc: Global, text: &[u8]) -> Result<Filter, ParseFault>
     // The text spells the filter that is answered.
     ensures found { IfOk result (λ f. IsText text.now (view_filter f)) }
@@ -67,10 +70,12 @@ pub fn parse(alloc: Global, text: &[u8]) -> Result<Filter, ParseFault>
     ensures one { (t u : FilterView) → IsText text.now t → IsText text.now u → t ≡ u }
     // A text that is refused spells no filter, unless memory ran out.
     ensures refused { IfErr result (λ e. e ≢ Memory → (t : FilterView) → IsText text.now t → ⊥) }
-    // The tokens stand in order in the text.
+    // The tokens are in the order of the text.
     ensures spans { IfOk result (λ f. AreInOrder 0 (view_filter f).tokens (length text.now)) }
     // Each part of the tree has the place of its own token.
     ensures placed { IfOk result (λ f. IsPlaced text.now f) }
+    // A fault is at a byte of the text, or at its end.
+    ensures within { IfErr result (LiesWithin (length text.now)) }
     // P7 is the answer if and only if the text is over the limit.
     ensures long { text_limit < length text.now → IsErrOf result TooLong }
     ensures short { length text.now ≤ text_limit → IfErr result (λ e. e ≢ TooLong) }

@@ -25,9 +25,9 @@ pub enum Command {
     If(usize, Expr, Box<Command>, Option<Box<Command>>),
     /// `name = e;`
     Assign(usize, Target, Expr),
-    /// `accept;`, and whether a text stands before the `;`. The text itself is dropped.
+    /// `accept;`, and whether a text comes before the `;`. The text itself is dropped.
     Accept(usize, bool),
-    /// `reject;`, and whether a text stands before the `;`. The text itself is dropped.
+    /// `reject;`, and whether a text comes before the `;`. The text itself is dropped.
     Reject(usize, bool),
 }
 

@@ -1,6 +1,7 @@
 ghost use Rattle.std.specs.Prelude.{◌≡◌, ◌≤◌};
 ghost use Rattle.std.specs.Option.{SomeIff};
 
+use prefix_patterns::ADDRESS_LENGTH;
 use std::fmt;
 use std::marker::Model;
 
@@ -29,7 +30,7 @@ impl MaskLength {
     pub fn new(bits: u32) -> Option<MaskLength>
         ensures { SomeIff result (bits ≤ 32) bits }
     {
-        if bits > 32 {
+        if bits > u32::from(ADDRESS_LENGTH) {
             return None;
         }
         Some(MaskLength { bits: bits as u8 })

@@ -2,7 +2,7 @@ ghost use Rattle.std.specs.Prelude.{◌≡◌};
 ghost use Rattle.filter_parser.specs.Places.{pattern_place};
 ghost use Rattle.filter_parser.specs.Syntax.{pattern_of, view_set_pattern};
 
-use prefix_patterns::{Pattern, Prefix};
+use prefix_patterns::{ADDRESS_LENGTH, Pattern, Prefix};
 
 /// A set of prefixes in brackets, as `[10.0.0.0/8+, 20.0.0.0/8{9,24}]`.
 #[derive(Debug, Drop)]
@@ -49,7 +49,11 @@ impl SetPattern {
                 prefix.len(),
                 prefix.len(),
             ).unwrap(),
-            SetPattern::OrLonger(_, prefix) => Pattern::new(prefix, prefix.len(), 32).unwrap(),
+            SetPattern::OrLonger(_, prefix) => Pattern::new(
+                prefix,
+                prefix.len(),
+                ADDRESS_LENGTH,
+            ).unwrap(),
             SetPattern::OrShorter(_, prefix) => Pattern::new(prefix, 0, prefix.len()).unwrap(),
             SetPattern::Between(_, pattern) => pattern,
         }

@@ -6,6 +6,7 @@ use Rattle.filter_parser.specs.Steps.{remaining}
 use Rattle.filter_parser.specs.SyntaxCommands.{view_command}
 use Rattle.filter_parser.proofs.Bodies.{command_is, by_lexeme, begins, goes_on, map_one, stops, ends}
 use Rattle.filter_parser.proofs.Placing.{grown_more, grown_none, kept_block, ok_map, spans_as, spans_both, unkept}
+use Rattle.filter_parser.proofs.Within.{failed}
 use Rattle.filter_parser.proofs.command.+command.Goals as goal
 
 pub parse_commands-returns-in-Some-clause-reads : goal.parse_commands-returns-in-Some-clause-reads
@@ -18,6 +19,7 @@ pub parse_commands-loop-after-init : goal.parse_commands-loop-after-init
 parse_commands-loop-after-init t c = record {
   goes = rw c.new-commands.ensures.items (begins (command_at c.args.depth) (remaining c.args.input));
   grown = rw c.new-commands.ensures.items grown_none;
+  within = λ len start. start;
   shorter = omega arith;
 }
 
@@ -26,6 +28,7 @@ parse_commands-loop-after-preserved t c = record {
   goes = rw (c.in_ok-push-in-Ok.ensures.items, map_one view_command c.loop-after.commands.items c.in-Ok.command)
       (goes_on c.loop-after.invariant.goes c.in_default.ensures.found c.in-Ok.ensures.reads c.in-Ok.ensures.shorter);
   grown = grown_more c.loop-after.invariant.grown c.in-Ok.ensures.placed c.in_ok-push-in-Ok.ensures.items;
+  within = λ len start. c.in-Ok.ensures.within len (c.loop-after.invariant.within len start);
   shorter = omega (arith, c.in-Ok.ensures.shorter);
 }
 
@@ -63,3 +66,22 @@ parse_else-returns-in_ok-if_else_command-in-Some-clause-placed t c = λ start fi
     spans_as (c.in_ok-if_else_command-in-Some.ensures.placed
     ∙ ap (λ (k : Kept). Some c.args.at ∷ k) (sym (append_assoc (expr_kept c.args.test) (None ∷ chosen) (None ∷ other))))
     (spans_both first (spans_both (unkept c.in-Some.ensures.placed) c.in_ok-other-in-Some.ensures.placed))
+
+pub parse_commands-returns-in-Err-clause-within : goal.parse_commands-returns-in-Err-clause-within
+parse_commands-returns-in-Err-clause-within t c = λ len start.
+    c.in-Err.ensures.within len (c.loop-after.invariant.within len start)
+
+pub parse_if-returns-in_err-rest-clause-within : goal.parse_if-returns-in_err-rest-clause-within
+parse_if-returns-in_err-rest-clause-within t c = λ len after start.
+    failed _ len _ c.from_residual-in_err-rest.result c.from_residual-in_err-rest.ensures
+    (c.in_err-rest.ensures.within len (c.in_ok-test.ensures.within len start))
+
+pub parse_if-returns-in_err-chosen-clause-within : goal.parse_if-returns-in_err-chosen-clause-within
+parse_if-returns-in_err-chosen-clause-within t c = λ len after start.
+    failed _ len _ c.from_residual-in_err-chosen.result c.from_residual-in_err-chosen.ensures
+    (c.in_err-chosen.ensures.within len (c.in_ok-rest.ensures.within len (c.in_ok-test.ensures.within len start)))
+
+pub parse_if-returns-clause-within : goal.parse_if-returns-clause-within
+parse_if-returns-clause-within t c = λ len after start.
+    c.parse_else.ensures.within len (c.in_ok-chosen.ensures.within len
+    (c.in_ok-rest.ensures.within len (c.in_ok-test.ensures.within len start)))

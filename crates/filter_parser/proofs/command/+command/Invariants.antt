@@ -1,7 +1,7 @@
 use Rattle.std.proofs.Common.{◌≤◌, ◌+◌, ◌*◌, [], length, map}
 use Rattle.filter_parser.specs.ReadingCommands.{command_at, commands_with}
 use Rattle.filter_parser.specs.Placed.{command_kept}
-use Rattle.filter_parser.specs.Steps.{Grown, remaining}
+use Rattle.filter_parser.specs.Steps.{Follows, Grown, remaining}
 use Rattle.filter_parser.specs.SyntaxCommands.{view_command}
 use Rattle.filter_parser.proofs.Bodies.{Goes}
 use Rattle.filter_parser.proofs.command.+command.Given as goal
@@ -28,6 +28,7 @@ abbrev pub invariant-parse_commands-loop-after : goal.invariant-parse_commands-l
 invariant-parse_commands-loop-after l = record {
   goes : Goes (command_at l.depth) (map view_command l.commands.items) (remaining l.rest) (commands_with (command_at l.depth) (remaining l.input));
   grown : Grown command_kept [] l.commands.items l.input l.rest;
+  within : Follows l.input l.rest;
   shorter : length (remaining l.rest) ≤ length (remaining l.input);
 }
 

@@ -1,4 +1,4 @@
-use Rattle.std.proofs.Common.{[], ◌∷◌, ◌++◌, None, Some, ap, sym, ◌∙◌}
+use Rattle.std.proofs.Common.{◌∷◌, ◌++◌, None, Some, ap, sym, ◌∙◌}
 use Rattle.filter_parser.specs.declared.tree.command.Command.TheVariants.{rolls-If}
 use Rattle.filter_parser.specs.declared.tree.command.Command.TheFolds.{fold-roll-Command}
 use Rattle.filter_parser.specs.declared.tree.command.Command.TheOpen.{Command-F}

@@ -10,6 +10,7 @@ pub loop-kind-init : goal.loop-kind-init
 loop-kind-init c = record {
   goes = begins (map view_decl c.args.before.items) (remaining c.args.input);
   grown = grown_none;
+  within = λ len start. start;
 }
 
 pub loop-kind-preserved : goal.loop-kind-preserved
@@ -17,6 +18,7 @@ loop-kind-preserved c = record {
   goes = rw (c.in_ok-push-in-Ok.ensures.items, map_one view_decl c.loop-kind.decls.items c.in-Ok.decl)
       (goes_on c.loop-kind.invariant.goes c.in-Some.ensures.found c.in-Ok.ensures.reads c.in-Ok.ensures.shorter c.in-Some.ensures.shorter);
   grown = grown_more c.loop-kind.invariant.grown (c.in-Ok.ensures.placed _ (unkept c.in-Some.ensures.placed)) c.in_ok-push-in-Ok.ensures.items;
+  within = λ len start. c.in-Ok.ensures.within len (c.in-Some.ensures.within len (c.loop-kind.invariant.within len start));
 }
 
 pub returns-in-Err-clause-reads : goal.returns-in-Err-clause-reads
@@ -24,3 +26,7 @@ returns-in-Err-clause-reads c = λ other. stops c.loop-kind.invariant.goes c.in-
 
 pub returns-clause-reads : goal.returns-clause-reads
 returns-clause-reads c = ends c.loop-kind.invariant.goes c.in_default.ensures.found
+
+pub returns-in-Err-clause-within : goal.returns-in-Err-clause-within
+returns-in-Err-clause-within c = λ len start.
+    c.in-Err.ensures.within len (c.in-Some.ensures.within len (c.loop-kind.invariant.within len start))

@@ -1,5 +1,5 @@
-use Rattle.std.proofs.Common.{◌-◌, ◌∙◌, ◌∷◌, ◌++◌, [], None, Some, List, ap, map, sym, append_assoc, arith}
-use Rattle.filter_parser.specs.Placed.{Kept, expr_kept, joined, operand_kept, kept_more}
+use Rattle.std.proofs.Common.{◌-◌, ◌∙◌, ◌∷◌, ◌++◌, [], None, List, ap, map, sym, append_assoc, arith}
+use Rattle.filter_parser.specs.Placed.{Kept, expr_kept, joined}
 use Rattle.filter_parser.specs.declared.tree.expr.Expr.{Expr}
 use Rattle.filter_parser.specs.declared.tree.op.Op.{Op}
 use Rattle.filter_parser.specs.Reading.{unary_at, next_with, sum_with}
@@ -9,6 +9,7 @@ use Rattle.filter_parser.proofs.Chains.{more_one, right_none, chain_on, chain_en
 use Rattle.filter_parser.proofs.Placing.{grown_more, ok_map, right_kept, rights_kept, spans_as, spans_at, spans_both, unkept}
 use Rattle.filter_parser.proofs.Views.{chain_more}
 use Rattle.filter_parser.proofs.Chains.{group_read}
+use Rattle.filter_parser.proofs.Within.{failed}
 use Rattle.filter_parser.proofs.expr.+expr.Goals as goal
 
 pub parse_chain-returns-in-Err-clause-reads : goal.parse_chain-returns-in-Err-clause-reads
@@ -23,6 +24,7 @@ parse_chain-loop-op-preserved t c = record {
       (omega (arith, c.in-Ok.ensures.shorter, c.in-Some.ensures.shorter)) c.loop-op.invariant.goes);
   kept = c.loop-op.invariant.kept;
   grown = grown_more c.loop-op.invariant.grown (spans_both (unkept c.in-Some.ensures.placed) c.in-Ok.ensures.placed) c.in_ok-push-in-Ok.ensures.items;
+  within = λ len start. c.in-Ok.ensures.within len (c.in-Some.ensures.within len (c.loop-op.invariant.within len start));
   shorter = omega (arith, c.in-Ok.ensures.shorter, c.in-Some.ensures.shorter);
 }
 
@@ -69,3 +71,28 @@ parse_right_operand-returns-in_ok-binary-in-Ok-clause-placed t c = λ start firs
 pub parse_unary-returns-clause-placed : goal.parse_unary-returns-clause-placed
 parse_unary-returns-clause-placed t c =
     spans_as c.in_ok-negation.ensures.placed (spans_both (spans_at c.at-2.ensures c.in-Some.ensures.placed) c.in_ok-inner.ensures.placed)
+
+pub parse_chain-returns-in-Err-clause-within : goal.parse_chain-returns-in-Err-clause-within
+parse_chain-returns-in-Err-clause-within t c = λ len start.
+    c.in-Err.ensures.within len (c.in-Some.ensures.within len (c.loop-op.invariant.within len start))
+
+pub parse_expr-returns-in_err-whole-clause-within : goal.parse_expr-returns-in_err-whole-clause-within
+parse_expr-returns-in_err-whole-clause-within t c = λ len start.
+    failed _ len _ c.from_residual-in_err-whole.result c.from_residual-in_err-whole.ensures
+    (c.in_err-whole.ensures.within len (c.in_ok-first.ensures.within len start))
+
+pub parse_expr-returns-clause-within : goal.parse_expr-returns-clause-within
+parse_expr-returns-clause-within t c = λ len start.
+    c.unmixed.ensures.within len (c.in_ok-whole.ensures.within len (c.in_ok-first.ensures.within len start))
+
+pub parse_postfix-returns-clause-within : goal.parse_postfix-returns-clause-within
+parse_postfix-returns-clause-within t c = λ len start.
+    c.parse_suffixes.ensures.within len (c.in_ok-inner.ensures.within len start)
+
+pub parse_right_operand-returns-in-Some-clause-within : goal.parse_right_operand-returns-in-Some-clause-within
+parse_right_operand-returns-in-Some-clause-within t c = λ len start.
+    c.parse_member.ensures.within len (c.in-Some.ensures.within len start)
+
+pub parse_right_operand-returns-in-Err-clause-within : goal.parse_right_operand-returns-in-Err-clause-within
+parse_right_operand-returns-in-Err-clause-within t c = λ len start.
+    c.right_operand_fault.ensures.within len (c.in-Err.ensures.within len start)

@@ -3,7 +3,7 @@ use Rattle.std.proofs.Common.{◌≡◌, ◌≤◌, ◌+◌, ◌*◌, ℕ, [], l
 use Rattle.filter_parser.specs.declared.expr_level.Level.{Level}
 use Rattle.filter_parser.specs.declared.expr_level.Level.TheVariants as l
 use Rattle.filter_parser.specs.Reading.{joins, unary_at, next_with, chain_from}
-use Rattle.filter_parser.specs.Steps.{Grown, remaining}
+use Rattle.filter_parser.specs.Steps.{Follows, Grown, remaining}
 use Rattle.filter_parser.specs.Syntax.{chain_of, view, view_more}
 use Rattle.filter_parser.proofs.Placing.{right_kept}
 use Rattle.filter_parser.proofs.Turns.{Goes}
@@ -55,6 +55,7 @@ invariant-parse_chain-loop-op l = record {
       (chain_from (next_with (unary_at l.depth) l.level) l.level (view l.fn.first) (remaining l.input));
   kept : l.first ≡ l.fn.first;
   grown : Grown right_kept [] l.more.items l.input l.rest;
+  within : Follows l.input l.rest;
   shorter : length (remaining l.rest) ≤ length (remaining l.input);
 }
 

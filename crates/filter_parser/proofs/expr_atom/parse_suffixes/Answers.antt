@@ -16,6 +16,7 @@ loop-after-preserved c = record {
       c.loop-after.invariant.goes);
   kept = c.loop-after.invariant.kept;
   grown = grown_more c.loop-after.invariant.grown (c.in-Ok.ensures.placed _ (unkept c.in-Some.ensures.placed)) c.in_ok-push-in-Ok.ensures.items;
+  within = λ len start. c.in-Ok.ensures.within len (c.in-Some.ensures.within len (c.loop-after.invariant.within len start));
   shorter = omega (arith, c.in-Ok.ensures.shorter, c.in-Some.ensures.shorter);
 }
 
@@ -28,3 +29,7 @@ returns-clause-placed c = λ start first.
     let g = c.loop-after.invariant.grown in
     spans_as (c.in_ok-suffixed.ensures.placed ∙ ap (λ (xs : List Suffix). expr_kept c.loop-after.inner-1 ++ joined (map suffix_kept xs)) g.whole)
     (spans_both (rw c.loop-after.invariant.kept first) g.spans)
+
+pub returns-in-Err-clause-within : goal.returns-in-Err-clause-within
+returns-in-Err-clause-within c = λ len start.
+    c.in-Err.ensures.within len (c.in-Some.ensures.within len (c.loop-after.invariant.within len start))

@@ -2,7 +2,7 @@
 use Rattle.std.proofs.Common.{◌≡◌, ◌≤◌, [], length}
 use Rattle.filter_parser.specs.Reading.{suffixes, suffixes_from}
 use Rattle.filter_parser.specs.Placed.{suffix_kept}
-use Rattle.filter_parser.specs.Steps.{Grown, remaining}
+use Rattle.filter_parser.specs.Steps.{Follows, Grown, remaining}
 use Rattle.filter_parser.specs.Syntax.{suffixes_of, view}
 use Rattle.filter_parser.proofs.Turns.{Goes}
 use Rattle.filter_parser.proofs.expr_atom.parse_suffixes.Given as goal
@@ -12,6 +12,7 @@ invariant-loop-after l = record {
   goes : Goes suffixes (suffixes_of (view l.fn.inner) l.all.items) (remaining l.rest) (suffixes_from (view l.fn.inner) (remaining l.fn.input));
   kept : l.inner ≡ l.fn.inner;
   grown : Grown suffix_kept [] l.all.items l.fn.input l.rest;
+  within : Follows l.fn.input l.rest;
   shorter : length (remaining l.rest) ≤ length (remaining l.fn.input);
 }
 

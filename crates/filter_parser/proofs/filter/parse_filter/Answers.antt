@@ -2,6 +2,7 @@ use Rattle.std.proofs.Common.{◌∙◌, ◌∷◌, ◌++◌, None, List, ap, ma
 use Rattle.filter_parser.specs.declared.tree.decl.Decl.{Decl}
 use Rattle.filter_parser.specs.Placed.{decl_kept, joined}
 use Rattle.filter_parser.proofs.Placing.{ok_map, spans_as, spans_both, unkept}
+use Rattle.filter_parser.proofs.Within.{failed}
 use Rattle.filter_parser.proofs.filter.parse_filter.Goals as goal
 
 pub returns-clause-placed : goal.returns-clause-placed
@@ -12,3 +13,13 @@ returns-clause-placed c =
     (λ parts placed. placed c.args.input (spans_as (ap (λ (xs : List Decl). None ∷ None ∷ joined (map decl_kept xs)) head)
     (spans_both (unkept c.in_ok-rest.ensures.placed) (spans_both (unkept c.in_ok-name.ensures.placed) g.spans))))
     c.parse_body.ensures.placed
+
+pub returns-in_err-head-clause-within : goal.returns-in_err-head-clause-within
+returns-in_err-head-clause-within c = λ len start.
+    failed _ len _ c.from_residual-in_err-head.result c.from_residual-in_err-head.ensures
+    (c.in_err-head.ensures.within len (c.in_ok-name.ensures.within len (c.in_ok-rest.ensures.within len start)))
+
+pub returns-clause-within : goal.returns-clause-within
+returns-clause-within c = λ len start.
+    c.parse_body.ensures.within len (c.in_ok-head.ensures.within len (c.in_ok-name.ensures.within len
+    (c.in_ok-rest.ensures.within len start)))

@@ -11,8 +11,13 @@ loop-after-preserved c = record {
       c.loop-after.invariant.goes);
   grown = grown_more c.loop-after.invariant.grown (spans_both (unkept c.in-Some.ensures.placed) c.in-Ok.ensures.placed)
       c.in_ok-push-in-Ok.ensures.items;
+  within = λ len start. c.in-Ok.ensures.within len (c.in-Some.ensures.within len (c.loop-after.invariant.within len start));
   shorter = omega (arith, c.in-Ok.ensures.shorter, c.in-Some.ensures.shorter);
 }
 
 pub returns-clause-reads : goal.returns-clause-reads
 returns-clause-reads c = set_pattern_ends c.in_default.ensures.found c.loop-after.invariant.goes
+
+pub returns-in-Err-clause-within : goal.returns-in-Err-clause-within
+returns-in-Err-clause-within c = λ len start.
+    c.in-Err.ensures.within len (c.in-Some.ensures.within len (c.loop-after.invariant.within len start))

@@ -2,7 +2,7 @@
 use Rattle.std.proofs.Common.{◌≤◌, length, map}
 use Rattle.filter_parser.specs.Reading.{adds_set_pattern, set_patterns_from}
 use Rattle.filter_parser.specs.Placed.{next_pattern_kept}
-use Rattle.filter_parser.specs.Steps.{Grown, remaining}
+use Rattle.filter_parser.specs.Steps.{Follows, Grown, remaining}
 use Rattle.filter_parser.specs.Syntax.{view_set_pattern}
 use Rattle.filter_parser.proofs.Turns.{Goes}
 use Rattle.filter_parser.proofs.set_reader.parse_set_patterns.Given as goal
@@ -11,6 +11,7 @@ abbrev pub invariant-loop-after : goal.invariant-loop-after
 invariant-loop-after l = record {
   goes : Goes adds_set_pattern (map view_set_pattern l.all.items) (remaining l.rest) (set_patterns_from (map view_set_pattern l.fn.patterns.items) (remaining l.fn.input));
   grown : Grown next_pattern_kept l.fn.patterns.items l.all.items l.fn.input l.rest;
+  within : Follows l.fn.input l.rest;
   shorter : length (remaining l.rest) ≤ length (remaining l.fn.input);
 }
 

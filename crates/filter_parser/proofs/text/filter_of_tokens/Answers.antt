@@ -1,7 +1,8 @@
-use Rattle.std.proofs.Common.{◌≡◌, None, Some}
+use Rattle.std.proofs.Common.{◌≡◌, None, Some, refl}
 use Rattle.filter_tokens.specs.Lexemes.{lexemes}
 use Rattle.filter_parser.specs.ReadingCommands.{filter_of, view_parts}
 use Rattle.filter_parser.proofs.Texts.{text_found, text_once, text_only}
+use Rattle.filter_parser.proofs.Within.{begin_all, ends_all}
 use Rattle.filter_parser.proofs.text.filter_of_tokens.Goals as goal
 
 pub returns-in-None-clause-found : goal.returns-in-None-clause-found
@@ -28,3 +29,8 @@ returns-in-Err-clause-refused c = λ other t is.
 
 pub returns-in-None-clause-placed : goal.returns-in-None-clause-placed
 returns-in-None-clause-placed c = rw (c.as_slice.ensures.value) at c.in-Ok.ensures.placed
+
+pub returns-in-Err-clause-within : goal.returns-in-Err-clause-within
+returns-in-Err-clause-within c =
+    let begin = begin_all _ c.as_slice.ensures.value c.requires.spans in
+    c.in-Err.ensures.within _ (record { text = refl; tokens = begin; end = ends_all _ c.args.fault c.requires.stops })

@@ -1,0 +1,41 @@
+-- The places of the tokens of a text, and of a fault that is handed on.
+use Rattle.std.proofs.Common.{◌≡◌, ℕ, ◌<◌, ◌≤◌, List, [], ◌∷◌, length, Option, Some, None, sym, subst, arith}
+use Rattle.std.specs.Prelude.{IfSome, IsErr, IsErrAnd, MatchResult, Result, Ok, Err}
+use Rattle.filter_tokens.specs.Codes.{fault_place}
+use Rattle.filter_tokens.specs.Tokenization.{AreInOrder}
+use Rattle.filter_tokens.specs.declared.fault.TokenFault.{TokenFault}
+use Rattle.filter_tokens.specs.declared.token.Token.{Token}
+use Rattle.filter_parser.specs.Codes.{LiesWithin}
+use Rattle.filter_parser.specs.Steps.{BeginWithin, EndsWithin}
+use Rattle.filter_parser.specs.declared.fault.ParseFault.{ParseFault}
+
+order_ends : (from len : ℕ) (tokens : List Token) → AreInOrder from tokens len → from ≤ len
+order_ends from len [] order = order
+order_ends from len (token ∷ tokens) order =
+    let first = order.0 in
+    let second = order.1 in
+    let rest = order_ends token.to len tokens order.2 in
+    omega arith
+
+-- tokens in order begin within their text
+order_within : (from len : ℕ) (tokens : List Token) → AreInOrder from tokens len → BeginWithin len tokens
+order_within from len [] order = tt
+order_within from len (token ∷ tokens) order =
+    let first = order.1 in
+    let rest = order_ends token.to len tokens order.2 in
+    (omega arith, order_within token.to len tokens order.2)
+
+-- the tokens of a whole text, and the fault that ended them
+pub begin_all : (text : List ℕ) {all tokens : List Token} → tokens ≡ all → AreInOrder 0 all (length text) → BeginWithin (length text) tokens
+begin_all text {all} {tokens} e order =
+    order_within 0 (length text) tokens (subst (λ (ts : List Token). AreInOrder 0 ts (length text)) (sym e) order)
+
+pub ends_all : (len : ℕ) (end : Option TokenFault) → IfSome end (λ why. fault_place why < len) → EndsWithin len end
+ends_all len None h = tt
+ends_all len (Some found) h = h
+
+-- a fault that a `?` hands on
+pub failed : {A : Type 0} (P : A → Type 0) (len : ℕ) (why : ParseFault) (r : Result A ParseFault) → IsErr r × IsErrAnd r (λ e. e ≡ why)
+    → LiesWithin len why → MatchResult r P (LiesWithin len)
+failed P len why (Ok x) h k = absurd h.1
+failed P len why (Err e) h k = subst (LiesWithin len) (sym h.1) k
