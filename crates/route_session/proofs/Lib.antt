@@ -1,0 +1,5 @@
+mod Gaining
+mod Halves
+mod Reading
+mod Told
+mod Writing

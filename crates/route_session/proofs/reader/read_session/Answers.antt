@@ -1,0 +1,65 @@
+use Rattle.std.proofs.Common.{rules, ◌≡◌, Ok, arith}
+use Rattle.route_history.specs.declared.fault.CallFault.TheVariants as fault
+use Rattle.route_session.specs.declared.link.Got.TheVariants as got
+use Rattle.route_session.specs.Calls.{receive, stale}
+use Rattle.route_session.specs.Links.{Received}
+use Rattle.route_session.proofs.Gaining.{called}
+use Rattle.route_session.proofs.Reading.{begins_reading, ends_refused, ends_stale, reads_on}
+use Rattle.slot_lock.specs.Calls.{Answered, Refused}
+use Rattle.route_session.proofs.reader.read_session.Goals as goal
+
+pub loop-turn-init : goal.loop-turn-init
+loop-turn-init g c = record {
+  pass = c.requires;
+  reading = begins_reading c.args.router.now c.args.session c.args.pass.now (g.L.Link.told c.args.link.now) c.requires;
+  room = omega arith;
+}
+
+pub loop-turn-preserved : goal.loop-turn-preserved
+loop-turn-preserved g c =
+    let handed : Received (g.L.Link.told c.loop-turn.link) (Ok (got.Message c.in-Ok-Message.message)) (g.L.Link.told c.recv.new.self) = search rules in
+    let answered : Answered c.args.router.now c.loop-turn.pass (receive c.args.session c.in-Ok-Message.message) c.in-Ok.answer c.call.new.pass =
+    c.in-Ok.ensures.answered in
+    let fresh : c.in-Ok.answer.reply ≡ stale → ⊥ = search rules in
+    record {
+      pass = c.in-Ok.ensures.pass.0;
+      reading = reads_on c.args.router.now c.args.session c.args.pass.now (g.L.Link.told c.args.link.now) c.loop-turn.entered
+          c.loop-turn.pass c.call.new.pass (g.L.Link.told c.loop-turn.link) (g.L.Link.told c.recv.new.self) c.in-Ok-Message.message c.in-Ok.answer
+          c.loop-turn.invariant.reading handed answered
+          (called c.args.router.now c.loop-turn.pass c.call.new.pass c.call.ensures.pass c.call.ensures.own c.call.ensures.missed)
+          fresh;
+      room = omega arith;
+    }
+
+pub returns-then-is_stale-clause-read : goal.returns-then-is_stale-clause-read
+returns-then-is_stale-clause-read g c =
+    let handed : Received (g.L.Link.told c.loop-turn.link) (Ok (got.Message c.in-Ok-Message.message)) (g.L.Link.told c.recv.new.self) = search rules in
+    let answered : Answered c.args.router.now c.loop-turn.pass (receive c.args.session c.in-Ok-Message.message) c.in-Ok.answer c.call.new.pass =
+    c.in-Ok.ensures.answered in
+    let is_stale : c.in-Ok.answer.reply ≡ stale = search rules in
+    rw c.ended-then-is_stale.ensures
+    (ends_stale c.args.router.now c.args.session c.args.pass.now (g.L.Link.told c.args.link.now) c.loop-turn.entered
+    c.loop-turn.pass c.call.new.pass (g.L.Link.told c.loop-turn.link) (g.L.Link.told c.recv.new.self) c.in-Ok-Message.message c.in-Ok.answer
+    c.loop-turn.invariant.reading handed answered
+    (called c.args.router.now c.loop-turn.pass c.call.new.pass c.call.ensures.pass c.call.ensures.own c.call.ensures.missed)
+    is_stale)
+
+pub returns-in-Err-Full-clause-read : goal.returns-in-Err-Full-clause-read
+returns-in-Err-Full-clause-read g c =
+    let handed : Received (g.L.Link.told c.loop-turn.link) (Ok (got.Message c.in-Ok-Message.message)) (g.L.Link.told c.recv.new.self) = search rules in
+    let refused : Refused fault.Full c.args.router.now c.loop-turn.pass c.call.new.pass = rw c.in-Err-Full.field-0-is at c.in-Err-Full.ensures.refused in
+    rw c.ended-in-Err-Full.ensures
+    (ends_refused c.args.router.now c.args.session c.args.pass.now (g.L.Link.told c.args.link.now) c.loop-turn.entered
+    c.loop-turn.pass c.call.new.pass (g.L.Link.told c.loop-turn.link) (g.L.Link.told c.recv.new.self) c.in-Ok-Message.message fault.Full
+    c.loop-turn.invariant.reading handed refused
+    (called c.args.router.now c.loop-turn.pass c.call.new.pass c.call.ensures.pass c.call.ensures.own c.call.ensures.missed))
+
+pub returns-in-Err-Memory-clause-read : goal.returns-in-Err-Memory-clause-read
+returns-in-Err-Memory-clause-read g c =
+    let handed : Received (g.L.Link.told c.loop-turn.link) (Ok (got.Message c.in-Ok-Message.message)) (g.L.Link.told c.recv.new.self) = search rules in
+    let refused : Refused fault.Memory c.args.router.now c.loop-turn.pass c.call.new.pass = rw c.in-Err-Memory.field-0-is at c.in-Err-Memory.ensures.refused in
+    rw c.ended-in-Err-Memory.ensures
+    (ends_refused c.args.router.now c.args.session c.args.pass.now (g.L.Link.told c.args.link.now) c.loop-turn.entered
+    c.loop-turn.pass c.call.new.pass (g.L.Link.told c.loop-turn.link) (g.L.Link.told c.recv.new.self) c.in-Ok-Message.message fault.Memory
+    c.loop-turn.invariant.reading handed refused
+    (called c.args.router.now c.loop-turn.pass c.call.new.pass c.call.ensures.pass c.call.ensures.own c.call.ensures.missed))

@@ -1,0 +1,11 @@
+use Rattle.std.proofs.Common.{◌≤◌}
+use Rattle.slot_lock.specs.Held.{IsPassOf}
+use Rattle.route_session.proofs.Reading.{IsReading}
+use Rattle.route_session.proofs.reader.read_session.Given as goal
+
+abbrev pub invariant-loop-turn : goal.invariant-loop-turn
+invariant-loop-turn g l = record {
+  pass : IsPassOf l.router l.pass;
+  reading : IsReading l.fn.router l.fn.session l.fn.pass (g.L.Link.told l.fn.link) l.entered l.pass (g.L.Link.told l.link);
+  room : l.entered ≤ l.turn;
+}

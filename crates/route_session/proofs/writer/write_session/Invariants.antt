@@ -1,0 +1,11 @@
+use Rattle.std.proofs.Common.{◌*◌, ◌≤◌}
+use Rattle.slot_lock.specs.Held.{IsPassOf}
+use Rattle.route_session.proofs.Writing.{IsWriting}
+use Rattle.route_session.proofs.writer.write_session.Given as goal
+
+abbrev pub invariant-loop-turn : goal.invariant-loop-turn
+invariant-loop-turn g l = record {
+  pass : IsPassOf l.router l.pass;
+  writing : IsWriting l.fn.router l.fn.session l.fn.pass (g.L.Link.told l.fn.link) l.sent l.pass (g.L.Link.told l.link);
+  room : l.sent ≤ 16 * l.turn;
+}

@@ -1,0 +1,32 @@
+-- What the links of this crate tell. (This project's own choice.)
+use Rattle.std.specs.Prelude.{◌^◌, ◌-◌, ℕ, nat_lt, if◌then◌else◌, Bool, true, false, Option, Some, None, take}
+use Rattle.route_session.specs.declared.channel_link.ChannelLink.{ChannelLink}
+use Rattle.route_session.specs.declared.channel_link.End.{End}
+use Rattle.route_session.specs.declared.channel_link.End.TheVariants as end
+use Rattle.route_session.specs.declared.memory_link.MemoryLink.{MemoryLink}
+use Rattle.route_session.specs.Told.{Told}
+
+-- a count, while it can still rise
+abbrev pub known : ℕ → Option ℕ
+known n = if nat_lt n (2 ^ 64 - 1) then Some n else None
+
+-- a link in memory tells everything
+abbrev pub memory_told : MemoryLink → Told
+memory_told l = record {
+  handed = Some (take l.next l.waiting.items);
+  given = Some l.given.items;
+  ended = Some l.has_ended;
+  failures = known l.failures;
+  closed = l.is_closed;
+}
+
+-- a link over a channel tells only whether it is closed
+abbrev pub untold : Bool → Told
+untold is_closed = record { handed = None; given = None; ended = None; failures = None; closed = is_closed }
+
+abbrev pub is_closed : End → Bool
+is_closed end.Closed = true
+is_closed _ = false
+
+abbrev pub channel_told : ChannelLink → Told
+channel_told l = untold (is_closed l.end)

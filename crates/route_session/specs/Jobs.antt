@@ -1,0 +1,31 @@
+-- Jobs: sessions that run at the same time, and what each comes to. (This project's own choice.)
+use Rattle.std.specs.Prelude.{◌≡◌, ℕ, All, List}
+use Rattle.route_session.specs.declared.job.Ending.{Ending}
+use Rattle.route_session.specs.declared.job.Ending.TheVariants as ending
+use Rattle.route_session.specs.declared.job.Finished.{Finished}
+use Rattle.route_session.specs.declared.job.Job.{Job}
+use Rattle.route_session.specs.declared.job.Role.{Role}
+use Rattle.route_session.specs.declared.job.Role.TheVariants as role
+use Rattle.route_session.specs.Calls.{StaysSound}
+use Rattle.route_session.specs.Reads.{IsReadBy}
+use Rattle.route_session.specs.Told.{Told, closed}
+use Rattle.route_session.specs.Writes.{IsWrittenBy}
+use Rattle.slot_lock.specs.declared.rule.Part.{Part}
+use Rattle.slot_lock.specs.Held.{IsPassOf, RouterView}
+
+-- each job has a pass of this router
+abbrev pub AreFor : {L : Type 0} → RouterView → List (Job L) → Type 0
+AreFor r jobs = All (λ j. IsPassOf r j.pass) jobs
+
+-- a reader ended as one, and a writer as one
+abbrev pub Did : RouterView → Role → ℕ → Part → Told → Ending → Part → Told → Type 0
+Did r role.Reader session old t (ending.Read end) new u = IsReadBy r session old t end new u
+Did r role.Writer session old t (ending.Write end) new u = IsWrittenBy r session old t end new u
+Did r _ session old t _ new u = ⊥
+
+-- a job was done, and its link is closed
+pub record IsFinished {L : Type 0} (told : L → Told) (r : RouterView) (j : Job L) (f : Finished L) : Type 0 where
+  pub last : Told
+  pub did : Did r j.role j.session j.pass.part (told j.link) f.ending f.pass.part last
+  pub link : told f.link ≡ closed last
+  pub pass : StaysSound r j.pass f.pass

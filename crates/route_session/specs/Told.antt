@@ -1,0 +1,32 @@
+-- What a link tells of itself. (This project's own choice.)
+use Rattle.std.specs.Prelude.{◌≡◌, ℕ, ◌<◌, Bool, true, Option, Some, None, List, ◌++◌}
+use Rattle.netchange_core.specs.declared.message.Message.{Message}
+
+-- The messages that it handed out and that it was given, in order; whether it answered that it has ended; how often it failed;
+-- and whether it is closed. None where the link does not tell.
+pub record Told : Type 0 where
+  pub handed : Option (List Message)
+  pub given : Option (List Message)
+  pub ended : Option Bool
+  pub failures : Option ℕ
+  pub closed : Bool
+
+-- messages with more after them; what is untold stays untold
+abbrev pub grown : Option (List Message) → List Message → Option (List Message)
+grown None more = None
+grown (Some messages) more = Some (messages ++ more)
+
+-- that it has ended, if that is told
+abbrev pub ended_now : Option Bool → Option Bool
+ended_now None = None
+ended_now (Some b) = Some true
+
+-- a count that is told rose; it may be told no more once it cannot rise
+abbrev pub Rose : Option ℕ → Option ℕ → Type 0
+Rose None now = now ≡ None
+Rose (Some before) None = Unit {0}
+Rose (Some before) (Some now) = before < now
+
+-- the link that is closed
+abbrev pub closed : Told → Told
+closed t = record t { closed = true }

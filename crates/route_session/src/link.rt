@@ -1,0 +1,48 @@
+//! Links: what connects a router to a neighbour.
+
+ghost use Rattle.std.specs.Prelude.{◌≡◌};
+
+use netchange_core::Message;
+use std::sync::Wait;
+use thiserror::Error;
+
+/// What a link answers when it is asked for a message.
+#[derive(Clone, Copy, Debug, PartialEq, Eq)]
+pub enum Got {
+    /// A message came.
+    Message(Message),
+    /// No message is there now.
+    Nothing,
+    /// No message will come any more.
+    Ended,
+}
+
+/// A link failed.
+#[derive(Clone, Copy, Debug, PartialEq, Eq, Error)]
+#[error("the link failed")]
+pub struct LinkFault;
+
+/// A link to a neighbour, which brings messages and takes messages.
+///
+/// A contract sees what a link tells of itself, as a `Told`: the messages that it handed out, those that it was given, whether it
+/// answered that it has ended, how often it failed, and whether it is closed. A link keeps count of what it tells, and no clause
+/// speaks of what it does not tell.
+pub trait Link {
+    ghost use Rattle.route_session.specs.Told.{Told, closed};
+
+    ghost told: { Self → Told };
+
+    ghost use Rattle.route_session.specs.Links.{Received, Sent};
+
+    /// Asks for a message. May wait for one. A closed link answers that it has ended.
+    fn recv<R: Wait>(&mut self, rt: &R) -> Result<Got, LinkFault>
+        ensures { Received (told self.old) result (told self.new) };
+
+    /// Gives the link a message to send. May wait for room. A closed link fails.
+    fn send<R: Wait>(&mut self, rt: &R, message: Message) -> Result<(), LinkFault>
+        ensures { Sent (told self.old) message result (told self.new) };
+
+    /// Closes the link.
+    fn close(&mut self)
+        ensures { told self.new ≡ closed (told self.old) };
+}

@@ -1,0 +1,117 @@
+//! A link in memory.
+
+ghost use Rattle.std.specs.Prelude.{◌≡◌, ◌+◌, ◌≤◌, false, None, Some, [], vec_len};
+ghost use Rattle.route_session.specs.Told.{Rose};
+
+use crate::link::{Got, Link, LinkFault};
+use netchange_core::Message;
+use std::alloc::Global;
+use std::sync::Wait;
+
+/// A link in memory, for tests. It hands out the messages that it was made with, and then it has ended; it keeps the messages that
+/// it is given. It can be told to fail at one of its calls. It tells everything.
+#[derive(Debug, Drop)]
+pub struct MemoryLink {
+    waiting: Vec<Message>,
+    next: usize,
+    given: Vec<Message>,
+    calls: u64,
+    fails_at: Option<u64>,
+    has_ended: bool,
+    failures: u64,
+    is_closed: bool,
+    ghost within: { next ≤ vec_len waiting },
+}
+
+impl MemoryLink {
+    ghost use Rattle.route_session.specs.Doubles.{known, memory_told};
+
+    /// A link that hands out these messages, and fails at the call of this number, counted from 1 over both directions.
+    pub fn new(alloc: Global, waiting: Vec<Message>, fails_at: Option<u64>) -> MemoryLink
+        ensures { memory_told result ≡ record { handed = Some []; given = Some []; ended = Some false; failures = Some 0; closed = false } }
+    {
+        MemoryLink {
+            waiting,
+            next: 0,
+            given: Vec::new(alloc),
+            calls: 0,
+            fails_at,
+            has_ended: false,
+            failures: 0,
+            is_closed: false,
+        }
+    }
+
+    /// The messages that the link was given, in order.
+    pub fn given(&self) -> &[Message]
+        ensures { Some result.now ≡ (memory_told self.now).given }
+    {
+        &self.given
+    }
+
+    /// Whether the link is closed.
+    pub fn is_closed(&self) -> bool
+        ensures { result ≡ (memory_told self.now).closed }
+    {
+        self.is_closed
+    }
+
+    /// Counts a call, and says whether it is to fail.
+    fn is_to_fail(&mut self) -> bool
+        ensures { self.new ≡ record self.old { calls = self.new.calls } }
+    {
+        self.calls = self.calls.saturating_add(1);
+        self.fails_at == Some(self.calls)
+    }
+
+    /// Counts a failure.
+    fn fault(&mut self) -> LinkFault
+        ensures only { self.new ≡ record self.old { failures = self.new.failures } }
+        ensures rose { Rose (known self.old.failures) (known self.new.failures) }
+    {
+        self.failures = self.failures.saturating_add(1);
+        LinkFault
+    }
+}
+
+impl Link for MemoryLink {
+    ghost use Rattle.route_session.specs.Doubles.{memory_told};
+
+    ghost told = { memory_told };
+
+    fn recv<R: Wait>(&mut self, _rt: &R) -> Result<Got, LinkFault> {
+        if self.is_closed {
+            self.has_ended = true;
+            return Ok(Got::Ended);
+        }
+        if self.is_to_fail() {
+            return Err(self.fault());
+        }
+        match self.waiting.get(self.next) {
+            Some(message) => {
+                let message = *message;
+                self.next += 1;
+                Ok(Got::Message(message))
+            }
+            None => {
+                self.has_ended = true;
+                Ok(Got::Ended)
+            }
+        }
+    }
+
+    fn send<R: Wait>(&mut self, _rt: &R, message: Message) -> Result<(), LinkFault> {
+        if self.is_closed || self.is_to_fail() {
+            return Err(self.fault());
+        }
+        // A link that finds no memory for a message fails.
+        let Ok(()) = self.given.push(message) else {
+            return Err(self.fault());
+        };
+        Ok(())
+    }
+
+    fn close(&mut self) {
+        self.is_closed = true;
+    }
+}

@@ -1,0 +1,116 @@
+//! Many sessions at the same time.
+
+ghost use Rattle.std.specs.Prelude.{◌≡◌, ◌+◌, ◌<◌, ◌≤◌, ◌^◌, IfOk, vec_len};
+ghost use Rattle.std.specs.List.{AllZip};
+ghost use Rattle.std.specs.Thread.{IsSync};
+ghost use denote.Param.Send.{IsSend};
+ghost use Rattle.route_session.specs.Jobs.{AreFor, IsFinished};
+
+use crate::fault::RunFault;
+use crate::gate::Gate;
+use crate::job::{Finished, Job, run_job};
+use crate::link::Link;
+use crate::promise::Done;
+use slot_lock::Router;
+use std::alloc::Global;
+use std::rt::Clock;
+use std::snapshot::Snapshot;
+use std::sync::Wait;
+use std::thread;
+use std::thread::Threads;
+
+/// Runs sessions, each in a thread of its own, and waits for their ends: what each came to, in the order of the jobs. A job's
+/// number, which the gate is told, is its index. One job has the caller's thread. The link of a job is closed as it ends.
+///
+/// X1 where memory was refused, X2 where a thread was not started. Jobs that were not started are then dropped, which closes
+/// their links, those that were are waited for, and all are given up with their passes.
+pub fn run_sessions<R: Threads + Wait + Clock + Sync, L: Link + Send + Drop, G: Gate + Sync>(
+    rt: &R,
+    alloc: Global,
+    router: &Router,
+    jobs: Vec<Job<L>>,
+    gate: &G,
+    turns: u32,
+) -> Result<Vec<Finished<L>>, RunFault>
+    requires few { vec_len jobs ≤ 65536 }
+    requires passes { AreFor router.now jobs.items }
+    ensures { IfOk result (λ v. AllZip (IsFinished L.told router.now) jobs.items v.items) }
+{
+    run_from(rt, alloc, router, jobs, gate, 0, turns)
+}
+
+/// Runs jobs whose numbers begin with `first`: the second half of them on a new thread, the first half on this one.
+#[cycle(halves)]
+fn run_from<R: Threads + Wait + Clock + Sync, L: Link + Send + Drop, G: Gate + Sync>(
+    rt: &R,
+    alloc: Global,
+    router: &Router,
+    mut jobs: Vec<Job<L>>,
+    gate: &G,
+    first: u32,
+    turns: u32,
+) -> Result<Vec<Finished<L>>, RunFault>
+    requires few { first + vec_len jobs < 2 ^ 32 }
+    requires passes { AreFor router.now jobs.items }
+    ensures { IfOk result (λ v. AllZip (IsFinished L.told router.now) jobs.items v.items) }
+{
+    let count = jobs.len();
+    if count < 2 {
+        return run_one(rt, alloc, router, jobs, gate, first, turns);
+    }
+    let half = count - count / 2;
+    let next = first + half as u32;
+    let high = jobs.split_off(half)?;
+    let promise = Done {
+        jobs: Snapshot::of(&high),
+        router: Snapshot::of(router),
+    };
+    let done = thread::scope(
+        thread::scope_env(),
+        rt,
+        move |scope| -> Result<(Vec<Finished<L>>, Vec<Finished<L>>), RunFault>
+            requires sync { IsSync R.row × IsSync G.row × IsSend L.row }
+            requires high { (next + vec_len high < 2 ^ 32) × AreFor router.now high.items }
+            requires low { (first + vec_len jobs < 2 ^ 32) × AreFor router.now jobs.items }
+            requires promise { (promise.jobs.value ≡ high) × (promise.router.value ≡ router.now) }
+            ensures { IfOk result (λ v. AllZip (IsFinished L.told router.entry.now) jobs.items v.0.items
+                × AllZip (IsFinished L.told router.entry.now) high.items v.1.items) }
+        {
+            let back = move || -> Result<Vec<Finished<L>>, RunFault>
+                requires sync { IsSync R.row × IsSync G.row × IsSend L.row }
+                requires high { (next + vec_len high < 2 ^ 32) × AreFor router.now high.items }
+                ensures { IfOk result (λ v. AllZip (IsFinished L.told router.entry.now) high.items v.items) }
+            { run_from(rt, alloc, router, high, gate, next, turns) };
+            let Ok(child) = scope.spawn_with(promise, back) else {
+                return Err(RunFault::NotStarted);
+            };
+            let all = run_from(rt, alloc, router, jobs, gate, first, turns);
+            let rest = child.join(rt);
+            Ok((all?, rest?))
+        },
+    );
+    let (mut all, mut rest) = done?;
+    all.append(&mut rest)?;
+    Ok(all)
+}
+
+/// Runs at most one job on this thread.
+fn run_one<R: Wait + Clock, L: Link + Drop, G: Gate>(
+    rt: &R,
+    alloc: Global,
+    router: &Router,
+    mut jobs: Vec<Job<L>>,
+    gate: &G,
+    number: u32,
+    turns: u32,
+) -> Result<Vec<Finished<L>>, RunFault>
+    requires one { vec_len jobs < 2 }
+    requires passes { AreFor router.now jobs.items }
+    ensures { IfOk result (λ v. AllZip (IsFinished L.told router.now) jobs.items v.items) }
+{
+    let mut finished = Vec::with_capacity(alloc, jobs.len())?;
+    if let Some(job) = jobs.pop() {
+        finished.push_reserved(run_job(rt, alloc, router, job, gate, number, turns));
+    }
+    Ok(finished)
+}
