@@ -19,7 +19,7 @@ pub use engine::answer_lines;
 pub use faults::StreamFault;
 pub use input::read_input;
 pub use streams::write_text;
-pub use words::{next_word, trim_blanks};
+pub use words::{next_word, trim_blanks, trim_front_blanks};
 
 /// A line of more bytes than this is refused by the services, its line feed and the carriage
 /// return before that not counted.

@@ -23,8 +23,8 @@ fn count_front_blanks(line: &[u8]) -> usize
     line.len()
 }
 
-/// The line without the blanks at its front.
-fn trim_front_blanks(line: &[u8]) -> &[u8]
+/// The line without the spaces and tabs at its front.
+pub fn trim_front_blanks(line: &[u8]) -> &[u8]
     ensures { result.now ≡ without_front_blanks line.now }
 {
     &line[count_front_blanks(line)..]
