@@ -1,6 +1,6 @@
 -- What `check` writes for an input: the code of a filter's text, and whether it is verified, or a refusal. (This
 -- project's own choice.)
-use Rattle.std.specs.Prelude.{◌≡◌, ◌⊎◌, ◌<◌, ◌≤◌, ℕ, ◌-◌, Bool, true, false, List, [], ◌∷◌, ◌++◌, Option, Some, None, Ok, Err, length, take, codes, decimal}
+use Rattle.std.specs.Prelude.{◌≡◌, ◌⊎◌, ◌<◌, ◌≤◌, ℕ, ◌-◌, Bool, true, false, List, [], ◌∷◌, ◌++◌, Option, Some, None, Ok, Err, length, take, codes}
 use Rattle.std.specs.List.{suffix_len}
 use Rattle.hex.specs.Hex.{encode_lower}
 use Rattle.code_file.specs.Spelling.{IsCode, spelling}
@@ -9,11 +9,11 @@ use Rattle.filter_parser.specs.SyntaxText.{FilterView}
 use Rattle.filter_source.specs.Limits.{source_limit}
 use Rattle.filter_source.specs.Refusals.{place_in_line, refusal_code}
 use Rattle.filter_source.specs.Sources.{IsRefusedText, Translates, code_in_hexadecimal}
+use Rattle.filter_source.specs.VerifiedLine.{verified_line}
 use Rattle.filter_source.specs.declared.refusal.Refusal.{Refusal}
 use Rattle.filter_source.specs.declared.refusal.Refusal.TheVariants.{TooLong}
 use Rattle.filter_tokens.specs.Tokenization.{is_space}
 use Rattle.filter_verifier.specs.FirstFault.{the_fault}
-use Rattle.filter_verifier.specs.Bounds.{cost, peak}
 use Rattle.filter_verifier.specs.Faults.{fault_code, fault_place}
 use Rattle.filter_verifier.specs.Safe.{IsSafe}
 use Rattle.filter_verifier.specs.declared.fault.VerifyFault.{VerifyFault}
@@ -35,10 +35,6 @@ printed program = encode_lower (spelling program) ++ 10 ∷ []
 -- the line of a code
 abbrev pub code_line : CodeView → List ℕ
 code_line program = codes "code " ++ printed program
-
--- the line of verified code: its cost and its peak
-abbrev pub verified_line : CodeView → List ℕ
-verified_line program = codes "verified " ++ decimal (cost program.instrs 0) ++ 32 ∷ decimal (peak program.instrs 0 0) ++ 10 ∷ []
 
 -- the second line
 abbrev pub verdict_on : CodeView → Option VerifyFault → ReportView

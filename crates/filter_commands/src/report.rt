@@ -1,16 +1,14 @@
 //! What `check` writes on a code or a refusal.
-ghost use Rattle.std.specs.Prelude.{◌≡◌, ◌++◌, ◌∷◌, [], codes, IfOk, OnOk, OnErr};
-ghost use Rattle.std.specs.Io.{StartsWith};
+ghost use Rattle.std.specs.Prelude.{◌≡◌, ◌++◌, ◌∷◌, [], codes, IfOk, OnOk};
 ghost use Rattle.code_file.specs.Spelling.{IsCode};
 ghost use Rattle.hex.specs.Hex.{encode_lower};
-ghost use Rattle.filter_commands.specs.Check.{IsCodeReport, code_line, refusal_report, verified_line};
+ghost use Rattle.filter_commands.specs.Check.{IsCodeReport, code_line, refusal_report};
 ghost use Rattle.filter_commands.specs.Checking.{report_of};
 
 use code_file::write_code;
 use filter_code::Code;
-use filter_source::{Failure, Refusal, verify_code};
-use filter_verifier::Verified;
-use line_protocol::{push_decimal, push_refusal};
+use filter_source::{Failure, Refusal, push_verified, verify_code};
+use line_protocol::push_refusal;
 use std::alloc::{AllocError, Global};
 
 /// The number of the line at which `check` reports what is wrong with the input as a whole.
@@ -55,19 +53,6 @@ fn line_of_code(alloc: Global, code: &Code) -> Result<Vec<u8>, AllocError>
         Ok(bytes) => line_of_bytes(alloc, bytes.as_slice()),
         Err(_) => Err(AllocError),
     }
-}
-
-/// Adds the line of verified code to the end of `text`.
-fn push_verified(text: &mut Vec<u8>, verified: &Verified) -> Result<(), AllocError>
-    ensures ok { OnOk result (text.new.items ≡ text.old.items ++ verified_line verified.now.program) }
-    ensures err { OnErr result (StartsWith text.new.items text.old.items) }
-{
-    text.extend_from_slice(b"verified ")?;
-    push_decimal(text, u64::from(verified.budget()))?;
-    text.push(b' ')?;
-    push_decimal(text, u64::from(verified.depth()))?;
-    text.push(b'\n')?;
-    Ok(())
 }
 
 /// The report on code, for domains of a size: the code's line, and then its bounds or why it is refused.

@@ -3,3 +3,4 @@ pub mod Limits
 pub mod Refusals
 pub mod Failures
 pub mod Sources
+pub mod VerifiedLine

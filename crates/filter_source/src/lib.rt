@@ -6,6 +6,7 @@ mod failure;
 mod laws;
 mod refusal;
 mod source;
+mod verified_line;
 
 pub use failure::Failure;
 pub use laws::one_translation;
@@ -13,3 +14,4 @@ pub use refusal::Refusal;
 pub use source::{
     SOURCE_LIMIT, check_length, compile_text, read_file, read_hexadecimal, verify_code,
 };
+pub use verified_line::push_verified;
