@@ -7,19 +7,22 @@ use Rattle.filter_commands.specs.Faults.{program_code, stream_fault}
 use Rattle.filter_commands.specs.declared.fault.ProgramFault.{ProgramFault}
 use Rattle.line_protocol.specs.Runs.{AppendsFront}
 use Rattle.line_protocol.specs.declared.faults.StreamFault.{StreamFault}
+use Rattle.operator_cmds.specs.Running.{IsBrokenOff, IsCarriedOut}
 use Rattle.ncroute.specs.declared.words.Request.{Request}
-use Rattle.ncroute.specs.declared.words.Request.TheVariants.{Eval, Check}
+use Rattle.ncroute.specs.declared.words.Request.TheVariants.{Eval, Check, Run}
 
 -- A request was answered to its end, with so many refused lines. `input` is all that the reader had, `left` what it has now;
 -- `held` and `holds` are what the writer held before and holds now.
 abbrev pub Does : Request → List ℕ → Option (List ℕ) → Option (List ℕ) → Option (List ℕ) → ℕ → Type 0
 Does Eval input left held holds refused = Evaluates input left held holds refused
 Does (Check size is_code) input left held holds refused = Checks size is_code input left held holds refused
+Does Run input left held holds refused = IsCarriedOut input left held holds refused
 
 -- A fault broke it off.
 abbrev pub BreaksOff : Request → StreamFault → List ℕ → Option (List ℕ) → Option (List ℕ) → Option (List ℕ) → Type 0
 BreaksOff Eval fault input left held holds = Breaks fault input left held holds
 BreaksOff (Check size is_code) fault input left held holds = ChecksOff fault size is_code input left held holds
+BreaksOff Run fault input left held holds = IsBrokenOff fault input left held holds
 
 -- the exit status by the number of refused lines
 abbrev pub status_of : ℕ → ℕ

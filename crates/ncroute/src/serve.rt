@@ -8,6 +8,7 @@ ghost use Rattle.ncroute.specs.Serving.{BreaksOff, Does, FailsToReport, Serves, 
 use crate::words::Request;
 use filter_commands::{ProgramFault, check_text, eval_lines};
 use line_protocol::{StreamFault, write_text};
+use operator_cmds::run_script;
 use std::alloc::Global;
 use std::io::{Read, Write};
 
@@ -30,6 +31,7 @@ fn answer<R: Read, W: Write>(
     match request {
         Request::Eval => eval_lines(alloc, reader, writer),
         Request::Check { size, is_code } => check_text(alloc, reader, writer, size, is_code),
+        Request::Run => Ok(run_script(alloc, reader, writer)?),
     }
 }
 

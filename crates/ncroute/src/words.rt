@@ -22,6 +22,8 @@ pub enum Request {
         /// Standard input is a code file in hexadecimal, and not a filter's text.
         is_code: bool,
     },
+    /// Carry out the script of standard input: its commands drive a router.
+    Run,
 }
 
 /// What the words of the command line come to.
@@ -62,6 +64,9 @@ pub fn request_of<R: Print + Eprint, S: AsStr>(
 
 /// What the words ask for, where the parser of words accepted them.
 fn words_in(matches: &ArgMatches<'_>) -> Words {
+    if matches.subcommand_matches("run").is_some() {
+        return Words::Asked(Request::Run);
+    }
     let Some(check) = matches.subcommand_matches("check") else {
         return Words::Asked(Request::Eval);
     };
@@ -100,12 +105,16 @@ fn command<'a>(alloc: Global) -> Result<Command<'a>, AllocError> {
     let eval = Command::new(alloc, "eval")
         .about("Take routes through a code file, and print the verdict of each")
         .after_help(EVAL_HELP);
+    let run = Command::new(alloc, "run")
+        .about("Run a router by a script of commands, and answer each of them")
+        .after_help(RUN_HELP);
     Command::new(alloc, "ncroute")
-        .about("Check route filters, and take routes through their code")
+        .about("Check route filters, take routes through their code, and run a router with them")
         .subcommand_required(true)
         .arg_required_else_help(true)
         .subcommand(check_command(alloc)?)?
-        .subcommand(eval)
+        .subcommand(eval)?
+        .subcommand(run)
 }
 
 /// The command `check`.
@@ -164,4 +173,37 @@ Example:
   printf '4e4346310000000170\\n10.0.0.0/8 3 8\\n' | ncroute eval
 prints `accept 3`. The exit status is 0; 1 if a line was refused or a fault
 ended the run; 2 if the command line is wrong.
+";
+
+const RUN_HELP: &str = "\
+Standard input is commands, one a line. Empty lines and lines that begin with # are skipped.
+  network N ME [LIMIT]   a domain of N nodes (2 to 64), of which the router is node ME;
+                         its history has at most LIMIT entries (1,000,000)
+  prefix V P             P is the prefix of node V; otherwise it is 10.V.0.0/16
+  load NAME TEXT         name a filter: the rest of the line is its text
+  code NAME HEX          name a filter by its code file in hexadecimal
+  import W NAME          the filter of what neighbour W tells
+  export W NAME          the filter of what neighbour W is told
+  up W, down W           the channel to neighbour W works, or failed
+  recv W V D             neighbour W told distance D to node V
+  take W                 take the messages that wait for neighbour W
+  show V                 the route to node V
+
+Each command is answered on standard output before more input is read:
+  ok                     network, prefix
+  verified BUDGET DEPTH  load, code
+  opened SESSION         up
+  done C                 import, export, down, recv: C distances changed
+  messages V:D V:D ..    take
+  route D local, route D via W, route D none
+  refused CODE AT        the command was refused, and nothing changed:
+    O1 to O8     the command is wrong (AT is the number of its line)
+    N1 to N7     the router refused it (AT is its position in the history)
+    J1           the history is full (AT is the number of its entries)
+    P, Y, G, V   the filter is refused, as `ncroute check` refuses it; C: its code file
+
+Example:
+  printf 'network 4 0\\nup 1\\nrecv 1 1 0\\nshow 1\\n' | ncroute run
+prints `ok`, `opened 1`, `done 1` and `route 1 via 1`. The exit status is 0; 1 if
+a command was refused or a fault ended the run; 2 if the command line is wrong.
 ";

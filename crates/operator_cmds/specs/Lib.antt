@@ -7,3 +7,10 @@ pub mod WordLists
 pub mod CommandView
 pub mod Commands
 pub mod Readings
+pub mod Replies
+pub mod Domain
+pub mod Stages
+pub mod Script
+pub mod Running
+-- What only bodies are proved against.
+pub mod State

@@ -50,3 +50,29 @@ impl CommandFault {
         0
     }
 }
+
+/// Why the state of the script refuses a command.
+#[derive(Clone, Copy, Debug, PartialEq, Eq)]
+pub(crate) enum StateFault {
+    /// O4: no domain is set up.
+    NoNetwork,
+    /// O5: the domain or the journal is there already.
+    TooLate,
+    /// O6: no filter has the name.
+    UnknownFilter,
+}
+
+impl StateFault {
+    ghost use Rattle.operator_cmds.specs.Faults.{state_code};
+
+    /// The code that names the fault.
+    pub(crate) fn code(self) -> &'static str
+        ensures { result.now ≡ state_code self }
+    {
+        match self {
+            StateFault::NoNetwork => "O4",
+            StateFault::TooLate => "O5",
+            StateFault::UnknownFilter => "O6",
+        }
+    }
+}

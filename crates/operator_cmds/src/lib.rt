@@ -2,21 +2,24 @@
 #![tactic(auto)]
 
 mod command;
+mod event;
 mod fault;
+mod filter;
 mod name;
 mod read;
+mod reply;
+mod script;
+mod stage;
 mod verb;
 mod words;
 
 pub use command::Command;
 pub use fault::CommandFault;
 pub use read::read_command;
+pub use script::{ScriptFault, run_script};
 
 /// A number of a command, the limit of a history excepted, is at most this.
 pub const NUMBER_LIMIT: u32 = 65_535;
 
 /// The most bytes of a filter's name in a script.
 pub const NAME_LIMIT: usize = 64;
-
-/// The most entries of a history, which is also its limit where none is given.
-pub const LARGEST_LIMIT: u32 = 1_000_000;

@@ -7,16 +7,17 @@ ghost use Rattle.operator_cmds.specs.Limits.{largest_limit, number_limit};
 ghost use Rattle.operator_cmds.specs.Readings.{IsRead, IsReadIn};
 ghost use Rattle.operator_cmds.specs.WordLists.{after_word, one_of, two_of, three_of};
 
+use crate::NUMBER_LIMIT;
 use crate::command::Command;
 use crate::fault::CommandFault;
 use crate::name::is_name;
 use crate::verb::{Verb, read_verb};
-use crate::words::{cut_word, one_word, three_words, trim_front_blanks, two_words};
-use crate::{LARGEST_LIMIT, NUMBER_LIMIT};
+use crate::words::{cut_word, one_word, three_words, two_words};
 use filter_code::{LARGEST_SIZE, SMALLEST_SIZE};
 use hex::FromHexError;
-use line_protocol::{LINE_LIMIT, next_word};
+use line_protocol::{LINE_LIMIT, next_word, trim_front_blanks};
 use prefix_patterns::{read_number, read_prefix};
+use route_history::LARGEST_LIMIT;
 use std::alloc::Global;
 
 /// A number of at most `NUMBER_LIMIT`.

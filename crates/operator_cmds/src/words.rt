@@ -1,8 +1,7 @@
 //! The words after the first of a command, and the text of a filter.
-ghost use Rattle.std.specs.Prelude.{◌≡◌, ◌≤◌, [], ◌∷◌, length, IfNone, IfSome};
-ghost use Rattle.std.specs.List.{prefix_len};
+ghost use Rattle.std.specs.Prelude.{◌≡◌, [], ◌∷◌, IfNone, IfSome};
 ghost use Rattle.std.specs.Option.{option_map};
-ghost use Rattle.line_protocol.specs.Words.{is_blank, words, without_front_blanks};
+ghost use Rattle.line_protocol.specs.Words.{words};
 ghost use Rattle.operator_cmds.specs.WordLists as spec;
 
 use line_protocol::next_word;
@@ -50,31 +49,4 @@ pub fn three_words(line: &[u8]) -> Option<(&[u8], &[u8], &[u8])>
         None => Some((first, second, third)),
         Some(_) => None,
     }
-}
-
-/// A byte between words.
-fn is_blank(byte: u8) -> bool
-    ensures { result ≡ is_blank byte }
-{
-    byte == b' ' || byte == b'\t'
-}
-
-/// The number of blanks at the front.
-fn count_front_blanks(line: &[u8]) -> usize
-    ensures len { result ≡ prefix_len is_blank line.now }
-    ensures within { result ≤ length line.now }
-{
-    for (i, byte) in line.iter().enumerate() {
-        if !is_blank(*byte) {
-            return i;
-        }
-    }
-    line.len()
-}
-
-/// The line without the blanks at its front.
-pub fn trim_front_blanks(line: &[u8]) -> &[u8]
-    ensures { result.now ≡ without_front_blanks line.now }
-{
-    &line[count_front_blanks(line)..]
 }

@@ -1,0 +1,7 @@
+pub mod Fitting
+pub mod Openings
+pub mod Naming
+pub mod Sourced
+pub mod Entering
+pub mod Viewed
+pub mod Ending

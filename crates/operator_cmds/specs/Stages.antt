@@ -1,0 +1,41 @@
+-- How far a script has come. (This project's own choice.)
+use Rattle.std.specs.Prelude.{ℕ, List, [], Option, Some, None}
+use Rattle.netchange_core.specs.Calls.{session_of}
+use Rattle.netchange_core.specs.OpeningView.{OpeningView}
+use Rattle.route_history.specs.History.{world_of}
+use Rattle.route_history.specs.JournalView.{JournalView}
+use Rattle.operator_cmds.specs.declared.stage.Stage.{Stage}
+use Rattle.operator_cmds.specs.declared.stage.Stage.TheVariants as stage
+
+-- before `network`; with a domain that is set up, and the limit of the history; with a router's journal
+pub data StageView : Type 0 where
+  Empty : StageView
+  Setting : OpeningView → ℕ → StageView
+  Open : JournalView → StageView
+
+abbrev pub stage_of : Stage → StageView
+stage_of stage.Empty = Empty
+stage_of (stage.Setting setup) = Setting setup.opening setup.limit
+stage_of (stage.Open journal) = Open journal
+
+-- a journal without entries
+abbrev pub new_journal : OpeningView → ℕ → JournalView
+new_journal opening limit = record { opening = opening; limit = limit; entries = [] }
+
+-- the journal is open, if a domain is set up
+abbrev pub opened_stage : StageView → StageView
+opened_stage Empty = Empty
+opened_stage (Setting opening limit) = Open (new_journal opening limit)
+opened_stage (Open journal) = Open journal
+
+-- the number of nodes of the domain
+abbrev pub size_in : StageView → Option ℕ
+size_in Empty = None
+size_in (Setting opening limit) = Some opening.size
+size_in (Open journal) = Some journal.opening.size
+
+-- the present session of a node: 0 where it is no up neighbour, as each node is before the first event
+abbrev pub session_in : StageView → ℕ → ℕ
+session_in Empty node = 0
+session_in (Setting opening limit) node = 0
+session_in (Open journal) node = session_of (world_of journal.opening journal.entries) node

@@ -1,0 +1,330 @@
+//! The script: its lines, one after another, drive a router.
+ghost use Rattle.std.specs.Prelude.{◌≡◌, IfErr, IfOk, IfSome};
+ghost use Rattle.operator_cmds.specs.Running.{IsBrokenOff, IsCarriedOut};
+
+use crate::command::Command;
+use crate::event::enter;
+use crate::fault::{CommandFault, StateFault};
+use crate::filter::{verify_file, verify_text};
+use crate::read::read_command;
+use crate::reply::{confirm, refuse};
+use crate::stage::{Setup, Stage};
+use filter_source::{Failure, push_verified};
+use filter_verifier::Verified;
+use line_protocol::{Reply, Service, StreamFault, answer_lines};
+use netchange_core::Event;
+use prefix_patterns::Prefix;
+use std::alloc::{AllocError, Global};
+use std::collections::HashMap;
+use std::io::{Read, Write};
+use std::sync::Arc;
+
+/// What ends a script before its input does: E1 to E4.
+pub type ScriptFault = StreamFault;
+
+/// A script between two lines.
+#[derive(Drop)]
+pub(crate) struct Script {
+    /// How far it has come.
+    stage: Stage,
+    /// The filter of each name.
+    filters: HashMap<Vec<u8>, Arc<Verified>>,
+}
+
+impl Service for Script {
+    ghost use Rattle.operator_cmds.specs.Script.{AnswersLine};
+    ghost use Rattle.operator_cmds.specs.State.{script_of};
+
+    ghost answers = { λ before number line answer after. AnswersLine (script_of before) number line answer (script_of after) };
+
+    fn answer(
+        &mut self,
+        alloc: Global,
+        number: u32,
+        line: &[u8],
+        out: &mut Vec<u8>,
+    ) -> Result<Reply, AllocError> {
+        match read_command(alloc, line) {
+            Ok(command) => self.carry_out(alloc, number, command, out),
+            Err(CommandFault::Memory) => Err(AllocError),
+            Err(why) => refuse(out, why.code(), u64::from(number)),
+        }
+    }
+}
+
+impl Script {
+    ghost use Rattle.std.specs.Prelude.{OnErr};
+    ghost use Rattle.std.specs.Io.{StartsWith};
+    ghost use Rattle.filter_source.specs.Sources.{IsRefusedText};
+    ghost use Rattle.netchange_core.specs.declared.event.Event.TheVariants as event;
+    ghost use Rattle.operator_cmds.specs.CommandView.{view_of};
+    ghost use Rattle.operator_cmds.specs.Domain.{HasFitNumbers, IsDomain};
+    ghost use Rattle.operator_cmds.specs.Replies.{Answers};
+    ghost use Rattle.operator_cmds.specs.Script as spec;
+    ghost use Rattle.operator_cmds.specs.Stages.{stage_of, session_in};
+    ghost use Rattle.operator_cmds.specs.State.{filter_at, script_of};
+
+    /// Carries out the command of a line, and answers it.
+    fn carry_out(
+        &mut self,
+        alloc: Global,
+        number: u32,
+        command: Command<'_>,
+        out: &mut Vec<u8>,
+    ) -> Result<Reply, AllocError>
+        requires { HasFitNumbers (view_of command) }
+        ensures ok { IfOk result (Answers (λ answer. spec.AnswersCommand (script_of self.old) number (view_of command.entry) answer
+            (script_of self.new)) out.old.items out.new.items) }
+        ensures err { OnErr result (StartsWith out.new.items out.old.items) }
+    {
+        match command {
+            Command::Network { size, me, limit } => {
+                self.set_up(alloc, number, size, me, limit, out)
+            }
+            Command::Prefix { node, prefix } => self.set_prefix(alloc, number, node, prefix, out),
+            Command::Load { name, text } => self.load(alloc, number, name, text, out),
+            Command::Code { name, bytes } => {
+                self.load_code(alloc, number, name, bytes.as_slice(), out)
+            }
+            Command::Import { node, name } => self.import(alloc, number, node, name, out),
+            Command::Export { node, name } => self.export(alloc, number, node, name, out),
+            Command::Up(node) => self.enter(alloc, number, Event::Up(node), out),
+            Command::Down(node) => {
+                let event = Event::Down(self.stage.session(node));
+                self.enter(alloc, number, event, out)
+            }
+            Command::Receive { node, dest, dist } => {
+                let event = Event::Receive(self.stage.session(node), dest, dist);
+                self.enter(alloc, number, event, out)
+            }
+            Command::Take(node) => {
+                let event = Event::Take(self.stage.session(node), u16::MAX);
+                self.enter(alloc, number, event, out)
+            }
+            Command::Show(node) => self.enter(alloc, number, Event::Show(node), out),
+        }
+    }
+
+    /// Answers `network`: sets a domain up, if there is none.
+    fn set_up(
+        &mut self,
+        alloc: Global,
+        number: u32,
+        size: u16,
+        me: u16,
+        limit: Option<u32>,
+        out: &mut Vec<u8>,
+    ) -> Result<Reply, AllocError>
+        requires { IsDomain size me limit }
+        ensures ok { IfOk result (Answers (λ answer. spec.AnswersNetwork (stage_of self.old.stage) number size me limit
+            (script_of self.old) answer (script_of self.new)) out.old.items out.new.items) }
+        ensures err { OnErr result (StartsWith out.new.items out.old.items) }
+    {
+        match self.stage {
+            Stage::Empty => {
+                self.stage = Stage::Setting(Setup::new(alloc, size, me, limit)?);
+                confirm(out)
+            }
+            Stage::Setting(_) | Stage::Open(_) => {
+                refuse(out, StateFault::TooLate.code(), u64::from(number))
+            }
+        }
+    }
+
+    /// Answers `prefix`: sets the prefix of a node, as long as no journal is open.
+    fn set_prefix(
+        &mut self,
+        alloc: Global,
+        number: u32,
+        node: u16,
+        prefix: Prefix,
+        out: &mut Vec<u8>,
+    ) -> Result<Reply, AllocError>
+        ensures ok { IfOk result (Answers (λ answer. spec.AnswersPrefix (stage_of self.old.stage) number node prefix
+            (script_of self.old) answer (script_of self.new)) out.old.items out.new.items) }
+        ensures err { OnErr result (StartsWith out.new.items out.old.items) }
+    {
+        match &mut self.stage {
+            Stage::Empty => refuse(out, StateFault::NoNetwork.code(), u64::from(number)),
+            Stage::Setting(setup) => {
+                if node >= setup.opening.size() {
+                    return refuse(out, CommandFault::Numbers.code(), u64::from(number));
+                }
+                setup.set_prefix(alloc, node, prefix)?;
+                confirm(out)
+            }
+            Stage::Open(_) => refuse(out, StateFault::TooLate.code(), u64::from(number)),
+        }
+    }
+
+    /// Answers `load`: a filter's text is compiled and verified, and gets a name.
+    fn load(
+        &mut self,
+        alloc: Global,
+        number: u32,
+        name: &[u8],
+        text: &[u8],
+        out: &mut Vec<u8>,
+    ) -> Result<Reply, AllocError>
+        ensures ok { IfOk result (Answers (λ answer. spec.AnswersFilter (stage_of self.old.stage) (spec.GivesText text.now)
+            (IsRefusedText text.now) number name.now (script_of self.old) answer (script_of self.new))
+            out.old.items out.new.items) }
+        ensures err { OnErr result (StartsWith out.new.items out.old.items) }
+    {
+        match self.stage.size() {
+            Some(size) => {
+                let verified = verify_text(alloc, text, size);
+                self.name_filter(alloc, number, name, verified, out)
+            }
+            None => refuse(out, StateFault::NoNetwork.code(), u64::from(number)),
+        }
+    }
+
+    /// Answers `code`: a code file is read and verified, and gets a name.
+    fn load_code(
+        &mut self,
+        alloc: Global,
+        number: u32,
+        name: &[u8],
+        bytes: &[u8],
+        out: &mut Vec<u8>,
+    ) -> Result<Reply, AllocError>
+        ensures ok { IfOk result (Answers (λ answer. spec.AnswersFilter (stage_of self.old.stage) (spec.GivesFile bytes.now)
+            (spec.IsRefusedFile bytes.now) number name.now (script_of self.old) answer (script_of self.new))
+            out.old.items out.new.items) }
+        ensures err { OnErr result (StartsWith out.new.items out.old.items) }
+    {
+        match self.stage.size() {
+            Some(size) => {
+                let verified = verify_file(alloc, bytes, size);
+                self.name_filter(alloc, number, name, verified, out)
+            }
+            None => refuse(out, StateFault::NoNetwork.code(), u64::from(number)),
+        }
+    }
+
+    /// Answers by what became of a source: verified code gets the name. A refused one leaves the filter that the name has.
+    fn name_filter(
+        &mut self,
+        alloc: Global,
+        number: u32,
+        name: &[u8],
+        verified: Result<Verified, Failure>,
+        out: &mut Vec<u8>,
+    ) -> Result<Reply, AllocError>
+        ensures ok { IfOk result (Answers (λ answer. spec.AnswersVerified verified number name.now (script_of self.old) answer
+            (script_of self.new)) out.old.items out.new.items) }
+        ensures err { OnErr result (StartsWith out.new.items out.old.items) }
+    {
+        match verified {
+            Ok(filter) => {
+                push_verified(out, &filter)?;
+                let filter = Arc::new(alloc, filter)?;
+                self.filters.insert(Vec::from_slice(alloc, name)?, filter)?;
+                Ok(Reply::Answered)
+            }
+            Err(Failure::Refused(why)) => refuse(out, why.code(), why.place_in_line(number)),
+            Err(Failure::Memory) => Err(AllocError),
+        }
+    }
+
+    /// Answers `import`: the distances that a node tells pass a filter from now on.
+    fn import(
+        &mut self,
+        alloc: Global,
+        number: u32,
+        node: u16,
+        name: &[u8],
+        out: &mut Vec<u8>,
+    ) -> Result<Reply, AllocError>
+        ensures ok { IfOk result (Answers (λ answer. spec.AnswersUse (filter_at self.old.filters name.now)
+            (λ filter. event.SetImport node filter) number (script_of self.old) answer (script_of self.new))
+            out.old.items out.new.items) }
+        ensures err { OnErr result (StartsWith out.new.items out.old.items) }
+    {
+        match self.filters.get(name) {
+            Some(filter) => {
+                let event = Event::SetImport(node, Arc::try_clone(filter)?);
+                self.enter(alloc, number, event, out)
+            }
+            None => self.refuse_name(number, out),
+        }
+    }
+
+    /// Answers `export`: the distances that a node is told pass a filter from now on.
+    fn export(
+        &mut self,
+        alloc: Global,
+        number: u32,
+        node: u16,
+        name: &[u8],
+        out: &mut Vec<u8>,
+    ) -> Result<Reply, AllocError>
+        ensures ok { IfOk result (Answers (λ answer. spec.AnswersUse (filter_at self.old.filters name.now)
+            (λ filter. event.SetExport node filter) number (script_of self.old) answer (script_of self.new))
+            out.old.items out.new.items) }
+        ensures err { OnErr result (StartsWith out.new.items out.old.items) }
+    {
+        match self.filters.get(name) {
+            Some(filter) => {
+                let event = Event::SetExport(node, Arc::try_clone(filter)?);
+                self.enter(alloc, number, event, out)
+            }
+            None => self.refuse_name(number, out),
+        }
+    }
+
+    /// Refuses a command with a name that no filter has.
+    fn refuse_name(&self, number: u32, out: &mut Vec<u8>) -> Result<Reply, AllocError>
+        ensures ok { IfOk result (Answers (λ answer. spec.RefusesName (stage_of self.now.stage) number (script_of self.now) answer
+            (script_of self.now)) out.old.items out.new.items) }
+        ensures err { OnErr result (StartsWith out.new.items out.old.items) }
+    {
+        match self.stage {
+            Stage::Empty => refuse(out, StateFault::NoNetwork.code(), u64::from(number)),
+            Stage::Setting(_) | Stage::Open(_) => {
+                refuse(out, StateFault::UnknownFilter.code(), u64::from(number))
+            }
+        }
+    }
+
+    /// Answers a command that is an event of the router. The first one opens the journal.
+    fn enter(
+        &mut self,
+        alloc: Global,
+        number: u32,
+        event: Event,
+        out: &mut Vec<u8>,
+    ) -> Result<Reply, AllocError>
+        ensures ok { IfOk result (Answers (λ answer. spec.AnswersEvent (stage_of self.old.stage) number event
+            (script_of self.old) answer (script_of self.new)) out.old.items out.new.items) }
+        ensures err { OnErr result (StartsWith out.new.items out.old.items) }
+    {
+        self.stage.open(alloc)?;
+        match &mut self.stage {
+            Stage::Open(journal) => enter(journal, event, out),
+            Stage::Empty | Stage::Setting(_) => {
+                refuse(out, StateFault::NoNetwork.code(), u64::from(number))
+            }
+        }
+    }
+}
+
+/// Answers the lines of `reader` on `writer`: each is a command to the router of the script. Returns the number of lines that
+/// were refused. What was answered is written before more is read.
+pub fn run_script<R: Read, W: Write>(
+    alloc: Global,
+    reader: &mut R,
+    writer: &mut W,
+) -> Result<u32, ScriptFault>
+    ensures finished { IfOk result (λ refused. IfSome (R.remaining reader.old) (λ input.
+        IsCarriedOut input (R.remaining reader.new) (W.contents writer.old) (W.contents writer.new) refused)) }
+    ensures broken_off { IfErr result (λ fault. IfSome (R.remaining reader.old) (λ input.
+        IsBrokenOff fault input (R.remaining reader.new) (W.contents writer.old) (W.contents writer.new))) }
+{
+    let mut script = Script {
+        stage: Stage::Empty,
+        filters: HashMap::new(alloc),
+    };
+    answer_lines(alloc, reader, writer, &mut script)
+}

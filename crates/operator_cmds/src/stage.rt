@@ -1,0 +1,126 @@
+//! How far a script has come: whether a domain is set up, and whether its router runs.
+ghost use Rattle.std.specs.Prelude.{◌≡◌, ◌<◌, ◌≤◌, ◌+◌, ◌*◌, ◌^◌, IfOk, OnOk, length, slice_set};
+ghost use Rattle.prefix_patterns.specs.Bits.{prefix_bits};
+ghost use Rattle.operator_cmds.specs.Domain as spec;
+ghost use Rattle.operator_cmds.specs.Limits.{largest_limit};
+
+use netchange_core::Opening;
+use prefix_patterns::{Ip, Prefix};
+use route_history::{Journal, LARGEST_LIMIT};
+use std::alloc::{AllocError, Global};
+
+/// The address from which the default prefixes are counted, 10.0.0.0.
+const FIRST_ADDRESS: u32 = 0x0a00_0000;
+
+/// The bits of a default prefix.
+const PREFIX_LENGTH: u8 = 16;
+
+/// A domain that is set up, while no event has opened the journal.
+#[derive(Drop)]
+pub struct Setup {
+    /// The router's domain, node and prefixes.
+    pub opening: Opening,
+    /// The most entries of the journal.
+    pub limit: u32,
+    ghost limits: { (1 ≤ limit) × (limit ≤ largest_limit) },
+}
+
+/// How far a script has come.
+#[derive(Drop)]
+pub enum Stage {
+    /// There is no domain yet.
+    Empty,
+    /// A domain is set up.
+    Setting(Setup),
+    /// The router runs.
+    Open(Journal),
+}
+
+/// The prefix of a node that no command set: 10.V.0.0/16 for node V.
+fn default_prefix(node: u16) -> Prefix
+    requires { node < 256 }
+    ensures { result ≡ spec.default_prefix node }
+{
+    Prefix::new(
+        Ip(FIRST_ADDRESS + (u32::from(node) << PREFIX_LENGTH)),
+        PREFIX_LENGTH,
+    )
+    .unwrap()
+}
+
+/// The prefixes of the nodes of a domain that no command set.
+#[tactic(auto, unfolding(crate::specs::Domain::default_prefixes))]
+fn default_prefixes(alloc: Global, size: u16) -> Result<Vec<Prefix>, AllocError>
+    requires { size ≤ 256 }
+    ensures { IfOk result (λ all. all.items ≡ spec.default_prefixes size) }
+{
+    let mut all = Vec::with_capacity(alloc, usize::from(size))?;
+    for node in 0..size {
+        all.push(default_prefix(node))?;
+    }
+    Ok(all)
+}
+
+impl Setup {
+    /// A domain of `size` nodes in which the router is node `me`, with the default prefixes.
+    pub fn new(alloc: Global, size: u16, me: u16, limit: Option<u32>) -> Result<Setup, AllocError>
+        requires { spec.IsDomain size me limit }
+        ensures { IfOk result (λ setup. (setup.opening ≡ spec.default_opening size me) × (setup.limit ≡ spec.limit_or limit)) }
+    {
+        let prefixes = default_prefixes(alloc, size)?;
+        let opening = Opening::new(size, me, prefixes).unwrap();
+        Ok(Setup {
+            opening,
+            limit: limit.unwrap_or(LARGEST_LIMIT),
+        })
+    }
+
+    /// Sets the prefix of a node.
+    pub fn set_prefix(&mut self, alloc: Global, node: u16, prefix: Prefix) -> Result<(), AllocError>
+        requires { node < self.old.opening.size }
+        ensures opening { OnOk result (self.new.opening ≡
+            record self.old.opening { prefixes = slice_set self.old.opening.prefixes node prefix }) }
+        ensures limit { OnOk result (self.new.limit ≡ self.old.limit) }
+    {
+        let mut prefixes = Vec::from_slice(alloc, self.opening.prefixes())?;
+        prefixes[usize::from(node)] = prefix;
+        self.opening = Opening::new(self.opening.size(), self.opening.me(), prefixes).unwrap();
+        Ok(())
+    }
+}
+
+impl Stage {
+    ghost use Rattle.operator_cmds.specs.Stages.{opened_stage, stage_of, session_in, size_in};
+
+    /// The number of nodes of the domain, if one is set up.
+    pub fn size(&self) -> Option<u16>
+        ensures { result ≡ size_in (stage_of self.now) }
+    {
+        match self {
+            Stage::Empty => None,
+            Stage::Setting(setup) => Some(setup.opening.size()),
+            Stage::Open(journal) => Some(journal.opening().size()),
+        }
+    }
+
+    /// The present session of a node; 0 where it is no up neighbour.
+    pub fn session(&self, node: u16) -> u32
+        ensures { result ≡ session_in (stage_of self.now) node }
+    {
+        match self {
+            Stage::Open(journal) => journal.session(node),
+            _ => 0,
+        }
+    }
+
+    /// Opens the journal if a domain is set up and none is open.
+    pub fn open(&mut self, alloc: Global) -> Result<(), AllocError>
+        ensures { OnOk result (stage_of self.new ≡ opened_stage (stage_of self.old)) }
+    {
+        if let Stage::Setting(setup) = self {
+            let opening = setup.opening.copy(alloc)?;
+            *self = Stage::Open(Journal::open(alloc, opening, setup.limit)?);
+        }
+        Ok(())
+    }
+}
