@@ -1,6 +1,7 @@
 -- What the contracts of public calls cite, and so what a caller reads.
 pub mod AbstractFrameView
 pub mod Bounds
+pub mod DecodedSteps
 pub mod Facts
 pub mod Faults
 pub mod FirstFault
@@ -12,6 +13,7 @@ pub mod OutStateView
 pub mod Ranges
 pub mod Safe
 pub mod Transfer
+pub mod ValueWords
 pub mod VerifiedView
 -- What only bodies are proved against.
 pub mod PairwiseJoin

@@ -13,10 +13,14 @@ mod literals;
 mod out_state;
 mod pass;
 mod range;
+mod step;
 mod successors;
 mod transfer;
 mod verified;
+mod word;
 
 pub use fault::VerifyFault;
 pub use laws::bounds_follow_the_successors;
+pub use step::{NET_CELL, RECEIVED_CELL, RareStep, Step};
 pub use verified::{Verified, verify};
+pub use word::{word_of_bool, word_of_int, word_of_ip, word_of_prefix};

@@ -3,6 +3,7 @@
 ghost use Rattle.std.specs.Prelude.{All};
 ghost use Rattle.filter_verifier.specs.Safe.{HasLiteral};
 
+use crate::word::word_of_ip;
 use filter_code::Instr;
 
 /// Reads the literal of an instruction, so that the proof learns that it fits its type.
@@ -12,6 +13,9 @@ fn read_literal(instr: &Instr)
     match instr {
         Instr::Int(number) => {
             let _number = *number;
+        }
+        Instr::Ip(ip) => {
+            let _word = word_of_ip(*ip);
         }
         Instr::Prefix(prefix) => {
             let _bits = prefix.len();
