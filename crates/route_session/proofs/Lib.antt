@@ -1,3 +1,4 @@
+mod Back
 mod Gaining
 mod Halves
 mod Reading

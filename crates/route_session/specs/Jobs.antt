@@ -17,6 +17,13 @@ use Rattle.slot_lock.specs.Held.{IsPassOf, RouterView}
 abbrev pub AreFor : {L : Type 0} → RouterView → List (Job L) → Type 0
 AreFor r jobs = All (λ j. IsPassOf r j.pass) jobs
 
+-- each job that was done gives back a pass of this router
+abbrev pub AreBack : {L : Type 0} → RouterView → List (Finished L) → Type 0
+AreBack r finished = All (λ f. IsPassOf r f.pass) finished
+
+abbrev pub shares_back : {L : Type 0} → Finished L → ℕ
+shares_back f = f.pass.part.shares
+
 -- a reader ended as one, and a writer as one
 abbrev pub Did : RouterView → Role → ℕ → Part → Told → Ending → Part → Told → Type 0
 Did r role.Reader session old t (ending.Read end) new u = IsReadBy r session old t end new u

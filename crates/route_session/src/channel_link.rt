@@ -33,7 +33,7 @@ pub struct ChannelLink {
 }
 
 impl ChannelLink {
-    ghost use Rattle.route_session.specs.Doubles.{channel_told, untold};
+    ghost use Rattle.route_session.specs.Telling.{channel_told, untold};
 
     /// The writer's end and the reader's end of a new channel.
     pub fn pair(alloc: Global) -> Result<(ChannelLink, ChannelLink), AllocError>
@@ -52,7 +52,7 @@ impl ChannelLink {
 }
 
 impl Link for ChannelLink {
-    ghost use Rattle.route_session.specs.Doubles.{channel_told};
+    ghost use Rattle.route_session.specs.Telling.{channel_told};
 
     ghost told = { channel_told };
 

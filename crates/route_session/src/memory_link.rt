@@ -24,7 +24,7 @@ pub struct MemoryLink {
 }
 
 impl MemoryLink {
-    ghost use Rattle.route_session.specs.Doubles.{known, memory_told};
+    ghost use Rattle.route_session.specs.Telling.{known, memory_told};
 
     /// A link that hands out these messages, and fails at the call of this number, counted from 1 over both directions.
     pub fn new(alloc: Global, waiting: Vec<Message>, fails_at: Option<u64>) -> MemoryLink
@@ -75,7 +75,7 @@ impl MemoryLink {
 }
 
 impl Link for MemoryLink {
-    ghost use Rattle.route_session.specs.Doubles.{memory_told};
+    ghost use Rattle.route_session.specs.Telling.{memory_told};
 
     ghost told = { memory_told };
 

@@ -4,7 +4,7 @@ ghost use Rattle.std.specs.Prelude.{◌≡◌, ◌+◌, ◌<◌, ◌≤◌, ◌^
 ghost use Rattle.std.specs.List.{AllZip};
 ghost use Rattle.std.specs.Thread.{IsSync};
 ghost use denote.Param.Send.{IsSend};
-ghost use Rattle.route_session.specs.Jobs.{AreFor, IsFinished};
+ghost use Rattle.route_session.specs.Jobs.{AreBack, AreFor, IsFinished};
 
 use crate::fault::RunFault;
 use crate::gate::Gate;
@@ -34,7 +34,8 @@ pub fn run_sessions<R: Threads + Wait + Clock + Sync, L: Link + Send + Drop, G: 
 ) -> Result<Vec<Finished<L>>, RunFault>
     requires few { vec_len jobs ≤ 65536 }
     requires passes { AreFor router.now jobs.items }
-    ensures { IfOk result (λ v. AllZip (IsFinished L.told router.now) jobs.items v.items) }
+    ensures finished { IfOk result (λ v. AllZip (IsFinished L.told router.now) jobs.items v.items) }
+    ensures passes { IfOk result (λ v. AreBack router.now v.items) }
 {
     run_from(rt, alloc, router, jobs, gate, 0, turns)
 }
