@@ -1,4 +1,4 @@
--- Worked rows: the definitions say of these filters what is wanted of them.
+-- Worked rows: the definitions say of these filters what they should.
 use Rattle.std.proofs.Common.{◌≡◌, ℕ, true, false, Some, None, List, [], ◌∷◌, refl, arith}
 use Rattle.std.specs.Prelude.{codes}
 use Rattle.filter_parser.specs.Syntax.{ExprView}

@@ -86,7 +86,7 @@ pub record AreDeclared (variables : List DeclView) : Type 0 where
   pub once : AreDeclaredOnce variables
   pub few : length variables ≤ variable_limit
 
--- A filter's names and kinds fit. Each variable is declared before it is used, since all declarations stand before the
+-- A filter's names and kinds fit. Each variable is declared before it is used, since all declarations come before the
 -- first command.
 pub record IsTyped (filter : FilterView) : Type 0 where
   pub declared : AreDeclared filter.decls

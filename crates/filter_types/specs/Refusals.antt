@@ -1,14 +1,15 @@
 -- What the kinds table says of operands that it does not take: which of them is blamed, and what is expected there. The left
--- operand is judged first; where each could stand but the two differ, the right one is blamed. (This project's own choice.)
+-- operand is judged first; where each would do alone but the two differ, the right one is blamed. (This project's own choice.)
 use Rattle.std.specs.Prelude.{Bool, true, false, if◌then◌else◌}
 use Rattle.filter_parser.specs.Places.{expr_place}
 use Rattle.filter_parser.specs.declared.tree.decl.Kind.{Kind}
 use Rattle.filter_parser.specs.declared.tree.decl.Kind.TheVariants as kind
 use Rattle.filter_parser.specs.declared.tree.op.Op.{Op}
-use Rattle.filter_parser.specs.declared.tree.op.Op.TheVariants as o
 use Rattle.filter_parser.specs.declared.tree.op.Suffix.{Suffix}
 use Rattle.filter_parser.specs.declared.tree.op.Suffix.TheVariants as suffix
 use Rattle.filter_types.specs.Codes.{expected_of}
+use Rattle.filter_types.specs.Table.{OperatorRow, row_of}
+use Rattle.filter_types.specs.Table.OperatorRow.{Arithmetic, Equality, Order, Within, Logic}
 use Rattle.filter_types.specs.declared.fault.ExpectedKind.{ExpectedKind}
 use Rattle.filter_types.specs.declared.fault.ExpectedKind.TheVariants as expected
 use Rattle.filter_types.specs.declared.fault.TypeFault.{TypeFault}
@@ -58,22 +59,17 @@ within_refusal left right = if is_within left.kind then wrong_kind right expecte
 abbrev pub logic_refusal : Operand → Operand → TypeFault
 logic_refusal left right = if is_bool left.kind then wrong_kind right expected.Bool else wrong_kind left expected.Bool
 
--- the row of each operator between two operands
+-- the refusal of a row
+abbrev pub row_refusal : OperatorRow → Operand → Operand → TypeFault
+row_refusal Arithmetic = arithmetic_refusal
+row_refusal Equality = equality_refusal
+row_refusal Order = order_refusal
+row_refusal Within = within_refusal
+row_refusal Logic = logic_refusal
+
+-- an operator between two operands
 abbrev pub operator_refusal : Op → Operand → Operand → TypeFault
-operator_refusal o.Add = arithmetic_refusal
-operator_refusal o.Sub = arithmetic_refusal
-operator_refusal o.Mul = arithmetic_refusal
-operator_refusal o.Div = arithmetic_refusal
-operator_refusal o.Equal = equality_refusal
-operator_refusal o.NotEqual = equality_refusal
-operator_refusal o.Less = order_refusal
-operator_refusal o.Greater = order_refusal
-operator_refusal o.LessEqual = order_refusal
-operator_refusal o.GreaterEqual = order_refusal
-operator_refusal o.Match = within_refusal
-operator_refusal o.NotMatch = within_refusal
-operator_refusal o.And = logic_refusal
-operator_refusal o.Or = logic_refusal
+operator_refusal op = row_refusal (row_of op)
 
 -- `.ip`, `.len` and `.mask(n)`
 abbrev pub suffix_refusal : Suffix → Operand → TypeFault

@@ -1,4 +1,4 @@
--- The kinds table: which kinds of operands each form takes, and which kind it gives. None stands where the form does not
+-- The kinds table: which kinds of operands each form takes, and which kind it gives. It is None where the form does not
 -- take them. As in the BIRD 2.0 User's Guide on filters; what is left out is this project's own choice.
 use Rattle.std.specs.Prelude.{Option, Some, None}
 use Rattle.filter_parser.specs.declared.tree.decl.Kind.{Kind}
@@ -40,22 +40,42 @@ abbrev pub logic : Kind → Kind → Option Kind
 logic kind.Bool kind.Bool = Some kind.Bool
 logic _ _ = None
 
--- the row of each operator between two operands
+-- the rows of operators between two operands
+pub data OperatorRow : Type 0 where
+  Arithmetic : OperatorRow
+  Equality : OperatorRow
+  Order : OperatorRow
+  Within : OperatorRow
+  Logic : OperatorRow
+
+-- the row of each operator
+abbrev pub row_of : Op → OperatorRow
+row_of o.Add = Arithmetic
+row_of o.Sub = Arithmetic
+row_of o.Mul = Arithmetic
+row_of o.Div = Arithmetic
+row_of o.Equal = Equality
+row_of o.NotEqual = Equality
+row_of o.Less = Order
+row_of o.Greater = Order
+row_of o.LessEqual = Order
+row_of o.GreaterEqual = Order
+row_of o.Match = Within
+row_of o.NotMatch = Within
+row_of o.And = Logic
+row_of o.Or = Logic
+
+-- the kinds of a row
+abbrev pub row_kinds : OperatorRow → Kind → Kind → Option Kind
+row_kinds Arithmetic = arithmetic
+row_kinds Equality = equality
+row_kinds Order = order
+row_kinds Within = within
+row_kinds Logic = logic
+
+-- an operator between two operands
 abbrev pub operator : Op → Kind → Kind → Option Kind
-operator o.Add = arithmetic
-operator o.Sub = arithmetic
-operator o.Mul = arithmetic
-operator o.Div = arithmetic
-operator o.Equal = equality
-operator o.NotEqual = equality
-operator o.Less = order
-operator o.Greater = order
-operator o.LessEqual = order
-operator o.GreaterEqual = order
-operator o.Match = within
-operator o.NotMatch = within
-operator o.And = logic
-operator o.Or = logic
+operator op = row_kinds (row_of op)
 
 -- `!`: a bool gives a bool
 abbrev pub negated : Kind → Option Kind

@@ -54,7 +54,7 @@ impl From<Kind> for ExpectedKind {
 
 /// The first fault of a filter's names and kinds, in the order of its text, operands before their operator.
 ///
-/// A place is a number of bytes, those that stand before it.
+/// A place is the number of bytes before it.
 #[derive(Clone, Copy, Debug, PartialEq, Eq, Error)]
 pub enum TypeFault {
     /// Y1: the name at this place is no variable's.
