@@ -1,5 +1,6 @@
 pub mod Answered
 pub mod Bytes
+pub mod FileBytes
 pub mod Files
 pub mod Formats
 pub mod Grammar

@@ -10,7 +10,8 @@ use Rattle.line_protocol.specs.declared.faults.StreamFault.{StreamFault}
 use Rattle.line_protocol.specs.declared.faults.StreamFault.TheVariants.{Read, Write, Memory, TooLong}
 use Rattle.filter_commands.proofs.Evaluations.{Begins, Makes, answers, front_run, whole_run}
 use Rattle.filter_commands.specs.Eval.{Line, all_answers, eval_answers, line_answers, no_code}
-use Rattle.filter_commands.specs.Evaluation.{Breaks, Evaluates, IsCut, ReachesTo}
+use Rattle.filter_commands.specs.Evaluation.{Breaks, Evaluates, ReachesTo}
+use Rattle.filter_commands.specs.Steps.{IsCut}
 use Rattle.line_protocol.specs.Limits.{input_limit}
 use Rattle.filter_commands.specs.declared.eval.Evaluator.{Evaluator}
 
@@ -21,7 +22,7 @@ append_twice (Some xs) None c x y p q = absurd p
 append_twice (Some xs) (Some ys) None x y p q = absurd q
 append_twice (Some xs) (Some ys) (Some zs) x y p q = q ∙ ap (λ (w : List ℕ). w ++ y) p ∙ append_assoc xs x y
 
--- the answers to some lines are those behind the line of the code
+-- the answers to some lines are those after the line of the code
 some_lines : (lines : List Line) → (lines ≡ [] → ⊥) → all_answers lines ≡ line_answers lines
 some_lines [] none = absurd (none refl)
 some_lines (l ∷ ls) some = refl

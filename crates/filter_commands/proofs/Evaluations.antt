@@ -5,7 +5,7 @@ use Rattle.filter_code.specs.CodeView.{CodeView}
 use Rattle.line_protocol.specs.Answers.{Answer, is_end, is_over, refusals, text_of}
 use Rattle.line_protocol.specs.Runs.{Runs, RunsFront}
 use Rattle.filter_commands.specs.Eval.{Line, all_answers, answer_of, answers_after, code_answer, code_in, line_answers, route_answer}
-use Rattle.filter_commands.specs.Evaluation.{AnswersLine, TakesCode}
+use Rattle.filter_commands.specs.Steps.{AnswersLine, TakesCode}
 use Rattle.filter_commands.specs.RouteLine.{route_in}
 use Rattle.filter_source.specs.declared.refusal.Refusal.{Refusal}
 use Rattle.filter_commands.specs.declared.eval.Evaluator.{Evaluator}
@@ -20,7 +20,7 @@ answer_goes_on : (p : CodeView) (n : ℕ) (r : Result RouteView LineFault) → i
 answer_goes_on p n (Ok route) = refl
 answer_goes_on p n (Err found) = refl
 
--- behind the code, all lines are answered as routes
+-- after the code, all lines are answered as routes
 pub running : (p : CodeView) (s : Evaluator) → s.code ≡ Some p → (lines : List Line) (given : List Answer) (after : Evaluator)
     → Runs answers s lines given after → (given ≡ map (route_answer p) lines) × (after.code ≡ Some p)
 running p s e [] [] after r = (refl, ap (λ (x : Evaluator). x.code) r ∙ e)
@@ -34,7 +34,7 @@ running p s e (l ∷ ls) (a ∷ more) after r =
     let rest : (more ≡ map (route_answer p) ls) × (after.code ≡ Some p) = running p r.0 here.1 ls more after (subst Q goes r.2) in
     (ap (λ (x : Answer). x ∷ more) here.0 ∙ ap (λ (xs : List Answer). route_answer p l ∷ xs) rest.0, rest.1)
 
--- the answers to the first lines behind the code are the first answers
+-- the answers to the first lines after the code are the first answers
 pub running_front : (p : CodeView) (s : Evaluator) → s.code ≡ Some p → (lines : List Line) (given : List Answer) (after : Evaluator)
     → RunsFront answers s lines given after → (others : List Answer) × (map (route_answer p) lines ≡ given ++ others)
 running_front p s e lines [] after r = (map (route_answer p) lines, refl)
@@ -56,7 +56,7 @@ pub record Makes (lines : List Line) (given : List Answer) (after : Evaluator) :
   -- where no code came and nothing was refused, there was no line
   pub silent : after.code ≡ None → refusals given ≡ 0 → lines ≡ []
 
--- the answer to the line of the code, and those behind it
+-- the answer to the line of the code, and those after it
 behind_code : (l : Line) (ls : List Line) (a : Answer) (more : List Answer) (mid after : Evaluator) (read : Result CodeView Refusal)
     → code_in l.1 ≡ read → TakesCode l.0 read a mid.code
     → MatchBool (is_end a.reply) ((more ≡ []) × (after ≡ mid)) (Runs answers mid ls more after) → Makes (l ∷ ls) (a ∷ more) after

@@ -1,8 +1,8 @@
 pub mod Evaluated
 pub mod Evaluations
 pub mod Endings
-pub mod FileBytes
 pub mod Printed
 pub mod Reports
 pub mod RouteLines
+mod Rows
 pub mod Saying

@@ -8,6 +8,7 @@ use Rattle.std.proofs.lemmas.List.Sums.{prefix_len_is, suffix_len_is}
 use Rattle.std.specs.List.{list_all, prefix_len, suffix_len}
 use Rattle.hex.proofs.HexLemmas.{decode_of-encode_lower, length-encode_with}
 use Rattle.hex.specs.Hex.{encode_lower, encode_with, lower_digits}
+use Rattle.code_file.proofs.FileBytes.{a_file}
 use Rattle.code_file.proofs.Grammar.{file_of_spelling}
 use Rattle.code_file.specs.Spelling.{IsCode, spelling}
 use Rattle.filter_code.specs.CodeView.{CodeView}
@@ -17,7 +18,6 @@ use Rattle.filter_source.specs.declared.refusal.Refusal.{Refusal}
 use Rattle.filter_source.specs.declared.refusal.Refusal.TheVariants.{TooLong}
 use Rattle.filter_tokens.specs.Tokenization as gaps
 use Rattle.line_protocol.specs.Words as words
-use Rattle.filter_commands.proofs.FileBytes.{a_file}
 use Rattle.filter_commands.specs.Check.{IsCodeReport, IsReport, ReportView, printed, without_white_end}
 use Rattle.filter_commands.specs.Eval.{code_in}
 

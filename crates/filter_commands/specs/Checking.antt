@@ -6,11 +6,6 @@ use Rattle.line_protocol.specs.declared.faults.StreamFault.{StreamFault}
 use Rattle.line_protocol.specs.declared.faults.StreamFault.TheVariants.{Read, Write, Memory, TooLong}
 use Rattle.filter_source.specs.Limits.{source_limit}
 use Rattle.filter_commands.specs.Check.{IsReport, ReportView}
-use Rattle.filter_commands.specs.declared.report.Report.{Report}
-
--- what a contract sees of a report
-abbrev pub report_of : Report → ReportView
-report_of r = record { text = r.text.items; refusals = r.refusals }
 
 -- A run was answered to its end: the report on the input was written, and nothing else. `input` is all that the reader had,
 -- `left` what it has now; `held` and `holds` are what the writer held before and holds now; `refused` is the number that was

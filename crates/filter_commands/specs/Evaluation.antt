@@ -1,26 +1,13 @@
 -- How a run of `eval` goes and ends (this project's own choice).
-use Rattle.std.specs.Prelude.{◌≡◌, ◌≤◌, ◌+◌, ℕ, false, List, [], ◌++◌, length, take, Option, Some, None, Result, Ok, Err, ⊤}
+use Rattle.std.specs.Prelude.{◌≡◌, ◌≤◌, ◌+◌, ℕ, false, List, [], ◌++◌, length, take, Option, Some, ⊤}
 use Rattle.std.specs.Io.KnownBytes.{Appends, Consumes}
-use Rattle.filter_code.specs.CodeView.{CodeView}
 use Rattle.line_protocol.specs.Answers.{Answer, is_over, text_of}
 use Rattle.line_protocol.specs.Lines.{numbered, whole_lines}
-use Rattle.line_protocol.specs.Runs.{AppendsFront, IsWritten}
-use Rattle.line_protocol.specs.declared.answers.Reply.TheVariants as reply
+use Rattle.line_protocol.specs.Runs.{IsWritten}
 use Rattle.line_protocol.specs.declared.faults.StreamFault.{StreamFault}
 use Rattle.line_protocol.specs.declared.faults.StreamFault.TheVariants.{Read, Write, Memory, TooLong}
-use Rattle.filter_commands.specs.Eval.{code_answer, code_in, eval_answers, eval_out, eval_refusals, line_answers, route_answer}
+use Rattle.filter_commands.specs.Eval.{eval_answers, eval_out, eval_refusals, line_answers}
 use Rattle.line_protocol.specs.Limits.{input_limit}
-use Rattle.filter_source.specs.declared.refusal.Refusal.{Refusal}
-
--- The line of the code gets no answer where it is good, and its code is kept. A refusal ends the run.
-abbrev pub TakesCode : ℕ → Result CodeView Refusal → Answer → Option CodeView → Type 0
-TakesCode number (Ok program) answer after = (answer ≡ record { text = []; reply = reply.Answered }) × (after ≡ Some program)
-TakesCode number (Err found) answer after = (answer ≡ code_answer number found) × (after ≡ None)
-
--- how a line is answered, before and after the code has come
-abbrev pub AnswersLine : Option CodeView → ℕ → List ℕ → Answer → Option CodeView → Type 0
-AnswersLine None number given answer after = TakesCode number (code_in given) answer after
-AnswersLine (Some program) number given answer after = (answer ≡ route_answer program (number, given)) × (after ≡ Some program)
 
 -- A run was answered to its end. `input` is all that the reader had, `left` what it has now; `held` and `holds` are what the
 -- writer held before and holds now; `refused` is the number that was returned.
@@ -52,10 +39,3 @@ pub record Breaks (fault : StreamFault) (input : List ℕ) (left held holds : Op
   pub read : List ℕ
   pub consumed : Consumes (Some input) left read
   pub reach : ReachesTo fault read given
-
--- How far one text came that a fault kept from being written: where memory is refused it is not begun.
-abbrev pub IsCut : StreamFault → Option (List ℕ) → Option (List ℕ) → List ℕ → Type 0
-IsCut Read held holds text = ⊥
-IsCut Write held holds text = AppendsFront held holds text
-IsCut Memory held holds text = Appends held holds []
-IsCut TooLong held holds text = ⊥

@@ -1,3 +1,4 @@
+-- What callers cite.
 pub mod Limits
 pub mod Faults
 pub mod RouteLine
@@ -6,3 +7,5 @@ pub mod Evaluation
 pub mod Check
 pub mod Checking
 pub mod Saying
+-- What only the bodies of this crate are proved against.
+pub mod Steps

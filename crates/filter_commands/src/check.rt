@@ -3,8 +3,9 @@ ghost use Rattle.std.specs.Prelude.{◌≡◌, IfErr, IfOk, IfSome};
 ghost use Rattle.filter_source.specs.Failures.{OnRefusal};
 ghost use Rattle.filter_tokens.specs.Tokenization.{is_space};
 ghost use Rattle.filter_commands.specs.Check.{GivesCode, IsRefused, IsReport, without_white_end};
-ghost use Rattle.filter_commands.specs.Checking.{Checks, ChecksOff, report_of};
+ghost use Rattle.filter_commands.specs.Checking.{Checks, ChecksOff};
 ghost use Rattle.filter_commands.specs.Faults.{stream_fault};
+ghost use Rattle.filter_commands.specs.Steps.{report_of};
 
 use crate::fault::ProgramFault;
 use crate::report::{Report, report_code, report_refusal};

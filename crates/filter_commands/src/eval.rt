@@ -4,8 +4,9 @@ ghost use Rattle.std.specs.Io.{StartsWith};
 ghost use Rattle.std.specs.Io.KnownBytes.{Appends};
 ghost use Rattle.filter_source.specs.Failures.{OnRefusal};
 ghost use Rattle.filter_commands.specs.Eval.{code_in, no_code, route_answer, verdict};
-ghost use Rattle.filter_commands.specs.Evaluation.{Breaks, Evaluates, IsCut};
+ghost use Rattle.filter_commands.specs.Evaluation.{Breaks, Evaluates};
 ghost use Rattle.filter_commands.specs.Faults.{stream_fault};
+ghost use Rattle.filter_commands.specs.Steps.{IsCut};
 
 use crate::fault::ProgramFault;
 use crate::line_fault::LineFault;
@@ -26,7 +27,7 @@ struct Evaluator {
 }
 
 impl Service for Evaluator {
-    ghost use Rattle.filter_commands.specs.Evaluation.{AnswersLine};
+    ghost use Rattle.filter_commands.specs.Steps.{AnswersLine};
 
     ghost answers = { λ before number line answer after. AnswersLine before.code number line answer after.code };
 

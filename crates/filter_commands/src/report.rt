@@ -3,7 +3,7 @@ ghost use Rattle.std.specs.Prelude.{◌≡◌, ◌++◌, ◌∷◌, [], codes, I
 ghost use Rattle.code_file.specs.Spelling.{IsCode};
 ghost use Rattle.hex.specs.Hex.{encode_lower};
 ghost use Rattle.filter_commands.specs.Check.{IsCodeReport, code_line, refusal_report};
-ghost use Rattle.filter_commands.specs.Checking.{report_of};
+ghost use Rattle.filter_commands.specs.Steps.{report_of};
 
 use code_file::write_code;
 use filter_code::Code;

@@ -19,10 +19,11 @@ loop-preserved c =
     let l = c.loop in
     let total = read (times c.args.count an_instruction) c.args.reader.now in
     record {
-      told = rw c.in_ok-push.ensures.items (goes_on an_instruction l.instrs.items c.args.count l.counter l.reader c.instruction.new.self c.in_ok-instr.instr
-          total c.loop-test.true c.in_ok-instr.ensures.value l.invariant.told);
+      told = rw c.in_ok-push.ensures.items (goes_on an_instruction l.instrs.items c.args.count l.counter l.reader
+          c.instruction.new.self c.in_ok-instr.instr total c.loop-test.true c.in_ok-instr.ensures.value l.invariant.told);
       count = search rules;
-      masks = rw c.in_ok-push.ensures.items (All-push HasMask l.instrs.items c.in_ok-instr.instr l.invariant.masks c.in_ok-instr.ensures.mask);
+      masks = rw c.in_ok-push.ensures.items
+          (All-push HasMask l.instrs.items c.in_ok-instr.instr l.invariant.masks c.in_ok-instr.ensures.mask);
     }
 
 pub returns-clause-value : goal.returns-clause-value

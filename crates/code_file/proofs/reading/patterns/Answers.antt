@@ -17,8 +17,8 @@ loop-preserved c =
     let l = c.loop in
     let total = read (times c.args.count a_pattern) c.args.reader.now in
     record {
-      told = rw c.in_ok-push.ensures.items (goes_on a_pattern l.patterns.items c.args.count l.counter l.reader c.pattern.new.self c.in_ok-pattern.pattern
-          total c.loop-test.true c.in_ok-pattern.ensures l.invariant.told);
+      told = rw c.in_ok-push.ensures.items (goes_on a_pattern l.patterns.items c.args.count l.counter l.reader
+          c.pattern.new.self c.in_ok-pattern.pattern total c.loop-test.true c.in_ok-pattern.ensures l.invariant.told);
       count = search rules;
     }
 

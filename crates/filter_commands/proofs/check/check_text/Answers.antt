@@ -6,7 +6,7 @@ use Rattle.filter_source.proofs.Refused.{of_error}
 use Rattle.line_protocol.specs.Runs.{AppendsFront}
 use Rattle.filter_commands.proofs.Reports.{broken_off, finished}
 use Rattle.filter_commands.specs.Check.{IsReport}
-use Rattle.filter_commands.specs.Checking.{report_of}
+use Rattle.filter_commands.specs.Steps.{report_of}
 use Rattle.filter_commands.specs.declared.fault.ProgramFault.TheVariants.{Stream}
 use Rattle.filter_commands.proofs.check.check_text.Goals as goal
 

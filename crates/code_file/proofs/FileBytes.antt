@@ -1,4 +1,4 @@
--- The file of a code is made of bytes, and of so few that `check` reads it in hexadecimal.
+-- The file of a code is made of bytes, at most 465,032 of them.
 use Rattle.std.proofs.Common.{Bool, ℕ, zero, suc, ◌+◌, ◌*◌, ◌<◌, ◌≤◌, List, [], ◌∷◌, ◌++◌, length, slice_index, sym, subst, arith, lit<, lit≤, length-append, append-nil, if◌then◌else◌}
 use Rattle.std.specs.List.{AllByRecursion, flat_map}
 use Rattle.prefix_patterns.specs.Bits.{address_of}
@@ -63,22 +63,22 @@ flat P k f each (x ∷ xs) all =
     relaxed (k + k * length xs) (k * length (x ∷ xs)) (f x ++ flat_map f xs) (omega arith)
     (joined k (k * length xs) (f x) (flat_map f xs) (each x all.0) (flat P k f each xs all.1))
 
--- a field of a number, and those behind it
-behind : {n : ℕ} (kind : FieldKind) (x : ℕ) (fs : List Field) → AreBytes n (bytes_of fs)
+-- a field of a number, and those after it
+and_more : {n : ℕ} (kind : FieldKind) (x : ℕ) (fs : List Field) → AreBytes n (bytes_of fs)
     → AreBytes (width kind + n) (bytes_of (field kind x ∷ fs))
-behind {n} kind x fs a = joined (width kind) n (big_bytes (width kind) x) (bytes_of fs) (number (width kind) x) a
+and_more {n} kind x fs a = joined (width kind) n (big_bytes (width kind) x) (bytes_of fs) (number (width kind) x) a
 
 -- items that are counted
 all_counted : {A : Type 0} (kind : FieldKind) (P : A → Type 0) (k limit : ℕ) (fields_of : A → List Field)
     → ((x : A) → P x → AreBytes k (bytes_of (fields_of x))) → (xs : List A) → AllByRecursion P xs → k * length xs ≤ limit
     → AreBytes (width kind + limit) (bytes_of (counted kind fields_of xs))
 all_counted kind P k limit fields_of each xs all le =
-    behind kind (length xs) (flat_map fields_of xs)
+    and_more kind (length xs) (flat_map fields_of xs)
     (subst (AreBytes limit) (sym (bytes_of-flat_map fields_of xs))
     (relaxed (k * length xs) limit (flat_map (λ x. bytes_of (fields_of x)) xs) le
     (flat P k (λ x. bytes_of (fields_of x)) each xs all)))
 
--- a field with none behind it
+-- a field with none after it
 alone : (n : ℕ) (bytes : List ℕ) → AreBytes n bytes → AreBytes n (bytes ++ [])
 alone n bytes a = subst (AreBytes n) (sym (append-nil bytes)) a
 
@@ -121,11 +121,11 @@ an_instruction i h = joined 1 5 (big_bytes 1 (opcode i)) (bytes_of (operand i)) 
 
 -- the mark
 a_mark : {n : ℕ} (place : ℕ) (fs : List Field) → AreBytes n (bytes_of fs) → AreBytes (1 + n) (bytes_of (mark_byte place ∷ fs))
-a_mark place fs a = behind (Mark place) (slice_index mark_bytes place) fs a
+a_mark place fs a = and_more (Mark place) (slice_index mark_bytes place) fs a
 
-behind_mark : (n : ℕ) (fs : List Field) → AreBytes n (bytes_of fs)
+after_mark : (n : ℕ) (fs : List Field) → AreBytes n (bytes_of fs)
     → AreBytes (1 + (1 + (1 + (1 + n)))) (bytes_of (mark_byte 0 ∷ mark_byte 1 ∷ mark_byte 2 ∷ mark_byte 3 ∷ fs))
-behind_mark n fs a =
+after_mark n fs a =
     let third = mark_byte 3 ∷ fs in
     let second = mark_byte 2 ∷ third in
     a_mark 0 (mark_byte 1 ∷ second) (a_mark 1 second (a_mark 2 third (a_mark 3 fs a)))
@@ -137,8 +137,8 @@ a_file code h =
     let instrs_limit = h.instrs in
     let sets = all_counted Sets IsSet 7170 458880 set a_set code.sets h.each_set (omega arith) in
     let instrs = all_counted Instructions IsInstruction 6 6144 instruction an_instruction code.instrs h.each_instr (omega arith) in
-    let locals = behind Locals code.locals (counted Sets set code.sets) sets in
+    let locals = and_more Locals code.locals (counted Sets set code.sets) sets in
     let front = mark_byte 0 ∷ mark_byte 1 ∷ mark_byte 2 ∷ mark_byte 3 ∷ field Locals code.locals ∷ counted Sets set code.sets in
     subst (AreBytes 465032) (sym (bytes_of-append front (counted Instructions instruction code.instrs)))
     (joined 458886 6146 (bytes_of front) (bytes_of (counted Instructions instruction code.instrs))
-    (behind_mark 458882 (field Locals code.locals ∷ counted Sets set code.sets) locals) instrs)
+    (after_mark 458882 (field Locals code.locals ∷ counted Sets set code.sets) locals) instrs)
