@@ -18,11 +18,11 @@ fn expect_refusal(rt: &impl Abort, alloc: Global, line: &[u8], want: &str) {
 fn reads_numbers(rt: HostRuntime) -> Result<(), Fail> {
     let alloc = rt.alloc();
     let Command::Network { size, me, limit } = read_command(alloc, b" network\t4  003 ")? else {
-        return Err(Fail);
+        return Err(Fail::from("another command"));
     };
     assert_eq!(&rt; (size, me, limit), (4, 3, None));
     let Command::Network { size, me, limit } = read_command(alloc, b"network 64 63 1000000")? else {
-        return Err(Fail);
+        return Err(Fail::from("another command"));
     };
     assert_eq!(&rt; (size, me, limit), (64, 63, Some(1_000_000)));
     Ok(())
@@ -98,7 +98,7 @@ fn limits_lines_and_names(rt: HostRuntime) -> Result<(), Fail> {
 #[test]
 fn keeps_the_text_of_a_filter(rt: HostRuntime) -> Result<(), Fail> {
     let Command::Load { name, text } = read_command(rt.alloc(), b" load\tname_1 \t filter \t f {} \t")? else {
-        return Err(Fail);
+        return Err(Fail::from("another command"));
     };
     assert_eq!(&rt; name, b"name_1".as_slice());
     assert_eq!(&rt; text, b"filter \t f {} \t".as_slice());
@@ -109,12 +109,12 @@ fn keeps_the_text_of_a_filter(rt: HostRuntime) -> Result<(), Fail> {
 fn reads_prefixes_and_files(rt: HostRuntime) -> Result<(), Fail> {
     let alloc = rt.alloc();
     let Command::Prefix { node, prefix } = read_command(alloc, b"prefix 3 10.1.2.3/8")? else {
-        return Err(Fail);
+        return Err(Fail::from("another command"));
     };
     assert_eq!(&rt; node, 3);
     assert_eq!(&rt; Some(prefix), Prefix::new(Ip(0x0a00_0000), 8));
     let Command::Code { name, bytes } = read_command(alloc, b"code A 4E43ff")? else {
-        return Err(Fail);
+        return Err(Fail::from("another command"));
     };
     assert_eq!(&rt; name, b"A".as_slice());
     assert_eq!(&rt; bytes.as_slice(), [0x4e, 0x43, 0xff].as_slice());

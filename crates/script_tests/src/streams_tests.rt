@@ -1,6 +1,5 @@
 //! What a script's reader and writer see: blocks, limits, and faults in mid-stream.
 
-use line_protocol::StreamFault;
 use operator_cmds::{ScriptFault, run_script};
 use std::io::ErrorKind;
 use std::test::Fail;
@@ -32,7 +31,7 @@ fn limits_the_input(rt: HostRuntime) -> Result<(), Fail> {
     input.push(b'y')?;
     let mut reader = input.as_slice();
     let mut writer = Vec::new(alloc);
-    let fault = ScriptFault::Stream(StreamFault::TooLong);
+    let fault = ScriptFault::TooLong;
     assert_eq!(&rt; run_script(alloc, &mut reader, &mut writer), Err(fault));
     assert_eq!(&rt; writer.as_slice(), b"ok\nroute 0 local\n".as_slice());
     Ok(())
@@ -44,7 +43,7 @@ fn answers_before_a_read_fault(rt: HostRuntime) {
     for kind in [ErrorKind::BrokenPipe, ErrorKind::WouldBlock] {
         let mut reader = FailingReader::new(b"network 4 0\nup 1\nsh", kind);
         let mut writer = Vec::new(alloc);
-        let fault = ScriptFault::Stream(StreamFault::Read);
+        let fault = ScriptFault::Read;
         assert_eq!(&rt; run_script(alloc, &mut reader, &mut writer), Err(fault));
         assert_eq!(&rt; writer.as_slice(), b"ok\nopened 1\n".as_slice());
     }
@@ -58,7 +57,7 @@ fn stops_at_a_write_fault(rt: HostRuntime) -> Result<(), Fail> {
         let mut reader: &[u8] = b"network 4 0\nup 1\n";
         let mut writer = FailingWriter::new(alloc, room);
         let result = run_script(alloc, &mut reader, &mut writer);
-        assert_eq!(&rt; result, Err(ScriptFault::Stream(StreamFault::Write)));
+        assert_eq!(&rt; result, Err(ScriptFault::Write));
         assert_eq!(&rt; writer.text().len(), room);
         assert!(&rt; b"ok\nopened 1\n".starts_with(writer.text()));
     }
