@@ -1,105 +1,67 @@
 #!/usr/bin/env bash
-# Refuses each allocation of a crate's tests in turn. Prints a line a crate, and a line a test: in how many runs it was refused.
+# Refuses each allocation of each test of a crate in turn, with the built tests. Prints a line a test, and at last 'N passed, M failed'.
 #
 # usage: scripts/refuse_memory.sh [CRATE..]     (without names: memory_tests, whose tests make each call that asks for memory once)
-#   JOBS=N    how many runs go side by side (2); a run takes some 40 seconds of processor time
-#   QUIET=N   after how many numbers in a row that no test of the crate notices its allocations are taken as over (3)
+#   TESTS=PATH   the built tests of the one crate that is named (crates/CRATE/out/CRATE_tests); without it `rt test` proves and builds them
 #
-# For N = 1, 2, .. `rt try --test --fail-alloc N` makes the Nth allocation of each test fail. A test that meets this ends
-# with the error that it was handed (by `?`, or after it compared what a refused call left behind), and is then counted
-# as refused. Anything else is a fault: a wrong answer (a failed assertion), a bad access, a test that does not end.
-# A test that passes all the same tells nothing of the refusal, so a test that looks at one ends with an error.
-# Nothing is proved here. The exit status is 1 where a run faulted or hung, or could not be made.
+# A test that meets a refused allocation ends with the error that it was handed (by `?`, or after it compared what a refused call left
+# behind). Anything else is a fault: a wrong answer (a failed assertion), a bad access, a test that does not end within a minute.
+# A test that passes all the same did without the memory, and tells nothing of the refusal.
 set -eu
-cd "$(dirname "$0")/.."
-jobs="${JOBS:-2}"
-quiet_wanted="${QUIET:-3}"
+top="$(cd "$(dirname "$0")/.." && pwd)"
 folder="$(mktemp -d)"
 trap 'rm -rf "$folder"' EXIT
+cc -shared -fPIC -O1 -o "$folder/refuse.so" "$top/scripts/fail_nth_allocation.c" -ldl
+passed=0
+failed=0
 
-# One run; its output and its status lie in the folder under its number. Number 0 refuses nothing.
-run() {
-    local flags=()
-    [ "$2" = 0 ] || flags=(--fail-alloc "$2")
+# How a test ends without its Nth allocation: over (it never asks so often), without, refused, or faulted.
+ending() {
     local status=0
-    (cd "crates/$1" && rt try --test ${flags[@]+"${flags[@]}"}) >"$folder/$2.out" 2>&1 </dev/null || status=$?
-    echo "$status" >"$folder/$2.status"
-}
-
-# The tests of a run that failed in any other way than by ending with an error.
-faulted_tests() {
-    awk '
-        function judge() { if (failed && (!gave_up || faulted)) print name }
-        /^test .* \.\.\. / { judge(); name = $2; failed = $NF == "FAILED"; gave_up = faulted = 0; next }
-        /^ .*its result gives status 1$/ { gave_up = 1 }
-        /^ .*(checked: |killed by signal|run=fault|run=no-answer)/ { faulted = 1 }
-        END { judge() }
-    ' "$1"
-}
-
-# How a run went: quiet, refused, faulted, or stopped where there was none.
-verdict() {
-    case "$(cat "$folder/$1.status")" in
-    0) echo quiet ;;
-    4 | 6) echo faulted ;;
-    101) if [ -n "$(faulted_tests "$folder/$1.out")" ]; then echo faulted; else echo refused; fi ;;
-    *) echo stopped ;;
-    esac
-}
-
-show() {
-    echo "$1: what 'rt try --test --fail-alloc $2' said:" >&2
-    sed 's/^/    /' "$folder/$2.out" >&2
-}
-
-# A line a test: in how many runs it did not pass.
-show_tests() {
-    awk '
-        /^test .* \.\.\. / { refused[$2] += $NF == "FAILED" }
-        END { for (name in refused) printf "  %3d  %s\n", refused[name], name | "sort -k 2" }
-    ' "$folder"/*.out
-}
-
-# Refuses the allocations of one crate; 1 where a run faulted or hung.
-sweep() {
-    local number=0 quiet=0 refused=0 faulted=0 number_run
-    rm -f "$folder"/*
-    run "$1" 0
-    if [ "$(verdict 0)" != quiet ]; then
-        echo "$1: its tests do not pass with ample memory"
-        sed 's/^/    /' "$folder/0.out" >&2
-        return 1
-    fi
-    while [ "$quiet" -lt "$quiet_wanted" ]; do
-        for number_run in $(seq $((number + 1)) $((number + jobs))); do
-            run "$1" "$number_run" &
-        done
-        wait
-        for number_run in $(seq $((number + 1)) $((number + jobs))); do
-            case "$(verdict "$number_run")" in
-            quiet) quiet=$((quiet + 1)) ;;
-            refused) quiet=0 refused=$((refused + 1)) ;;
-            faulted) quiet=0 refused=$((refused + 1)) faulted=$((faulted + 1)); show "$1" "$number_run" ;;
-            stopped)
-                show "$1" "$number_run"
-                echo "$1: no run at allocation $number_run"
-                return 1
-                ;;
-            esac
-        done
-        number=$((number + jobs))
-    done
-    if [ "$refused" = 0 ]; then
-        echo "$1: no allocation noticed"
+    rm -f "$folder/refused"
+    timeout 60 env NTH_ALLOCATION="$3" REFUSED_FILE="$folder/refused" LD_PRELOAD="$folder/refuse.so" \
+        "$1" "$2" >"$folder/out" 2>&1 </dev/null || status=$?
+    if [ ! -e "$folder/refused" ]; then
+        echo over
+    elif [ "$status" = 0 ]; then
+        echo without
+    elif [ "$status" = 101 ] && grep -q 'its result gives status 1$' "$folder/out"; then
+        echo refused
     else
-        echo "$1: allocations refused in turn: $refused; runs that faulted or hung: $faulted"
-        show_tests
+        echo faulted
     fi
-    [ "$faulted" = 0 ]
 }
 
-status=0
+# Refuses the allocations of one test of a program.
+sweep() {
+    local refused=0 without=0 faulted=0 nth
+    for ((nth = 1; ; nth++)); do
+        case "$(ending "$1" "$2" "$nth")" in
+        over) break ;;
+        without) without=$((without + 1)) ;;
+        refused) refused=$((refused + 1)) ;;
+        faulted)
+            faulted=$((faulted + 1))
+            echo "$2: without allocation $nth:" >&2
+            sed 's/^/    /' "$folder/out" >&2
+            ;;
+        esac
+    done
+    echo "$2: $((nth - 1)) allocations refused in turn: $refused ended with their error, $without done without, $faulted faulted"
+    if [ "$faulted" = 0 ]; then passed=$((passed + 1)); else failed=$((failed + 1)); fi
+}
+
 for crate in "${@:-memory_tests}"; do
-    sweep "$crate" || status=1
+    tests="${TESTS:-$top/crates/$crate/out/${crate}_tests}"
+    if [ -z "${TESTS:-}" ]; then
+        (cd "$top/crates/$crate" && rt test) >"$folder/build" 2>&1 || {
+            cat "$folder/build" >&2
+            exit 1
+        }
+    fi
+    for name in $("$tests" --list 2>&1 | sed -n 's/: test$//p'); do
+        sweep "$tests" "$name"
+    done
 done
-exit "$status"
+echo "$passed passed, $failed failed"
+[ "$failed" = 0 ]

@@ -3,7 +3,7 @@
 # it wrote has to be the first lines of its whole answer, each whole; or it did without and ended as ever. Prints a line a run.
 #
 # usage: scripts/refuse_memory_of_runs.sh [INPUT WORD..]     (the words of the program, as `check --size 16`, and their input;
-#                                                              without them: eval and both forms of check, on examples)
+#                                                              without them: eval, run and both forms of check, on examples)
 #   NCROUTE=PATH   the program (crates/ncroute/out/ncroute, which `rt run` in crates/ncroute builds)
 set -eu
 top="$(cd "$(dirname "$0")/.." && pwd)"
@@ -47,6 +47,9 @@ else
     sweep "$top/examples/up_two.eval" eval
     for filter in "$top"/examples/*.filter; do
         sweep "$filter" check --size 16
+    done
+    for script in "$top"/examples/*.script; do
+        sweep "$script" run
     done
     "$ncroute" check --size 16 <"$top/examples/no_bogons.filter" | sed -n 's/^code //p' >"$folder/code"
     sweep "$folder/code" check --size 16 --code
