@@ -97,7 +97,11 @@ fn limits_lines_and_names(rt: HostRuntime) -> Result<(), Fail> {
 
 #[test]
 fn keeps_the_text_of_a_filter(rt: HostRuntime) -> Result<(), Fail> {
-    let Command::Load { name, text } = read_command(rt.alloc(), b" load\tname_1 \t filter \t f {} \t")? else {
+    let Command::Load { name, text } = read_command(
+        rt.alloc(),
+        b" load\tname_1 \t filter \t f {} \t",
+    )?
+    else {
         return Err(Fail::from("another command"));
     };
     assert_eq!(&rt; name, b"name_1".as_slice());

@@ -1,11 +1,10 @@
 //! What a script's reader and writer see: blocks, limits, and faults in mid-stream.
 
+use crate::run_script_tests::expect_answers;
 use operator_cmds::{ScriptFault, run_script};
 use std::io::ErrorKind;
 use std::test::Fail;
 use worked_rows::{FailingReader, FailingWriter, Terminal};
-
-use crate::run_script_tests::expect_answers;
 
 #[test]
 fn cuts_lines(rt: HostRuntime) -> Result<(), Fail> {
@@ -27,7 +26,13 @@ fn limits_the_input(rt: HostRuntime) -> Result<(), Fail> {
     input.resize(16_777_214, b'#')?;
     input.extend_from_slice(b"\nx")?;
     // The last line of an input at the limit is answered.
-    expect_answers(&rt, alloc, input.as_slice(), b"ok\nroute 0 local\nrefused O1 4\n", 1)?;
+    expect_answers(
+        &rt,
+        alloc,
+        input.as_slice(),
+        b"ok\nroute 0 local\nrefused O1 4\n",
+        1,
+    )?;
     input.push(b'y')?;
     let mut reader = input.as_slice();
     let mut writer = Vec::new(alloc);
@@ -69,7 +74,10 @@ const TYPED: &[(&[u8], &[u8])] = &[
     (b"network 4 0\n", b"ok\n"),
     (b"up 1\n", b"opened 1\n"),
     (b"# no answer\n", b""),
-    (b"take 1\nshow 9\n", b"messages 0:0 1:4 2:4 3:4\nrefused N4 2\n"),
+    (
+        b"take 1\nshow 9\n",
+        b"messages 0:0 1:4 2:4 3:4\nrefused N4 2\n",
+    ),
     (b"load F filter f { reject; }\n", b"verified 1 0\n"),
 ];
 
