@@ -76,6 +76,11 @@ elif [ "$wanted" != eval ]; then
         "$bench/generate.py" "${name_rounds%=*}" 20000 1 64 >"$folder/${name_rounds%=*}"
         inputs+=("$folder/$name_rounds")
     done
+    in_c=none
+    if command -v gcc >/dev/null; then
+        in_c="$folder/machines"
+        gcc -O3 -o "$in_c" "$bench/baseline/machines.c"
+    fi
     [ "$wanted" = instructions ] && measure=instructions || measure="${ROUNDS:-7}"
-    "$bench/machines.py" "$FILTER_BENCH" "$folder/plain" "$measure" "${inputs[@]}"
+    "$bench/machines.py" "$FILTER_BENCH" "$folder/plain" "$in_c" "$measure" "${inputs[@]}"
 fi
