@@ -3,6 +3,7 @@ pub mod Errors
 pub mod Goes
 pub mod Good
 pub mod Holders
+pub mod Listed
 pub mod Lists
 pub mod Mapped
 pub mod Nearest

@@ -1,6 +1,6 @@
 -- The present sessions, as the tables keep them.
-use Rattle.std.specs.Prelude.{◌≡◌, ℕ, ◌<◌, ◌≤◌, All, Contains, List, map, slice_index}
-use Rattle.std.specs.List.{AllPairs}
+use Rattle.std.specs.Prelude.{◌≡◌, ◌≢◌, ℕ, ◌<◌, ◌≤◌, All, Contains, List, length, map, slice_index}
+use Rattle.std.specs.List.{AllPairs, HoldsAt}
 use Rattle.netchange_core.specs.declared.sessions.Present.{Present}
 use Rattle.netchange_core.specs.World.{NeighbourView}
 
@@ -27,3 +27,9 @@ pub record ArePresent (count : ℕ) (sessions : List ℕ) (ps : List Present) : 
   pub rising : AreRising ps
   pub each : All (IsPresent count sessions) ps
   pub listed : (k : ℕ) → 0 < slice_index sessions k → Contains ps (present (slice_index sessions k) k)
+
+-- the list names each up neighbour once, and no other node
+pub record AreListed (sessions : List ℕ) (ps : List Present) : Type 0 where
+  pub up : All (λ p. 0 < slice_index sessions p.node) ps
+  pub apart : AllPairs (λ p q. p.node ≢ q.node) ps
+  pub listed : (k : ℕ) → 0 < slice_index sessions k → (i : ℕ) × (i < length ps) × HoldsAt (λ p. p.node ≡ k) ps i

@@ -35,10 +35,10 @@ pub(crate) fn down(
     ensures same { OnErr result (world_of opening.now sessions.new.count neighbours.new
         ≡ world_of opening.now sessions.old.count neighbours.old) }
 {
-    make_room(neighbours, usize::from(opening.size()))?;
+    make_room(&sessions.present, neighbours, usize::from(opening.size()))?;
     let neighbour = &mut neighbours[hop];
     close(&mut sessions.present, neighbour.session);
     leave(opening, neighbour);
-    let changed = settle(opening, neighbours, destinations, hop);
+    let changed = settle(opening, &sessions.present, neighbours, destinations, hop);
     Ok(Reply::Done { changed })
 }

@@ -1,6 +1,6 @@
 //! Distances under filters.
 
-ghost use Rattle.std.specs.Prelude.{◌≡◌, ◌<◌, ◌≤◌};
+ghost use Rattle.std.specs.Prelude.{◌≡◌, ◌<◌, ◌≤◌, Some};
 ghost use Rattle.netchange_core.specs.Kept.{FitsSize, filter_of};
 ghost use Rattle.netchange_core.specs.Pass.{pass};
 
@@ -9,8 +9,9 @@ use filter_machine::{Verdict, run};
 use filter_verifier::Verified;
 use std::sync::Arc;
 
-/// What a distance to a node becomes under a filter.
+/// What a distance to a node becomes under a filter, if there is one.
 #[tactic(auto, unfolding(crate::specs::Pass::pass))]
+#[inline]
 pub(crate) fn pass(opening: &Opening, filter: &Option<Arc<Verified>>, node: u16, dist: u16) -> u16
     requires fits { FitsSize opening.now.size (filter_of filter.now) }
     requires node { node < opening.now.size }
@@ -18,10 +19,24 @@ pub(crate) fn pass(opening: &Opening, filter: &Option<Arc<Verified>>, node: u16,
     ensures value { result ≡ pass opening.now (filter_of filter.now) node dist }
     ensures reachable { result ≤ opening.now.size }
 {
+    match filter {
+        None => dist,
+        Some(filter) => passed(opening, filter, node, dist),
+    }
+}
+
+/// What a distance to a node becomes under a filter. It is a function of its own so that the tables' loops stay short
+/// where there is no filter.
+#[tactic(auto, unfolding(crate::specs::Pass::pass))]
+#[inline(never)]
+fn passed(opening: &Opening, filter: &Verified, node: u16, dist: u16) -> u16
+    requires fits { filter.now.size ≡ opening.now.size }
+    requires node { node < opening.now.size }
+    requires reachable { dist ≤ opening.now.size }
+    ensures value { result ≡ pass opening.now (Some filter.now) node dist }
+    ensures reachable { result ≤ opening.now.size }
+{
     let size = opening.size();
-    let Some(filter) = filter else {
-        return dist;
-    };
     if dist == size {
         return size;
     }

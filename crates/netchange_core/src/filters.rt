@@ -4,7 +4,7 @@ ghost use Rattle.std.specs.Prelude.{◌≡◌, ℕ, IfOk, OnErr, map};
 ghost use Rattle.netchange_core.specs.Calls.{MayNeedMemory};
 ghost use Rattle.netchange_core.specs.Kept.{AreKept, view_of, world_of};
 ghost use Rattle.netchange_core.specs.Next.{answered, set_export, set_import};
-ghost use Rattle.netchange_core.specs.Present.{sessions_of};
+ghost use Rattle.netchange_core.specs.Present.{AreListed, sessions_of};
 
 use crate::changing::{export, import};
 use crate::destination::Destination;
@@ -12,6 +12,7 @@ use crate::neighbour::{Neighbour, is_no_neighbour};
 use crate::opening::Opening;
 use crate::reply::{Refusal, Reply};
 use crate::room::{make_room, make_room_for};
+use crate::sessions::Present;
 use crate::settling::settle;
 use filter_verifier::Verified;
 use std::alloc::AllocError;
@@ -20,12 +21,14 @@ use std::sync::Arc;
 /// The distances that a node tells pass this filter from now on.
 pub(crate) fn set_import(
     opening: &Opening,
+    present: &[Present],
     neighbours: &mut [Neighbour],
     destinations: &mut [Destination],
     node: u16,
     filter: &Arc<Verified>,
 ) -> Result<Reply, AllocError>
     requires kept { AreKept opening.now (map view_of neighbours.old) destinations.old }
+    requires listed { AreListed (sessions_of (map view_of neighbours.old)) present.now }
     ensures done { (n : ℕ) → IfOk result (λ r. set_import (world_of opening.now n neighbours.old) node filter.now.value
         ≡ answered (world_of opening.now n neighbours.new) r) }
     ensures kept { AreKept opening.now (map view_of neighbours.new) destinations.new }
@@ -41,10 +44,10 @@ pub(crate) fn set_import(
         return Ok(Reply::Refused(Refusal::OtherSize));
     }
     let filter = Arc::try_clone(filter)?;
-    make_room(neighbours, usize::from(opening.size()))?;
+    make_room(present, neighbours, usize::from(opening.size()))?;
     let k = usize::from(node);
     import(&mut neighbours[k], filter);
-    let changed = settle(opening, neighbours, destinations, k);
+    let changed = settle(opening, present, neighbours, destinations, k);
     Ok(Reply::Done { changed })
 }
 

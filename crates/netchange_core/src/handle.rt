@@ -70,7 +70,14 @@ pub(crate) fn handle(
                     dest: *dest,
                     dist: *dist,
                 };
-                receive(opening, neighbours, destinations, hop, message)
+                receive(
+                    opening,
+                    &sessions.present,
+                    neighbours,
+                    destinations,
+                    hop,
+                    message,
+                )
             }
             None => Ok(Reply::Refused(Refusal::Stale)),
         },
@@ -79,7 +86,14 @@ pub(crate) fn handle(
             None => Ok(Reply::Refused(Refusal::Stale)),
         },
         Event::SetImport(node, filter) => {
-            set_import(opening, neighbours, destinations, *node, filter)
+            set_import(
+                opening,
+                &sessions.present,
+                neighbours,
+                destinations,
+                *node,
+                filter,
+            )
         }
         Event::SetExport(node, filter) => {
             set_export(opening, neighbours, destinations, *node, filter)

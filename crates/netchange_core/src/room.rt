@@ -3,9 +3,11 @@
 ghost use Rattle.std.specs.Prelude.{◌≡◌, ◌≢◌, ◌+◌, ◌≤◌, OnOk, map};
 ghost use Rattle.std.specs.VecDeque.{deque_len, deque_capacity};
 ghost use Rattle.netchange_core.specs.Kept.{view_of};
+ghost use Rattle.netchange_core.specs.Present.{AreListed, sessions_of};
 ghost use Rattle.netchange_core.specs.Room.{HasRoom, HaveRoom};
 
 use crate::neighbour::Neighbour;
+use crate::sessions::Present;
 use std::alloc::AllocError;
 
 /// Makes room for so many more messages to a neighbour.
@@ -28,27 +30,34 @@ pub(crate) fn make_room_for(neighbour: &mut Neighbour, more: usize) -> Result<()
 }
 
 /// Makes room for so many more messages to each up neighbour.
-pub(crate) fn make_room(neighbours: &mut [Neighbour], more: usize) -> Result<(), AllocError>
+pub(crate) fn make_room(
+    present: &[Present],
+    neighbours: &mut [Neighbour],
+    more: usize,
+) -> Result<(), AllocError>
+    requires listed { AreListed (sessions_of (map view_of neighbours.old)) present.now }
     ensures same { map view_of neighbours.new ≡ map view_of neighbours.old }
     ensures room { OnOk result (HaveRoom more neighbours.new) }
 {
-    for k in 0..neighbours.len() {
-        make_room_for(&mut neighbours[k], more)?;
+    for session in present {
+        reserve(&mut neighbours[usize::from(session.node)], more)?;
     }
     Ok(())
 }
 
 /// Makes room for one more message to each up neighbour, where two distances differ.
 pub(crate) fn make_room_if_differs(
+    present: &[Present],
     neighbours: &mut [Neighbour],
     old: u16,
     new: u16,
 ) -> Result<(), AllocError>
+    requires listed { AreListed (sessions_of (map view_of neighbours.old)) present.now }
     ensures same { map view_of neighbours.new ≡ map view_of neighbours.old }
     ensures room { OnOk result (old ≢ new → HaveRoom 1 neighbours.new) }
 {
     if old == new {
         return Ok(());
     }
-    make_room(neighbours, 1)
+    make_room(present, neighbours, 1)
 }

@@ -1,9 +1,10 @@
 //! Routes after a neighbour's distances changed.
 
-ghost use Rattle.std.specs.Prelude.{◌≡◌, ◌≢◌, ℕ, ◌+◌, ◌<◌, ◌≤◌, ◌==◌, not, if◌then◌else◌, map, length, slice_index_or, slice_set};
+ghost use Rattle.std.specs.Prelude.{◌≡◌, ℕ, ◌+◌, ◌<◌, ◌≤◌, ◌==◌, not, if◌then◌else◌, map, length, slice_index_or, slice_set};
 ghost use Rattle.netchange_core.specs.Best.{best_by, neighbour_distance};
 ghost use Rattle.netchange_core.specs.Kept.{AreDestinations, AreKept, AreNeighbours, IsDestination, IsNeighbour, distance_by, kept_distance, view_of};
 ghost use Rattle.netchange_core.specs.Next.{count_changes, tell, tell_changes};
+ghost use Rattle.netchange_core.specs.Present.{AreListed, sessions_of};
 ghost use Rattle.netchange_core.specs.Room.{HaveRoom};
 ghost use Rattle.netchange_core.specs.Settling.{AreStaleAt, told_if_differs};
 ghost use Rattle.netchange_core.specs.World.{neighbour_at};
@@ -13,7 +14,8 @@ use crate::destination::Destination;
 use crate::filter::pass;
 use crate::neighbour::Neighbour;
 use crate::opening::Opening;
-use crate::telling::tell_all;
+use crate::sessions::Present;
+use crate::telling::tell_if_differs;
 
 /// How far a node is from a neighbour, after the import filter.
 pub(crate) fn neighbour_distance(opening: &Opening, neighbour: &Neighbour, node: u16) -> u16
@@ -58,40 +60,20 @@ pub(crate) fn route_after(
     )
 }
 
-/// Keeps a neighbour's new distance from a node and the new route to the node, and tells its distance if it changed, which
-/// is answered.
-pub(crate) fn put(
-    opening: &Opening,
-    neighbours: &mut [Neighbour],
-    destination: &mut Destination,
-    node: u16,
-    hop: usize,
-    near: u16,
-    route: BestRoute,
-) -> bool
-    requires node { node < opening.now.size }
-    requires reachable { route.dist ≤ opening.now.size }
-    requires neighbours { AreNeighbours opening.now.size (map view_of neighbours.old) }
-    requires hop { hop < length destination.old.distances.items }
-    requires room { destination.old.route.dist ≢ route.dist → HaveRoom 1 neighbours.old }
-    ensures changed { result ≡ not (destination.old.route.dist == route.dist) }
-    ensures told { map view_of neighbours.new ≡ told_if_differs opening.now node destination.old.route.dist route.dist (map view_of neighbours.old) }
+/// Keeps a neighbour's new distance from a node, and the new route to the node.
+pub(crate) fn put(destination: &mut Destination, hop: usize, near: u16, route: BestRoute)
+    requires { hop < length destination.old.distances.items }
     ensures distances { destination.new.distances.items ≡ slice_set destination.old.distances.items hop near }
     ensures route { destination.new.route ≡ route }
-    ensures room { (more : ℕ) → HaveRoom (more + 1) neighbours.old → HaveRoom more neighbours.new }
 {
-    let differs = destination.route.dist != route.dist;
     destination.distances[hop] = near;
     destination.route = route;
-    if differs {
-        tell_all(opening, neighbours, node, route.dist);
-    }
-    differs
 }
 
 /// Brings the route to a node up to date, after one neighbour changed. Answers whether its distance changed.
 fn settle_at(
     opening: &Opening,
+    present: &[Present],
     neighbours: &mut [Neighbour],
     destination: &mut Destination,
     node: u16,
@@ -100,6 +82,7 @@ fn settle_at(
     requires node { node < opening.now.size }
     requires hop { hop < opening.now.size }
     requires neighbours { AreNeighbours opening.now.size (map view_of neighbours.old) }
+    requires listed { AreListed (sessions_of (map view_of neighbours.old)) present.now }
     requires right { IsDestination opening.now node destination.old }
     requires room { HaveRoom 1 neighbours.old }
     ensures changed { result ≡ not (destination.old.route.dist == destination.new.route.dist) }
@@ -111,18 +94,22 @@ fn settle_at(
 {
     let near = neighbour_distance(opening, &neighbours[hop], node);
     let route = route_after(opening, node, destination, hop, near);
-    put(opening, neighbours, destination, node, hop, near, route)
+    let old = destination.route.dist;
+    put(destination, hop, near, route);
+    tell_if_differs(opening, present, neighbours, node, old, route.dist)
 }
 
 /// Brings all routes up to date, after one neighbour changed, and tells the distances that changed. Answers how many did.
 pub(crate) fn settle(
     opening: &Opening,
+    present: &[Present],
     neighbours: &mut [Neighbour],
     destinations: &mut [Destination],
     hop: usize,
 ) -> u16
     requires hop { hop < opening.now.size }
     requires neighbours { AreNeighbours opening.now.size (map view_of neighbours.old) }
+    requires listed { AreListed (sessions_of (map view_of neighbours.old)) present.now }
     requires destinations { AreDestinations opening.now destinations.old }
     requires stale { AreStaleAt opening.now hop (map view_of neighbours.old) destinations.old }
     requires room { HaveRoom opening.now.size neighbours.old }
@@ -136,6 +123,7 @@ pub(crate) fn settle(
     for node in 0..opening.size() {
         changed += u16::from(settle_at(
             opening,
+            present,
             neighbours,
             &mut destinations[usize::from(node)],
             node,

@@ -1,16 +1,19 @@
 //! Messages into the queues.
 
-ghost use Rattle.std.specs.Prelude.{◌≡◌, ℕ, ◌+◌, ◌<◌, ◌≤◌, [], ◌∷◌, map};
+ghost use Rattle.std.specs.Prelude.{◌≡◌, ◌≢◌, ℕ, ◌+◌, ◌<◌, ◌≤◌, ◌==◌, not, if◌then◌else◌, [], ◌∷◌, map};
 ghost use Rattle.std.specs.VecDeque.{deque_len, deque_capacity};
 ghost use Rattle.netchange_core.specs.Kept.{AreDestinations, AreNeighbours, FitsSize, filter_of, kept_distance, view_of};
 ghost use Rattle.netchange_core.specs.Next.{all_messages, message_of, tell};
-ghost use Rattle.netchange_core.specs.Room.{HasRoom, HaveRoom, queueing};
+ghost use Rattle.netchange_core.specs.Present.{AreListed, sessions_of};
+ghost use Rattle.netchange_core.specs.Room.{HaveRoom, queueing};
+ghost use Rattle.netchange_core.specs.Settling.{told_if_differs};
 
 use crate::destination::Destination;
 use crate::filter::pass;
 use crate::message::Message;
 use crate::neighbour::Neighbour;
 use crate::opening::Opening;
+use crate::sessions::Present;
 
 /// Queues the distance to a node for a neighbour.
 fn queue_message(opening: &Opening, neighbour: &mut Neighbour, node: u16, dist: u16)
@@ -28,32 +31,51 @@ fn queue_message(opening: &Opening, neighbour: &mut Neighbour, node: u16, dist: 
         .push_back_reserved(Message { dest: node, dist });
 }
 
-/// Tells a neighbour the distance to a node, if it is up.
-fn tell(opening: &Opening, neighbour: &mut Neighbour, node: u16, dist: u16)
-    requires node { node < opening.now.size }
-    requires reachable { dist ≤ opening.now.size }
-    requires exports { FitsSize opening.now.size (filter_of neighbour.old.exports) }
-    requires room { HasRoom 1 neighbour.old }
-    ensures told { view_of neighbour.new ≡ tell opening.now node dist (view_of neighbour.old) }
-    ensures room { (more : ℕ) → HasRoom (more + 1) neighbour.old → HasRoom more neighbour.new }
-{
-    if 0 < neighbour.session {
-        queue_message(opening, neighbour, node, dist);
-    }
-}
-
 /// Tells each up neighbour the distance to a node.
-pub(crate) fn tell_all(opening: &Opening, neighbours: &mut [Neighbour], node: u16, dist: u16)
+fn tell_all(
+    opening: &Opening,
+    present: &[Present],
+    neighbours: &mut [Neighbour],
+    node: u16,
+    dist: u16,
+)
     requires node { node < opening.now.size }
     requires reachable { dist ≤ opening.now.size }
     requires neighbours { AreNeighbours opening.now.size (map view_of neighbours.old) }
+    requires listed { AreListed (sessions_of (map view_of neighbours.old)) present.now }
     requires room { HaveRoom 1 neighbours.old }
     ensures told { map view_of neighbours.new ≡ map (tell opening.now node dist) (map view_of neighbours.old) }
     ensures room { (more : ℕ) → HaveRoom (more + 1) neighbours.old → HaveRoom more neighbours.new }
 {
-    for k in 0..neighbours.len() {
-        tell(opening, &mut neighbours[k], node, dist);
+    for session in present {
+        let neighbour = &mut neighbours[usize::from(session.node)];
+        queue_message(opening, neighbour, node, dist);
     }
+}
+
+/// Tells each up neighbour the distance to a node where it is another than it was. Answers whether it is.
+pub(crate) fn tell_if_differs(
+    opening: &Opening,
+    present: &[Present],
+    neighbours: &mut [Neighbour],
+    node: u16,
+    old: u16,
+    new: u16,
+) -> bool
+    requires node { node < opening.now.size }
+    requires reachable { new ≤ opening.now.size }
+    requires neighbours { AreNeighbours opening.now.size (map view_of neighbours.old) }
+    requires listed { AreListed (sessions_of (map view_of neighbours.old)) present.now }
+    requires room { old ≢ new → HaveRoom 1 neighbours.old }
+    ensures differs { result ≡ not (old == new) }
+    ensures told { map view_of neighbours.new ≡ told_if_differs opening.now node old new (map view_of neighbours.old) }
+    ensures room { (more : ℕ) → HaveRoom (more + 1) neighbours.old → HaveRoom more neighbours.new }
+{
+    let differs = old != new;
+    if differs {
+        tell_all(opening, present, neighbours, node, new);
+    }
+    differs
 }
 
 /// Tells a neighbour the distances to all nodes, from node 0 upwards.

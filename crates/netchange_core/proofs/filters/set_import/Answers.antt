@@ -2,7 +2,7 @@ use Rattle.std.proofs.Common.{◌≡◌, ◌<◌, length, map, ap, refl, sym, su
 use Rattle.std.proofs.lemmas.List.{length-map}
 use Rattle.netchange_core.specs.Kept.{AreNeighbours, view_of, world_of}
 use Rattle.netchange_core.specs.Next.{importing, recomputed}
-use Rattle.netchange_core.specs.Present.{sessions_of}
+use Rattle.netchange_core.specs.Present.{AreListed, sessions_of}
 use Rattle.netchange_core.specs.Room.{HaveRoom}
 use Rattle.netchange_core.specs.World.{changed, neighbour_at, nobody}
 use Rattle.netchange_core.proofs.Change.{change_good, change_stale, changed_after}
@@ -31,6 +31,18 @@ settle-changed-requires-clause-neighbours c =
     (change_good o.size k (importing c.in_ok-filter.filter.value) ns h c.requires.kept.neighbours
     (importing_good o.size c.in_ok-filter.filter.value (neighbour_at ns k) size
     (c.requires.kept.neighbours.each k nobody h)))
+
+pub settle-changed-requires-clause-listed : goal.settle-changed-requires-clause-listed
+settle-changed-requires-clause-listed c =
+    let k = c.from-k.result in
+    let f = importing c.in_ok-filter.filter.value in
+    let below = neighbour_below c.args.opening.now c.args.node (sym c.is_no_neighbour.ensures ∙ c.if-is_no_neighbour.false) in
+    let short : k < length c.make_room.new.neighbours =
+    omega (arith, below, c.requires.kept.neighbours.one_a_node, length-map c.args.neighbours.now view_of) in
+    let e = changed_after c.args.neighbours.now c.make_room.new.neighbours k c.import.new.neighbour
+    c.index-neighbours-k.result f short c.make_room.ensures.same c.import.ensures.view in
+    subst (λ ss. AreListed ss c.args.present.now)
+    (sym (sessions_kept (map view_of c.args.neighbours.now) _ k f e (λ _. refl))) c.requires.listed
 
 pub settle-changed-requires-clause-stale : goal.settle-changed-requires-clause-stale
 settle-changed-requires-clause-stale c =

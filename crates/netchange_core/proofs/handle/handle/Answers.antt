@@ -3,6 +3,7 @@ use Rattle.std.proofs.lemmas.List.{length-map}
 use Rattle.netchange_core.specs.Kept.{view_of}
 use Rattle.netchange_core.proofs.Errors.{on_err}
 use Rattle.netchange_core.proofs.Holders.{found_holds, found_up}
+use Rattle.netchange_core.proofs.Listed.{present_listed}
 use Rattle.netchange_core.proofs.handle.handle.Goals as goal
 
 pub down-requires-clause-hop : goal.down-requires-clause-hop
@@ -94,3 +95,11 @@ returns-in-SetImport-clause-done c = rw c.in-SetImport.is (c.set_import.ensures.
 
 pub returns-in-SetImport-clause-memory : goal.returns-in-SetImport-clause-memory
 returns-in-SetImport-clause-memory c = rw c.in-SetImport.is (c.set_import.ensures.memory c.args.sessions.now.count)
+
+pub receive-requires-clause-listed : goal.receive-requires-clause-listed
+receive-requires-clause-listed c =
+    rw c.deref.ensures.value (present_listed c.args.sessions.now.count _ _ c.requires.present)
+
+pub set_import-requires-clause-listed : goal.set_import-requires-clause-listed
+set_import-requires-clause-listed c =
+    rw c.deref-in-SetImport.ensures.value (present_listed c.args.sessions.now.count _ _ c.requires.present)

@@ -4,7 +4,7 @@ use Rattle.std.proofs.lemmas.List.{length-map}
 use Rattle.netchange_core.specs.Kept.{AreNeighbours, view_of}
 use Rattle.netchange_core.specs.Next.{heard}
 use Rattle.netchange_core.specs.Pass.{pass}
-use Rattle.netchange_core.specs.Present.{sessions_of}
+use Rattle.netchange_core.specs.Present.{AreListed, sessions_of}
 use Rattle.netchange_core.specs.World.{neighbour_at, nobody}
 use Rattle.netchange_core.proofs.Change.{change_good, changed_after}
 use Rattle.netchange_core.proofs.Good.{heard_good}
@@ -26,8 +26,8 @@ hear-requires c =
     (omega (arith, c.requires.hop)) in
     omega (arith, good.one_a_node)
 
-pub put-differs-requires-clause-neighbours : goal.put-differs-requires-clause-neighbours
-put-differs-requires-clause-neighbours c =
+pub tell_if_differs-differs-requires-clause-neighbours : goal.tell_if_differs-differs-requires-clause-neighbours
+tell_if_differs-differs-requires-clause-neighbours c =
     let o = c.args.opening.now in
     let k = c.args.hop in
     let f = heard c.args.message.dest c.args.message.dist in
@@ -41,8 +41,16 @@ put-differs-requires-clause-neighbours c =
     (heard_good o.size c.args.message.dest c.args.message.dist (neighbour_at ns k) (omega arith) (omega arith)
     (c.requires.kept.neighbours.each k nobody h)))
 
-pub put-differs-requires-clause-room : goal.put-differs-requires-clause-room
-put-differs-requires-clause-room c = λ differs.
+pub tell_if_differs-differs-requires-clause-listed : goal.tell_if_differs-differs-requires-clause-listed
+tell_if_differs-differs-requires-clause-listed c =
+    let f = heard c.args.message.dest c.args.message.dist in
+    let e = changed_after c.args.neighbours.now c.make_room_if_differs.new.neighbours c.args.hop c.hear.new.neighbour
+    c.index-neighbours-hop-2.result f (omega (arith, c.requires.hop)) c.make_room_if_differs.ensures.same c.hear.ensures.view in
+    subst (λ ss. AreListed ss c.args.present.now)
+    (sym (sessions_kept (map view_of c.args.neighbours.now) _ c.args.hop f e (λ _. refl))) c.requires.listed
+
+pub tell_if_differs-differs-requires-clause-room : goal.tell_if_differs-differs-requires-clause-room
+tell_if_differs-differs-requires-clause-room c = λ differs.
     let room = c.in_ok-make_room_if_differs.ensures.room differs in
     let short : c.args.hop < length c.make_room_if_differs.new.neighbours = omega (arith, c.requires.hop) in
     room_set 1 c.make_room_if_differs.new.neighbours c.args.hop c.hear.new.neighbour short room
@@ -65,8 +73,8 @@ returns-clause-done c = λ n.
     ∙ received o k v d ns _ c.args.destinations.now c.index-destinations-from.result c.pass-near.result
     c.route_after-route.result c.requires.kept h e (omega arith) (omega arith)
     c.requires.up near c.from.result c.from.ensures
-    c.route_after-route.ensures.best n _ c.from-2.result c.put-differs.ensures.told
-    (c.from-2.ensures ∙ ap from_bool c.put-differs.ensures.changed)
+    c.route_after-route.ensures.best n _ c.from-2.result c.tell_if_differs-differs.ensures.told
+    (c.from-2.ensures ∙ ap from_bool c.tell_if_differs-differs.ensures.differs)
 
 pub returns-clause-kept : goal.returns-clause-kept
 returns-clause-kept c =
@@ -84,8 +92,8 @@ returns-clause-kept c =
     received_kept o k v d ns _ c.args.destinations.now c.index-destinations-from.result c.pass-near.result
     c.route_after-route.result c.requires.kept h e (omega arith) (omega arith)
     c.requires.up near c.from.result c.from.ensures
-    c.route_after-route.ensures.best _ c.put-differs.new.destination c.put-differs.ensures.told
-    c.put-differs.ensures.distances c.put-differs.ensures.route
+    c.route_after-route.ensures.best _ c.put.new.destination c.tell_if_differs-differs.ensures.told
+    c.put.ensures.distances c.put.ensures.route
 
 pub returns-clause-sessions : goal.returns-clause-sessions
 returns-clause-sessions c =
@@ -93,5 +101,5 @@ returns-clause-sessions c =
     let f = heard c.args.message.dest c.args.message.dist in
     let e = changed_after c.args.neighbours.now c.make_room_if_differs.new.neighbours k c.hear.new.neighbour
     c.index-neighbours-hop-2.result f (omega (arith, c.requires.hop)) c.make_room_if_differs.ensures.same c.hear.ensures.view in
-    ap sessions_of c.put-differs.ensures.told ∙ sessions_told_one c.args.opening.now c.args.message.dest _ _ _
+    ap sessions_of c.tell_if_differs-differs.ensures.told ∙ sessions_told_one c.args.opening.now c.args.message.dest _ _ _
     ∙ sessions_kept (map view_of c.args.neighbours.now) _ k f e (λ _. refl)

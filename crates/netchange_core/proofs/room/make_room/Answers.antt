@@ -1,18 +1,29 @@
-use Rattle.std.proofs.Common.{◌∙◌, arith}
-use Rattle.netchange_core.specs.Room.{HasRoom}
-use Rattle.netchange_core.proofs.Replaced.{below_set}
+use Rattle.std.proofs.Common.{◌+◌, ◌<◌, ◌≤◌, length, sym, ◌∙◌, arith, deque_capacity, deque_len}
+use Rattle.netchange_core.specs.Present.{present}
+use Rattle.netchange_core.proofs.Listed.{named_below, named_set, room_named}
 use Rattle.netchange_core.proofs.Views.{same_views}
 use Rattle.netchange_core.proofs.room.make_room.Goals as goal
 
-pub returns-in_err-make_room_for-clause-same : goal.returns-in_err-make_room_for-clause-same
-returns-in_err-make_room_for-clause-same c =
-    same_views c.loop-k.neighbours c.loop-k.k _ c.index-neighbours-k.result c.make_room_for.ensures.same
-    ∙ c.loop-k.invariant.same
+pub returns-in_err-reserve-clause-same : goal.returns-in_err-reserve-clause-same
+returns-in_err-reserve-clause-same c =
+    same_views c.loop-session.neighbours c.from.result c.reserve.new.neighbour c.index-neighbours-from.result c.reserve.ensures.same
+    ∙ c.loop-session.invariant.same
 
-pub loop-k-preserved : goal.loop-k-preserved
-loop-k-preserved c = record {
-  same = same_views c.loop-k.neighbours c.loop-k.k _ c.index-neighbours-k.result c.make_room_for.ensures.same
-      ∙ c.loop-k.invariant.same;
-  room = λ j d h. below_set (λ _ n. HasRoom c.args.more n) c.loop-k.neighbours c.loop-k.k _ d (omega arith)
-      c.in_ok-make_room_for.ensures.room (λ i k. c.loop-k.invariant.room i d k) j h;
-}
+pub loop-session-preserved : goal.loop-session-preserved
+loop-session-preserved c =
+    let i = c.loop-session.session-index in
+    let below = named_below c.args.neighbours.now c.args.present.now i (present 0 0) c.requires.listed c.loop-session-test.true in
+    let short : c.from.result < length c.loop-session.neighbours = omega (arith, below, c.from.ensures) in
+    record {
+      same = same_views c.loop-session.neighbours c.from.result c.reserve.new.neighbour c.index-neighbours-from.result
+          c.reserve.ensures.same
+          ∙ c.loop-session.invariant.same;
+      room = named_set (λ n. deque_len n.queue + c.args.more ≤ deque_capacity n.queue) c.args.present.now i (present 0 0)
+          c.loop-session.neighbours c.from.result c.reserve.new.neighbour short c.loop-session-test.true (sym c.from.ensures)
+          c.in_ok-reserve.ensures.room c.loop-session.invariant.room;
+    }
+
+pub returns-clause-room : goal.returns-clause-room
+returns-clause-room c =
+    room_named c.args.more c.args.present.now c.args.neighbours.now c.loop-session.neighbours c.requires.listed
+    c.loop-session.invariant.same (λ j p e h. c.loop-session.invariant.room j p e (omega arith))

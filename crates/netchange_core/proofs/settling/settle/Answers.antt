@@ -2,6 +2,8 @@ use Rattle.std.specs.Int.{from_bool}
 use Rattle.std.proofs.Common.{◌≡◌, ◌≤◌, map, slice_index_or, ap, sym, subst, ◌∙◌, arith, le_refl}
 use Rattle.std.proofs.lemmas.List.{length-map}
 use Rattle.netchange_core.specs.Kept.{AreNeighbours, IsDestination, distance_by, kept_distance, view_of}
+use Rattle.netchange_core.specs.Present.{AreListed, sessions_of}
+use Rattle.netchange_core.proofs.Presence.{sessions_told}
 use Rattle.netchange_core.proofs.Queued.{changes_good}
 use Rattle.netchange_core.proofs.Settled.{Settled, count_within, byte_within, less_room, settled_kept, settled_more_at}
 use Rattle.netchange_core.proofs.settling.settle.Goals as goal
@@ -12,6 +14,11 @@ settle_at-requires-clause-neighbours c =
     subst (AreNeighbours o.size) (sym c.loop-node.invariant.told)
     (changes_good o o.size (kept_distance c.args.destinations.now) (distance_by o (map view_of c.args.neighbours.now))
     c.loop-node.node (map view_of c.args.neighbours.now) c.requires.neighbours)
+
+pub settle_at-requires-clause-listed : goal.settle_at-requires-clause-listed
+settle_at-requires-clause-listed c =
+    subst (λ ss. AreListed ss c.args.present.now)
+    (sym (ap sessions_of c.loop-node.invariant.told ∙ sessions_told c.args.opening.now _ _ c.loop-node.node _)) c.requires.listed
 
 pub settle_at-requires-clause-right : goal.settle_at-requires-clause-right
 settle_at-requires-clause-right c =

@@ -1,40 +1,58 @@
-use Rattle.std.proofs.Common.{◌≡◌, ◌+◌, length, map, slice_index_or, ap, sym, ◌∙◌, subst, arith, le_refl}
-use Rattle.std.proofs.lemmas.List.{length-map, get_or_default}
-use Rattle.netchange_core.specs.Kept.{FitsSize, filter_of, view_of}
-use Rattle.netchange_core.specs.Next.{tell}
-use Rattle.netchange_core.specs.Room.{HasRoom}
-use Rattle.netchange_core.proofs.Mapped.{mapped, mapped_all}
-use Rattle.netchange_core.proofs.Replaced.{behind_set, below_set}
-use Rattle.netchange_core.proofs.Views.{good_at, told_more}
+use Rattle.std.proofs.Common.{◌≡◌, ◌<◌, ap, length, get_or, sym, subst, ◌∙◌, arith}
+use Rattle.netchange_core.specs.Kept.{FitsSize, filter_of}
+use Rattle.netchange_core.specs.Present.{present}
+use Rattle.netchange_core.proofs.Listed.{Told, all_told, named_below, next_room, next_same, room_told, told_one}
+use Rattle.netchange_core.proofs.Views.{good_at}
 use Rattle.netchange_core.proofs.telling.tell_all.Goals as goal
 
-pub tell-requires-clause-exports : goal.tell-requires-clause-exports
-tell-requires-clause-exports c =
-    subst (λ n. FitsSize c.args.opening.now.size (filter_of n.exports))
-    (sym (c.loop-k.invariant.rest c.loop-k.k c.index-neighbours-k.result (le_refl c.loop-k.k)))
-    (good_at c.args.opening.now.size c.args.neighbours.now c.loop-k.k c.index-neighbours-k.result c.requires.neighbours (omega arith)).exports
+pub queue_message-requires-clause-exports : goal.queue_message-requires-clause-exports
+queue_message-requires-clause-exports c =
+    let size = c.args.opening.now.size in
+    let old = c.args.neighbours.now in
+    let ps = c.args.present.now in
+    let i = c.loop-session.session-index in
+    let k = (get_or ps i (present 0 0)).node in
+    let head = c.index-neighbours-from.result in
+    let below : k < length old = named_below old ps i (present 0 0) c.requires.listed c.loop-session-test.true in
+    let same = next_same c.args.opening.now c.args.node c.args.dist ps old c.loop-session.neighbours c.loop-session.auto.neighbours
+    c.requires.listed i (present 0 0) head c.loop-session-test.true c.loop-session.invariant in
+    subst (λ n. FitsSize size (filter_of n.exports))
+    (sym (ap (λ j. get_or c.loop-session.neighbours j head) c.from.ensures ∙ same))
+    (good_at size old k head c.requires.neighbours below).exports
 
-pub loop-k-preserved : goal.loop-k-preserved
-loop-k-preserved c = record {
-  told = told_more (tell c.args.opening.now c.args.node c.args.dist) c.args.neighbours.now c.loop-k.neighbours c.loop-k.k _
-      c.index-neighbours-k.result (omega arith) c.loop-k.invariant.told
-      (c.loop-k.invariant.rest c.loop-k.k c.index-neighbours-k.result (le_refl c.loop-k.k)) c.tell.ensures.told;
-  room = λ more j d h. below_set
-      (λ i n. HasRoom (more + 1) (slice_index_or c.args.neighbours.now i d) → HasRoom more n)
-      c.loop-k.neighbours c.loop-k.k _ d (omega arith)
-      (λ room. c.tell.ensures.room more (subst (HasRoom (more + 1))
-      (get_or_default c.args.neighbours.now c.loop-k.k d c.index-neighbours-k.result (omega arith)
-      ∙ sym (c.loop-k.invariant.rest c.loop-k.k c.index-neighbours-k.result (le_refl c.loop-k.k))) room))
-      (λ i k. c.loop-k.invariant.room more i d k) j h;
-  rest = λ j d h. behind_set c.loop-k.neighbours c.loop-k.k _ d j h ∙ c.loop-k.invariant.rest j d (omega arith);
-}
+pub queue_message-requires-clause-room : goal.queue_message-requires-clause-room
+queue_message-requires-clause-room c =
+    rw c.from.ensures
+    (next_room c.args.opening.now c.args.node c.args.dist c.args.present.now c.args.neighbours.now c.loop-session.neighbours
+    c.loop-session.auto.neighbours c.requires.listed c.requires.room c.loop-session.session-index (present 0 0)
+    c.index-neighbours-from.result c.loop-session-test.true c.loop-session.invariant)
+
+pub loop-session-preserved : goal.loop-session-preserved
+loop-session-preserved c =
+    let view = rw c.from.ensures at c.queue_message.ensures.view in
+    let long = rw c.from.ensures at c.queue_message.ensures.len in
+    let wide = rw c.from.ensures at c.queue_message.ensures.capacity in
+    rw c.from.ensures
+    (told_one c.args.opening.now c.args.node c.args.dist c.args.present.now c.args.neighbours.now c.loop-session.neighbours
+    c.loop-session.auto.neighbours c.requires.listed c.loop-session.session-index (present 0 0) c.index-neighbours-from.result
+    c.queue_message.new.neighbour c.loop-session-test.true c.loop-session.invariant view long wide)
 
 pub returns-clause-told : goal.returns-clause-told
 returns-clause-told c =
-    let all : c.loop-k.k ≡ length (map view_of c.args.neighbours.now) = omega (arith, length-map c.args.neighbours.now view_of) in
-    c.loop-k.invariant.told
-    ∙ ap (λ k. mapped (tell c.args.opening.now c.args.node c.args.dist) k (map view_of c.args.neighbours.now)) all
-    ∙ mapped_all (tell c.args.opening.now c.args.node c.args.dist) (map view_of c.args.neighbours.now)
+    let o = c.args.opening.now in
+    let ps = c.args.present.now in
+    let old = c.args.neighbours.now in
+    let ns = c.loop-session.neighbours in
+    let whole : c.loop-session.session-index ≡ length ps = omega arith in
+    all_told o c.args.node c.args.dist ps old ns c.loop-session.auto.neighbours c.requires.listed
+    (subst (λ i. Told o c.args.node c.args.dist ps i old ns) whole c.loop-session.invariant)
 
 pub returns-clause-room : goal.returns-clause-room
-returns-clause-room c = λ more room j d h. c.loop-k.invariant.room more j d (omega arith) (room j d (omega arith))
+returns-clause-room c =
+    let o = c.args.opening.now in
+    let ps = c.args.present.now in
+    let old = c.args.neighbours.now in
+    let ns = c.loop-session.neighbours in
+    let whole : c.loop-session.session-index ≡ length ps = omega arith in
+    room_told o c.args.node c.args.dist ps old ns c.loop-session.auto.neighbours c.requires.listed
+    (subst (λ i. Told o c.args.node c.args.dist ps i old ns) whole c.loop-session.invariant)
