@@ -81,7 +81,7 @@ impl Write for Sink {
 }
 
 // Answers a line by its number and the line, refuses one that begins with `!`, ends at `quit`, and
-// has no memory for `full`, behind a begun answer.
+// has no memory for `full`, after a begun answer.
 #[derive(Drop)]
 struct Echo;
 

@@ -27,7 +27,7 @@ fn expect_answers(
     Ok(())
 }
 
-/// The same for one route line behind the line of a code.
+/// The same for one route line after the line of a code.
 fn expect_verdict(
     rt: &impl Abort,
     alloc: Global,
@@ -298,24 +298,19 @@ fn stops_at_a_write_fault(rt: HostRuntime) -> Result<(), Fail> {
     Ok(())
 }
 
+/// A fault of the program has the code and the words of the fault of its streams.
 #[test]
 fn names_each_fault(rt: HostRuntime) -> Result<(), Fail> {
-    let rows = [
-        (StreamFault::Read, "E1", "the input could not be read"),
-        (StreamFault::Write, "E2", "the output could not be written"),
-        (StreamFault::Memory, "E3", "out of memory"),
-        (
-            StreamFault::TooLong,
-            "E4",
-            "the input has more than 16777216 bytes",
-        ),
-    ];
-    for (fault, code, want) in rows {
-        let fault = ProgramFault::from(fault);
-        assert_eq!(&rt; fault.code(), code);
-        assert_eq!(&rt; fault.at(), 0);
-        let text = fault.to_string(rt.alloc())?;
-        assert_eq!(&rt; text.as_str(), want);
+    for stream in [
+        StreamFault::Read,
+        StreamFault::Write,
+        StreamFault::Memory,
+        StreamFault::TooLong,
+    ] {
+        let fault = ProgramFault::from(stream);
+        assert_eq!(&rt; (fault.code(), fault.at()), (stream.code(), 0));
+        let (text, want) = (fault.to_string(rt.alloc())?, stream.to_string(rt.alloc())?);
+        assert_eq!(&rt; text.as_str(), want.as_str());
     }
     Ok(())
 }

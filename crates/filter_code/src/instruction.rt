@@ -21,7 +21,7 @@ pub enum Instr {
     Load(u8),
     /// Any value to none: sets the local variable with this number.
     Store(u8),
-    /// to prefix: the route's prefix.
+    /// to prefix: the prefix of the route, as BIRD's `net`.
     Net,
     /// to int: the current metric.
     Metric,

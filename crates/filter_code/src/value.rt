@@ -15,9 +15,13 @@ pub enum Kind {
 /// A value of the machine.
 #[derive(Clone, Copy, Debug, PartialEq, Eq)]
 pub enum Value {
+    /// An int: a number below 2^32.
     Int(u32),
+    /// A bool.
     Bool(bool),
+    /// An ip: an address.
     Addr(Ip),
+    /// A prefix, whichever it is: the route's own is what `Instr::Net` gives.
     Net(Prefix),
 }
 

@@ -35,7 +35,7 @@ not_lower : (n least : ℕ) → nat_lt (max n least) least ≡ false
 not_lower n least = grind (arith, nat_tests)
 
 module _ (program : CodeView) (route : RouteView) (decls : List DeclView) where
-  -- the run comes behind the code, with nothing on the stack, or has ended as the course says
+  -- the run comes to the end of the code, with nothing on the stack, or has ended as the course says
   abbrev pub Leads : ℕ → Course → Type 0
   Leads pc (goes_on scene) = Stands program route scene pc [] × HaveKinds decls scene.variables
   Leads pc (ends (accepted metric)) = outcome.Accept metric ≡ outcome_of program route
@@ -52,7 +52,7 @@ module _ (program : CodeView) (route : RouteView) (decls : List DeclView) where
   runs_at : (pc pc' depth : ℕ) (course : Course) → pc ≡ pc' → Runs pc depth course → Runs pc' depth course
   runs_at pc pc' depth course e r = subst (λ n. Runs n depth course) e r
 
-  -- one of two courses, behind the value of a test
+  -- one of two courses, after the value of a test
   chosen_from : (scene : Scene) (pc1 pc2 depth all : ℕ) (o : Option Value) (first second : Course) → depth ≤ all
       → Comes program route scene pc1 [] kind.Bool depth o → (Stands program route scene pc1 (value.Bool true ∷ []) → Runs pc2 all first)
       → (Stands program route scene pc1 (value.Bool false ∷ []) → Runs pc2 all second) → Runs pc2 all (chosen_by o first second)

@@ -34,7 +34,7 @@ use Rattle.filter_compiler.proofs.Steps.{Stands, Fills, config_in, fills_more, s
 
 -- an instruction that puts a value of a kind on the stack
 module _ (program : CodeView) (route : RouteView) (scene : Scene) where
-  -- the run comes behind the code with the value, or has ended
+  -- the run comes to the end of the code with the value, or has ended
   abbrev pub Comes : ℕ → List Value → Kind → ℕ → Option Value → Type 0
   Comes pc stack k depth o = Gives program route scene pc stack k o ⊎ Fills program route depth
 
@@ -112,7 +112,7 @@ module _ (program : CodeView) (route : RouteView) (scene : Scene) where
       elim (right x g.0) [ inl h ↦ inl (then x y g.1 h.1 h.0) | inr full ↦ inr full ]
   both_from pc1 pc2 pc3 stack ja jb k depth f a b (inr full) right then = inr full
 
-  -- the value of `&&` and of `||` stands where the right side's does
+  -- the value of `&&` and of `||` is where the right side's is
   moved : (pc pc' : ℕ) (stack : List Value) (k : Kind) (o : Option Value)
       → ((v : Value) → Stands program route scene pc (v ∷ stack) → Stands program route scene pc' (v ∷ stack))
       → Gives program route scene pc stack k o → Gives program route scene pc' stack k o

@@ -46,7 +46,7 @@ suc_is_not_zero : (n : ℕ) → (suc n == 0) ≡ false
 suc_is_not_zero n = grind (arith, nat_tests)
 
 module _ (program : CodeView) (route : RouteView) (scene : Scene) where
-  -- a value of a kind stands on the stack, or the run has divided by zero
+  -- a value of a kind is on the stack, or the run has divided by zero
   abbrev pub Gives : ℕ → List Value → Kind → Option Value → Type 0
   Gives pc stack k (Some v) = Stands program route scene pc (v ∷ stack) × (kind_of_value v ≡ k)
   Gives pc stack k None = Divides program route
@@ -177,7 +177,7 @@ module _ (program : CodeView) (route : RouteView) (scene : Scene) where
   outside_runs pc stack (value.Net a) (value.Net b) k fits has s = (two_inverted pc stack instr.Within _ _ _ has.0 has.1.0 refl s, cc)
   outside_runs pc stack _ _ k fits has s = cc
 
-  -- an operator behind both its operands
+  -- an operator after both its operands
   pub operator_runs : (op : Op) (pc : ℕ) (stack : List Value) (a b : Value) (k : Kind) → TakesBoth op
       → operator op (kind_of_value a) (kind_of_value b) ≡ Some k → HasAt program.instrs pc (operator_code op)
       → Stands program route scene pc (b ∷ a ∷ stack) → Gives (pc + length (operator_code op)) stack k (result_of op a b)

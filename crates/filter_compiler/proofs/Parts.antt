@@ -1,10 +1,10 @@
--- A part of a list that stands at a place of it.
+-- A part of a list at a place of it.
 use Rattle.std.proofs.Common.{◌≡◌, ℕ, ◌+◌, ◌<◌, List, [], ◌∷◌, ◌++◌, length, Some, ap, ◌∙◌, subst, arith, append_assoc, length-append}
 use Rattle.std.specs.Prelude.{slice_get}
 use Rattle.std.proofs.Math.Seq.{get_or-append_seam}
 use Rattle.std.proofs.lemmas.Option.{slice_get-get_or}
 
--- the part stands in the list at this place
+-- the part is in the list at this place
 abbrev pub HasAt : {X : Type 0} → List X → ℕ → List X → Type 0
 HasAt xs at [] = Unit {0}
 HasAt xs at (p ∷ part) = (slice_get xs at ≡ Some p) × HasAt xs (at + 1) part
@@ -19,7 +19,7 @@ has_back xs at (x ∷ a) b h =
     let e : at + 1 + length a ≡ at + length (x ∷ a) = omega arith in
     subst (λ n. HasAt xs n b) e (has_back xs (at + 1) a b h.1)
 
--- what follows something stands behind it
+-- what follows something is at the place after it
 pub has_rest : {X : Type 0} (part before : List X) → HasAt (before ++ part) (length before) part
 has_rest [] before = tt
 has_rest (x ∷ part) before =

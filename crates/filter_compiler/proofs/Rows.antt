@@ -1,4 +1,4 @@
--- Worked rows: the definitions compute the code and the verdicts that are wanted of them.
+-- Worked rows: the definitions compute the code and the verdicts that they should.
 use Rattle.std.proofs.Common.{◌≡◌, ℕ, List, [], ◌∷◌, ◌++◌, Bool, true, false, codes, refl}
 use Rattle.filter_code.specs.declared.instruction.Instr.{Instr}
 use Rattle.filter_code.specs.declared.instruction.Instr.TheVariants as instr

@@ -67,7 +67,7 @@ held_from d decls b bound text k false found name kind wanted later =
           (number_later d decls text found)) rest.in_local;
     }
 
--- a variable that has a kind has a value of that kind, which stands in the local variable with its number
+-- a variable that has a kind has a value of that kind, which is in the local variable with its number
 pub held : (decls : List DeclView) (bound : List Bound) (text : List ℕ) (k : Kind) → HaveKinds decls bound
     → kind_named decls text ≡ Some k → IsHeld decls bound text k
 held [] [] text k have wanted = cc

@@ -5,12 +5,12 @@ use Rattle.filter_parser.specs.SyntaxCommands.{DeclView}
 use Rattle.filter_types.specs.Kinds.{number_of}
 use Rattle.filter_compiler.specs.Writing.{behind, next_number}
 
--- the numbers behind those of two parts
+-- the numbers after those of two parts
 pub behind_both : (a b : List (List ℕ)) (uses : List ℕ) → behind (a ++ b) uses ≡ behind b (behind a uses)
 behind_both a b uses = ap (λ n. drop n uses) (length-append a b) ∙ sym (drop-drop (length b) (length a) uses)
 
 module _ (decls : List DeclView) where
-  -- the numbers of the variables of these names stand at the front
+  -- the numbers of the variables of these names come first
   abbrev pub HasUses : List ℕ → List (List ℕ) → Type 0
   HasUses uses names = (rest : List ℕ) × (uses ≡ map (number_of decls) names ++ rest)
 

@@ -30,7 +30,7 @@ suffixes_sets : (inner : ExprView) (xs : List Suffix) → sets_of (suffixes_of i
 suffixes_sets inner [] = refl
 suffixes_sets inner (x ∷ xs) = suffixes_sets (suffixed inner x) xs
 
--- the numbers behind those of a run and of an operand with suffixes
+-- the numbers after those of a run and of an operand with suffixes
 pub chain_after : (uses after all : List ℕ) (t first : ExprView) (xs : List (Op × ExprView)) → t ≡ chain_of first xs
     → after ≡ behind (names_in first) uses → all ≡ behind (names_after xs) after → all ≡ behind (names_in t) uses
 chain_after uses after all t first xs is e f =
@@ -66,7 +66,7 @@ suffixes_written uses sets inner [] = sym (append-nil (written uses sets inner))
 suffixes_written uses sets inner (x ∷ xs) =
     suffixes_written uses sets (suffixed inner x) xs ∙ append_assoc (written uses sets inner) (suffix_code x ∷ []) (map suffix_code xs)
 
--- what stands after the first part and the rest were written
+-- what is there once the first part and the rest were written
 behind_two : (old mid new part rest : List Instr) → mid ≡ old ++ part → new ≡ mid ++ rest → new ≡ old ++ (part ++ rest)
 behind_two old mid new part rest e f = f ∙ (ap (λ l. l ++ rest) e ∙ append_assoc old part rest)
 

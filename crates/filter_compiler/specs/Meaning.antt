@@ -114,7 +114,7 @@ joined o.And = if_true
 joined o.Or = if_false
 joined op = both (result_of op)
 
--- what stands behind `!`
+-- what follows `!`
 abbrev pub negated : Value → Option Value
 negated (value.Bool b) = Some (value.Bool (not b))
 negated _ = None

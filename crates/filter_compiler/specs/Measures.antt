@@ -61,7 +61,7 @@ tree_measure (binary op left right) = with_right (tree_measure left) op (tree_me
 tree_measure (member op left set) = plus (with_set (tree_measure left) (length set)) (instructions_alone (member_count op))
 tree_measure (suffixed inner s) = plus (tree_measure inner) (instructions_alone 1)
 
--- a part with operators behind it, each with the operand at its right
+-- a part with operators after it, each with the operand at its right
 abbrev pub chain_measure : Measure → List (Op × ExprView) → Measure
 chain_measure left [] = left
 chain_measure left (x ∷ xs) = chain_measure (with_right left x.0 (tree_measure x.1)) xs
@@ -76,7 +76,7 @@ target_count (to_name text) = 1
 target_count to_metric = 3
 target_count to_net = 0
 
--- the code of a command, and a part with that of commands behind it
+-- the code of a command, and a part with that of commands after it
 abbrev mutual
   pub command_measure : CommandView → Measure
   command_measure empty = instructions_alone 0

@@ -29,7 +29,7 @@ expression_need (binary op left right) = joined_need op (expression_need left) (
 expression_need (member op left set) = expression_need left
 expression_need (suffixed inner s) = expression_need inner
 
--- the metric received stands beside the value that is set
+-- the metric received is on the stack beside the value that is set
 abbrev pub target_need : TargetView → ℕ → ℕ
 target_need to_metric value = max value 2
 target_need _ value = value

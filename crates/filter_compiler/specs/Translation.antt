@@ -36,7 +36,7 @@ sets_of (binary op left right) = sets_of left ++ sets_of right
 sets_of (member op left set) = sets_of left ++ map pattern_of set ∷ []
 sets_of (suffixed inner s) = sets_of inner
 
--- the instructions of an operator that takes both operands, behind them
+-- the instructions of an operator that takes both operands, after them
 abbrev pub operator_code : Op → List Instr
 operator_code o.Add = instr.Add ∷ []
 operator_code o.Sub = instr.Sub ∷ []
@@ -82,7 +82,7 @@ abbrev pub attribute_code : Attribute → Instr
 attribute_code attributes.Net = instr.Net
 attribute_code attributes.RipMetric = instr.Metric
 
--- the code of an expression among these declarations, where so many sets stand before it in the text
+-- the code of an expression among these declarations, where so many sets come before it in the text
 abbrev pub expression_code : List DeclView → ℕ → ExprView → List Instr
 expression_code decls sets (number n) = instr.Int n ∷ []
 expression_code decls sets (address a) = instr.Ip (record { 0 = a }) ∷ []
@@ -160,7 +160,7 @@ first_value kind.Bool = instr.Bool false
 first_value kind.Ip = instr.Ip (record { 0 = 0 })
 first_value kind.Prefix = instr.Prefix []
 
--- the declarations, where so many stand before them
+-- the declarations, where so many come before them
 abbrev pub declarations_code : ℕ → List DeclView → List Instr
 declarations_code before [] = []
 declarations_code before (d ∷ rest) = first_value d.kind ∷ instr.Store before ∷ declarations_code (before + 1) rest

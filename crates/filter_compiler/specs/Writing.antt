@@ -23,7 +23,7 @@ right_part o.And size right = instr.JumpIfNot (size + 1) ∷ (right ++ instr.Jum
 right_part o.Or size right = instr.JumpIfNot 2 ∷ instr.Bool true ∷ instr.Jump size ∷ right
 right_part op size right = right ++ operator_code op
 
--- the number of the set that is written behind so many others
+-- the number of the set that is written after so many others
 abbrev pub set_number : ℕ → ℕ
 set_number sets = min sets 255
 
@@ -31,11 +31,11 @@ set_number sets = min sets 255
 abbrev pub next_number : List ℕ → ℕ
 next_number uses = get_or uses 0 0
 
--- the numbers behind those of the uses of these names
+-- the numbers after those of the uses of these names
 abbrev pub behind : List (List ℕ) → List ℕ → List ℕ
 behind names uses = drop (length names) uses
 
--- an expression, with the numbers at its uses and those behind them, where so many sets stand before it in the text
+-- an expression, with the numbers at its uses and those after them, where so many sets come before it in the text
 abbrev pub written : List ℕ → ℕ → ExprView → List Instr
 written uses sets (number n) = instr.Int n ∷ []
 written uses sets (address a) = instr.Ip (record { 0 = a }) ∷ []
@@ -64,7 +64,7 @@ written_behind uses sets (x ∷ xs) =
     right_part x.0 (tree_measure x.1).instructions (written uses sets x.1)
     ++ written_behind (behind (names_in x.1) uses) (sets + length (sets_of x.1)) xs
 
--- what sets a variable, of which the use stands before those of the value, and what sets the metric
+-- what sets a variable, whose use comes before those of the value, and what sets the metric
 abbrev pub written_target : List ℕ → TargetView → List Instr
 written_target uses (to_name text) = instr.Store (next_number uses) ∷ []
 written_target uses to_metric = metric_code

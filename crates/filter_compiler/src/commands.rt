@@ -55,7 +55,7 @@ fn emit_metric(out: &mut Output) -> Result<(), AllocError>
     put(out, Instr::SetMetric)
 }
 
-/// Writes an assignment, of which the name stands before the value.
+/// Writes an assignment, whose name comes before the value.
 fn emit_assignment(target: &Target, value: &Expr, out: &mut Output) -> Result<(), AllocError>
     ensures code { OnOk result (out.new.instrs ≡ out.old.instrs
         ++ (written (behind (names_of_target (view_target target.now)) out.old.uses.now) (length out.old.sets.items) (view value.now)

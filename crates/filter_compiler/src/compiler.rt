@@ -56,7 +56,7 @@ fn write_code(alloc: Global, typed: &Typed) -> Result<Code, AllocError>
 /// the stack is full, and this only where the filter needs more than 32 operands at one time.
 ///
 /// It is refused where the code would have more than 1,024 instructions, and otherwise where it would have more than
-/// 64 sets or more than 1,024 patterns in one; and for want of memory.
+/// 64 sets or more than 1,024 patterns in one; and where memory is refused.
 pub fn compile(alloc: Global, typed: &Typed) -> Result<Code, CompileFault>
     ensures code { IfOk result (λ code. code ≡ code_of (view_filter typed.now)) }
     ensures meaning { IfOk result (λ code. MeansTheSame (view_filter typed.now) code) }

@@ -47,7 +47,7 @@ fn size_of(expr: &Expr) -> u16
     measure(expr).instructions as u16
 }
 
-/// Writes an instruction, and NOT behind it.
+/// Writes an instruction, and NOT after it.
 fn put_opposite(out: &mut Output, instr: Instr) -> Result<(), AllocError>
     requires { HasMask instr }
     ensures code { OnOk result (out.new.instrs ≡ out.old.instrs ++ instr ∷ Instr.Not ∷ []) }

@@ -44,7 +44,7 @@ fn target_count(target: &Target) -> usize
     }
 }
 
-/// An operand with the suffixes behind it, of which each is an instruction.
+/// An operand with its suffixes, each of which is an instruction.
 fn with_suffixes(operand: Measure, suffixes: &[Suffix]) -> Measure
     ensures { result ≡ suffixes_measure operand suffixes.now }
 {
@@ -55,7 +55,7 @@ fn with_suffixes(operand: Measure, suffixes: &[Suffix]) -> Measure
     total
 }
 
-/// A first operand with the operators behind it, each with the operand at its right.
+/// A first operand with the operators after it, each with the operand at its right.
 #[cycle(measures)]
 fn measure_chain(first: Measure, more: &[(Op, Expr)]) -> Measure
     ensures { result ≡ chain_measure first (map (λ p. (p.0, view p.1)) more.now) }
@@ -91,7 +91,7 @@ pub(crate) fn measure(expr: &Expr) -> Measure
     }
 }
 
-/// A part with the code of commands behind it.
+/// A part with the code of commands after it.
 #[cycle(command)]
 fn measure_commands(before: Measure, commands: &[Command]) -> Measure
     ensures { result ≡ commands_measure before (commands_of (map view_command commands.now)) }

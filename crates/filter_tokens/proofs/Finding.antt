@@ -39,7 +39,7 @@ one_more : (n : ℕ) (found : Option ℕ)
 one_more n None = refl
 one_more n (Some len) = ap Some (omega arith)
 
--- the loop that looks for `*/`: at its start, at a place where it does not stand, where it does, and past the end
+-- the loop that looks for `*/`: at its start, at a place where there is none, where there is one, and past the end
 pub closing-start : (text : List ℕ) → closing_len text ≡ option_map (λ len. 0 + len) (closing_len text)
 closing-start text = none_more (closing_len text)
 

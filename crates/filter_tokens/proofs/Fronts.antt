@@ -26,7 +26,7 @@ drop_while-yes p byte bytes e = rw (e, one-add) refl
 pub drop_while-no : (p : ℕ → Bool) (byte : ℕ) (bytes : List ℕ) → p byte ≡ false → drop_while p (byte ∷ bytes) ≡ byte ∷ bytes
 drop_while-no p byte bytes e = rw e refl
 
--- bytes that pass stand in front of what follows the rest
+-- bytes that pass come before what follows the rest
 pub drop_while-append : (p : ℕ → Bool) (x rest : List ℕ) → All (λ byte. p byte ≡ true) x → drop_while p (x ++ rest) ≡ drop_while p rest
 drop_while-append p [] rest each = refl
 drop_while-append p (byte ∷ bytes) rest each =

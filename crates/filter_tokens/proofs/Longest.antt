@@ -125,7 +125,7 @@ no_hexadecimal_as x is (Some rest) e =
     (All-tail IsAsciiDigit zero_digit (small_x ∷ (stands.is.0 ++ rest)) each) in
     absurd (omega (arith, second.1))
 
--- ---- what each form of number is, where it stands
+-- ---- what each form of number is, where there is one
 
 prefix_is : (text rest : List ℕ) → after_prefix text ≡ Some rest → digits_shape text ≡ a_shape shape.Prefix rest
 unfolding digits_shape
@@ -251,7 +251,7 @@ unfolding longest_shape
 longest-found [] found e = absurd cc
 longest-found (first ∷ others) found e = by_name first others found (begins_word first) refl e
 
--- ---- nothing longer stands there
+-- ---- nothing longer is there
 
 -- something is found, and no more follows it than this many bytes
 pub record Within (text : List ℕ) (bound : ℕ) : Type 0 where
@@ -311,7 +311,7 @@ address_within x rest is =
           (rw there short);
     }
 
--- after digits, whatever number begins with them, no more stands than after them
+-- after digits, whatever number begins with them, no more is left than after them
 digits_within : (x rest : List ℕ) → IsDigits x → ((r : List ℕ) → after_hexadecimal (x ++ rest) ≡ Some r → length r ≤ length rest)
     → Within (x ++ rest) (length rest)
 unfolding digits_shape
@@ -383,7 +383,7 @@ punctuator_within punctuator rest is =
       bounded = omega (arith, length-drop (length (symbol_text covers.longest)) text, length-append (symbol_text punctuator) rest, covers.covers);
     }
 
--- where a shape stands, it is found or something longer
+-- where there is a shape, it is found or something longer
 pub longest-within : (kind : Shape) (x rest : List ℕ) → HasShape kind x → Within (x ++ rest) (length rest)
 longest-within shape.Word x rest is = word_within x rest is
 longest-within shape.Decimal x rest is = decimal_within x rest is

@@ -75,14 +75,14 @@ token_found_as text found one outside e f =
       longest = λ other longer fits is. no_longer text found e other longer fits is;
     })
 
--- the token that is read stands there
+-- the token that is read is there
 token_found : (text : List ℕ) (one : Part) → begins_gap text ≡ false → token_in text ≡ Some one → IsPart text one
 unfolding token_in
 token_found text one outside e =
     bind_some _ _ _ e (λ (found : Found) (there : longest_shape text ≡ Some found) (f : token_of text found ≡ Some one).
     token_found_as text found one outside there f)
 
--- the token that stands there is read
+-- the token that is there is read
 token_there_as : (text : List ℕ) (kind : TokenKind) (len : ℕ) → IsToken text kind len → (found : Found) → longest_shape text ≡ Some found
     → length found.1 ≤ length (drop len text)
     → token_of text found ≡ Some (part.Token kind len)
@@ -119,7 +119,7 @@ part_found_as text (suc n) one gap false none e =
     let same : part.Gap (suc n) ≡ one = same_Some _ _ (sym (rw none refl) ∙ e) in
     subst (IsPart text) same (gap-found text (suc n) gap (omega arith))
 
--- the part that is read stands there
+-- the part that is read is there
 pub part-found : (text : List ℕ) (one : Part) → part_in text ≡ Some one → IsPart text one
 unfolding part_in
 part-found text one e =
@@ -136,7 +136,7 @@ token_part : (text : List ℕ) (kind : TokenKind) (len : ℕ) → IsToken text k
 unfolding part_in
 token_part text kind len is = ap (λ o. o >>= part_of text) (gap-none text is.outside) ∙ token_there text kind len is
 
--- the part that stands there is read
+-- the part that is there is read
 pub part-there : (text : List ℕ) (one : Part) → IsPart text one → part_in text ≡ Some one
 part-there text (part.Gap len) is = gap_part text len is
 part-there text (part.Token kind len) is = token_part text kind len is

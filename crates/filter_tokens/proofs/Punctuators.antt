@@ -125,7 +125,7 @@ punctuator-itself symbol.Defined is = absurd cc
 punctuator-itself symbol.Net is = absurd cc
 punctuator-itself symbol.RipMetric is = absurd cc
 
--- what the longest punctuator at the front of a text covers, where this one stands there
+-- what the longest punctuator at the front of a text covers, where this one is there
 pub record Covers (punctuator : Symbol) (text : List ℕ) : Type 0 where
   pub longest : Symbol
   pub found : punctuator_in text ≡ Some longest

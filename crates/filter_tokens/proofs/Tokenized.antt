@@ -16,7 +16,7 @@ abbrev pub parts_len : List Part → ℕ
 parts_len [] = 0
 parts_len (part ∷ parts) = part_len part + parts_len parts
 
--- the tokens of a text up to a place, after which the rest stands
+-- the tokens of a text up to a place, after which comes the rest
 pub record Lexes (text : List ℕ) (so_far : List Token) (at : ℕ) (rest : List ℕ) : Type 0 where
   pub parts : List Part
   pub cut : AreFrontParts parts text rest

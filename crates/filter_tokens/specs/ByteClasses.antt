@@ -5,7 +5,7 @@ use Rattle.filter_tokens.specs.declared.byte_class.ByteClass.{ByteClass}
 use Rattle.filter_tokens.specs.declared.byte_class.ByteClass.TheVariants as class
 use Rattle.filter_tokens.specs.Shapes.{line_feed, quote, continues_word}
 
--- a byte that may stand in a text in double quotes
+-- a byte that may be in a text in double quotes
 abbrev pub is_quotable : ℕ → Bool
 is_quotable byte = not (byte == quote || byte == line_feed)
 

@@ -31,7 +31,7 @@ OkWhereSome (Err fault) reading = reading ≡ None
 abbrev pub drop_while : (ℕ → Bool) → List ℕ → List ℕ
 drop_while passes text = drop (prefix_len passes text) text
 
--- after a byte that has to stand there
+-- what follows a byte that has to come first
 abbrev pub after_byte : ℕ → List ℕ → Option (List ℕ)
 after_byte wanted [] = None
 after_byte wanted (byte ∷ bytes) = if byte == wanted then Some bytes else None

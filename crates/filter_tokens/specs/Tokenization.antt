@@ -91,7 +91,7 @@ pub record IsTokenization (tokens : List Token) (at : ℕ) (text : List ℕ) : T
   pub cut : AreParts parts text
   pub among : tokens ≡ tokens_among parts at
 
--- these parts stand side by side at the front of a text, and after them the rest
+-- these parts are side by side at the front of a text, and after them comes the rest
 abbrev pub AreFrontParts : List Part → List ℕ → List ℕ → Type 0
 AreFrontParts [] text rest = text ≡ rest
 AreFrontParts (part ∷ parts) text rest = IsPart text part × AreFrontParts parts (drop (part_len part) text) rest
@@ -104,7 +104,7 @@ pub record StopsAt (tokens : List Token) (place : ℕ) (text : List ℕ) : Type 
   pub before_end : place < length text
   pub no_part : (part : Part) → IsPart (drop place text) part → ⊥
 
--- each token has a byte at least, they stand in order, and all lie between the two places
+-- each token has a byte at least, they are in order, and all lie between the two places
 abbrev pub AreInOrder : ℕ → List Token → ℕ → Type 0
 AreInOrder from [] to = from ≤ to
 AreInOrder from (token ∷ tokens) to = (from ≤ token.from) × (token.from < token.to) × AreInOrder token.to tokens to

@@ -43,7 +43,7 @@ static LEFT_OUT: [&str; 22] = [
     "source",
 ];
 
-/// The word that bytes of a shape mean. They stand at `at`.
+/// The word that bytes of a shape mean. They begin at `at`.
 pub fn meaning(shape: Shape, bytes: &[u8], at: usize) -> Result<TokenKind, TokenFault>
     ensures is { spec.OkWhereSome result (spec.meaning_in shape bytes.now) }
     ensures placed { IfErr result (λ fault. fault_place fault ≡ at) }

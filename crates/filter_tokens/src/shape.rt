@@ -13,7 +13,7 @@ pub enum Shape {
     Address,
     /// An address, `/` and decimal digits.
     Prefix,
-    /// What stands between double quotes on one line, and these.
+    /// What is between double quotes on one line, and these.
     Text,
     /// A punctuator.
     Punctuator(Symbol),

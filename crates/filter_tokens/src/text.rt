@@ -27,10 +27,11 @@ pub fn lex(alloc: Global, text: &[u8]) -> Result<Lexed, AllocError>
     // Where there is no fault, the tokens cut the text.
     ensures found { IfOk result (λ c. c.fault ≡ None → IsTokenization c.tokens.items 0 text.now) }
     // Whatever cuts the text are these tokens, and then there is no fault.
-    ensures only { IfOk result (λ c. (tokens : List TheToken) → IsTokenization tokens 0 text.now → (c.fault ≡ None) × (c.tokens.items ≡ tokens)) }
+    ensures only { IfOk result (λ c. (tokens : List TheToken) → IsTokenization tokens 0 text.now
+        → (c.fault ≡ None) × (c.tokens.items ≡ tokens)) }
     // No text is cut in two ways.
     ensures one { (tokens others : List TheToken) → IsTokenization tokens 0 text.now → IsTokenization others 0 text.now → tokens ≡ others }
-    // Where there is a fault, the tokens cut the text up to its place, and nothing stands there that the text could go on with.
+    // Where there is a fault, the tokens cut the text up to its place, and the text goes on with no space, comment or token there.
     ensures stopped { IfOk result (λ c. IfSome c.fault (λ fault. StopsAt c.tokens.items (fault_place fault) text.now)) }
 {
     let mut tokens = Vec::new(alloc);

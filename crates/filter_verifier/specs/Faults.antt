@@ -1,4 +1,4 @@
--- The codes and places of refusals, and the machine's fault that each one stands for. (This project's own choice.)
+-- The codes and places of refusals, and the machine's fault that each one is about. (This project's own choice.)
 use Rattle.std.specs.Prelude.{ℕ, List, codes}
 use Rattle.filter_code.specs.declared.outcome.FaultKind.{FaultKind}
 use Rattle.filter_code.specs.declared.outcome.FaultKind.TheVariants as fault

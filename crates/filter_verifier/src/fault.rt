@@ -14,9 +14,9 @@ pub enum VerifyFault {
     /// V1: the instruction needs more operands than the stack holds.
     #[error("instruction {0}: too few operands on the stack")]
     MissingOperand(usize),
-    /// V2: an operand has the wrong type for the instruction, paths with different types at a stack place meet here, or
+    /// V2: an operand has the wrong kind for the instruction, paths with different kinds at a stack place meet here, or
     /// LOAD reads a local variable that may be empty.
-    #[error("instruction {0}: an operand has an unknown or wrong type")]
+    #[error("instruction {0}: an operand has an unknown or wrong kind")]
     WrongKind(usize),
     /// V3: the divisor may be 0.
     #[error("instruction {0}: the divisor may be 0")]

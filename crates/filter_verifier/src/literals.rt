@@ -6,7 +6,7 @@ ghost use Rattle.filter_verifier.specs.Safe.{HasLiteral};
 use crate::word::word_of_ip;
 use filter_code::Instr;
 
-/// Reads the literal of an instruction, so that the proof learns that it fits its type.
+/// Reads the literal of an instruction, so that the proof learns that it is within the limits of its kind.
 fn read_literal(instr: &Instr)
     ensures { HasLiteral instr.now }
 {

@@ -145,7 +145,7 @@ Two lines are printed:
                           a route, and holds at most DEPTH operands at a time
 For a filter or code that is refused, the last line is `refused CODE AT` instead:
   P1 to P10   the text is not a filter: a syntax error at byte AT
-  Y1 to Y5    a name or a type is wrong at byte AT
+  Y1 to Y5    a name or a kind is wrong at byte AT
   G1, G2      the code would be too long, or have too many sets
   V1 to V9    instruction AT might go wrong on some route; V8: N is not 2 to 64
   C1 to C6    not a code file: an error at byte AT

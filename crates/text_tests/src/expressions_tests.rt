@@ -5,7 +5,7 @@ use prefix_patterns::{Ip, Pattern, Prefix};
 use std::alloc::Global;
 use std::test::Fail;
 
-/// What stands before an expression in these tests: 24 bytes.
+/// What comes before an expression in these tests: 24 bytes.
 const FRONT: &str = "filter q { rip_metric = ";
 
 /// A filter's text with an expression in it.

@@ -18,7 +18,7 @@ fn write_cut(shown: &mut String, alloc: Global, text: &str) -> Result<(), AllocE
     Ok(())
 }
 
-/// Each text has the tokens and the fault that stand beside it.
+/// Each text has the tokens and the fault in its row.
 fn check(rt: &impl Abort, alloc: Global, rows: &[(&str, &str)]) -> Result<(), AllocError> {
     let mut shown = String::with_capacity(alloc, 512)?;
     for (text, wanted) in rows {
@@ -300,7 +300,7 @@ fn names(rt: HostRuntime) -> Result<(), Fail> {
     Ok(())
 }
 
-/// Each word that is left out. No token stands before it, and so no memory is taken.
+/// Each word that is left out. No token comes before it, and so no memory is taken.
 #[test]
 fn words_left_out(rt: HostRuntime) -> Result<(), Fail> {
     for word in LEFT_OUT_WORDS {

@@ -134,7 +134,7 @@ const REFUSED: &[(&str, &str, usize)] = &[
 const SIXTEEN: &str = "int a; int b; int c; int d; int e; int f; int g; int h; \
     int i; int j; int k; int l; int m; int n; int o; int p; ";
 
-/// What stands before and behind sixteen declarations, and the fault.
+/// What comes before and after sixteen declarations, and the fault.
 const AROUND_SIXTEEN: &[(&str, &str, &str, usize)] = &[
     ("filter z { ", "int q; }", "Y5", 127),
     ("filter z { ", "bool q; int r; q = zzz; }", "Y5", 128),

@@ -29,7 +29,7 @@ fn compare(rt: &impl Abort, alloc: Global, rows: &[Row]) -> Result<(), Fail> {
     Ok(())
 }
 
-/// What is expected where a token cannot stand: a row for each of the words.
+/// What is expected in place of a token: a row for each of the words.
 const EXPECTED: [Row; 29] = [
     ("q { accept; }", "P2 0 expected `filter` at byte 0"),
     ("filter { accept; }", "P2 7 expected a name at byte 7"),

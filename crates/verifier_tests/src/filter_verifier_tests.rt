@@ -408,7 +408,7 @@ fn texts(rt: HostRuntime) -> Result<(), Fail> {
         (
             VerifyFault::WrongKind(3),
             "V2",
-            "instruction 3: an operand has an unknown or wrong type",
+            "instruction 3: an operand has an unknown or wrong kind",
         ),
         (
             VerifyFault::ZeroDivisor(3),

@@ -6,7 +6,7 @@ use Rattle.filter_code.specs.declared.instruction.Instr.{Instr}
 use Rattle.filter_verifier.specs.Safe.{HasLiteral}
 use Rattle.filter_verifier.proofs.literals.read_literals.Goals as goal
 
--- an item of a list is the same for any other that would stand in its place past the end
+-- an item of a list does not depend on what is answered past the end
 same_item : (xs : List Instr) (k : ℕ) (x other : Instr) → k < length xs → slice_index_or xs k other ≡ slice_index_or xs k x
 same_item xs k x other h = get_or_from_slice_get xs k (slice_index_or xs k x) other (slice_get-get_or xs k x h)
 
