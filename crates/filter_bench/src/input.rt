@@ -1,7 +1,7 @@
 //! The lines of standard input: a code file, and routes.
 
-use code_file::read_code;
 use filter_code::{Code, Route};
+use filter_source::read_hexadecimal;
 use line_protocol::{Reply, Service, next_word, trim_blanks};
 use prefix_patterns::{read_number, read_prefix};
 use std::alloc::{AllocError, Global};
@@ -9,17 +9,11 @@ use std::alloc::{AllocError, Global};
 /// The number of nodes of the domain whose routes are taken.
 pub const SIZE: u32 = 64;
 
-/// What was read: the code of the first line, and the routes behind it.
+/// What was read: the code of the first line, and the routes after it.
 #[derive(Drop)]
 pub struct Input {
     pub code: Option<Code>,
     pub routes: Vec<Route>,
-}
-
-/// The code that a line has in hexadecimal.
-fn code_in(alloc: Global, line: &[u8]) -> Option<Code> {
-    let bytes = hex::decode(alloc, trim_blanks(line)).ok()?;
-    read_code(alloc, bytes.as_slice()).ok()
 }
 
 /// The route that a line has, if it is one of that domain.
@@ -44,7 +38,7 @@ impl Service for Input {
         _out: &mut Vec<u8>,
     ) -> Result<Reply, AllocError> {
         if self.code.is_none() {
-            self.code = code_in(alloc, line);
+            self.code = read_hexadecimal(alloc, trim_blanks(line)).ok();
             return Ok(if self.code.is_none() {
                 Reply::Ended
             } else {

@@ -4,8 +4,8 @@
 //! an event: `up W`, `down W`, `recv W V D`, `take W`, `import W K`, `export W K` or `show V`, with K the number of a filter. The
 //! events before a line `begin` are answered once, and those after it again and again.
 
-use code_file::read_code;
-use filter_verifier::{Verified, verify};
+use filter_source::{read_hexadecimal, verify_code};
+use filter_verifier::Verified;
 use line_protocol::{Reply, Service, next_word};
 use prefix_patterns::{Ip, Prefix, read_number};
 use std::alloc::{AllocError, Global};
@@ -40,7 +40,7 @@ fn next_number(line: &[u8]) -> Option<(u16, &[u8])> {
     Some((u16::try_from(number).ok()?, rest))
 }
 
-/// The event of a word and the numbers behind it.
+/// The event of a word and the numbers after it.
 fn step_of(word: &[u8], rest: &[u8]) -> Option<Step> {
     let (first, rest) = next_number(rest)?;
     match word {
@@ -69,9 +69,8 @@ fn step_of_more(word: &[u8], first: u16, rest: &[u8]) -> Option<Step> {
 /// The filter of a line, for a domain of this size.
 fn filter_of(alloc: Global, rest: &[u8], size: u16) -> Option<Arc<Verified>> {
     let (digits, _) = next_word(rest)?;
-    let bytes = hex::decode(alloc, digits).ok()?;
-    let code = read_code(alloc, bytes.as_slice()).ok()?;
-    let verified = verify(alloc, code, u32::from(size)).ok()?;
+    let code = read_hexadecimal(alloc, digits).ok()?;
+    let verified = verify_code(alloc, code, u32::from(size)).ok()?;
     Arc::new(alloc, verified).ok()
 }
 
