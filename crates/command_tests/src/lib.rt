@@ -9,5 +9,3 @@ mod eval_tests;
 mod examples_tests;
 #[cfg(test)]
 mod filter_compiler_tests;
-#[cfg(test)]
-mod limits_tests;
