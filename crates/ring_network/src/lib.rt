@@ -1,0 +1,10 @@
+//! Three routers in a ring, each in threads of its own: the engine of the command `net`.
+#![tactic(auto)]
+
+mod fault;
+mod net;
+mod node;
+mod ring;
+
+pub use fault::NetworkFault;
+pub use net::net_lines;

@@ -1,0 +1,13 @@
+//! Tests of sessions: readers and writers of links, one after another and in threads.
+#![tactic(auto)]
+
+#[cfg(test)]
+mod fixtures;
+#[cfg(test)]
+mod gate_tests;
+#[cfg(test)]
+mod link_tests;
+#[cfg(test)]
+mod run_tests;
+#[cfg(test)]
+mod session_tests;

@@ -1,0 +1,124 @@
+//! Links over channels, and a link of one's own.
+
+use crate::fixtures::{OpenGate, bring_up, message, open};
+use netchange_core::{Event, Message, Reply};
+use route_session::{Cause, ChannelLink, Got, Link, LinkFault, read_session, write_session};
+use std::io::{ErrorKind, Read, Write};
+use std::sync::Wait;
+use std::test::Fail;
+
+/// What is sent into one end of a channel comes out of the other, in order; what an end has no direction for fails.
+#[test]
+fn a_channel_hands_on(rt: HostRuntime) -> Result<(), Fail> {
+    let (mut writer, mut reader) = ChannelLink::pair(rt.alloc())?;
+    assert_eq!(&rt; writer.recv(&rt), Err(LinkFault));
+    assert_eq!(&rt; reader.send(&rt, message(1, 1)), Err(LinkFault));
+    for node in 0..64u16 {
+        assert_eq!(&rt; writer.send(&rt, message(node, 3)), Ok(()));
+    }
+    for node in 0..64u16 {
+        assert_eq!(&rt; reader.recv(&rt), Ok(Got::Message(message(node, 3))));
+    }
+    Ok(())
+}
+
+/// A closed end has ended and fails; the other end still hands out what is in the channel, and then has ended, too.
+#[test]
+fn a_channel_is_closed(rt: HostRuntime) -> Result<(), Fail> {
+    let (mut writer, mut reader) = ChannelLink::pair(rt.alloc())?;
+    assert_eq!(&rt; writer.send(&rt, message(1, 1)), Ok(()));
+    writer.close();
+    assert_eq!(&rt; writer.send(&rt, message(1, 2)), Err(LinkFault));
+    assert_eq!(&rt; writer.recv(&rt), Ok(Got::Ended));
+    assert_eq!(&rt; reader.recv(&rt), Ok(Got::Message(message(1, 1))));
+    assert_eq!(&rt; reader.recv(&rt), Ok(Got::Ended));
+    reader.close();
+    assert_eq!(&rt; reader.recv(&rt), Ok(Got::Ended));
+    let (mut writer, mut reader) = ChannelLink::pair(rt.alloc())?;
+    reader.close();
+    assert_eq!(&rt; writer.send(&rt, message(1, 1)), Err(LinkFault));
+    Ok(())
+}
+
+// The next lines are the example of docs/SESSIONS.md.
+
+/// A link over two streams. A message is four bytes: the node and the distance, each with the high byte first.
+#[derive(Drop)]
+struct StreamLink<I: Read + Drop, O: Write + Drop> {
+    input: I,
+    output: O,
+    is_closed: bool,
+}
+
+impl<I: Read + Drop, O: Write + Drop> Link for StreamLink<I, O> {
+    ghost use Rattle.route_session.specs.Telling.{untold};
+
+    ghost told = { λ l. untold l.is_closed };
+
+    fn recv<R: Wait>(&mut self, _rt: &R) -> Result<Got, LinkFault> {
+        let mut bytes = [0; 4];
+        if self.is_closed {
+            return Ok(Got::Ended);
+        }
+        match self.input.read_exact(&mut bytes) {
+            Ok(()) => Ok(Got::Message(Message {
+                dest: u16::from_be_bytes([bytes[0], bytes[1]]),
+                dist: u16::from_be_bytes([bytes[2], bytes[3]]),
+            })),
+            Err(error) if error.kind() == ErrorKind::UnexpectedEof => Ok(Got::Ended),
+            Err(_) => Err(LinkFault),
+        }
+    }
+
+    fn send<R: Wait>(&mut self, _rt: &R, message: Message) -> Result<(), LinkFault> {
+        let [a, b] = message.dest.to_be_bytes();
+        let [c, d] = message.dist.to_be_bytes();
+        if self.is_closed || self.output.write_all(&[a, b, c, d]).is_err() {
+            return Err(LinkFault);
+        }
+        Ok(())
+    }
+
+    fn close(&mut self) {
+        self.is_closed = true;
+    }
+}
+
+/// A neighbour's bytes are entered, and what the router queued goes out as bytes.
+#[test]
+fn a_link_of_ones_own(rt: HostRuntime) -> Result<(), Fail> {
+    let (router, mut pass) = open(rt.alloc(), 4, 100)?;
+    bring_up(&rt, &router, &mut pass, 1)?;
+    let input: &[u8] = &[0, 1, 0, 0, 0, 2, 0, 1];
+    let mut link = StreamLink {
+        input,
+        output: Vec::new(rt.alloc()),
+        is_closed: false,
+    };
+    let end = read_session(&rt, &router, &mut pass, 1, &mut link, &OpenGate, 0, 10);
+    assert_eq!(&rt; (end.cause, end.entered), (Cause::LinkEnded, 2));
+    let end = write_session(
+        &rt,
+        rt.alloc(),
+        &router,
+        &mut pass,
+        1,
+        &mut link,
+        &OpenGate,
+        0,
+        1,
+    );
+    assert_eq!(&rt; (end.cause, end.sent), (Cause::Turns, 6));
+    let sent = [
+        0, 0, 0, 0, 0, 1, 0, 4, 0, 2, 0, 4, 0, 3, 0, 4, 0, 1, 0, 1, 0, 2, 0, 2,
+    ];
+    assert_eq!(&rt; link.output.as_slice(), sent.as_slice());
+    let Ok(answer) = router.call(&rt, &mut pass, Event::Show(2)) else {
+        return Err(Fail::from("the history is full"));
+    };
+    match answer.reply {
+        Reply::Route { dist, via: _ } => assert_eq!(&rt; dist, 2),
+        _ => return Err(Fail::from("a route")),
+    }
+    Ok(())
+}
