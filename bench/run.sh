@@ -2,7 +2,7 @@
 # Builds the proved programs and the plain one, checks that they answer the same, and prints their times and ratios:
 # of `ncroute eval` and `ncroute run` as a whole, of the machines alone, or of the router alone.
 #
-# usage: bench/run.sh [eval|machines|instructions|router|script]     (without a word: eval and machines)
+# usage: bench/run.sh [eval|machines|instructions|router|callers|script]     (without a word: eval and machines)
 #   instructions counts instructions of the machines with valgrind, in place of their time
 #   NCROUTE=PATH       a proved `ncroute` that is built already: then none is built here
 #   FILTER_BENCH=PATH  the same for `filter_bench`, and ROUTER_BENCH=PATH for `router_bench`
@@ -66,6 +66,17 @@ if [ "$wanted" = router ]; then
         done
     done
     "$bench/router.py" "$ROUTER_BENCH" "$folder/plain" "${ROUNDS:-7}" "${inputs[@]}"
+elif [ "$wanted" = callers ]; then
+    if [ -z "${ROUTER_BENCH:-}" ]; then
+        build router_bench tables 0
+        ROUTER_BENCH="$bench/../crates/router_bench/out/router_bench"
+    fi
+    inputs=()
+    for kind in show no_changes; do
+        "$bench/events.py" "$kind" 16 >"$folder/$kind"
+        inputs+=("$folder/$kind")
+    done
+    "$bench/callers.py" "$ROUTER_BENCH" "$folder/plain" "${ROUNDS:-7}" "${inputs[@]}"
 elif [ "$wanted" != eval ]; then
     if [ -z "${FILTER_BENCH:-}" ]; then
         build filter_bench verified 0

@@ -4,15 +4,16 @@
 //! `export W K` and `show V`. The events before a line `begin` are answered once.
 
 use std::io;
-use std::rc::Rc;
+use std::sync::Arc;
 
 use crate::code::{decode_hexadecimal, read_code, Code};
 use crate::lines::{answer_lines, Reply as LineReply, Service, StreamFault};
 use crate::route::default_prefix;
 use crate::router::{Event, Reply, Router};
 
+/// An event, before it is known which sessions are present.
 #[derive(Clone, Copy)]
-enum Step {
+pub enum Step {
     Up(u16),
     Down(u16),
     Receive(u16, u16, u16),
@@ -22,15 +23,33 @@ enum Step {
     Show(u16),
 }
 
-struct Input {
+/// The events that are answered once, and those that are answered again and again.
+pub struct Input {
     size: u16,
     me: u16,
-    filters: Vec<Rc<Code>>,
+    filters: Vec<Arc<Code>>,
     once: usize,
     steps: Vec<Step>,
 }
 
 impl Input {
+    /// The events of standard input.
+    pub fn read() -> Result<Input, StreamFault> {
+        let mut input = Input { size: 0, me: 0, filters: Vec::new(), once: 0, steps: Vec::new() };
+        answer_lines(&mut io::stdin().lock(), &mut io::sink(), &mut input)?;
+        Ok(input)
+    }
+
+    /// The router that they are for.
+    pub fn router(&self) -> Router {
+        Router::new(self.me, (0..self.size).map(default_prefix).collect())
+    }
+
+    /// The events of the beginning, and those of a round.
+    pub fn steps(&self) -> (&[Step], &[Step]) {
+        self.steps.split_at(self.once)
+    }
+
     fn take(&mut self, line: &[u8]) -> Option<()> {
         let line = std::str::from_utf8(line).ok()?;
         let words: Vec<&str> = line.split_ascii_whitespace().collect();
@@ -45,7 +64,7 @@ impl Input {
                 return Some(());
             }
             "filter" => {
-                self.filters.push(Rc::new(read_code(&decode_hexadecimal(words.get(1)?.as_bytes())?).ok()?));
+                self.filters.push(Arc::new(read_code(&decode_hexadecimal(words.get(1)?.as_bytes())?).ok()?));
                 return Some(());
             }
             "up" => Step::Up(number(1)?),
@@ -62,14 +81,14 @@ impl Input {
     }
 
     /// The event of a step, under the sessions that are present.
-    fn event(&self, router: &Router, step: Step) -> Event {
+    pub fn event(&self, router: &Router, step: Step) -> Event {
         match step {
             Step::Up(node) => Event::Up(node),
             Step::Down(node) => Event::Down(router.session(node)),
             Step::Receive(node, dest, dist) => Event::Receive(router.session(node), dest, dist),
             Step::Take(node) => Event::Take(router.session(node), 65_535),
-            Step::Import(node, filter) => Event::Import(node, Rc::clone(&self.filters[filter])),
-            Step::Export(node, filter) => Event::Export(node, Rc::clone(&self.filters[filter])),
+            Step::Import(node, filter) => Event::Import(node, Arc::clone(&self.filters[filter])),
+            Step::Export(node, filter) => Event::Export(node, Arc::clone(&self.filters[filter])),
             Step::Show(node) => Event::Show(node),
         }
     }
@@ -99,7 +118,7 @@ pub struct Sums {
 }
 
 impl Sums {
-    fn add(&mut self, reply: &Reply) {
+    pub fn add(&mut self, reply: &Reply) {
         self.events += 1;
         match reply {
             Reply::Opened(_) => {}
@@ -116,14 +135,14 @@ impl Sums {
 
 /// Has a router answer the events of standard input.
 pub fn measured(rounds: u32) -> Result<Sums, StreamFault> {
-    let mut input = Input { size: 0, me: 0, filters: Vec::new(), once: 0, steps: Vec::new() };
-    answer_lines(&mut io::stdin().lock(), &mut io::sink(), &mut input)?;
-    let mut router = Router::new(input.me, (0..input.size).map(default_prefix).collect());
+    let input = Input::read()?;
+    let (first, round) = input.steps();
+    let mut router = input.router();
     let mut sums = Sums::default();
     let mut answer = |step: &Step| sums.add(&router.apply(&input.event(&router, *step)));
-    input.steps[..input.once].iter().for_each(&mut answer);
+    first.iter().for_each(&mut answer);
     for _ in 0..rounds {
-        input.steps[input.once..].iter().for_each(&mut answer);
+        round.iter().for_each(&mut answer);
     }
     Ok(sums)
 }

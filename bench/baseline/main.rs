@@ -5,6 +5,7 @@
 //!
 //! `run`: standard input is an operator's script; see `script.rs`.
 
+mod callers;
 mod code;
 mod events;
 mod lines;
@@ -124,9 +125,21 @@ fn measure(rounds: u32) -> Result<bool, StreamFault> {
 
 /// Has a router answer events again and again, and prints what it said.
 fn measure_router(rounds: u32) -> Result<bool, StreamFault> {
-    let events::Sums { events, refused, changed, messages, distances } = events::measured(rounds)?;
-    println!("events {events} refused {refused} changed {changed} messages {messages} distances {distances}");
+    print_sums(events::measured(rounds)?);
     Ok(true)
+}
+
+/// The same with callers in threads of their own.
+fn measure_callers(callers: u32, rounds: u32) -> Result<bool, StreamFault> {
+    let sums = callers::measured(callers, rounds)?;
+    let is_good = sums.is_some();
+    sums.map(print_sums);
+    Ok(is_good)
+}
+
+fn print_sums(sums: events::Sums) {
+    let events::Sums { events, refused, changed, messages, distances } = sums;
+    println!("events {events} refused {refused} changed {changed} messages {messages} distances {distances}");
 }
 
 fn main() -> ExitCode {
@@ -143,6 +156,10 @@ fn main() -> ExitCode {
             Ok(rounds) => measure_router(rounds),
             Err(_) => return usage(),
         },
+        ["callers", callers, number] => match (callers.parse(), number.parse()) {
+            (Ok(callers), Ok(rounds)) => measure_callers(callers, rounds),
+            _ => return usage(),
+        },
         _ => return usage(),
     };
     match done {
@@ -156,6 +173,6 @@ fn main() -> ExitCode {
 }
 
 fn usage() -> ExitCode {
-    eprintln!("usage: baseline eval | run | rounds NUMBER | router NUMBER");
+    eprintln!("usage: baseline eval | run | rounds NUMBER | router NUMBER | callers NUMBER NUMBER");
     ExitCode::from(2)
 }

@@ -1,7 +1,7 @@
 //! The same router as the proved one, without proofs: tables of distances that are kept step by step, queues, sessions and filters.
 
 use std::collections::VecDeque;
-use std::rc::Rc;
+use std::sync::Arc;
 
 use crate::code::Code;
 use crate::machine::{run, Memory, Outcome};
@@ -13,8 +13,8 @@ pub enum Event {
     Down(u32),
     Receive(u32, u16, u16),
     Take(u32, u16),
-    Import(u16, Rc<Code>),
-    Export(u16, Rc<Code>),
+    Import(u16, Arc<Code>),
+    Export(u16, Arc<Code>),
     Show(u16),
 }
 
@@ -47,8 +47,8 @@ struct Neighbour {
     session: u32,
     /// What it told last, by node.
     raw: Vec<u16>,
-    imports: Option<Rc<Code>>,
-    exports: Option<Rc<Code>>,
+    imports: Option<Arc<Code>>,
+    exports: Option<Arc<Code>>,
     queue: VecDeque<Message>,
 }
 
@@ -231,19 +231,19 @@ impl Router {
         Ok(Reply::Messages(queue.drain(..usize::from(most).min(queue.len())).collect()))
     }
 
-    fn import(&mut self, node: u16, filter: &Rc<Code>) -> Result<Reply, &'static str> {
+    fn import(&mut self, node: u16, filter: &Arc<Code>) -> Result<Reply, &'static str> {
         if !self.is_neighbour(node) {
             return Err("N1");
         }
-        self.neighbours[usize::from(node)].imports = Some(Rc::clone(filter));
+        self.neighbours[usize::from(node)].imports = Some(Arc::clone(filter));
         Ok(Reply::Done(self.put_all(node)))
     }
 
-    fn export(&mut self, node: u16, filter: &Rc<Code>) -> Result<Reply, &'static str> {
+    fn export(&mut self, node: u16, filter: &Arc<Code>) -> Result<Reply, &'static str> {
         if !self.is_neighbour(node) {
             return Err("N1");
         }
-        self.neighbours[usize::from(node)].exports = Some(Rc::clone(filter));
+        self.neighbours[usize::from(node)].exports = Some(Arc::clone(filter));
         if self.session(node) != 0 {
             self.tell_all(node);
         }

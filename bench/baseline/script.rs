@@ -2,7 +2,7 @@
 //! command, and `code` takes any code file and answers its cost and its peak.
 
 use std::collections::HashMap;
-use std::rc::Rc;
+use std::sync::Arc;
 
 use crate::code::{decode_hexadecimal, read_code, Code, Instruction};
 use crate::lines::{push_decimal, push_refusal, words, Reply as LineReply, Service, LINE_LIMIT};
@@ -163,7 +163,7 @@ enum Stage {
 /// A script between two lines.
 pub struct Script {
     stage: Stage,
-    filters: HashMap<Vec<u8>, Rc<Code>>,
+    filters: HashMap<Vec<u8>, Arc<Code>>,
 }
 
 type Refusal = (&'static str, u32);
@@ -196,7 +196,7 @@ impl Script {
         }
         let code = read_code(file).map_err(|fault| (fault.code, fault.at as u32))?;
         let (cost, peak) = cost_and_peak(&code);
-        self.filters.insert(name.to_vec(), Rc::new(code));
+        self.filters.insert(name.to_vec(), Arc::new(code));
         out.extend_from_slice(b"verified ");
         push_decimal(out, cost);
         out.push(b' ');
@@ -204,10 +204,10 @@ impl Script {
         Ok(())
     }
 
-    fn filter(&self, name: &[u8]) -> Result<Rc<Code>, &'static str> {
+    fn filter(&self, name: &[u8]) -> Result<Arc<Code>, &'static str> {
         match self.stage {
             Stage::Empty => Err("O4"),
-            _ => self.filters.get(name).map(Rc::clone).ok_or("O6"),
+            _ => self.filters.get(name).map(Arc::clone).ok_or("O6"),
         }
     }
 

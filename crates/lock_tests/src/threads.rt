@@ -1,7 +1,6 @@
 //! Callers in threads of their own.
 
 ghost use Rattle.std.specs.Prelude.{IfSome};
-ghost use Rattle.std.specs.Thread.{IsSync};
 ghost use Rattle.slot_lock.specs.Held.{IsPassOf};
 
 use crate::callers::{Ended, look, tell};

@@ -8,14 +8,14 @@ use std::process::Abort;
 use std::test::Fail;
 
 /// Node 0 of a domain of two nodes.
-fn opening(alloc: Global) -> Result<Opening, Fail> {
+pub fn opening(alloc: Global) -> Result<Opening, Fail> {
     let near = Prefix::new(Ip(0x0a00_0000), 16).ok_or("a prefix")?;
     let far = Prefix::new(Ip(0x0a01_0000), 16).ok_or("a prefix")?;
     Ok(Opening::new(2, 0, vec![in alloc; near, far]?).ok_or("an opening")?)
 }
 
 /// The event at a place of the history.
-fn event(at: u32) -> Event {
+pub fn event(at: u32) -> Event {
     match at {
         0 => Event::Up(1),
         1 => Event::Receive(1, 1, 0),
@@ -24,7 +24,7 @@ fn event(at: u32) -> Event {
 }
 
 /// Asserts that the event at a place was entered there, with the reply that it has with ample memory.
-fn expect_answer(
+pub fn expect_answer(
     rt: &impl Abort,
     alloc: Global,
     at: u32,

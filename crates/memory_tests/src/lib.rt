@@ -13,6 +13,8 @@ mod history;
 #[cfg(test)]
 mod lines;
 #[cfg(test)]
+mod lock;
+#[cfg(test)]
 mod sources;
 #[cfg(test)]
 mod tables;

@@ -9,7 +9,7 @@ use std::alloc::Global;
 use std::sync::Arc;
 
 /// The event of a step, at a router in which `session` is the present session of the step's neighbour.
-fn event_of(step: Step, session: u32, filters: &[Arc<Verified>]) -> Option<Event> {
+pub fn event_of(step: Step, session: u32, filters: &[Arc<Verified>]) -> Option<Event> {
     match step {
         Step::Up(node) => Some(Event::Up(node)),
         Step::Down(_) => Some(Event::Down(session)),
@@ -28,7 +28,7 @@ fn event_of(step: Step, session: u32, filters: &[Arc<Verified>]) -> Option<Event
 }
 
 /// The neighbour whose session the event of a step names; any node where it names none.
-fn neighbour_of(step: Step) -> u16 {
+pub fn neighbour_of(step: Step) -> u16 {
     match step {
         Step::Up(node) | Step::Down(node) | Step::Take(node) | Step::Show(node) => node,
         Step::Receive(node, _, _) => node,
@@ -37,7 +37,7 @@ fn neighbour_of(step: Step) -> u16 {
 }
 
 /// The opening that the input asks for.
-fn opening_of(alloc: Global, input: &Input) -> Option<Opening> {
+pub fn opening_of(alloc: Global, input: &Input) -> Option<Opening> {
     Opening::new(input.size, input.me, input.prefixes(alloc)?)
 }
 

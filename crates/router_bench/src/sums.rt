@@ -33,4 +33,13 @@ impl Sums {
             Reply::Refused(_) => self.refused = self.refused.wrapping_add(1),
         }
     }
+
+    /// What another saw too.
+    pub fn merge(&mut self, other: &Sums) {
+        self.events = self.events.wrapping_add(other.events);
+        self.refused = self.refused.wrapping_add(other.refused);
+        self.changed = self.changed.wrapping_add(other.changed);
+        self.messages = self.messages.wrapping_add(other.messages);
+        self.distances = self.distances.wrapping_add(other.distances);
+    }
 }

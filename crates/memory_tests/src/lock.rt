@@ -1,0 +1,98 @@
+//! A router that is called by passes, with memory and without.
+
+ghost use Rattle.std.specs.Prelude.{IfOk};
+ghost use Rattle.slot_lock.specs.Held.{IsFirst};
+
+use crate::history::{event, expect_answer, opening};
+use route_history::{CallFault, Journal};
+use slot_lock::{LockFault, Pass, Router, TryFault};
+use std::alloc::Global;
+use std::process::Abort;
+use std::test::Fail;
+
+/// A router whose history has room for three entries, with its first pass.
+fn open(alloc: Global) -> Result<Result<(Router, Pass), LockFault>, Fail>
+    ensures { IfOk result (λ r. IfOk r (λ o. IsFirst o.0 o.1)) }
+{
+    let journal = Journal::open(alloc, opening(alloc)?, 3)?;
+    match Router::open(alloc, journal) {
+        Ok(opened) => Ok(Ok(opened)),
+        Err(fault) => Ok(Err(fault)),
+    }
+}
+
+/// A router, where there is memory for it.
+fn opened(alloc: Global) -> Result<(Router, Pass), Fail>
+    ensures { IfOk result (λ o. IsFirst o.0 o.1) }
+{
+    match open(alloc)? {
+        Ok(opened) => Ok(opened),
+        Err(fault) => Err(Fail::from(fault)),
+    }
+}
+
+#[test]
+fn a_router_is_opened_or_l3(rt: HostRuntime) -> Result<(), Fail> {
+    let alloc = rt.alloc();
+    match open(alloc)? {
+        Ok((router, pass)) => {
+            assert_eq!(rt; pass.shares(), 65_536);
+            let journal = router.close(pass)?;
+            assert_eq!(rt; journal.entries().len(), 0);
+            Ok(())
+        }
+        Err(fault) => {
+            assert_eq!(rt; fault, LockFault::Memory);
+            assert_eq!(rt; (fault.code(), fault.at()), ("L3", 0));
+            let (_router, pass) = opened(alloc)?;
+            assert_eq!(rt; pass.shares(), 65_536);
+            Err(Fail::from(fault))
+        }
+    }
+}
+
+#[test]
+fn a_try_is_entered_or_j2_and_the_pass_stays(rt: HostRuntime) -> Result<(), Fail> {
+    let alloc = rt.alloc();
+    let (router, mut pass) = opened(alloc)?;
+    for at in 0..3 {
+        match router.try_call(&mut pass, event(at)) {
+            Ok(answer) => expect_answer(&rt, alloc, at, (answer.at, answer.reply))?,
+            Err(fault) => {
+                assert_eq!(rt; (fault.code(), fault.at()), ("J2", 0));
+                assert_eq!(rt; pass.shares(), 65_536);
+                let answer = router.try_call(&mut pass, event(at))?;
+                expect_answer(&rt, alloc, at, (answer.at, answer.reply))?;
+                let journal = router.close(pass)?;
+                assert_eq!(rt; journal.entries().len(), at as usize + 1);
+                return Err(Fail::from(fault));
+            }
+        }
+    }
+    let journal = router.close(pass)?;
+    assert_eq!(rt; journal.entries().len(), 3);
+    Ok(())
+}
+
+#[test]
+fn a_call_is_entered_or_j2_and_the_pass_stays(rt: HostRuntime) -> Result<(), Fail> {
+    let alloc = rt.alloc();
+    let (router, mut pass) = opened(alloc)?;
+    for at in 0..3 {
+        match router.call(&rt, &mut pass, event(at)) {
+            Ok(answer) => expect_answer(&rt, alloc, at, (answer.at, answer.reply))?,
+            Err(fault) => {
+                assert_eq!(rt; fault, CallFault::Memory);
+                assert_eq!(rt; pass.shares(), 65_536);
+                let answer = router.call(&rt, &mut pass, event(at))?;
+                expect_answer(&rt, alloc, at, (answer.at, answer.reply))?;
+                let journal = router.close(pass)?;
+                assert_eq!(rt; journal.entries().len(), at as usize + 1);
+                return Err(Fail::from(fault));
+            }
+        }
+    }
+    let journal = router.close(pass)?;
+    assert_eq!(rt; journal.entries().len(), 3);
+    Ok(())
+}
