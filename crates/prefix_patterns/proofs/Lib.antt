@@ -1,6 +1,13 @@
+pub mod Agreement
+pub mod BitsAt
+pub mod Buckets
+pub mod Chains
 pub mod DecimalValues
 pub mod Displayed
 pub mod Matches
+pub mod Nodes
 pub mod Numbers
+pub mod Reached
 pub mod Rows
 pub mod Tokens
+pub mod Walks

@@ -7,5 +7,7 @@ pub mod Number
 pub mod Reading
 pub mod Spelling
 pub mod Token
--- What only bodies are proved against: lemmas on bits.
+-- What only bodies are proved against: lemmas on bits, the trees of a set and their index.
 pub mod BitLists
+pub mod Index
+pub mod Trees

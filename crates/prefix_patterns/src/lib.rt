@@ -3,11 +3,14 @@
 
 mod address;
 mod display;
+mod index;
+mod lengths;
 mod number;
 mod pattern;
 mod prefix;
 mod set;
 mod token;
+mod tree;
 
 pub use address::{ADDRESS_LENGTH, Ip};
 pub use display::displayed_text_is_read;

@@ -1,10 +1,19 @@
-ghost use Rattle.std.specs.Prelude.{◌≡◌, ◌≤◌, ◌&&◌, IsTrue, ◌↔◌, nat_le};
+ghost use Rattle.std.specs.Prelude.{◌≡◌, ℕ, ◌<◌, ◌≤◌, ◌&&◌, IsTrue, ◌↔◌, nat_le};
 ghost use Rattle.std.specs.Option.{SomeIff};
-ghost use Rattle.prefix_patterns.specs.Matching.{HasOrderedLengths, Matches, matches};
+ghost use Rattle.prefix_patterns.specs.Bits.{address_length};
+ghost use Rattle.prefix_patterns.specs.Matching.{HasOrderedLengths, Matches, matches, matches_any};
+ghost use Rattle.prefix_patterns.specs.Trees.{allows, bucket, has_length, short_bucket, turns};
 
 use crate::address::ADDRESS_LENGTH;
+use crate::lengths::Lengths;
 use crate::prefix::Prefix;
 use std::marker::Model;
+
+/// The number of bits that tell the bucket of a pattern.
+pub(crate) const BUCKET_BITS: u8 = 8;
+
+/// The bucket of all patterns with fewer bits.
+pub(crate) const SHORT_BUCKET: usize = 256;
 
 /// A pattern for prefixes: a prefix, and the least and the greatest length that it allows.
 ///
@@ -63,6 +72,36 @@ impl Pattern {
         self.high
     }
 
+    /// The lengths that the pattern allows.
+    pub(crate) fn lengths(&self) -> Lengths
+        ensures { (len : ℕ) → has_length result len ≡ allows len self.now }
+    {
+        Lengths::between(self.low, self.high)
+    }
+
+    /// Whether the pattern's prefix has this bit at a depth.
+    pub(crate) fn turns(&self, bit: bool, depth: u8) -> bool
+        ensures value { result ≡ turns bit depth self.now }
+        ensures limit { IsTrue result → depth < address_length }
+    {
+        match self.prefix.bit(depth) {
+            Some(found) => bit == found,
+            None => false,
+        }
+    }
+
+    /// The bucket of the pattern: its first 8 bits as a number, or `SHORT_BUCKET` if it has fewer.
+    pub(crate) fn bucket(&self) -> usize
+        ensures value { result ≡ bucket self.now }
+        ensures limit { result ≤ short_bucket }
+    {
+        if self.prefix.len() < BUCKET_BITS {
+            SHORT_BUCKET
+        } else {
+            self.prefix.leading(BUCKET_BITS)
+        }
+    }
+
     /// Whether a prefix matches.
     pub fn matches(&self, prefix: &Prefix) -> bool
         ensures cases { IsTrue result ↔ Matches prefix.now self.now }
@@ -77,4 +116,11 @@ impl Pattern {
     {
         self.low <= len && len <= self.high
     }
+}
+
+/// Whether a prefix matches one of the patterns.
+pub(crate) fn any_matches(patterns: &[Pattern], prefix: &Prefix) -> bool
+    ensures { result ≡ matches_any prefix.now patterns.now }
+{
+    patterns.iter().any(|pattern| pattern.matches(prefix))
 }

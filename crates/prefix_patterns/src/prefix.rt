@@ -2,9 +2,9 @@ ghost use Rattle.std.proofs.lemmas.Cmp.{lists_equiv};
 ghost use Rattle.std.specs.Bool.{beq};
 ghost use Rattle.std.specs.Cmp.{bool_eq_equiv, partial_equiv_from_equiv};
 ghost use Rattle.std.specs.Cmp.Lexicographic.{pointwise};
-ghost use Rattle.std.specs.Prelude.{◌≡◌, ◌≤◌, ◌↔◌, IsTrue, length, take};
+ghost use Rattle.std.specs.Prelude.{◌≡◌, ◌^◌, ◌<◌, ◌≤◌, ◌↔◌, IsSome, IsTrue, length, slice_get, take};
 ghost use Rattle.std.specs.Option.{SomeIff};
-ghost use Rattle.prefix_patterns.specs.Bits.{address_bits, address_length, address_of, prefix_bits};
+ghost use Rattle.prefix_patterns.specs.Bits.{address_bits, address_length, address_of, number, prefix_bits};
 ghost use Rattle.prefix_patterns.specs.Matching.{LiesWithin, lies_within, has_same_bits};
 
 use crate::address::{ADDRESS_LENGTH, Ip};
@@ -89,6 +89,27 @@ impl Prefix {
         ensures { result ≡ take len self.now }
     {
         Prefix::masked(Ip(self.address), len)
+    }
+
+    /// The bit at a depth, the first bit at 0. None if and only if the prefix has no bit there.
+    pub(crate) fn bit(&self, depth: u8) -> Option<bool>
+        ensures value { result ≡ slice_get self.now depth }
+        ensures limit { IsSome result → depth < address_length }
+    {
+        if depth < self.len {
+            Some(self.address >> (ADDRESS_LENGTH - 1 - depth) & 1 == 1)
+        } else {
+            None
+        }
+    }
+
+    /// The first `count` bits as a number.
+    pub(crate) fn leading(&self, count: u8) -> usize
+        requires { count ≤ length self.now }
+        ensures value { result ≡ number (take count self.now) }
+        ensures limit { result < 2 ^ count }
+    {
+        (u64::from(self.address) >> (ADDRESS_LENGTH - count)) as usize
     }
 
     /// The first address of the prefix: its bits followed by zeros.

@@ -2,30 +2,37 @@ ghost use Rattle.std.specs.Prelude.{◌≡◌, ◌<◌, ◌≤◌, ◌↔◌, Is
 ghost use Rattle.prefix_patterns.specs.Fault.{set_fault_code};
 ghost use Rattle.prefix_patterns.specs.Matching.{MatchesAny, matches_any, pattern_limit};
 
-use crate::pattern::Pattern;
+use crate::index::PatternIndex;
+use crate::pattern::{Pattern, any_matches};
 use crate::prefix::Prefix;
-use std::alloc::Global;
+use std::alloc::{AllocError, Global};
 use std::marker::Model;
 use thiserror::Error;
 
 /// The greatest number of patterns in a set.
 pub const PATTERN_LIMIT: usize = 1024;
 
+/// The greatest number of patterns in a set that is scanned. An index takes longer to build than it would save there.
+const SCAN_LIMIT: usize = 12;
+
 /// A set of patterns. A contract sees it as the list of its patterns, in the order given.
 #[derive(Debug, Drop)]
 pub struct PatternSet {
     patterns: Vec<Pattern>,
+    /// The index of a set that is not scanned.
+    index: Option<PatternIndex>,
 }
 
 impl Model for PatternSet {
-    ghost use Rattle.std.specs.Prelude.{List, ◌≤◌, length};
-    ghost use Rattle.prefix_patterns.specs.Matching.{PrefixPattern, pattern_limit};
+    ghost use Rattle.std.specs.Prelude.{List};
+    ghost use Rattle.prefix_patterns.specs.Matching.{PrefixPattern};
+    ghost use Rattle.prefix_patterns.specs.Index.{IsSearchable};
 
     ghost Value = { List PrefixPattern };
 
     ghost view = { λ s. s.patterns.items };
 
-    ghost invariant = { λ s. length s.patterns.items ≤ pattern_limit };
+    ghost invariant = { λ s. IsSearchable s.patterns.items s.index };
 }
 
 /// Why a set was not built.
@@ -66,10 +73,26 @@ impl PatternSet {
         if patterns.len() > PATTERN_LIMIT {
             return Err(SetFault::TooManyPatterns);
         }
-        match Vec::from_slice(alloc, patterns) {
-            Ok(patterns) => Ok(PatternSet { patterns }),
+        match PatternSet::indexed(alloc, patterns) {
+            Ok(set) => Ok(set),
             Err(_) => Err(SetFault::Memory),
         }
+    }
+
+    /// Makes the set of these patterns, with an index if there are many.
+    fn indexed(alloc: Global, patterns: &[Pattern]) -> Result<PatternSet, AllocError>
+        requires { length patterns.now ≤ pattern_limit }
+        ensures { IfOk result (λ set. set ≡ patterns.now) }
+    {
+        let index = if patterns.len() > SCAN_LIMIT {
+            Some(PatternIndex::build(alloc, patterns)?)
+        } else {
+            None
+        };
+        Ok(PatternSet {
+            patterns: Vec::from_slice(alloc, patterns)?,
+            index,
+        })
     }
 
     /// The patterns, in the order given.
@@ -85,13 +108,9 @@ impl PatternSet {
         ensures any { IsTrue result ↔ MatchesAny prefix.now self.now }
         ensures exact { result ≡ matches_any prefix.now self.now }
     {
-        any_matches(&self.patterns, prefix)
+        match &self.index {
+            Some(index) => index.matches(prefix),
+            None => any_matches(&self.patterns, prefix),
+        }
     }
-}
-
-/// Whether a prefix matches one of the patterns.
-fn any_matches(patterns: &[Pattern], prefix: &Prefix) -> bool
-    ensures { result ≡ matches_any prefix.now patterns.now }
-{
-    patterns.iter().any(|pattern| pattern.matches(prefix))
 }
