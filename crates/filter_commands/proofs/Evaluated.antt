@@ -1,9 +1,8 @@
 -- What `check` prints of a code is evaluated by `eval` as that code.
-use Rattle.std.proofs.Common.{◌≡◌, ◌≤◌, ℕ, ◌-◌, ◌==◌, Bool, true, false, not, List, [], ◌∷◌, ◌++◌, Result, Ok, Err, length, map, take, drop, slice_index, filter, if◌then◌else◌, inr, refl, sym, subst, ap, ◌∙◌, arith}
+use Rattle.std.proofs.Common.{◌≡◌, ◌≤◌, ℕ, ◌-◌, ◌==◌, Bool, false, not, List, [], ◌∷◌, ◌++◌, Result, length, map, take, drop, filter, if◌then◌else◌, inr, refl, sym, subst, ap, ◌∙◌, arith}
 use Rattle.std.proofs.lemmas.List.{length-take}
 use Rattle.prefix_patterns.specs.Bits.{address_bits}
 use Rattle.prefix_patterns.specs.Number.{decimal_value}
-use Rattle.std.specs.List.{enumerate_from}
 use Rattle.std.specs.Str.Lines.{lines, strip_carriage_return}
 use Rattle.hex.specs.Hex.{encode_lower, encode_with}
 use Rattle.code_file.specs.Spelling.{IsCode, spelling}
@@ -15,14 +14,13 @@ use Rattle.filter_parser.specs.SyntaxText.{FilterView}
 use Rattle.filter_source.specs.declared.refusal.Refusal.{Refusal}
 use Rattle.filter_verifier.specs.Safe.{IsRouteOf}
 use Rattle.line_protocol.proofs.LineLemmas.{lines-append, lines-one, open_text}
-use Rattle.line_protocol.specs.Answers.{Answer}
 use Rattle.line_protocol.specs.Lines.{answerable_from, is_line_feed, is_skipped}
 use Rattle.line_protocol.specs.declared.answers.Reply.TheVariants as reply
 use Rattle.prefix_patterns.specs.Token.{IsPrefix}
 use Rattle.filter_commands.proofs.Printed.{line_again, none_in}
 use Rattle.filter_commands.proofs.RouteLines.{read_route}
 use Rattle.filter_commands.specs.Check.{printed}
-use Rattle.filter_commands.specs.Eval.{Line, all_answers, answer_of, answers_after, eval_answers, route_answer, verdict}
+use Rattle.filter_commands.specs.Eval.{all_answers, answer_of, answers_after, eval_answers, route_answer, verdict}
 use Rattle.filter_commands.specs.RouteLine.{IsRouteLine}
 use Rattle.filter_commands.specs.Saying.{Says, SaysTheSame}
 
