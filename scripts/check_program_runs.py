@@ -53,6 +53,8 @@ FAULTS = [
     ("ncroute check 2>&-; echo $?", b"2\n"),
     ("ncroute check 2>/dev/full; echo $?", b"2\n"),
     ("ncroute --help >/dev/null; echo $?", b"0\n"),
+    ("ncroute --help 2>&1 >/dev/full; echo $?", b"ncroute: E2\n1\n"),
+    ("ncroute eval --help 2>&1 >/dev/full; echo $?", b"ncroute: E2\n1\n"),
 ]
 
 
