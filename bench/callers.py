@@ -1,13 +1,17 @@
 #!/usr/bin/env python3
-"""Compares the proved router, called by threads through its lock, with the plain one under a Mutex.
+"""Compares calls through the lock with calls through a Mutex, by 1, 2 and 4 threads.
 
 usage: callers.py ROUTER_BENCH PLAIN RUNS INPUT..
 
-Each program enters the events of an input's round again and again, by 1, 2 and 4 threads at a time, until the history has
-nearly 1,000,000 entries. Where their sums differ, that is said and the status is 1; nothing is measured then. Otherwise each
-is run RUNS times with all rounds and RUNS times with none, by turns, and the least time with none is subtracted from the
-least time with all. The times are those of a clock, since threads that wait use no processor time: run it on a machine that
-has nothing else to do. A ratio is the proved program's calls a second, divided by the plain one's.
+  passes  the proved router, called by passes
+  mutex   the same proved journal, under the Mutex of the proved standard library
+  plain   the plain router with its history, under Rust's std::sync::Mutex
+
+Each thread enters the events of an input's round again and again, until the history has nearly 1,000,000 entries. Where the
+sums of the replies differ, that is said and the status is 1; nothing is measured then. Otherwise each is run RUNS times
+with all rounds and RUNS times with none, by turns, and the least time with none is subtracted from the least time with all.
+The times are those of a clock, since a thread that waits may use no processor time: run it on a machine that has nothing
+else to do. A ratio is the calls a second of passes, divided by those of the other.
 """
 import os
 import subprocess
@@ -40,18 +44,20 @@ def main(words):
         print(os.path.basename(path))
         for callers in (1, 2, 4):
             parts = {
-                "proved": lambda rounds: [proved, f"callers{callers}", str(rounds)],
+                "passes": lambda rounds: [proved, f"callers{callers}", str(rounds)],
+                "mutex": lambda rounds: [proved, f"mutex{callers}", str(rounds)],
                 "plain": lambda rounds: [plain, "callers", str(callers), str(rounds)],
             }
             said = {name: words_said(command(3), path) for name, command in parts.items()}
-            if said["proved"] != said["plain"]:
+            if not said["passes"] == said["mutex"] == said["plain"]:
                 sys.exit(f"{os.path.basename(path)}: the routers differ: {said}")
             first = int(words_said(parts["plain"](0), path)[1])
             calls_of = int(words_said(parts["plain"](1), path)[1]) - first
             rounds = (1_000_000 - first) // calls_of
             rate = {name: rounds * calls_of / rounds_taken(command, rounds, path, runs) for name, command in parts.items()}
-            shown = "   ".join(f"{name} {calls / 1e6:6.2f} million calls a second" for name, calls in rate.items())
-            print(f"  {callers} at a time   {shown}   ratio {rate['proved'] / rate['plain']:.2f}", flush=True)
+            shown = "   ".join(f"{name} {calls / 1e6:5.2f}" for name, calls in rate.items())
+            ratios = "   ".join(f"passes / {name} {rate['passes'] / rate[name]:.2f}" for name in ("mutex", "plain"))
+            print(f"  {callers} at a time, million calls a second:   {shown}   ratio {ratios}", flush=True)
 
 
 if __name__ == "__main__":
