@@ -70,7 +70,8 @@ pub record IsCalled (r : RouterView) (p q : PassView) : Type 0 where
   pub missed : p.part.missed ≤ q.part.missed
   pub shares : q.part.shares ≡ p.part.shares
 
-pub called : (r : RouterView) (p q : PassView) → IsPassOf r q × (q.part.shares ≡ p.part.shares) → IsOwn q.part → p.part.missed ≤ q.part.missed → IsCalled r p q
+pub called : (r : RouterView) (p q : PassView) → IsPassOf r q × (q.part.shares ≡ p.part.shares) → IsOwn q.part →
+    p.part.missed ≤ q.part.missed → IsCalled r p q
 called r p q pass own missed = record { of = pass.0; own = own; missed = missed; shares = pass.1 }
 
 pub gained_one : (r : RouterView) (old : Part) (calls : List Entry) (p q : PassView) (e : Event) (a : Answer) →
@@ -78,11 +79,13 @@ pub gained_one : (r : RouterView) (old : Part) (calls : List Entry) (p q : PassV
 gained_one r old calls p q e a g h k =
     let further : Begins p.part.seen q.part.seen = record {
       rest = h.begins.rest ++ entry e a.reply ∷ [];
-      is = h.seen ∙ ap (λ (l : List Entry). l ++ entry e a.reply ∷ []) h.begins.is ∙ append_assoc p.part.seen h.begins.rest (entry e a.reply ∷ []);
+      is = h.seen ∙ ap (λ (l : List Entry). l ++ entry e a.reply ∷ []) h.begins.is
+          ∙ append_assoc p.part.seen h.begins.rest (entry e a.reply ∷ []);
     } in
     let last : StandsAt q.part.seen a.at (entry e a.reply) =
     subst (λ (l : List Entry). StandsAt l a.at (entry e a.reply)) (sym h.seen)
-    (subst (λ (n : ℕ). StandsAt (h.log ++ entry e a.reply ∷ []) n (entry e a.reply)) (sym h.position) (stands_last h.log (entry e a.reply))) in
+    (subst (λ (n : ℕ). StandsAt (h.log ++ entry e a.reply ∷ []) n (entry e a.reply)) (sym h.position) (stands_last h.log
+    (entry e a.reply))) in
     record {
       positions = g.positions ++ a.at ∷ [];
       mine = h.mine ∙ ap (λ (l : List ℕ). l ++ a.at ∷ []) g.mine ∙ append_assoc old.mine g.positions (a.at ∷ []);
@@ -117,7 +120,8 @@ gained_refused r old calls p q fault.Memory g h k =
 pub sound_one : (r : RouterView) (old p q : PassView) (e : Event) (a : Answer) → Answered r p e a q → IsCalled r p q → StaysSound r old q
 sound_one r old p q e a h k = record { of = k.of; own = λ x. k.own; legal = λ x. h.legal }
 
-pub sound_refused : (r : RouterView) (old p q : PassView) (f : CallFault) → StaysSound r old p → Refused f r p q → IsCalled r p q → StaysSound r old q
+pub sound_refused : (r : RouterView) (old p q : PassView) (f : CallFault) → StaysSound r old p → Refused f r p q → IsCalled r p q →
+    StaysSound r old q
 sound_refused r old p q fault.Full s h k = record { of = k.of; own = λ x. k.own; legal = λ x. h.legal }
 sound_refused r old p q fault.Memory s h k = record {
   of = k.of;

@@ -4,7 +4,8 @@ use Rattle.std.proofs.lemmas.List.{take-append-drop}
 use Rattle.std.specs.Prelude.{ℕ, take, drop}
 use Rattle.std.specs.List.{AllZip}
 
-joined : {A B : Type 0} (R : A → B → Type 0) (xs xs' : List A) (ys ys' : List B) → AllZip R xs ys → AllZip R xs' ys' → AllZip R (xs ++ xs') (ys ++ ys')
+joined : {A B : Type 0} (R : A → B → Type 0) (xs xs' : List A) (ys ys' : List B) → AllZip R xs ys → AllZip R xs' ys' →
+    AllZip R (xs ++ xs') (ys ++ ys')
 joined R [] xs' [] ys' h k = k
 joined R [] xs' (y ∷ ys) ys' h k = absurd h
 joined R (x ∷ xs) xs' [] ys' h k = absurd h

@@ -36,7 +36,14 @@ pub record IsReading (r : RouterView) (session : ℕ) (old : PassView) (t : Told
 pub begins_reading : (r : RouterView) (session : ℕ) (p : PassView) (t : Told) → IsPassOf r p → IsReading r session p t 0 p t
 begins_reading r session p t of = record {
   calls = [];
-  reads = record { gained = gained_none p.part; messages = []; received = tt; handed = grown_none t.handed; given = refl; is_closed = refl };
+  reads = record {
+    gained = gained_none p.part;
+    messages = [];
+    received = tt;
+    handed = grown_none t.handed;
+    given = refl;
+    is_closed = refl;
+  };
   entered = refl;
   fresh = All-nil IsFresh;
   ended = refl;
@@ -49,9 +56,11 @@ pub reads_nothing : (r : RouterView) (session : ℕ) (old : PassView) (t : Told)
 reads_nothing r session old t n p u v i g = subst (λ (w : Told). IsReading r session old t n p w) (sym g.1) i
 
 -- the link handed out a message
-handed_on : (t u v : Told) (ms : List Message) (m : Message) → u.handed ≡ grown t.handed (ms ++ []) → v.handed ≡ grown u.handed (m ∷ []) → v.handed ≡ grown t.handed (ms ++ m ∷ [])
+handed_on : (t u v : Told) (ms : List Message) (m : Message) → u.handed ≡ grown t.handed (ms ++ []) →
+    v.handed ≡ grown u.handed (m ∷ []) → v.handed ≡ grown t.handed (ms ++ m ∷ [])
 handed_on t u v ms m a b =
-    b ∙ ap (λ h. grown h (m ∷ [])) a ∙ grown_more t.handed (ms ++ []) (m ∷ []) ∙ ap (λ (l : List Message). grown t.handed (l ++ m ∷ [])) (append-nil ms)
+    b ∙ ap (λ h. grown h (m ∷ [])) a ∙ grown_more t.handed (ms ++ []) (m ∷ [])
+    ∙ ap (λ (l : List Message). grown t.handed (l ++ m ∷ [])) (append-nil ms)
 
 -- a message was entered
 entered_one : (r : RouterView) (session : ℕ) (old : PassView) (t : Told) (n : ℕ) (p q : PassView) (u v : Told) (m : Message) (a : Answer)
@@ -116,7 +125,8 @@ pub ends_with_link : (r : RouterView) (session : ℕ) (old : PassView) (t : Told
 ends_with_link r session old t n p u v i g = record {
   calls = i.calls;
   lost = [];
-  reads = told_else session old.part t u v i.calls p.part (ap (λ (w : Told). w.handed) g) (ap (λ (w : Told). w.given) g) (ap (λ (w : Told). w.closed) g) i.reads;
+  reads = told_else session old.part t u v i.calls p.part
+    (ap (λ (w : Told). w.handed) g) (ap (λ (w : Told). w.given) g) (ap (λ (w : Told). w.closed) g) i.reads;
   entered = i.entered;
   loses = record { is_told = refl; none = refl };
   in_history = i.fresh;
@@ -136,7 +146,8 @@ ends_by_failure r session old t n p u v f i g = record {
   at_link = (ap (λ (w : Told). w.ended) g.1.only ∙ i.ended, subst (λ (before : Option ℕ). Rose before v.failures) i.failures g.1.rose);
 }
 
-pub ends_stale : (r : RouterView) (session : ℕ) (old : PassView) (t : Told) (n : ℕ) (p q : PassView) (u v : Told) (m : Message) (a : Answer) →
+pub ends_stale : (r : RouterView) (session : ℕ) (old : PassView) (t : Told) (n : ℕ) (p q : PassView) (u v : Told) (m : Message)
+    (a : Answer) →
     IsReading r session old t n p u → Received u (Ok (got.Message m)) v → Answered r p (receive session m) a q → IsCalled r p q →
     a.reply ≡ stale → IsReadBy r session old.part t (read_end cause.Stale (n + 1) None) q.part v
 ends_stale r session old t n p q u v m a i g h k is_stale = record {
@@ -173,7 +184,8 @@ abbrev pub cause_of : CallFault → Cause
 cause_of fault.Full = cause.Full
 cause_of fault.Memory = cause.Memory
 
-pub ends_refused : (r : RouterView) (session : ℕ) (old : PassView) (t : Told) (n : ℕ) (p q : PassView) (u v : Told) (m : Message) (f : CallFault) →
+pub ends_refused : (r : RouterView) (session : ℕ) (old : PassView) (t : Told) (n : ℕ) (p q : PassView) (u v : Told) (m : Message)
+    (f : CallFault) →
     IsReading r session old t n p u → Received u (Ok (got.Message m)) v → Refused f r p q → IsCalled r p q →
     IsReadBy r session old.part t (read_end (cause_of f) n (Some m)) q.part v
 ends_refused r session old t n p q u v m fault.Full i g h k = record {

@@ -66,7 +66,8 @@ taken_more calls e accepted h =
     ∙ ap (λ (l : List Message). l ++ carried_by e) (h ∙ append-nil accepted)
 
 -- messages were taken, and given to the link as far as it accepted them
-taken_one : (r : RouterView) (session : ℕ) (old : PassView) (t : Told) (n : ℕ) (p q : PassView) (u v : Told) (a : Answer) (unsent : List Message)
+taken_one : (r : RouterView) (session : ℕ) (old : PassView) (t : Told) (n : ℕ) (p q : PassView) (u v : Told) (a : Answer)
+    (unsent : List Message)
     (i : IsWriting r session old t n p u) → Answered r p (take session) a q → IsCalled r p q → (h : Hands u (carried a.reply) unsent v) →
     Writes session old.part t (i.calls ++ entry (take session) a.reply ∷ []) (i.accepted ++ h.accepted) unsent q.part v
 taken_one r session old t n p q u v a unsent i answered k h = record {
@@ -87,7 +88,8 @@ counted accepted more messages unsent n h e =
     let lengths : length messages ≡ length more + length unsent = ap length e ∙ length-append more unsent in
     omega (arith, length-append accepted more)
 
-pub writes_on : (r : RouterView) (session : ℕ) (old : PassView) (t : Told) (n : ℕ) (p q : PassView) (u v : Told) (a : Answer) (unsent : List Message) →
+pub writes_on : (r : RouterView) (session : ℕ) (old : PassView) (t : Told) (n : ℕ) (p q : PassView) (u v : Told) (a : Answer)
+    (unsent : List Message) →
     IsWriting r session old t n p u → Answered r p (take session) a q → IsCalled r p q → (a.reply ≡ stale → ⊥) →
     Hands u (carried a.reply) unsent v → unsent ≡ [] →
     IsWriting r session old t (n + (length (carried a.reply) - length unsent)) q v
@@ -95,7 +97,8 @@ writes_on r session old t n p q u v a unsent i answered k fresh h none = record 
   calls = i.calls ++ entry (take session) a.reply ∷ [];
   accepted = i.accepted ++ h.accepted;
   writes = subst
-      (λ (l : List Message). Writes session old.part t (i.calls ++ entry (take session) a.reply ∷ []) (i.accepted ++ h.accepted) l q.part v) none
+      (λ (l : List Message). Writes session old.part t (i.calls ++ entry (take session) a.reply ∷ [])
+      (i.accepted ++ h.accepted) l q.part v) none
       (taken_one r session old t n p q u v a unsent i answered k h);
   sent = counted i.accepted h.accepted (carried a.reply) unsent n i.sent h.in_order;
   fresh = fresh_more i.calls (entry (take session) a.reply) i.fresh fresh;
@@ -120,7 +123,8 @@ ends_by_turns r session old t n p u i = record {
   at_link = (i.ended, i.failures);
 }
 
-pub ends_by_failure : (r : RouterView) (session : ℕ) (old : PassView) (t : Told) (n : ℕ) (p q : PassView) (u v : Told) (a : Answer) (unsent : List Message) →
+pub ends_by_failure : (r : RouterView) (session : ℕ) (old : PassView) (t : Told) (n : ℕ) (p q : PassView) (u v : Told) (a : Answer)
+    (unsent : List Message) →
     IsWriting r session old t n p u → Answered r p (take session) a q → IsCalled r p q → (a.reply ≡ stale → ⊥) →
     Hands u (carried a.reply) unsent v → (unsent ≡ [] → ⊥) →
     IsWrittenBy r session old.part t (write_end cause.LinkFault (n + (length (carried a.reply) - length unsent)) unsent) q.part v
@@ -207,9 +211,11 @@ ends_without_memory r session old t n p q u i h k = record {
 
 -- the law of route_history on the replies to a Take
 abbrev pub TakesAreShort : Type 0
-TakesAreShort = (opening : OpeningView) (es : List Entry) → IsLegal opening es → (k : ℕ) (d : Entry) → k < length es → IsWithinTake (slice_index_or es k d)
+TakesAreShort = (opening : OpeningView) (es : List Entry) → IsLegal opening es → (k : ℕ) (d : Entry) → k < length es →
+    IsWithinTake (slice_index_or es k d)
 
-pub at_most_16 : (r : RouterView) (session : ℕ) (p q : PassView) (a : Answer) → TakesAreShort → Answered r p (take session) a q → length (carried a.reply) ≤ 16
+pub at_most_16 : (r : RouterView) (session : ℕ) (p q : PassView) (a : Answer) → TakesAreShort → Answered r p (take session) a q →
+    length (carried a.reply) ≤ 16
 at_most_16 r session p q a law h =
     let e : Entry = entry (take session) a.reply in
     let legal : IsLegal r.opening (h.log ++ e ∷ []) = subst (λ (l : List Entry). IsLegal r.opening l) h.seen h.legal in
@@ -243,14 +249,16 @@ pub sends_on : (t : Told) (messages : List Message) (m : Message) (rest : List M
 sends_on t messages m rest u v i s = record {
   accepted = i.accepted ++ m ∷ [];
   in_order = i.in_order ∙ sym (append_assoc i.accepted (m ∷ []) rest);
-  given = ap (λ (w : Told). w.given) s.1 ∙ ap (λ (o : Option (List Message)). grown o (m ∷ [])) i.given ∙ grown_more t.given i.accepted (m ∷ []);
+  given = ap (λ (w : Told). w.given) s.1 ∙ ap (λ (o : Option (List Message)). grown o (m ∷ [])) i.given
+      ∙ grown_more t.given i.accepted (m ∷ []);
   handed = ap (λ (w : Told). w.handed) s.1 ∙ i.handed;
   is_closed = ap (λ (w : Told). w.closed) s.1 ∙ i.is_closed;
   ended = ap (λ (w : Told). w.ended) s.1 ∙ i.ended;
   failures = ap (λ (w : Told). w.failures) s.1 ∙ i.failures;
 }
 
-pub sent_all : (t : Told) (messages unsent : List Message) (u : Told) → unsent ≡ [] → IsSending t messages unsent u → Hands t messages unsent u
+pub sent_all : (t : Told) (messages unsent : List Message) (u : Told) → unsent ≡ [] → IsSending t messages unsent u →
+    Hands t messages unsent u
 sent_all t messages unsent u none i = record {
   accepted = i.accepted;
   in_order = i.in_order;

@@ -19,7 +19,8 @@ abbrev pub carried_by : Entry → List Message
 carried_by e = carried e.reply
 
 -- Each call takes messages of the session. What the replies carried is what the link accepted, and then what is left unsent.
-pub record Writes (session : ℕ) (old : Part) (t : Told) (calls : List Entry) (accepted unsent : List Message) (new : Part) (u : Told) : Type 0 where
+pub record Writes (session : ℕ) (old : Part) (t : Told) (calls : List Entry) (accepted unsent : List Message) (new : Part)
+    (u : Told) : Type 0 where
   pub gained : Gained old calls new
   pub takes : All (Takes session) calls
   pub taken : flat_map carried_by calls ≡ accepted ++ unsent

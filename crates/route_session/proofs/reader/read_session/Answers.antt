@@ -17,14 +17,17 @@ loop-turn-init g c = record {
 
 pub loop-turn-preserved : goal.loop-turn-preserved
 loop-turn-preserved g c =
-    let handed : Received (g.L.Link.told c.loop-turn.link) (Ok (got.Message c.in-Ok-Message.message)) (g.L.Link.told c.recv.new.self) = search rules in
-    let answered : Answered c.args.router.now c.loop-turn.pass (receive c.args.session c.in-Ok-Message.message) c.in-Ok.answer c.call.new.pass =
+    let handed : Received (g.L.Link.told c.loop-turn.link) (Ok (got.Message c.in-Ok-Message.message))
+    (g.L.Link.told c.recv.new.self) = search rules in
+    let answered : Answered c.args.router.now c.loop-turn.pass
+    (receive c.args.session c.in-Ok-Message.message) c.in-Ok.answer c.call.new.pass =
     c.in-Ok.ensures.answered in
     let fresh : c.in-Ok.answer.reply ≡ stale → ⊥ = search rules in
     record {
       pass = c.in-Ok.ensures.pass.0;
       reading = reads_on c.args.router.now c.args.session c.args.pass.now (g.L.Link.told c.args.link.now) c.loop-turn.entered
-          c.loop-turn.pass c.call.new.pass (g.L.Link.told c.loop-turn.link) (g.L.Link.told c.recv.new.self) c.in-Ok-Message.message c.in-Ok.answer
+          c.loop-turn.pass c.call.new.pass (g.L.Link.told c.loop-turn.link)
+          (g.L.Link.told c.recv.new.self) c.in-Ok-Message.message c.in-Ok.answer
           c.loop-turn.invariant.reading handed answered
           (called c.args.router.now c.loop-turn.pass c.call.new.pass c.call.ensures.pass c.call.ensures.own c.call.ensures.missed)
           fresh;
@@ -33,8 +36,10 @@ loop-turn-preserved g c =
 
 pub returns-then-is_stale-clause-read : goal.returns-then-is_stale-clause-read
 returns-then-is_stale-clause-read g c =
-    let handed : Received (g.L.Link.told c.loop-turn.link) (Ok (got.Message c.in-Ok-Message.message)) (g.L.Link.told c.recv.new.self) = search rules in
-    let answered : Answered c.args.router.now c.loop-turn.pass (receive c.args.session c.in-Ok-Message.message) c.in-Ok.answer c.call.new.pass =
+    let handed : Received (g.L.Link.told c.loop-turn.link) (Ok (got.Message c.in-Ok-Message.message))
+    (g.L.Link.told c.recv.new.self) = search rules in
+    let answered : Answered c.args.router.now c.loop-turn.pass
+    (receive c.args.session c.in-Ok-Message.message) c.in-Ok.answer c.call.new.pass =
     c.in-Ok.ensures.answered in
     let is_stale : c.in-Ok.answer.reply ≡ stale = search rules in
     rw c.ended-then-is_stale.ensures
@@ -46,8 +51,10 @@ returns-then-is_stale-clause-read g c =
 
 pub returns-in-Err-Full-clause-read : goal.returns-in-Err-Full-clause-read
 returns-in-Err-Full-clause-read g c =
-    let handed : Received (g.L.Link.told c.loop-turn.link) (Ok (got.Message c.in-Ok-Message.message)) (g.L.Link.told c.recv.new.self) = search rules in
-    let refused : Refused fault.Full c.args.router.now c.loop-turn.pass c.call.new.pass = rw c.in-Err-Full.field-0-is at c.in-Err-Full.ensures.refused in
+    let handed : Received (g.L.Link.told c.loop-turn.link) (Ok (got.Message c.in-Ok-Message.message))
+    (g.L.Link.told c.recv.new.self) = search rules in
+    let refused : Refused fault.Full c.args.router.now c.loop-turn.pass c.call.new.pass = rw c.in-Err-Full.field-0-is at
+    c.in-Err-Full.ensures.refused in
     rw c.ended-in-Err-Full.ensures
     (ends_refused c.args.router.now c.args.session c.args.pass.now (g.L.Link.told c.args.link.now) c.loop-turn.entered
     c.loop-turn.pass c.call.new.pass (g.L.Link.told c.loop-turn.link) (g.L.Link.told c.recv.new.self) c.in-Ok-Message.message fault.Full
@@ -56,8 +63,10 @@ returns-in-Err-Full-clause-read g c =
 
 pub returns-in-Err-Memory-clause-read : goal.returns-in-Err-Memory-clause-read
 returns-in-Err-Memory-clause-read g c =
-    let handed : Received (g.L.Link.told c.loop-turn.link) (Ok (got.Message c.in-Ok-Message.message)) (g.L.Link.told c.recv.new.self) = search rules in
-    let refused : Refused fault.Memory c.args.router.now c.loop-turn.pass c.call.new.pass = rw c.in-Err-Memory.field-0-is at c.in-Err-Memory.ensures.refused in
+    let handed : Received (g.L.Link.told c.loop-turn.link) (Ok (got.Message c.in-Ok-Message.message))
+    (g.L.Link.told c.recv.new.self) = search rules in
+    let refused : Refused fault.Memory c.args.router.now c.loop-turn.pass c.call.new.pass = rw c.in-Err-Memory.field-0-is at
+    c.in-Err-Memory.ensures.refused in
     rw c.ended-in-Err-Memory.ensures
     (ends_refused c.args.router.now c.args.session c.args.pass.now (g.L.Link.told c.args.link.now) c.loop-turn.entered
     c.loop-turn.pass c.call.new.pass (g.L.Link.told c.loop-turn.link) (g.L.Link.told c.recv.new.self) c.in-Ok-Message.message fault.Memory

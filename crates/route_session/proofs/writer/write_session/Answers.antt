@@ -18,7 +18,8 @@ loop-turn-init g c = record {
 
 pub returns-in-Err-Full-clause-written : goal.returns-in-Err-Full-clause-written
 returns-in-Err-Full-clause-written g c =
-    let refused : Refused fault.Full c.args.router.now c.loop-turn.pass c.call.new.pass = rw c.in-Err-Full.field-0-is at c.in-Err-Full.ensures.refused in
+    let refused : Refused fault.Full c.args.router.now c.loop-turn.pass c.call.new.pass = rw c.in-Err-Full.field-0-is at
+    c.in-Err-Full.ensures.refused in
     rw c.ended.ensures
     (ends_full c.args.router.now c.args.session c.args.pass.now (g.L.Link.told c.args.link.now) c.loop-turn.sent
     c.loop-turn.pass c.call.new.pass (g.L.Link.told c.loop-turn.link) c.loop-turn.invariant.writing refused
@@ -26,7 +27,8 @@ returns-in-Err-Full-clause-written g c =
 
 pub returns-then-is_stale-clause-written : goal.returns-then-is_stale-clause-written
 returns-then-is_stale-clause-written g c =
-    let answered : Answered c.args.router.now c.loop-turn.pass (take c.args.session) c.in-Ok.answer c.call.new.pass = c.in-Ok.ensures.answered in
+    let answered : Answered c.args.router.now c.loop-turn.pass
+    (take c.args.session) c.in-Ok.answer c.call.new.pass = c.in-Ok.ensures.answered in
     let is_stale : c.in-Ok.answer.reply ≡ stale = search rules in
     rw c.ended-then-is_stale.ensures
     (ends_stale c.args.router.now c.args.session c.args.pass.now (g.L.Link.told c.args.link.now) c.loop-turn.sent
@@ -35,10 +37,13 @@ returns-then-is_stale-clause-written g c =
 
 pub returns-then-not-is_empty-clause-written : goal.returns-then-not-is_empty-clause-written
 returns-then-not-is_empty-clause-written g c =
-    let answered : Answered c.args.router.now c.loop-turn.pass (take c.args.session) c.in-Ok.answer c.call.new.pass = c.in-Ok.ensures.answered in
+    let answered : Answered c.args.router.now c.loop-turn.pass
+    (take c.args.session) c.in-Ok.answer c.call.new.pass = c.in-Ok.ensures.answered in
     let fresh : c.in-Ok.answer.reply ≡ stale → ⊥ = search rules in
-    let handed : Hands (g.L.Link.told c.loop-turn.link) (carried c.in-Ok.answer.reply) c.send_each-unsent.result.items (g.L.Link.told c.send_each-unsent.new.link) =
-    subst (λ (l : List Message). Hands (g.L.Link.told c.loop-turn.link) l c.send_each-unsent.result.items (g.L.Link.told c.send_each-unsent.new.link))
+    let handed : Hands (g.L.Link.told c.loop-turn.link) (carried c.in-Ok.answer.reply) c.send_each-unsent.result.items
+    (g.L.Link.told c.send_each-unsent.new.link) =
+    subst (λ (l : List Message). Hands (g.L.Link.told c.loop-turn.link) l c.send_each-unsent.result.items
+    (g.L.Link.told c.send_each-unsent.new.link))
     c.messages_of-messages.ensures c.send_each-unsent.ensures in
     let taken : c.len-taken.result ≡ length (carried c.in-Ok.answer.reply) = search rules in
     let left : c.len.result ≡ length c.send_each-unsent.result.items = search rules in
@@ -47,27 +52,33 @@ returns-then-not-is_empty-clause-written g c =
     (ends_by_failure c.args.router.now c.args.session c.args.pass.now (g.L.Link.told c.args.link.now) c.loop-turn.sent
     c.loop-turn.pass c.call.new.pass (g.L.Link.told c.loop-turn.link) (g.L.Link.told c.send_each-unsent.new.link) c.in-Ok.answer
     c.send_each-unsent.result.items c.loop-turn.invariant.writing answered
-    (called c.args.router.now c.loop-turn.pass c.call.new.pass c.call.ensures.pass c.call.ensures.own c.call.ensures.missed) fresh handed some)
+    (called c.args.router.now c.loop-turn.pass c.call.new.pass c.call.ensures.pass c.call.ensures.own c.call.ensures.missed) fresh handed
+    some)
 
 pub loop-turn-preserved : goal.loop-turn-preserved
 loop-turn-preserved g c =
-    let answered : Answered c.args.router.now c.loop-turn.pass (take c.args.session) c.in-Ok.answer c.call.new.pass = c.in-Ok.ensures.answered in
+    let answered : Answered c.args.router.now c.loop-turn.pass
+    (take c.args.session) c.in-Ok.answer c.call.new.pass = c.in-Ok.ensures.answered in
     let fresh : c.in-Ok.answer.reply ≡ stale → ⊥ = search rules in
-    let handed : Hands (g.L.Link.told c.loop-turn.link) (carried c.in-Ok.answer.reply) c.send_each-unsent.result.items (g.L.Link.told c.send_each-unsent.new.link) =
-    subst (λ (l : List Message). Hands (g.L.Link.told c.loop-turn.link) l c.send_each-unsent.result.items (g.L.Link.told c.send_each-unsent.new.link))
+    let handed : Hands (g.L.Link.told c.loop-turn.link) (carried c.in-Ok.answer.reply) c.send_each-unsent.result.items
+    (g.L.Link.told c.send_each-unsent.new.link) =
+    subst (λ (l : List Message). Hands (g.L.Link.told c.loop-turn.link) l c.send_each-unsent.result.items
+    (g.L.Link.told c.send_each-unsent.new.link))
     c.messages_of-messages.ensures c.send_each-unsent.ensures in
     let taken : c.len-taken.result ≡ length (carried c.in-Ok.answer.reply) = search rules in
     let left : c.len.result ≡ length c.send_each-unsent.result.items = search rules in
     let nothing : length c.send_each-unsent.result.items ≡ 0 = search rules in
     let none : c.send_each-unsent.result.items ≡ [] = none_left c.send_each-unsent.result.items nothing in
     let short : length (carried c.in-Ok.answer.reply) ≤ 16 =
-    at_most_16 c.args.router.now c.args.session c.loop-turn.pass c.call.new.pass c.in-Ok.answer c.taken_begins_sent.ensures.at_most answered in
+    at_most_16 c.args.router.now c.args.session c.loop-turn.pass c.call.new.pass c.in-Ok.answer c.taken_begins_sent.ensures.at_most
+    answered in
     record {
       pass = c.call.ensures.pass.0;
       writing = rw (taken, left)
           (writes_on c.args.router.now c.args.session c.args.pass.now (g.L.Link.told c.args.link.now) c.loop-turn.sent
           c.loop-turn.pass c.call.new.pass (g.L.Link.told c.loop-turn.link) (g.L.Link.told c.send_each-unsent.new.link) c.in-Ok.answer
           c.send_each-unsent.result.items c.loop-turn.invariant.writing answered
-          (called c.args.router.now c.loop-turn.pass c.call.new.pass c.call.ensures.pass c.call.ensures.own c.call.ensures.missed) fresh handed none);
+          (called c.args.router.now c.loop-turn.pass c.call.new.pass c.call.ensures.pass c.call.ensures.own c.call.ensures.missed) fresh
+          handed none);
       room = omega arith;
     }
