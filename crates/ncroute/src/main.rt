@@ -1,4 +1,4 @@
-//! `ncroute`: checks route filters, and takes routes through their code.
+//! `ncroute`: checks route filters, takes routes through their code, and runs a router with them.
 #![tactic(auto)]
 
 mod serve;

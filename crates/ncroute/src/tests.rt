@@ -6,7 +6,7 @@ use std::test::Fail;
 
 #[test]
 fn reads_words(rt: HostRuntime) -> Result<(), Fail> {
-    let rows: [(&[&str], Words); 11] = [
+    let rows: [(&[&str], Words); 13] = [
         (&["ncroute", "eval"], Words::Asked(Request::Eval)),
         (&["ncroute"], Words::Shown(2)),
         (&["ncroute", "check"], Words::Shown(2)),
@@ -31,6 +31,8 @@ fn reads_words(rt: HostRuntime) -> Result<(), Fail> {
         (&["ncroute", "check", "--size", "x"], Words::Shown(2)),
         (&["ncroute", "eval", "more"], Words::Shown(2)),
         (&["ncroute", "eval", "--size"], Words::Shown(2)),
+        (&["ncroute", "run"], Words::Asked(Request::Run)),
+        (&["ncroute", "run", "script"], Words::Shown(2)),
         (&["ncroute", "--help"], Words::Shown(0)),
         (&["ncroute", "eval", "--help"], Words::Shown(0)),
     ];
@@ -40,14 +42,14 @@ fn reads_words(rt: HostRuntime) -> Result<(), Fail> {
     Ok(())
 }
 
-/// What `eval` and `check` answer, and the exit status.
+/// What `eval`, `check` and `run` answer, and the exit status.
 #[test]
 fn requests_end_with_their_status(rt: HostRuntime) -> Result<(), Fail> {
     let check = Request::Check {
         size: 8,
         is_code: false,
     };
-    let rows: [(Request, &str, &str, u8); 5] = [
+    let rows: [(Request, &str, &str, u8); 7] = [
         (
             Request::Eval,
             "4e4346310000000170\n10.0.0.0/8 3 8\n",
@@ -68,6 +70,8 @@ fn requests_end_with_their_status(rt: HostRuntime) -> Result<(), Fail> {
             0,
         ),
         (check, "filter a { accept }", "refused P2 18\n", 1),
+        (Request::Run, "network 4 0\nup 1\n", "ok\nopened 1\n", 0),
+        (Request::Run, "up 1\n", "refused O4 1\n", 1),
     ];
     for (request, input, output, status) in rows {
         let mut reader = input.as_bytes();

@@ -5,3 +5,4 @@ pub mod Sourced
 pub mod Entering
 pub mod Viewed
 pub mod Ending
+mod Rows
