@@ -1,6 +1,6 @@
 -- What a network of routers prints, and the codes of what ends it. (This project's own choice.)
-use Rattle.std.specs.Prelude.{◌≡◌, ℕ, Option, Result, Ok, Err, List, [], ◌∷◌, ◌++◌, codes}
-use Rattle.std.specs.Io.KnownBytes.{Appends, Keeps}
+use Rattle.std.specs.Prelude.{ℕ, Option, List, [], ◌∷◌, ◌++◌, codes}
+use Rattle.std.specs.Io.KnownBytes.{Keeps}
 use Rattle.line_protocol.specs.declared.faults.StreamFault.TheVariants as stream
 use Rattle.line_protocol.specs.Faults.{fault_code}
 use Rattle.line_protocol.specs.Runs.{AppendsFront}

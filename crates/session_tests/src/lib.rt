@@ -1,4 +1,4 @@
-//! Tests of sessions: readers and writers of links, one after another and in threads.
+//! Tests of sessions: readers and writers of links, one after another and in threads, and a network of routers.
 #![tactic(auto)]
 
 #[cfg(test)]
@@ -7,6 +7,8 @@ mod fixtures;
 mod gate_tests;
 #[cfg(test)]
 mod link_tests;
+#[cfg(test)]
+mod network_tests;
 #[cfg(test)]
 mod run_tests;
 #[cfg(test)]

@@ -1,9 +1,6 @@
-use Rattle.std.proofs.Common.{subst, sym, ◌≡◌}
+use Rattle.std.proofs.Common.{subst, sym}
 use Rattle.netchange_core.specs.OpeningView.{OpeningView}
-use Rattle.route_history.specs.declared.fault.ReplayFault.{ReplayFault}
-use Rattle.route_history.specs.declared.fault.ReplayFault.TheVariants as fault
 use Rattle.route_history.specs.History.{IsFirstWrong, IsLegal}
-use Rattle.route_history.specs.Replaying.{IsFaultOf}
 use Rattle.ring_network.proofs.Replaying.{none_wrong}
 use Rattle.ring_network.proofs.node.replay_whole.Goals as goal
 
