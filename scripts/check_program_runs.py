@@ -39,6 +39,8 @@ RUNS = [
     ("check --size 4294967296", FILTER, b"", 2),
     ("eval --size 8", b"", b"", 2),
     ("eval more", b"", b"", 2),
+    ("net", b"", b"node 0 replay ok\nnode 1 replay ok\nnode 2 replay ok\n", 0),
+    ("net more", b"", b"", 2),
     ("load", b"", b"", 2),
 ]
 
@@ -48,6 +50,7 @@ FAULTS = [
     ("ncroute check --size 8 < examples 2>&1; echo $?", b"ncroute: E1\n1\n"),
     ("echo 'filter q { accept; }' | ncroute check --size 8 2>&1 >/dev/full; echo $?", b"ncroute: E2\n1\n"),
     ("echo 4e4 | ncroute eval 2>&1 >/dev/full; echo $?", b"ncroute: E2\n1\n"),
+    ("ncroute net 2>&1 >/dev/full; echo $?", b"ncroute: E2\n1\n"),
     ("ncroute eval < examples >/dev/null 2>/dev/full; echo $?", b"1\n"),
     ("ncroute eval < examples 2>&-; echo $?", b"1\n"),
     ("ncroute check 2>&-; echo $?", b"2\n"),

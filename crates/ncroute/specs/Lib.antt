@@ -1,1 +1,2 @@
+pub mod Networking
 pub mod Serving

@@ -1,11 +1,13 @@
-//! `ncroute`: checks route filters, takes routes through their code, and runs a router with them.
+//! `ncroute`: checks route filters, takes routes through their code, and runs a router, or a network of routers.
 #![tactic(auto)]
 
+mod network;
 mod serve;
 #[cfg(test)]
 mod tests;
 mod words;
 
+use network::serve_network;
 use serve::{FAILED, report_fault, serve};
 use std::io;
 use std::process::ExitCode;
@@ -15,6 +17,7 @@ fn main(rt: HostRuntime) -> ExitCode {
     let (reader, writer, errors) = (&mut rt.stdin(), &mut io::writer(&rt), &mut rt.stderr());
     let status = match words::read(&rt) {
         Ok(Words::Asked(request)) => serve(rt.alloc(), request, reader, writer, errors),
+        Ok(Words::Network) => serve_network(&rt, rt.alloc(), writer, errors),
         Ok(Words::Shown(status)) => Ok(status),
         Err(fault) => report_fault(errors, fault).map(|_| FAILED),
     };

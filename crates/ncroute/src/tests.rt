@@ -33,6 +33,8 @@ fn reads_words(rt: HostRuntime) -> Result<(), Fail> {
         (&["ncroute", "eval", "--size"], Words::Shown(2)),
         (&["ncroute", "run"], Words::Asked(Request::Run)),
         (&["ncroute", "run", "script"], Words::Shown(2)),
+        (&["ncroute", "net"], Words::Network),
+        (&["ncroute", "net", "more"], Words::Shown(2)),
         (&["ncroute", "--help"], Words::Shown(0)),
         (&["ncroute", "eval", "--help"], Words::Shown(0)),
     ];

@@ -31,6 +31,8 @@ pub enum Request {
 pub enum Words {
     /// They ask for this.
     Asked(Request),
+    /// They ask for the network of routers.
+    Network,
     /// Help, or what is wrong with them, was shown. The program ends with this status.
     Shown(u8),
 }
@@ -66,6 +68,9 @@ pub fn request_of<R: Print + Eprint, S: AsStr>(
 fn words_in(matches: &ArgMatches<'_>) -> Words {
     if matches.subcommand_matches("run").is_some() {
         return Words::Asked(Request::Run);
+    }
+    if matches.subcommand_matches("net").is_some() {
+        return Words::Network;
     }
     let Some(check) = matches.subcommand_matches("check") else {
         return Words::Asked(Request::Eval);
@@ -108,13 +113,17 @@ fn command<'a>(alloc: Global) -> Result<Command<'a>, AllocError> {
     let run = Command::new(alloc, "run")
         .about("Run a router by a script of commands, and answer each of them")
         .after_help(RUN_HELP);
+    let net = Command::new(alloc, "net")
+        .about("Run three routers in a ring, and replay what happened at each")
+        .after_help(NET_HELP);
     Command::new(alloc, "ncroute")
         .about("Check route filters, take routes through their code, and run a router with them")
         .subcommand_required(true)
         .arg_required_else_help(true)
         .subcommand(check_command(alloc)?)?
         .subcommand(eval)?
-        .subcommand(run)
+        .subcommand(run)?
+        .subcommand(net)
 }
 
 /// The command `check`.
@@ -206,4 +215,15 @@ Example:
   printf 'network 4 0\\nup 1\\nrecv 1 1 0\\nshow 1\\n' | ncroute run
 prints `ok`, `opened 1`, `done 1` and `route 1 via 1`. The exit status is 0; 1 if
 a command was refused or a fault ended the run; 2 if the command line is wrong.
+";
+
+const NET_HELP: &str = "\
+Three routers are neighbours of one another. Each reads and writes its links in
+threads of their own, 200 turns each, and then replays its whole history. It
+takes about a second, and no input.
+
+Three lines are printed, `node 0 replay ok` to `node 2 replay ok`, or none and a
+fault on standard error: E2 output, E3 memory, J1 or J2 a call that a router
+refused, L3 a router, X1 or X2 sessions or threads that were not run.
+The exit status is 0; 1 if a fault ended the run; 2 if the command line is wrong.
 ";

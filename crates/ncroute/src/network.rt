@@ -1,0 +1,55 @@
+//! The command `net`: from the words to an exit status.
+ghost use Rattle.std.specs.Prelude.{◌≡◌, IfOk, OnErr};
+ghost use Rattle.ncroute.specs.Networking.{FailsToReportNetwork, ServesNetwork, network_line};
+
+use crate::serve::FAILED;
+use line_protocol::{StreamFault, write_text};
+use ring_network::{NetworkFault, net_lines};
+use route_history::CallFault;
+use route_session::RunFault;
+use slot_lock::LockFault;
+use std::alloc::Global;
+use std::io::Write;
+use std::rt::Clock;
+use std::sync::Wait;
+use std::thread::Threads;
+
+/// The line that tells of a fault. It is one text, so that one write takes it whole.
+fn network_line(fault: NetworkFault) -> &'static str
+    ensures { result.now ≡ network_line fault }
+{
+    match fault {
+        NetworkFault::Stream(StreamFault::Read) => "ncroute: E1\n",
+        NetworkFault::Stream(StreamFault::Write) => "ncroute: E2\n",
+        NetworkFault::Stream(StreamFault::Memory) => "ncroute: E3\n",
+        NetworkFault::Stream(StreamFault::TooLong) => "ncroute: E4\n",
+        NetworkFault::Call(CallFault::Full) => "ncroute: J1\n",
+        NetworkFault::Call(CallFault::Memory) => "ncroute: J2\n",
+        NetworkFault::Lock(LockFault::Held) => "ncroute: L2\n",
+        NetworkFault::Lock(LockFault::Memory) => "ncroute: L3\n",
+        NetworkFault::Run(RunFault::Memory) => "ncroute: X1\n",
+        NetworkFault::Run(RunFault::NotStarted) => "ncroute: X2\n",
+    }
+}
+
+/// Runs the network, and returns the exit status: 0, or 1 where a fault ended it. A fault is reported on `errors`; the error is that
+/// of `errors`, which did not take the whole report.
+pub fn serve_network<R: Threads + Wait + Clock + Sync, W: Write, E: Write>(
+    rt: &R,
+    alloc: Global,
+    writer: &mut W,
+    errors: &mut E,
+) -> Result<u8, StreamFault>
+    ensures served { IfOk result (λ status.
+        ServesNetwork (W.contents writer.old) (W.contents writer.new) (E.contents errors.old) (E.contents errors.new) status) }
+    ensures not_reported { OnErr result
+        (FailsToReportNetwork (W.contents writer.old) (W.contents writer.new) (E.contents errors.old) (E.contents errors.new)) }
+{
+    match net_lines(rt, alloc, writer) {
+        Ok(()) => Ok(0),
+        Err(fault) => {
+            write_text(errors, network_line(fault).as_bytes())?;
+            Ok(FAILED)
+        }
+    }
+}
