@@ -72,6 +72,13 @@ joined_distance o dist session v n e h =
     (λ _. ap (λ x. pass o n.imports v x) (get_or-replicate o.size v o.size 0 h) ∙ pass_unreached o n.imports v) (λ _. refl)
     ∙ sym (ap (λ s. cond (nat_lt 0 s) (pass o n.imports v (slice_index n.raw v)) o.size) e)
 
+-- a filter of what is told changes nothing while the neighbour is down
+pub importing_distance : (o : OpeningView) (f : VerifiedView) (v : ℕ) (n : NeighbourView) → n.session ≡ 0 →
+    neighbour_distance o v (importing f n) ≡ neighbour_distance o v n
+importing_distance o f v n e =
+    ap (λ s. cond (nat_lt 0 s) (pass o (Some f) v (slice_index n.raw v)) o.size) e
+    ∙ sym (ap (λ s. cond (nat_lt 0 s) (pass o n.imports v (slice_index n.raw v)) o.size) e)
+
 -- a distance that is heard is that of one node
 pub heard_distance : (o : OpeningView) (v d u : ℕ) (n : NeighbourView) → (u ≡ v → ⊥) →
     neighbour_distance o u (heard v d n) ≡ neighbour_distance o u n

@@ -34,6 +34,18 @@ none_counted old new (suc n) e =
     ap (λ b. cond b (count_changes old new n) (count_changes old new n + 1)) (eq-eqb (old n) (new n) (e n (omega arith)))
     ∙ none_counted old new n (λ u h. e u (omega arith))
 
+-- a change after which the neighbour is as far from each node as before
+pub recomputed_same : (o : OpeningView) (sessions k : ℕ) (f : NeighbourView → NeighbourView) (ns : List NeighbourView) →
+    ((v : ℕ) → v < o.size → neighbour_distance o v (f (neighbour_at ns k)) ≡ neighbour_distance o v (neighbour_at ns k)) →
+    recomputed (world o sessions ns) (changed (world o sessions ns) k f) ≡ answered (world o sessions (change k f ns)) (reply.Done 0)
+recomputed_same o sessions k f ns same =
+    let ms = change k f ns in
+    let e = λ (v : ℕ) (h : v < o.size).
+    ap (λ xs. (best_by o v xs).dist) (sym (map_change_same (neighbour_distance o v) k f ns (same v h))) in
+    let told = none_told o (distance_by o ns) (distance_by o ms) o.size ms e in
+    let counted = none_counted (distance_by o ns) (distance_by o ms) o.size e in
+    λ i. answered (world o sessions (told i)) (reply.Done (counted i))
+
 -- where one distance may have changed it alone is told
 last_told : (o : OpeningView) (old new : ℕ → ℕ) (n : ℕ) (ns : List NeighbourView) →
     ((u : ℕ) → u < n → old u ≡ new u) → tell_changes o old new (suc n) ns ≡ told_if_differs o n (old n) (new n) ns

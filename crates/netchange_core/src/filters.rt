@@ -1,10 +1,11 @@
 //! New filters.
 
-ghost use Rattle.std.specs.Prelude.{◌≡◌, ℕ, IfOk, OnErr, map};
+ghost use Rattle.std.specs.Prelude.{◌≡◌, ℕ, ◌<◌, IfOk, OnErr, length, map};
 ghost use Rattle.netchange_core.specs.Calls.{MayNeedMemory};
 ghost use Rattle.netchange_core.specs.Kept.{AreKept, view_of, world_of};
-ghost use Rattle.netchange_core.specs.Next.{answered, set_export, set_import};
+ghost use Rattle.netchange_core.specs.Next.{answered, importing, set_export, set_import};
 ghost use Rattle.netchange_core.specs.Present.{AreListed, sessions_of};
+ghost use Rattle.netchange_core.specs.World.{change};
 
 use crate::changing::{export, import};
 use crate::destination::Destination;
@@ -17,6 +18,14 @@ use crate::settling::settle;
 use filter_verifier::Verified;
 use std::alloc::AllocError;
 use std::sync::Arc;
+
+/// Keeps a filter for what a node will tell, while the node is down and all its distances are the size.
+fn keep_import(neighbours: &mut [Neighbour], node: usize, filter: Arc<Verified>)
+    requires { node < length neighbours.old }
+    ensures { map view_of neighbours.new ≡ change node (importing filter.value) (map view_of neighbours.old) }
+{
+    import(&mut neighbours[node], filter);
+}
 
 /// The distances that a node tells pass this filter from now on.
 pub(crate) fn set_import(
@@ -44,8 +53,12 @@ pub(crate) fn set_import(
         return Ok(Reply::Refused(Refusal::OtherSize));
     }
     let filter = Arc::try_clone(filter)?;
-    make_room(present, neighbours, usize::from(opening.size()))?;
     let k = usize::from(node);
+    if neighbours[k].session == 0 {
+        keep_import(neighbours, k, filter);
+        return Ok(Reply::Done { changed: 0 });
+    }
+    make_room(present, neighbours, usize::from(opening.size()))?;
     import(&mut neighbours[k], filter);
     let changed = settle(opening, present, neighbours, destinations, k);
     Ok(Reply::Done { changed })
