@@ -5,7 +5,7 @@ use code_file::{FileFault, read_code, write_code};
 use filter_code::{Code, Route, run_counted};
 use filter_commands::{check_text, eval_lines};
 use filter_machine::{Ran, Verdict, run};
-use filter_verifier::verify;
+use filter_verifier::{Verified, verify};
 use prefix_patterns::read_prefix;
 use std::alloc::{AllocError, Global};
 use std::process::Abort;
@@ -187,40 +187,57 @@ const RUNS: [(&[u8], u32, Option<u32>, u32); 4] = [
     (b"1.0.0.0/8", 64, Some(64), 1021),
 ];
 
-#[test]
-fn a_filter_at_all_limits(rt: HostRuntime) -> Result<(), Fail> {
-    let alloc = rt.alloc();
+/// The code of the full filter. `check` prints the same of its text and of its code, which is written as it was read.
+fn full_code(rt: &impl Abort, alloc: Global) -> Result<Code, Fail> {
     let text = filter(alloc, FULL)?;
     let lines = checked(alloc, text.as_bytes(), false)?;
     let (digits, end) = parts(&lines).ok_or("a code line")?;
-    assert_eq!(&rt; end, b"\nverified 1021 2\n".as_slice());
+    assert_eq!(rt; end, b"\nverified 1021 2\n".as_slice());
     let again = checked(alloc, digits, true)?;
-    assert!(&rt; again.as_slice() == lines.as_slice());
+    assert!(rt; again.as_slice() == lines.as_slice());
     let bytes = hex::decode(alloc, digits)?;
     let code = read_code(alloc, &bytes)?;
-    expect_full(&rt, &code, 1024);
     let written = write_code(alloc, &code)?;
-    assert!(&rt; written.as_slice() == bytes.as_slice());
+    assert!(rt; written.as_slice() == bytes.as_slice());
+    Ok(code)
+}
+
+/// Asserts what both machines answer on a route.
+fn expect_run(
+    rt: &impl Abort,
+    alloc: Global,
+    verified: &Verified,
+    given: &(&[u8], u32, Option<u32>, u32),
+) -> Result<(), Fail> {
+    let (prefix, metric, accepted, steps) = *given;
+    let net = read_prefix(prefix).ok_or("a prefix")?;
+    let route = Route::new(net, metric, SIZE).ok_or("a route within the limits")?;
+    assert!(rt; metric <= verified.size());
+    let counted = run_counted(verified.code(), &route);
+    assert_eq!(rt; counted.steps, steps);
+    let (verdict, wanted) = match accepted {
+        Some(metric) => (
+            Verdict::Accept(metric),
+            format!(in alloc; "accept {metric}")?,
+        ),
+        None => (Verdict::Reject, format!(in alloc; "reject")?),
+    };
+    assert_eq!(rt; run(verified, &net, metric), Ran { verdict, steps });
+    assert_eq!(rt; answer(alloc, counted.outcome)?.as_str(), wanted.as_str());
+    Ok(())
+}
+
+#[test]
+fn a_filter_at_all_limits(rt: HostRuntime) -> Result<(), Fail> {
+    let alloc = rt.alloc();
+    let code = full_code(&rt, alloc)?;
+    expect_full(&rt, &code, 1024);
     let verified = match verify(alloc, code, SIZE) {
         Ok(verified) => verified,
         Err((_, fault)) => return Err(Fail::from(fault)),
     };
-    for (prefix, metric, accepted, steps) in RUNS {
-        let net = read_prefix(prefix).ok_or("a prefix")?;
-        let route = Route::new(net, metric, SIZE).ok_or("a route within the limits")?;
-        assert!(&rt; metric <= verified.size());
-        let verdict = match accepted {
-            Some(metric) => Verdict::Accept(metric),
-            None => Verdict::Reject,
-        };
-        assert_eq!(&rt; run(&verified, &net, metric), Ran { verdict, steps });
-        let counted = run_counted(verified.code(), &route);
-        assert_eq!(&rt; counted.steps, steps);
-        let wanted = match accepted {
-            Some(metric) => format!(in alloc; "accept {metric}")?,
-            None => format!(in alloc; "reject")?,
-        };
-        assert_eq!(&rt; answer(alloc, counted.outcome)?.as_str(), wanted.as_str());
+    for given in &RUNS {
+        expect_run(&rt, alloc, &verified, given)?;
     }
     Ok(())
 }
