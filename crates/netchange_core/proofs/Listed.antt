@@ -85,7 +85,8 @@ module _ (o : OpeningView) (v dist : ℕ) (ps : List Present) (old ns : List Nei
       are.apart j i c before h (same ∙ ap (λ p. p.node) (get_or_default ps i d c h)))
 
   pub told_one : (i : ℕ) (d : Present) (e n : Neighbour) → i < length ps → Told o v dist ps i old ns →
-      view_of n ≡ queueing (message_of o (view_of (get_or ns (get_or ps i d).node e)).exports v dist ∷ []) (view_of (get_or ns (get_or ps i d).node e)) →
+      view_of n ≡ queueing (message_of o (view_of (get_or ns (get_or ps i d).node e)).exports v dist ∷ [])
+      (view_of (get_or ns (get_or ps i d).node e)) →
       deque_len n.queue ≡ deque_len (get_or ns (get_or ps i d).node e).queue + 1 →
       deque_capacity n.queue ≡ deque_capacity (get_or ns (get_or ps i d).node e).queue →
       Told o v dist ps (i + 1) old (set ns (get_or ps i d).node n)
@@ -97,7 +98,8 @@ module _ (o : OpeningView) (v dist : ℕ) (ps : List Present) (old ns : List Nei
       let same : get_or ns k e ≡ head = next_same i d e h so_far in
       let up : is_up (view_of head) ≡ true = ap is_up (view_at old k e below) ∙ named_up old ps i d are h in
       let here : view_of n ≡ tell o v dist (view_of head) =
-      view ∙ ap (λ (m : Neighbour). queueing (message_of o (view_of m).exports v dist ∷ []) (view_of m)) same ∙ told_here o v dist (view_of head) up in
+      view ∙ ap (λ (m : Neighbour). queueing (message_of o (view_of m).exports v dist ∷ []) (view_of m)) same
+      ∙ told_here o v dist (view_of head) up in
       let is_next : (j : ℕ) (c : Present) → j < i + 1 → (j < i → ⊥) → (get_or ps j c).node ≡ k =
       λ j c more late. let at : j ≡ i = omega arith in ap (λ m. (get_or ps m c).node) at ∙ ap (λ p. p.node) (get_or_default ps i c d h) in
       let apart : (j : ℕ) (c : Present) → j < i → (get_or ps j c).node ≢ k =
@@ -113,7 +115,8 @@ module _ (o : OpeningView) (v dist : ℕ) (ps : List Present) (old ns : List Nei
         ];
         room = λ more j c f within room. elim (cases_lt j i) [
           | inl before ↦
-              subst (HasRoom more) (sym (get_or-set_other ns k (get_or ps j c).node n f (apart j c before))) (so_far.room more j c f before room)
+              subst (HasRoom more) (sym (get_or-set_other ns k (get_or ps j c).node n f (apart j c before)))
+              (so_far.room more j c f before room)
           | inr late ↦
               let at = is_next j c within (λ less. omega arith) in
               let was : HasRoom (more + 1) head =
@@ -139,7 +142,8 @@ next_room o v dist ps old ns same_length are room i d e h so_far =
     let below : k < length old = named_below old ps i d are h in
     let up : is_up (view_of (get_or old k e)) ≡ true = ap is_up (view_at old k e below) ∙ named_up old ps i d are h in
     let was = room k e below (ltb-true 0 (get_or old k e).session up) in
-    subst (λ n. deque_len n.queue < deque_capacity n.queue) (sym (next_same o v dist ps old ns same_length are i d e h so_far)) (omega (arith, was))
+    subst (λ n. deque_len n.queue < deque_capacity n.queue) (sym (next_same o v dist ps old ns same_length are i d e h so_far))
+    (omega (arith, was))
 
 element : {X : Type 0} (xs : List X) (i : ℕ) → i < length xs → X
 element [] i h = absurd (omega arith)

@@ -49,7 +49,8 @@ pub returns-in_err-reserve-2-clause-present : goal.returns-in_err-reserve-2-clau
 returns-in_err-reserve-2-clause-present c =
     let same = same_views c.args.neighbours.now c.from.result c.reserve.new.neighbour c.index-neighbours-from.result
     c.reserve.ensures.same in
-    subst (ArePresent c.args.sessions.now.count (sessions_of (map view_of (slice_set c.args.neighbours.now c.from.result c.reserve.new.neighbour))))
+    subst
+    (ArePresent c.args.sessions.now.count (sessions_of (map view_of (slice_set c.args.neighbours.now c.from.result c.reserve.new.neighbour))))
     (sym c.in_err-reserve-2.ensures.items)
     (subst (λ qs. ArePresent c.args.sessions.now.count (sessions_of qs) c.args.sessions.now.present.items) (sym same) c.requires.present)
 
@@ -74,7 +75,8 @@ returns-clause-present c =
     ∙ ap (λ j. c.args.sessions.now.present.items ++ present (s + 1) j ∷ []) (sym c.from.ensures) in
     subst (ArePresent (s + 1) (sessions_of (map view_of (slice_set c.args.neighbours.now k c.join.new.neighbour)))) (sym items)
     (subst (λ ss. ArePresent (s + 1) ss (c.args.sessions.now.present.items ++ present (s + 1) k ∷ [])) (sym begins)
-    (one_more s k (sessions_of ns) c.args.sessions.now.present.items (omega (arith, h, length-map ns (λ n. n.session))) down c.requires.present))
+    (one_more s k (sessions_of ns) c.args.sessions.now.present.items (omega (arith, h, length-map ns (λ n. n.session))) down
+    c.requires.present))
 
 pub join-requires-clause-raw : goal.join-requires-clause-raw
 join-requires-clause-raw c =
