@@ -126,7 +126,7 @@ ends_with_link r session old t n p u v i g = record {
   calls = i.calls;
   lost = [];
   reads = told_else session old.part t u v i.calls p.part
-    (ap (λ (w : Told). w.handed) g) (ap (λ (w : Told). w.given) g) (ap (λ (w : Told). w.closed) g) i.reads;
+      (ap (λ (w : Told). w.handed) g) (ap (λ (w : Told). w.given) g) (ap (λ (w : Told). w.closed) g) i.reads;
   entered = i.entered;
   loses = record { is_told = refl; none = refl };
   in_history = i.fresh;
