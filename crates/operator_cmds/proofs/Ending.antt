@@ -1,6 +1,6 @@
 -- A script ends where its input does: no answer ends it before.
-use Rattle.std.proofs.Common.{◌≡◌, ℕ, ◌==◌, Bool, true, false, ◌||◌, List, [], ◌∷◌, ◌++◌, length, Option, Some, None, Result, Ok, Err, Vec, Global, refl, sym, subst, ap, ◌∙◌, ◌⊎◌, inl, inr, nat_lt}
-use Rattle.std.specs.Prelude.{MatchBool, codes}
+use Rattle.std.proofs.Common.{◌≡◌, ℕ, ◌==◌, Bool, true, false, ◌||◌, List, [], ◌∷◌, length, Option, Some, None, Ok, Err, Global, refl, subst, ap, ◌∙◌, inl, inr, nat_lt}
+use Rattle.std.specs.Prelude.{MatchBool}
 use Rattle.std.specs.HashMap.{HashMap}
 use Rattle.std.specs.Map.{lookup}
 use Rattle.std.specs.Option.{option_map}
@@ -22,7 +22,7 @@ use Rattle.route_history.specs.JournalView.{JournalView}
 use Rattle.operator_cmds.specs.CommandView.{CommandView, Network, Prefix, Load, Code, Import, Export, Up, Down, Receive, Take, Show}
 use Rattle.operator_cmds.specs.Commands.{Read, command_in}
 use Rattle.operator_cmds.specs.Limits.{number_limit}
-use Rattle.operator_cmds.specs.Replies.{answered, refused, reply_answer}
+use Rattle.operator_cmds.specs.Replies.{reply_answer}
 use Rattle.operator_cmds.specs.Running.{IsBrokenOff, IsCarriedOut}
 use Rattle.operator_cmds.specs.Script
 use Rattle.operator_cmds.specs.Script.{AnswersLine, ScriptView, fresh}

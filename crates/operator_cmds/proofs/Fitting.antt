@@ -1,5 +1,5 @@
 -- The numbers of a command that a line gives fit.
-use Rattle.std.proofs.Common.{◌≡◌, ℕ, ◌≤◌, Bool, true, false, ◌&&◌, List, [], ◌∷◌, Option, Some, None, IfSome, Result, Ok, Err, if◌then◌else◌, nat_le, nat_lt, length, refl, sym, subst, arith}
+use Rattle.std.proofs.Common.{◌≡◌, ℕ, ◌≤◌, Bool, true, false, ◌&&◌, List, [], ◌∷◌, Option, Some, None, IfSome, Result, Ok, Err, if◌then◌else◌, nat_le, nat_lt, length, refl, subst, arith}
 use Rattle.std.proofs.lemmas.Bool.Decides.{nat_tests}
 use Rattle.hex.specs.Hex.{decode_of}
 use Rattle.hex.specs.declared.error.FromHexError.{FromHexError}
@@ -7,10 +7,10 @@ use Rattle.line_protocol.specs.Limits.{line_limit}
 use Rattle.line_protocol.specs.Words.{words}
 use Rattle.prefix_patterns.specs.Number.{decimal_value}
 use Rattle.prefix_patterns.specs.Reading.{is_digits, number_in, prefix_in}
-use Rattle.operator_cmds.specs.CommandView.{CommandView, Network, Prefix, Load, Code, Import, Export, Up, Down, Receive, Take, Show}
+use Rattle.operator_cmds.specs.CommandView.{CommandView, Network, Load, Import, Export, Up, Down, Take, Show}
 use Rattle.operator_cmds.specs.Commands
 use Rattle.operator_cmds.specs.Commands.{Read, is_network}
-use Rattle.operator_cmds.specs.Domain.{HasFitNumbers, IsDomain}
+use Rattle.operator_cmds.specs.Domain.{HasFitNumbers}
 use Rattle.operator_cmds.specs.Limits.{number_limit, largest_limit}
 use Rattle.operator_cmds.specs.Names.{is_name}
 use Rattle.operator_cmds.specs.Verbs.{verb_in}

@@ -1,5 +1,5 @@
 -- A filter that gets a name.
-use Rattle.std.proofs.Common.{◌≡◌, ℕ, Bool, true, false, List, Option, Some, None, if◌then◌else◌, Vec, Global, refl, sym, subst, ap, ◌∙◌}
+use Rattle.std.proofs.Common.{◌≡◌, ℕ, Bool, true, false, List, Option, Some, if◌then◌else◌, Vec, Global, refl, sym, subst, ap, ◌∙◌}
 use Rattle.std.specs.Cmp.Lexicographic.{bytes_decides, nat_list_eq_equiv}
 use Rattle.std.specs.HashMap.{HashMap, Updates, get_by}
 use Rattle.std.specs.Map.{AreApart, IsKeyTest, KeepsOthers, lookup}

@@ -1,11 +1,11 @@
 -- A domain whose numbers fit is an opening.
-use Rattle.std.proofs.Common.{◌≡◌, ℕ, zero, suc, ◌+◌, ◌≤◌, ◌<◌, Bool, true, false, ◌&&◌, List, [], ◌∷◌, ◌++◌, length, Option, Some, None, nat_le, nat_lt, refl, sym, subst, ap, ◌∙◌, length-append, arith}
+use Rattle.std.proofs.Common.{◌≡◌, ℕ, zero, suc, ◌≤◌, ◌<◌, Bool, true, List, [], ◌∷◌, length, Option, Some, None, refl, ap, ◌∙◌, length-append, arith}
 use Rattle.std.specs.Option.{IsSome, SomeIff}
 use Rattle.std.proofs.lemmas.Bool.Decides.{nat_tests}
 use Rattle.filter_code.specs.Limits.{smallest_size, largest_size}
-use Rattle.netchange_core.specs.OpeningView.{OpeningView, IsOpening}
+use Rattle.netchange_core.specs.OpeningView.{IsOpening}
 use Rattle.operator_cmds.specs.Commands.{is_network}
-use Rattle.operator_cmds.specs.Domain.{default_opening, default_prefix, default_prefixes}
+use Rattle.operator_cmds.specs.Domain.{default_prefix, default_prefixes}
 
 length-default_prefixes : (v : ℕ) → length (default_prefixes v) ≡ v
 unfolding default_prefixes

@@ -1,9 +1,8 @@
 -- A run of a service is a run of what contracts see of it.
-use Rattle.std.proofs.Common.{◌≡◌, ℕ, ◌≤◌, Bool, true, false, List, [], ◌∷◌, ◌++◌, Option, Some, None, IfSome, refl, sym, subst, ap, ◌∙◌}
-use Rattle.std.specs.Prelude.{MatchBool, MatchResult}
-use Rattle.std.specs.Io.KnownBytes.{Appends}
-use Rattle.line_protocol.specs.Answers.{Answer, is_end, is_over}
-use Rattle.line_protocol.specs.Lines.{numbered, whole_lines}
+use Rattle.std.proofs.Common.{ℕ, Bool, true, false, List, [], ◌∷◌, Option, Some, None, IfSome, ap}
+use Rattle.std.specs.Prelude.{MatchBool}
+use Rattle.line_protocol.specs.Answers.{Answer, is_end}
+use Rattle.line_protocol.specs.Lines.{numbered}
 use Rattle.line_protocol.specs.Runs.{Finishes, Reaches, Runs, RunsFront, Stops}
 use Rattle.line_protocol.specs.declared.faults.StreamFault.{StreamFault}
 use Rattle.line_protocol.specs.declared.faults.StreamFault.TheVariants.{Read, Write, Memory, TooLong}

@@ -1,5 +1,5 @@
 -- How far a script has come. (This project's own choice.)
-use Rattle.std.specs.Prelude.{ℕ, List, [], Option, Some, None}
+use Rattle.std.specs.Prelude.{ℕ, [], Option, Some, None}
 use Rattle.netchange_core.specs.Calls.{session_of}
 use Rattle.netchange_core.specs.OpeningView.{OpeningView}
 use Rattle.route_history.specs.History.{world_of}

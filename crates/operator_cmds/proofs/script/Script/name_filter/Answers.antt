@@ -1,7 +1,6 @@
 -- Verified code gets the name.
-use Rattle.std.proofs.Common.{sym, refl}
+use Rattle.std.proofs.Common.{refl}
 use Rattle.filter_source.specs.VerifiedLine.{verified_line}
-use Rattle.operator_cmds.specs.Script.{AnswersVerified}
 use Rattle.operator_cmds.specs.Stages.{stage_of}
 use Rattle.operator_cmds.proofs.Naming.{names}
 use Rattle.operator_cmds.proofs.script.Script.name_filter.Goals as goal
