@@ -4,6 +4,7 @@ use prefix_patterns::{
     Ip, Pattern, PatternSet, Prefix, SetFault, displayed_text_is_read, read_ip, read_number,
     read_prefix,
 };
+use std::alloc::Global;
 use std::test::Fail;
 
 /// A prefix as its first address and its length.
@@ -179,6 +180,115 @@ fn sets_match_what_a_pattern_matches(rt: HostRuntime) -> Result<(), Fail> {
             (all[from].matches(&prefix), set.matches(&prefix)),
             (first, any)
         );
+    }
+    Ok(())
+}
+
+/// The patterns, and twenty more that match none of the prefixes of these tests: enough for the set to be searched by its
+/// index.
+fn among_others(alloc: Global, patterns: &[Pattern]) -> Result<Vec<Pattern>, Fail> {
+    let mut all = Vec::from_slice(alloc, patterns)?;
+    for low_bits in 0..20u32 {
+        let host = Prefix::new(Ip(0xfa00_0000 + low_bits), 32).ok_or("no prefix")?;
+        all.push(Pattern::new(host, 32, 32).ok_or("no pattern")?)?;
+    }
+    Ok(all)
+}
+
+#[test]
+fn small_and_large_sets_match_by_length_and_bits(rt: HostRuntime) -> Result<(), Fail> {
+    let two = [
+        pattern(b"1.0.0.0/8", 8, 8).ok_or("no pattern")?,
+        pattern(b"1.0.0.0/8", 9, 9).ok_or("no pattern")?,
+    ];
+    let none_but_all = [pattern(b"128.0.0.0/1", 0, 0).ok_or("no pattern")?];
+    let upper_half = [pattern(b"128.0.0.0/1", 0, 32).ok_or("no pattern")?];
+    let short_and_long = [
+        pattern(b"10.1.2.0/24", 24, 24).ok_or("no pattern")?,
+        pattern(b"10.1.0.0/16", 16, 24).ok_or("no pattern")?,
+    ];
+    let rows: [(&[Pattern], &[u8], bool); 16] = [
+        (&two, b"1.0.0.0/8", true),
+        (&two, b"1.128.0.0/9", true),
+        (&two, b"1.0.0.0/10", false),
+        (&two, b"0.0.0.0/0", false),
+        (&none_but_all, b"0.0.0.0/0", true),
+        (&none_but_all, b"128.0.0.0/1", false),
+        (&upper_half, b"0.0.0.0/1", false),
+        (&upper_half, b"0.0.0.0/0", true),
+        (&upper_half, b"200.1.2.3/32", true),
+        (&short_and_long, b"10.1.2.0/24", true),
+        (&short_and_long, b"10.1.3.0/24", true),
+        (&short_and_long, b"10.1.0.0/16", true),
+        (&short_and_long, b"10.1.2.0/25", false),
+        (&short_and_long, b"10.0.0.0/8", false),
+        (&[], b"0.0.0.0/0", false),
+        (&[], b"1.2.3.4/32", false),
+    ];
+    for (patterns, text, wanted) in rows {
+        let prefix = read_prefix(text).ok_or("no prefix")?;
+        let small = PatternSet::build(rt.alloc(), patterns)?;
+        let all = among_others(rt.alloc(), patterns)?;
+        let large = PatternSet::build(rt.alloc(), &all)?;
+        assert_eq!(rt;
+            (small.matches(&prefix), large.matches(&prefix)),
+            (wanted, wanted)
+        );
+        assert_eq!(rt; large.patterns(), all.as_slice());
+    }
+    Ok(())
+}
+
+/// Numbers that look random, the same in each run.
+#[derive(Drop)]
+struct Random {
+    state: u64,
+}
+
+impl Random {
+    /// A number below a limit.
+    fn below(&mut self, limit: u32) -> u32 {
+        let step = self.state.wrapping_mul(6_364_136_223_846_793_005);
+        self.state = step.wrapping_add(1_442_695_040_888_963_407);
+        (self.state >> 32) as u32 % limit.max(1)
+    }
+
+    /// A prefix of any length, often one of many that share their first 8 or 24 bits.
+    fn prefix(&mut self) -> Option<Prefix> {
+        let any = self.below(u32::MAX);
+        let address = match self.below(3) {
+            0 => any,
+            1 => 0x0a00_0000 | (any & 0x00ff_ffff),
+            _ => 0x0a0b_0c00 | (any & 0xff),
+        };
+        Prefix::new(Ip(address), u8::try_from(self.below(33)).ok()?)
+    }
+
+    /// A pattern with any lengths.
+    fn pattern(&mut self) -> Option<Pattern> {
+        let one = u8::try_from(self.below(33)).ok()?;
+        let other = u8::try_from(self.below(33)).ok()?;
+        Pattern::new(self.prefix()?, one.min(other), one.max(other))
+    }
+}
+
+#[test]
+fn sets_match_as_a_scan_of_their_patterns(rt: HostRuntime) -> Result<(), Fail> {
+    let mut random = Random { state: 1 };
+    for count in [0, 1, 12, 13, 40, 200, 1024] {
+        let mut patterns = Vec::new(rt.alloc());
+        for _pattern in 0..count {
+            patterns.push(random.pattern().ok_or("no pattern")?)?;
+        }
+        let set = PatternSet::build(rt.alloc(), &patterns)?;
+        let mut found = 0u32;
+        for _prefix in 0..1000 {
+            let prefix = random.prefix().ok_or("no prefix")?;
+            let scanned = patterns.iter().any(|pattern| pattern.matches(&prefix));
+            assert_eq!(rt; set.matches(&prefix), scanned);
+            found = found.wrapping_add(u32::from(scanned));
+        }
+        assert!(rt; found > 0 || count < 12);
     }
     Ok(())
 }

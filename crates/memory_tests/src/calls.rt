@@ -53,6 +53,23 @@ fn a_set_is_built_or_s2(rt: HostRuntime) -> Result<(), Fail> {
 }
 
 #[test]
+fn a_large_set_is_built_or_s2(rt: HostRuntime) -> Result<(), Fail> {
+    let [first, second] = patterns().ok_or("two patterns")?;
+    let mut given = [second; 20];
+    given[7] = first;
+    let built = PatternSet::build(rt.alloc(), &given);
+    if let Err(fault) = &built {
+        assert_eq!(rt; *fault, SetFault::Memory);
+        let set = PatternSet::build(rt.alloc(), &given)?;
+        assert_eq!(rt; set.patterns(), given.as_slice());
+    }
+    let set = built?;
+    assert_eq!(rt; set.patterns(), given.as_slice());
+    assert!(rt; set.matches(&first.prefix()));
+    Ok(())
+}
+
+#[test]
 fn a_file_is_read_or_c7(rt: HostRuntime) -> Result<(), Fail> {
     let patterns = patterns().ok_or("two patterns")?;
     let read = read_code(rt.alloc(), &FILE);
