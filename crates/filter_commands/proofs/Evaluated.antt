@@ -64,7 +64,7 @@ evaluated program routes h =
     ∙ ap (λ (read : Result CodeView Refusal). answers_after 1 read (answerable_from 2 (lines routes))) (line_again program h)
 
 -- a prefix has at most 32 bits
-short_prefix : (text : List ℕ) (bits : List Bool) → IsPrefix text bits → length bits ≤ 32
+pub short_prefix : (text : List ℕ) (bits : List Bool) → IsPrefix text bits → length bits ≤ 32
 short_prefix text bits h =
     let len = h.is_length.1 in
     let short = length-take (decimal_value h.length_text) (address_bits h.address) in

@@ -1,11 +1,24 @@
 -- How a run of `check` ends (this project's own choice).
-use Rattle.std.specs.Prelude.{◌≡◌, ◌≤◌, ◌+◌, ℕ, Bool, List, [], length, Option, Some}
+use Rattle.std.specs.Prelude.{◌≡◌, ◌≤◌, ◌+◌, ◌++◌, ℕ, Bool, List, [], length, Option, Some, None, ⊤}
 use Rattle.std.specs.Io.KnownBytes.{Appends, Consumes}
 use Rattle.line_protocol.specs.Runs.{AppendsFront}
 use Rattle.line_protocol.specs.declared.faults.StreamFault.{StreamFault}
 use Rattle.line_protocol.specs.declared.faults.StreamFault.TheVariants.{Read, Write, Memory, TooLong}
 use Rattle.filter_source.specs.Limits.{source_limit}
+use Rattle.filter_source.specs.Refusals.{place_in_line, refusal_code}
+use Rattle.filter_source.specs.declared.refusal.Refusal.{Refusal}
+use Rattle.line_protocol.specs.Answers.{refusal}
 use Rattle.filter_commands.specs.Check.{IsReport, ReportView}
+
+-- how many refusals there are
+abbrev pub refusals_of : Option Refusal → ℕ
+refusals_of None = 0
+refusals_of (Some why) = 1
+
+-- the last line of what was written tells the refusal, where there is one
+abbrev pub EndsWith : Option Refusal → List ℕ → Type 0
+EndsWith None text = ⊤
+EndsWith (Some why) text = (front : List ℕ) × (text ≡ front ++ refusal (refusal_code why) (place_in_line why 1))
 
 -- A run was answered to its end: the report on the input was written, and nothing else. `input` is all that the reader had,
 -- `left` what it has now; `held` and `holds` are what the writer held before and holds now; `refused` is the number that was

@@ -9,6 +9,7 @@ use Rattle.line_protocol.specs.declared.answers.Reply.TheVariants as reply
 use Rattle.line_protocol.specs.declared.faults.StreamFault.{StreamFault}
 use Rattle.line_protocol.specs.declared.faults.StreamFault.TheVariants.{Read, Write, Memory, TooLong}
 use Rattle.filter_commands.specs.Check.{ReportView}
+use Rattle.filter_commands.specs.Checking.{refusals_of}
 use Rattle.filter_commands.specs.Eval.{code_answer, code_in, route_answer}
 use Rattle.filter_commands.specs.declared.report.Report.{Report}
 
@@ -24,7 +25,7 @@ AnswersLine (Some program) number given answer after = (answer ≡ route_answer 
 
 -- what a contract sees of a report
 abbrev pub report_of : Report → ReportView
-report_of r = record { text = r.text.items; refusals = r.refusals }
+report_of r = record { text = r.text.items; refusals = refusals_of r.refusal }
 
 -- How far one text came that a fault kept from being written: where memory is refused it is not begun.
 abbrev pub IsCut : StreamFault → Option (List ℕ) → Option (List ℕ) → List ℕ → Type 0

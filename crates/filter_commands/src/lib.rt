@@ -9,13 +9,14 @@ mod line_fault;
 mod report;
 mod route_line;
 
-pub use check::check_text;
+pub use check::{Checked, check_source, check_text};
 pub use eval::eval_lines;
 pub use fault::ProgramFault;
 pub use laws::{
     printed_code_is_checked_alike, printed_code_is_evaluated, route_lines,
     verified_code_says_the_same,
 };
+pub use line_fault::LineFault;
 
 /// A number of a route line is at most this.
 pub const NUMBER_LIMIT: u32 = 65_535;

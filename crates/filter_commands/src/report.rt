@@ -3,6 +3,7 @@ ghost use Rattle.std.specs.Prelude.{◌≡◌, ◌++◌, ◌∷◌, [], codes, I
 ghost use Rattle.code_file.specs.Spelling.{IsCode};
 ghost use Rattle.hex.specs.Hex.{encode_lower};
 ghost use Rattle.filter_commands.specs.Check.{IsCodeReport, code_line, refusal_report};
+ghost use Rattle.filter_commands.specs.Checking.{EndsWith};
 ghost use Rattle.filter_commands.specs.Steps.{report_of};
 
 use code_file::write_code;
@@ -14,22 +15,27 @@ use std::alloc::{AllocError, Global};
 /// The number of the line at which `check` reports what is wrong with the input as a whole.
 const FIRST_LINE: u32 = 1;
 
-/// What `check` writes, and how many of its lines are refusals.
+/// What `check` writes, and the refusal that its last line tells, if there is one.
 #[derive(Drop)]
 pub struct Report {
     /// The lines.
     pub text: Vec<u8>,
-    /// The number of refusals among them.
-    pub refusals: u32,
+    /// Why the source is refused.
+    pub refusal: Option<Refusal>,
 }
 
 /// The report on an input that is refused: one line.
 pub fn report_refusal(alloc: Global, why: Refusal) -> Result<Report, AllocError>
-    ensures { IfOk result (λ report. report_of report ≡ refusal_report why) }
+    ensures text { IfOk result (λ report. report_of report ≡ refusal_report why) }
+    ensures told { IfOk result (λ report. EndsWith report.refusal report.text.items) }
+    ensures refusal { IfOk result (λ report. report.refusal ≡ Some why) }
 {
     let mut text = Vec::new(alloc);
     push_refusal(&mut text, why.code(), why.place_in_line(FIRST_LINE))?;
-    Ok(Report { text, refusals: 1 })
+    Ok(Report {
+        text,
+        refusal: Some(why),
+    })
 }
 
 /// The line of a code file's bytes.
@@ -57,17 +63,24 @@ fn line_of_code(alloc: Global, code: &Code) -> Result<Vec<u8>, AllocError>
 
 /// The report on code, for domains of a size: the code's line, and then its bounds or why it is refused.
 pub fn report_code(alloc: Global, code: Code, size: u32) -> Result<Report, AllocError>
-    ensures { IfOk result (λ report. IsCodeReport size code (report_of report)) }
+    ensures lines { IfOk result (λ report. IsCodeReport size code (report_of report)) }
+    ensures told { IfOk result (λ report. EndsWith report.refusal report.text.items) }
 {
     let mut text = line_of_code(alloc, &code)?;
     match verify_code(alloc, code, size) {
         Ok(verified) => {
             push_verified(&mut text, &verified)?;
-            Ok(Report { text, refusals: 0 })
+            Ok(Report {
+                text,
+                refusal: None,
+            })
         }
         Err(Failure::Refused(why)) => {
             push_refusal(&mut text, why.code(), why.place_in_line(FIRST_LINE))?;
-            Ok(Report { text, refusals: 1 })
+            Ok(Report {
+                text,
+                refusal: Some(why),
+            })
         }
         Err(Failure::Memory) => Err(AllocError),
     }
