@@ -3,7 +3,8 @@
 
 usage: scripts/check_documents.py        (NCROUTE=PATH: the program; without it, the sources as they are, by `rt try`)
 
-- Each example: a line `    $ COMMAND` of README.md or docs/*.md, run at the top of the repository, writes the indented lines below it.
+- Each example: a line `    $ COMMAND` of README.md or docs/*.md, run at the top of the repository, writes the indented lines below it. One that
+  looks at standard error (`2>&1`) or names a file of a filter (`ncroute filter`) needs the program, and is left out without NCROUTE=PATH.
 - The table of the examples in docs/LANGUAGE.md: each filter of examples/ answers the route so.
 - Each listing of docs/VERIFIER.md (`    0 METRIC`, `    1 INT 2`, ..), as a code file with as many variables and sets as it names: `check --code`
   refuses it as the listing says (`V3 at 6`), or verifies it. If a line of hexadecimal follows, it is that file.
@@ -86,6 +87,11 @@ def copies():
         yield name, filter.replace('\\"', '"')
 
 
+def needs_program(command):
+    """`rt try --cases` tells no standard error, and runs in a folder without the files of the repository."""
+    return "2>&1" in command or "ncroute filter" in command
+
+
 def main():
     ncroute = program.Program()
     passed = failed = 0
@@ -100,6 +106,10 @@ def main():
             print(f"  {what}\n    {why}")
 
     documents = [(name, list(examples(read(name)))) for name in ["README.md", *sorted(glob.glob("docs/*.md", root_dir=program.TOP))]]
+    if not os.environ.get("NCROUTE"):
+        left_out = sum(needs_program(command) for _, rows in documents for command, _ in rows)
+        documents = [(name, [row for row in rows if not needs_program(row[0])]) for name, rows in documents]
+        print(f"{left_out} examples are left out: they need the program, NCROUTE=PATH")
     table, codes = list(answers(read("docs/LANGUAGE.md"))), list(listed(read("docs/VERIFIER.md")))
     lines = [command for _, rows in documents for command, _ in rows] + [row[0] for row in table] + [row[0] for row in codes]
     said = iter(ncroute.runs([(line, b"") for line in lines]))

@@ -33,6 +33,13 @@ RUNS = [
     ("check --size 8 --code", FILTER, b"refused O3 1\n", 1),
     ("check --size 8", b"filter d { if 8 / rip_metric = 2 then accept; }", b"code 4e43463100000008010000000813230100000002306100017071\nrefused V3 2\n", 1),
     ("check --size 8 --code", b"4e434631000000017000", b"refused C6 9\n", 1),
+    ("check --size 8 --explain always", b"filter a { accept }", b"refused P2 18\n", 1),
+    ("check --size 8 --explain always", FILTER, LINES, 0),
+    ("check --size 8 --explain never", b"filter a { accept }", b"refused P2 18\n", 1),
+    ("check --size 8 --explain auto", FILTER, b"", 2),
+    ("filter --size 8 no_such.filter", b"10.0.0.0/8 3\n", b"", 1),
+    ("filter --size 8", b"", b"", 2),
+    ("filter examples/no_bogons.filter", b"", b"", 2),
     ("", b"", b"", 2),
     ("check", FILTER, b"", 2),
     ("check --size x", FILTER, b"", 2),
@@ -58,6 +65,12 @@ FAULTS = [
     ("ncroute --help >/dev/null; echo $?", b"0\n"),
     ("ncroute --help 2>&1 >/dev/full; echo $?", b"ncroute: E2\n1\n"),
     ("ncroute eval --help 2>&1 >/dev/full; echo $?", b"ncroute: E2\n1\n"),
+    ("printf '8.8.8.0/24 9\\n8.8.8.0/24 17\\n' | ncroute filter --size 16 examples/backup_link.filter; echo $?", b"accept 12\nrefused O2 2\n1\n"),
+    ("ncroute filter --size 16 examples/backup_link.filter < examples 2>&1; echo $?", b"ncroute: E1\n1\n"),
+    ("ncroute filter --size 16 examples </dev/null 2>&1; echo $?", b"ncroute: E1\n1\n"),
+    ("echo 1 | ncroute filter --size 1 --explain always examples/backup_link.filter 2>&1; echo $?",
+     b"refused V8 0\nexamples/backup_link.filter: the size of a domain must be 2 to 64 (V8)\n1\n"),
+    ("echo 'filter a { accept }' | ncroute check --size 8 --explain always 2>/dev/full; echo $?", b"refused P2 18\n1\n"),
 ]
 
 

@@ -1,0 +1,4 @@
+pub mod Meant
+pub mod Answered
+pub mod Endings
+mod Rows

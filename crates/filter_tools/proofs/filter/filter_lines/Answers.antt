@@ -1,0 +1,37 @@
+-- Each exit follows from how the routes were answered, or from how the refusal was written.
+use Rattle.std.proofs.Common.{subst}
+use Rattle.filter_source.proofs.Refused.{of_error}
+use Rattle.filter_source.specs.Failures.{OnRefusal}
+use Rattle.filter_commands.specs.Faults.{stream_fault}
+use Rattle.filter_tools.specs.Filtering.{IsRefusedFilter}
+use Rattle.filter_tools.proofs.Endings.{answered, broken_off, cut_off}
+use Rattle.filter_tools.proofs.filter.filter_lines.Goals as goal
+
+pub returns-in_err-refused-in-Ok-clause-broken_off : goal.returns-in_err-refused-in-Ok-clause-broken_off
+returns-in_err-refused-in-Ok-clause-broken_off g c =
+    let t = c.in-Ok.ensures.translates in
+    let fault = c.in_err-refused-in-Ok.field-0.0 in
+    of_error c.from_residual.result _ fault c.from_residual.ensures.1
+    (broken_off c.args.text.now c.args.size c.in-Ok.verified c.in-Ok.ensures.size c.in-Ok.ensures.safe t.0 t.1
+    (g.R.Read.remaining c.args.reader.now) (g.R.Read.remaining c.answer_routes.new.reader)
+    (g.W.Write.contents c.args.writer.now) (g.W.Write.contents c.answer_routes.new.writer) (stream_fault fault)
+    c.in_err-refused-in-Ok.ensures.broken_off)
+
+pub returns-in_err-write_refusal-in-Err-Refused-clause-broken_off : goal.returns-in_err-write_refusal-in-Err-Refused-clause-broken_off
+returns-in_err-write_refusal-in-Err-Refused-clause-broken_off g c =
+    let fault = c.in_err-write_refusal-in-Err-Refused.field-0.0 in
+    let known = g.R.Read.remaining c.args.reader.now in
+    of_error c.from_residual-in_err-write_refusal-in-Err-Refused.result _ fault
+    c.from_residual-in_err-write_refusal-in-Err-Refused.ensures.1
+    (cut_off (stream_fault fault) c.args.size c.args.text.now known
+    (g.W.Write.contents c.args.writer.now) (g.W.Write.contents c.write_refusal.new.writer) c.in-Err-Refused.why
+    (subst (OnRefusal (IsRefusedFilter c.args.size c.args.text.now)) c.in-Err-Refused.field-0-is c.in-Err-Refused.ensures.refused)
+    c.in_err-write_refusal-in-Err-Refused.ensures.err)
+
+pub returns-in_ok-refused-in-Ok-clause-finished : goal.returns-in_ok-refused-in-Ok-clause-finished
+returns-in_ok-refused-in-Ok-clause-finished g c =
+    let t = c.in-Ok.ensures.translates in
+    answered c.args.text.now c.args.size c.in-Ok.verified c.in-Ok.ensures.size c.in-Ok.ensures.safe t.0 t.1
+    (g.R.Read.remaining c.args.reader.now) (g.R.Read.remaining c.answer_routes.new.reader)
+    (g.W.Write.contents c.args.writer.now) (g.W.Write.contents c.answer_routes.new.writer)
+    c.in_ok-refused-in-Ok.refused c.in_ok-refused-in-Ok.ensures.finished

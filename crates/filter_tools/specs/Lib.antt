@@ -1,0 +1,5 @@
+pub mod Places
+pub mod Explanations
+pub mod Telling
+pub mod RouteOfSize
+pub mod Filtering

@@ -1,0 +1,174 @@
+//! `ncroute filter`: routes through a filter that is verified first.
+ghost use Rattle.std.specs.Prelude.{◌≡◌, ◌++◌, ℕ, [], IfErr, IfOk, IfSome, OnErr, OnOk};
+ghost use Rattle.std.specs.Io.{StartsWith};
+ghost use Rattle.std.specs.Io.KnownBytes.{Appends};
+ghost use Rattle.filter_commands.specs.Eval.{verdict};
+ghost use Rattle.filter_commands.specs.Evaluation.{IsCut};
+ghost use Rattle.filter_commands.specs.Faults.{stream_fault};
+ghost use Rattle.filter_machine.specs.Verdicts.{outcome_said};
+ghost use Rattle.filter_parser.specs.SyntaxText.{FilterView};
+ghost use Rattle.filter_source.specs.Failures.{OnRefusal};
+ghost use Rattle.filter_source.specs.Sources.{Translates};
+ghost use Rattle.filter_verifier.specs.Safe.{IsSafe};
+ghost use Rattle.filter_tools.specs.Filtering.{AnswersEach, AnswersFirst, Filters, FiltersOff, IsRefusedFilter, code_answer, refusal_line};
+
+use crate::route_of_size::read_route;
+use filter_commands::ProgramFault;
+use filter_machine::{Verdict, run};
+use filter_source::{Failure, Refusal, check_length, compile_text, verify_code};
+use filter_verifier::Verified;
+use line_protocol::{Reply, Service, answer_lines, push_decimal, push_refusal, write_text};
+use std::alloc::{AllocError, Global};
+use std::io::{Read, Write};
+
+/// The number of the line that the refusal of a filter names where it names a line.
+const FIRST_LINE: u32 = 1;
+
+/// What became of a filter.
+#[derive(Clone, Copy, Debug, PartialEq, Eq)]
+pub enum Filtered {
+    /// It is refused, and no route was answered.
+    Refused(Refusal),
+    /// Each line was answered, and so many of them were refused.
+    Answered(u32),
+}
+
+/// The service that answers route lines by a verified filter.
+#[derive(Drop)]
+struct RouteFilter {
+    /// The code of the filter.
+    verified: Verified,
+}
+
+impl Service for RouteFilter {
+    ghost answers = { λ before number line answer after. (after.verified ≡ before.verified)
+        × (answer ≡ code_answer before.verified.program before.verified.size (number, line)) };
+
+    fn answer(
+        &mut self,
+        _alloc: Global,
+        number: u32,
+        line: &[u8],
+        out: &mut Vec<u8>,
+    ) -> Result<Reply, AllocError> {
+        answer_route(&self.verified, number, line, out)
+    }
+}
+
+/// Puts the line of a verdict at the end of `out`.
+fn push_verdict(out: &mut Vec<u8>, said: Verdict) -> Result<(), AllocError>
+    ensures ok { OnOk result (out.new.items ≡ out.old.items ++ verdict (outcome_said said)) }
+    ensures err { OnErr result (StartsWith out.new.items out.old.items) }
+{
+    match said {
+        Verdict::Accept(metric) => {
+            out.extend_from_slice(b"accept ")?;
+            push_decimal(out, u64::from(metric))?;
+        }
+        Verdict::Reject => out.extend_from_slice(b"reject")?,
+    }
+    out.push(b'\n')?;
+    Ok(())
+}
+
+/// Answers a route line by verified code, in domains of the size that it was verified for.
+fn answer_route(
+    verified: &Verified,
+    number: u32,
+    line: &[u8],
+    out: &mut Vec<u8>,
+) -> Result<Reply, AllocError>
+    ensures ok { IfOk result (λ reply.
+        (out.new.items ≡ out.old.items ++ (code_answer verified.now.program verified.now.size (number, line.now)).text)
+        × (reply ≡ (code_answer verified.now.program verified.now.size (number, line.now)).reply)) }
+    ensures err { OnErr result (StartsWith out.new.items out.old.items) }
+{
+    match read_route(line, verified.size()) {
+        Ok(route) => {
+            let ran = run(verified, &route.net(), route.metric());
+            push_verdict(out, ran.verdict)?;
+            Ok(Reply::Answered)
+        }
+        Err(fault) => {
+            push_refusal(out, fault.code(), u64::from(number))?;
+            Ok(Reply::Refused)
+        }
+    }
+}
+
+/// The verified code of the filter that a text spells.
+fn verified_filter(alloc: Global, text: &[u8], size: u32) -> Result<Verified, Failure>
+    ensures size { IfOk result (λ verified. verified.size ≡ size) }
+    ensures translates { IfOk result (λ verified. (filter : FilterView) × Translates text.now filter verified.program) }
+    ensures safe { IfOk result (λ verified. IsSafe verified.program verified.size) }
+    ensures refused { IfErr result (OnRefusal (IsRefusedFilter size text.now)) }
+{
+    check_length(text)?;
+    let code = compile_text(alloc, text)?;
+    verify_code(alloc, code, size)
+}
+
+/// Answers each line of `reader` on `writer` by verified code.
+fn answer_routes<R: Read, W: Write>(
+    alloc: Global,
+    verified: Verified,
+    reader: &mut R,
+    writer: &mut W,
+) -> Result<u32, ProgramFault>
+    ensures finished { IfOk result (λ refused. IfSome (R.remaining reader.old) (λ input.
+        AnswersEach (code_answer verified.program verified.size) input (R.remaining reader.new)
+        (W.contents writer.old) (W.contents writer.new) refused)) }
+    ensures broken_off { IfErr result (λ fault. IfSome (R.remaining reader.old) (λ input.
+        AnswersFirst (code_answer verified.program verified.size) (stream_fault fault) input (R.remaining reader.new)
+        (W.contents writer.old) (W.contents writer.new))) }
+{
+    let mut service = RouteFilter { verified };
+    Ok(answer_lines(alloc, reader, writer, &mut service)?)
+}
+
+/// The line that refuses a filter.
+fn refusal_line(alloc: Global, why: Refusal) -> Result<Vec<u8>, AllocError>
+    ensures { IfOk result (λ text. text.items ≡ refusal_line why) }
+{
+    let mut text = Vec::new(alloc);
+    push_refusal(&mut text, why.code(), why.place_in_line(FIRST_LINE))?;
+    Ok(text)
+}
+
+/// Writes the line that refuses a filter.
+fn write_refusal<W: Write>(alloc: Global, writer: &mut W, why: Refusal) -> Result<(), ProgramFault>
+    ensures ok { OnOk result (Appends (W.contents writer.old) (W.contents writer.new) (refusal_line why)) }
+    ensures err { IfErr result (λ fault. IsCut (stream_fault fault) (W.contents writer.old) (W.contents writer.new) (refusal_line why)) }
+{
+    let line = refusal_line(alloc, why)?;
+    write_text(writer, line.as_slice())?;
+    Ok(())
+}
+
+/// Verifies the filter that a text spells, for domains of `size` nodes, and answers each line of `reader`, a route `PREFIX METRIC`,
+/// on `writer`: `accept METRIC`, `reject`, or why the line gives no route. What was answered is written before more is read. A
+/// filter that is refused is answered by that refusal alone.
+pub fn filter_lines<R: Read, W: Write>(
+    alloc: Global,
+    text: &[u8],
+    size: u32,
+    reader: &mut R,
+    writer: &mut W,
+) -> Result<Filtered, ProgramFault>
+    ensures finished { IfOk result (λ filtered. IfSome (R.remaining reader.old) (λ input.
+        Filters size text.now input (R.remaining reader.new) (W.contents writer.old) (W.contents writer.new) filtered)) }
+    ensures broken_off { IfErr result (λ fault. IfSome (R.remaining reader.old) (λ input.
+        FiltersOff (stream_fault fault) size text.now input (R.remaining reader.new) (W.contents writer.old) (W.contents writer.new))) }
+{
+    match verified_filter(alloc, text, size) {
+        Ok(verified) => {
+            let refused = answer_routes(alloc, verified, reader, writer)?;
+            Ok(Filtered::Answered(refused))
+        }
+        Err(Failure::Refused(why)) => {
+            write_refusal(alloc, writer, why)?;
+            Ok(Filtered::Refused(why))
+        }
+        Err(Failure::Memory) => Err(ProgramFault::MEMORY),
+    }
+}

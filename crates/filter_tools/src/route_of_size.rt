@@ -1,0 +1,51 @@
+//! A route line of `filter`: `PREFIX METRIC`. The size of the domain is that of the command line.
+ghost use Rattle.std.specs.Prelude.{◌≡◌, Some};
+ghost use Rattle.std.specs.Option.{option_map};
+ghost use Rattle.line_protocol.specs.Words.{words};
+ghost use Rattle.prefix_patterns.specs.Reading.{number_in, prefix_in};
+ghost use Rattle.filter_commands.specs.Limits.{number_limit};
+ghost use Rattle.filter_commands.specs.RouteLine.{route_of_parts};
+ghost use Rattle.filter_tools.specs.RouteOfSize.{route_of_size, two_of};
+
+use filter_code::Route;
+use filter_commands::{LineFault, NUMBER_LIMIT};
+use line_protocol::{LINE_LIMIT, next_word};
+use prefix_patterns::{read_number, read_prefix};
+
+/// The two words of a line of just two.
+fn two_words(line: &[u8]) -> Option<(&[u8], &[u8])>
+    ensures { two_of (words line.now) ≡ option_map (λ all. (all.0.now, all.1.now)) result }
+{
+    let (first, rest) = next_word(line)?;
+    let (second, rest) = next_word(rest)?;
+    match next_word(rest) {
+        None => Some((first, second)),
+        Some(_) => None,
+    }
+}
+
+/// The route of the texts of a prefix and a metric, in a domain of a size.
+fn read_parts(prefix: &[u8], metric: &[u8], size: u32) -> Result<Route, LineFault>
+    ensures { result ≡ route_of_parts (prefix_in prefix.now) (number_in number_limit metric.now) (Some size) }
+{
+    let Some(prefix) = read_prefix(prefix) else {
+        return Err(LineFault::Prefix);
+    };
+    let Some(metric) = read_number(metric, NUMBER_LIMIT) else {
+        return Err(LineFault::Numbers);
+    };
+    Route::new(prefix, metric, size).ok_or(LineFault::Numbers)
+}
+
+/// Reads a route line, which is at most as long as a line may be, in a domain of a size.
+pub(crate) fn read_route(line: &[u8], size: u32) -> Result<Route, LineFault>
+    ensures { result ≡ route_of_size size line.now }
+{
+    if line.len() > LINE_LIMIT {
+        return Err(LineFault::TooLong);
+    }
+    match two_words(line) {
+        None => Err(LineFault::Words),
+        Some((prefix, metric)) => read_parts(prefix, metric, size),
+    }
+}
