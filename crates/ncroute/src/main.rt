@@ -1,12 +1,15 @@
 //! `ncroute`: checks route filters, takes routes through their code, and runs a router, or a network of routers.
 #![tactic(auto)]
 
+mod aid;
+mod aid_words;
 mod network;
 mod serve;
 #[cfg(test)]
 mod tests;
 mod words;
 
+use aid::help;
 use network::serve_network;
 use serve::{FAILED, report_fault, serve};
 use std::io;
@@ -18,6 +21,10 @@ fn main(rt: HostRuntime) -> ExitCode {
     let status = match words::read(&rt) {
         Ok(Words::Asked(request)) => serve(rt.alloc(), request, reader, writer, errors),
         Ok(Words::Network) => serve_network(&rt, rt.alloc(), writer, errors),
+        Ok(Words::Aided(aid)) => match help(&rt, rt.alloc(), &aid, reader, writer, errors) {
+            Ok(status) => Ok(status),
+            Err(fault) => report_fault(errors, fault).map(|_| FAILED),
+        },
         Ok(Words::Shown(status)) => Ok(status),
         Err(fault) => report_fault(errors, fault).map(|_| FAILED),
     };

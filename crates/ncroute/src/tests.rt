@@ -1,4 +1,5 @@
 //! Which words of the command line ask for what.
+use crate::aid_words::Aid;
 use crate::serve::serve;
 use crate::words::{Request, Words, request_of};
 use line_protocol::StreamFault;
@@ -41,6 +42,25 @@ fn reads_words(rt: HostRuntime) -> Result<(), Fail> {
     for (words, want) in rows {
         assert_eq!(&rt; request_of(&rt, rt.alloc(), words)?, want);
     }
+    Ok(())
+}
+
+/// What helps people is asked for by `--explain always`, and by `filter`.
+#[test]
+fn reads_words_of_aids(rt: HostRuntime) -> Result<(), Fail> {
+    let check: &[&str] = &["ncroute", "check", "--size", "16", "--explain", "always"];
+    let want = Words::Aided(Aid::Check {
+        size: 16,
+        is_code: false,
+    });
+    assert_eq!(&rt; request_of(&rt, rt.alloc(), check)?, want);
+    let filter: &[&str] = &["ncroute", "filter", "a.filter", "--size=8"];
+    let want = Words::Aided(Aid::Filter {
+        size: 8,
+        file: String::from_str(rt.alloc(), "a.filter")?,
+        is_explained: false,
+    });
+    assert_eq!(&rt; request_of(&rt, rt.alloc(), filter)?, want);
     Ok(())
 }
 

@@ -1,4 +1,5 @@
 //! The words of the command line.
+use crate::aid_words::{Aid, explain_option, filter_command, filter_in, is_explained};
 use clap::error::ErrorKind;
 use clap::{Arg, ArgAction, ArgMatches, Command, Error};
 use filter_commands::ProgramFault;
@@ -27,12 +28,14 @@ pub enum Request {
 }
 
 /// What the words of the command line come to.
-#[derive(Clone, Copy, Debug, PartialEq, Eq)]
+#[derive(Debug, PartialEq, Eq, Drop)]
 pub enum Words {
     /// They ask for this.
     Asked(Request),
     /// They ask for the network of routers.
     Network,
+    /// They ask for this, which helps people.
+    Aided(Aid),
     /// Help, or what is wrong with them, was shown. The program ends with this status.
     Shown(u8),
 }
@@ -59,30 +62,37 @@ pub fn request_of<R: Print + Eprint, S: AsStr>(
     words: &[S],
 ) -> Result<Words, ProgramFault> {
     match command(alloc)?.try_get_matches_from(words) {
-        Ok(matches) => Ok(words_in(&matches)),
+        Ok(matches) => Ok(words_in(alloc, &matches)?),
         Err(error) => show(rt, &error),
     }
 }
 
 /// What the words ask for, where the parser of words accepted them.
-fn words_in(matches: &ArgMatches<'_>) -> Words {
+fn words_in(alloc: Global, matches: &ArgMatches<'_>) -> Result<Words, AllocError> {
     if matches.subcommand_matches("run").is_some() {
-        return Words::Asked(Request::Run);
+        return Ok(Words::Asked(Request::Run));
     }
     if matches.subcommand_matches("net").is_some() {
-        return Words::Network;
+        return Ok(Words::Network);
+    }
+    // The parser accepts no words without a size.
+    if let Some(filter) = matches.subcommand_matches("filter") {
+        return Ok(match filter_in(alloc, filter)? {
+            Some(aid) => Words::Aided(aid),
+            None => Words::Shown(WRONG_WORDS),
+        });
     }
     let Some(check) = matches.subcommand_matches("check") else {
-        return Words::Asked(Request::Eval);
+        return Ok(Words::Asked(Request::Eval));
     };
-    match check.get_one::<u32>("size") {
-        Some(size) => Words::Asked(Request::Check {
-            size,
-            is_code: check.get_flag("code"),
-        }),
-        // The parser accepts no words without a size.
-        None => Words::Shown(WRONG_WORDS),
+    let Some(size) = check.get_one::<u32>("size") else {
+        return Ok(Words::Shown(WRONG_WORDS));
+    };
+    let is_code = check.get_flag("code");
+    if is_explained(check) {
+        return Ok(Words::Aided(Aid::Check { size, is_code }));
     }
+    Ok(Words::Asked(Request::Check { size, is_code }))
 }
 
 /// Shows what the parser of words answered in place of matches: help on standard output, or what is wrong with the words on
@@ -122,6 +132,7 @@ fn command<'a>(alloc: Global) -> Result<Command<'a>, AllocError> {
         .arg_required_else_help(true)
         .subcommand(check_command(alloc)?)?
         .subcommand(eval)?
+        .subcommand(filter_command(alloc)?)?
         .subcommand(run)?
         .subcommand(net)
 }
@@ -142,7 +153,8 @@ fn check_command<'a>(alloc: Global) -> Result<Command<'a>, AllocError> {
         .about("Compile a filter, and verify its code")
         .after_help(CHECK_HELP)
         .arg(size)?
-        .arg(code)
+        .arg(code)?
+        .arg(explain_option(alloc))
 }
 
 const CHECK_HELP: &str = "\
