@@ -1,11 +1,11 @@
 -- How a run of `filter` ends, from how its lines were answered.
-use Rattle.std.proofs.Common.{◌≡◌, ◌≤◌, ◌+◌, ℕ, List, [], ◌∷◌, ◌++◌, length, map, Option, Some, None, IfSome, Result, Ok, Err, Bool, true, false, MatchBool, refl, sym, ap, subst, ◌∙◌}
+use Rattle.std.proofs.Common.{◌≡◌, ℕ, List, [], ◌∷◌, ◌++◌, map, Option, Result, Ok, Err, Bool, false, MatchBool, refl, sym, ap, subst, ◌∙◌}
 use Rattle.std.specs.Io.KnownBytes.{Appends}
 use Rattle.filter_code.specs.RouteView.{RouteView}
 use Rattle.filter_verifier.specs.VerifiedView.{VerifiedView}
 use Rattle.line_protocol.specs.Answers.{Answer, is_end, is_over, refusals, text_of}
 use Rattle.line_protocol.specs.Lines.{numbered}
-use Rattle.line_protocol.specs.Runs.{Finishes, IsWritten, Reaches, Runs, RunsFront, Stops}
+use Rattle.line_protocol.specs.Runs.{Finishes, Reaches, Runs, RunsFront, Stops}
 use Rattle.line_protocol.specs.declared.faults.StreamFault.{StreamFault}
 use Rattle.line_protocol.specs.declared.faults.StreamFault.TheVariants.{Read, Write, Memory, TooLong}
 use Rattle.filter_commands.specs.Eval.{Line, answer_of}

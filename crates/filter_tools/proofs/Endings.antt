@@ -1,5 +1,5 @@
 -- How a run of `filter` ends, by its text.
-use Rattle.std.proofs.Common.{◌≡◌, ◌≤◌, ℕ, List, [], length, Option, Some, None, IfSome, IfErr, Result, Ok, Err, inl, inr, refl, subst, ◌∙◌, ap, false}
+use Rattle.std.proofs.Common.{◌≡◌, ◌≤◌, ℕ, List, length, Option, Some, None, IfSome, IfErr, Result, Ok, Err, inl, inr, refl, subst, ◌∙◌, ap}
 use Rattle.filter_code.specs.CodeView.{CodeView}
 use Rattle.filter_parser.specs.SyntaxText.{FilterView}
 use Rattle.filter_source.specs.Failures.{OnRefusal}

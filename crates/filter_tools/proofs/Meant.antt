@@ -1,5 +1,5 @@
 -- What verified code answers to a route line is what its filter means.
-use Rattle.std.proofs.Common.{◌≡◌, ◌≤◌, ℕ, Bool, true, false, List, Option, Some, None, Result, Ok, Err, length, if◌then◌else◌, nat_lt, refl, sym, ap, subst, ◌∙◌, arith}
+use Rattle.std.proofs.Common.{◌≡◌, ◌≤◌, ℕ, Bool, true, false, List, Option, Some, None, Result, Ok, Err, length, if◌then◌else◌, nat_lt, refl, sym, ap, subst, arith}
 use Rattle.std.proofs.lemmas.Bool.Decides.{nat_tests}
 use Rattle.filter_code.specs.CodeView.{CodeView}
 use Rattle.filter_code.specs.Machine.{outcome_of}
@@ -23,7 +23,7 @@ use Rattle.filter_commands.specs.Limits.{number_limit}
 use Rattle.filter_commands.specs.RouteLine.{route_of_parts}
 use Rattle.filter_commands.specs.Saying.{Says, SaysTheSame}
 use Rattle.filter_commands.specs.declared.line_fault.LineFault.{LineFault}
-use Rattle.filter_commands.specs.declared.line_fault.LineFault.TheVariants.{Words, Numbers, TooLong}
+use Rattle.filter_commands.specs.declared.line_fault.LineFault.TheVariants.{Numbers, TooLong}
 use Rattle.filter_tools.specs.Filtering.{answer_meant, code_answer, filter_answer, verdict_line}
 use Rattle.filter_tools.specs.RouteOfSize.{route_of_size, route_of_words, two_of}
 

@@ -2,7 +2,6 @@
 use Rattle.std.specs.Prelude.{◌≡◌, ◌⊎◌, ◌+◌, ℕ, false, List, [], ◌∷◌, ◌++◌, length, map, take, Option, Some, Result, Ok, Err, codes, decimal, ⊤}
 use Rattle.std.specs.Io.KnownBytes.{Appends, Consumes}
 use Rattle.filter_code.specs.CodeView.{CodeView}
-use Rattle.filter_code.specs.Machine.{outcome_of}
 use Rattle.filter_code.specs.RouteView.{RouteView}
 use Rattle.filter_compiler.specs.Verdicts.{Verdict, accepted, rejected, divided, meaning}
 use Rattle.filter_parser.specs.SyntaxText.{FilterView}

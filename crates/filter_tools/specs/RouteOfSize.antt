@@ -1,5 +1,5 @@
 -- What a route line says where the domain's size is known. (This project's own choice.)
-use Rattle.std.specs.Prelude.{ℕ, List, [], ◌∷◌, length, Option, Some, None, Result, Ok, Err, nat_lt, if◌then◌else◌}
+use Rattle.std.specs.Prelude.{ℕ, List, [], ◌∷◌, length, Option, Some, None, Result, Err, nat_lt, if◌then◌else◌}
 use Rattle.prefix_patterns.specs.Reading.{number_in, prefix_in}
 use Rattle.filter_code.specs.RouteView.{RouteView}
 use Rattle.line_protocol.specs.Words.{words}

@@ -1,4 +1,4 @@
-use Rattle.std.proofs.Common.{◌==◌, ◌<◌, length, not, sym, ap, arith, true}
+use Rattle.std.proofs.Common.{◌<◌, length, sym, ap, arith}
 use Rattle.std.proofs.lemmas.List.Sums.{prefix_len_is}
 use Rattle.filter_tools.specs.Places.{is_inside}
 use Rattle.filter_tools.proofs.place.line_len.Goals as goal
