@@ -10,8 +10,7 @@ use Rattle.line_protocol.specs.declared.faults.StreamFault.{StreamFault}
 use Rattle.line_protocol.specs.declared.faults.StreamFault.TheVariants.{Read, Write, Memory, TooLong}
 use Rattle.filter_commands.proofs.Evaluations.{Begins, Makes, answers, front_run, whole_run}
 use Rattle.filter_commands.specs.Eval.{Line, all_answers, eval_answers, line_answers, no_code}
-use Rattle.filter_commands.specs.Evaluation.{Breaks, Evaluates, ReachesTo}
-use Rattle.filter_commands.specs.Steps.{IsCut}
+use Rattle.filter_commands.specs.Evaluation.{Breaks, Evaluates, IsCut, ReachesTo}
 use Rattle.line_protocol.specs.Limits.{input_limit}
 use Rattle.filter_commands.specs.declared.eval.Evaluator.{Evaluator}
 

@@ -1,13 +1,9 @@
 -- What is between a line and its answer, and between a report and what is written. (This project's own choice.)
 use Rattle.std.specs.Prelude.{◌≡◌, ℕ, List, [], Option, Some, None, Result, Ok, Err}
-use Rattle.std.specs.Io.KnownBytes.{Appends}
 use Rattle.filter_code.specs.CodeView.{CodeView}
 use Rattle.filter_source.specs.declared.refusal.Refusal.{Refusal}
 use Rattle.line_protocol.specs.Answers.{Answer}
-use Rattle.line_protocol.specs.Runs.{AppendsFront}
 use Rattle.line_protocol.specs.declared.answers.Reply.TheVariants as reply
-use Rattle.line_protocol.specs.declared.faults.StreamFault.{StreamFault}
-use Rattle.line_protocol.specs.declared.faults.StreamFault.TheVariants.{Read, Write, Memory, TooLong}
 use Rattle.filter_commands.specs.Check.{ReportView}
 use Rattle.filter_commands.specs.Checking.{refusals_of}
 use Rattle.filter_commands.specs.Eval.{code_answer, code_in, route_answer}
@@ -26,10 +22,3 @@ AnswersLine (Some program) number given answer after = (answer ≡ route_answer 
 -- what a contract sees of a report
 abbrev pub report_of : Report → ReportView
 report_of r = record { text = r.text.items; refusals = refusals_of r.refusal }
-
--- How far one text came that a fault kept from being written: where memory is refused it is not begun.
-abbrev pub IsCut : StreamFault → Option (List ℕ) → Option (List ℕ) → List ℕ → Type 0
-IsCut Read held holds text = ⊥
-IsCut Write held holds text = AppendsFront held holds text
-IsCut Memory held holds text = Appends held holds []
-IsCut TooLong held holds text = ⊥

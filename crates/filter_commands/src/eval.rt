@@ -4,9 +4,8 @@ ghost use Rattle.std.specs.Io.{StartsWith};
 ghost use Rattle.std.specs.Io.KnownBytes.{Appends};
 ghost use Rattle.filter_source.specs.Failures.{OnRefusal};
 ghost use Rattle.filter_commands.specs.Eval.{code_in, no_code, route_answer, verdict};
-ghost use Rattle.filter_commands.specs.Evaluation.{Breaks, Evaluates};
+ghost use Rattle.filter_commands.specs.Evaluation.{Breaks, Evaluates, IsCut};
 ghost use Rattle.filter_commands.specs.Faults.{stream_fault};
-ghost use Rattle.filter_commands.specs.Steps.{IsCut};
 
 use crate::fault::ProgramFault;
 use crate::line_fault::LineFault;

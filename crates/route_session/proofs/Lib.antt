@@ -4,3 +4,4 @@ mod Halves
 mod Reading
 mod Told
 mod Writing
+mod Popped
