@@ -1,7 +1,7 @@
 //! Routers, messages and gates that the tests share.
 
-ghost use Rattle.std.specs.Prelude.{◌≡◌, IfOk};
-ghost use Rattle.slot_lock.specs.Held.{IsFirst, IsPassOf};
+ghost use Rattle.std.specs.Prelude.{IfOk};
+ghost use Rattle.slot_lock.specs.Held.{IsPassOf};
 
 use netchange_core::{Event, Message, Opening};
 use prefix_patterns::{Ip, Prefix};

@@ -1,10 +1,8 @@
 //! Sessions run at the same time, and ask the gate before each turn.
 
-ghost use Rattle.slot_lock.specs.Held.{IsPassOf};
-
 use crate::fixtures::{bring_up, messages, open};
 use crate::run_tests::{expect_read, job};
-use route_session::{Cause, ChannelLink, Ending, Gate, Job, MemoryLink, Role, run_sessions};
+use route_session::{Cause, Gate, Role, run_sessions};
 use std::rt::Clock;
 use std::sync::atomic::{AtomicBool, AtomicU64, Ordering};
 use std::sync::{Mutex, Wait};
