@@ -11,9 +11,7 @@ ghost use Rattle.filter_commands.specs.Steps.{report_of};
 use crate::fault::ProgramFault;
 use crate::report::{Report, report_code, report_refusal};
 use filter_code::Code;
-use filter_source::{
-    Failure, Refusal, SOURCE_LIMIT, check_length, compile_text, read_hexadecimal,
-};
+use filter_source::{Failure, Refusal, SOURCE_LIMIT, check_length, compile_text, read_hexadecimal};
 use line_protocol::{read_input, write_text};
 use std::alloc::{AllocError, Global};
 use std::io::{Read, Write};
