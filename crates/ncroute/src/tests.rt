@@ -7,7 +7,7 @@ use std::test::Fail;
 
 #[test]
 fn reads_words(rt: HostRuntime) -> Result<(), Fail> {
-    let rows: [(&[&str], Words); 13] = [
+    let rows: [(&[&str], Words); 15] = [
         (&["ncroute", "eval"], Words::Asked(Request::Eval)),
         (&["ncroute"], Words::Shown(2)),
         (&["ncroute", "check"], Words::Shown(2)),
