@@ -21,6 +21,10 @@ add() {
 }
 
 add rt ci
+# The program that the gate has built runs the examples. Without it the sources do, by `rt try`.
+if [ -x crates/ncroute/out/ncroute ]; then
+    export NCROUTE="$PWD/crates/ncroute/out/ncroute"
+fi
 add scripts/check_documents.py
 add scripts/check_program_runs.py
 echo "$passed passed, $failed failed"
