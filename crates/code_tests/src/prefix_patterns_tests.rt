@@ -176,10 +176,9 @@ fn sets_match_what_a_pattern_matches(rt: HostRuntime) -> Result<(), Fail> {
         let patterns = &all[from..to];
         let set = PatternSet::build(rt.alloc(), patterns)?;
         assert_eq!(rt; set.patterns(), patterns);
-        assert_eq!(rt;
-            (all[from].matches(&prefix), set.matches(&prefix)),
-            (first, any)
-        );
+        let matches_first = patterns.first().map(|pattern| pattern.matches(&prefix));
+        assert_eq!(rt; matches_first, Some(first));
+        assert_eq!(rt; set.matches(&prefix), any);
     }
     Ok(())
 }
