@@ -2,8 +2,9 @@
 # Builds the proved programs and the plain one, checks that they answer the same, and prints their times and ratios:
 # of `ncroute eval` and `ncroute run` as a whole, of the machines alone, or of the router alone.
 #
-# usage: bench/run.sh [eval|machines|instructions|router|callers|script]     (without a word: eval and machines)
+# usage: bench/run.sh [eval|machines|instructions|bird|router|callers|script]     (without a word: eval and machines)
 #   instructions counts instructions of the machines with valgrind, in place of their time
+#   bird compares the machine for verified code with BIRD 2.0, where that is installed
 #   NCROUTE=PATH       a proved `ncroute` that is built already: then none is built here
 #   FILTER_BENCH=PATH  the same for `filter_bench`, and ROUTER_BENCH=PATH for `router_bench`
 #   ROUNDS=N           how often each program is run on each input (7)
@@ -25,12 +26,25 @@ build() {
 
 rustc --edition 2021 -O -o "$folder/plain" "$bench/baseline/main.rs"
 
-# Compares `ncroute` and the plain program, started with a word, on inputs.
-compare() {
+# Sees to it that NCROUTE names a program.
+need_ncroute() {
     if [ -z "${NCROUTE:-}" ]; then
         build ncroute --help
         NCROUTE="$bench/../crates/ncroute/out/ncroute"
     fi
+}
+
+# Sees to it that FILTER_BENCH names a program.
+need_filter_bench() {
+    if [ -z "${FILTER_BENCH:-}" ]; then
+        build filter_bench verified 0
+        FILTER_BENCH="$bench/../crates/filter_bench/out/filter_bench"
+    fi
+}
+
+# Compares `ncroute` and the plain program, started with a word, on inputs.
+compare() {
+    need_ncroute
     "$bench/compare.py" "$NCROUTE" "$folder/plain" "$1" "${ROUNDS:-7}" "${@:2}"
 }
 
@@ -77,11 +91,12 @@ elif [ "$wanted" = callers ]; then
         inputs+=("$folder/$kind")
     done
     "$bench/callers.py" "$ROUTER_BENCH" "$folder/plain" "${ROUNDS:-7}" "${inputs[@]}"
+elif [ "$wanted" = bird ]; then
+    need_ncroute
+    need_filter_bench
+    "$bench/bird.py" "$FILTER_BENCH" "$NCROUTE" "${ROUNDS:-7}"
 elif [ "$wanted" != eval ]; then
-    if [ -z "${FILTER_BENCH:-}" ]; then
-        build filter_bench verified 0
-        FILTER_BENCH="$bench/../crates/filter_bench/out/filter_bench"
-    fi
+    need_filter_bench
     inputs=()
     for name_rounds in accept_alone=1000 add_two_and_clip=500 set_of_1024=20 straight_filter=5; do
         "$bench/generate.py" "${name_rounds%=*}" 20000 1 64 >"$folder/${name_rounds%=*}"

@@ -1,0 +1,179 @@
+#!/usr/bin/env python3
+"""Compares the machine for verified code with BIRD on the same filters and routes: first what both accept, and then their time.
+
+usage: bird.py FILTER_BENCH NCROUTE RUNS [ROUTES]
+
+Needs BIRD 2.0 (`bird`, `birdc`); as a daemon of its own it is given ROUTES static routes (20,000), each with a metric, and
+the filters below. For each filter it is asked RUNS times to show the number of routes that the filter accepts, and the least
+processor time of the daemon for an answer counts. The text of each filter is compiled by `ncroute check` and the code taken
+through `filter_bench verified`, with the same routes. From both times that for a filter that only accepts is subtracted: the
+walk over the routes, and the question. Where the two accept different numbers of routes, that is said and the status is 1.
+"""
+import os
+import subprocess
+import sys
+import tempfile
+import time
+
+from compare import seconds
+from generate import PATTERNS, Numbers, cut, net_near, pattern, written_address
+
+SIZE = 64
+STATEMENTS = 100
+ROUNDS = 20
+INTS = "abcdefgh"
+
+
+def written_pattern(word, length, low, high):
+    return f"{written_address(word)}/{length}{{{low},{high}}}"
+
+
+def set_of_1024(patterns):
+    members = ",\n    ".join(written_pattern(*of) for of in patterns)
+    return f"filter set_of_1024 {{\n  if net ~ [{members}] then accept;\n  reject;\n}}\n"
+
+
+def sum_of(numbers):
+    """A sum, a difference, a product, or a quotient by a number from 1 up."""
+    first, second = numbers.one_of(INTS), numbers.one_of(INTS)
+    sign = numbers.one_of("+-*/")
+    return f"{first} / {numbers.within(1, 64)}" if sign == "/" else f"{first} {sign} {second}"
+
+
+def arithmetic(numbers):
+    """Assignments of ints, every third under an `if`; about half of the routes are accepted."""
+    text = "filter arithmetic\n" + "".join(f"int {name};\n" for name in INTS) + "{\n"
+    for name in INTS:
+        text += f"  {name} = rip_metric * {numbers.below(2**20)} + {numbers.below(2**32)};\n"
+    for index in range(STATEMENTS):
+        assigned = f"{numbers.one_of(INTS)} = {sum_of(numbers)};"
+        if index % 3 == 0:
+            assigned = f"if {numbers.one_of(INTS)} < {sum_of(numbers)} then {assigned}"
+        text += f"  {assigned}\n"
+    return text + f"  if ({' + '.join(INTS)}) < {2**31} then accept;\n  reject;\n}}\n"
+
+
+def filters(numbers):
+    patterns = [pattern(numbers) for _ in range(PATTERNS)]
+    texts = {
+        "accept_alone": "filter accept_alone { accept; }\n",
+        "set_of_1024": set_of_1024(patterns),
+        "arithmetic": arithmetic(numbers),
+    }
+    return texts, net_near(patterns)
+
+
+def routes_near(numbers, net, count):
+    """Different prefixes that BIRD takes (none of loopback, multicast or network 0), each with a metric from 0 to 63."""
+    found = {}
+    while len(found) < count:
+        address, length = net(numbers).split("/")
+        word = int.from_bytes(bytes(int(group) for group in address.split(".")), "big")
+        word = cut(word, int(length))
+        if word >> 24 in range(1, 224) and word >> 24 != 127:
+            found[f"{written_address(word)}/{length}"] = numbers.below(SIZE)
+    return found
+
+
+class Daemon:
+    """A BIRD of our own, without any interface."""
+
+    def __init__(self, folder, texts, routes):
+        self.control = os.path.join(folder, "control")
+        path = os.path.join(folder, "bird.conf")
+        with open(path, "w") as out:
+            out.write('log "' + os.path.join(folder, "log") + '" all;\nrouter id 1.2.3.4;\n')
+            out.write("".join(texts.values()))
+            out.write("protocol static {\n  ipv4;\n")
+            out.writelines(f"  route {net} blackhole {{ rip_metric = {metric}; }};\n" for net, metric in routes.items())
+            out.write("}\n")
+        self.process = subprocess.Popen(["bird", "-f", "-c", path, "-s", self.control])
+        while not os.path.exists(self.control):
+            time.sleep(0.05)
+
+    def ask(self, question):
+        """An answer's first word that is a number, and the processor time that it took, in seconds."""
+        before = self.used()
+        said = subprocess.run(["birdc", "-s", self.control, question], stdout=subprocess.PIPE, text=True, check=True).stdout
+        return int(next(word for word in said.split() if word.isdigit())), self.used() - before
+
+    def used(self):
+        with open(f"/proc/{self.process.pid}/schedstat") as spent:
+            return int(spent.read().split()[0]) / 1e9
+
+    def least(self, question, runs):
+        asked = [self.ask(question) for _ in range(runs)]
+        return asked[0][0], min(took for _, took in asked)
+
+    def end(self):
+        self.process.terminate()
+        self.process.wait()
+
+
+def code_of(ncroute, text):
+    said = subprocess.run([ncroute, "check", "--size", str(SIZE)], input=text, stdout=subprocess.PIPE, text=True, check=True)
+    return said.stdout.split()[1]
+
+
+def ours(filter_bench, path, runs, count):
+    """How many routes are accepted, the steps of a run, and the seconds of a round."""
+
+    def spent(rounds):
+        return min(seconds([filter_bench, "verified", str(rounds)], path) for _ in range(runs))
+
+    with open(path, "rb") as given:
+        said = subprocess.run([filter_bench, "verified", "1"], stdin=given, stdout=subprocess.PIPE, check=True).stdout.split()
+    return int(said[1]), int(said[7]) / count, (spent(ROUNDS) - spent(0)) / ROUNDS
+
+
+def write_input(path, code, routes):
+    with open(path, "w") as out:
+        out.write(code + "\n")
+        out.writelines(f"{net} {metric} {SIZE}\n" for net, metric in routes.items())
+
+
+def measured(programs, daemon, runs, texts, routes, folder):
+    """For each filter: what both accept, the steps of a run, the seconds here and in BIRD."""
+    filter_bench, ncroute = programs
+    for name, text in texts.items():
+        path = os.path.join(folder, name)
+        write_input(path, code_of(ncroute, text), routes)
+        accepted, steps, here = ours(filter_bench, path, runs, len(routes))
+        by_bird, there = daemon.least(f"show route filter {name} count", runs)
+        yield name, (accepted, by_bird), steps, here, there
+
+
+def report(rows, count):
+    """Prints the rows after the first, whose times are subtracted; whether all accept the same routes."""
+    alike = True
+    for index, (name, (accepted, by_bird), steps, here, there) in enumerate(rows):
+        if accepted != by_bird:
+            print(f"{name}: {accepted} routes accepted here, {by_bird} by BIRD", file=sys.stderr)
+            alike = False
+        elif index == 0:
+            least_here, least_there = here, there
+        else:
+            ours_alone, bird_alone = ((took - least) / count * 1e9 for took, least in ((here, least_here), (there, least_there)))
+            print(f"{name}, {accepted} of {count} routes accepted, {steps:.1f} steps a run")
+            print(f"  run   {ours_alone:8.1f} ns a route\n  BIRD  {bird_alone:8.1f} ns a route   ratio {ours_alone / bird_alone:.2f}")
+    return alike
+
+
+def main(words):
+    if len(words) < 3:
+        sys.exit(__doc__)
+    programs, runs = [os.path.abspath(word) for word in words[:2]], int(words[2])
+    numbers = Numbers(1)
+    texts, net = filters(numbers)
+    routes = routes_near(numbers, net, int(words[3]) if len(words) > 3 else 20_000)
+    with tempfile.TemporaryDirectory() as folder:
+        daemon = Daemon(folder, texts, routes)
+        try:
+            rows = list(measured(programs, daemon, runs, texts, routes, folder))
+        finally:
+            daemon.end()
+    sys.exit(not report(rows, len(routes)))
+
+
+if __name__ == "__main__":
+    main(sys.argv[1:])
