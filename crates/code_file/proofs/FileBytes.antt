@@ -3,7 +3,7 @@ use Rattle.std.proofs.Common.{Bool, ℕ, zero, suc, ◌+◌, ◌*◌, ◌<◌, �
 use Rattle.std.specs.List.{AllByRecursion, flat_map}
 use Rattle.prefix_patterns.specs.Bits.{address_of}
 use Rattle.prefix_patterns.specs.Matching.{PrefixPattern}
-use Rattle.filter_code.specs.Instruction.{opcode}
+use Rattle.filter_code.specs.Table.{opcode}
 use Rattle.filter_code.specs.CodeView.{CodeView}
 use Rattle.filter_code.specs.declared.instruction.Instr.{Instr}
 use Rattle.filter_code.specs.declared.instruction.Instr.TheVariants as instr

@@ -11,7 +11,7 @@ use Rattle.prefix_patterns.specs.Matching.{PrefixPattern}
 use Rattle.filter_code.specs.declared.instruction.Instr.{Instr}
 use Rattle.filter_code.specs.declared.instruction.Instr.TheVariants as instr
 use Rattle.filter_code.specs.Limits.{local_limit, set_limit, instruction_limit}
-use Rattle.filter_code.specs.Instruction.{opcode}
+use Rattle.filter_code.specs.Table.{opcode}
 use Rattle.filter_code.specs.CodeView.{CodeView}
 use Rattle.code_file.specs.Fields.{FieldKind, width, number, mark_bytes, is_good, is_prefix, form_of, forms}
 use Rattle.code_file.specs.Fields.FieldKind.{Mark, Locals, Sets, Patterns, Pattern, Instructions, Opcode, WordOperand}

@@ -7,7 +7,7 @@ use Rattle.prefix_patterns.specs.Bits.{address_length, prefix_bits, address_of}
 use Rattle.filter_code.specs.declared.instruction.Instr.{Instr}
 use Rattle.filter_code.specs.declared.instruction.Instr.TheVariants as instr
 use Rattle.filter_code.specs.Limits.{local_limit, set_limit, instruction_limit}
-use Rattle.filter_code.specs.Instruction.{opcode}
+use Rattle.filter_code.specs.Table.{opcode}
 use Rattle.code_file.specs.declared.fault.FileFault.{FileFault}
 use Rattle.code_file.specs.declared.fault.FileFault.TheVariants as fault
 

@@ -1,7 +1,6 @@
 -- What callers cite: the limits, the instructions and their table, code, routes and values, the machine and its outcomes,
 -- and the codes of faults.
 pub mod CodeView
-pub mod Instruction
 pub mod Limits
 pub mod Machine
 pub mod Outcomes

@@ -1,5 +1,5 @@
 ghost use Rattle.std.specs.Prelude.{◌≡◌, ◌↔◌, IsTrue};
-ghost use Rattle.filter_code.specs.Instruction.{opcode};
+ghost use Rattle.filter_code.specs.Table.{opcode};
 
 use prefix_patterns::{ADDRESS_LENGTH, Ip, Prefix};
 use std::fmt;
