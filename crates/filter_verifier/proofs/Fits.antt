@@ -8,7 +8,7 @@ use Rattle.filter_code.specs.declared.value.Kind.{Kind}
 use Rattle.filter_code.specs.declared.value.Value.{Value}
 use Rattle.filter_code.specs.declared.value.Value.TheVariants as value
 use Rattle.filter_code.specs.Table.{Frame, Source, Nowhere, Top, TopTwo, Local, Operands, Zero, One, Two, Drawn, Bad, Good}
-use Rattle.filter_code.specs.Table.{each_is, both_are, is_int, is_bool, is_ip, is_prefix, are_alike, are_ordered, are_nested}
+use Rattle.filter_code.specs.Table.{Taking, Any, Each, Both, each_is, both_are, has_kinds, signature}
 use Rattle.filter_code.specs.Table.{fits_kinds, names_exist, one_of, two_of, value_in, taken, passing, source_of, draw}
 use Rattle.filter_code.specs.Values.{kind_of}
 use Rattle.filter_verifier.specs.declared.fact.Fact.{Fact}
@@ -81,25 +81,15 @@ both_same received test (Two a b) (Two f g) p = cc (kind_is received a f p.0, ki
 both_same received test _ _ p = absurd p
 
 -- an instruction takes operands where it takes what is known of them
+taking_same : (received : ℕ) (kinds : Taking) (operands : Operands Value) (facts : Operands Fact) →
+    OperandsAre received operands facts → has_kinds kind_of kinds operands ≡ has_kinds kind_of_fact kinds facts
+taking_same received Any operands facts p = refl
+taking_same received (Each test) operands facts p = each_same received test operands facts p
+taking_same received (Both test) operands facts p = both_same received test operands facts p
+
 kinds_same : (received : ℕ) (i : Instr) (operands : Operands Value) (facts : Operands Fact) → OperandsAre received operands facts →
     fits_kinds kind_of i operands ≡ fits_kinds kind_of_fact i facts
-kinds_same received instr.SetMetric = each_same received is_int
-kinds_same received instr.Add = each_same received is_int
-kinds_same received instr.Sub = each_same received is_int
-kinds_same received instr.Mul = each_same received is_int
-kinds_same received instr.Div = each_same received is_int
-kinds_same received instr.Max = each_same received is_int
-kinds_same received instr.Eq = both_same received are_alike
-kinds_same received instr.Lt = both_same received are_ordered
-kinds_same received instr.Le = both_same received are_ordered
-kinds_same received instr.Not = each_same received is_bool
-kinds_same received instr.Addr = each_same received is_prefix
-kinds_same received instr.Len = each_same received is_prefix
-kinds_same received (instr.Mask n) = each_same received is_ip
-kinds_same received instr.Within = both_same received are_nested
-kinds_same received (instr.Member s) = each_same received is_prefix
-kinds_same received (instr.JumpIfNot k) = each_same received is_bool
-kinds_same received _ = λ operands facts p. refl
+kinds_same received i = taking_same received (signature i).kinds
 
 -- a local variable
 local_is : (received : ℕ) (locals : List (Option Value)) (known : List (Option Fact)) (index : ℕ) (stack : List Value)
