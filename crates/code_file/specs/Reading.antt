@@ -58,18 +58,30 @@ a_count_of kind format = do
 abbrev pub a_set : Format (List PrefixPattern)
 a_set = a_count_of Patterns a_pattern
 
+-- an operand that is a truth value
+abbrev pub a_truth : Format Bool
+a_truth = do
+  n ← a_number TruthOperand
+  Done (n == 1)
+
+-- an operand that is a prefix
+abbrev pub a_prefix : Format (List Bool)
+a_prefix = Next PrefixOperand (λ bytes. Done (prefix_of bytes))
+
 -- the operand of an instruction of this form
 abbrev pub an_operand : Instr → Format Instr
 an_operand (instr.Int any) = do
   n ← a_number WordOperand
   Done (instr.Int n)
 an_operand (instr.Bool any) = do
-  n ← a_number TruthOperand
-  Done (instr.Bool (n == 1))
+  b ← a_truth
+  Done (instr.Bool b)
 an_operand (instr.Ip any) = do
   n ← a_number WordOperand
   Done (instr.Ip (record { 0 = n }))
-an_operand (instr.Prefix any) = Next PrefixOperand (λ bytes. Done (instr.Prefix (prefix_of bytes)))
+an_operand (instr.Prefix any) = do
+  bits ← a_prefix
+  Done (instr.Prefix bits)
 an_operand (instr.Load any) = do
   i ← a_number NameOperand
   Done (instr.Load i)

@@ -6,9 +6,8 @@ use Rattle.prefix_patterns.specs.Matching.{pattern_limit}
 use Rattle.prefix_patterns.specs.Bits.{address_length, address_of}
 use Rattle.prefix_patterns.specs.Matching.{PrefixPattern, HasOrderedLengths}
 use Rattle.filter_code.specs.declared.instruction.Instr.{Instr}
-use Rattle.filter_code.specs.declared.instruction.Instr.TheVariants as instr
 use Rattle.filter_code.specs.Limits.{local_limit, set_limit, instruction_limit}
-use Rattle.filter_code.specs.Table.{opcode}
+use Rattle.filter_code.specs.Table.{Literal, Bare, Word, Truth, Bits, Index, Length, Skip, literal_of, opcode}
 use Rattle.filter_code.specs.CodeView.{CodeView}
 use Rattle.code_file.specs.Fields.{FieldKind, width, mark_bytes}
 use Rattle.code_file.specs.Fields.FieldKind.{Mark, Locals, Sets, Patterns, Pattern, Instructions, Opcode, WordOperand}
@@ -48,19 +47,18 @@ counted kind fields_of xs = field kind (length xs) ∷ flat_map fields_of xs
 abbrev pub set : List PrefixPattern → List Field
 set patterns = counted Patterns (λ p. pattern p ∷ []) patterns
 
--- the operand of an instruction, where it has one
+-- what an instruction carries is its operand, where it carries something
+abbrev pub literal_field : Literal → List Field
+literal_field Bare = []
+literal_field (Word n) = field WordOperand n ∷ []
+literal_field (Truth b) = field TruthOperand (if b then 1 else 0) ∷ []
+literal_field (Bits bits) = record { kind = PrefixOperand; bytes = prefix_bytes bits } ∷ []
+literal_field (Index i) = field NameOperand i ∷ []
+literal_field (Length n) = field BitsOperand n ∷ []
+literal_field (Skip k) = field SkipOperand k ∷ []
+
 abbrev pub operand : Instr → List Field
-operand (instr.Int n) = field WordOperand n ∷ []
-operand (instr.Bool b) = field TruthOperand (if b then 1 else 0) ∷ []
-operand (instr.Ip a) = field WordOperand a.0 ∷ []
-operand (instr.Prefix bits) = record { kind = PrefixOperand; bytes = prefix_bytes bits } ∷ []
-operand (instr.Load i) = field NameOperand i ∷ []
-operand (instr.Store i) = field NameOperand i ∷ []
-operand (instr.Mask n) = field BitsOperand n ∷ []
-operand (instr.Member i) = field NameOperand i ∷ []
-operand (instr.Jump k) = field SkipOperand k ∷ []
-operand (instr.JumpIfNot k) = field SkipOperand k ∷ []
-operand _ = []
+operand i = literal_field (literal_of i)
 
 -- an instruction: its opcode, then the operand
 abbrev pub instruction : Instr → List Field
@@ -87,17 +85,17 @@ pub record IsSet (patterns : List PrefixPattern) : Type 0 where
   pub each : AllByRecursion IsPattern patterns
 
 -- an instruction whose operand fits its field
+abbrev pub FitsField : Literal → Type 0
+FitsField Bare = Unit {0}
+FitsField (Word n) = n < 2 ^ 32
+FitsField (Truth b) = Unit {0}
+FitsField (Bits bits) = length bits ≤ address_length
+FitsField (Index i) = i < 256
+FitsField (Length n) = n ≤ address_length
+FitsField (Skip k) = k < 2 ^ 16
+
 abbrev pub IsInstruction : Instr → Type 0
-IsInstruction (instr.Int n) = n < 2 ^ 32
-IsInstruction (instr.Ip a) = a.0 < 2 ^ 32
-IsInstruction (instr.Prefix bits) = length bits ≤ address_length
-IsInstruction (instr.Load i) = i < 256
-IsInstruction (instr.Store i) = i < 256
-IsInstruction (instr.Mask n) = n ≤ address_length
-IsInstruction (instr.Member i) = i < 256
-IsInstruction (instr.Jump k) = k < 2 ^ 16
-IsInstruction (instr.JumpIfNot k) = k < 2 ^ 16
-IsInstruction _ = Unit {0}
+IsInstruction i = FitsField (literal_of i)
 
 -- a code that has a file: it is within the limits, and each set and instruction fits its fields
 pub record IsCode (code : CodeView) : Type 0 where

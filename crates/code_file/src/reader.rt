@@ -2,9 +2,9 @@
 
 ghost use Rattle.std.specs.Prelude.{◌≡◌, ◌+◌, ◌<◌, ◌≤◌, true, false, length, take, MatchOption, MatchResult, IfOk};
 ghost use Rattle.filter_code.specs.CodeView.{HasMask};
-ghost use Rattle.code_file.specs.Fields.{form_of, is_prefix, is_pattern};
-ghost use Rattle.code_file.specs.Fields.FieldKind.{Mark, Locals, Sets, Patterns, Instructions};
-ghost use Rattle.code_file.specs.Reading.{past, Reads, a_number, prefix_of, pattern_of, a_pattern, a_form, an_operand};
+ghost use Rattle.code_file.specs.Fields.{is_prefix, is_pattern};
+ghost use Rattle.code_file.specs.Fields.FieldKind.{Mark, Locals, Sets, Patterns, Instructions, WordOperand, NameOperand, BitsOperand, SkipOperand};
+ghost use Rattle.code_file.specs.Reading.{past, Reads, a_number, prefix_of, pattern_of, a_pattern, a_prefix, a_truth};
 ghost use Rattle.code_file.specs.Reading.{an_instruction, a_header};
 
 use crate::fault::FileFault;
@@ -158,52 +158,99 @@ impl<'a> Reader<'a> {
         Ok(number)
     }
 
-    /// The next instruction.
+    /// An operand that is a number of four bytes.
+    fn word(&mut self) -> Result<u32, FileFault>
+        ensures { Reads (λ n. n) (a_number WordOperand) self.old self.new result }
+    {
+        Ok(BigEndian::read_u32(self.field(4)?))
+    }
+
+    /// An operand that is a number of two bytes: how many instructions are skipped.
+    fn skip(&mut self) -> Result<u16, FileFault>
+        ensures { Reads (λ n. n) (a_number SkipOperand) self.old self.new result }
+    {
+        Ok(BigEndian::read_u16(self.field(2)?))
+    }
+
+    /// An operand that is the number of a local variable or of a set.
+    fn name(&mut self) -> Result<u8, FileFault>
+        ensures { Reads (λ n. n) (a_number NameOperand) self.old self.new result }
+    {
+        Ok(self.field(1)?[0])
+    }
+
+    /// An operand that is a number of bits.
+    fn bits(&mut self) -> Result<u8, FileFault>
+        ensures value { Reads (λ n. n) (a_number BitsOperand) self.old self.new result }
+        ensures limit { IfOk result (λ n. n ≤ ADDRESS_LENGTH) }
+    {
+        let at = self.at;
+        match self.field(1)?[0] {
+            bits if bits <= ADDRESS_LENGTH => Ok(bits),
+            _ => Err(FileFault::BadOperand(at)),
+        }
+    }
+
+    /// An operand that is a truth value.
+    fn truth(&mut self) -> Result<bool, FileFault>
+        ensures { Reads (λ b. b) a_truth self.old self.new result }
+    {
+        let at = self.at;
+        match self.field(1)?[0] {
+            0 => Ok(false),
+            1 => Ok(true),
+            _ => Err(FileFault::BadOperand(at)),
+        }
+    }
+
+    /// An operand that is a prefix.
+    fn prefix(&mut self) -> Result<Prefix, FileFault>
+        ensures { Reads (λ p. p) a_prefix self.old self.new result }
+    {
+        let at = self.at;
+        match prefix_in(self.field(5)?) {
+            Some(prefix) => Ok(prefix),
+            None => Err(FileFault::BadOperand(at)),
+        }
+    }
+
+    /// The next instruction: its opcode, and what is read after it.
+    #[tactic(auto, unfolding(crate::specs::Fields::form_of))]
     pub fn instruction(&mut self) -> Result<Instr, FileFault>
         ensures value { Reads (λ i. i) an_instruction self.old self.new result }
         ensures mask { IfOk result HasMask }
     {
-        let form = self.form()?;
-        self.operand(form)
-    }
-
-    fn form(&mut self) -> Result<Instr, FileFault>
-        ensures { Reads (λ form. form) a_form self.old self.new result }
-    {
         let at = self.at;
-        match form_of(self.field(1)?[0]) {
-            Some(form) => Ok(form),
-            None => Err(FileFault::UnknownOpcode(at)),
-        }
-    }
-
-    fn operand(&mut self, form: Instr) -> Result<Instr, FileFault>
-        ensures value { Reads (λ i. i) (an_operand form) self.old self.new result }
-        ensures mask { IfOk result HasMask }
-    {
-        let at = self.at;
-        match form {
-            Instr::Int(_) => Ok(Instr::Int(BigEndian::read_u32(self.field(4)?))),
-            Instr::Bool(_) => match self.field(1)?[0] {
-                0 => Ok(Instr::Bool(false)),
-                1 => Ok(Instr::Bool(true)),
-                _ => Err(FileFault::BadOperand(at)),
-            },
-            Instr::Ip(_) => Ok(Instr::Ip(Ip(BigEndian::read_u32(self.field(4)?)))),
-            Instr::Prefix(_) => match prefix_in(self.field(5)?) {
-                Some(prefix) => Ok(Instr::Prefix(prefix)),
-                None => Err(FileFault::BadOperand(at)),
-            },
-            Instr::Load(_) => Ok(Instr::Load(self.field(1)?[0])),
-            Instr::Store(_) => Ok(Instr::Store(self.field(1)?[0])),
-            Instr::Mask(_) => match self.field(1)?[0] {
-                bits if bits <= ADDRESS_LENGTH => Ok(Instr::Mask(bits)),
-                _ => Err(FileFault::BadOperand(at)),
-            },
-            Instr::Member(_) => Ok(Instr::Member(self.field(1)?[0])),
-            Instr::Jump(_) => Ok(Instr::Jump(BigEndian::read_u16(self.field(2)?))),
-            Instr::JumpIfNot(_) => Ok(Instr::JumpIfNot(BigEndian::read_u16(self.field(2)?))),
-            form => Ok(form),
+        match self.field(1)?[0] {
+            0x01 => Ok(Instr::Int(self.word()?)),
+            0x02 => Ok(Instr::Bool(self.truth()?)),
+            0x03 => Ok(Instr::Ip(Ip(self.word()?))),
+            0x04 => Ok(Instr::Prefix(self.prefix()?)),
+            0x10 => Ok(Instr::Load(self.name()?)),
+            0x11 => Ok(Instr::Store(self.name()?)),
+            0x12 => Ok(Instr::Net),
+            0x13 => Ok(Instr::Metric),
+            0x14 => Ok(Instr::Received),
+            0x15 => Ok(Instr::SetMetric),
+            0x20 => Ok(Instr::Add),
+            0x21 => Ok(Instr::Sub),
+            0x22 => Ok(Instr::Mul),
+            0x23 => Ok(Instr::Div),
+            0x24 => Ok(Instr::Max),
+            0x30 => Ok(Instr::Eq),
+            0x31 => Ok(Instr::Lt),
+            0x32 => Ok(Instr::Le),
+            0x33 => Ok(Instr::Not),
+            0x40 => Ok(Instr::Addr),
+            0x41 => Ok(Instr::Len),
+            0x42 => Ok(Instr::Mask(self.bits()?)),
+            0x50 => Ok(Instr::Within),
+            0x51 => Ok(Instr::Member(self.name()?)),
+            0x60 => Ok(Instr::Jump(self.skip()?)),
+            0x61 => Ok(Instr::JumpIfNot(self.skip()?)),
+            0x70 => Ok(Instr::Accept),
+            0x71 => Ok(Instr::Reject),
+            _ => Err(FileFault::UnknownOpcode(at)),
         }
     }
 }
@@ -232,42 +279,4 @@ fn pattern_in(field: &[u8]) -> Option<Pattern>
 {
     let prefix = prefix_in(field)?;
     Pattern::new(prefix, field[5], field[6])
-}
-
-/// An instruction with this opcode. Its operand is not known yet: it is 0, false or the empty prefix.
-#[tactic(auto, unfolding(crate::specs::Fields::form_of))]
-fn form_of(opcode: u8) -> Option<Instr>
-    ensures { result ≡ form_of opcode }
-{
-    match opcode {
-        0x01 => Some(Instr::Int(0)),
-        0x02 => Some(Instr::Bool(false)),
-        0x03 => Some(Instr::Ip(Ip(0))),
-        0x04 => Prefix::new(Ip(0), 0).map(Instr::Prefix),
-        0x10 => Some(Instr::Load(0)),
-        0x11 => Some(Instr::Store(0)),
-        0x12 => Some(Instr::Net),
-        0x13 => Some(Instr::Metric),
-        0x14 => Some(Instr::Received),
-        0x15 => Some(Instr::SetMetric),
-        0x20 => Some(Instr::Add),
-        0x21 => Some(Instr::Sub),
-        0x22 => Some(Instr::Mul),
-        0x23 => Some(Instr::Div),
-        0x24 => Some(Instr::Max),
-        0x30 => Some(Instr::Eq),
-        0x31 => Some(Instr::Lt),
-        0x32 => Some(Instr::Le),
-        0x33 => Some(Instr::Not),
-        0x40 => Some(Instr::Addr),
-        0x41 => Some(Instr::Len),
-        0x42 => Some(Instr::Mask(0)),
-        0x50 => Some(Instr::Within),
-        0x51 => Some(Instr::Member(0)),
-        0x60 => Some(Instr::Jump(0)),
-        0x61 => Some(Instr::JumpIfNot(0)),
-        0x70 => Some(Instr::Accept),
-        0x71 => Some(Instr::Reject),
-        _ => None,
-    }
 }

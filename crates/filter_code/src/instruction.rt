@@ -81,74 +81,63 @@ impl Instr {
         }
     }
 
+    /// Its opcode, which is its first byte in a code file, and its name.
+    fn row(&self) -> (u8, &'static str)
+        ensures { result.0 ≡ opcode self.now }
+    {
+        match self {
+            Instr::Int(_) => (0x01, "INT"),
+            Instr::Bool(_) => (0x02, "BOOL"),
+            Instr::Ip(_) => (0x03, "IP"),
+            Instr::Prefix(_) => (0x04, "PREFIX"),
+            Instr::Load(_) => (0x10, "LOAD"),
+            Instr::Store(_) => (0x11, "STORE"),
+            Instr::Net => (0x12, "NET"),
+            Instr::Metric => (0x13, "METRIC"),
+            Instr::Received => (0x14, "RECEIVED"),
+            Instr::SetMetric => (0x15, "SETMETRIC"),
+            Instr::Add => (0x20, "ADD"),
+            Instr::Sub => (0x21, "SUB"),
+            Instr::Mul => (0x22, "MUL"),
+            Instr::Div => (0x23, "DIV"),
+            Instr::Max => (0x24, "MAX"),
+            Instr::Eq => (0x30, "EQ"),
+            Instr::Lt => (0x31, "LT"),
+            Instr::Le => (0x32, "LE"),
+            Instr::Not => (0x33, "NOT"),
+            Instr::Addr => (0x40, "ADDR"),
+            Instr::Len => (0x41, "LEN"),
+            Instr::Mask(_) => (0x42, "MASK"),
+            Instr::Within => (0x50, "WITHIN"),
+            Instr::Member(_) => (0x51, "MEMBER"),
+            Instr::Jump(_) => (0x60, "JUMP"),
+            Instr::JumpIfNot(_) => (0x61, "JUMPIFNOT"),
+            Instr::Accept => (0x70, "ACCEPT"),
+            Instr::Reject => (0x71, "REJECT"),
+        }
+    }
+
     /// The instruction's opcode: its first byte in a code file, before the operand.
     pub fn opcode(self) -> u8
         ensures { result ≡ opcode self }
     {
-        match self {
-            Instr::Int(_) => 0x01,
-            Instr::Bool(_) => 0x02,
-            Instr::Ip(_) => 0x03,
-            Instr::Prefix(_) => 0x04,
-            Instr::Load(_) => 0x10,
-            Instr::Store(_) => 0x11,
-            Instr::Net => 0x12,
-            Instr::Metric => 0x13,
-            Instr::Received => 0x14,
-            Instr::SetMetric => 0x15,
-            Instr::Add => 0x20,
-            Instr::Sub => 0x21,
-            Instr::Mul => 0x22,
-            Instr::Div => 0x23,
-            Instr::Max => 0x24,
-            Instr::Eq => 0x30,
-            Instr::Lt => 0x31,
-            Instr::Le => 0x32,
-            Instr::Not => 0x33,
-            Instr::Addr => 0x40,
-            Instr::Len => 0x41,
-            Instr::Mask(_) => 0x42,
-            Instr::Within => 0x50,
-            Instr::Member(_) => 0x51,
-            Instr::Jump(_) => 0x60,
-            Instr::JumpIfNot(_) => 0x61,
-            Instr::Accept => 0x70,
-            Instr::Reject => 0x71,
-        }
+        self.row().0
     }
 }
 
 impl fmt::Display for Instr {
     fn fmt<W: fmt::Write>(&self, f: &mut fmt::Formatter<W>) -> fmt::Result {
+        f.write_str(self.row().1)?;
         match self {
-            Instr::Int(number) => write!(f, "INT {number}"),
-            Instr::Bool(flag) => write!(f, "BOOL {flag}"),
-            Instr::Ip(ip) => write!(f, "IP {ip}"),
-            Instr::Prefix(prefix) => write!(f, "PREFIX {prefix}"),
-            Instr::Load(local) => write!(f, "LOAD {local}"),
-            Instr::Store(local) => write!(f, "STORE {local}"),
-            Instr::Net => write!(f, "NET"),
-            Instr::Metric => write!(f, "METRIC"),
-            Instr::Received => write!(f, "RECEIVED"),
-            Instr::SetMetric => write!(f, "SETMETRIC"),
-            Instr::Add => write!(f, "ADD"),
-            Instr::Sub => write!(f, "SUB"),
-            Instr::Mul => write!(f, "MUL"),
-            Instr::Div => write!(f, "DIV"),
-            Instr::Max => write!(f, "MAX"),
-            Instr::Eq => write!(f, "EQ"),
-            Instr::Lt => write!(f, "LT"),
-            Instr::Le => write!(f, "LE"),
-            Instr::Not => write!(f, "NOT"),
-            Instr::Addr => write!(f, "ADDR"),
-            Instr::Len => write!(f, "LEN"),
-            Instr::Mask(bits) => write!(f, "MASK {bits}"),
-            Instr::Within => write!(f, "WITHIN"),
-            Instr::Member(set) => write!(f, "MEMBER {set}"),
-            Instr::Jump(skipped) => write!(f, "JUMP {skipped}"),
-            Instr::JumpIfNot(skipped) => write!(f, "JUMPIFNOT {skipped}"),
-            Instr::Accept => write!(f, "ACCEPT"),
-            Instr::Reject => write!(f, "REJECT"),
+            Instr::Int(number) => write!(f, " {number}"),
+            Instr::Bool(flag) => write!(f, " {flag}"),
+            Instr::Ip(ip) => write!(f, " {ip}"),
+            Instr::Prefix(prefix) => write!(f, " {prefix}"),
+            Instr::Load(byte) | Instr::Store(byte) | Instr::Mask(byte) | Instr::Member(byte) => {
+                write!(f, " {byte}")
+            }
+            Instr::Jump(skipped) | Instr::JumpIfNot(skipped) => write!(f, " {skipped}"),
+            _ => Ok(()),
         }
     }
 }
