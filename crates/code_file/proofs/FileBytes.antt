@@ -1,16 +1,17 @@
 -- The file of a code is made of bytes, at most 465,032 of them.
-use Rattle.std.proofs.Common.{Bool, ℕ, zero, suc, ◌+◌, ◌*◌, ◌<◌, ◌≤◌, List, [], ◌∷◌, ◌++◌, length, slice_index, sym, subst, arith, lit<, lit≤, length-append, append-nil, if◌then◌else◌}
+use Rattle.std.proofs.Common.{Bool, ℕ, zero, suc, ◌+◌, ◌*◌, ◌<◌, ◌≤◌, List, [], ◌∷◌, ◌++◌, length, slice_index, sym, subst, arith}
+use Rattle.std.proofs.Common.{lit<, lit≤, length-append, append-nil, if◌then◌else◌}
 use Rattle.std.specs.List.{AllByRecursion, flat_map}
 use Rattle.prefix_patterns.specs.Bits.{address_of}
 use Rattle.prefix_patterns.specs.Matching.{PrefixPattern}
-use Rattle.filter_code.specs.Table.{opcode}
+use Rattle.filter_code.specs.Table.{Literal, Bare, Word, Truth, Bits, Index, Length, Skip, literal_of, opcode}
 use Rattle.filter_code.specs.CodeView.{CodeView}
 use Rattle.filter_code.specs.declared.instruction.Instr.{Instr}
-use Rattle.filter_code.specs.declared.instruction.Instr.TheVariants as instr
 use Rattle.code_file.proofs.Written.{bytes_of-append, bytes_of-flat_map}
 use Rattle.code_file.specs.Fields.{FieldKind, IsBytes, mark_bytes, width}
 use Rattle.code_file.specs.Fields.FieldKind.{Instructions, Locals, Mark, Patterns, Sets}
-use Rattle.code_file.specs.Spelling.{Field, IsInstruction, IsPattern, IsCode, IsSet, bytes_of, counted, field, instruction, mark_byte, operand, pattern, prefix_bytes, set, spelling}
+use Rattle.code_file.specs.Spelling.{Field, FitsField, IsInstruction, IsPattern, IsCode, IsSet, bytes_of, counted, field, instruction}
+use Rattle.code_file.specs.Spelling.{literal_field, mark_byte, operand, pattern, prefix_bytes, set, spelling}
 use Rattle.std.specs.Int.{byte_at, bytes_high_first as big_bytes}
 
 -- at most so many bytes
@@ -103,21 +104,17 @@ a_set patterns h =
 a_number : (n x : ℕ) → n ≤ 5 → AreBytes 5 (big_bytes n x ++ [])
 a_number n x le = relaxed n 5 (big_bytes n x ++ []) le (alone n (big_bytes n x) (number n x))
 
-an_operand : (i : Instr) → IsInstruction i → AreBytes 5 (bytes_of (operand i))
-an_operand (instr.Int n) h = a_number 4 n (lit≤ tt)
-an_operand (instr.Bool b) h = a_number 1 (if b then 1 else 0) (lit≤ tt)
-an_operand (instr.Ip a) h = a_number 4 a.0 (lit≤ tt)
-an_operand (instr.Prefix bits) h = alone 5 (prefix_bytes bits) (a_prefix bits h)
-an_operand (instr.Load i) h = a_number 1 i (lit≤ tt)
-an_operand (instr.Store i) h = a_number 1 i (lit≤ tt)
-an_operand (instr.Mask n) h = a_number 1 n (lit≤ tt)
-an_operand (instr.Member i) h = a_number 1 i (lit≤ tt)
-an_operand (instr.Jump k) h = a_number 2 k (lit≤ tt)
-an_operand (instr.JumpIfNot k) h = a_number 2 k (lit≤ tt)
-an_operand _ h = relaxed 0 5 [] (lit≤ tt) none
+a_literal : (l : Literal) → FitsField l → AreBytes 5 (bytes_of (literal_field l))
+a_literal Bare h = relaxed 0 5 [] (lit≤ tt) none
+a_literal (Word n) h = a_number 4 n (lit≤ tt)
+a_literal (Truth b) h = a_number 1 (if b then 1 else 0) (lit≤ tt)
+a_literal (Bits bits) h = alone 5 (prefix_bytes bits) (a_prefix bits h)
+a_literal (Index i) h = a_number 1 i (lit≤ tt)
+a_literal (Length n) h = a_number 1 n (lit≤ tt)
+a_literal (Skip k) h = a_number 2 k (lit≤ tt)
 
 an_instruction : (i : Instr) → IsInstruction i → AreBytes 6 (bytes_of (instruction i))
-an_instruction i h = joined 1 5 (big_bytes 1 (opcode i)) (bytes_of (operand i)) (number 1 (opcode i)) (an_operand i h)
+an_instruction i h = joined 1 5 (big_bytes 1 (opcode i)) (bytes_of (operand i)) (number 1 (opcode i)) (a_literal (literal_of i) h)
 
 -- the mark
 a_mark : {n : ℕ} (place : ℕ) (fs : List Field) → AreBytes n (bytes_of fs) → AreBytes (1 + n) (bytes_of (mark_byte place ∷ fs))
