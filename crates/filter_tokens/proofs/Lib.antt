@@ -1,3 +1,4 @@
+pub mod FirstBytes
 pub mod Finding
 pub mod Forms
 pub mod Fronts

@@ -1,7 +1,7 @@
 -- Reading a text from the left: what the lexer's functions answer (this project's own choice).
 -- No promise to a caller cites it: those cite Cutting, and proofs join the two.
 use Rattle.std.specs.Prelude.{◌≡◌, ℕ, ◌+◌, ◌-◌, ◌*◌, ◌==◌, ◌&&◌, nat_le, nat_lt, if◌then◌else◌, Bool}
-use Rattle.std.specs.Prelude.{not, List, [], ◌∷◌, length, take, drop, find, Option, Some, None, Result, Ok, Err}
+use Rattle.std.specs.Prelude.{not, List, [], ◌∷◌, length, take, drop, find, codes, Option, Some, None, Result, Ok, Err}
 use Rattle.std.specs.Char.{digit_value, is_ascii_digit, is_ascii_hexdigit}
 use Rattle.std.specs.List.{prefix_len, list_any}
 use Rattle.std.specs.Option.{option_map}
@@ -104,6 +104,50 @@ begins_with_symbol text symbol = bytes_eq (symbol_text symbol) (take (length (sy
 unfoldable pub punctuator_in : List ℕ → Option Symbol
 punctuator_in text = find (begins_with_symbol text) punctuators
 
+-- the punctuator that is written as these two bytes
+abbrev pub pair_of : ℕ → ℕ → Option Symbol
+pair_of first second =
+    if first == 38 && second == 38 then Some symbol.And
+    else (if first == 124 && second == 124 then Some symbol.Or
+    else (if first == 33 && second == 61 then Some symbol.NotEqual
+    else (if first == 33 && second == 126 then Some symbol.NotMatch
+    else (if first == 60 && second == 61 then Some symbol.LessEqual
+    else (if first == 62 && second == 61 then Some symbol.GreaterEqual
+    else None)))))
+
+-- the punctuator of two bytes that begins with this byte and goes on as the text does
+abbrev pub pair : ℕ → List ℕ → Option Symbol
+pair first [] = None
+pair first (second ∷ others) = pair_of first second
+
+-- the punctuator that is written as this byte
+abbrev pub single : ℕ → Option Symbol
+single byte =
+    if byte == 40 then Some symbol.LeftParen
+    else (if byte == 41 then Some symbol.RightParen
+    else (if byte == 123 then Some symbol.LeftBrace
+    else (if byte == 125 then Some symbol.RightBrace
+    else (if byte == 91 then Some symbol.LeftBracket
+    else (if byte == 93 then Some symbol.RightBracket
+    else (if byte == 59 then Some symbol.Semicolon
+    else (if byte == 44 then Some symbol.Comma
+    else (if byte == 46 then Some symbol.Dot
+    else (if byte == 61 then Some symbol.Equal
+    else (if byte == 60 then Some symbol.Less
+    else (if byte == 62 then Some symbol.Greater
+    else (if byte == 126 then Some symbol.Match
+    else (if byte == 33 then Some symbol.Not
+    else (if byte == 43 then Some symbol.Plus
+    else (if byte == 45 then Some symbol.Minus
+    else (if byte == 42 then Some symbol.Times
+    else (if byte == 47 then Some symbol.Divide
+    else None)))))))))))))))))
+
+-- a punctuator of two bytes where there is one, and otherwise one of one byte
+abbrev pub pair_or : Option Symbol → Option Symbol → Option Symbol
+pair_or None other = other
+pair_or (Some both) other = Some both
+
 -- the longest punctuator at the front of a text
 unfoldable pub punctuator_shape : List ℕ → Option (Shape × List ℕ)
 punctuator_shape text = option_map (λ punctuator. (shape.Punctuator punctuator, drop (length (symbol_text punctuator)) text)) (punctuator_in text)
@@ -131,9 +175,40 @@ is_spelled bytes symbol = bytes_eq (symbol_text symbol) bytes
 unfoldable pub keyword_in : List ℕ → Option Symbol
 keyword_in bytes = find (is_spelled bytes) keywords
 
+-- the keywords that begin with a byte
+abbrev pub keywords_with : ℕ → List Symbol
+keywords_with first =
+    if first == 97 then symbol.Accept ∷ []
+    else (if first == 98 then symbol.Bool ∷ []
+    else (if first == 100 then symbol.Defined ∷ []
+    else (if first == 101 then symbol.Else ∷ []
+    else (if first == 102 then symbol.Filter ∷ symbol.False ∷ []
+    else (if first == 105 then symbol.Int ∷ symbol.Ip ∷ symbol.If ∷ []
+    else (if first == 110 then symbol.Net ∷ []
+    else (if first == 112 then symbol.Prefix ∷ []
+    else (if first == 114 then symbol.Reject ∷ symbol.RipMetric ∷ []
+    else (if first == 116 then symbol.Then ∷ symbol.True ∷ []
+    else [])))))))))
+
 -- whether the language leaves a word out
 unfoldable pub is_left_out : List ℕ → Bool
 is_left_out bytes = list_any (λ word. bytes_eq word bytes) left_out
+
+-- the words left out that begin with a byte
+abbrev pub left_out_with : ℕ → List (List ℕ)
+left_out_with first =
+    if first == 98 then codes "bgppath" ∷ codes "bgpmask" ∷ []
+    else (if first == 99 then codes "case" ∷ codes "clist" ∷ []
+    else (if first == 100 then codes "define" ∷ []
+    else (if first == 101 then codes "ec" ∷ codes "eclist" ∷ []
+    else (if first == 102 then codes "function" ∷ codes "from" ∷ []
+    else (if first == 105 then codes "include" ∷ []
+    else (if first == 108 then codes "lc" ∷ codes "lclist" ∷ []
+    else (if first == 112 then codes "print" ∷ codes "printn" ∷ codes "pair" ∷ codes "proto" ∷ codes "preference" ∷ []
+    else (if first == 113 then codes "quad" ∷ []
+    else (if first == 114 then codes "return" ∷ []
+    else (if first == 115 then codes "string" ∷ codes "set" ∷ codes "source" ∷ []
+    else []))))))))))
 
 -- a name, unless it is too long or left out
 abbrev pub name_in : List ℕ → Option TokenKind

@@ -2,7 +2,7 @@
 
 ghost use Rattle.std.specs.Option.{option_map};
 ghost use Rattle.std.specs.List.{list_any};
-ghost use Rattle.std.specs.Prelude.{◌≡◌, IfErr, find};
+ghost use Rattle.std.specs.Prelude.{◌≡◌, IfErr, find, map};
 ghost use Rattle.std.specs.Str.{bytes_eq};
 ghost use Rattle.filter_tokens.specs.Codes.{fault_place};
 ghost use Rattle.filter_tokens.specs.Reading as spec;
@@ -10,38 +10,12 @@ ghost use Rattle.prefix_patterns.specs.Reading.{address_in, prefix_in};
 
 use crate::fault::TokenFault;
 use crate::shape::Shape;
-use crate::symbol::{KEYWORDS, Symbol};
+use crate::symbol::Symbol;
 use crate::token_kind::TokenKind;
 use prefix_patterns::{read_ip, read_number, read_prefix};
 
 /// The most bytes of a name.
 const NAME_LIMIT: usize = 64;
-
-/// Words of BIRD's filters that are neither names nor keywords here.
-static LEFT_OUT: [&str; 22] = [
-    "case",
-    "function",
-    "define",
-    "print",
-    "printn",
-    "return",
-    "include",
-    "string",
-    "pair",
-    "quad",
-    "ec",
-    "lc",
-    "bgppath",
-    "bgpmask",
-    "clist",
-    "eclist",
-    "lclist",
-    "set",
-    "from",
-    "proto",
-    "preference",
-    "source",
-];
 
 /// The word that bytes of a shape mean. They begin at `at`.
 pub fn meaning(shape: Shape, bytes: &[u8], at: usize) -> Result<TokenKind, TokenFault>
@@ -82,7 +56,27 @@ fn word(bytes: &[u8], at: usize) -> Result<TokenKind, TokenFault>
 fn keyword(bytes: &[u8]) -> Option<Symbol>
     ensures { spec.keyword_in bytes.now ≡ result }
 {
-    symbol_spelled(&KEYWORDS, bytes)
+    let (first, _) = bytes.split_first()?;
+    symbol_spelled(keywords_with(*first), bytes)
+}
+
+/// The keywords that begin with this byte.
+fn keywords_with(first: u8) -> &'static [Symbol]
+    ensures { result.now ≡ spec.keywords_with first }
+{
+    match first {
+        b'a' => &[Symbol::Accept],
+        b'b' => &[Symbol::Bool],
+        b'd' => &[Symbol::Defined],
+        b'e' => &[Symbol::Else],
+        b'f' => &[Symbol::Filter, Symbol::False],
+        b'i' => &[Symbol::Int, Symbol::Ip, Symbol::If],
+        b'n' => &[Symbol::Net],
+        b'p' => &[Symbol::Prefix],
+        b'r' => &[Symbol::Reject, Symbol::RipMetric],
+        b't' => &[Symbol::Then, Symbol::True],
+        _ => &[],
+    }
 }
 
 /// The first of the symbols that is written so.
@@ -102,7 +96,30 @@ fn symbol_spelled(symbols: &[Symbol], bytes: &[u8]) -> Option<Symbol>
 fn is_left_out(bytes: &[u8]) -> bool
     ensures { result ≡ spec.is_left_out bytes.now }
 {
-    is_among(&LEFT_OUT, bytes)
+    match bytes.split_first() {
+        Some((first, _)) => is_among(left_out_with(*first), bytes),
+        None => false,
+    }
+}
+
+/// The words of BIRD's filters that are neither names nor keywords here, and begin with this byte.
+fn left_out_with(first: u8) -> &'static [&'static str]
+    ensures { map (λ word. word.now) result.now ≡ spec.left_out_with first }
+{
+    match first {
+        b'b' => &["bgppath", "bgpmask"],
+        b'c' => &["case", "clist"],
+        b'd' => &["define"],
+        b'e' => &["ec", "eclist"],
+        b'f' => &["function", "from"],
+        b'i' => &["include"],
+        b'l' => &["lc", "lclist"],
+        b'p' => &["print", "printn", "pair", "proto", "preference"],
+        b'q' => &["quad"],
+        b'r' => &["return"],
+        b's' => &["string", "set", "source"],
+        _ => &[],
+    }
 }
 
 /// Whether one of the words is spelled so.

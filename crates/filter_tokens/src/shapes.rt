@@ -7,7 +7,7 @@ ghost use Rattle.filter_tokens.specs.Symbols.{symbol_text};
 
 use crate::byte_class::{ByteClass, begins_word, leading_len};
 use crate::shape::Shape;
-use crate::symbol::{PUNCTUATORS, Symbol};
+use crate::symbol::Symbol;
 
 /// The longest shape at the front of a text, and what follows it.
 #[tactic(auto, unfolding(crate::specs::Reading::longest_shape))]
@@ -139,18 +139,52 @@ fn punctuator(text: &[u8]) -> Option<Symbol>
     ensures is { spec.punctuator_in text.now ≡ result }
     ensures within { IfSome result (λ punctuator. length (symbol_text punctuator) ≤ length text.now) }
 {
-    first_at_front(&PUNCTUATORS, text)
+    let (first, others) = text.split_first()?;
+    match pair(*first, others) {
+        Some(punctuator) => Some(punctuator),
+        None => single(*first),
+    }
 }
 
-/// The first of the symbols that the text begins with.
-fn first_at_front(symbols: &[Symbol], text: &[u8]) -> Option<Symbol>
-    ensures is { find (spec.begins_with_symbol text.now) symbols.now ≡ result }
-    ensures within { IfSome result (λ symbol. length (symbol_text symbol) ≤ length text.now) }
+/// The punctuator of two bytes that begins with this one and goes on as the text does.
+fn pair(first: u8, others: &[u8]) -> Option<Symbol>
+    ensures { spec.pair first others.now ≡ result }
 {
-    for symbol in symbols {
-        if text.starts_with(symbol.text().as_bytes()) {
-            return Some(*symbol);
-        }
+    let second = others.first()?;
+    match (first, *second) {
+        (b'&', b'&') => Some(Symbol::And),
+        (b'|', b'|') => Some(Symbol::Or),
+        (b'!', b'=') => Some(Symbol::NotEqual),
+        (b'!', b'~') => Some(Symbol::NotMatch),
+        (b'<', b'=') => Some(Symbol::LessEqual),
+        (b'>', b'=') => Some(Symbol::GreaterEqual),
+        _ => None,
     }
-    None
+}
+
+/// The punctuator that is this byte.
+fn single(byte: u8) -> Option<Symbol>
+    ensures { spec.single byte ≡ result }
+{
+    match byte {
+        b'(' => Some(Symbol::LeftParen),
+        b')' => Some(Symbol::RightParen),
+        b'{' => Some(Symbol::LeftBrace),
+        b'}' => Some(Symbol::RightBrace),
+        b'[' => Some(Symbol::LeftBracket),
+        b']' => Some(Symbol::RightBracket),
+        b';' => Some(Symbol::Semicolon),
+        b',' => Some(Symbol::Comma),
+        b'.' => Some(Symbol::Dot),
+        b'=' => Some(Symbol::Equal),
+        b'<' => Some(Symbol::Less),
+        b'>' => Some(Symbol::Greater),
+        b'~' => Some(Symbol::Match),
+        b'!' => Some(Symbol::Not),
+        b'+' => Some(Symbol::Plus),
+        b'-' => Some(Symbol::Minus),
+        b'*' => Some(Symbol::Times),
+        b'/' => Some(Symbol::Divide),
+        _ => None,
+    }
 }

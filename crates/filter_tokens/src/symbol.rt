@@ -83,53 +83,6 @@ pub enum Symbol {
     RipMetric,
 }
 
-/// The punctuators, longer ones first.
-pub static PUNCTUATORS: [Symbol; 24] = [
-    Symbol::And,
-    Symbol::Or,
-    Symbol::NotEqual,
-    Symbol::NotMatch,
-    Symbol::LessEqual,
-    Symbol::GreaterEqual,
-    Symbol::LeftParen,
-    Symbol::RightParen,
-    Symbol::LeftBrace,
-    Symbol::RightBrace,
-    Symbol::LeftBracket,
-    Symbol::RightBracket,
-    Symbol::Semicolon,
-    Symbol::Comma,
-    Symbol::Dot,
-    Symbol::Equal,
-    Symbol::Less,
-    Symbol::Greater,
-    Symbol::Match,
-    Symbol::Not,
-    Symbol::Plus,
-    Symbol::Minus,
-    Symbol::Times,
-    Symbol::Divide,
-];
-
-/// The keywords.
-pub static KEYWORDS: [Symbol; 15] = [
-    Symbol::Filter,
-    Symbol::Int,
-    Symbol::Bool,
-    Symbol::Ip,
-    Symbol::Prefix,
-    Symbol::If,
-    Symbol::Then,
-    Symbol::Else,
-    Symbol::Accept,
-    Symbol::Reject,
-    Symbol::True,
-    Symbol::False,
-    Symbol::Defined,
-    Symbol::Net,
-    Symbol::RipMetric,
-];
-
 impl Symbol {
     ghost use Rattle.filter_tokens.specs.Symbols.{symbol_text};
 

@@ -1,0 +1,215 @@
+-- What begins with a byte: the punctuators, the keywords and the words left out, chosen by the first byte of a text.
+use Rattle.std.proofs.Common.{◌≡◌, ℕ, Bool, true, false, List, [], ◌∷◌, ◌||◌, eqb, map, refl, sym, ap, subst}
+use Rattle.std.specs.List.{find, list_any}
+use Rattle.std.specs.Str.{bytes_eq}
+use Rattle.std.proofs.lemmas.Bool.{eqb-true, eqb-false, ne_eqb}
+use Rattle.filter_tokens.specs.Reading.{pair_of, pair, single, pair_or, punctuator_in, is_spelled, keyword_in, keywords_with}
+use Rattle.filter_tokens.specs.Reading.{is_left_out, left_out_with}
+
+by_test : (byte wanted : ℕ) (P : ℕ → Type 0) (same : Bool) → eqb byte wanted ≡ same → P wanted
+    → (eqb byte wanted ≡ false → eqb wanted byte ≡ false → P byte) → P byte
+by_test byte wanted P true e here other = subst P (sym (eqb-true byte wanted e)) here
+by_test byte wanted P false e here other = other e (ne_eqb wanted byte (λ same. eqb-false byte wanted e (sym same)))
+
+-- a byte is the one that is wanted, or it is not
+at_byte : (byte wanted : ℕ) (P : ℕ → Type 0) → P wanted → (eqb byte wanted ≡ false → eqb wanted byte ≡ false → P byte) → P byte
+at_byte byte wanted P here other = by_test byte wanted P (eqb byte wanted) refl here other
+
+-- the longest punctuator of a text is that of its first two bytes, or of its first
+abbrev IsChosen : ℕ → ℕ → List ℕ → Type 0
+IsChosen first second rest = punctuator_in (first ∷ second ∷ rest) ≡ pair_or (pair_of first second) (single first)
+
+-- the longest punctuator, by the first byte and the next
+pub punctuator-by : (first : ℕ) (others : List ℕ) → punctuator_in (first ∷ others) ≡ pair_or (pair first others) (single first)
+unfolding punctuator_in
+punctuator-by first [] =
+    let P : ℕ → Type 0 = λ byte. punctuator_in (byte ∷ []) ≡ single byte in
+    at_byte first 38 P refl (λ a38 b38.
+    at_byte first 124 P refl (λ a124 b124.
+    at_byte first 33 P refl (λ a33 b33.
+    at_byte first 60 P refl (λ a60 b60.
+    at_byte first 62 P refl (λ a62 b62.
+    at_byte first 40 P refl (λ a40 b40.
+    at_byte first 41 P refl (λ a41 b41.
+    at_byte first 123 P refl (λ a123 b123.
+    at_byte first 125 P refl (λ a125 b125.
+    at_byte first 91 P refl (λ a91 b91.
+    at_byte first 93 P refl (λ a93 b93.
+    at_byte first 59 P refl (λ a59 b59.
+    at_byte first 44 P refl (λ a44 b44.
+    at_byte first 46 P refl (λ a46 b46.
+    at_byte first 61 P refl (λ a61 b61.
+    at_byte first 126 P refl (λ a126 b126.
+    at_byte first 43 P refl (λ a43 b43.
+    at_byte first 45 P refl (λ a45 b45.
+    at_byte first 42 P refl (λ a42 b42.
+    at_byte first 47 P refl (λ a47 b47.
+    simp (
+      b38,
+      b124,
+      a33,
+      b33,
+      a60,
+      b60,
+      a62,
+      b62,
+      a40,
+      b40,
+      a41,
+      b41,
+      a123,
+      b123,
+      a125,
+      b125,
+      a91,
+      b91,
+      a93,
+      b93,
+      a59,
+      b59,
+      a44,
+      b44,
+      a46,
+      b46,
+      a61,
+      b61,
+      a126,
+      b126,
+      a43,
+      b43,
+      a45,
+      b45,
+      a42,
+      b42,
+      a47,
+      b47,
+    )))))))))))))))))))))
+punctuator-by first (second ∷ rest) =
+    let P : ℕ → Type 0 = λ byte. IsChosen byte second rest in
+    at_byte first 38 P (at_byte second 38 (λ byte. IsChosen 38 byte rest) refl (λ a38 b38. simp (a38, b38))) (λ a38 b38.
+    at_byte first 124 P (at_byte second 124 (λ byte. IsChosen 124 byte rest) refl (λ a124 b124. simp (a124, b124))) (λ a124 b124.
+    at_byte first 33 P (at_byte second 61 (λ byte. IsChosen 33 byte rest) refl (λ a61 b61.
+    at_byte second 126 (λ byte. IsChosen 33 byte rest) refl (λ a126 b126. simp (a61, b61, a126, b126)))) (λ a33 b33.
+    at_byte first 60 P (at_byte second 61 (λ byte. IsChosen 60 byte rest) refl (λ a61 b61. simp (a61, b61))) (λ a60 b60.
+    at_byte first 62 P (at_byte second 61 (λ byte. IsChosen 62 byte rest) refl (λ a61 b61. simp (a61, b61))) (λ a62 b62.
+    at_byte first 40 P refl (λ a40 b40.
+    at_byte first 41 P refl (λ a41 b41.
+    at_byte first 123 P refl (λ a123 b123.
+    at_byte first 125 P refl (λ a125 b125.
+    at_byte first 91 P refl (λ a91 b91.
+    at_byte first 93 P refl (λ a93 b93.
+    at_byte first 59 P refl (λ a59 b59.
+    at_byte first 44 P refl (λ a44 b44.
+    at_byte first 46 P refl (λ a46 b46.
+    at_byte first 61 P refl (λ a61 b61.
+    at_byte first 126 P refl (λ a126 b126.
+    at_byte first 43 P refl (λ a43 b43.
+    at_byte first 45 P refl (λ a45 b45.
+    at_byte first 42 P refl (λ a42 b42.
+    at_byte first 47 P refl (λ a47 b47.
+    simp (
+      a38,
+      b38,
+      a124,
+      b124,
+      a33,
+      b33,
+      a60,
+      b60,
+      a62,
+      b62,
+      a40,
+      b40,
+      a41,
+      b41,
+      a123,
+      b123,
+      a125,
+      b125,
+      a91,
+      b91,
+      a93,
+      b93,
+      a59,
+      b59,
+      a44,
+      b44,
+      a46,
+      b46,
+      a61,
+      b61,
+      a126,
+      b126,
+      a43,
+      b43,
+      a45,
+      b45,
+      a42,
+      b42,
+      a47,
+      b47,
+    )))))))))))))))))))))
+
+-- whether one of the things that are made from others passes
+pub any_of_map : {X Y : Type 0} (p : Y → Bool) (made : X → Y) (xs : List X) → list_any (λ x. p (made x)) xs ≡ list_any p (map made xs)
+any_of_map p made [] = refl
+any_of_map p made (x ∷ xs) = ap (λ rest. p (made x) || rest) (any_of_map p made xs)
+
+-- the keyword, among those with the same first byte
+pub keyword-by : (first : ℕ) (others : List ℕ) → keyword_in (first ∷ others) ≡ find (is_spelled (first ∷ others)) (keywords_with first)
+unfolding keyword_in
+keyword-by first others =
+    let P : ℕ → Type 0 = λ byte. keyword_in (byte ∷ others) ≡ find (is_spelled (byte ∷ others)) (keywords_with byte) in
+    at_byte first 97 P refl (λ a97 b97.
+    at_byte first 98 P refl (λ a98 b98.
+    at_byte first 100 P refl (λ a100 b100.
+    at_byte first 101 P refl (λ a101 b101.
+    at_byte first 102 P refl (λ a102 b102.
+    at_byte first 105 P refl (λ a105 b105.
+    at_byte first 110 P refl (λ a110 b110.
+    at_byte first 112 P refl (λ a112 b112.
+    at_byte first 114 P refl (λ a114 b114.
+    at_byte first 116 P refl (λ a116 b116.
+    simp (a97, b97, a98, b98, a100, b100, a101, b101, a102, b102, a105, b105, a110, b110, a112, b112, a114, b114, a116, b116)))))))))))
+
+-- whether a word is left out, by those with the same first byte
+pub left_out-by : (first : ℕ) (others : List ℕ)
+    → is_left_out (first ∷ others) ≡ list_any (λ word. bytes_eq word (first ∷ others)) (left_out_with first)
+unfolding is_left_out
+left_out-by first others =
+    let P : ℕ → Type 0 = λ byte. is_left_out (byte ∷ others) ≡ list_any (λ word. bytes_eq word (byte ∷ others)) (left_out_with byte) in
+    at_byte first 98 P refl (λ a98 b98.
+    at_byte first 99 P refl (λ a99 b99.
+    at_byte first 100 P refl (λ a100 b100.
+    at_byte first 101 P refl (λ a101 b101.
+    at_byte first 102 P refl (λ a102 b102.
+    at_byte first 105 P refl (λ a105 b105.
+    at_byte first 108 P refl (λ a108 b108.
+    at_byte first 112 P refl (λ a112 b112.
+    at_byte first 113 P refl (λ a113 b113.
+    at_byte first 114 P refl (λ a114 b114.
+    at_byte first 115 P refl (λ a115 b115.
+    simp (
+      a98,
+      b98,
+      a99,
+      b99,
+      a100,
+      b100,
+      a101,
+      b101,
+      a102,
+      b102,
+      a105,
+      b105,
+      a108,
+      b108,
+      a112,
+      b112,
+      a113,
+      b113,
+      a114,
+      b114,
+      a115,
+      b115,
+    ))))))))))))
