@@ -89,7 +89,7 @@ grown_more {kept_of = kept_of} {old = old} {new = new} {one = one} g s e = recor
 }
 
 -- the first token
-pub spans_one : {x y : Input} {t : Token} → x.tokens.now ≡ t ∷ y.tokens.now → y.text.now ≡ x.text.now → Spans (Some t.from ∷ []) x y
+pub spans_one : {x y : Input} {t : Token} → x.tokens.now ≡ t ∷ y.tokens.now → y.source.now.text.now ≡ x.source.now.text.now → Spans (Some t.from ∷ []) x y
 spans_one {t = t} e same = record { tokens = t ∷ []; whole = e; same_text = same; placed = (refl, tt) }
 
 -- what parts keep that hold no others
@@ -148,12 +148,12 @@ pub all_placed : {start input rest second last : Input} {at : ℕ} {head decls :
     → Spans (None ∷ None ∷ joined (map decl_kept head)) start input → Spans (Some at ∷ []) input rest
     → after_symbol symbols.LeftBrace (remaining input) ≡ Some (remaining rest) → Grown decl_kept head decls rest second
     → Spans (joined (map command_kept body) ++ None ∷ []) second last → last.tokens.now ≡ []
-    → ArePlaced start.text.now start.tokens.now decls body
+    → ArePlaced start.source.now.text.now start.tokens.now decls body
 all_placed {start} {input} {rest} {second} {last} {at} {head} {decls} {body} front brace read grown commands end =
-    let found : remaining input ≡ Lexeme.symbol symbols.LeftBrace ∷ lexemes input.text.now rest.tokens.now =
+    let found : remaining input ≡ Lexeme.symbol symbols.LeftBrace ∷ lexemes input.source.now.text.now rest.tokens.now =
     symbol_found symbols.LeftBrace (remaining input) (remaining rest) read
     ∙ ap (λ (text : List ℕ). Lexeme.symbol symbols.LeftBrace ∷ lexemes text rest.tokens.now) brace.same_text in
-    let one = one_token at input.text.now input.tokens.now brace.tokens rest.tokens.now brace.whole brace.placed found in
+    let one = one_token at input.source.now.text.now input.tokens.now brace.tokens rest.tokens.now brace.whole brace.placed found in
     let back = spans_both grown.spans commands in
     record {
       head = head;

@@ -2,12 +2,14 @@
 use Rattle.std.proofs.Common.{◌≡◌, ℕ, ◌<◌, ◌≤◌, List, [], ◌∷◌, length, Option, Some, None, sym, subst, arith}
 use Rattle.std.specs.Prelude.{IfSome, IsErr, IsErrAnd, MatchResult, Result, Ok, Err}
 use Rattle.filter_tokens.specs.Codes.{fault_place}
+use Rattle.filter_tokens.specs.Lexemes.{lexemes}
 use Rattle.filter_tokens.specs.Tokenization.{AreInOrder}
 use Rattle.filter_tokens.specs.declared.fault.TokenFault.{TokenFault}
 use Rattle.filter_tokens.specs.declared.token.Token.{Token}
 use Rattle.filter_parser.specs.Codes.{LiesWithin}
-use Rattle.filter_parser.specs.Steps.{BeginWithin, EndsWithin}
+use Rattle.filter_parser.specs.Steps.{BeginWithin, EndsWithin, IsWithin, first_place, first_place_of, remaining}
 use Rattle.filter_parser.specs.declared.fault.ParseFault.{ParseFault}
+use Rattle.filter_parser.specs.declared.input.Input.{Input}
 
 order_ends : (from len : ℕ) (tokens : List Token) → AreInOrder from tokens len → from ≤ len
 order_ends from len [] order = order
@@ -39,3 +41,13 @@ pub failed : {A : Type 0} (P : A → Type 0) (len : ℕ) (why : ParseFault) (r :
     → LiesWithin len why → MatchResult r P (LiesWithin len)
 failed P len why (Ok x) h k = absurd h.1
 failed P len why (Err e) h k = subst (LiesWithin len) (sym h.1) k
+
+begins : (len end : ℕ) (text : List ℕ) (tokens : List Token) → BeginWithin len tokens → 0 < length (lexemes text tokens)
+    → first_place_of end tokens < len
+begins len end text [] within some = absurd (omega arith)
+begins len end text (token ∷ tokens) within some = within.0
+
+-- the first token that is left is in the text
+pub first_within : (len : ℕ) (input : Input) → IsWithin len input → 0 < length (remaining input) → first_place input < len
+first_within len input within some =
+    begins len (length input.source.now.text.now) input.source.now.text.now input.tokens.now within.tokens some

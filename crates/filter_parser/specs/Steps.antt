@@ -19,7 +19,7 @@ use Rattle.filter_parser.specs.Placed.{Kept, AreAt, joined}
 
 -- the lexemes that are left
 abbrev pub remaining : Input → List Lexeme
-remaining i = lexemes i.text.now i.tokens.now
+remaining i = lexemes i.source.now.text.now i.tokens.now
 
 -- the place of the first token that is left, and that of the text's end where there is none
 abbrev pub first_place_of : ℕ → List Token → ℕ
@@ -28,13 +28,13 @@ first_place_of end (token ∷ tokens) = token.from
 
 -- the same of what is left to read
 abbrev pub first_place : Input → ℕ
-first_place i = first_place_of (length i.text.now) i.tokens.now
+first_place i = first_place_of (length i.source.now.text.now) i.tokens.now
 
 -- the tokens between two states of the input of one text, and the places that the tree keeps for them
 pub record Spans (kept : Kept) (before after : Input) : Type 0 where
   pub tokens : List Token
   pub whole : before.tokens.now ≡ tokens ++ after.tokens.now
-  pub same_text : after.text.now ≡ before.text.now
+  pub same_text : after.source.now.text.now ≡ before.source.now.text.now
   pub placed : AreAt kept tokens
 
 -- what was read further, after a part that kept so much: the whole keeps this
@@ -59,9 +59,9 @@ EndsWithin len (Some found) = token_fault_place found < len
 
 -- what is left is of a text of so many bytes, in which its tokens and their end have their places
 pub record IsWithin (len : ℕ) (input : Input) : Type 0 where
-  pub text : length input.text.now ≡ len
+  pub text : length input.source.now.text.now ≡ len
   pub tokens : BeginWithin len input.tokens.now
-  pub end : EndsWithin len input.end
+  pub end : EndsWithin len input.source.now.end
 
 -- what is left later is of the same text
 abbrev pub Follows : Input → Input → Type 0
@@ -115,7 +115,7 @@ unexpected_of none [] wanted = none
 unexpected_of none (token ∷ tokens) wanted = unexpected_token token.kind token.from wanted
 
 abbrev pub unexpected : Input → Expected → ParseFault
-unexpected i wanted = unexpected_of (end_fault_of (length i.text.now) i.end) i.tokens.now wanted
+unexpected i wanted = unexpected_of (end_fault_of (length i.source.now.text.now) i.source.now.end) i.tokens.now wanted
 
 -- whether two symbols are the same
 abbrev pub same_symbol : Symbol → Symbol → Bool

@@ -187,7 +187,7 @@ fn parse_variable_assignment<'a>(
     rest: Input<'a>,
 ) -> Result<(Command, Input<'a>), ParseFault>
     ensures reads { ReadsAs spec.command_read_of result
-        (spec.assign_with (expr_at depth) (spec.target_of input.entry.text.now name.now) (remaining rest.entry)) }
+        (spec.assign_with (expr_at depth) (spec.target_of input.entry.source.now.text.now name.now) (remaining rest.entry)) }
     ensures shorter { IfOk result (λ x. length (remaining x.1) < length (remaining rest.entry)) }
     ensures placed { IfOk result (λ x. Continues (Some name.now.from ∷ []) (command_kept x.0) rest.entry x.1) }
     ensures within { StaysWithin rest.entry result }

@@ -43,7 +43,7 @@ fn parse_body<'a>(
 ) -> Result<Parts, ParseFault>
     ensures reads { ReadsAs spec.view_parts result (spec.body_of name.items (map view_decl head.items) (remaining input.entry)) }
     ensures placed { IfOk result (λ parts. (start : TheInput) → Spans (None ∷ None ∷ joined (map decl_kept head.items)) start input.entry
-        → ArePlaced start.text.now start.tokens.now parts.decls.items parts.body.items) }
+        → ArePlaced start.source.now.text.now start.tokens.now parts.decls.items parts.body.items) }
     ensures within { (len : ℕ) → IsWithin len input.entry → IfErr result (LiesWithin len) }
 {
     let rest = input.expect(Symbol::LeftBrace, Expected::Body)?;
@@ -55,7 +55,7 @@ fn parse_body<'a>(
 /// A filter's name, its declarations and its commands, and nothing after it.
 pub fn parse_filter<'a>(alloc: Global, input: Input<'a>) -> Result<Parts, ParseFault>
     ensures reads { ReadsAs spec.view_parts result (spec.filter_of (remaining input.entry)) }
-    ensures placed { IfOk result (λ parts. ArePlaced input.entry.text.now input.entry.tokens.now parts.decls.items parts.body.items) }
+    ensures placed { IfOk result (λ parts. ArePlaced input.entry.source.now.text.now input.entry.tokens.now parts.decls.items parts.body.items) }
     ensures within { (len : ℕ) → IsWithin len input.entry → IfErr result (LiesWithin len) }
 {
     let rest = input.expect(Symbol::Filter, Expected::FilterWord)?;

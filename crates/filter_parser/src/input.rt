@@ -10,15 +10,22 @@ use filter_tokens::{Symbol, Token, TokenFault, TokenKind};
 use prefix_patterns::Prefix;
 use std::alloc::{AllocError, Global};
 
-/// What is left to read: the tokens of a text, and the text.
+/// What the tokens were cut from, and what ended them.
 #[derive(Clone, Copy, Debug)]
-pub struct Input<'a> {
+pub struct Source<'a> {
     /// The whole text.
     pub text: &'a [u8],
-    /// The tokens that are left.
-    pub tokens: &'a [Token],
     /// Why there are no more tokens, where that is not the end of the text.
     pub end: Option<TokenFault>,
+}
+
+/// What is left to read: the tokens of a text, and where they are from.
+#[derive(Clone, Copy, Debug)]
+pub struct Input<'a> {
+    /// Where the tokens are from.
+    pub source: &'a Source<'a>,
+    /// The tokens that are left.
+    pub tokens: &'a [Token],
 }
 
 /// Whether a token is a symbol.
@@ -38,7 +45,7 @@ impl<'a> Input<'a> {
     /// The first token, and what is left after it.
     pub fn next(self) -> Option<(&'a Token, Input<'a>)>
         ensures is { let w = remaining self.entry in
-            MatchOption result (w ≡ []) (λ x. w ≡ lexemes.lexeme self.entry.text.now x.0.now ∷ remaining x.1) }
+            MatchOption result (w ≡ []) (λ x. w ≡ lexemes.lexeme self.entry.source.now.text.now x.0.now ∷ remaining x.1) }
         ensures first { IfSome result (λ x. x.0.now.from ≡ first_place self.entry) }
         ensures placed { IfSome result (λ x. Spans (Some x.0.now.from ∷ []) self.entry x.1) }
         ensures within { IfSome result (λ x. Follows self.entry x.1) }
@@ -47,9 +54,8 @@ impl<'a> Input<'a> {
         Some((
             first,
             Input {
-                text: self.text,
+                source: self.source,
                 tokens,
-                end: self.end,
             },
         ))
     }
@@ -59,19 +65,19 @@ impl<'a> Input<'a> {
         ensures { result ≡ first_place self.entry }
     {
         match self.tokens.first() {
-            None => self.text.len(),
+            None => self.source.text.len(),
             Some(token) => token.from,
         }
     }
 
     /// Why there are no more tokens.
     fn end_fault(self) -> ParseFault
-        ensures is { result ≡ spec.end_fault_of (length self.entry.text.now) self.entry.end }
+        ensures is { result ≡ spec.end_fault_of (length self.entry.source.now.text.now) self.entry.source.now.end }
         ensures not_memory { result ≢ Memory }
         ensures within { FailsWithin self.entry result }
     {
-        match self.end {
-            None => ParseFault::EndsEarly(self.text.len()),
+        match self.source.end {
+            None => ParseFault::EndsEarly(self.source.text.len()),
             Some(fault) => ParseFault::Token(fault),
         }
     }
@@ -99,7 +105,7 @@ impl<'a> Input<'a> {
         ensures shorter { IfSome result (λ rest. length (remaining rest) < length (remaining self.entry)) }
     {
         let (first, rest) = self.next()?;
-        if is_symbol(first, self.text, symbol) {
+        if is_symbol(first, self.source.text, symbol) {
             Some(rest)
         } else {
             None
@@ -188,16 +194,16 @@ impl<'a> Input<'a> {
 
     /// The bytes that a token covers.
     fn covered(self, token: &Token) -> &'a [u8]
-        ensures { result.now ≡ lexemes.covered self.entry.text.now token.now }
+        ensures { result.now ≡ lexemes.covered self.entry.source.now.text.now token.now }
     {
-        let start = token.from.min(self.text.len());
-        let end = token.to.min(self.text.len()).max(start);
-        &self.text[start..end]
+        let start = token.from.min(self.source.text.len());
+        let end = token.to.min(self.source.text.len()).max(start);
+        &self.source.text[start..end]
     }
 
     /// A copy of the bytes that a token covers.
     pub fn bytes(self, alloc: Global, token: &Token) -> Result<Vec<u8>, AllocError>
-        ensures { IfOk result (λ v. v.items ≡ lexemes.covered self.entry.text.now token.now) }
+        ensures { IfOk result (λ v. v.items ≡ lexemes.covered self.entry.source.now.text.now token.now) }
     {
         Vec::from_slice(alloc, self.covered(token))
     }

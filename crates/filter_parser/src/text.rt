@@ -11,7 +11,7 @@ ghost use Rattle.filter_parser.specs.declared.fault.ParseFault.TheVariants.{Memo
 
 use crate::fault::{ParseFault, TEXT_LIMIT};
 use crate::filter::parse_filter;
-use crate::input::Input;
+use crate::input::{Input, Source};
 use crate::tree::Filter;
 use filter_tokens::{Lexed, Token, TokenFault, lex};
 use std::alloc::Global;
@@ -35,12 +35,12 @@ fn filter_of_tokens(
     ensures placed { IfOk result (λ f. IsPlaced text.now f) }
     ensures within { IfErr result (LiesWithin (length text.now)) }
 {
+    let source = Source { text, end: fault };
     let read = parse_filter(
         alloc,
         Input {
-            text,
+            source: &source,
             tokens: tokens.as_slice(),
-            end: fault,
         },
     );
     match read {

@@ -1,5 +1,7 @@
+use Rattle.std.proofs.Common.{◌<◌, length, arith}
+use Rattle.filter_parser.specs.Steps.{remaining}
 use Rattle.filter_parser.proofs.Placing.{spans_as, spans_both, unkept}
-use Rattle.filter_parser.proofs.Within.{failed}
+use Rattle.filter_parser.proofs.Within.{failed, first_within}
 use Rattle.filter_parser.proofs.expr_atom.parse_mask.Goals as goal
 
 pub returns-clause-placed : goal.returns-clause-placed
@@ -22,3 +24,8 @@ pub returns-in_err-rest-clause-within : goal.returns-in_err-rest-clause-within
 returns-in_err-rest-clause-within c = λ len start.
     failed _ len _ c.from_residual-in_err-rest.result c.from_residual-in_err-rest.ensures
     (c.in_err-rest.ensures.within len (c.in_ok-n.ensures.within len (c.in_ok-after.ensures.within len start)))
+
+pub returns-in_default-clause-within : goal.returns-in_default-clause-within
+returns-in_default-clause-within c = λ len start.
+    let some : 0 < length (remaining c.in_ok-after.after) = omega (arith, c.in_ok-n.ensures.shorter) in
+    rw c.at.ensures (first_within len c.in_ok-after.after (c.in_ok-after.ensures.within len start) some)
