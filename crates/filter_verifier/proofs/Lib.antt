@@ -18,3 +18,4 @@ mod Rows
 pub mod Sizes
 pub mod Sound
 pub mod Steps
+pub mod Surveys

@@ -32,11 +32,11 @@ pub record Before (program : CodeView) (size n : ℕ) (in_states : List InState)
   pub deepest : depth ≡ highest program size n
   pub limit : depth ≤ stack_limit
 
-next_joined : (program : CodeView) (size n k : ℕ) → joined_below program size (n + 1) k
+pub next_joined : (program : CodeView) (size n k : ℕ) → joined_below program size (n + 1) k
     ≡ join_two_states (joined_below program size n k) (as_in_state (propagated program n (out_state_at program size n) k))
 next_joined program size n k = rw add-one (joined_next program size n k)
 
-fault_next : (program : CodeView) (size n : ℕ) → first_fault program size (n + 1)
+pub fault_next : (program : CodeView) (size n : ℕ) → first_fault program size (n + 1)
     ≡ or_else (first_fault program size n) (refused_by (out_state_at program size n))
 unfolding first_fault
 fault_next program size n = rw add-one refl
@@ -84,7 +84,7 @@ advanced program size n in_states next depth height before wide none waits heigh
     }
 
 -- what is unknown at some index stays the first such thing
-first_stays : (program : CodeView) (size n more : ℕ) (why : VerifyFault) → first_fault program size n ≡ Some why →
+pub first_stays : (program : CodeView) (size n more : ℕ) (why : VerifyFault) → first_fault program size n ≡ Some why →
     first_fault program size (n + more) ≡ Some why
 unfolding first_fault
 first_stays program size n zero why e = simp unary_clauses e

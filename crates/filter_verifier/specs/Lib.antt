@@ -12,6 +12,7 @@ pub mod Numbers
 pub mod OutStateView
 pub mod Ranges
 pub mod Safe
+pub mod Surveys
 pub mod Transfer
 pub mod ValueWords
 pub mod VerifiedView

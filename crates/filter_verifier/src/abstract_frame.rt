@@ -103,6 +103,13 @@ impl AbstractFrame {
         self.stack.len() as u32
     }
 
+    /// What is known of the places of the stack, the top first.
+    pub fn stack(&self) -> &[Option<Fact>]
+        ensures { result.now ≡ self.now.stack }
+    {
+        &self.stack
+    }
+
     /// What is known of the local variables.
     pub fn locals(&self) -> &[Option<Fact>]
         ensures { result.now ≡ self.now.locals }

@@ -32,6 +32,17 @@ impl InState {
         }
     }
 
+    /// A copy of the in-state.
+    pub fn copy(&self, alloc: Global) -> Result<InState, AllocError>
+        ensures { IfOk result (λ s. in_state_view s ≡ in_state_view self.now) }
+    {
+        match self {
+            InState::Unreached => Ok(InState::Unreached),
+            InState::UnlikeDepths => Ok(InState::UnlikeDepths),
+            InState::Known(frame) => Ok(InState::Known(frame.copy(alloc)?)),
+        }
+    }
+
     /// The join with one more frame.
     pub fn join(&self, alloc: Global, next: &AbstractFrame) -> Result<InState, AllocError>
         ensures { IfOk result (λ s. in_state_view s ≡ join_two_states (in_state_view self.now) (Known next.now)) }

@@ -21,7 +21,7 @@ use filter_code::Code;
 use std::alloc::{AllocError, Global};
 
 /// The in-states before the pass: only the first instruction is reached.
-fn entry_states(alloc: Global, code: &Code) -> Result<Vec<InState>, AllocError>
+pub(crate) fn entry_states(alloc: Global, code: &Code) -> Result<Vec<InState>, AllocError>
     requires { 0 < length code.now.instrs }
     ensures wide { IfOk result (λ v. length v.items ≡ length code.now.instrs) }
     ensures entry { IfOk result (λ v. (k : ℕ) → state_at v.items k ≡ entry_state code.now k) }
@@ -82,7 +82,7 @@ fn propagate(
 }
 
 /// Visits one instruction. The fault of the first test that fails there.
-fn visit(
+pub(crate) fn visit(
     alloc: Global,
     code: &Code,
     size: u32,

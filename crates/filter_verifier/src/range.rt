@@ -140,6 +140,20 @@ impl Range {
         )
     }
 
+    /// The least value.
+    pub fn low(self) -> u32
+        ensures { result ≡ self.low }
+    {
+        self.low
+    }
+
+    /// The greatest value.
+    pub fn high(self) -> u32
+        ensures { result ≡ self.high }
+    {
+        self.high
+    }
+
     /// Whether the int is known to be at least the metric received.
     pub fn is_at_least_received(self) -> bool
         ensures { result ≡ self.at_least_received }
