@@ -8,7 +8,7 @@ use std::test::Fail;
 use worked_rows::{FILTERS, code_of_file, listing};
 
 /// The fault of bytes that are no code file.
-fn fault_of(alloc: Global, bytes: &[u8]) -> Option<FileFault> {
+pub fn fault_of(alloc: Global, bytes: &[u8]) -> Option<FileFault> {
     match read_code(alloc, bytes) {
         Ok(_) => None,
         Err(fault) => Some(fault),

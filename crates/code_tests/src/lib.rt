@@ -4,6 +4,8 @@
 #[cfg(test)]
 mod code_file_tests;
 #[cfg(test)]
+mod damaged_file_tests;
+#[cfg(test)]
 mod filter_code_tests;
 #[cfg(test)]
 mod line_protocol_tests;

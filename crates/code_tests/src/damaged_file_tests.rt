@@ -1,0 +1,59 @@
+//! A code file that was damaged: cut at every length, and with one of its bytes replaced by each value.
+
+use crate::code_file_tests::fault_of;
+use code_file::FileFault;
+
+/// NET, MEMBER, JUMPIFNOT, ACCEPT and REJECT, after a set of one pattern.
+const FILE: [u8; 25] = *b"NCF1\0\x01\0\x01\x01\0\0\0\x08\x0f\x11\0\x05\x12\x51\0\x61\0\x01\x70\x71";
+
+#[test]
+fn a_file_that_is_cut_ends_early(rt: HostRuntime) {
+    let alloc = rt.alloc();
+    for length in 0..FILE.len() {
+        assert_eq!(rt;
+            fault_of(alloc, &FILE[..length]),
+            Some(FileFault::EndsEarly(length)),
+            "{length} bytes"
+        );
+    }
+    assert_eq!(rt; fault_of(alloc, &FILE), None);
+}
+
+/// The place of NET, the first opcode.
+const NET: usize = 17;
+
+/// What the file is refused for if this value stands for NET. MEMBER is then the value's operand, or its first byte.
+fn refused_for(value: u8) -> Option<FileFault> {
+    match value {
+        // No operand.
+        0x12..=0x15 | 0x20..=0x24 | 0x30..=0x33 | 0x40 | 0x41 | 0x50 | 0x70 | 0x71 => None,
+        // An operand of two or four bytes; the last of the five instructions is missing.
+        0x01 | 0x03 | 0x60 | 0x61 => Some(FileFault::EndsEarly(25)),
+        // 0x51 is no truth value and no length of a prefix, and 51.00.61.00/1 has bits after its length.
+        0x02 | 0x04 | 0x42 => Some(FileFault::BadOperand(18)),
+        // An operand of one byte; the next byte, 0, is no opcode.
+        0x10 | 0x11 | 0x51 => Some(FileFault::UnknownOpcode(19)),
+        _ => Some(FileFault::UnknownOpcode(NET)),
+    }
+}
+
+#[test]
+fn an_opcode_that_is_replaced(rt: HostRuntime) {
+    let alloc = rt.alloc();
+    let mut kinds = [0u32; 5];
+    for value in 0..=255u8 {
+        let mut file = FILE;
+        file[NET] = value;
+        let wanted = refused_for(value);
+        assert_eq!(rt; fault_of(alloc, &file), wanted, "opcode {value:x}");
+        let kind = match wanted {
+            None => 0,
+            Some(FileFault::EndsEarly(_)) => 1,
+            Some(FileFault::BadOperand(_)) => 2,
+            Some(FileFault::UnknownOpcode(19)) => 3,
+            Some(_) => 4,
+        };
+        kinds[kind] = kinds[kind].saturating_add(1);
+    }
+    assert_eq!(rt; kinds, [18, 4, 3, 3, 228]);
+}
