@@ -5,10 +5,11 @@ ghost use Rattle.slot_lock.specs.Held.{IsPassOf};
 
 use netchange_core::{Event, Message, Opening};
 use prefix_patterns::{Ip, Prefix};
-use route_history::Journal;
+use route_history::{Journal, replay};
 use route_session::Gate;
 use slot_lock::{Pass, Router};
 use std::alloc::Global;
+use std::process::Abort;
 use std::rt::Clock;
 use std::sync::Wait;
 use std::test::Fail;
@@ -51,6 +52,30 @@ pub fn messages(alloc: Global, told: &[(u16, u16)]) -> Result<Vec<Message>, Fail
         items.push(message(*dest, *dist))?;
     }
     Ok(items)
+}
+
+/// Asserts that the messages that a journal entered in a session are these, in order, and that the journal replays.
+pub fn expect_entered(
+    rt: &impl Abort,
+    alloc: Global,
+    journal: &Journal,
+    session: u32,
+    wanted: &[Message],
+) -> Result<(), Fail> {
+    let mut entered = Vec::new(alloc);
+    for entry in journal.entries() {
+        if let Event::Receive(under, dest, dist) = entry.event {
+            if under == session {
+                entered.push(message(dest, dist))?;
+            }
+        }
+    }
+    assert_eq!(rt; entered.as_slice(), wanted);
+    let tables = replay(alloc, journal.opening(), journal.entries())?;
+    for node in 0..4 {
+        assert_eq!(rt; tables.session(node), journal.session(node));
+    }
+    Ok(())
 }
 
 /// A message.

@@ -2,11 +2,15 @@
 #![tactic(auto)]
 
 #[cfg(test)]
+mod failing_tests;
+#[cfg(test)]
 mod fixtures;
 #[cfg(test)]
 mod gate_tests;
 #[cfg(test)]
 mod link_tests;
+#[cfg(test)]
+mod meanwhile_tests;
 #[cfg(test)]
 mod network_tests;
 #[cfg(test)]

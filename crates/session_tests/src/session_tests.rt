@@ -14,17 +14,13 @@ use std::test::Fail;
 /// A reader of a link that hands out (1,0), (9,0), (2,1) and then has ended, at node 0 of 4 with neighbour 1 up in session 1.
 #[derive(Clone, Copy)]
 struct ReaderRow {
-    /// The limit of the history, which has one entry before the reader begins.
-    limit: u32,
     session: u32,
-    /// The call of the link that fails.
-    fails_at: Option<u64>,
     turns: u32,
     end: ReadEnd,
 }
 
 /// The end of a reader.
-fn end(cause: Cause, entered: u32, lost: Option<Message>) -> ReadEnd {
+pub fn end(cause: Cause, entered: u32, lost: Option<Message>) -> ReadEnd {
     ReadEnd {
         cause,
         entered,
@@ -39,10 +35,10 @@ fn read<R: Wait + Clock, G: Gate>(
     row: &ReaderRow,
     gate: &G,
 ) -> Result<ReadEnd, Fail> {
-    let (router, mut pass) = open(alloc, 4, row.limit)?;
+    let (router, mut pass) = open(alloc, 4, 100)?;
     bring_up(rt, &router, &mut pass, 1)?;
     let waiting = messages(alloc, &[(1, 0), (9, 0), (2, 1)])?;
-    let mut link = MemoryLink::new(alloc, waiting, row.fails_at);
+    let mut link = MemoryLink::new(alloc, waiting, None);
     Ok(read_session(
         rt,
         &router,
@@ -58,9 +54,7 @@ fn read<R: Wait + Clock, G: Gate>(
 /// A row of a history with room, of session 1 and a sound link.
 fn row(turns: u32, end: ReadEnd) -> ReaderRow {
     ReaderRow {
-        limit: 100,
         session: 1,
-        fails_at: None,
         turns,
         end,
     }
@@ -77,30 +71,6 @@ fn readers_end(rt: HostRuntime) -> Result<(), Fail> {
         ReaderRow {
             session: 2,
             ..row(10, end(Cause::Stale, 1, None))
-        },
-        ReaderRow {
-            fails_at: Some(1),
-            ..row(10, end(Cause::LinkFault, 0, None))
-        },
-        ReaderRow {
-            fails_at: Some(3),
-            ..row(10, end(Cause::LinkFault, 2, None))
-        },
-        ReaderRow {
-            fails_at: Some(4),
-            ..row(10, end(Cause::LinkFault, 3, None))
-        },
-        ReaderRow {
-            fails_at: Some(5),
-            ..row(10, end(Cause::LinkEnded, 3, None))
-        },
-        ReaderRow {
-            limit: 1,
-            ..row(10, end(Cause::Full, 0, Some(message(1, 0))))
-        },
-        ReaderRow {
-            limit: 3,
-            ..row(10, end(Cause::Full, 2, Some(message(2, 1))))
         },
     ];
     for wanted in &rows {
@@ -127,20 +97,20 @@ fn readers_end(rt: HostRuntime) -> Result<(), Fail> {
 
 /// A writer of session 1 at node 0 with neighbour 1 up.
 #[derive(Clone, Copy)]
-struct WriterRow {
-    size: u16,
-    limit: u32,
-    session: u32,
-    fails_at: Option<u64>,
-    turns: u32,
-    cause: Cause,
-    sent: u64,
+pub struct WriterRow {
+    pub size: u16,
+    pub limit: u32,
+    pub session: u32,
+    pub fails_at: Option<u64>,
+    pub turns: u32,
+    pub cause: Cause,
+    pub sent: u64,
     /// How many messages are left unsent: the last of those taken.
-    unsent: usize,
+    pub unsent: usize,
 }
 
 /// Asserts how a writer ends, and which messages went out: node 0 at distance 0, and the others out of reach, in order.
-fn expect_written<R: Wait + Clock + Abort>(
+pub fn expect_written<R: Wait + Clock + Abort>(
     rt: &R,
     alloc: Global,
     row: &WriterRow,
@@ -172,7 +142,7 @@ fn expect_written<R: Wait + Clock + Abort>(
 }
 
 /// A row of 4 nodes, of session 1 and a sound link.
-fn writes(turns: u32, cause: Cause, sent: u64, unsent: usize) -> WriterRow {
+pub fn writes(turns: u32, cause: Cause, sent: u64, unsent: usize) -> WriterRow {
     WriterRow {
         size: 4,
         limit: 100,
@@ -189,24 +159,8 @@ fn writes(turns: u32, cause: Cause, sent: u64, unsent: usize) -> WriterRow {
 fn writers_end(rt: HostRuntime) -> Result<(), Fail> {
     let rows = [
         writes(1, Cause::Turns, 4, 0),
-        WriterRow {
-            fails_at: Some(2),
-            ..writes(1, Cause::LinkFault, 1, 3)
-        },
         writes(0, Cause::Turns, 0, 0),
         writes(9, Cause::Turns, 4, 0),
-        WriterRow {
-            fails_at: Some(1),
-            ..writes(9, Cause::LinkFault, 0, 4)
-        },
-        WriterRow {
-            fails_at: Some(4),
-            ..writes(9, Cause::LinkFault, 3, 1)
-        },
-        WriterRow {
-            fails_at: Some(5),
-            ..writes(9, Cause::Turns, 4, 0)
-        },
         WriterRow {
             session: 2,
             ..writes(9, Cause::Stale, 0, 0)
