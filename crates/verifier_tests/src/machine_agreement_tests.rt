@@ -7,6 +7,7 @@ use prefix_patterns::{Ip, Pattern, PatternSet, Prefix};
 use std::alloc::{AllocError, Global};
 use std::process::Abort;
 use std::test::Fail;
+use worked_rows::Numbers;
 
 /// The size of the domain.
 const SIZE: u32 = 64;
@@ -33,64 +34,9 @@ const OPERATIONS: [Instr; 18] = [
     Instr::SetMetric,
 ];
 
-/// Numbers that look random; the same seed gives the same ones.
-#[derive(Drop)]
-struct Numbers {
-    state: u64,
-}
-
-impl Numbers {
-    /// The next number, below a limit that is not 0.
-    fn below(&mut self, limit: u32) -> u32 {
-        self.state = self
-            .state
-            .wrapping_mul(6_364_136_223_846_793_005)
-            .wrapping_add(1_442_695_040_888_963_407);
-        let high = u32::try_from(self.state >> 33).unwrap_or(0);
-        high.checked_rem(limit).unwrap_or(0)
-    }
-
-    /// An address of few distinct first bits, so that many lie within one another.
-    fn ip(&mut self) -> Ip {
-        Ip(
-            self.below(8)
-                .wrapping_mul(0x2000_0000)
-                .wrapping_add(self.below(3)),
-        )
-    }
-
-    /// A prefix of such an address.
-    fn prefix(&mut self) -> Option<Prefix> {
-        let len = match self.below(8) {
-            0 => 0,
-            1 => 1,
-            2 => 2,
-            3 => 3,
-            4 => 8,
-            5 => 30,
-            6 => 31,
-            _ => 32,
-        };
-        Prefix::new(self.ip(), len)
-    }
-
-    /// The number of a local variable, one of four.
-    fn local(&mut self) -> u8 {
-        u8::try_from(self.below(4)).unwrap_or(0)
-    }
-
-    /// An int, often one at a limit.
-    fn int(&mut self) -> u32 {
-        match self.below(7) {
-            0 => 0,
-            1 => 1,
-            2 => 63,
-            3 => 64,
-            4 => u32::MAX,
-            5 => 0x8000_0000,
-            _ => self.below(u32::MAX),
-        }
-    }
+/// The number of a local variable, one of four.
+fn local(numbers: &mut Numbers) -> u8 {
+    u8::try_from(numbers.below(4)).unwrap_or(0)
 }
 
 /// An instruction that pushes a value and takes none.
@@ -103,7 +49,7 @@ fn literal(numbers: &mut Numbers) -> Option<Instr> {
         4 => Instr::Net,
         5 => Instr::Metric,
         6 => Instr::Received,
-        _ => Instr::Load(numbers.local()),
+        _ => Instr::Load(local(numbers)),
     })
 }
 
@@ -116,16 +62,16 @@ fn piece(numbers: &mut Numbers) -> Option<[Option<Instr>; 3]> {
             None,
             None,
         ],
-        15 | 16 => [Some(Instr::Store(numbers.local())), None, None],
+        15 | 16 => [Some(Instr::Store(local(numbers))), None, None],
         17 => [
             Some(Instr::JumpIfNot(2)),
             Some(literal(numbers)?),
-            Some(Instr::Store(numbers.local())),
+            Some(Instr::Store(local(numbers))),
         ],
         18 => [
             Some(Instr::Jump(2)),
             Some(literal(numbers)?),
-            Some(Instr::Store(numbers.local())),
+            Some(Instr::Store(local(numbers))),
         ],
         _ => [
             Some(Instr::JumpIfNot(1)),
@@ -218,7 +164,7 @@ fn count(instrs: &[Instr], opcode: u8) -> usize {
 #[test]
 fn random_code_runs_the_same(rt: HostRuntime) -> Result<(), Fail> {
     let alloc = rt.alloc();
-    let mut numbers = Numbers { state: 2026 };
+    let mut numbers = Numbers::new(2026);
     let mut all = Vec::new(alloc);
     let mut steps: u64 = 0;
     for _ in 0..40 {
