@@ -1,0 +1,66 @@
+//! Code files: what is read is written again as the same bytes.
+
+use crate::inputs::damaged;
+use crate::runs::expect_safe;
+use code_file::{FileFault, read_code, write_code};
+use filter_code::Code;
+use std::alloc::Global;
+use std::process::Abort;
+use std::test::Fail;
+use worked_rows::{FILTERS, Numbers};
+
+/// The code of a file; none where it is refused, at a place of the file or its end.
+fn code_of(rt: &impl Abort, alloc: Global, file: &[u8], seed: u64) -> Result<Option<Code>, Fail> {
+    match read_code(alloc, file) {
+        Ok(code) => Ok(Some(code)),
+        Err(FileFault::Memory) => Err(Fail::from("memory was refused")),
+        Err(fault) => {
+            assert!(rt; fault.at() <= file.len(), "seed {seed}");
+            Ok(None)
+        }
+    }
+}
+
+/// A file: that of a worked filter, damaged, or one of a few instructions.
+fn random_file(alloc: Global, numbers: &mut Numbers) -> Result<Vec<u8>, Fail> {
+    if numbers.below(4) > 0 {
+        let file = hex::decode(alloc, FILTERS[numbers.place(10)].file)?;
+        return Ok(damaged(alloc, numbers, file.as_slice(), 2)?);
+    }
+    let mut file = Vec::from_slice(alloc, b"NCF1\0\0\0")?;
+    let count = numbers.below(12);
+    file.push(u8::try_from(count).unwrap_or(0).saturating_add(1))?;
+    for _ in 0..count {
+        file.push(OPCODES[numbers.place(OPCODES.len())])?;
+    }
+    file.push(0x71)?;
+    Ok(file)
+}
+
+/// Opcodes without an operand. METRIC stands there more than once.
+const OPCODES: [u8; 21] =
+    *b"\x12\x13\x14\x15\x20\x21\x22\x24\x30\x31\x32\x33\x40\x41\x50\x13\x13\x14\x12\x70\x71";
+
+#[test]
+fn files_are_read_as_they_are_written(rt: HostRuntime) -> Result<(), Fail> {
+    let alloc = rt.alloc();
+    let (mut read, mut taken) = (0u32, 0u32);
+    for seed in 0..4_000 {
+        let mut numbers = Numbers::new(seed);
+        let file = random_file(alloc, &mut numbers)?;
+        if let Some(code) = code_of(&rt, alloc, file.as_slice(), seed)? {
+            read = read.saturating_add(1);
+            let written = write_code(alloc, &code)?;
+            assert_eq!(rt; written.as_slice(), file.as_slice(), "seed {seed}");
+            if expect_safe(&rt, alloc, &mut numbers, code, seed)? {
+                taken = taken.saturating_add(1);
+            }
+        }
+    }
+    // Neither all files nor none are code, and neither all code nor none is safe.
+    assert!(rt;
+        300 < taken && taken.saturating_add(300) < read && read < 3_600,
+        "{taken} of {read}"
+    );
+    Ok(())
+}

@@ -1,0 +1,94 @@
+//! Scripts: they are answered in the same way whatever pieces they are read in, with a line for each line that is not skipped.
+
+use crate::inputs::{Pieces, damaged, joined};
+use operator_cmds::run_script;
+use std::alloc::{AllocError, Global};
+use std::test::Fail;
+use worked_rows::Numbers;
+
+/// Lines of a script.
+const LINES: [&str; 24] = [
+    "up 1\n",
+    "up 2\n",
+    "up 7\n",
+    "down 1\r\n",
+    "down 2\n",
+    "recv 1 1 0\n",
+    "recv 1 2 1\n",
+    "recv 2 2 0\n",
+    "  recv 2 3\t2\n",
+    "recv 1 9 1\n",
+    "recv 2 1 99999\n",
+    "take 1\n",
+    "take 2\n",
+    "show 1\n",
+    "show 2\n",
+    "show 3\n",
+    "load F filter f { if rip_metric < 2 then accept; }\n",
+    "load G filter g { rip_metric = rip_metric + 1; accept; }\n",
+    "load F filter f { rip_metric = 1 / rip_metric; }\n",
+    "code H 4e4346310000000170\n",
+    "import 1 F\n",
+    "export 2 G\n",
+    "# nothing\n",
+    "\n",
+];
+
+/// Some lines after the first, with a few bytes changed in one of three scripts.
+fn random_script(alloc: Global, numbers: &mut Numbers) -> Result<Vec<u8>, AllocError> {
+    let first = if numbers.below(4) == 0 {
+        "network 5 0 7\nprefix 3 10.9.0.0/16\n"
+    } else {
+        "network 5 0\n"
+    };
+    let count = numbers.below(40);
+    let script = joined(alloc, numbers, first, &LINES, count, "show 0")?;
+    if numbers.below(3) > 0 {
+        return Ok(script);
+    }
+    damaged(alloc, numbers, script.as_slice(), 4)
+}
+
+/// How many lines are not skipped.
+fn answered_lines(script: &[u8]) -> usize {
+    let mut count: usize = 0;
+    for line in script.split(|byte| *byte == b'\n') {
+        let is_skipped = line.is_empty() || line == b"\r".as_slice() || line.starts_with(b"#");
+        if !is_skipped {
+            count = count.saturating_add(1);
+        }
+    }
+    // A carriage return that no line feed follows is a line.
+    if script.ends_with(b"\n\r") || script == b"\r".as_slice() {
+        count = count.saturating_add(1);
+    }
+    count
+}
+
+#[test]
+fn scripts_are_answered_alike_in_any_pieces(rt: HostRuntime) -> Result<(), Fail> {
+    let alloc = rt.alloc();
+    let mut refused: u64 = 0;
+    for seed in 0..400 {
+        let mut numbers = Numbers::new(seed);
+        let script = random_script(alloc, &mut numbers)?;
+        let (mut whole, mut pieced) = (Vec::new(alloc), Vec::new(alloc));
+        let mut pieces = Pieces {
+            rest: script.as_slice(),
+            most: numbers.place(9).saturating_add(1),
+        };
+        let wanted = run_script(alloc, &mut script.as_slice(), &mut whole)?;
+        let got = run_script(alloc, &mut pieces, &mut pieced)?;
+        assert_eq!(rt; got, wanted, "seed {seed}");
+        assert_eq!(rt; pieced.as_slice(), whole.as_slice(), "seed {seed}");
+        let lines = whole
+            .as_slice()
+            .iter()
+            .filter(|byte| **byte == b'\n')
+            .count();
+        assert_eq!(rt; lines, answered_lines(script.as_slice()), "seed {seed}");
+        refused = refused.saturating_add(u64::from(wanted));
+    }
+    assert!(rt; refused > 400, "{refused} lines refused");
+    Ok(())
+}

@@ -1,0 +1,142 @@
+//! Texts, from the parser to the verifier. What is between the tokens of a filter means nothing.
+
+use crate::inputs::{damaged, joined};
+use crate::runs::expect_safe;
+use code_file::{read_code, write_code};
+use filter_code::Code;
+use filter_compiler::compile;
+use filter_parser::{Filter, ParseFault, parse};
+use filter_types::{TypeFault, check};
+use std::alloc::{AllocError, Global};
+use std::process::Abort;
+use std::test::Fail;
+use worked_rows::{FILTERS, Numbers};
+
+/// Parts of filters, most of them whole.
+const PARTS: [&str; 20] = [
+    "a = a + rip_metric; ",
+    "a = 7 / (a + 1); ",
+    "a = a * 3 - net.len; ",
+    "if a > 3 then ",
+    "if rip_metric < 9 || b then ",
+    "if net ~ [10.0.0.0/8{9,24}, 64.0.0.0/2+] then ",
+    "if net.len <= 20 && p ~ 128.0.0.0/1 then ",
+    "else ",
+    "{ } ",
+    "{ a = 2; b = !b; } ",
+    "rip_metric = 1 + net.len; ",
+    "rip_metric = a; ",
+    "rip_metric = rip_metric + 2; ",
+    "b = net.ip.mask(8) = 10.0.0.0; ",
+    "b = a != 2 && !(a = 5); ",
+    "p = net.ip; ",
+    "accept; ",
+    "accept \"near\"; ",
+    "reject; ",
+    "a = 1 / a; ",
+];
+
+/// A text: some parts of filters in any order, or that of a worked filter, damaged.
+fn random_text(alloc: Global, numbers: &mut Numbers) -> Result<Vec<u8>, AllocError> {
+    if numbers.below(3) > 0 {
+        let first = "filter f int a; bool b; ip p; { ";
+        let count = numbers.below(14);
+        return joined(alloc, numbers, first, &PARTS, count, "accept; }");
+    }
+    let text = FILTERS[numbers.place(10)].text;
+    damaged(alloc, numbers, text.as_bytes(), 4)
+}
+
+/// The tokens of a filter, with a comment after each.
+fn spaced(alloc: Global, text: &[u8], filter: &Filter) -> Result<Vec<u8>, AllocError> {
+    let mut spaced = Vec::new(alloc);
+    for token in filter.tokens() {
+        spaced.extend_from_slice(text.get(token.from..token.to).unwrap_or(&[]))?;
+        spaced.extend_from_slice(b" /* } */\n")?;
+    }
+    Ok(spaced)
+}
+
+/// A filter that parses; none where the text is refused, at a place of it or its end.
+fn filter_of(
+    rt: &impl Abort,
+    alloc: Global,
+    text: &[u8],
+    seed: u64,
+) -> Result<Option<Filter>, Fail> {
+    match parse(alloc, text) {
+        Ok(filter) => Ok(Some(filter)),
+        Err(ParseFault::Memory) => Err(Fail::from("memory was refused")),
+        Err(fault) => {
+            assert!(rt; fault.at() <= text.len(), "seed {seed}");
+            Ok(None)
+        }
+    }
+}
+
+/// The code of a filter; none where it is refused.
+fn code_of(alloc: Global, filter: Filter) -> Result<Option<Code>, Fail> {
+    match check(alloc, filter) {
+        Ok(typed) => Ok(Some(compile(alloc, &typed)?)),
+        Err(TypeFault::Memory) => Err(Fail::from("memory was refused")),
+        Err(_) => Ok(None),
+    }
+}
+
+/// The file of the code that a filter has, with its tokens spaced; none where it has none.
+fn spaced_file(alloc: Global, spaced: &[u8]) -> Result<Option<Vec<u8>>, Fail> {
+    match code_of(alloc, parse(alloc, spaced)?)? {
+        Some(code) => Ok(Some(write_code(alloc, &code)?)),
+        None => Ok(None),
+    }
+}
+
+/// Asserts the laws of a filter. Says whether its code was taken by the verifier.
+fn expect_laws(
+    rt: &impl Abort,
+    alloc: Global,
+    numbers: &mut Numbers,
+    text: &[u8],
+    seed: u64,
+) -> Result<Option<bool>, Fail> {
+    let Some(filter) = filter_of(rt, alloc, text, seed)? else {
+        return Ok(None);
+    };
+    let again = spaced_file(alloc, spaced(alloc, text, &filter)?.as_slice())?;
+    let Some(code) = code_of(alloc, filter)? else {
+        assert!(rt; again.is_none(), "seed {seed}");
+        return Ok(Some(false));
+    };
+    let file = write_code(alloc, &code)?;
+    assert_eq!(rt;
+        again.ok_or("spaced code")?.as_slice(),
+        file.as_slice(),
+        "seed {seed}"
+    );
+    let read = read_code(alloc, file.as_slice())?;
+    assert_eq!(rt; read.instrs(), code.instrs(), "seed {seed}");
+    Ok(Some(expect_safe(rt, alloc, numbers, code, seed)?))
+}
+
+#[test]
+fn filters_mean_the_same_however_they_are_laid_out(rt: HostRuntime) -> Result<(), Fail> {
+    let alloc = rt.alloc();
+    let (mut parsed, mut taken) = (0u32, 0u32);
+    for seed in 0..2_000 {
+        let mut numbers = Numbers::new(seed);
+        let text = random_text(alloc, &mut numbers)?;
+        match expect_laws(&rt, alloc, &mut numbers, text.as_slice(), seed)? {
+            None => {}
+            Some(is_taken) => {
+                parsed = parsed.saturating_add(1);
+                taken = taken.saturating_add(u32::from(is_taken));
+            }
+        }
+    }
+    // Neither all texts nor none are filters, and neither all filters nor none are safe.
+    assert!(rt;
+        200 < taken && taken.saturating_add(100) < parsed && parsed < 1_800,
+        "{taken} of {parsed}"
+    );
+    Ok(())
+}
