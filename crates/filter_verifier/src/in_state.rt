@@ -43,14 +43,14 @@ impl InState {
         }
     }
 
-    /// The join with one more frame.
-    pub fn join(&self, alloc: Global, next: &AbstractFrame) -> Result<InState, AllocError>
-        ensures { IfOk result (λ s. in_state_view s ≡ join_two_states (in_state_view self.now) (Known next.now)) }
+    /// The join with one more frame, which is kept as it is if no other path has led here.
+    pub fn join(&self, alloc: Global, next: AbstractFrame) -> Result<InState, AllocError>
+        ensures { IfOk result (λ s. in_state_view s ≡ join_two_states (in_state_view self.now) (Known next)) }
     {
         match self {
-            InState::Unreached => Ok(InState::Known(next.copy(alloc)?)),
+            InState::Unreached => Ok(InState::Known(next)),
             InState::UnlikeDepths => Ok(InState::UnlikeDepths),
-            InState::Known(frame) => join_known(alloc, frame, next),
+            InState::Known(frame) => join_known(alloc, frame, &next),
         }
     }
 }

@@ -40,13 +40,13 @@ fn join_into(
     alloc: Global,
     in_states: &mut Vec<InState>,
     target: usize,
-    next: &AbstractFrame,
+    next: AbstractFrame,
 ) -> Result<(), AllocError>
     requires { target < length in_states.old.items }
     ensures wide { IfOk result (λ _. length in_states.new.items ≡ length in_states.old.items) }
     ensures joined { IfOk result (λ _. (k : ℕ) → state_at in_states.new.items k
         ≡ (if target == k
-        then join_two_states (state_at in_states.old.items k) (Known next.now)
+        then join_two_states (state_at in_states.old.items k) (Known next)
         else state_at in_states.old.items k)) }
 {
     let joined = in_states[target].join(alloc, next)?;
@@ -60,23 +60,22 @@ fn propagate(
     in_states: &mut Vec<InState>,
     at: usize,
     successors: Successors,
-    next: &AbstractFrame,
+    next: AbstractFrame,
 ) -> Result<(), AllocError>
     requires { leads_below at (length in_states.old.items) (offsets successors) ≡ true }
     ensures wide { IfOk result (λ _. length in_states.new.items ≡ length in_states.old.items) }
     ensures propagated { IfOk result (λ _. (k : ℕ) → state_at in_states.new.items k
         ≡ join_two_states (state_at in_states.old.items k)
-        (if leads_to at k (offsets successors) then Known next.now else Unreached)) }
+        (if leads_to at k (offsets successors) then Known next else Unreached)) }
 {
     match successors {
         Successors::Nowhere => Ok(()),
         Successors::One(offset) => join_into(alloc, in_states, at + offset, next),
         Successors::Either(a, b) => {
-            join_into(alloc, in_states, at + a, next)?;
-            if a == b {
-                return Ok(());
+            if a != b {
+                join_into(alloc, in_states, at + b, next.copy(alloc)?)?;
             }
-            join_into(alloc, in_states, at + b, next)
+            join_into(alloc, in_states, at + a, next)
         }
     }
 }
@@ -106,7 +105,7 @@ pub(crate) fn visit(
                 in_states,
                 at,
                 Successors::of(code.instrs()[at]),
-                &next,
+                next,
             )?;
             Ok(None)
         }
