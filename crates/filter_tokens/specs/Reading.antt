@@ -51,12 +51,17 @@ after_address text = do
   rest ← after_byte dot rest
   after_digits rest
 
+-- after a slash and digits
+abbrev pub after_length : List ℕ → Option (List ℕ)
+after_length text = do
+  rest ← after_byte slash text
+  after_digits rest
+
 -- after an address, a slash and digits
 unfoldable pub after_prefix : List ℕ → Option (List ℕ)
 after_prefix text = do
   rest ← after_address text
-  rest ← after_byte slash rest
-  after_digits rest
+  after_length rest
 
 -- after a `0x` and the hexadecimal digits that follow, if any do
 unfoldable pub after_hexadecimal : List ℕ → Option (List ℕ)

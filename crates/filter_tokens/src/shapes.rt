@@ -28,32 +28,30 @@ pub fn longest_shape(text: &[u8]) -> Option<(Shape, &[u8])>
 }
 
 /// The longest shape at the front of a text that begins with a digit.
-#[tactic(auto, unfolding(crate::specs::Reading::digits_shape))]
+#[tactic(auto, unfolding(crate::specs::Reading::digits_shape, crate::specs::Reading::after_prefix))]
 fn digits_shape(text: &[u8]) -> (Shape, &[u8])
     ensures { spec.digits_shape text.now ≡ (result.0, result.1.now) }
 {
-    if let Some(rest) = after_prefix(text) {
-        return (Shape::Prefix, rest);
-    }
     if let Some(rest) = after_address(text) {
-        return (Shape::Address, rest);
+        return match after_length(rest) {
+            Some(end) => (Shape::Prefix, end),
+            None => (Shape::Address, rest),
+        };
     }
-    if let Some(rest) = after_hexadecimal(text) {
-        return (Shape::Hexadecimal, rest);
+    match after_hexadecimal(text) {
+        Some(rest) => (Shape::Hexadecimal, rest),
+        None => (
+            Shape::Decimal,
+            &text[leading_len(ByteClass::Digits, text)..],
+        ),
     }
-    (
-        Shape::Decimal,
-        &text[leading_len(ByteClass::Digits, text)..],
-    )
 }
 
-/// After a prefix.
-#[tactic(auto, unfolding(crate::specs::Reading::after_prefix))]
-fn after_prefix(text: &[u8]) -> Option<&[u8]>
-    ensures { spec.after_prefix text.now ≡ option_map (λ rest. rest.now) result }
+/// After a slash and digits.
+fn after_length(text: &[u8]) -> Option<&[u8]>
+    ensures { spec.after_length text.now ≡ option_map (λ rest. rest.now) result }
 {
-    let rest = after_address(text)?;
-    let rest = after_byte(rest, b'/')?;
+    let rest = after_byte(text, b'/')?;
     after_digits(rest)
 }
 
