@@ -1,9 +1,10 @@
-pub mod FirstBytes
 pub mod Finding
+pub mod FirstBytes
 pub mod Forms
 pub mod Fronts
 pub mod Longest
 pub mod Meanings
+pub mod OnePass
 pub mod PartLaws
 pub mod Punctuators
 pub mod Rows

@@ -63,7 +63,7 @@ begun_by_digits text rest e =
     let P : List ℕ → Type 0 = λ t. longest_shape t ≡ Some (digits_shape t) in
     subst P (sym stands.whole) (by_digits stands.bytes rest stands.is)
 
-address_begins : (text rest : List ℕ) → after_address text ≡ Some rest → longest_shape text ≡ Some (digits_shape text)
+pub address_begins : (text rest : List ℕ) → after_address text ≡ Some rest → longest_shape text ≡ Some (digits_shape text)
 unfolding after_address
 address_begins text rest e = bind_some _ _ _ e (λ (one : List ℕ) (at_one : after_digits text ≡ Some one) e. begun_by_digits text one at_one)
 
@@ -127,7 +127,7 @@ no_hexadecimal_as x is (Some rest) e =
 
 -- ---- what each form of number is, where there is one
 
-prefix_is : (text rest : List ℕ) → after_prefix text ≡ Some rest → digits_shape text ≡ a_shape shape.Prefix rest
+pub prefix_is : (text rest : List ℕ) → after_prefix text ≡ Some rest → digits_shape text ≡ a_shape shape.Prefix rest
 unfolding digits_shape
 prefix_is text rest e = rw e refl
 

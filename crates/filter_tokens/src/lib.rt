@@ -4,6 +4,7 @@
 mod byte_class;
 mod fault;
 mod gaps;
+mod leading;
 mod meaning;
 mod part;
 mod parts;

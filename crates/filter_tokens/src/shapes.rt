@@ -92,7 +92,7 @@ fn after_digits(text: &[u8]) -> Option<&[u8]>
 }
 
 /// What follows a byte that has to come first.
-fn after_byte(text: &[u8], wanted: u8) -> Option<&[u8]>
+pub fn after_byte(text: &[u8], wanted: u8) -> Option<&[u8]>
     ensures { spec.after_byte wanted text.now ≡ option_map (λ rest. rest.now) result }
 {
     let (first, rest) = text.split_first()?;
