@@ -1,5 +1,6 @@
 //! A set, a code and its file: built, read and written, with memory and without.
 
+use crate::refusals::answered;
 use code_file::{FileFault, read_code, write_code};
 use filter_code::{Code, Instr, Outcome, Route, run_checked};
 use prefix_patterns::{Ip, Pattern, PatternSet, Prefix, SetFault};
@@ -47,7 +48,7 @@ fn a_set_is_built_or_s2(rt: HostRuntime) -> Result<(), Fail> {
         let set = PatternSet::build(rt.alloc(), &given)?;
         assert_eq!(rt; set.patterns(), given.as_slice());
     }
-    let set = built?;
+    let set = built.map_err(|fault| answered("build", fault))?;
     assert_eq!(rt; set.patterns(), given.as_slice());
     Ok(())
 }
@@ -63,7 +64,7 @@ fn a_large_set_is_built_or_s2(rt: HostRuntime) -> Result<(), Fail> {
         let set = PatternSet::build(rt.alloc(), &given)?;
         assert_eq!(rt; set.patterns(), given.as_slice());
     }
-    let set = built?;
+    let set = built.map_err(|fault| answered("build", fault))?;
     assert_eq!(rt; set.patterns(), given.as_slice());
     assert!(rt; set.matches(&first.prefix()));
     Ok(())
@@ -78,7 +79,7 @@ fn a_file_is_read_or_c7(rt: HostRuntime) -> Result<(), Fail> {
         let code = read_code(rt.alloc(), &FILE)?;
         expect_code(&rt, &code, &patterns);
     }
-    let code = read?;
+    let code = read.map_err(|fault| answered("read_code", fault))?;
     expect_code(&rt, &code, &patterns);
     Ok(())
 }
@@ -94,7 +95,7 @@ fn a_file_is_written_or_c7(rt: HostRuntime) -> Result<(), Fail> {
         let bytes = write_code(rt.alloc(), &code)?;
         assert_eq!(rt; bytes.as_slice(), FILE.as_slice());
     }
-    let bytes = written?;
+    let bytes = written.map_err(|fault| answered("write_code", fault))?;
     assert_eq!(rt; bytes.as_slice(), FILE.as_slice());
     Ok(())
 }

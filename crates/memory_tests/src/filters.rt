@@ -1,5 +1,6 @@
 //! A filter's text: read, judged and compiled, with memory and without.
 
+use crate::refusals::answered;
 use filter_code::{Code, Instr};
 use filter_compiler::{CompileFault, compile};
 use filter_parser::{Filter, ParseFault, parse};
@@ -117,7 +118,8 @@ fn a_text_is_read_or_p11(rt: HostRuntime) -> Result<(), Fail> {
         assert_eq!(rt; (fault.code(), fault.at()), ("P11", 0));
         expect_tree(&rt, &parse(rt.alloc(), TEXT.as_bytes())?)?;
     }
-    expect_tree(&rt, &read?)?;
+    let filter = read.map_err(|fault| answered("parse", fault))?;
+    expect_tree(&rt, &filter)?;
     Ok(())
 }
 
@@ -130,7 +132,8 @@ fn a_filter_is_judged_or_y6(rt: HostRuntime) -> Result<(), Fail> {
         let again = parse(rt.alloc(), TEXT.as_bytes())?;
         expect_typed(&rt, &check(rt.alloc(), again)?)?;
     }
-    expect_typed(&rt, &judged?)?;
+    let typed = judged.map_err(|fault| answered("check", fault))?;
+    expect_typed(&rt, &typed)?;
     Ok(())
 }
 
@@ -143,5 +146,6 @@ fn a_filter_is_compiled_or_g3(rt: HostRuntime) -> Result<(), Fail> {
         assert_eq!(rt; (fault.code(), fault.at()), ("G3", 0));
         expect_code(&rt, &compile(rt.alloc(), &typed)?)?;
     }
-    expect_code(&rt, &compiled?)
+    let code = compiled.map_err(|fault| answered("compile", fault))?;
+    expect_code(&rt, &code)
 }

@@ -1,5 +1,6 @@
 //! A journal and its replay, with memory and without.
 
+use crate::refusals::answered;
 use netchange_core::{Event, Message, Messages, Opening, Reply};
 use prefix_patterns::{Ip, Prefix};
 use route_history::{CallFault, Journal, ReplayFault, replay};
@@ -48,6 +49,19 @@ pub fn expect_answer(
 }
 
 #[test]
+fn a_journal_is_opened_or_not(rt: HostRuntime) -> Result<(), Fail> {
+    let alloc = rt.alloc();
+    let opened = Journal::open(alloc, opening(alloc)?, 3);
+    if opened.is_err() {
+        let again = Journal::open(alloc, opening(alloc)?, 3)?;
+        assert_eq!(rt; (again.limit(), again.entries().len()), (3, 0));
+    }
+    let journal = opened.map_err(|error| answered("Journal::open", error))?;
+    assert_eq!(rt; (journal.limit(), journal.entries().len()), (3, 0));
+    Ok(())
+}
+
+#[test]
 fn an_event_is_entered_or_j2_and_the_journal_stays(rt: HostRuntime) -> Result<(), Fail> {
     let alloc = rt.alloc();
     let mut journal = Journal::open(alloc, opening(alloc)?, 3)?;
@@ -59,7 +73,7 @@ fn an_event_is_entered_or_j2_and_the_journal_stays(rt: HostRuntime) -> Result<()
                 assert_eq!(rt; (fault.code(), fault.at()), ("J2", 0));
                 assert_eq!(rt; journal.entries().len(), at as usize);
                 expect_answer(&rt, alloc, at, journal.apply(event(at))?)?;
-                return Err(Fail::from(fault));
+                return Err(answered("Journal::apply", fault));
             }
         }
     }
@@ -69,7 +83,7 @@ fn an_event_is_entered_or_j2_and_the_journal_stays(rt: HostRuntime) -> Result<()
             assert_eq!(rt; fault, ReplayFault::Memory);
             let tables = replay(alloc, journal.opening(), journal.entries())?;
             assert_eq!(rt; tables.session(1), 1);
-            return Err(Fail::from(fault));
+            return Err(answered("replay", fault));
         }
     }
     Ok(())

@@ -1,7 +1,7 @@
 //! Tests of each call that asks for memory, where it is refused.
 //!
 //! `scripts/refuse_memory.sh` runs them with one allocation refused at a time. A test passes with ample memory by
-//! comparing the answer; where a call was refused, the test looks at what is left, and then ends with the error.
+//! comparing the answer; where a call was refused, the test looks at what is left, and then ends with what the call answered.
 #![tactic(auto)]
 
 #[cfg(test)]
@@ -14,6 +14,12 @@ mod history;
 mod lines;
 #[cfg(test)]
 mod lock;
+#[cfg(test)]
+mod refusals;
+#[cfg(test)]
+mod scripts;
+#[cfg(test)]
+mod sessions;
 #[cfg(test)]
 mod sources;
 #[cfg(test)]

@@ -1,5 +1,6 @@
 //! Lines that are answered block by block, with memory and without.
 
+use crate::refusals::answered;
 use line_protocol::{Reply, Service, StreamFault, answer_lines, push_decimal, push_refusal};
 use std::alloc::{AllocError, Global};
 use std::io::{self, Read, Write};
@@ -7,8 +8,8 @@ use std::test::Fail;
 
 /// Gives a few bytes a read.
 #[derive(Drop)]
-struct Pieces<'a> {
-    rest: &'a [u8],
+pub struct Pieces<'a> {
+    pub rest: &'a [u8],
 }
 
 impl Read for Pieces<'_> {
@@ -22,21 +23,28 @@ impl Read for Pieces<'_> {
 
 /// Holds what was written. It needs no memory.
 #[derive(Drop)]
-struct Page {
-    held: [u8; 64],
+pub struct Page {
+    held: [u8; 96],
     len: usize,
 }
 
 impl Page {
-    fn text(&self) -> &[u8] {
-        &self.held[..self.len.min(64)]
+    pub fn new() -> Page {
+        Page {
+            held: [0; 96],
+            len: 0,
+        }
+    }
+
+    pub fn text(&self) -> &[u8] {
+        &self.held[..self.len.min(96)]
     }
 }
 
 impl Write for Page {
     fn write(&mut self, buf: &[u8]) -> io::Result<usize> {
-        let from = self.len.min(64);
-        let count = buf.len().min(64 - from);
+        let from = self.len.min(96);
+        let count = buf.len().min(96 - from);
         self.held[from..from + count].copy_from_slice(&buf[..count]);
         self.len = from + count;
         Ok(count)
@@ -78,18 +86,15 @@ fn lines_are_answered_or_e3(rt: HostRuntime) -> Result<(), Fail> {
     let mut reader = Pieces {
         rest: b"one\n# two\n!three\nfour and a long one\nfive",
     };
-    let mut out = Page {
-        held: [0; 64],
-        len: 0,
-    };
+    let mut out = Page::new();
     let wanted = b"1 one\nrefused O9 3\n4 four and a long one\n5 five\n";
-    let answered = answer_lines(rt.alloc(), &mut reader, &mut out, &mut Echo);
-    if let Err(fault) = &answered {
+    let result = answer_lines(rt.alloc(), &mut reader, &mut out, &mut Echo);
+    if let Err(fault) = &result {
         assert_eq!(rt; *fault, StreamFault::Memory);
         assert!(rt; wanted.starts_with(out.text()));
         assert!(rt; out.text().is_empty() || out.text().ends_with(b"\n"));
     }
-    let refused = answered?;
+    let refused = result.map_err(|fault| answered("answer_lines", fault))?;
     assert_eq!(rt; refused, 1);
     assert_eq!(rt; out.text(), wanted.as_slice());
     Ok(())

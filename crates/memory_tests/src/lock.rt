@@ -1,20 +1,22 @@
 //! A router that is called by passes, with memory and without.
 
-ghost use Rattle.std.specs.Prelude.{IfOk};
+ghost use Rattle.std.specs.Prelude.{◌≤◌, IfOk};
 ghost use Rattle.slot_lock.specs.Held.{IsFirst};
 
 use crate::history::{event, expect_answer, opening};
-use route_history::{CallFault, Journal};
+use crate::refusals::answered;
+use route_history::{CallFault, Journal, LARGEST_LIMIT};
 use slot_lock::{LockFault, Pass, Router, TryFault};
 use std::alloc::Global;
 use std::process::Abort;
 use std::test::Fail;
 
-/// A router whose history has room for three entries, with its first pass.
-fn open(alloc: Global) -> Result<Result<(Router, Pass), LockFault>, Fail>
+/// A router whose history has room for so many entries, with its first pass.
+fn open(alloc: Global, limit: u32) -> Result<Result<(Router, Pass), LockFault>, Fail>
+    requires { (1 ≤ limit) × (limit ≤ LARGEST_LIMIT) }
     ensures { IfOk result (λ r. IfOk r (λ o. IsFirst o.0 o.1)) }
 {
-    let journal = Journal::open(alloc, opening(alloc)?, 3)?;
+    let journal = Journal::open(alloc, opening(alloc)?, limit)?;
     match Router::open(alloc, journal) {
         Ok(opened) => Ok(Ok(opened)),
         Err(fault) => Ok(Err(fault)),
@@ -22,10 +24,11 @@ fn open(alloc: Global) -> Result<Result<(Router, Pass), LockFault>, Fail>
 }
 
 /// A router, where there is memory for it.
-fn opened(alloc: Global) -> Result<(Router, Pass), Fail>
+pub fn opened(alloc: Global, limit: u32) -> Result<(Router, Pass), Fail>
+    requires { (1 ≤ limit) × (limit ≤ LARGEST_LIMIT) }
     ensures { IfOk result (λ o. IsFirst o.0 o.1) }
 {
-    match open(alloc)? {
+    match open(alloc, limit)? {
         Ok(opened) => Ok(opened),
         Err(fault) => Err(Fail::from(fault)),
     }
@@ -34,7 +37,7 @@ fn opened(alloc: Global) -> Result<(Router, Pass), Fail>
 #[test]
 fn a_router_is_opened_or_l3(rt: HostRuntime) -> Result<(), Fail> {
     let alloc = rt.alloc();
-    match open(alloc)? {
+    match open(alloc, 3)? {
         Ok((router, pass)) => {
             assert_eq!(rt; pass.shares(), 65_536);
             let journal = router.close(pass)?;
@@ -44,9 +47,9 @@ fn a_router_is_opened_or_l3(rt: HostRuntime) -> Result<(), Fail> {
         Err(fault) => {
             assert_eq!(rt; fault, LockFault::Memory);
             assert_eq!(rt; (fault.code(), fault.at()), ("L3", 0));
-            let (_router, pass) = opened(alloc)?;
+            let (_router, pass) = opened(alloc, 3)?;
             assert_eq!(rt; pass.shares(), 65_536);
-            Err(Fail::from(fault))
+            Err(answered("Router::open", fault))
         }
     }
 }
@@ -54,7 +57,7 @@ fn a_router_is_opened_or_l3(rt: HostRuntime) -> Result<(), Fail> {
 #[test]
 fn a_try_is_entered_or_j2_and_the_pass_stays(rt: HostRuntime) -> Result<(), Fail> {
     let alloc = rt.alloc();
-    let (router, mut pass) = opened(alloc)?;
+    let (router, mut pass) = opened(alloc, 3)?;
     for at in 0..3 {
         match router.try_call(&mut pass, event(at)) {
             Ok(answer) => expect_answer(&rt, alloc, at, (answer.at, answer.reply))?,
@@ -65,11 +68,13 @@ fn a_try_is_entered_or_j2_and_the_pass_stays(rt: HostRuntime) -> Result<(), Fail
                 expect_answer(&rt, alloc, at, (answer.at, answer.reply))?;
                 let journal = router.close(pass)?;
                 assert_eq!(rt; journal.entries().len(), at as usize + 1);
-                return Err(Fail::from(fault));
+                return Err(answered("try_call", fault));
             }
         }
     }
-    let journal = router.close(pass)?;
+    let journal = router
+        .close(pass)
+        .map_err(|fault| answered("close", fault))?;
     assert_eq!(rt; journal.entries().len(), 3);
     Ok(())
 }
@@ -77,7 +82,7 @@ fn a_try_is_entered_or_j2_and_the_pass_stays(rt: HostRuntime) -> Result<(), Fail
 #[test]
 fn a_call_is_entered_or_j2_and_the_pass_stays(rt: HostRuntime) -> Result<(), Fail> {
     let alloc = rt.alloc();
-    let (router, mut pass) = opened(alloc)?;
+    let (router, mut pass) = opened(alloc, 3)?;
     for at in 0..3 {
         match router.call(&rt, &mut pass, event(at)) {
             Ok(answer) => expect_answer(&rt, alloc, at, (answer.at, answer.reply))?,
@@ -88,11 +93,13 @@ fn a_call_is_entered_or_j2_and_the_pass_stays(rt: HostRuntime) -> Result<(), Fai
                 expect_answer(&rt, alloc, at, (answer.at, answer.reply))?;
                 let journal = router.close(pass)?;
                 assert_eq!(rt; journal.entries().len(), at as usize + 1);
-                return Err(Fail::from(fault));
+                return Err(answered("call", fault));
             }
         }
     }
-    let journal = router.close(pass)?;
+    let journal = router
+        .close(pass)
+        .map_err(|fault| answered("close", fault))?;
     assert_eq!(rt; journal.entries().len(), 3);
     Ok(())
 }

@@ -1,5 +1,6 @@
 //! A filter's text and a code file as sources of verified code, with memory and without.
 
+use crate::refusals::answered;
 use filter_code::{Code, Instr};
 use filter_source::{Failure, compile_text, read_file, read_hexadecimal, verify_code};
 use filter_verifier::Verified;
@@ -51,7 +52,8 @@ fn a_text_has_code_or_memory_is_refused(rt: HostRuntime) -> Result<(), Fail> {
         assert_eq!(rt; *failure, Failure::Memory);
         expect_code(&rt, &compile_text(rt.alloc(), TEXT.as_bytes())?);
     }
-    expect_code(&rt, &compiled?);
+    let code = compiled.map_err(|failure| answered("compile_text", failure))?;
+    expect_code(&rt, &code);
     Ok(())
 }
 
@@ -62,7 +64,8 @@ fn a_file_has_code_or_memory_is_refused(rt: HostRuntime) -> Result<(), Fail> {
         assert_eq!(rt; *failure, Failure::Memory);
         expect_code(&rt, &read_file(rt.alloc(), FILE)?);
     }
-    expect_code(&rt, &read?);
+    let code = read.map_err(|failure| answered("read_file", failure))?;
+    expect_code(&rt, &code);
     Ok(())
 }
 
@@ -73,7 +76,8 @@ fn digits_have_code_or_memory_is_refused(rt: HostRuntime) -> Result<(), Fail> {
         assert_eq!(rt; *failure, Failure::Memory);
         expect_code(&rt, &read_hexadecimal(rt.alloc(), DIGITS.as_bytes())?);
     }
-    expect_code(&rt, &read?);
+    let code = read.map_err(|failure| answered("read_hexadecimal", failure))?;
+    expect_code(&rt, &code);
     Ok(())
 }
 
@@ -85,6 +89,7 @@ fn code_is_verified_or_memory_is_refused(rt: HostRuntime) -> Result<(), Fail> {
         let again = verify_code(rt.alloc(), read_file(rt.alloc(), FILE)?, SIZE)?;
         expect_verified(&rt, &again);
     }
-    expect_verified(&rt, &verified?);
+    let verified = verified.map_err(|failure| answered("verify_code", failure))?;
+    expect_verified(&rt, &verified);
     Ok(())
 }

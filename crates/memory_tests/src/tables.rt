@@ -1,5 +1,6 @@
 //! A router's tables, with memory and without.
 
+use crate::refusals::answered;
 use filter_code::{Code, Instr};
 use filter_verifier::{Verified, verify};
 use netchange_core::{Event, Message, Opening, Reply, Tables, Via};
@@ -66,7 +67,7 @@ fn apply_twice(
         Err(error) => {
             expect_tables(rt, tables)?;
             assert!(rt; tables.apply(event)?.is_same(wanted));
-            Err(Fail::from(error))
+            Err(answered("Tables::apply", error))
         }
     }
 }
@@ -79,7 +80,7 @@ fn tables_are_opened_or_not(rt: HostRuntime) -> Result<(), Fail> {
         Err(error) => {
             let again = Tables::open(rt.alloc(), opening(rt.alloc())?)?;
             assert_eq!(rt; again.session(1), 0);
-            return Err(Fail::from(error));
+            return Err(answered("Tables::open", error));
         }
     };
     let local = Reply::Route {
@@ -98,7 +99,7 @@ fn a_neighbour_joins_or_nothing_changes(rt: HostRuntime) -> Result<(), Fail> {
     if let Err(error) = joined {
         assert_eq!(rt; (tables.session(1), tables.session(2)), (0, 2));
         assert!(rt; tables.apply(&Event::Up(1))?.is_same(&Reply::Opened(3)));
-        return Err(Fail::from(error));
+        return Err(answered("Tables::apply", error));
     }
     assert_eq!(rt; (tables.session(1), tables.queued(3)), (3, 3));
     Ok(())
@@ -137,7 +138,7 @@ fn messages_are_taken_or_stay(rt: HostRuntime) -> Result<(), Fail> {
         Ok(reply) => reply,
         Err(error) => {
             expect_tables(&rt, &mut tables)?;
-            return Err(Fail::from(error));
+            return Err(answered("Tables::apply", error));
         }
     };
     let Reply::Messages(messages) = told else {

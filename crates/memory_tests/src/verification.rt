@@ -1,5 +1,6 @@
 //! Code that is verified, with memory and without.
 
+use crate::refusals::answered;
 use filter_code::{Code, Instr};
 use filter_verifier::{Verified, VerifyFault, verify};
 use prefix_patterns::{Ip, Pattern, PatternSet, Prefix};
@@ -64,7 +65,7 @@ fn a_code_is_verified_or_v10_with_the_same_code(rt: HostRuntime) -> Result<(), F
                 Ok(verified) => expect_verified(&rt, &verified)?,
                 Err((_, fault)) => return Err(Fail::from(fault)),
             }
-            Err(Fail::from(fault))
+            Err(answered("verify", fault))
         }
     }
 }
