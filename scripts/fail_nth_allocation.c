@@ -1,20 +1,23 @@
-/* Loaded before the C library: the allocation that NTH_ALLOCATION names is refused, counted from 1.
+/* Loaded before the C library: the allocation that NTH_ALLOCATION names is refused, counted from 1 over all threads.
    Where the program never came so far, the file that REFUSED_FILE names is not made. */
 #define _GNU_SOURCE
 #include <dlfcn.h>
 #include <fcntl.h>
+#include <stdatomic.h>
 #include <stddef.h>
 #include <stdlib.h>
 #include <unistd.h>
 
-static long left = -1;
+static long nth;
+static atomic_long asked;
+
+__attribute__((constructor)) static void begin(void) {
+    const char *text = getenv("NTH_ALLOCATION");
+    nth = text ? atol(text) : 0;
+}
 
 static int is_refused(void) {
-    if (left < 0) {
-        const char *nth = getenv("NTH_ALLOCATION");
-        left = nth ? atol(nth) : 0;
-    }
-    if (left == 0 || --left > 0) {
+    if (nth == 0 || atomic_fetch_add(&asked, 1) + 1 != nth) {
         return 0;
     }
     const char *file = getenv("REFUSED_FILE");
