@@ -45,7 +45,7 @@ const OPCODES: [u8; 21] =
 fn files_are_read_as_they_are_written(rt: HostRuntime) -> Result<(), Fail> {
     let alloc = rt.alloc();
     let (mut read, mut taken) = (0u32, 0u32);
-    for seed in 0..4_000 {
+    for seed in 0..20_000 {
         let mut numbers = Numbers::new(seed);
         let file = random_file(alloc, &mut numbers)?;
         if let Some(code) = code_of(&rt, alloc, file.as_slice(), seed)? {
@@ -59,7 +59,7 @@ fn files_are_read_as_they_are_written(rt: HostRuntime) -> Result<(), Fail> {
     }
     // Neither all files nor none are code, and neither all code nor none is safe.
     assert!(rt;
-        300 < taken && taken.saturating_add(300) < read && read < 3_600,
+        1_500 < taken && taken.saturating_add(1_500) < read && read < 18_000,
         "{taken} of {read}"
     );
     Ok(())

@@ -107,7 +107,7 @@ fn expect_same(
 fn histories_replay(rt: HostRuntime) -> Result<(), Fail> {
     let alloc = rt.alloc();
     let filters = filters(alloc)?;
-    for seed in 0..150 {
+    for seed in 0..1_000 {
         let mut numbers = Numbers::new(seed);
         let limit = numbers.below(250).saturating_add(1);
         let mut journal = open(alloc, limit.saturating_add(12))?;

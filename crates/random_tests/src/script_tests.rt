@@ -69,7 +69,7 @@ fn answered_lines(script: &[u8]) -> usize {
 fn scripts_are_answered_alike_in_any_pieces(rt: HostRuntime) -> Result<(), Fail> {
     let alloc = rt.alloc();
     let mut refused: u64 = 0;
-    for seed in 0..400 {
+    for seed in 0..2_000 {
         let mut numbers = Numbers::new(seed);
         let script = random_script(alloc, &mut numbers)?;
         let (mut whole, mut pieced) = (Vec::new(alloc), Vec::new(alloc));
@@ -89,6 +89,6 @@ fn scripts_are_answered_alike_in_any_pieces(rt: HostRuntime) -> Result<(), Fail>
         assert_eq!(rt; lines, answered_lines(script.as_slice()), "seed {seed}");
         refused = refused.saturating_add(u64::from(wanted));
     }
-    assert!(rt; refused > 400, "{refused} lines refused");
+    assert!(rt; refused > 2_000, "{refused} lines refused");
     Ok(())
 }

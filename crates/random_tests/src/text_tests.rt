@@ -122,7 +122,7 @@ fn expect_laws(
 fn filters_mean_the_same_however_they_are_laid_out(rt: HostRuntime) -> Result<(), Fail> {
     let alloc = rt.alloc();
     let (mut parsed, mut taken) = (0u32, 0u32);
-    for seed in 0..2_000 {
+    for seed in 0..10_000 {
         let mut numbers = Numbers::new(seed);
         let text = random_text(alloc, &mut numbers)?;
         match expect_laws(&rt, alloc, &mut numbers, text.as_slice(), seed)? {
@@ -135,7 +135,7 @@ fn filters_mean_the_same_however_they_are_laid_out(rt: HostRuntime) -> Result<()
     }
     // Neither all texts nor none are filters, and neither all filters nor none are safe.
     assert!(rt;
-        200 < taken && taken.saturating_add(100) < parsed && parsed < 1_800,
+        1_000 < taken && taken.saturating_add(500) < parsed && parsed < 9_000,
         "{taken} of {parsed}"
     );
     Ok(())
