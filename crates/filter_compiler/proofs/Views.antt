@@ -1,6 +1,11 @@
--- What is seen at a negation and at a question for a set.
+-- What is seen at a negation, at a question for a set and at an assignment.
 use Rattle.std.proofs.Common.{◌≡◌, ℕ, Box, Global, ap, sym, ◌∙◌, map}
 use Rattle.filter_parser.specs.Syntax.{ExprView, member, negation, view, view_expr_step, view_set_pattern}
+use Rattle.filter_parser.specs.SyntaxCommands.{CommandView, assign, view_command, view_step, view_target}
+use Rattle.filter_parser.specs.declared.tree.command.Command.TheFolds.{fold-roll-Command}
+use Rattle.filter_parser.specs.declared.tree.command.Command.TheOpen.{Command-F}
+use Rattle.filter_parser.specs.declared.tree.command.Command.TheVariants as c
+use Rattle.filter_parser.specs.declared.tree.command.Target.{Target}
 use Rattle.filter_parser.specs.declared.tree.expr.Expr.{Expr}
 use Rattle.filter_parser.specs.declared.tree.expr.Expr.TheFolds.{fold-roll-Expr}
 use Rattle.filter_parser.specs.declared.tree.expr.Expr.TheOpen.{Expr-F}
@@ -20,3 +25,7 @@ view_member x op left set y is is_left =
     ap view (is ∙ sym (e.rolls-Member op left set))
     ∙ fold-roll-Expr ExprView view_expr_step (Expr-F.Member op left set)
     ∙ ap (λ z. member op (view z) (map view_set_pattern set.patterns.items)) (sym is_left)
+
+pub view_assign : (at : ℕ) (target : Target) (value : Expr) → view_command (c.Assign at target value) ≡ assign (view_target target) (view value)
+view_assign at target value =
+    ap view_command (sym (c.rolls-Assign at target value)) ∙ fold-roll-Command CommandView view_step (Command-F.Assign at target value)

@@ -1,9 +1,10 @@
+-- What callers cite.
 pub mod Codes
 pub mod Limits
 pub mod Meaning
-pub mod Measures
 pub mod Need
 pub mod Same
 pub mod Translation
 pub mod Verdicts
-pub mod Writing
+-- What only the bodies of this crate are proved against.
+pub mod Written

@@ -1,36 +1,33 @@
 //! A filter becomes code.
 
-ghost use Rattle.std.specs.Prelude.{◌≡◌, ◌↔◌, IfOk, IsErrOf};
+ghost use Rattle.std.specs.Prelude.{◌≡◌, ◌↔◌, ◌≤◌, IfOk, IsErrOf, length};
 ghost use Rattle.filter_parser.specs.SyntaxText.{view_filter};
-ghost use Rattle.filter_types.specs.Kinds.{numbers_of};
+ghost use Rattle.filter_types.specs.Kinds.{variable_limit};
 ghost use Rattle.filter_code.specs.CodeView.{IsAllowed, CodeView};
-ghost use Rattle.filter_compiler.specs.Limits.{HasTooMany, IsTooLong, IsWithin};
-ghost use Rattle.filter_compiler.specs.Measures.{filter_measure};
+ghost use Rattle.filter_compiler.specs.Limits.{HasTooMany, IsTooLong};
 ghost use Rattle.filter_compiler.specs.Same.{MeansTheSame};
-ghost use Rattle.filter_compiler.specs.Translation.{commands_sets, code_of};
-ghost use Rattle.filter_compiler.specs.Writing.{written_filter};
+ghost use Rattle.filter_compiler.specs.Translation.{code_of};
+ghost use Rattle.filter_compiler.specs.Written.{Holds};
 
 use crate::commands::{emit_commands, emit_declarations};
 use crate::fault::CompileFault;
-use crate::measuring::measure_filter;
-use crate::output::{Output, put};
+use crate::output::Output;
 use crate::sets::build_sets;
 use filter_code::{Code, Instr};
 use filter_types::Typed;
 use prefix_patterns::PatternSet;
 use std::alloc::{AllocError, Global};
 
-/// The instructions of a filter, and the patterns of its sets, where they are within the limits.
-fn write_filter(alloc: Global, typed: &Typed) -> Result<Output, AllocError>
-    ensures code { IfOk result (λ out. out.instrs ≡ written_filter (numbers_of (view_filter typed.now)) (view_filter typed.now)) }
-    ensures sets { IfOk result (λ out. out.sets.items ≡ commands_sets (view_filter typed.now).body) }
+/// A filter's code, or what is wrong with it.
+fn write_filter(alloc: Global, typed: &Typed) -> Output
+    ensures { Holds result (code_of (view_filter typed.now)) }
 {
     let filter = typed.filter();
-    let mut out = Output::new(alloc, typed.numbers());
-    emit_declarations(filter.decls(), &mut out)?;
-    emit_commands(filter.body(), &mut out)?;
-    put(&mut out, Instr::Reject)?;
-    Ok(out)
+    let mut out = Output::new(alloc);
+    emit_declarations(filter.decls(), &mut out);
+    emit_commands(typed, filter.body(), &mut out);
+    out.put(Instr::Reject);
+    out
 }
 
 /// The code of these parts, which are within the limits.
@@ -41,15 +38,16 @@ fn finished(locals: usize, sets: Vec<PatternSet>, instrs: Vec<Instr>) -> Code
     Code::new(locals as u8, sets, instrs).unwrap()
 }
 
-/// The code of a filter that is within the limits.
-fn write_code(alloc: Global, typed: &Typed) -> Result<Code, AllocError>
-    requires { IsWithin (filter_measure (view_filter typed.now)) }
-    ensures { IfOk result (λ code. code ≡ code_of (view_filter typed.now)) }
+/// The code that an output has kept.
+fn build_code(alloc: Global, locals: usize, out: Output) -> Result<Code, AllocError>
+    requires locals { locals ≤ variable_limit }
+    requires short { let program : CodeView = record { locals = locals; sets = out.sets.items; instrs = out.instrs } in ¬ IsTooLong program }
+    requires few { let program : CodeView = record { locals = locals; sets = out.sets.items; instrs = out.instrs } in ¬ HasTooMany program }
+    ensures { let program : CodeView = record { locals = locals; sets = out.sets.items; instrs = out.instrs } in
+        IfOk result (λ code. code ≡ program) }
 {
-    let filter = typed.filter();
-    let out = write_filter(alloc, typed)?;
     let sets = build_sets(alloc, &out.sets)?;
-    Ok(finished(filter.decls().len(), sets, out.instrs.into_vec()))
+    Ok(finished(locals, sets, out.instrs.into_vec()))
 }
 
 /// The code of a filter, which means what the filter means: for every route its outcome is what the filter says, or
@@ -64,6 +62,9 @@ pub fn compile(alloc: Global, typed: &Typed) -> Result<Code, CompileFault>
     ensures too_many { IsErrOf result CompileFault.TooManySets
         ↔ (¬ IsTooLong (code_of (view_filter typed.now)) × HasTooMany (code_of (view_filter typed.now))) }
 {
-    measure_filter(typed.filter()).check_limits()?;
-    Ok(write_code(alloc, typed)?)
+    let out = write_filter(alloc, typed);
+    match out.fault {
+        Some(fault) => Err(fault),
+        None => Ok(build_code(alloc, typed.filter().decls().len(), out)?),
+    }
 }

@@ -1,20 +1,17 @@
 //! The code of expressions.
 
-ghost use Rattle.std.specs.Prelude.{◌≡◌, ◌+◌, ◌≤◌, [], ◌∷◌, ◌++◌, IfOk, OnOk, length, map};
+ghost use Rattle.std.specs.Prelude.{◌≡◌, [], ◌∷◌, map};
 ghost use Rattle.filter_code.specs.CodeView.{HasMask};
-ghost use Rattle.filter_parser.specs.Syntax.{pattern_of, view, view_set_pattern};
-ghost use Rattle.filter_types.specs.Kinds.{names_in};
-ghost use Rattle.filter_types.specs.Turns.{names_after};
-ghost use Rattle.filter_compiler.specs.Measures.{tree_measure};
-ghost use Rattle.filter_compiler.specs.Translation.{attribute_code, member_code, operator_code, sets_of, suffix_code};
-ghost use Rattle.filter_compiler.specs.Writing.{behind, right_part, set_number, sets_behind, written, written_behind};
+ghost use Rattle.filter_parser.specs.Syntax.{ExprView, chain_of, suffixes_of, view, view_set_pattern};
+ghost use Rattle.filter_parser.specs.SyntaxText.{view_filter};
+ghost use Rattle.filter_compiler.specs.Translation.{attribute_code, operator_code, suffix_code};
+ghost use Rattle.filter_compiler.specs.declared.output.Output.{Output as TheOutput};
+ghost use Rattle.filter_compiler.specs.Written.{Puts, code_alone, expression_part, member_part, right_part};
 
-use crate::measuring::measure;
-use crate::output::{Output, next_number, put};
-use crate::sets::list_of;
+use crate::output::Output;
 use filter_code::Instr;
 use filter_parser::{Attribute, Expr, Membership, Op, Set, Suffix};
-use std::alloc::AllocError;
+use filter_types::Typed;
 
 /// The instruction that puts an attribute of the route on the stack.
 fn attribute_instr(attribute: Attribute) -> Instr
@@ -39,165 +36,139 @@ fn suffix_instr(suffix: Suffix) -> Instr
     }
 }
 
-/// The number of instructions of an expression.
-fn size_of(expr: &Expr) -> u16
-    ensures value { result ≡ (tree_measure (view expr.now)).instructions }
-    ensures limit { result ≤ 1025 }
-{
-    measure(expr).instructions as u16
-}
-
 /// Writes an instruction, and NOT after it.
-fn put_opposite(out: &mut Output, instr: Instr) -> Result<(), AllocError>
+fn put_opposite(instr: Instr, out: &mut Output)
     requires { HasMask instr }
-    ensures code { OnOk result (out.new.instrs ≡ out.old.instrs ++ instr ∷ Instr.Not ∷ []) }
-    ensures sets { out.new.sets.items ≡ out.old.sets.items }
-    ensures uses { out.new.uses.now ≡ out.old.uses.now }
+    ensures { Puts out.old out.new (code_alone (instr ∷ Instr.Not ∷ [])) }
 {
-    put(out, instr)?;
-    put(out, Instr::Not)
+    out.put(instr);
+    out.put(Instr::Not);
 }
 
 /// Writes an operator that takes both operands.
-fn emit_operator(op: Op, out: &mut Output) -> Result<(), AllocError>
-    ensures code { OnOk result (out.new.instrs ≡ out.old.instrs ++ operator_code op) }
-    ensures sets { out.new.sets.items ≡ out.old.sets.items }
-    ensures uses { out.new.uses.now ≡ out.old.uses.now }
+fn emit_operator(op: Op, out: &mut Output)
+    ensures { Puts out.old out.new (code_alone (operator_code op)) }
 {
     match op {
-        Op::Add => put(out, Instr::Add),
-        Op::Sub => put(out, Instr::Sub),
-        Op::Mul => put(out, Instr::Mul),
-        Op::Div => put(out, Instr::Div),
-        Op::Equal => put(out, Instr::Eq),
-        Op::NotEqual => put_opposite(out, Instr::Eq),
-        Op::Less => put(out, Instr::Lt),
-        Op::Greater => put_opposite(out, Instr::Le),
-        Op::LessEqual => put(out, Instr::Le),
-        Op::GreaterEqual => put_opposite(out, Instr::Lt),
-        Op::Match => put(out, Instr::Within),
-        Op::NotMatch => put_opposite(out, Instr::Within),
-        Op::And | Op::Or => Ok(()),
+        Op::Add => out.put(Instr::Add),
+        Op::Sub => out.put(Instr::Sub),
+        Op::Mul => out.put(Instr::Mul),
+        Op::Div => out.put(Instr::Div),
+        Op::Equal => out.put(Instr::Eq),
+        Op::NotEqual => put_opposite(Instr::Eq, out),
+        Op::Less => out.put(Instr::Lt),
+        Op::Greater => put_opposite(Instr::Le, out),
+        Op::LessEqual => out.put(Instr::Le),
+        Op::GreaterEqual => put_opposite(Instr::Lt, out),
+        Op::Match => out.put(Instr::Within),
+        Op::NotMatch => put_opposite(Instr::Within, out),
+        Op::And | Op::Or => {}
     }
-}
-
-/// Writes suffixes from the left.
-fn emit_suffixes(suffixes: &[Suffix], out: &mut Output) -> Result<(), AllocError>
-    ensures code { OnOk result (out.new.instrs ≡ out.old.instrs ++ map suffix_code suffixes.now) }
-    ensures sets { OnOk result (out.new.sets.items ≡ out.old.sets.items) }
-    ensures uses { OnOk result (out.new.uses.now ≡ out.old.uses.now) }
-{
-    for suffix in suffixes {
-        put(out, suffix_instr(*suffix))?;
-    }
-    Ok(())
-}
-
-/// Keeps a set, and answers its number. The filter was measured before, and has no more sets than numbers.
-fn keep_set(set: &Set, out: &mut Output) -> Result<u8, AllocError>
-    ensures number { IfOk result (λ number. number ≡ set_number (length out.old.sets.items)) }
-    ensures sets { IfOk result (λ _. out.new.sets.items
-        ≡ out.old.sets.items ++ map pattern_of (map view_set_pattern set.now.patterns.items) ∷ []) }
-    ensures code { out.new.instrs ≡ out.old.instrs }
-    ensures uses { out.new.uses.now ≡ out.old.uses.now }
-{
-    let number = out.sets.len().min(255) as u8;
-    let list = list_of(out.alloc, set)?;
-    out.sets.push(list)?;
-    Ok(number)
 }
 
 /// Writes the question whether an operand matches a set.
-fn emit_member(op: Membership, set: &Set, out: &mut Output) -> Result<(), AllocError>
-    ensures code { OnOk result (out.new.instrs ≡ out.old.instrs ++ member_code op (set_number (length out.old.sets.items))) }
-    ensures sets { OnOk result (out.new.sets.items ≡ out.old.sets.items ++ map pattern_of (map view_set_pattern set.now.patterns.items) ∷ []) }
-    ensures uses { OnOk result (out.new.uses.now ≡ out.old.uses.now) }
+fn emit_member(op: Membership, set: &Set, out: &mut Output)
+    ensures { Puts out.old out.new (member_part op (map view_set_pattern set.now.patterns.items)) }
 {
-    let number = keep_set(set, out)?;
+    let number = out.keep_set(set);
     match op {
-        Membership::In => put(out, Instr::Member(number)),
-        Membership::NotIn => put_opposite(out, Instr::Member(number)),
+        Membership::In => out.put(Instr::Member(number)),
+        Membership::NotIn => put_opposite(Instr::Member(number), out),
     }
+}
+
+/// Writes an operand with its suffixes, from the left.
+#[cycle(expressions)]
+fn emit_suffixed(typed: &Typed, operand: &Expr, suffixes: &[Suffix], out: &mut Output)
+    ensures { Puts out.old out.new
+        (expression_part (view_filter typed.now).decls (suffixes_of (view operand.now) suffixes.now)) }
+{
+    emit(typed, operand, out);
+    for suffix in suffixes {
+        out.put(suffix_instr(*suffix));
+    }
+}
+
+/// Writes `&&` with the operand at its right, which is passed over where the left one is false.
+#[cycle(expressions)]
+fn emit_and(typed: &Typed, right: &Expr, out: &mut Output)
+    ensures { Puts out.old out.new (right_part (view_filter typed.now).decls Op.And (view right.now)) }
+{
+    let jump = out.length;
+    out.put(Instr::JumpIfNot(0));
+    emit(typed, right, out);
+    let distance = out.distance(jump);
+    out.patch(jump, Instr::JumpIfNot(distance + 1));
+    out.put(Instr::Jump(1));
+    out.put(Instr::Bool(false));
+}
+
+/// Writes `||` with the operand at its right, which is passed over where the left one is true.
+#[cycle(expressions)]
+fn emit_or(typed: &Typed, right: &Expr, out: &mut Output)
+    ensures { Puts out.old out.new (right_part (view_filter typed.now).decls Op.Or (view right.now)) }
+{
+    out.put(Instr::JumpIfNot(2));
+    out.put(Instr::Bool(true));
+    let jump = out.length;
+    out.put(Instr::Jump(0));
+    emit(typed, right, out);
+    let distance = out.distance(jump);
+    out.patch(jump, Instr::Jump(distance));
 }
 
 /// Writes an operator with the operand at its right.
 #[cycle(expressions)]
-fn emit_right(op: Op, right: &Expr, out: &mut Output) -> Result<(), AllocError>
-    ensures code { OnOk result (out.new.instrs ≡ out.old.instrs
-        ++ right_part op (tree_measure (view right.now)).instructions
-        (written out.old.uses.now (length out.old.sets.items) (view right.now))) }
-    ensures sets { OnOk result (out.new.sets.items ≡ out.old.sets.items ++ sets_of (view right.now)) }
-    ensures uses { OnOk result (out.new.uses.now ≡ behind (names_in (view right.now)) out.old.uses.now) }
+fn emit_right(typed: &Typed, op: Op, right: &Expr, out: &mut Output)
+    ensures { Puts out.old out.new (right_part (view_filter typed.now).decls op (view right.now)) }
 {
     match op {
-        Op::And => {
-            put(out, Instr::JumpIfNot(size_of(right) + 1))?;
-            emit(right, out)?;
-            put(out, Instr::Jump(1))?;
-            put(out, Instr::Bool(false))
-        }
-        Op::Or => {
-            put(out, Instr::JumpIfNot(2))?;
-            put(out, Instr::Bool(true))?;
-            put(out, Instr::Jump(size_of(right)))?;
-            emit(right, out)
-        }
+        Op::And => emit_and(typed, right, out),
+        Op::Or => emit_or(typed, right, out),
         _ => {
-            emit(right, out)?;
-            emit_operator(op, out)
+            emit(typed, right, out);
+            emit_operator(op, out);
         }
     }
 }
 
-/// Writes operators, each with the operand at its right.
+/// Writes the operators after a first operand, each with the operand at its right.
 #[cycle(expressions)]
-fn emit_chain(more: &[(Op, Expr)], out: &mut Output) -> Result<(), AllocError>
-    ensures code { OnOk result (out.new.instrs ≡ out.old.instrs
-        ++ written_behind out.old.uses.now (length out.old.sets.items) (map (λ p. (p.0, view p.1)) more.now)) }
-    ensures sets { OnOk result (out.new.sets.items ≡ out.old.sets.items ++ sets_behind (map (λ p. (p.0, view p.1)) more.now)) }
-    ensures uses { OnOk result (out.new.uses.now ≡ behind (names_after (map (λ p. (p.0, view p.1)) more.now)) out.old.uses.now) }
+fn emit_chain(typed: &Typed, more: &[(Op, Expr)], out: &mut Output)
+    ensures { (before : TheOutput) (first : ExprView) → Puts before out.old (expression_part (view_filter typed.now).decls first)
+        → Puts before out.new (expression_part (view_filter typed.now).decls (chain_of first (map (λ p. (p.0, view p.1)) more.now))) }
 {
     for (op, right) in more {
-        emit_right(*op, right, out)?;
+        emit_right(typed, *op, right, out);
     }
-    Ok(())
 }
 
 /// Writes an expression.
 #[cycle(expressions)]
-pub(crate) fn emit(expr: &Expr, out: &mut Output) -> Result<(), AllocError>
-    ensures code { OnOk result (out.new.instrs
-        ≡ out.old.instrs ++ written out.old.uses.now (length out.old.sets.items) (view expr.now)) }
-    ensures sets { OnOk result (out.new.sets.items ≡ out.old.sets.items ++ sets_of (view expr.now)) }
-    ensures uses { OnOk result (out.new.uses.now ≡ behind (names_in (view expr.now)) out.old.uses.now) }
+pub(crate) fn emit(typed: &Typed, expr: &Expr, out: &mut Output)
+    ensures { Puts out.old out.new (expression_part (view_filter typed.now).decls (view expr.now)) }
 {
     match expr {
-        Expr::Number(_, number) => put(out, Instr::Int(*number)),
-        Expr::Address(_, address) => put(out, Instr::Ip(*address)),
-        Expr::Prefix(_, prefix) => put(out, Instr::Prefix(*prefix)),
-        Expr::Truth(_, truth) => put(out, Instr::Bool(*truth)),
-        Expr::Name(_, _) => {
-            let number = next_number(out);
-            put(out, Instr::Load(number))
-        }
-        Expr::Attribute(_, attribute) => put(out, attribute_instr(*attribute)),
-        Expr::Defined(_, _) => put(out, Instr::Bool(true)),
-        Expr::Group(_, inner) => emit(inner, out),
+        Expr::Number(_, number) => out.put(Instr::Int(*number)),
+        Expr::Address(_, address) => out.put(Instr::Ip(*address)),
+        Expr::Prefix(_, prefix) => out.put(Instr::Prefix(*prefix)),
+        Expr::Truth(_, truth) => out.put(Instr::Bool(*truth)),
+        Expr::Name(_, name) => out.put(Instr::Load(typed.number_of(name))),
+        Expr::Attribute(_, attribute) => out.put(attribute_instr(*attribute)),
+        Expr::Defined(_, _) => out.put(Instr::Bool(true)),
+        Expr::Group(_, inner) => emit(typed, inner, out),
         Expr::Not(_, inner) => {
-            emit(inner, out)?;
-            put(out, Instr::Not)
+            emit(typed, inner, out);
+            out.put(Instr::Not);
         }
         Expr::Chain(first, more) => {
-            emit(first, out)?;
-            emit_chain(more, out)
+            emit(typed, first, out);
+            emit_chain(typed, more, out);
         }
         Expr::Member(op, left, set) => {
-            emit(left, out)?;
-            emit_member(*op, set, out)
+            emit(typed, left, out);
+            emit_member(*op, set, out);
         }
-        Expr::Suffixed(inner, suffixes) => {
-            emit(inner, out)?;
-            emit_suffixes(suffixes, out)
-        }
+        Expr::Suffixed(inner, suffixes) => emit_suffixed(typed, inner, suffixes, out),
     }
 }

@@ -5,8 +5,6 @@ mod commands;
 mod compiler;
 mod expressions;
 mod fault;
-mod measure;
-mod measuring;
 mod output;
 mod sets;
 

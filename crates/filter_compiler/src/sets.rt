@@ -1,6 +1,6 @@
 //! The sets of patterns of the code.
 
-ghost use Rattle.std.specs.Prelude.{◌≡◌, ◌≤◌, All, IfOk, length, map};
+ghost use Rattle.std.specs.Prelude.{◌≡◌, ◌≤◌, [], ◌∷◌, ◌++◌, All, IfOk, OnOk, length, map};
 ghost use Rattle.filter_parser.specs.Syntax.{pattern_of, view_set_pattern};
 ghost use Rattle.prefix_patterns.specs.Matching.{pattern_limit};
 
@@ -35,12 +35,17 @@ fn patterns_of(alloc: Global, set: &[SetPattern]) -> Result<Vec<Pattern>, AllocE
     Ok(patterns)
 }
 
-/// The patterns that a set of a filter means.
-pub(crate) fn list_of(alloc: Global, set: &Set) -> Result<PatternList, AllocError>
-    ensures { IfOk result (λ list. list ≡ map pattern_of (map view_set_pattern set.now.patterns.items)) }
+/// One more list: the patterns that a set of a filter means.
+pub(crate) fn push_set(
+    alloc: Global,
+    lists: &mut Vec<PatternList>,
+    set: &Set,
+) -> Result<(), AllocError>
+    ensures { OnOk result (lists.new.items ≡ lists.old.items ++ map pattern_of (map view_set_pattern set.now.patterns.items) ∷ []) }
 {
     let patterns = patterns_of(alloc, &set.patterns)?;
-    Ok(PatternList { patterns })
+    lists.push(PatternList { patterns })?;
+    Ok(())
 }
 
 /// The set of these patterns, which are not too many.

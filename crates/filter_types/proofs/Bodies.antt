@@ -1,10 +1,9 @@
 -- Laws of commands one after another.
 use Rattle.std.proofs.Common.{◌≡◌, ℕ, zero, suc, ◌+◌, ◌<◌, List, [], ◌∷◌, ◌++◌}
-use Rattle.std.proofs.Common.{length, map, take, get_or, sym, ap, subst, ◌∙◌, arith, append_assoc}
-use Rattle.std.proofs.lemmas.List.{append-nil}
+use Rattle.std.proofs.Common.{length, map, take, get_or, sym, subst, arith}
 use Rattle.filter_parser.specs.SyntaxCommands.{CommandView, DeclView, commands_of, view_command}
 use Rattle.filter_parser.specs.declared.tree.command.Command.{Command}
-use Rattle.filter_types.specs.Kinds.{KindsFit, KindsFitAll, names_of_command, names_of_commands}
+use Rattle.filter_types.specs.Kinds.{KindsFit, KindsFitAll}
 use Rattle.filter_types.proofs.Lists.{map_next}
 
 -- one more command
@@ -13,10 +12,6 @@ fits_push : (vs : List DeclView) (xs : List CommandView) (x : CommandView)
 fits_push vs [] x before this = (this, tt)
 fits_push vs (y ∷ xs) x before this = (before.0, fits_push vs xs x before.1 this)
 
-names_push : (xs : List CommandView) (x : CommandView) → names_of_commands (commands_of (xs ++ x ∷ [])) ≡ names_of_commands (commands_of xs) ++ names_of_command x
-names_push [] x = append-nil (names_of_command x)
-names_push (y ∷ xs) x = ap (λ n. names_of_command y ++ n) (names_push xs x) ∙ sym (append_assoc (names_of_command y) _ _)
-
 -- commands of which all before one fit, and that one
 pub fits_next : (vs : List DeclView) (cs : List Command) (i : ℕ) (c : Command) → i < length cs → c ≡ get_or cs i c
     → KindsFitAll vs (commands_of (map view_command (take i cs))) → KindsFit vs (view_command c)
@@ -24,13 +19,6 @@ pub fits_next : (vs : List DeclView) (cs : List Command) (i : ℕ) (c : Command)
 fits_next vs cs i c low is before this =
     let P : List CommandView → Type 0 = λ xs. KindsFitAll vs (commands_of xs) in
     subst P (sym (map_next view_command cs i c low is)) (fits_push vs (map view_command (take i cs)) (view_command c) before this)
-
--- the names of their uses
-pub names_next : (cs : List Command) (i : ℕ) (c : Command) → i < length cs → c ≡ get_or cs i c
-    → names_of_commands (commands_of (map view_command (take (i + 1) cs)))
-    ≡ names_of_commands (commands_of (map view_command (take i cs))) ++ names_of_command (view_command c)
-names_next cs i c low is =
-    ap (λ xs. names_of_commands (commands_of xs)) (map_next view_command cs i c low is) ∙ names_push (map view_command (take i cs)) (view_command c)
 
 -- each of the commands fits where all do
 pub fits_at : (vs : List DeclView) (cs : List Command) (i : ℕ) (c : Command) → i < length cs → c ≡ get_or cs i c

@@ -9,7 +9,7 @@ use Rattle.filter_parser.specs.declared.tree.expr.Attribute.TheVariants as attri
 use Rattle.filter_parser.specs.declared.tree.op.Membership.TheVariants as membership
 use Rattle.filter_parser.specs.declared.tree.op.Op.TheVariants as o
 use Rattle.filter_parser.specs.declared.tree.op.Suffix.TheVariants as suffix
-use Rattle.filter_types.specs.Kinds.{KindsFit, IsTyped, kind_in, number_of, numbers_of}
+use Rattle.filter_types.specs.Kinds.{KindsFit, IsTyped, kind_in, number_of}
 
 -- `int a; ip b; int c;`
 abbrev variables : List DeclView
@@ -97,20 +97,6 @@ metric_of_a_bool h = let p : Some kind.Int ≡ Some h.0 = h.1 in let q : Some ki
 -- `if a then accept;` does not fit
 pub if_of_an_int : KindsFit variables (CommandView.if_then (named (codes "a")) (CommandView.accept false)) → ⊥
 if_of_an_int h = let p : Some kind.Int ≡ Some kind.Bool = h.0 in cc
-
--- `filter q { int a; ip b; int c; c = a; }`
-abbrev small : FilterView
-small =
-    record {
-      name = codes "q";
-      decls = variables;
-      body = CommandsView.command_then (CommandView.assign (TargetView.to_name (codes "c")) (named (codes "a"))) CommandsView.no_commands;
-      tokens = [];
-    }
-
--- what is set comes before its right side
-pub numbers : numbers_of small ≡ 2 ∷ (0 ∷ [])
-numbers = refl
 
 -- `filter q { int a; int a; }` does not fit
 abbrev twice : FilterView

@@ -1,15 +1,14 @@
--- Chains and operands with suffixes, judged part by part, have the kinds and names that their trees have.
-use Rattle.std.proofs.Common.{◌≡◌, Option, Some, None, List, [], ◌∷◌, ◌++◌, Result, refl, sym, ap, subst, ◌∙◌, append_assoc}
-use Rattle.std.proofs.lemmas.List.{append-nil}
+-- Chains and operands with suffixes, judged part by part, have the kinds that their trees have.
+use Rattle.std.proofs.Common.{◌≡◌, Option, Some, None, List, [], ◌∷◌, Result, refl, sym, ap, subst, ◌∙◌}
 use Rattle.filter_parser.specs.Syntax.{ExprView, chain_of, suffixes_of}
 use Rattle.filter_parser.specs.SyntaxCommands.{DeclView}
 use Rattle.filter_parser.specs.declared.tree.decl.Kind.{Kind}
 use Rattle.filter_parser.specs.declared.tree.op.Op.{Op}
 use Rattle.filter_parser.specs.declared.tree.op.Suffix.{Suffix}
 use Rattle.filter_types.specs.Answers.{AnswersKind}
-use Rattle.filter_types.specs.Kinds.{kind_in, names_in, of_one, of_two}
+use Rattle.filter_types.specs.Kinds.{kind_in, of_one, of_two}
 use Rattle.filter_types.specs.Table.{operator, suffixed_by}
-use Rattle.filter_types.specs.Turns.{kind_after, kind_with, names_after}
+use Rattle.filter_types.specs.Turns.{kind_after, kind_with}
 use Rattle.filter_types.specs.declared.fault.TypeFault.{TypeFault}
 
 -- a form of two operands, of which the first is of a known kind
@@ -34,20 +33,12 @@ chain_kind vs left (x ∷ xs) =
     chain_kind vs (ExprView.binary x.0 left x.1) xs
     ∙ two_is (operator x.0) (kind_in vs left) (kind_in vs x.1) (λ k. kind_with vs k xs)
 
-pub chain_names : (left : ExprView) (xs : List (Op × ExprView)) → names_in (chain_of left xs) ≡ names_in left ++ names_after xs
-chain_names left [] = sym (append-nil (names_in left))
-chain_names left (x ∷ xs) = chain_names (ExprView.binary x.0 left x.1) xs ∙ append_assoc (names_in left) _ _
-
 -- the kind of an operand with suffixes is that of the operand with what follows it
 suffixes_kind : (vs : List DeclView) (inner : ExprView) (xs : List Suffix)
     → kind_in vs (suffixes_of inner xs) ≡ of_one (λ k. kind_after k xs) (kind_in vs inner)
 suffixes_kind vs inner [] = sym (some_is (kind_in vs inner))
 suffixes_kind vs inner (x ∷ xs) =
     suffixes_kind vs (ExprView.suffixed inner x) xs ∙ one_is (suffixed_by x) (λ k. kind_after k xs) (kind_in vs inner)
-
-pub suffixes_names : (inner : ExprView) (xs : List Suffix) → names_in (suffixes_of inner xs) ≡ names_in inner
-suffixes_names inner [] = refl
-suffixes_names inner (x ∷ xs) = suffixes_names (ExprView.suffixed inner x) xs
 
 -- what is known of the first operand
 pub chain_gives : (vs : List DeclView) (t left : ExprView) (xs : List (Op × ExprView)) (k : Kind) (answer : Result Kind TypeFault)

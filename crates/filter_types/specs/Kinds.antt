@@ -1,7 +1,7 @@
 -- Where a filter's names and kinds fit: a variable is declared once and before it is used, there are not more of them than the
 -- limit, `net` is not assigned, and each form has operands of the kinds that the table says. As in the BIRD 2.0 User's
 -- Guide on filters; the limit, and that `net` is not assigned, are this project's own choice.
-use Rattle.std.specs.Prelude.{◌≡◌, ◌≢◌, ℕ, ◌≤◌, Option, Some, None, List, [], ◌∷◌, ◌++◌, length, map, AllPairs}
+use Rattle.std.specs.Prelude.{◌≡◌, ◌≢◌, ℕ, ◌≤◌, Option, Some, None, List, length, AllPairs}
 use Rattle.std.specs.List.{position_or_len, find}
 use Rattle.std.specs.Option.{option_map}
 use Rattle.std.specs.Str.{bytes_eq}
@@ -91,43 +91,3 @@ pub record AreDeclared (variables : List DeclView) : Type 0 where
 pub record IsTyped (filter : FilterView) : Type 0 where
   pub declared : AreDeclared filter.decls
   pub body : KindsFitAll filter.decls filter.body
-
--- the names that an expression uses, in the order of the text
-abbrev pub names_in : ExprView → List (List ℕ)
-names_in (number n) = []
-names_in (address a) = []
-names_in (prefix bits) = []
-names_in (truth b) = []
-names_in (name text) = text ∷ []
-names_in (attribute a) = []
-names_in (defined a) = []
-names_in (group inner) = names_in inner
-names_in (negation inner) = names_in inner
-names_in (binary op left right) = names_in left ++ names_in right
-names_in (member op left set) = names_in left
-names_in (suffixed inner s) = names_in inner
-
--- the name that an assignment sets, if it sets a variable
-abbrev pub names_of_target : TargetView → List (List ℕ)
-names_of_target (to_name text) = text ∷ []
-names_of_target to_metric = []
-names_of_target to_net = []
-
--- the names that a command uses or sets, in the order of the text, and those of commands one after another
-abbrev mutual
-  pub names_of_command : CommandView → List (List ℕ)
-  names_of_command empty = []
-  names_of_command (block body) = names_of_commands body
-  names_of_command (if_then test chosen) = names_in test ++ names_of_command chosen
-  names_of_command (if_else test chosen other) = names_in test ++ (names_of_command chosen ++ names_of_command other)
-  names_of_command (assign target value) = names_of_target target ++ names_in value
-  names_of_command (accept has_text) = []
-  names_of_command (reject has_text) = []
-
-  pub names_of_commands : CommandsView → List (List ℕ)
-  names_of_commands no_commands = []
-  names_of_commands (command_then first more) = names_of_command first ++ names_of_commands more
-
--- the number of the variable at each use, in the order of the text
-abbrev pub numbers_of : FilterView → List ℕ
-numbers_of filter = map (number_of filter.decls) (names_of_commands filter.body)

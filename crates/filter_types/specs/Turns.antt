@@ -1,11 +1,11 @@
 -- The kinds of chains and of operands with suffixes, part by part from the left, as they are judged.
-use Rattle.std.specs.Prelude.{ℕ, Option, Some, List, [], ◌∷◌, ◌++◌}
+use Rattle.std.specs.Prelude.{Option, Some, List, [], ◌∷◌}
 use Rattle.filter_parser.specs.Syntax.{ExprView}
 use Rattle.filter_parser.specs.SyntaxCommands.{DeclView}
 use Rattle.filter_parser.specs.declared.tree.decl.Kind.{Kind}
 use Rattle.filter_parser.specs.declared.tree.op.Op.{Op}
 use Rattle.filter_parser.specs.declared.tree.op.Suffix.{Suffix}
-use Rattle.filter_types.specs.Kinds.{kind_in, names_in, of_one}
+use Rattle.filter_types.specs.Kinds.{kind_in, of_one}
 use Rattle.filter_types.specs.Table.{operator, suffixed_by}
 
 -- the kind of an operand of this kind with operators after it, each with the operand at its right
@@ -13,11 +13,6 @@ abbrev pub kind_with : List DeclView → Kind → List (Op × ExprView) → Opti
 kind_with variables kind [] = Some kind
 kind_with variables kind (x ∷ xs) =
     of_one (λ k. kind_with variables k xs) (of_one (operator x.0 kind) (kind_in variables x.1))
-
--- the names that the operands at the right use
-abbrev pub names_after : List (Op × ExprView) → List (List ℕ)
-names_after [] = []
-names_after (x ∷ xs) = names_in x.1 ++ names_after xs
 
 -- the kind of an operand of this kind with suffixes
 abbrev pub kind_after : Kind → List Suffix → Option Kind

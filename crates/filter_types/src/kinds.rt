@@ -1,11 +1,11 @@
 //! The kinds of expressions.
 
-ghost use Rattle.std.specs.Prelude.{◌≡◌, ◌≤◌, ◌++◌, IfOk, length, map};
+ghost use Rattle.std.specs.Prelude.{map};
 ghost use Rattle.filter_parser.specs.Syntax.{view};
 ghost use Rattle.filter_parser.specs.SyntaxCommands.{view_decl};
 ghost use Rattle.filter_types.specs.Answers.{AnswersKind};
-ghost use Rattle.filter_types.specs.Kinds.{kind_in, names_in, number_of, variable_limit};
-ghost use Rattle.filter_types.specs.Turns.{kind_after, kind_with, names_after};
+ghost use Rattle.filter_types.specs.Kinds.{kind_in};
+ghost use Rattle.filter_types.specs.Turns.{kind_after, kind_with};
 
 use crate::fault::TypeFault;
 use crate::table::{Operand, attribute_kind, in_set, negated, operator, suffixed_by};
@@ -25,16 +25,8 @@ fn kind_with_suffixes(operand: Operand, suffixes: &[Suffix]) -> Result<Kind, Typ
 
 /// The kind of a first operand with the operators after it, each with the operand at its right.
 #[cycle(kinds)]
-fn kind_of_chain(
-    more: &[(Op, Expr)],
-    first: Operand,
-    variables: &[Decl],
-    uses: &mut Vec<u8>,
-) -> Result<Kind, TypeFault>
-    requires { length variables.now ≤ variable_limit }
-    ensures kind { AnswersKind result (kind_with (map view_decl variables.now) first.entry.kind (map (λ p. (p.0, view p.1)) more.now)) }
-    ensures numbers { IfOk result (λ _. uses.new.items
-        ≡ uses.old.items ++ map (number_of (map view_decl variables.now)) (names_after (map (λ p. (p.0, view p.1)) more.now))) }
+fn kind_of_chain(more: &[(Op, Expr)], first: Operand, variables: &[Decl]) -> Result<Kind, TypeFault>
+    ensures { AnswersKind result (kind_with (map view_decl variables.now) first.entry.kind (map (λ p. (p.0, view p.1)) more.now)) }
 {
     let mut kind = first.kind;
     for (op, right) in more {
@@ -42,7 +34,7 @@ fn kind_of_chain(
             expr: first.expr,
             kind,
         };
-        let right_kind = kind_of(right, variables, uses)?;
+        let right_kind = kind_of(right, variables)?;
         kind = operator(
             *op,
             left,
@@ -55,40 +47,33 @@ fn kind_of_chain(
     Ok(kind)
 }
 
-/// The kind of an expression, of which each use of a variable puts its number after those of earlier uses.
+/// The kind of an expression.
 #[cycle(kinds)]
-pub(crate) fn kind_of(
-    expr: &Expr,
-    variables: &[Decl],
-    uses: &mut Vec<u8>,
-) -> Result<Kind, TypeFault>
-    requires { length variables.now ≤ variable_limit }
-    ensures kind { AnswersKind result (kind_in (map view_decl variables.now) (view expr.now)) }
-    ensures numbers { IfOk result (λ _. uses.new.items
-        ≡ uses.old.items ++ map (number_of (map view_decl variables.now)) (names_in (view expr.now))) }
+pub(crate) fn kind_of(expr: &Expr, variables: &[Decl]) -> Result<Kind, TypeFault>
+    ensures { AnswersKind result (kind_in (map view_decl variables.now) (view expr.now)) }
 {
     match expr {
         Expr::Number(_, _) => Ok(Kind::Int),
         Expr::Address(_, _) => Ok(Kind::Ip),
         Expr::Prefix(_, _) => Ok(Kind::Prefix),
         Expr::Truth(_, _) | Expr::Defined(_, _) => Ok(Kind::Bool),
-        Expr::Name(at, name) => resolve(*at, name, variables, uses),
+        Expr::Name(at, name) => resolve(*at, name, variables),
         Expr::Attribute(_, attribute) => Ok(attribute_kind(*attribute)),
-        Expr::Group(_, inner) => kind_of(inner, variables, uses),
+        Expr::Group(_, inner) => kind_of(inner, variables),
         Expr::Not(_, inner) => {
-            let kind = kind_of(inner, variables, uses)?;
+            let kind = kind_of(inner, variables)?;
             negated(Operand { expr: inner, kind })
         }
         Expr::Chain(first, more) => {
-            let kind = kind_of(first, variables, uses)?;
-            kind_of_chain(more, Operand { expr: first, kind }, variables, uses)
+            let kind = kind_of(first, variables)?;
+            kind_of_chain(more, Operand { expr: first, kind }, variables)
         }
         Expr::Member(_, left, _) => {
-            let kind = kind_of(left, variables, uses)?;
+            let kind = kind_of(left, variables)?;
             in_set(Operand { expr: left, kind })
         }
         Expr::Suffixed(inner, suffixes) => {
-            let kind = kind_of(inner, variables, uses)?;
+            let kind = kind_of(inner, variables)?;
             kind_with_suffixes(Operand { expr: inner, kind }, suffixes)
         }
     }

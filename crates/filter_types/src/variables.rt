@@ -1,9 +1,9 @@
 //! The variables of a filter: their numbers and kinds.
 
-ghost use Rattle.std.specs.Prelude.{◌≡◌, ◌≤◌, [], ◌∷◌, ◌++◌, IfOk, length, map};
+ghost use Rattle.std.specs.Prelude.{◌≡◌, ◌≤◌, length, map};
 ghost use Rattle.filter_parser.specs.SyntaxCommands.{view_decl};
 ghost use Rattle.filter_types.specs.Answers.{AnswersKind, Judges};
-ghost use Rattle.filter_types.specs.Kinds.{AreDeclared, kind_named, number_of, variable_limit};
+ghost use Rattle.filter_types.specs.Kinds.{AreDeclared, kind_named, number_of};
 
 use crate::fault::TypeFault;
 use filter_parser::{Decl, Kind};
@@ -12,8 +12,9 @@ use filter_parser::{Decl, Kind};
 pub const VARIABLE_LIMIT: usize = 16;
 
 /// The number of a variable, and the count of the variables where none has the name.
-fn number_of(variables: &[Decl], name: &[u8]) -> usize
-    ensures { result ≡ number_of (map view_decl variables.now) name.now }
+pub(crate) fn number_of(variables: &[Decl], name: &[u8]) -> usize
+    ensures value { result ≡ number_of (map view_decl variables.now) name.now }
+    ensures limit { result ≤ length variables.now }
 {
     for (number, variable) in variables.iter().enumerate() {
         if variable.name.as_slice() == name {
@@ -23,24 +24,13 @@ fn number_of(variables: &[Decl], name: &[u8]) -> usize
     variables.len()
 }
 
-/// The kind of the variable of a name, whose number is put after the numbers of earlier uses.
-pub(crate) fn resolve(
-    at: usize,
-    name: &[u8],
-    variables: &[Decl],
-    uses: &mut Vec<u8>,
-) -> Result<Kind, TypeFault>
-    requires { length variables.now ≤ variable_limit }
-    ensures kind { AnswersKind result (kind_named (map view_decl variables.now) name.now) }
-    ensures numbers { IfOk result (λ _. uses.new.items ≡ uses.old.items ++ number_of (map view_decl variables.now) name.now ∷ []) }
+/// The kind of the variable of a name.
+pub(crate) fn resolve(at: usize, name: &[u8], variables: &[Decl]) -> Result<Kind, TypeFault>
+    ensures { AnswersKind result (kind_named (map view_decl variables.now) name.now) }
 {
-    let number = number_of(variables, name);
-    match variables.get(number) {
+    match variables.get(number_of(variables, name)) {
         None => Err(TypeFault::UnknownName(at)),
-        Some(variable) => {
-            uses.push(number as u8)?;
-            Ok(variable.kind)
-        }
+        Some(variable) => Ok(variable.kind),
     }
 }
 

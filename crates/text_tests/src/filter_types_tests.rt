@@ -144,31 +144,37 @@ const AROUND_SIXTEEN: &[(&str, &str, &str, usize)] = &[
     ("filter z { ", "q = 1; }", "Y1", 123),
 ];
 
-/// Texts whose names and kinds fit, each with the numbers of its uses of variables.
-const TAKEN: &[(&str, &[u8])] = &[
-    ("filter q { accept; }", &[]),
-    ("filter q { int q; int len; len = q; }", &[1, 0]),
-    ("filter q { int a; ip b; int c; c = a; }", &[2, 0]),
+/// Texts whose names and kinds fit, each with names and their numbers.
+const TAKEN: &[(&str, &[(&str, u8)])] = &[
+    ("filter q { accept; }", &[("q", 0), ("", 0)]),
+    (
+        "filter q { int q; int len; len = q; }",
+        &[("q", 0), ("len", 1), ("le", 2)],
+    ),
+    (
+        "filter q { int a; ip b; int c; c = a; }",
+        &[("a", 0), ("b", 1), ("c", 2), ("A", 3)],
+    ),
     (
         "filter q { int a; a = a + a * 2; if a = 1 then reject; else a = 3; }",
-        &[0, 0, 0, 0, 0],
+        &[("a", 0), ("q", 1)],
     ),
     (
         "filter q int x; { prefix p; bool b; p = net; b = p ~ [1.0.0.0/8+] && defined(net); }",
-        &[1, 2, 1],
+        &[("x", 0), ("p", 1), ("b", 2), ("net", 3)],
     ),
     (
         "filter q { ip a; a = net.ip.mask(8); if a ~ 10.0.0.0/8 || !(a < 1.2.3.4) then accept; }",
-        &[0, 0, 0],
+        &[("a", 0), ("aa", 1)],
     ),
     (
         "filter q { int a; { rip_metric = rip_metric + net.len; { a = rip_metric; } } }",
-        &[0],
+        &[("a", 0)],
     ),
     (
         "filter q int a; int b; int c; int d; int e; int f; int g; int h; int i; int j; int k; int l; int m; int n; \
         int o; { int p; p = a + o; a = b + p; }",
-        &[15, 0, 14, 0, 1, 15],
+        &[("p", 15), ("a", 0), ("o", 14), ("b", 1), ("q", 16)],
     ),
 ];
 
@@ -210,10 +216,15 @@ fn a_filter_has_at_most_sixteen_variables(rt: HostRuntime) -> Result<(), Fail> {
 }
 
 #[test]
-fn each_use_has_the_number_of_its_variable(rt: HostRuntime) -> Result<(), Fail> {
+fn each_name_has_the_number_of_its_variable(rt: HostRuntime) -> Result<(), Fail> {
     for (text, numbers) in TAKEN {
         let typed = check(rt.alloc(), parse(rt.alloc(), text.as_bytes())?)?;
-        assert!(rt; typed.numbers() == *numbers, "{text}");
+        for (name, number) in *numbers {
+            assert!(rt;
+                typed.number_of(name.as_bytes()) == *number,
+                "{text}: {name}"
+            );
+        }
     }
     Ok(())
 }

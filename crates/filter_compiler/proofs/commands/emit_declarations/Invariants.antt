@@ -1,13 +1,9 @@
-use Rattle.std.proofs.Common.{◌≡◌, ◌++◌, drop, map}
+use Rattle.std.proofs.Common.{map, take}
 use Rattle.filter_parser.specs.SyntaxCommands.{view_decl}
 use Rattle.filter_compiler.specs.Translation.{declarations_code}
+use Rattle.filter_compiler.specs.Written.{Puts, code_alone}
 use Rattle.filter_compiler.proofs.commands.emit_declarations.Given as goal
 
--- with what is left it will be what all of it is
+-- the declarations so far are written
 abbrev pub invariant-loop-number : goal.invariant-loop-number
-invariant-loop-number l = record {
-  code : l.out.instrs ++ declarations_code l.number (map view_decl (drop l.number l.variables))
-      ≡ l.initial.out.instrs ++ declarations_code 0 (map view_decl l.variables);
-  sets : l.out.sets.items ≡ l.initial.out.sets.items;
-  uses : l.out.uses.now ≡ l.initial.out.uses.now;
-}
+invariant-loop-number l = Puts l.initial.out l.out (code_alone (declarations_code 0 (map view_decl (take l.number l.variables))))

@@ -1,17 +1,17 @@
-use Rattle.std.proofs.Common.{◌≡◌, ◌++◌, drop, length, map}
-use Rattle.filter_parser.specs.Syntax.{view}
-use Rattle.filter_types.specs.Turns.{names_after}
-use Rattle.filter_compiler.specs.Writing.{behind, sets_behind, written_behind}
+use Rattle.std.proofs.Common.{map, take}
+use Rattle.filter_parser.specs.Syntax.{ExprView, chain_of, suffixes_of, view}
+use Rattle.filter_parser.specs.SyntaxText.{view_filter}
+use Rattle.filter_compiler.specs.declared.output.Output.{Output}
+use Rattle.filter_compiler.specs.Written.{Puts, expression_part}
 use Rattle.filter_compiler.proofs.expressions.+expressions.Given as goal
 
--- with what is left it will be what all of it is
+-- the operators so far are written, after whatever operand comes first
 abbrev pub invariant-emit_chain-loop-op : goal.invariant-emit_chain-loop-op
-invariant-emit_chain-loop-op l = record {
-  code : l.out.instrs ++ written_behind l.out.uses.now (length l.out.sets.items) (map (λ p. (p.0, view p.1)) (drop l.op-index l.more))
-      ≡ l.initial.out.instrs ++ written_behind l.initial.out.uses.now (length l.initial.out.sets.items) (map (λ p.
-      (p.0, view p.1)) l.more);
-  sets : l.out.sets.items ++ sets_behind (map (λ p. (p.0, view p.1)) (drop l.op-index l.more))
-      ≡ l.initial.out.sets.items ++ sets_behind (map (λ p. (p.0, view p.1)) l.more);
-  uses : behind (names_after (map (λ p. (p.0, view p.1)) (drop l.op-index l.more))) l.out.uses.now
-      ≡ behind (names_after (map (λ p. (p.0, view p.1)) l.more)) l.initial.out.uses.now;
-}
+invariant-emit_chain-loop-op l =
+    (before : Output) (first : ExprView) → Puts before l.initial.out (expression_part (view_filter l.typed).decls first)
+    → Puts before l.out (expression_part (view_filter l.typed).decls (chain_of first (map (λ p. (p.0, view p.1)) (take l.op-index l.more))))
+
+-- the operand and the suffixes so far are written
+abbrev pub invariant-emit_suffixed-loop-suffix : goal.invariant-emit_suffixed-loop-suffix
+invariant-emit_suffixed-loop-suffix l =
+    Puts l.fn.out l.out (expression_part (view_filter l.typed).decls (suffixes_of (view l.operand) (take l.suffix-index l.suffixes)))

@@ -1,11 +1,9 @@
-use Rattle.std.proofs.Common.{◌≡◌, ◌++◌, map, take}
+use Rattle.std.proofs.Common.{map, take}
 use Rattle.filter_parser.specs.SyntaxCommands.{commands_of, view_command, view_decl}
-use Rattle.filter_types.specs.Kinds.{KindsFitAll, names_of_commands, number_of}
+use Rattle.filter_types.specs.Kinds.{KindsFitAll}
 use Rattle.filter_types.proofs.commands.+command.Given as goal
 
--- the commands so far fit, and the numbers of their uses are there
+-- the commands so far fit
 abbrev pub invariant-check_commands-loop-command : goal.invariant-check_commands-loop-command
 invariant-check_commands-loop-command l =
     KindsFitAll (map view_decl l.variables) (commands_of (map view_command (take l.command-index l.commands)))
-    × (l.uses.items ≡ l.initial.uses.items
-    ++ map (number_of (map view_decl l.variables)) (names_of_commands (commands_of (map view_command (take l.command-index l.commands)))))

@@ -1,74 +1,47 @@
-use Rattle.std.proofs.Common.{◌++◌, ap, sym, refl, ◌∙◌, map}
-use Rattle.std.proofs.lemmas.Result.{IfOk-weaker, err_from_is_err_and}
+use Rattle.std.proofs.Common.{refl, map}
+use Rattle.std.proofs.lemmas.Result.{err_from_is_err_and}
 use Rattle.filter_parser.specs.Syntax.{view}
 use Rattle.filter_parser.specs.SyntaxCommands.{view_decl}
-use Rattle.filter_types.specs.Kinds.{names_in, number_of}
-use Rattle.filter_types.specs.Turns.{names_after}
-use Rattle.filter_types.proofs.Lists.{map_after, whatever}
-use Rattle.filter_types.proofs.Turns.{chain_gives, chain_names, chain_none, suffixes_give, suffixes_names, suffixes_none}
+use Rattle.filter_types.proofs.Turns.{chain_gives, chain_none, suffixes_give, suffixes_none}
 use Rattle.filter_types.proofs.Views.{view_chain, view_suffixed}
 use Rattle.filter_types.proofs.kinds.+kinds.Goals as goal
 
-pub kind_of-returns-in_err-kind-in-Chain-clause-kind :
-    goal.kind_of-returns-in_err-kind-in-Chain-clause-kind
-kind_of-returns-in_err-kind-in-Chain-clause-kind t c =
+pub kind_of-returns-in_err-kind-in-Chain :
+    goal.kind_of-returns-in_err-kind-in-Chain
+kind_of-returns-in_err-kind-in-Chain t c =
     let p = err_from_is_err_and c.from_residual-in_err-kind-in-Chain.result c.from_residual-in_err-kind-in-Chain.ensures.1 in
     rw (p.1, p.2) (λ not_memory. chain_none (map view_decl c.args.variables.now) (view c.args.expr.now) (view c.deref-in-Chain.result.now)
     (map (λ p. (p.0, view p.1)) c.in-Chain.more.items)
     (view_chain c.args.expr.now c.in-Chain.first c.in-Chain.more c.deref-in-Chain.result.now c.in-Chain.more.items c.in-Chain.is
     c.deref-in-Chain.ensures refl)
-    (c.in_err-kind-in-Chain.ensures.kind not_memory))
+    (c.in_err-kind-in-Chain.ensures not_memory))
 
-pub kind_of-returns-in_err-kind-in-Suffixed-clause-kind :
-    goal.kind_of-returns-in_err-kind-in-Suffixed-clause-kind
-kind_of-returns-in_err-kind-in-Suffixed-clause-kind t c =
+pub kind_of-returns-in_err-kind-in-Suffixed :
+    goal.kind_of-returns-in_err-kind-in-Suffixed
+kind_of-returns-in_err-kind-in-Suffixed t c =
     let p = err_from_is_err_and c.from_residual-in_err-kind-in-Suffixed.result c.from_residual-in_err-kind-in-Suffixed.ensures.1 in
     rw (p.1, p.2) (λ not_memory. suffixes_none (map view_decl c.args.variables.now) (view c.args.expr.now)
     (view c.deref-in-Suffixed.result.now)
     c.in-Suffixed.suffixes.items
     (view_suffixed c.args.expr.now c.in-Suffixed.inner c.in-Suffixed.suffixes c.deref-in-Suffixed.result.now c.in-Suffixed.suffixes.items
     c.in-Suffixed.is c.deref-in-Suffixed.ensures refl)
-    (c.in_err-kind-in-Suffixed.ensures.kind not_memory))
+    (c.in_err-kind-in-Suffixed.ensures not_memory))
 
-pub kind_of-returns-in_ok-kind-in-Chain-clause-kind :
-    goal.kind_of-returns-in_ok-kind-in-Chain-clause-kind
-kind_of-returns-in_ok-kind-in-Chain-clause-kind t c =
+pub kind_of-returns-in_ok-kind-in-Chain :
+    goal.kind_of-returns-in_ok-kind-in-Chain
+kind_of-returns-in_ok-kind-in-Chain t c =
     chain_gives (map view_decl c.args.variables.now) (view c.args.expr.now) (view c.deref-in-Chain.result.now)
     (map (λ p. (p.0, view p.1)) c.deref-in-Chain-2.result.now) c.in_ok-kind-in-Chain.kind c.kind_of_chain.result
     (view_chain c.args.expr.now c.in-Chain.first c.in-Chain.more c.deref-in-Chain.result.now c.deref-in-Chain-2.result.now c.in-Chain.is
     c.deref-in-Chain.ensures c.deref-in-Chain-2.ensures.value)
-    c.in_ok-kind-in-Chain.ensures.kind c.kind_of_chain.ensures.kind
+    c.in_ok-kind-in-Chain.ensures c.kind_of_chain.ensures
 
-pub kind_of-returns-in_ok-kind-in-Chain-clause-numbers :
-    goal.kind_of-returns-in_ok-kind-in-Chain-clause-numbers
-kind_of-returns-in_ok-kind-in-Chain-clause-numbers t c =
-    IfOk-weaker c.kind_of_chain.result _ _
-    (λ x h. map_after (number_of (map view_decl c.args.variables.now)) c.args.uses.now.items c.kind_of-in-Chain.new.uses.items
-    c.kind_of_chain.new.uses.items
-    (names_in (view c.deref-in-Chain.result.now)) (names_after (map (λ p. (p.0, view p.1)) c.deref-in-Chain-2.result.now))
-    (names_in (view c.args.expr.now))
-    c.in_ok-kind-in-Chain.ensures.numbers h
-    (ap names_in (view_chain c.args.expr.now c.in-Chain.first c.in-Chain.more c.deref-in-Chain.result.now c.deref-in-Chain-2.result.now c.in-Chain.is
-    c.deref-in-Chain.ensures c.deref-in-Chain-2.ensures.value)
-    ∙ chain_names (view c.deref-in-Chain.result.now) (map (λ p. (p.0, view p.1)) c.deref-in-Chain-2.result.now)))
-    c.kind_of_chain.ensures.numbers
-
-pub kind_of-returns-in_ok-kind-in-Suffixed-clause-kind :
-    goal.kind_of-returns-in_ok-kind-in-Suffixed-clause-kind
-kind_of-returns-in_ok-kind-in-Suffixed-clause-kind t c =
+pub kind_of-returns-in_ok-kind-in-Suffixed :
+    goal.kind_of-returns-in_ok-kind-in-Suffixed
+kind_of-returns-in_ok-kind-in-Suffixed t c =
     suffixes_give (map view_decl c.args.variables.now) (view c.args.expr.now) (view c.deref-in-Suffixed.result.now)
     c.deref-in-Suffixed-3.result.now c.in_ok-kind-in-Suffixed.kind c.kind_with_suffixes.result
     (view_suffixed c.args.expr.now c.in-Suffixed.inner c.in-Suffixed.suffixes c.deref-in-Suffixed.result.now
     c.deref-in-Suffixed-3.result.now
     c.in-Suffixed.is c.deref-in-Suffixed.ensures c.deref-in-Suffixed-3.ensures.value)
-    c.in_ok-kind-in-Suffixed.ensures.kind c.kind_with_suffixes.ensures
-
-pub kind_of-returns-in_ok-kind-in-Suffixed-clause-numbers :
-    goal.kind_of-returns-in_ok-kind-in-Suffixed-clause-numbers
-kind_of-returns-in_ok-kind-in-Suffixed-clause-numbers t c =
-    whatever c.kind_with_suffixes.result
-    (c.in_ok-kind-in-Suffixed.ensures.numbers
-    ∙ ap (λ names. c.args.uses.now.items ++ map (number_of (map view_decl c.args.variables.now)) names)
-    (sym (ap names_in (view_suffixed c.args.expr.now c.in-Suffixed.inner c.in-Suffixed.suffixes c.deref-in-Suffixed.result.now
-    c.deref-in-Suffixed-3.result.now c.in-Suffixed.is c.deref-in-Suffixed.ensures c.deref-in-Suffixed-3.ensures.value)
-    ∙ suffixes_names (view c.deref-in-Suffixed.result.now) c.deref-in-Suffixed-3.result.now)))
+    c.in_ok-kind-in-Suffixed.ensures c.kind_with_suffixes.ensures

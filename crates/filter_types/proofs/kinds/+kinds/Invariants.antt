@@ -1,15 +1,11 @@
-use Rattle.std.proofs.Common.{◌≡◌, ◌++◌, drop, map}
+use Rattle.std.proofs.Common.{◌≡◌, drop, map}
 use Rattle.filter_parser.specs.Syntax.{view}
 use Rattle.filter_parser.specs.SyntaxCommands.{view_decl}
-use Rattle.filter_types.specs.Kinds.{number_of}
-use Rattle.filter_types.specs.Turns.{kind_with, names_after}
+use Rattle.filter_types.specs.Turns.{kind_with}
 use Rattle.filter_types.proofs.kinds.+kinds.Given as goal
 
 -- the operators that are left give what all of them give
 abbrev pub invariant-kind_of_chain-loop-op : goal.invariant-kind_of_chain-loop-op
-invariant-kind_of_chain-loop-op l = record {
-  kind : kind_with (map view_decl l.variables) l.kind (map (λ p. (p.0, view p.1)) (drop l.op-index l.more))
-      ≡ kind_with (map view_decl l.variables) l.initial.kind (map (λ p. (p.0, view p.1)) l.more);
-  numbers : l.uses.items ++ map (number_of (map view_decl l.variables)) (names_after (map (λ p. (p.0, view p.1)) (drop l.op-index l.more)))
-      ≡ l.initial.uses.items ++ map (number_of (map view_decl l.variables)) (names_after (map (λ p. (p.0, view p.1)) l.more));
-}
+invariant-kind_of_chain-loop-op l =
+    kind_with (map view_decl l.variables) l.kind (map (λ p. (p.0, view p.1)) (drop l.op-index l.more))
+    ≡ kind_with (map view_decl l.variables) l.initial.kind (map (λ p. (p.0, view p.1)) l.more)

@@ -9,7 +9,7 @@ pub returns-then-number_of-number : goal.returns-then-number_of-number
 returns-then-number_of-number c _ declared =
     let is : c.number_of.result
     ≡ number_of (map view_decl (take c.loop-number.number c.args.variables.now)) c.index-variables-number.result.name.items =
-    c.number_of.ensures ∙ ap (number_of (map view_decl (take c.loop-number.number c.args.variables.now))) c.deref.ensures.value in
+    c.number_of.ensures.value ∙ ap (number_of (map view_decl (take c.loop-number.number c.args.variables.now))) c.deref.ensures.value in
     twice c.args.variables.now c.loop-number.number c.index-variables-number.result c.loop-number-test.true
     c.index-variables-number.is (subst (λ n. n < c.loop-number.number) is c.if-number_of-number.true) declared.once
 
@@ -17,7 +17,7 @@ pub loop-number-preserved : goal.loop-number-preserved
 loop-number-preserved c =
     let is : c.number_of.result
     ≡ number_of (map view_decl (take c.loop-number.number c.args.variables.now)) c.index-variables-number.result.name.items =
-    c.number_of.ensures ∙ ap (number_of (map view_decl (take c.loop-number.number c.args.variables.now))) c.deref.ensures.value in (
+    c.number_of.ensures.value ∙ ap (number_of (map view_decl (take c.loop-number.number c.args.variables.now))) c.deref.ensures.value in (
       once_next c.args.variables.now c.loop-number.number c.index-variables-number.result c.loop-number-test.true
           c.index-variables-number.is c.loop-number.invariant.0 (subst (λ n. c.loop-number.number ≤ n) is c.if-number_of-number.false),
       let high : c.loop-number.number ≤ variable_limit = c.loop-number.invariant.1 in let other = c.if-number-eq-VARIABLE_LIMIT.false in
