@@ -67,21 +67,6 @@ module _ (old new : Output) (program : CodeView) (instr : Instr) (h : Holds old 
   as_put : Holds new longer → Holds new (with_part program (code_alone (instr ∷ [])))
   as_put held = subst (Holds new) (same_program program.locals _ _ _ _ (sym (append-nil program.sets)) refl) held
 
-  -- one instruction more than the limit, or one more than too many
-  pub put_past : 1024 ≤ old.length → new.fault ≡ Some fault.TooManyInstructions → Holds new (with_part program (code_alone (instr ∷ [])))
-  put_past high is =
-      let c = h.counted in
-      let n = one_more in
-      let long : 1024 < length (program.instrs ++ instr ∷ []) = omega arith in
-      as_put (record {
-        counted = omega arith;
-        set_count = set_count ∙ h.set_count;
-        too_long = (λ e. long, λ l. is);
-        too_many = (λ e. cc, λ p. absurd (p.0 long));
-        instrs = λ none. cc;
-        sets = λ none. cc;
-      })
-
   -- an instruction within the limit: it is kept, or memory was refused, or there was a fault before
   pub put_within : old.length < 1024
       → (new.fault ≡ Some fault.TooManyInstructions → old.fault ≡ Some fault.TooManyInstructions)
@@ -122,13 +107,6 @@ module _ {X : Type 0} (P : X → Type 0) where
       let low' : suc a.0 < length ((z ∷ xs) ++ y ∷ []) = (let l = a.2 in omega arith) in
       (suc a.0, a.1, low', a.3, a.4)
 
-  any_last : (xs : List X) (y : X) → P y → Any P (xs ++ y ∷ [])
-  any_last [] y p = (zero, y, omega arith, refl, p)
-  any_last (z ∷ xs) y p =
-      let a = any_last xs y p in
-      let low' : suc a.0 < length ((z ∷ xs) ++ y ∷ []) = (let l = a.2 in omega arith) in
-      (suc a.0, a.1, low', a.3, a.4)
-
 module _ (old new : Output) (program : CodeView) (set : List PrefixPattern) (h : Holds old program) (counted : new.length ≡ old.length)
     (set_count : new.set_count ≡ min (old.set_count + 1) 255) where
   abbrev wider : CodeView
@@ -142,29 +120,6 @@ module _ (old new : Output) (program : CodeView) (set : List PrefixPattern) (h :
 
   as_kept : Holds new wider → Holds new (with_part program (record { code = λ n. []; sets = set ∷ [] }))
   as_kept held = subst (Holds new) (same_program program.locals _ _ _ _ refl (sym (append-nil program.instrs))) held
-
-  -- one set more than the limit, or one of too many patterns
-  pub keep_past : (64 ≤ old.set_count) ⊎ (1024 < length set)
-      → ((new.fault ≡ Some fault.TooManyInstructions) ↔ (old.fault ≡ Some fault.TooManyInstructions))
-      → ((old.fault ≡ Some fault.TooManyInstructions → ⊥) → new.fault ≡ Some fault.TooManySets)
-      → (new.fault ≡ None → ⊥)
-      → Holds new (with_part program (record { code = λ n. []; sets = set ∷ [] }))
-  keep_past over long_is many_is some =
-      as_kept (record {
-        counted = counted ∙ h.counted;
-        set_count = counts;
-        too_long = (λ e. h.too_long.0 (long_is.0 e), λ long. long_is.1 (h.too_long.1 long));
-        too_many = (
-          λ e. (λ long. let f : new.fault ≡ Some fault.TooManyInstructions = long_is.1 (h.too_long.1 long) in cc, past over),
-          λ p. many_is (λ e. p.0 (h.too_long.0 e)),
-        );
-        instrs = λ none. absurd (some none);
-        sets = λ none. absurd (some none);
-      })
-    where
-      past : (64 ≤ old.set_count) ⊎ (1024 < length set) → HasTooMany wider
-      past (inl high) = let c = h.set_count in let n = one_set_more in let over : 64 < length (program.sets ++ set ∷ []) = omega arith in inl over
-      past (inr large) = inr (any_last (λ s. 1024 < length s) program.sets set large)
 
   -- a set within the limits: it is kept, or memory was refused, or there was a fault before
   pub keep_within : old.set_count < 64 → length set ≤ 1024

@@ -75,9 +75,9 @@ pub(crate) struct Output {
     pub instrs: InstrList,
     /// The patterns of each set, while there is no fault.
     pub sets: Vec<PatternList>,
-    /// How many instructions were put.
+    /// How many instructions were put, or the greatest number there is here.
     pub length: u16,
-    /// How many sets were put.
+    /// How many sets were put, or the greatest number there is here.
     pub set_count: u8,
     /// The first of the faults that were found, in the order in which a filter is refused for them.
     pub fault: Option<CompileFault>,
