@@ -1,6 +1,6 @@
 //! One router: opened, called in shifts, closed, and looked at.
 
-ghost use Rattle.std.specs.Prelude.{◌≤◌, IfSome};
+ghost use Rattle.std.specs.Prelude.{IfSome};
 ghost use Rattle.slot_lock.specs.Held.{IsPassOf};
 
 use crate::accounts::{Account, Counts};
