@@ -43,7 +43,10 @@ impl Gate for HoldingGate {
             return true;
         }
         self.is_reached.store(true, Ordering::SeqCst);
-        is_set_in_time(rt, &self.is_open)
+        let is_open = is_set_in_time(rt, &self.is_open);
+        // Once it has waited in vain it stays open, so that the test ends.
+        self.is_open.store(true, Ordering::SeqCst);
+        is_open
     }
 }
 
