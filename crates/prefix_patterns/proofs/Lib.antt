@@ -4,10 +4,12 @@ pub mod Buckets
 pub mod Chains
 pub mod DecimalValues
 pub mod Displayed
+pub mod LeadingTokens
 pub mod Matches
 pub mod Nodes
 pub mod Numbers
 pub mod Reached
 pub mod Rows
+pub mod TokenBytes
 pub mod Tokens
 pub mod Walks

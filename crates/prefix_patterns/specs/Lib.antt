@@ -2,6 +2,7 @@
 -- that are displayed, what reading a text gives, and the codes of faults.
 pub mod Bits
 pub mod Fault
+pub mod Leading
 pub mod Matching
 pub mod Number
 pub mod Reading

@@ -4,6 +4,7 @@
 mod address;
 mod display;
 mod index;
+mod leading;
 mod lengths;
 mod number;
 mod pattern;
@@ -14,6 +15,7 @@ mod tree;
 
 pub use address::{ADDRESS_LENGTH, Ip};
 pub use display::displayed_text_is_read;
+pub use leading::{after_byte, leading_number, leading_prefix};
 pub use number::read_number;
 pub use pattern::Pattern;
 pub use prefix::Prefix;
