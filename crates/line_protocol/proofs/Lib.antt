@@ -1,6 +1,7 @@
 pub mod WordLemmas
 pub mod StreamLemmas
 pub mod LineLemmas
+pub mod FeedLemmas
 pub mod RunLemmas
 pub mod EngineLemmas
 pub mod WholeLemmas

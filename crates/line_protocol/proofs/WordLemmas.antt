@@ -1,10 +1,10 @@
 -- The first word of a line, and the words after it.
-use Rattle.std.proofs.Common.{◌≡◌, ℕ, ◌+◌, ◌<◌, ◌≤◌, Bool, true, false, not, List, [], ◌∷◌, length, get_or, take, drop, refl, sym}
+use Rattle.std.proofs.Common.{◌≡◌, ℕ, ◌+◌, ◌<◌, ◌≤◌, Bool, true, false, not, List, [], ◌∷◌, ◌++◌, length, get_or, take, drop, refl, sym}
 use Rattle.std.proofs.Common.{ap, ◌∙◌, arith, one-add, ⊎_elim, length-take, length-drop}
 use Rattle.std.specs.List.{filter, slice_split, prefix_len, position_or_len, All}
 use Rattle.std.proofs.lemmas.List.{drop_more, drop_all, take_all, nil_from_length}
 use Rattle.std.proofs.lemmas.List.Sums.{fails_before_first, passes_at_first, prefix_len-le-length, prefix_len_stops, prefix_len-drop_yes}
-use Rattle.std.proofs.lemmas.List.Splits.{slice_split-cons_yes, slice_split_none, slice_split_first}
+use Rattle.std.proofs.lemmas.List.Splits.{slice_split-cons_yes, slice_split_at, slice_split_none, slice_split_first}
 use Rattle.std.proofs.lemmas.Bool.{cases_lt}
 use Rattle.line_protocol.specs.Words.{is_word}
 
@@ -28,6 +28,17 @@ words-front blank (b ∷ bs) = front_of blank b bs (blank b) refl (words-front b
 filter_word : (word : List ℕ) (parts : List (List ℕ)) → 0 < length word → filter is_word (word ∷ parts) ≡ word ∷ filter is_word parts
 filter_word [] parts h = absurd (omega arith)
 filter_word (b ∷ word) parts h = refl
+
+-- a word, and then the words after the blank that ends it
+pub words-next : (blank : ℕ → Bool) (word rest : List ℕ) (b : ℕ) → All (λ c. blank c ≡ false) word → 0 < length word → blank b ≡ true
+    → words_by blank (word ++ b ∷ rest) ≡ word ∷ words_by blank rest
+words-next blank word rest b none some ends =
+    ap (filter is_word) (slice_split_at blank word b rest none ends) ∙ filter_word word (slice_split blank rest) some
+
+-- a word that nothing follows
+pub words-only : (blank : ℕ → Bool) (word : List ℕ) → All (λ c. blank c ≡ false) word → 0 < length word
+    → words_by blank word ≡ word ∷ []
+words-only blank word none some = ap (filter is_word) (slice_split_none blank word none) ∙ filter_word word [] some
 
 -- the bytes before the first blank are a word, if there are any
 pub words-first : (blank : ℕ → Bool) (line : List ℕ) (n : ℕ) → n ≡ position_or_len blank line → 0 < n

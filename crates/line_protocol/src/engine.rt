@@ -12,6 +12,7 @@ use crate::INPUT_LIMIT;
 use crate::answers::{Reply, Service};
 use crate::faults::StreamFault;
 use crate::streams::{read_some, write_text};
+use memchr::memchr;
 use std::alloc::{AllocError, Global};
 use std::io::{Read, Write};
 
@@ -67,11 +68,10 @@ fn find_line_feed(bytes: &[u8], from: usize) -> usize
     ensures none { NoneEnds bytes.now from result }
     ensures found { result < length bytes.now → slice_index bytes.now result ≡ 10 }
 {
-    let mut at = from;
-    while at < bytes.len() && bytes[at] != b'\n' {
-        at += 1;
+    match memchr(b'\n', &bytes[from..]) {
+        Some(place) => from + place,
+        None => bytes.len(),
     }
-    at
 }
 
 /// A line without the one carriage return at its end.
