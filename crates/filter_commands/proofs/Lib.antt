@@ -1,6 +1,7 @@
 pub mod Evaluated
 pub mod Evaluations
 pub mod Endings
+pub mod PlainLines
 pub mod Printed
 pub mod Reports
 pub mod RouteLines

@@ -16,7 +16,7 @@ use Rattle.filter_commands.specs.declared.line_fault.LineFault.{LineFault}
 use Rattle.filter_commands.specs.declared.line_fault.LineFault.TheVariants.{Words, Numbers, TooLong, Prefix}
 
 -- the test of the limits
-within_limits : (metric size : ℕ) → IsWithinLimits metric size → is_within_limits metric size ≡ true
+pub within_limits : (metric size : ℕ) → IsWithinLimits metric size → is_within_limits metric size ≡ true
 within_limits metric size h =
     let a = h.from_two in
     let b = h.to_largest in

@@ -3,18 +3,17 @@ ghost use Rattle.std.specs.Prelude.{◌≡◌, ◌++◌, Ok, Err, OnOk, IfOk, If
 ghost use Rattle.std.specs.Io.{StartsWith};
 ghost use Rattle.std.specs.Io.KnownBytes.{Appends};
 ghost use Rattle.filter_source.specs.Failures.{OnRefusal};
-ghost use Rattle.filter_commands.specs.Eval.{code_in, no_code, route_answer, verdict};
+ghost use Rattle.filter_commands.specs.Eval.{code_in, no_code, route_answer};
 ghost use Rattle.filter_commands.specs.Evaluation.{Breaks, Evaluates, IsCut};
 ghost use Rattle.filter_commands.specs.Faults.{stream_fault};
 
 use crate::fault::ProgramFault;
 use crate::line_fault::LineFault;
 use crate::route_line::read_route;
-use filter_code::{Code, Outcome, run_checked};
+use crate::verdict_line::push_verdict;
+use filter_code::{Code, run_checked};
 use filter_source::{Failure, check_length, read_hexadecimal};
-use line_protocol::{
-    Reply, Service, answer_lines, push_decimal, push_refusal, trim_blanks, write_text,
-};
+use line_protocol::{Reply, Service, answer_lines, push_refusal, trim_blanks, write_text};
 use std::alloc::{AllocError, Global};
 use std::io::{Read, Write};
 
@@ -83,28 +82,6 @@ fn answer_route(
             Ok(Reply::Refused)
         }
     }
-}
-
-/// Puts the line of a verdict at the end of `out`.
-fn push_verdict(out: &mut Vec<u8>, outcome: Outcome) -> Result<(), AllocError>
-    ensures ok { OnOk result (out.new.items ≡ out.old.items ++ verdict outcome) }
-    ensures err { OnErr result (StartsWith out.new.items out.old.items) }
-{
-    match outcome {
-        Outcome::Accept(metric) => {
-            out.extend_from_slice(b"accept ")?;
-            push_decimal(out, u64::from(metric))?;
-        }
-        Outcome::Reject => out.extend_from_slice(b"reject")?,
-        Outcome::Fault(kind, at) => {
-            out.extend_from_slice(b"fault ")?;
-            out.extend_from_slice(kind.code().as_bytes())?;
-            out.push(b' ')?;
-            push_decimal(out, at as u64)?;
-        }
-    }
-    out.push(b'\n')?;
-    Ok(())
 }
 
 /// Answers the lines of `reader` on `writer`: the first has a code file, each other a route. Returns the number of lines that

@@ -8,6 +8,7 @@ mod laws;
 mod line_fault;
 mod report;
 mod route_line;
+mod verdict_line;
 
 pub use check::{Checked, check_source, check_text};
 pub use eval::eval_lines;
@@ -17,6 +18,7 @@ pub use laws::{
     verified_code_says_the_same,
 };
 pub use line_fault::LineFault;
+pub use verdict_line::push_accept;
 
 /// A number of a route line is at most this.
 pub const NUMBER_LIMIT: u32 = 65_535;

@@ -1,16 +1,17 @@
 //! A route line: `PREFIX METRIC SIZE`.
-ghost use Rattle.std.specs.Prelude.{◌≡◌, ◌≤◌, length};
+ghost use Rattle.std.specs.Prelude.{◌≡◌, ◌≤◌, length, IfSome};
 ghost use Rattle.std.specs.Option.{option_map};
+ghost use Rattle.line_protocol.specs.Limits.{line_limit};
 ghost use Rattle.line_protocol.specs.Words.{words};
 ghost use Rattle.prefix_patterns.specs.Reading.{number_in, prefix_in};
 ghost use Rattle.filter_commands.specs.Limits.{number_limit};
-ghost use Rattle.filter_commands.specs.RouteLine.{route_in, route_of_parts, three_of};
+ghost use Rattle.filter_commands.specs.RouteLine.{IsRouteLine, route_in, route_of_parts, three_of};
 
 use crate::NUMBER_LIMIT;
 use crate::line_fault::LineFault;
 use filter_code::Route;
 use line_protocol::{LINE_LIMIT, next_word};
-use prefix_patterns::{read_number, read_prefix};
+use prefix_patterns::{after_byte, leading_number, leading_prefix, read_number, read_prefix};
 
 /// The three words of a line of just three.
 fn three_words(line: &[u8]) -> Option<(&[u8], &[u8], &[u8])>
@@ -41,6 +42,37 @@ fn read_parts(prefix: &[u8], metric: &[u8], size: &[u8]) -> Result<Route, LineFa
     Route::new(prefix, metric, size).ok_or(LineFault::Numbers)
 }
 
+/// The route of a line whose words are parted by one space each, in the usual spelling.
+#[inline(always)]
+fn read_plain(line: &[u8]) -> Option<Route>
+    requires { length line.now ≤ line_limit }
+    ensures { IfSome result (λ route. IsRouteLine line.now route) }
+{
+    let Some((prefix, rest)) = leading_prefix(line) else {
+        return None;
+    };
+    let (metric, rest) = leading_number(after_byte(rest, b' ')?)?;
+    let (size, rest) = leading_number(after_byte(rest, b' ')?)?;
+    if !rest.is_empty() {
+        return None;
+    }
+    let route = Route::new(prefix, metric, size)?;
+    Some(route)
+}
+
+/// Reads a route line word by word.
+#[cold]
+#[inline(never)]
+fn read_words(line: &[u8]) -> Result<Route, LineFault>
+    requires { length line.now ≤ line_limit }
+    ensures { result ≡ route_in line.now }
+{
+    match three_words(line) {
+        None => Err(LineFault::Words),
+        Some((prefix, metric, size)) => read_parts(prefix, metric, size),
+    }
+}
+
 /// Reads a route line, which is at most as long as a line may be.
 pub fn read_route(line: &[u8]) -> Result<Route, LineFault>
     ensures { result ≡ route_in line.now }
@@ -48,8 +80,8 @@ pub fn read_route(line: &[u8]) -> Result<Route, LineFault>
     if line.len() > LINE_LIMIT {
         return Err(LineFault::TooLong);
     }
-    match three_words(line) {
-        None => Err(LineFault::Words),
-        Some((prefix, metric, size)) => read_parts(prefix, metric, size),
+    match read_plain(line) {
+        Some(route) => Ok(route),
+        None => read_words(line),
     }
 }
