@@ -13,11 +13,11 @@ ghost use Rattle.filter_verifier.specs.Safe.{IsSafe};
 ghost use Rattle.filter_tools.specs.Filtering.{AnswersEach, AnswersFirst, Filters, FiltersOff, IsRefusedFilter, code_answer, refusal_line};
 
 use crate::route_of_size::read_route;
-use filter_commands::ProgramFault;
+use filter_commands::{ProgramFault, push_accept};
 use filter_machine::{Verdict, run};
 use filter_source::{Failure, Refusal, check_length, compile_text, verify_code};
 use filter_verifier::Verified;
-use line_protocol::{Reply, Service, answer_lines, push_decimal, push_refusal, write_text};
+use line_protocol::{Reply, Service, answer_lines, push_refusal, write_text};
 use std::alloc::{AllocError, Global};
 use std::io::{Read, Write};
 
@@ -61,14 +61,9 @@ fn push_verdict(out: &mut Vec<u8>, said: Verdict) -> Result<(), AllocError>
     ensures err { OnErr result (StartsWith out.new.items out.old.items) }
 {
     match said {
-        Verdict::Accept(metric) => {
-            out.extend_from_slice(b"accept ")?;
-            push_decimal(out, u64::from(metric))?;
-        }
-        Verdict::Reject => out.extend_from_slice(b"reject")?,
+        Verdict::Accept(metric) => push_accept(out, metric),
+        Verdict::Reject => out.extend_from_slice(b"reject\n"),
     }
-    out.push(b'\n')?;
-    Ok(())
 }
 
 /// Answers a route line by verified code, in domains of the size that it was verified for.
