@@ -1,3 +1,4 @@
 pub mod Metrics
 pub mod Rows
 pub mod Runs
+pub mod TaggedValues

@@ -7,5 +7,6 @@ pub mod Outcomes
 pub mod RouteView
 pub mod Table
 pub mod Values
--- What only bodies are proved against: a configuration of its parts.
+-- What only bodies are proved against: a configuration of its parts, and values as numbers.
 pub mod Steps
+pub mod Tagged

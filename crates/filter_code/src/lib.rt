@@ -6,9 +6,11 @@ mod instruction;
 mod limits;
 mod locals;
 mod machine;
+mod operands;
 mod outcome;
 mod route;
 mod stack;
+mod tagged;
 mod value;
 
 pub use code::Code;

@@ -4,15 +4,15 @@ ghost use Rattle.filter_code.specs.Limits.{local_limit};
 
 use crate::limits::LOCAL_LIMIT;
 use crate::outcome::FaultKind;
-use crate::value::Value;
+use crate::tagged::{Slot, Tagged};
 use std::marker::Model;
 
 /// The local variables of a run, each empty until it is set. They are held in place: nothing is allocated.
 ///
 /// A contract sees them as a list, in the order of their numbers.
 #[derive(Drop)]
-pub struct Locals {
-    values: [Option<Value>; LOCAL_LIMIT],
+pub(crate) struct Locals {
+    values: [Slot; LOCAL_LIMIT],
     count: usize,
 }
 
@@ -30,19 +30,19 @@ impl Model for Locals {
 
 impl Locals {
     /// So many local variables, all empty.
-    pub fn new(count: u8) -> Locals
+    pub(crate) fn new(count: u8) -> Locals
         requires { count ≤ local_limit }
         ensures { result ≡ replicate count None }
     {
         Locals {
-            values: [None; LOCAL_LIMIT],
+            values: [Slot::empty(); LOCAL_LIMIT],
             count: usize::from(count),
         }
     }
 
     /// Checks that there is a local variable with this number. A fault if and only if there is none.
     #[inline(always)]
-    pub fn check(&self, local: u8) -> Result<(), FaultKind>
+    pub(crate) fn check(&self, local: u8) -> Result<(), FaultKind>
         ensures { MatchResult result (λ _. local < length self.now) (λ why. (why ≡ fault.UnknownName) × (length self.now ≤ local)) }
     {
         if usize::from(local) < self.count {
@@ -54,13 +54,13 @@ impl Locals {
 
     /// The value of a local variable. A fault if and only if there is none with this number, or it is empty.
     #[inline(always)]
-    pub fn get(&self, local: u8) -> Result<Value, FaultKind>
+    pub(crate) fn get(&self, local: u8) -> Result<Tagged, FaultKind>
         ensures { MatchResult result
             (λ v. slice_get self.now local ≡ Some (Some v))
             (λ why. MatchOption (slice_get self.now local) (why ≡ fault.UnknownName) (λ held. (held ≡ None) × (why ≡ fault.WrongKind))) }
     {
         self.check(local)?;
-        match self.values[usize::from(local)] {
+        match self.values[usize::from(local)].held() {
             Some(value) => Ok(value),
             None => Err(FaultKind::WrongKind),
         }
@@ -68,10 +68,10 @@ impl Locals {
 
     /// Sets a local variable.
     #[inline(always)]
-    pub fn set(&mut self, local: u8, value: Value)
+    pub(crate) fn set(&mut self, local: u8, value: Tagged)
         requires { local < length self.old }
         ensures { self.new ≡ slice_set self.old local (Some value) }
     {
-        self.values[usize::from(local)] = Some(value);
+        self.values[usize::from(local)] = Slot::holding(value);
     }
 }

@@ -2,24 +2,26 @@ ghost use Rattle.std.specs.Prelude.{◌≡◌, ℕ, ◌+◌, ◌-◌, ◌*◌, �
 ghost use Rattle.std.specs.Prelude.{min, nat_le, nat_lt, slice_get, IfOk, MatchResult};
 ghost use Rattle.prefix_patterns.specs.Bits.{address_length, address_of, prefix_bits};
 ghost use Rattle.prefix_patterns.specs.Matching.{lies_within};
-ghost use Rattle.filter_code.specs.Limits.{stack_limit};
+ghost use Rattle.filter_code.specs.Limits.{instruction_limit, stack_limit};
 ghost use Rattle.filter_code.specs.declared.outcome.FaultKind.TheVariants as fault;
 ghost use Rattle.filter_code.specs.declared.value.Value.TheVariants as value;
 ghost use Rattle.filter_code.specs.RouteView.{RouteView};
 ghost use Rattle.filter_code.specs.Machine.{Going, Ended, EndsAfter, IsOutcome, carry_out, on_two, outcome_of};
 ghost use Rattle.filter_code.specs.CodeView.{HasMask, CodeView};
-ghost use Rattle.filter_code.specs.Steps.{config_of, stopped};
-ghost use Rattle.filter_code.specs.Table.{One, Two, Good, Bad, are_alike, are_nested, are_ordered, each_is, is_bool, is_int};
-ghost use Rattle.filter_code.specs.Table.{is_ip, is_prefix, one_of, passing, two_of};
+ghost use Rattle.filter_code.specs.Steps.{config_of, operands_in, stopped};
+ghost use Rattle.filter_code.specs.Table.{Two, are_alike, are_nested, are_ordered};
 ghost use Rattle.filter_code.specs.Values.{bits_of, is_same, kind_of, net_of, number_of};
 
 use crate::code::Code;
 use crate::instruction::Instr;
+use crate::limits::STACK_LIMIT;
 use crate::locals::Locals;
+use crate::operands::{
+    give, put, take_bool, take_int, take_ip, take_one, take_prefix, take_two, take_two_ints,
+};
 use crate::outcome::{Counted, FaultKind, Outcome};
 use crate::route::Route;
-use crate::stack::Stack;
-use crate::value::Value;
+use crate::tagged::Tagged;
 use prefix_patterns::{Ip, PatternSet, Prefix};
 
 /// How an instruction ends a run.
@@ -55,102 +57,33 @@ impl Stop {
     }
 }
 
-/// Takes an int.
-#[inline(always)]
-fn take_int(stack: &mut Stack<Value>) -> Result<u32, FaultKind>
-    ensures { let drawn = passing (each_is (λ x. is_int (kind_of x))) (one_of stack.old) in
-        MatchResult result (λ v. drawn ≡ Good (One (value.Int v)) stack.new) (λ why. drawn ≡ Bad why) }
-{
-    match stack.take_one()? {
-        Value::Int(v) => Ok(v),
-        _ => Err(FaultKind::WrongKind),
-    }
-}
-
-/// Takes a bool.
-#[inline(always)]
-fn take_bool(stack: &mut Stack<Value>) -> Result<bool, FaultKind>
-    ensures { let drawn = passing (each_is (λ x. is_bool (kind_of x))) (one_of stack.old) in
-        MatchResult result (λ v. drawn ≡ Good (One (value.Bool v)) stack.new) (λ why. drawn ≡ Bad why) }
-{
-    match stack.take_one()? {
-        Value::Bool(v) => Ok(v),
-        _ => Err(FaultKind::WrongKind),
-    }
-}
-
-/// Takes an ip.
-#[inline(always)]
-fn take_ip(stack: &mut Stack<Value>) -> Result<Ip, FaultKind>
-    ensures { let drawn = passing (each_is (λ x. is_ip (kind_of x))) (one_of stack.old) in
-        MatchResult result (λ v. drawn ≡ Good (One (value.Addr v)) stack.new) (λ why. drawn ≡ Bad why) }
-{
-    match stack.take_one()? {
-        Value::Addr(v) => Ok(v),
-        _ => Err(FaultKind::WrongKind),
-    }
-}
-
-/// Takes a prefix.
-#[inline(always)]
-fn take_prefix(stack: &mut Stack<Value>) -> Result<Prefix, FaultKind>
-    ensures { let drawn = passing (each_is (λ x. is_prefix (kind_of x))) (one_of stack.old) in
-        MatchResult result (λ v. drawn ≡ Good (One (value.Net v)) stack.new) (λ why. drawn ≡ Bad why) }
-{
-    match stack.take_one()? {
-        Value::Net(v) => Ok(v),
-        _ => Err(FaultKind::WrongKind),
-    }
-}
-
-/// Takes two ints; the second was on top.
-#[inline(always)]
-fn take_two_ints(stack: &mut Stack<Value>) -> Result<(u32, u32), FaultKind>
-    ensures { let drawn = passing (each_is (λ x. is_int (kind_of x))) (two_of stack.old) in
-        MatchResult result (λ p. drawn ≡ Good (Two (value.Int p.0) (value.Int p.1)) stack.new) (λ why. drawn ≡ Bad why) }
-{
-    match stack.take_two()? {
-        (Value::Int(a), Value::Int(b)) => Ok((a, b)),
-        _ => Err(FaultKind::WrongKind),
-    }
-}
-
-/// Puts a value on the stack.
-#[inline(always)]
-fn give(value: Value, stack: &mut Stack<Value>) -> Result<(), FaultKind>
-    ensures given { MatchResult result (λ _. stack.new ≡ value ∷ stack.old) (λ why. why ≡ fault.FullStack) }
-    ensures room { MatchResult result (λ _. length stack.old < stack_limit) (λ why. stack_limit ≤ length stack.old) }
-{
-    stack.push(value)
-}
-
 /// The sum modulo 2^32.
 #[inline(always)]
-fn sum(operands: (u32, u32)) -> Value
+fn sum(operands: (u32, u32)) -> Tagged
     ensures { result ≡ value.Int ((operands.0 + operands.1) % 2 ^ 32) }
 {
-    Value::Int(operands.0.wrapping_add(operands.1))
+    Tagged::int(operands.0.wrapping_add(operands.1))
 }
 
 /// The first less the second, modulo 2^32.
 #[inline(always)]
-fn difference(operands: (u32, u32)) -> Value
+fn difference(operands: (u32, u32)) -> Tagged
     ensures { result ≡ value.Int ((operands.0 + (2 ^ 32 - operands.1)) % 2 ^ 32) }
 {
-    Value::Int(operands.0.wrapping_sub(operands.1))
+    Tagged::int(operands.0.wrapping_sub(operands.1))
 }
 
 /// The product modulo 2^32.
 #[inline(always)]
-fn product(operands: (u32, u32)) -> Value
+fn product(operands: (u32, u32)) -> Tagged
     ensures { result ≡ value.Int ((operands.0 * operands.1) % 2 ^ 32) }
 {
-    Value::Int(operands.0.wrapping_mul(operands.1))
+    Tagged::int(operands.0.wrapping_mul(operands.1))
 }
 
 /// The first divided by the second, the rest dropped. A fault exactly where the second is 0.
 #[inline(always)]
-fn quotient(operands: (u32, u32)) -> Result<Value, FaultKind>
+fn quotient(operands: (u32, u32)) -> Result<Tagged, FaultKind>
     ensures { MatchResult result
         (λ v. (0 < operands.1) × (v ≡ value.Int (operands.0 / operands.1)))
         (λ why. (operands.1 ≡ 0) × (why ≡ fault.ZeroDivisor)) }
@@ -158,76 +91,77 @@ fn quotient(operands: (u32, u32)) -> Result<Value, FaultKind>
     if operands.1 == 0 {
         return Err(FaultKind::ZeroDivisor);
     }
-    Ok(Value::Int(operands.0 / operands.1))
+    Ok(Tagged::int(operands.0 / operands.1))
 }
 
 /// The greater.
 #[inline(always)]
-fn greater(operands: (u32, u32)) -> Value
+fn greater(operands: (u32, u32)) -> Tagged
     ensures { result ≡ value.Int (max operands.0 operands.1) }
 {
-    Value::Int(operands.0.max(operands.1))
+    Tagged::int(operands.0.max(operands.1))
 }
 
 /// Whether two values of one kind are equal. A fault exactly where they have two kinds.
 #[inline(always)]
-fn equal(operands: (Value, Value)) -> Result<Value, FaultKind>
+fn equal(operands: (Tagged, Tagged)) -> Result<Tagged, FaultKind>
     ensures { MatchResult result
         (λ v. (are_alike (kind_of operands.0) (kind_of operands.1) ≡ true) × (v ≡ value.Bool (is_same operands.0 operands.1)))
         (λ why. (are_alike (kind_of operands.0) (kind_of operands.1) ≡ false) × (why ≡ fault.WrongKind)) }
 {
-    match &operands {
-        (Value::Int(a), Value::Int(b)) => Ok(Value::Bool(*a == *b)),
-        (Value::Bool(a), Value::Bool(b)) => Ok(Value::Bool(*a == *b)),
-        (Value::Addr(a), Value::Addr(b)) => Ok(Value::Bool(*a == *b)),
-        (Value::Net(a), Value::Net(b)) => Ok(Value::Bool(*a == *b)),
-        _ => Err(FaultKind::WrongKind),
+    match operands.0.equals(operands.1) {
+        Some(same) => Ok(Tagged::bool(same)),
+        None => Err(FaultKind::WrongKind),
     }
 }
 
 /// Two ints or two ips, as the numbers by which they are ordered. A fault exactly where the values are neither.
 #[inline(always)]
-fn ordered(operands: (Value, Value)) -> Result<(u32, u32), FaultKind>
+fn ordered(operands: (Tagged, Tagged)) -> Result<(u32, u32), FaultKind>
     ensures { MatchResult result
         (λ p. (are_ordered (kind_of operands.0) (kind_of operands.1) ≡ true) × (number_of operands.0 ≡ Some p.0)
         × (number_of operands.1 ≡ Some p.1))
         (λ why. (are_ordered (kind_of operands.0) (kind_of operands.1) ≡ false) × (why ≡ fault.WrongKind)) }
 {
-    match &operands {
-        (Value::Int(a), Value::Int(b)) => Ok((*a, *b)),
-        (Value::Addr(a), Value::Addr(b)) => Ok((a.0, b.0)),
-        _ => Err(FaultKind::WrongKind),
+    match operands.0.numbers(operands.1) {
+        Some(numbers) => Ok(numbers),
+        None => Err(FaultKind::WrongKind),
     }
 }
 
 /// Whether the first is less.
 #[inline(always)]
-fn less(operands: (u32, u32)) -> Value
+fn less(operands: (u32, u32)) -> Tagged
     ensures { result ≡ value.Bool (nat_lt operands.0 operands.1) }
 {
-    Value::Bool(operands.0 < operands.1)
+    Tagged::bool(operands.0 < operands.1)
 }
 
 /// Whether the first is not greater.
 #[inline(always)]
-fn not_greater(operands: (u32, u32)) -> Value
+fn not_greater(operands: (u32, u32)) -> Tagged
     ensures { result ≡ value.Bool (nat_le operands.0 operands.1) }
 {
-    Value::Bool(operands.0 <= operands.1)
+    Tagged::bool(operands.0 <= operands.1)
 }
 
 /// Whether an ip or a prefix lies within a prefix. A fault exactly where the values are not these.
 #[inline(always)]
-fn within(operands: (Value, Value)) -> Result<Value, FaultKind>
+fn within(operands: (Tagged, Tagged)) -> Result<Tagged, FaultKind>
     ensures { MatchResult result
         (λ v. (are_nested (kind_of operands.0) (kind_of operands.1) ≡ true)
         × (on_two bits_of net_of (λ bits net. value.Bool (lies_within bits net)) (Two operands.0 operands.1) ≡ Some v))
         (λ why. (are_nested (kind_of operands.0) (kind_of operands.1) ≡ false) × (why ≡ fault.WrongKind)) }
 {
-    match &operands {
-        (Value::Addr(ip), Value::Net(net)) => Ok(Value::Bool(net.contains(*ip))),
-        (Value::Net(inner), Value::Net(outer)) => Ok(Value::Bool(inner.within(outer))),
-        _ => Err(FaultKind::WrongKind),
+    let Some(net) = operands.1.as_prefix() else {
+        return Err(FaultKind::WrongKind);
+    };
+    if let Some(ip) = operands.0.as_ip() {
+        return Ok(Tagged::bool(net.contains(ip)));
+    }
+    match operands.0.as_prefix() {
+        Some(inner) => Ok(Tagged::bool(inner.within(&net))),
+        None => Err(FaultKind::WrongKind),
     }
 }
 
@@ -267,67 +201,93 @@ fn metric_set(operand: u32, route: &Route) -> Result<u32, FaultKind>
     Ok(operand.min(route.size()))
 }
 
-/// Carries out one instruction, and answers how far ahead the next one is.
-/// After a stop the stack, the local variables and the metric are unspecified.
+/// Carries out one instruction. A jump adds to the place what it skips; the next instruction is then one further.
+/// After a stop the operands, the local variables and the metric are unspecified.
 #[inline(always)]
 fn carry_out(
-    instr: Instr,
+    instr: &Instr,
     code: &Code,
     route: &Route,
-    stack: &mut Stack<Value>,
+    stack: &mut [Tagged; STACK_LIMIT],
+    depth: &mut usize,
     locals: &mut Locals,
     metric: &mut u32,
-) -> Result<usize, Stop>
-    requires { HasMask instr }
-    ensures step { (pc : ℕ) →
-        let before = config_of pc stack.old locals.old metric.old in
-        let state = carry_out code.now route.now before (Some instr) in
+    pc: &mut usize,
+) -> Result<(), Stop>
+    requires mask { HasMask instr.now }
+    requires inside { pc.old < instruction_limit }
+    requires all { length stack.old ≡ stack_limit }
+    requires within { depth.old ≤ stack_limit }
+    ensures step { let before = config_of pc.old (operands_in stack.old depth.old) locals.old metric.old in
+        let state = carry_out code.now route.now before (Some instr.now) in
         MatchResult result
-        (λ advance. state ≡ Going (config_of (pc + advance) stack.new locals.new metric.new))
-        (λ stop. state ≡ Ended (stopped stop pc)) }
-    ensures on { IfOk result (λ advance. (0 < advance) × (advance ≤ 65536)) }
+        (λ _. state ≡ Going (config_of (pc.new + 1) (operands_in stack.new depth.new) locals.new metric.new))
+        (λ stop. state ≡ Ended (stopped stop pc.old)) }
+    ensures on { MatchResult result (λ _. (pc.old ≤ pc.new) × (pc.new ≤ 131072)) (λ _. pc.new ≡ pc.old) }
+    ensures within { IfOk result (λ _. depth.new ≤ stack_limit) }
+    ensures all { length stack.new ≡ stack_limit }
 {
     match instr {
-        Instr::Int(number) => give(Value::Int(number), stack)?,
-        Instr::Bool(flag) => give(Value::Bool(flag), stack)?,
-        Instr::Ip(ip) => give(Value::Addr(ip), stack)?,
-        Instr::Prefix(prefix) => give(Value::Net(prefix), stack)?,
-        Instr::Load(local) => give(locals.get(local)?, stack)?,
+        Instr::Int(number) => give(Tagged::int(*number), stack, depth)?,
+        Instr::Bool(flag) => give(Tagged::bool(*flag), stack, depth)?,
+        Instr::Ip(ip) => give(Tagged::ip(*ip), stack, depth)?,
+        Instr::Prefix(prefix) => give(Tagged::prefix(*prefix), stack, depth)?,
+        Instr::Load(local) => give(locals.get(*local)?, stack, depth)?,
         Instr::Store(local) => {
-            locals.check(local)?;
-            locals.set(local, stack.take_one()?);
+            locals.check(*local)?;
+            locals.set(*local, take_one(stack, depth)?);
         }
-        Instr::Net => give(Value::Net(route.net()), stack)?,
-        Instr::Metric => give(Value::Int(*metric), stack)?,
-        Instr::Received => give(Value::Int(route.metric()), stack)?,
-        Instr::SetMetric => *metric = metric_set(take_int(stack)?, route)?,
-        Instr::Add => give(sum(take_two_ints(stack)?), stack)?,
-        Instr::Sub => give(difference(take_two_ints(stack)?), stack)?,
-        Instr::Mul => give(product(take_two_ints(stack)?), stack)?,
-        Instr::Div => give(quotient(take_two_ints(stack)?)?, stack)?,
-        Instr::Max => give(greater(take_two_ints(stack)?), stack)?,
-        Instr::Eq => give(equal(stack.take_two()?)?, stack)?,
-        Instr::Lt => give(less(ordered(stack.take_two()?)?), stack)?,
-        Instr::Le => give(not_greater(ordered(stack.take_two()?)?), stack)?,
-        Instr::Not => give(Value::Bool(!take_bool(stack)?), stack)?,
-        Instr::Addr => give(Value::Addr(take_prefix(stack)?.address()), stack)?,
-        Instr::Len => give(Value::Int(u32::from(take_prefix(stack)?.len())), stack)?,
-        Instr::Mask(bits) => give(Value::Addr(masked(take_ip(stack)?, bits)), stack)?,
-        Instr::Within => give(within(stack.take_two()?)?, stack)?,
+        Instr::Net => give(Tagged::prefix(route.net()), stack, depth)?,
+        Instr::Metric => give(Tagged::int(*metric), stack, depth)?,
+        Instr::Received => give(Tagged::int(route.metric()), stack, depth)?,
+        Instr::SetMetric => *metric = metric_set(take_int(stack, depth)?, route)?,
+        Instr::Add => put(sum(take_two_ints(stack, depth)?), stack, depth),
+        Instr::Sub => put(difference(take_two_ints(stack, depth)?), stack, depth),
+        Instr::Mul => put(product(take_two_ints(stack, depth)?), stack, depth),
+        Instr::Div => put(quotient(take_two_ints(stack, depth)?)?, stack, depth),
+        Instr::Max => put(greater(take_two_ints(stack, depth)?), stack, depth),
+        Instr::Eq => put(equal(take_two(stack, depth)?)?, stack, depth),
+        Instr::Lt => put(less(ordered(take_two(stack, depth)?)?), stack, depth),
+        Instr::Le => put(not_greater(ordered(take_two(stack, depth)?)?), stack, depth),
+        Instr::Not => put(Tagged::bool(!take_bool(stack, depth)?), stack, depth),
+        Instr::Addr => put(
+            Tagged::ip(take_prefix(stack, depth)?.address()),
+            stack,
+            depth,
+        ),
+        Instr::Len => put(
+            Tagged::int(u32::from(take_prefix(stack, depth)?.len())),
+            stack,
+            depth,
+        ),
+        Instr::Mask(bits) => put(
+            Tagged::ip(masked(take_ip(stack, depth)?, *bits)),
+            stack,
+            depth,
+        ),
+        Instr::Within => put(within(take_two(stack, depth)?)?, stack, depth),
         Instr::Member(set) => {
-            let patterns = set_at(code, set)?;
-            give(Value::Bool(patterns.matches(&take_prefix(stack)?)), stack)?;
+            let patterns = set_at(code, *set)?;
+            put(
+                Tagged::bool(patterns.matches(&take_prefix(stack, depth)?)),
+                stack,
+                depth,
+            );
         }
-        Instr::Jump(skipped) => return Ok(1 + usize::from(skipped)),
+        Instr::Jump(skipped) => {
+            *pc += usize::from(*skipped);
+            return Ok(());
+        }
         Instr::JumpIfNot(skipped) => {
-            if !take_bool(stack)? {
-                return Ok(1 + usize::from(skipped));
+            if !take_bool(stack, depth)? {
+                *pc += usize::from(*skipped);
+                return Ok(());
             }
         }
         Instr::Accept => return Err(Stop::Accept(*metric)),
         Instr::Reject => return Err(Stop::Reject),
     }
-    Ok(1)
+    Ok(())
 }
 
 /// Runs a code on a route, and answers how the run ends and after how many steps. The step that ends the run counts.
@@ -338,15 +298,32 @@ pub fn run_counted(code: &Code, route: &Route) -> Counted
     ensures accepted { (d : ℕ) → result.outcome ≡ Outcome.Accept d → (route.now.metric ≤ d) × (d ≤ route.now.size) }
 {
     let instrs = code.instrs();
-    let mut stack = Stack::new();
+    // Code that begins with ACCEPT, as a filter that accepts everything does, needs no stack.
+    if let Some(Instr::Accept) = instrs.first() {
+        return Counted {
+            outcome: Outcome::Accept(route.metric()),
+            steps: 1,
+        };
+    }
+    let mut stack = [Tagged::int(0); STACK_LIMIT];
+    let mut depth = 0;
     let mut locals = Locals::new(code.locals());
     let mut metric = route.metric();
     let mut pc = 0;
     let mut steps = 0;
     while let Some(instr) = instrs.get(pc) {
         steps += 1;
-        match carry_out(*instr, code, route, &mut stack, &mut locals, &mut metric) {
-            Ok(advance) => pc += advance,
+        match carry_out(
+            instr,
+            code,
+            route,
+            &mut stack,
+            &mut depth,
+            &mut locals,
+            &mut metric,
+            &mut pc,
+        ) {
+            Ok(()) => pc += 1,
             Err(stop) => {
                 return Counted {
                     outcome: stop.at(pc),

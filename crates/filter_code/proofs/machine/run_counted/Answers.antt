@@ -1,29 +1,53 @@
-use Rattle.std.proofs.Common.{arith}
+use Rattle.std.proofs.Common.{◌≡◌, ℕ, Some, ◌∙◌, ap, arith, refl}
+use Rattle.std.specs.Prelude.{slice_get}
 use Rattle.std.proofs.lemmas.Grind.{common_steps}
 use Rattle.std.proofs.lemmas.Option.{gets}
-use Rattle.filter_code.specs.Machine.{Config}
-use Rattle.filter_code.specs.Steps.{config_of}
+use Rattle.filter_code.specs.Machine.{Config, EndsAfter, start}
+use Rattle.filter_code.specs.CodeView.{CodeView}
+use Rattle.filter_code.specs.RouteView.{RouteView}
+use Rattle.filter_code.specs.declared.instruction.Instr.TheVariants as instr
+use Rattle.filter_code.specs.declared.outcome.Outcome.TheVariants as outcome
+use Rattle.filter_code.specs.Steps.{config_of, operands_in, stopped}
 use Rattle.filter_code.proofs.Metrics.{accepted_in_range}
 use Rattle.filter_code.proofs.Runs.{begun_in, carried_on, carried_over, left, outcome_after}
 use Rattle.filter_code.proofs.machine.run_counted.Goals as goal
 
+-- code that begins with ACCEPT accepts at once
+accepted_first : (program : CodeView) (route : RouteView) → slice_get program.instrs 0 ≡ Some instr.Accept →
+    EndsAfter program route 1 (outcome.Accept route.metric)
+accepted_first program route here =
+    carried_over program route 0 (start program route) instr.Accept (outcome.Accept route.metric) (begun_in program route) here refl
+
+pub returns-in-Some-Accept-clause-steps : goal.returns-in-Some-Accept-clause-steps
+returns-in-Some-Accept-clause-steps c =
+    rw c.metric.ensures.value (accepted_first c.args.code.now c.args.route.now (grind (arith, common_steps, gets)))
+
+pub returns-in-Some-Accept-clause-outcome : goal.returns-in-Some-Accept-clause-outcome
+returns-in-Some-Accept-clause-outcome c = outcome_after _ _ _ _ (returns-in-Some-Accept-clause-steps c)
+
 pub loop-instr-init : goal.loop-instr-init
-loop-instr-init c =
-    rw (c.new-stack.ensures, c.new-locals.ensures, c.locals.ensures.value, c.metric-metric.ensures.value)
-    (begun_in c.args.code.now c.args.route.now)
+loop-instr-init c = (
+  rw (c.new-locals.ensures, c.locals.ensures.value, c.metric-metric.ensures.value)
+      (begun_in c.args.code.now c.args.route.now),
+  omega arith,
+  refl,
+)
 
 pub loop-instr-preserved : goal.loop-instr-preserved
 loop-instr-preserved c =
-    let config : Config = config_of c.loop-instr.pc c.loop-instr.stack c.loop-instr.locals c.loop-instr.metric in
-    carried_on c.args.code.now c.args.route.now c.loop-instr.steps config c.in-Some.instr.now _ c.loop-instr.invariant
-    (grind (arith, common_steps, gets)) (c.in-Ok.ensures.step c.loop-instr.pc)
+    let config : Config = config_of c.loop-instr.pc (operands_in c.loop-instr.stack c.loop-instr.depth) c.loop-instr.locals c.loop-instr.metric in (
+      carried_on c.args.code.now c.args.route.now c.loop-instr.steps config c.in-Some.instr.now _ c.loop-instr.invariant.0
+          (grind (arith, common_steps, gets)) c.in-Ok.ensures.step,
+      c.in-Ok.ensures.within,
+      c.in-Ok.ensures.all,
+    )
 
 pub returns-in-Err : goal.returns-in-Err
 returns-in-Err c =
-    let config : Config = config_of c.loop-instr.pc c.loop-instr.stack c.loop-instr.locals c.loop-instr.metric in
+    let config : Config = config_of c.loop-instr.pc (operands_in c.loop-instr.stack c.loop-instr.depth) c.loop-instr.locals c.loop-instr.metric in
     let ended = carried_over c.args.code.now c.args.route.now c.loop-instr.steps config c.in-Some.instr.now _
-    c.loop-instr.invariant (grind (arith, common_steps, gets)) (c.in-Err.ensures.step c.loop-instr.pc) in
-    let ends = rw (← c.at.ensures) at ended in
+    c.loop-instr.invariant.0 (grind (arith, common_steps, gets)) c.in-Err.ensures.step in
+    let ends = rw (← (c.at.ensures ∙ ap (λ (pc : ℕ). stopped c.in-Err.stop pc) c.in-Err.ensures.on)) at ended in
     record {
       outcome = outcome_after _ _ _ _ ends;
       steps = ends;
@@ -32,8 +56,8 @@ returns-in-Err c =
 
 pub returns : goal.returns
 returns c =
-    let config : Config = config_of c.loop-instr.pc c.loop-instr.stack c.loop-instr.locals c.loop-instr.metric in
-    let ends = left c.args.code.now c.args.route.now c.loop-instr.steps config c.loop-instr.invariant (grind (arith, common_steps)) in
+    let config : Config = config_of c.loop-instr.pc (operands_in c.loop-instr.stack c.loop-instr.depth) c.loop-instr.locals c.loop-instr.metric in
+    let ends = left c.args.code.now c.args.route.now c.loop-instr.steps config c.loop-instr.invariant.0 (grind (arith, common_steps)) in
     record {
       outcome = outcome_after _ _ _ _ ends;
       steps = ends;

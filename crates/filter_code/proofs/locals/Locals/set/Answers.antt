@@ -9,4 +9,4 @@ returns c =
     let as_many : length (take inside.count inside.values) ≡ length c.args.self.now = ap length c.self.view_is in
     let here : c.args.local < inside.count = omega (arith, c.requires, length-take inside.count inside.values) in
     let set_in = take-set-lt inside.count inside.values c.args.local (Some c.args.value) here in
-    rw c.from.ensures (set_in ∙ ap (λ locals. slice_set locals c.args.local (Some c.args.value)) c.self.view_is)
+    rw (c.from.ensures, c.holding.ensures) (set_in ∙ ap (λ locals. slice_set locals c.args.local (Some c.args.value)) c.self.view_is)
