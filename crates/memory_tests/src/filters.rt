@@ -1,10 +1,9 @@
 //! A filter's text: read, judged and compiled, with memory and without.
 
-use crate::refusals::answered;
 use filter_code::{Code, Instr};
 use filter_compiler::{CompileFault, compile};
 use filter_parser::{Filter, ParseFault, parse};
-use filter_types::{TypeFault, Typed, check};
+use filter_types::{Typed, check};
 use prefix_patterns::{Ip, Pattern, Prefix};
 use std::fmt::{self, Write};
 use std::process::Abort;
@@ -118,22 +117,15 @@ fn a_text_is_read_or_p11(rt: HostRuntime) -> Result<(), Fail> {
         assert_eq!(rt; (fault.code(), fault.at()), ("P11", 0));
         expect_tree(&rt, &parse(rt.alloc(), TEXT.as_bytes())?)?;
     }
-    let filter = read.map_err(|fault| answered("parse", fault))?;
-    expect_tree(&rt, &filter)?;
+    expect_tree(&rt, &read?)?;
     Ok(())
 }
 
 #[test]
-fn a_filter_is_judged_or_y6(rt: HostRuntime) -> Result<(), Fail> {
+fn a_filter_is_judged_without_memory(rt: HostRuntime) -> Result<(), Fail> {
     let judged = check(rt.alloc(), parse(rt.alloc(), TEXT.as_bytes())?);
-    if let Err(fault) = &judged {
-        assert_eq!(rt; *fault, TypeFault::Memory);
-        assert_eq!(rt; (fault.code(), fault.at()), ("Y6", 0));
-        let again = parse(rt.alloc(), TEXT.as_bytes())?;
-        expect_typed(&rt, &check(rt.alloc(), again)?)?;
-    }
-    let typed = judged.map_err(|fault| answered("check", fault))?;
-    expect_typed(&rt, &typed)?;
+    assert!(rt; judged.is_ok());
+    expect_typed(&rt, &judged?)?;
     Ok(())
 }
 
@@ -146,6 +138,5 @@ fn a_filter_is_compiled_or_g3(rt: HostRuntime) -> Result<(), Fail> {
         assert_eq!(rt; (fault.code(), fault.at()), ("G3", 0));
         expect_code(&rt, &compile(rt.alloc(), &typed)?)?;
     }
-    let code = compiled.map_err(|fault| answered("compile", fault))?;
-    expect_code(&rt, &code)
+    expect_code(&rt, &compiled?)
 }
