@@ -1,6 +1,6 @@
 //! Code files: what is read is written again as the same bytes.
 
-use crate::inputs::damaged;
+use crate::inputs::{damaged, named};
 use crate::runs::expect_safe;
 use code_file::{FileFault, read_code, write_code};
 use filter_code::Code;
@@ -52,7 +52,8 @@ fn files_are_read_as_they_are_written(rt: HostRuntime) -> Result<(), Fail> {
             read = read.saturating_add(1);
             let written = write_code(alloc, &code)?;
             assert_eq!(rt; written.as_slice(), file.as_slice(), "seed {seed}");
-            if expect_safe(&rt, alloc, &mut numbers, code, seed)? {
+            let outcome = expect_safe(&rt, alloc, &mut numbers, code, seed);
+            if named(&rt, seed, outcome)? {
                 taken = taken.saturating_add(1);
             }
         }

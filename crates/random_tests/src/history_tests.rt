@@ -1,7 +1,6 @@
 //! Histories: the tables that a replay gives are those that the history left.
 
-ghost use Rattle.std.specs.Prelude.{◌≤◌};
-
+use crate::inputs::named;
 use filter_code::{Code, Instr};
 use filter_verifier::{Verified, verify};
 use netchange_core::{Event, Opening, Tables};
@@ -103,23 +102,35 @@ fn expect_same(
     Ok(())
 }
 
+/// Asserts that a history replays, and is full at its limit.
+fn expect_replay(
+    rt: &impl Abort,
+    alloc: Global,
+    filters: &[Arc<Verified>; 4],
+    seed: u64,
+) -> Result<(), Fail> {
+    let mut numbers = Numbers::new(seed);
+    let limit = numbers.below(250).saturating_add(1);
+    let mut journal = open(alloc, limit.saturating_add(12))?;
+    for _ in 0..limit {
+        let event = random_event(&mut numbers, &journal, filters)?;
+        journal.apply(event)?;
+    }
+    let mut tables = replay(alloc, journal.opening(), journal.entries())?;
+    expect_same(rt, &mut journal, &mut tables, seed)?;
+    let full = journal.apply(Event::Show(0));
+    assert!(rt; matches!(&full, Err(CallFault::Full)), "seed {seed}");
+    assert_eq!(rt; journal.entries().len(), limit as usize + 12, "seed {seed}");
+    Ok(())
+}
+
 #[test]
 fn histories_replay(rt: HostRuntime) -> Result<(), Fail> {
     let alloc = rt.alloc();
     let filters = filters(alloc)?;
     for seed in 0..1_000 {
-        let mut numbers = Numbers::new(seed);
-        let limit = numbers.below(250).saturating_add(1);
-        let mut journal = open(alloc, limit.saturating_add(12))?;
-        for _ in 0..limit {
-            let event = random_event(&mut numbers, &journal, &filters)?;
-            journal.apply(event)?;
-        }
-        let mut tables = replay(alloc, journal.opening(), journal.entries())?;
-        expect_same(&rt, &mut journal, &mut tables, seed)?;
-        let full = journal.apply(Event::Show(0));
-        assert!(rt; matches!(&full, Err(CallFault::Full)), "seed {seed}");
-        assert_eq!(rt; journal.entries().len(), limit as usize + 12, "seed {seed}");
+        let replayed = expect_replay(&rt, alloc, &filters, seed);
+        named(&rt, seed, replayed)?;
     }
     Ok(())
 }

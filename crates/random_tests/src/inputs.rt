@@ -1,9 +1,8 @@
 //! Inputs: what is good, with some bytes changed; parts of a language in any order; bytes a few at a time.
 
-ghost use Rattle.std.specs.Prelude.{◌<◌};
-
 use std::alloc::{AllocError, Global};
 use std::io::{self, Read};
+use std::test::Fail;
 use worked_rows::Numbers;
 
 /// Some bytes with one of them, or up to so many, changed, dropped or put in, or with the rest cut off.
@@ -58,6 +57,14 @@ pub fn joined(
     }
     text.extend_from_slice(last.as_bytes())?;
     Ok(text)
+}
+
+/// What a case came to. The seed of one that failed is told.
+pub fn named<T>(rt: &HostRuntime, seed: u64, outcome: Result<T, Fail>) -> Result<T, Fail> {
+    if outcome.is_err() {
+        let _ = eprintln!(rt; "seed {seed}");
+    }
+    outcome
 }
 
 /// Gives at most so many bytes a read.

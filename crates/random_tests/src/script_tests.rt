@@ -1,8 +1,9 @@
 //! Scripts: they are answered in the same way whatever pieces they are read in, with a line for each line that is not skipped.
 
-use crate::inputs::{Pieces, damaged, joined};
+use crate::inputs::{Pieces, damaged, joined, named};
 use operator_cmds::run_script;
 use std::alloc::{AllocError, Global};
+use std::process::Abort;
 use std::test::Fail;
 use worked_rows::Numbers;
 
@@ -65,29 +66,38 @@ fn answered_lines(script: &[u8]) -> usize {
     count
 }
 
+/// Asserts that a script is answered alike in pieces and whole. Says how many of its lines were refused.
+fn expect_alike(rt: &impl Abort, alloc: Global, seed: u64) -> Result<u32, Fail> {
+    let mut numbers = Numbers::new(seed);
+    let script = random_script(alloc, &mut numbers)?;
+    let (mut whole, mut pieced) = (Vec::new(alloc), Vec::new(alloc));
+    let mut pieces = Pieces {
+        rest: script.as_slice(),
+        most: numbers.place(9).saturating_add(1),
+    };
+    let refused = run_script(alloc, &mut script.as_slice(), &mut whole)?;
+    assert_eq!(rt;
+        run_script(alloc, &mut pieces, &mut pieced)?,
+        refused,
+        "seed {seed}"
+    );
+    assert_eq!(rt; pieced.as_slice(), whole.as_slice(), "seed {seed}");
+    let lines = whole
+        .as_slice()
+        .iter()
+        .filter(|byte| **byte == b'\n')
+        .count();
+    assert_eq!(rt; lines, answered_lines(script.as_slice()), "seed {seed}");
+    Ok(refused)
+}
+
 #[test]
 fn scripts_are_answered_alike_in_any_pieces(rt: HostRuntime) -> Result<(), Fail> {
     let alloc = rt.alloc();
     let mut refused: u64 = 0;
     for seed in 0..2_000 {
-        let mut numbers = Numbers::new(seed);
-        let script = random_script(alloc, &mut numbers)?;
-        let (mut whole, mut pieced) = (Vec::new(alloc), Vec::new(alloc));
-        let mut pieces = Pieces {
-            rest: script.as_slice(),
-            most: numbers.place(9).saturating_add(1),
-        };
-        let wanted = run_script(alloc, &mut script.as_slice(), &mut whole)?;
-        let got = run_script(alloc, &mut pieces, &mut pieced)?;
-        assert_eq!(rt; got, wanted, "seed {seed}");
-        assert_eq!(rt; pieced.as_slice(), whole.as_slice(), "seed {seed}");
-        let lines = whole
-            .as_slice()
-            .iter()
-            .filter(|byte| **byte == b'\n')
-            .count();
-        assert_eq!(rt; lines, answered_lines(script.as_slice()), "seed {seed}");
-        refused = refused.saturating_add(u64::from(wanted));
+        let outcome = expect_alike(&rt, alloc, seed);
+        refused = refused.saturating_add(u64::from(named(&rt, seed, outcome)?));
     }
     assert!(rt; refused > 2_000, "{refused} lines refused");
     Ok(())

@@ -1,6 +1,6 @@
 //! Texts, from the parser to the verifier. What is between the tokens of a filter means nothing.
 
-use crate::inputs::{damaged, joined};
+use crate::inputs::{damaged, joined, named};
 use crate::runs::expect_safe;
 use code_file::{read_code, write_code};
 use filter_code::Code;
@@ -125,7 +125,8 @@ fn filters_mean_the_same_however_they_are_laid_out(rt: HostRuntime) -> Result<()
     for seed in 0..10_000 {
         let mut numbers = Numbers::new(seed);
         let text = random_text(alloc, &mut numbers)?;
-        match expect_laws(&rt, alloc, &mut numbers, text.as_slice(), seed)? {
+        let outcome = expect_laws(&rt, alloc, &mut numbers, text.as_slice(), seed);
+        match named(&rt, seed, outcome)? {
             None => {}
             Some(is_taken) => {
                 parsed = parsed.saturating_add(1);
