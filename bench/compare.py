@@ -6,10 +6,11 @@ usage: compare.py PROVED PLAIN COMMAND ROUNDS INPUT..
 Each program is started with the word COMMAND (`eval` or `run`) and an input file as its standard input. Where the two differ in output or
 exit status, that is said and the status is 1; nothing is timed then. Otherwise they are run ROUNDS times each, by
 turns, and the least and the median time of each are printed with the ratio PROVED / PLAIN. A time is the processor time
-of the whole process, with its output to the null device.
+of the whole process, with its output to the null device. Where valgrind stands, their instructions are printed too.
 """
 import os
 import re
+import shutil
 import statistics
 import subprocess
 import sys
@@ -57,6 +58,11 @@ def report(path, proved, plain):
         )
 
 
+def report_instructions(proved, plain, path):
+    first, second = instructions(proved, path), instructions(plain, path)
+    print(f"  count   proved {first / 1e6:7.2f} M    plain {second / 1e6:7.2f} M    ratio {first / second:.2f}", flush=True)
+
+
 def main(words):
     if len(words) < 5:
         sys.exit(__doc__)
@@ -68,6 +74,8 @@ def main(words):
     for path in paths:
         taken = [(seconds(proved, path), seconds(plain, path)) for _ in range(rounds)]
         report(path, *zip(*taken))
+        if shutil.which("valgrind"):
+            report_instructions(proved, plain, path)
 
 
 if __name__ == "__main__":

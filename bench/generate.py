@@ -1,5 +1,6 @@
 #!/usr/bin/env python3
-"""Writes an input of `ncroute eval`: a code file in hexadecimal, then route lines `NET METRIC SIZE`.
+"""Writes an input of `ncroute eval`: a code file in hexadecimal, then route lines `NET METRIC SIZE`. Or a filter's text, for
+`ncroute check`.
 
 usage: generate.py INPUT [ROUTES [SEED [SIZE]]]
 
@@ -10,7 +11,12 @@ INPUT is one of
     set_of_1024        a set of 1,024 patterns; it matches about half of the routes
     straight_filter    about 1,000 instructions of arithmetic, local variables, comparisons and branches forward
 
-or a code file in hexadecimal. ROUTES is the number of route lines (100,000 for `straight_filter`, 200,000 otherwise),
+or a code file in hexadecimal, or one of these texts, which are written alone (ROUTES and SIZE mean nothing there):
+
+    text_of_sets         60 KB: 27 sets or more, each of 100 patterns
+    text_of_expressions  60 KB: assignments of arithmetic, conditions, and the accept of a metric
+
+ROUTES is the number of route lines (100,000 for `straight_filter`, 200,000 otherwise),
 SEED the seed of the generator (1), SIZE the size of each network (2 to 64; without it sizes differ). The same words give the same bytes on every machine: the numbers come from a small
 generator of this file. One route line in 500 is one that `eval` refuses, and before every thousandth there is a comment
 line, which is no route line.
@@ -22,6 +28,8 @@ SEED = 1
 COMMENT_EVERY = 1_000
 REFUSED_ONE_IN = 500
 PATTERNS = 1_024
+PATTERNS_OF_A_TEXT = 100
+TEXT_BYTES = 60_000
 LEAST_INSTRUCTIONS = 990
 
 
@@ -248,6 +256,55 @@ def lines(numbers, code, net, routes, size):
         yield refused(numbers, size) if is_refused else route(numbers, net, size)
 
 
+# Texts of filters.
+
+
+def text_of(declared, commands, ending):
+    """A filter of so many commands, one a line, that its text has just over TEXT_BYTES."""
+    text = f"filter generated\n{declared}{{\n"
+    while len(text) < TEXT_BYTES:
+        text += f"  {next(commands)}\n"
+    return f"{text}  {ending}\n}}\n"
+
+
+def written_pattern(numbers):
+    """A prefix of length 8 to 28, as itself alone, with longer ones, with shorter ones, or with some longer ones."""
+    length = numbers.within(8, 28)
+    low = numbers.within(length, 32)
+    lengths = numbers.one_of(("", "+", "-", f"{{{low},{numbers.within(low, 32)}}}"))
+    return f"{written_address(cut(numbers.below(2**32), length))}/{length}{lengths}"
+
+
+def tests_of_sets(numbers):
+    while True:
+        patterns = ", ".join(written_pattern(numbers) for _ in range(PATTERNS_OF_A_TEXT))
+        yield f"if net ~ [ {patterns} ] then {numbers.one_of(('accept', 'reject'))};"
+
+
+def written_int(numbers):
+    return numbers.one_of(("a", "b", "c", "rip_metric", "net.len", str(numbers.below(100))))
+
+
+def written_sum(numbers):
+    first, second, third = written_int(numbers), written_int(numbers), written_int(numbers)
+    return f"{first} {numbers.one_of('+-*')} ({second} {numbers.one_of('+-*')} {third})"
+
+
+def assignments(numbers):
+    while True:
+        test = f"if {written_sum(numbers)} {numbers.one_of(('<', '<=', '=', '>'))} {written_int(numbers)} then "
+        yield f"{numbers.one_of(('', '', test))}{numbers.one_of('abc')} = {written_sum(numbers)};"
+
+
+def text(name, numbers):
+    """The text of a name, or None."""
+    if name == "text_of_sets":
+        return text_of("", tests_of_sets(numbers), "reject;")
+    if name == "text_of_expressions":
+        return text_of("int a;\nint b;\nint c;\n", assignments(numbers), "accept;")
+    return None
+
+
 def parts(name, numbers):
     """The code file of an input, its nets, and how many routes it has where that is left out."""
     if name == "set_of_1024":
@@ -262,6 +319,10 @@ def main(words):
     if not 1 <= len(words) <= 4:
         sys.exit(__doc__)
     numbers = Numbers(int(words[2]) if len(words) > 2 else SEED)
+    written = text(words[0], numbers)
+    if written is not None:
+        sys.stdout.write(written)
+        return
     code, net, routes = parts(words[0], numbers)
     routes = int(words[1]) if len(words) > 1 else routes
     size = int(words[3]) if len(words) > 3 else None

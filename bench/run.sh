@@ -1,8 +1,8 @@
 #!/usr/bin/env bash
 # Builds the proved programs and the plain one, checks that they answer the same, and prints their times and ratios:
-# of `ncroute eval` and `ncroute run` as a whole, of the machines alone, or of the router alone.
+# of `ncroute eval` and `ncroute run` as a whole, of the machines alone, or of the router alone. `ncroute check` is measured by itself.
 #
-# usage: bench/run.sh [eval|machines|instructions|bird|router|callers|script]     (without a word: eval and machines)
+# usage: bench/run.sh [eval|check|machines|instructions|bird|router|callers|script]     (without a word: eval and machines)
 #   instructions counts instructions of the machines with valgrind, in place of their time
 #   bird compares the machine for verified code with BIRD 2.0, where that is installed
 #   NCROUTE=PATH       a proved `ncroute` that is built already: then none is built here
@@ -55,6 +55,15 @@ if [ "$wanted" = both ] || [ "$wanted" = eval ]; then
         inputs+=("$folder/$name")
     done
     compare eval "${inputs[@]}"
+fi
+
+if [ "$wanted" = check ]; then
+    need_ncroute
+    for name in text_of_sets text_of_expressions; do
+        "$bench/generate.py" "$name" >"$folder/$name"
+    done
+    "$bench/check.py" "$NCROUTE" "${ROUNDS:-7}" "$folder/text_of_sets" "$folder/text_of_expressions"
+    exit
 fi
 
 if [ "$wanted" = script ]; then

@@ -85,6 +85,21 @@ pub fn trim_blanks(line: &[u8]) -> &[u8] {
     &line[first..=last]
 }
 
+/// The place of the first line feed, looked for in eight bytes at once.
+fn find_line_feed(bytes: &[u8]) -> Option<usize> {
+    const ONES: u64 = 0x0101_0101_0101_0101;
+    let (chunks, rest) = bytes.as_chunks::<8>();
+    for (index, chunk) in chunks.iter().enumerate() {
+        // The lowest byte of these that has its high bit is the first line feed.
+        let others = u64::from_le_bytes(*chunk) ^ ONES * u64::from(b'\n');
+        let found = others.wrapping_sub(ONES) & !others & ONES << 7;
+        if found != 0 {
+            return Some(index * 8 + found.trailing_zeros() as usize / 8);
+        }
+    }
+    Some(chunks.len() * 8 + rest.iter().position(|byte| *byte == b'\n')?)
+}
+
 /// The state between blocks: the bytes that wait for their line end, and what was counted so far.
 struct Engine<'a, S> {
     service: &'a mut S,
@@ -133,7 +148,7 @@ impl<S: Service> Engine<'_, S> {
     fn answer_block(&mut self, fresh: usize) -> Reply {
         let end = self.filled + fresh;
         let (mut from, mut sought) = (0, self.filled);
-        while let Some(length) = self.pending[sought..end].iter().position(|byte| *byte == b'\n') {
+        while let Some(length) = find_line_feed(&self.pending[sought..end]) {
             let feed = sought + length;
             let to = if self.pending[from..feed].ends_with(b"\r") { feed - 1 } else { feed };
             if self.answer(from, to) == Reply::Ended {

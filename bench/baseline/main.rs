@@ -55,11 +55,8 @@ fn refusal(line: &[u8]) -> &'static str {
 
 fn push_outcome(out: &mut Vec<u8>, outcome: Outcome) {
     match outcome {
-        Outcome::Accepted(metric) => {
-            out.extend_from_slice(b"accept ");
-            push_decimal(out, metric);
-        }
-        Outcome::Rejected => out.extend_from_slice(b"reject"),
+        Outcome::Accepted(metric) => return push_accept(out, metric),
+        Outcome::Rejected => return out.extend_from_slice(b"reject\n"),
         Outcome::Faulted(kind, place) => {
             out.extend_from_slice(b"fault ");
             out.extend_from_slice(kind.code().as_bytes());
@@ -68,6 +65,20 @@ fn push_outcome(out: &mut Vec<u8>, outcome: Outcome) {
         }
     }
     out.push(b'\n');
+}
+
+fn push_accept(out: &mut Vec<u8>, metric: u32) {
+    // Most metrics have one or two digits: the line is put there at once.
+    let (ten, one) = (b'0' + (metric / 10 % 10) as u8, b'0' + (metric % 10) as u8);
+    match metric {
+        0..=9 => out.extend_from_slice(&[b'a', b'c', b'c', b'e', b'p', b't', b' ', one, b'\n']),
+        10..=99 => out.extend_from_slice(&[b'a', b'c', b'c', b'e', b'p', b't', b' ', ten, one, b'\n']),
+        _ => {
+            out.extend_from_slice(b"accept ");
+            push_decimal(out, metric);
+            out.push(b'\n');
+        }
+    }
 }
 
 impl Service for Eval {

@@ -47,16 +47,33 @@ impl Route {
     }
 }
 
+fn digit_at(text: &[u8], place: usize) -> Option<u32> {
+    text.get(place).filter(|byte| byte.is_ascii_digit()).map(|byte| u32::from(byte - b'0'))
+}
+
 /// The decimal digits at the front of `text` as a number, by value (any number of zeros may lead), and what follows
 /// them. None where there is no digit. A number that no `u32` holds gives the greatest one.
+#[inline(always)]
 fn leading_number(text: &[u8]) -> Option<(u32, &[u8])> {
+    let first = digit_at(text, 0)?;
+    let Some(second) = digit_at(text, 1) else { return Some((first, &text[1..])) };
+    let Some(third) = digit_at(text, 2) else { return Some((first * 10 + second, &text[2..])) };
+    if digit_at(text, 3).is_some() {
+        return Some(long_number(text));
+    }
+    Some((first * 100 + second * 10 + third, &text[3..]))
+}
+
+/// The same, of any number of digits.
+#[cold]
+fn long_number(text: &[u8]) -> (u32, &[u8]) {
     let mut value: u32 = 0;
     let mut rest = text;
     while let [digit @ b'0'..=b'9', more @ ..] = rest {
         value = value.saturating_mul(10).saturating_add(u32::from(digit - b'0'));
         rest = more;
     }
-    (rest.len() < text.len()).then_some((value, rest))
+    (value, rest)
 }
 
 fn after(sign: u8, text: &[u8]) -> Option<&[u8]> {

@@ -1,5 +1,6 @@
 //! A filter's text: read, judged and compiled, with memory and without.
 
+use crate::refusals::answered;
 use filter_code::{Code, Instr};
 use filter_compiler::{CompileFault, compile};
 use filter_parser::{Filter, ParseFault, parse};
@@ -68,9 +69,9 @@ fn expect_tree(rt: &impl Abort, filter: &Filter) -> Result<(), fmt::Error> {
     Ok(())
 }
 
-/// Asserts that a filter is that of the text `TEXT`, and that its variable is the first one.
+/// Asserts that a filter is that of the text `TEXT`, and that the variable of each of its uses is the first one.
 fn expect_typed(rt: &impl Abort, typed: &Typed) -> Result<(), fmt::Error> {
-    assert_eq!(rt; (typed.number_of(b"a"), typed.number_of(b"other")), (0, 1));
+    assert_eq!(rt; typed.numbers(), [0, 0].as_slice());
     expect_tree(rt, typed.filter())
 }
 
@@ -117,7 +118,8 @@ fn a_text_is_read_or_p11(rt: HostRuntime) -> Result<(), Fail> {
         assert_eq!(rt; (fault.code(), fault.at()), ("P11", 0));
         expect_tree(&rt, &parse(rt.alloc(), TEXT.as_bytes())?)?;
     }
-    expect_tree(&rt, &read?)?;
+    let filter = read.map_err(|fault| answered("parse", fault))?;
+    expect_tree(&rt, &filter)?;
     Ok(())
 }
 
@@ -138,5 +140,6 @@ fn a_filter_is_compiled_or_g3(rt: HostRuntime) -> Result<(), Fail> {
         assert_eq!(rt; (fault.code(), fault.at()), ("G3", 0));
         expect_code(&rt, &compile(rt.alloc(), &typed)?)?;
     }
-    expect_code(&rt, &compiled?)
+    let code = compiled.map_err(|fault| answered("compile", fault))?;
+    expect_code(&rt, &code)
 }
