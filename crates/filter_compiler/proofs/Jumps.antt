@@ -36,9 +36,9 @@ module _ (out : Output) (locals : ℕ) (sets : List (List PrefixPattern)) (befor
 abbrev pub jump_over : (ℕ → Instr) → Part → Part
 jump_over jump p = record { code = λ n. jump (length (p.code n)) ∷ p.code n; sets = p.sets }
 
-pub over : (a b c d : Output) (empty : Instr) (p : Part) (jump : ℕ → Instr) → Puts a b (code_alone (empty ∷ [])) → Puts b c p
-    → d ≡ patched c a.length (jump (c.length - a.length - 1)) → Puts a d (jump_over jump p)
-over a b c d empty p jump first second is = record {
+pub over : {a b c d : Output} {empty : Instr} {p : Part} {distance : ℕ} (jump : ℕ → Instr) → Puts a b (code_alone (empty ∷ [])) → Puts b c p
+    → distance ≡ c.length - a.length - 1 → d ≡ patched c a.length (jump distance) → Puts a d (jump_over jump p)
+over {a} {b} {c} {d} {empty} {p} {distance} jump first second far is = record {
   holds = λ program h.
       let n = length program.sets in
       let h2 = second.holds _ (first.holds program h) in
@@ -46,7 +46,7 @@ over a b c d empty p jump first second is = record {
       ≡ program_of program.locals (program.sets ++ p.sets) (program.instrs ++ empty ∷ p.code n) =
       same_program program.locals _ _ _ _ (ap (λ s. s ++ p.sets) (append-nil program.sets))
       (ap (λ s. (program.instrs ++ empty ∷ []) ++ p.code (length s)) (append-nil program.sets) ∙ append_assoc program.instrs (empty ∷ []) (p.code n)) in
-      subst (λ o. Holds o (with_part program (jump_over jump p))) (sym is)
+      subst (λ o. Holds o (with_part program (jump_over jump p))) (sym (is ∙ ap (λ n. patched c a.length (jump n)) far))
       (patched_holds c program.locals (program.sets ++ p.sets) program.instrs (p.code n) empty a.length jump
       (subst (Holds c) same h2) h.counted);
 }

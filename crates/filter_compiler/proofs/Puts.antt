@@ -34,8 +34,8 @@ nothing a = record {
 abbrev pub joined : Part → Part → Part
 joined p q = record { code = λ n. p.code n ++ q.code (n + length p.sets); sets = p.sets ++ q.sets }
 
-pub then : (a b c : Output) (p q : Part) → Puts a b p → Puts b c q → Puts a c (joined p q)
-then a b c p q first second = record {
+pub then : {a b c : Output} {p q : Part} → Puts a b p → Puts b c q → Puts a c (joined p q)
+then {a} {b} {c} {p} {q} first second = record {
   holds = λ program h.
       let code = program.instrs ++ p.code (length program.sets) in
       subst (Holds c)
@@ -49,15 +49,13 @@ then a b c p q first second = record {
 abbrev pub with_code : Part → List Instr → Part
 with_code p instrs = record { code = λ n. p.code n ++ instrs; sets = p.sets }
 
-pub then_code : (a b c : Output) (p : Part) (instrs : List Instr) → Puts a b p → Puts b c (code_alone instrs) → Puts a c (with_code p instrs)
-then_code a b c p instrs first second =
-    as_part a c (joined p (code_alone instrs)) (with_code p instrs) (λ n. refl) (append-nil p.sets)
-    (then a b c p (code_alone instrs) first second)
+pub then_code : {a b c : Output} {p : Part} {instrs : List Instr} → Puts a b p → Puts b c (code_alone instrs) → Puts a c (with_code p instrs)
+then_code {a} {b} {c} {p} {instrs} first second =
+    as_part a c (joined p (code_alone instrs)) (with_code p instrs) (λ n. refl) (append-nil p.sets) (then first second)
 
 abbrev pub code_with : List Instr → Part → Part
 code_with instrs p = record { code = λ n. instrs ++ p.code n; sets = p.sets }
 
-pub code_then : (a b c : Output) (instrs : List Instr) (p : Part) → Puts a b (code_alone instrs) → Puts b c p → Puts a c (code_with instrs p)
-code_then a b c instrs p first second =
-    as_part a c (joined (code_alone instrs) p) (code_with instrs p) (λ n. ap (λ m. instrs ++ p.code m) (omega arith)) refl
-    (then a b c (code_alone instrs) p first second)
+pub code_then : {a b c : Output} {instrs : List Instr} {p : Part} → Puts a b (code_alone instrs) → Puts b c p → Puts a c (code_with instrs p)
+code_then {a} {b} {c} {instrs} {p} first second =
+    as_part a c (joined (code_alone instrs) p) (code_with instrs p) (λ n. ap (λ m. instrs ++ p.code m) (omega arith)) refl (then first second)

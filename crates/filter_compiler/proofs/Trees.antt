@@ -53,7 +53,7 @@ module _ (decls : List DeclView) (a b c : Output) where
   right_next left op right first second =
       as_part a c (joined (expression_part decls left) (right_part decls op right)) (expression_part decls (binary op left right))
       (λ n. joined_apart op (expression_code decls n left) (expression_code decls (n + length (sets_of left)) right)) refl
-      (then a b c (expression_part decls left) (right_part decls op right) first second)
+      (then first second)
 
   pub chain_next : (left : ExprView) (xs : List (Op × Expr)) (i : ℕ) (x : Op × Expr) → i < length xs → x ≡ get_or xs i x
       → Puts a b (expression_part decls (chain_of left (map (λ p. (p.0, view p.1)) (take i xs)))) → Puts b c (right_part decls x.0 (view x.1))
@@ -71,7 +71,7 @@ module _ (decls : List DeclView) (a b c : Output) where
   suffix_next inner xs i x low is first second =
       subst (λ t. Puts a c (expression_part decls t))
       (suffixes_push inner (take i xs) x ∙ ap (suffixes_of inner) (sym (take_next xs i x low is)))
-      (then_code a b c (expression_part decls (suffixes_of inner (take i xs))) (suffix_code x ∷ []) first second)
+      (then_code first second)
 
 -- a command more
 codes_push : (decls : List DeclView) (n : ℕ) (xs : List CommandView) (x : CommandView)
@@ -100,7 +100,7 @@ command_next decls a b c xs i x low is first second =
     (as_part a c (joined (commands_part decls (commands_of so_far)) (command_part decls (view_command x)))
     (commands_part decls (commands_of (so_far ++ view_command x ∷ [])))
     (λ n. codes_push decls n so_far (view_command x)) (sets_push so_far (view_command x))
-    (then a b c (commands_part decls (commands_of so_far)) (command_part decls (view_command x)) first second))
+    (then first second))
 
 -- a declaration more
 declared_push : (before : ℕ) (xs : List DeclView) (x : DeclView)
@@ -122,8 +122,7 @@ declared_next a b c d xs i x low is first second third =
     (append_assoc code (first_value x.kind ∷ []) (instr.Store i ∷ [])
     ∙ (ap (λ n. code ++ first_value x.kind ∷ instr.Store n ∷ []) count
     ∙ (declared_push 0 so_far (view_decl x) ∙ ap (declarations_code 0) (sym (map_next view_decl xs i x low is)))))
-    (then_code a c d (code_alone (code ++ first_value x.kind ∷ [])) (instr.Store i ∷ [])
-    (then_code a b c (code_alone code) (first_value x.kind ∷ []) first second) third)
+    (then_code (then_code first second) third)
 
 -- the question for a set that was just kept
 member_length : (op : Membership) (n m : ℕ) → length (member_code op n) ≡ length (member_code op m)

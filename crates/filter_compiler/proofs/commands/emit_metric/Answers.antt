@@ -3,4 +3,4 @@ use Rattle.filter_compiler.proofs.commands.emit_metric.Goals as goal
 
 pub returns : goal.returns
 returns c =
-    then_code _ _ _ _ _ (then_code _ _ _ _ _ c.put.ensures c.put-2.ensures) c.put-3.ensures
+    then_code (then_code c.put.ensures c.put-2.ensures) c.put-3.ensures

@@ -1,11 +1,10 @@
-use Rattle.std.proofs.Common.{◌≡◌, [], ◌∷◌, length, map, ap, subst, ◌∙◌}
-use Rattle.filter_code.specs.declared.instruction.Instr.TheVariants as instr
+use Rattle.std.proofs.Common.{◌≡◌, [], length, map, ap, subst, ◌∙◌}
 use Rattle.filter_parser.specs.SyntaxCommands.{commands_of, view_command, view_decl}
 use Rattle.filter_parser.specs.SyntaxText.{view_filter}
 use Rattle.filter_parser.specs.declared.tree.filter.Filter.{Filter}
 use Rattle.filter_compiler.specs.Translation.{declarations_code}
 use Rattle.filter_compiler.specs.Written.{Puts, code_alone, commands_part}
-use Rattle.filter_compiler.proofs.Puts.{code_then, program_of, then_code, with_code}
+use Rattle.filter_compiler.proofs.Puts.{code_then, program_of, then_code}
 use Rattle.filter_compiler.proofs.compiler.write_filter.Goals as goal
 
 pub returns : goal.returns
@@ -19,7 +18,4 @@ returns c =
     subst (λ l. Puts c.new-out.result c.emit_declarations.new.out (code_alone (declarations_code 0 l))) decls_are c.emit_declarations.ensures in
     let commanded =
     subst (λ b. Puts c.emit_declarations.new.out c.emit_commands.new.out (commands_part f.decls b)) body_is c.emit_commands.ensures in
-    (code_then c.new-out.result c.emit_declarations.new.out c.put.new.self (declarations_code 0 f.decls)
-    (with_code (commands_part f.decls f.body) (instr.Reject ∷ [])) declared
-    (then_code c.emit_declarations.new.out c.emit_commands.new.out c.put.new.self (commands_part f.decls f.body) (instr.Reject ∷ []) commanded
-    c.put.ensures)).holds (program_of (length f.decls) [] []) (c.new-out.ensures (length f.decls))
+    (code_then declared (then_code commanded c.put.ensures)).holds (program_of (length f.decls) [] []) (c.new-out.ensures (length f.decls))
