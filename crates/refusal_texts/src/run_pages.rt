@@ -1,0 +1,294 @@
+//! The codes of input, output and the router.
+use crate::page::Page;
+
+/// A page for each code.
+pub static RUN_PAGES: [Page; 26] = [
+    Page {
+        code: "O1",
+        text: "\
+O1: the command is unknown, has the wrong number of words, or its NAME is no name
+Place: the number of the line
+
+    $ printf '%s\\n' 'jump' | ncroute run
+    refused O1 1
+
+`ncroute run --help` has the commands. A line of `eval` is a prefix, a metric and a size.
+",
+    },
+    Page {
+        code: "O2",
+        text: "\
+O2: a number is not digits, is over its limit, or is out of the command's range: N is not 2 to 64, ME is not below N, LIMIT is 0, or V of `prefix` is not below N
+Place: the number of the line
+
+    $ printf '%s\\n' 'network 65 0' | ncroute run
+    refused O2 1
+
+Correct the number. A metric is at most the domain's size.
+",
+    },
+    Page {
+        code: "O3",
+        text: "\
+O3: HEX is not hexadecimal, or has an odd number of digits
+    with `--code`: not hexadecimal, or an odd number of digits
+Place: the number of the line
+
+    $ echo 'code 4e4346310000000170' | ncroute check --size 16 --code
+    refused O3 1
+
+Give the digits alone, without the word `code` before them.
+",
+    },
+    Page {
+        code: "O4",
+        text: "\
+O4: there is no network yet
+Place: the number of the line
+
+    $ printf '%s\\n' 'up 1' | ncroute run
+    refused O4 1
+
+Begin the script with `network N ME`.
+",
+    },
+    Page {
+        code: "O5",
+        text: "\
+O5: there is a network already; or a `prefix` after the first event
+Place: the number of the line
+
+    $ printf '%s\\n' 'network 4 0' 'network 4 0' | ncroute run
+    ok
+    refused O5 2
+
+A script has one `network`. Put each `prefix` before the first event.
+",
+    },
+    Page {
+        code: "O6",
+        text: "\
+O6: no filter has this NAME
+Place: the number of the line
+
+    $ printf '%s\\n' 'network 4 0' 'import 1 Z' | ncroute run
+    ok
+    refused O6 2
+
+Name the filter first, by `load` or `code`; one that was refused has no name.
+",
+    },
+    Page {
+        code: "O7",
+        text: "\
+O7: the line is longer than 1,048,576 bytes
+    the input has more than 1,048,576 bytes
+Place: the number of the line; 1
+
+    $ head -c 1048577 /dev/zero | ncroute check --size 16
+    refused O7 1
+
+No filter, code file or route is that long: look at what is given as the input.
+",
+    },
+    Page {
+        code: "O8",
+        text: "\
+O8: PREFIX is not a prefix
+Place: the number of the line
+
+    $ printf '%s\\n' 4e4346310000000170 '10.0.0.0/33 3 8' | ncroute eval
+    refused O8 2
+
+A prefix is four numbers up to 255 joined by dots, `/` and a length up to 32.
+",
+    },
+    Page {
+        code: "E1",
+        text: "\
+E1: the input could not be read
+
+    $ ncroute eval < . 2>&1
+    ncroute: E1
+
+See that the file exists, is no folder and may be read.
+",
+    },
+    Page {
+        code: "E2",
+        text: "\
+E2: the output could not be written
+
+    $ echo 4e4 | ncroute eval 2>&1 >/dev/full
+    ncroute: E2
+
+See that the device has room, and that the reader of the pipe has not ended.
+",
+    },
+    Page {
+        code: "E3",
+        text: "\
+E3: there was not enough memory
+
+Give the process more memory.
+",
+    },
+    Page {
+        code: "E4",
+        text: "\
+E4: the input is longer than 16,777,216 bytes: about a million routes of 16 bytes
+
+    $ (echo 4e4346310000000170; head -c 17000000 /dev/zero | tr '\\0' '\\n') | ncroute eval 2>&1
+    ncroute: E4
+
+Cut the input, and give each part to a run of its own with the same first line.
+",
+    },
+    Page {
+        code: "N1",
+        text: "\
+N1: The node is the router itself, or not in the domain.
+Place: the event's place in the history
+
+    $ printf '%s\\n' 'network 4 0' 'up 0' | ncroute run
+    ok
+    refused N1 0
+
+Name another node below N.
+",
+    },
+    Page {
+        code: "N2",
+        text: "\
+N2: The node is an up neighbour already.
+Place: the event's place in the history
+
+    $ printf '%s\\n' 'network 4 0' 'up 1' 'up 1' | ncroute run
+    ok
+    opened 1
+    refused N2 1
+
+Take it down first.
+",
+    },
+    Page {
+        code: "N3",
+        text: "\
+N3: The session is not an up neighbour's present one.
+Place: the event's place in the history
+
+    $ printf '%s\\n' 'network 4 0' 'down 1' | ncroute run
+    ok
+    refused N3 0
+
+Bring the neighbour up first. A caller whose session is over has to open another.
+",
+    },
+    Page {
+        code: "N4",
+        text: "\
+N4: The destination is not in the domain.
+Place: the event's place in the history
+
+    $ printf '%s\\n' 'network 4 0' 'show 9' | ncroute run
+    ok
+    refused N4 0
+
+Name a node below N.
+",
+    },
+    Page {
+        code: "N5",
+        text: "\
+N5: The distance is above N.
+Place: the event's place in the history
+
+    $ printf '%s\\n' 'network 4 0' 'up 1' 'recv 1 2 9' | ncroute run
+    ok
+    opened 1
+    refused N5 1
+
+A distance is 0 to N; N means unreachable.
+",
+    },
+    Page {
+        code: "N6",
+        text: "\
+N6: The filter was verified for domains of another size.
+Place: the event's place in the history
+
+Verify it for the size of the router's domain. `ncroute run` does, so no script earns this.
+",
+    },
+    Page {
+        code: "N7",
+        text: "\
+N7: No session number is left, after 4,294,967,295 sessions.
+Place: the event's place in the history
+
+Start the router anew.
+",
+    },
+    Page {
+        code: "J1",
+        text: "\
+J1: The journal has as many entries as its limit allows. This is judged before memory is asked for.
+Place: the number of entries
+
+    $ printf '%s\\n' 'network 4 0 1' 'up 1' 'show 0' | ncroute run
+    ok
+    opened 1
+    refused J1 1
+
+Give `network` a higher LIMIT, at most 1,000,000, or start the router anew.
+",
+    },
+    Page {
+        code: "J2",
+        text: "\
+J2: The memory for the event or for its entry was refused.
+
+Give the process more memory. `ncroute run` answers E3 in its place.
+",
+    },
+    Page {
+        code: "L1",
+        text: "\
+L1: another caller has the lock; the event comes back
+
+Try again, or make the call that waits. No command of `ncroute` answers it.
+",
+    },
+    Page {
+        code: "L2",
+        text: "\
+L2: at the close another pass has the journal; no call of this crate leads to that
+
+Join all passes before the close.
+",
+    },
+    Page {
+        code: "L3",
+        text: "\
+L3: no memory for the router, when it is opened
+
+Give the process more memory.
+",
+    },
+    Page {
+        code: "X1",
+        text: "\
+X1: The memory for the jobs or for their results was refused.
+
+Give the process more memory.
+",
+    },
+    Page {
+        code: "X2",
+        text: "\
+X2: A thread was not started.
+
+Allow the process more threads, or run fewer sessions.
+",
+    },
+];
