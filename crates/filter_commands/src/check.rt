@@ -28,7 +28,7 @@ fn trim_white_end(text: &[u8]) -> &[u8]
 }
 
 /// The code that an input gives: the translation of a filter's text, or what a code file in hexadecimal has.
-fn code_of(alloc: Global, input: &[u8], is_code: bool) -> Result<Code, Failure>
+pub fn code_of(alloc: Global, input: &[u8], is_code: bool) -> Result<Code, Failure>
     ensures code { IfOk result (GivesCode is_code input.now) }
     ensures refused { IfErr result (OnRefusal (IsRefused is_code input.now)) }
 {

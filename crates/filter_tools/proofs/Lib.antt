@@ -1,4 +1,6 @@
 pub mod Meant
 pub mod Answered
 pub mod Endings
+pub mod InWords
+pub mod Listings
 mod Rows

@@ -3,3 +3,5 @@ pub mod Explanations
 pub mod Telling
 pub mod RouteOfSize
 pub mod Filtering
+pub mod Listing
+pub mod Naming

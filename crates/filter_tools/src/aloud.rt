@@ -13,12 +13,14 @@ use line_protocol::write_text;
 use std::alloc::Global;
 use std::io::{Read, Write};
 
-/// Writes why a source of this name is refused, for people.
+/// Writes why a source of this name is refused for domains of a size, for people.
 pub fn tell<E: Write>(
     alloc: Global,
     errors: &mut E,
     name: &[u8],
     text: &[u8],
+    size: u32,
+    is_code: bool,
     why: Refusal,
 ) -> Result<(), ProgramFault>
     ensures ok { OnOk result ((words : List ℕ) × Appends (E.contents errors.old) (E.contents errors.new)
@@ -26,7 +28,7 @@ pub fn tell<E: Write>(
     ensures err { IfErr result (λ fault.
         IsCutExplanation (stream_fault fault) name.now text.now why (E.contents errors.old) (E.contents errors.new)) }
 {
-    let words = explain(alloc, name, text, why)?;
+    let words = explain(alloc, name, text, size, is_code, why)?;
     write_text(errors, words.as_slice())?;
     Ok(())
 }
@@ -57,7 +59,8 @@ pub fn check_aloud<R: Read, W: Write, E: Write>(
     let checked = check_source(alloc, reader, writer, size, is_code)?;
     let refusal = checked.refusal;
     if let Some(why) = refusal {
-        tell(alloc, errors, name, checked.input.as_slice(), why)?;
+        let text = checked.input.as_slice();
+        tell(alloc, errors, name, text, size, is_code, why)?;
     }
     Ok(refusal)
 }

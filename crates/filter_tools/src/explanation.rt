@@ -4,6 +4,7 @@ ghost use Rattle.filter_tools.specs.Places.{begins_character};
 ghost use Rattle.filter_tools.specs.Explanations.{byte_of_text, explanation, excerpt, indent_of, message, position, shown_byte};
 
 use crate::place::{begins_character, place_in};
+use crate::reason::words_of;
 use filter_source::Refusal;
 use line_protocol::push_decimal;
 use std::alloc::{AllocError, Global};
@@ -118,11 +119,18 @@ fn explain_in(
     Ok(out)
 }
 
-/// Why a source of this name is refused, for people: `NAME: WORDS (CODE)`. Where the refusal has a place in a filter's text, its
+/// Why a source of this name is refused for domains of a size, for people: `NAME: WORDS (CODE)`. Where the refusal has a place in a filter's text, its
 /// line and column stand behind the name, and the line with a caret under the place follows.
-pub fn explain(alloc: Global, name: &[u8], text: &[u8], why: Refusal) -> Result<Vec<u8>, AllocError>
+pub fn explain(
+    alloc: Global,
+    name: &[u8],
+    text: &[u8],
+    size: u32,
+    is_code: bool,
+    why: Refusal,
+) -> Result<Vec<u8>, AllocError>
     ensures { IfOk result (λ out. (words : List ℕ) × (out.items ≡ explanation name.now text.now words why)) }
 {
-    let words = format!(in alloc; "{why}")?;
+    let words = words_of(alloc, text, size, is_code, why)?;
     explain_in(alloc, name, text, words.as_bytes(), why)
 }

@@ -122,7 +122,7 @@ fn answer_routes<R: Read, W: Write>(
 }
 
 /// The line that refuses a filter.
-fn refusal_line(alloc: Global, why: Refusal) -> Result<Vec<u8>, AllocError>
+pub(crate) fn refusal_line(alloc: Global, why: Refusal) -> Result<Vec<u8>, AllocError>
     ensures { IfOk result (λ text. text.items ≡ refusal_line why) }
 {
     let mut text = Vec::new(alloc);

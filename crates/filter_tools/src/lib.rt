@@ -4,10 +4,15 @@
 mod aloud;
 mod explanation;
 mod filter;
+mod listing;
+mod named;
 mod place;
+mod reason;
 mod route_of_size;
 
 pub use aloud::{check_aloud, tell};
 pub use explanation::explain;
 pub use filter::{Filtered, filter_lines};
+pub use listing::write_listing;
+pub use named::check_named;
 pub use place::{Place, place_in};

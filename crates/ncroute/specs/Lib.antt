@@ -1,2 +1,3 @@
+pub mod Helping
 pub mod Networking
 pub mod Serving

@@ -9,7 +9,7 @@ mod serve;
 mod tests;
 mod words;
 
-use aid::help;
+use aid::serve_people;
 use network::serve_network;
 use serve::{FAILED, report_fault, serve};
 use std::io;
@@ -21,10 +21,7 @@ fn main(rt: HostRuntime) -> ExitCode {
     let status = match words::read(&rt) {
         Ok(Words::Asked(request)) => serve(rt.alloc(), request, reader, writer, errors),
         Ok(Words::Network) => serve_network(&rt, rt.alloc(), writer, errors),
-        Ok(Words::Aided(aid)) => match help(&rt, rt.alloc(), &aid, reader, writer, errors) {
-            Ok(status) => Ok(status),
-            Err(fault) => report_fault(errors, fault).map(|_| FAILED),
-        },
+        Ok(Words::Aided(aid)) => serve_people(&rt, rt.alloc(), &aid, reader, writer, errors),
         Ok(Words::Shown(status)) => Ok(status),
         Err(fault) => report_fault(errors, fault).map(|_| FAILED),
     };

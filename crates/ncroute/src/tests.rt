@@ -1,5 +1,5 @@
 //! Which words of the command line ask for what.
-use crate::aid_words::Aid;
+use crate::aid_words::{Aid, Checking, Source};
 use crate::serve::serve;
 use crate::words::{Request, Words, request_of};
 use line_protocol::StreamFault;
@@ -49,11 +49,24 @@ fn reads_words(rt: HostRuntime) -> Result<(), Fail> {
 #[test]
 fn reads_words_of_aids(rt: HostRuntime) -> Result<(), Fail> {
     let check: &[&str] = &["ncroute", "check", "--size", "16", "--explain", "always"];
-    let want = Words::Aided(Aid::Check {
+    let how = Checking {
         size: 16,
         is_code: false,
-    });
+        is_explained: true,
+    };
+    let sources = vec![in rt.alloc(); Source::Input]?;
+    let want = Words::Aided(Aid::Check { how, sources });
     assert_eq!(&rt; request_of(&rt, rt.alloc(), check)?, want);
+    let files: &[&str] = &["ncroute", "check", "a", "--size", "16", "--code", "-"];
+    let how = Checking {
+        size: 16,
+        is_code: true,
+        is_explained: false,
+    };
+    let first = Source::File(String::from_str(rt.alloc(), "a")?);
+    let sources = vec![in rt.alloc(); first, Source::Input]?;
+    let want = Words::Aided(Aid::Check { how, sources });
+    assert_eq!(&rt; request_of(&rt, rt.alloc(), files)?, want);
     let filter: &[&str] = &["ncroute", "filter", "a.filter", "--size=8"];
     let want = Words::Aided(Aid::Filter {
         size: 8,

@@ -1,12 +1,19 @@
 //! The words of the command line.
-use crate::aid_words::{Aid, explain_option, filter_command, filter_in, is_explained};
+use crate::aid_words::{
+    Aid, Checking, explain_command, explain_option, file_option, filter_command, filter_in,
+    is_explained, list_command, list_in, sources_in,
+};
 use clap::error::ErrorKind;
 use clap::{Arg, ArgAction, ArgMatches, Command, Error};
 use filter_commands::ProgramFault;
+use refusal_texts::explanation_of;
 use std::alloc::{AllocError, Global};
 use std::convert::AsStr;
 use std::rt::Env;
 use std::{env, io};
+
+/// The kit that this program is written for, as `rt version` says.
+const KIT: &str = "(rattle-kit-13b logic dac8208d650f15bf)";
 
 /// The exit status of a run whose words were wrong.
 const WRONG_WORDS: u8 = 2;
@@ -62,18 +69,28 @@ pub fn request_of<R: Print + Eprint, S: AsStr>(
     words: &[S],
 ) -> Result<Words, ProgramFault> {
     match command(alloc)?.try_get_matches_from(words) {
-        Ok(matches) => Ok(words_in(alloc, &matches)?),
+        Ok(matches) => Ok(words_in(rt, alloc, &matches)?),
         Err(error) => show(rt, &error),
     }
 }
 
 /// What the words ask for, where the parser of words accepted them.
-fn words_in(alloc: Global, matches: &ArgMatches<'_>) -> Result<Words, AllocError> {
+fn words_in<R: Eprint>(
+    rt: &R,
+    alloc: Global,
+    matches: &ArgMatches<'_>,
+) -> Result<Words, AllocError> {
     if matches.subcommand_matches("run").is_some() {
         return Ok(Words::Asked(Request::Run));
     }
     if matches.subcommand_matches("net").is_some() {
         return Ok(Words::Network);
+    }
+    if let Some(explain) = matches.subcommand_matches("explain") {
+        return Ok(explained_in(rt, explain.get_str("code").unwrap_or("")));
+    }
+    if let Some(list) = matches.subcommand_matches("list") {
+        return Ok(Words::Aided(list_in(alloc, list)?));
     }
     // The parser accepts no words without a size.
     if let Some(filter) = matches.subcommand_matches("filter") {
@@ -89,10 +106,18 @@ fn words_in(alloc: Global, matches: &ArgMatches<'_>) -> Result<Words, AllocError
         return Ok(Words::Shown(WRONG_WORDS));
     };
     let is_code = check.get_flag("code");
-    if is_explained(check) {
-        return Ok(Words::Aided(Aid::Check { size, is_code }));
+    let is_explained = is_explained(check);
+    let files = check.get_strs("file").unwrap_or(&[]);
+    if files.is_empty() && !is_explained {
+        return Ok(Words::Asked(Request::Check { size, is_code }));
     }
-    Ok(Words::Asked(Request::Check { size, is_code }))
+    let how = Checking {
+        size,
+        is_code,
+        is_explained,
+    };
+    let sources = sources_in(alloc, files)?;
+    Ok(Words::Aided(Aid::Check { how, sources }))
 }
 
 /// Shows what the parser of words answered in place of matches: help on standard output, or what is wrong with the words on
@@ -107,6 +132,17 @@ fn show<R: Print + Eprint>(rt: &R, error: &Error) -> Result<Words, ProgramFault>
     }
     printed.map_err(|_| ProgramFault::WRITE)?;
     Ok(Words::Shown(0))
+}
+
+/// What `explain` asks for.
+fn explained_in<R: Eprint>(rt: &R, code: &str) -> Words {
+    let Some(page) = explanation_of(code) else {
+        let _ = eprintln!(rt;
+            "error: there is no code '{code}': a code is a letter and a number, as P2"
+        );
+        return Words::Shown(WRONG_WORDS);
+    };
+    Words::Aided(Aid::Explain { page })
 }
 
 /// Says that a word is not text.
@@ -128,11 +164,14 @@ fn command<'a>(alloc: Global) -> Result<Command<'a>, AllocError> {
         .after_help(NET_HELP);
     Command::new(alloc, "ncroute")
         .about("Check route filters, take routes through their code, and run a router with them")
+        .version(KIT)
         .subcommand_required(true)
         .arg_required_else_help(true)
         .subcommand(check_command(alloc)?)?
         .subcommand(eval)?
+        .subcommand(explain_command(alloc)?)?
         .subcommand(filter_command(alloc)?)?
+        .subcommand(list_command(alloc)?)?
         .subcommand(run)?
         .subcommand(net)
 }
@@ -154,11 +193,14 @@ fn check_command<'a>(alloc: Global) -> Result<Command<'a>, AllocError> {
         .after_help(CHECK_HELP)
         .arg(size)?
         .arg(code)?
-        .arg(explain_option(alloc))
+        .arg(explain_option(alloc))?
+        .arg(file_option(alloc))
 }
 
 const CHECK_HELP: &str = "\
-Standard input is one filter, or with --code a code file in hexadecimal.
+Standard input is one filter, or with --code a code file in hexadecimal. Where files are
+named, each of them is, in order; `-` is standard input. Of a file that is refused standard
+error gets the name and the refusal.
 
 Two lines are printed:
   code HEX                the filter's code, as `ncroute eval` reads it

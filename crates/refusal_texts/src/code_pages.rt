@@ -60,7 +60,7 @@ V5: a push if the stack may already hold 32 operands
 Place: the instruction that pushes
 
     $ printf 'filter q { rip_metric = %s1%s; }' \"$(printf '1+(%.0s' $(seq 32))\" \"$(printf ')%.0s' $(seq 32))\" | ncroute check --size 16 | tail -n 1
-    refused V5 33
+    refused V5 32
 
 Parentheses to the right hold an operand for each level. Assign an inner part to a variable first.
 ",
@@ -116,7 +116,7 @@ Only code that was written by hand has this fault. `ncroute list` shows what is 
     Page {
         code: "V10",
         text: "\
-V10: memory was refused to the verifier; nothing is said of the code
+V10: (not a test) memory was refused to the verifier; nothing is said of the code
 Place: none, shown as 0
 
 Give the process more memory. `ncroute` answers E3 in its place.

@@ -191,7 +191,7 @@ Y5: a seventeenth variable; if its name is an earlier one's, it is Y2
 Place: its name
 
     $ printf 'filter q { %s }' \"$(printf 'int v%s; ' $(seq 17))\" | ncroute check --size 16
-    refused Y5 148
+    refused Y5 150
 
 Use one variable for several values, one after the other.
 ",

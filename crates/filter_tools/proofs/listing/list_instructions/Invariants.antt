@@ -1,0 +1,5 @@
+use Rattle.filter_tools.specs.Listing.{Lists, nothing_known}
+use Rattle.filter_tools.proofs.listing.list_instructions.Given as goal
+
+abbrev pub invariant-loop-at : goal.invariant-loop-at
+invariant-loop-at l = Lists l.code.instrs nothing_known l.at l.out.items

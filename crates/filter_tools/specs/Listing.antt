@@ -1,0 +1,93 @@
+-- The listing of a code: a line for each instruction and, for domains of a size, a line before it that says what the verifier knows
+-- there. (This project's own choice.)
+use Rattle.std.specs.Prelude.{◌≡◌, ℕ, zero, suc, ◌+◌, ◌⊎◌, Bool, if◌then◌else◌, List, [], ◌∷◌, ◌++◌, Option, Some, None, codes, decimal, length, slice_get}
+use Rattle.std.specs.Option.{option_map}
+use Rattle.std.specs.Io.KnownBytes.{Appends}
+use Rattle.filter_code.specs.CodeView.{CodeView}
+use Rattle.filter_code.specs.declared.instruction.Instr.{Instr}
+use Rattle.filter_code.specs.declared.instruction.Instr.TheVariants as instr
+use Rattle.filter_source.specs.declared.refusal.Refusal.{Refusal}
+use Rattle.filter_source.specs.declared.refusal.Refusal.TheVariants.{Verify}
+use Rattle.filter_verifier.specs.FirstFault.{the_fault}
+use Rattle.filter_verifier.specs.InStateView.{InStateView, Unreached, UnlikeDepths, Known}
+use Rattle.filter_verifier.specs.InStates.{in_state}
+use Rattle.filter_verifier.specs.Surveys.{surveyed}
+use Rattle.filter_verifier.specs.declared.fact.Fact.{Fact}
+use Rattle.filter_verifier.specs.declared.fact.Fact.TheVariants as fact
+use Rattle.line_protocol.specs.Runs.{AppendsFront}
+use Rattle.line_protocol.specs.declared.faults.StreamFault.{StreamFault}
+use Rattle.line_protocol.specs.declared.faults.StreamFault.TheVariants.{Read, Write, Memory, TooLong}
+use Rattle.filter_commands.specs.Check.{GivesCode, IsRefused, verdict_on}
+use Rattle.filter_tools.specs.Filtering.{refusal_line}
+
+-- the mark of an int that is at least the metric received
+abbrev pub mark : Bool → List ℕ
+mark is_marked = if is_marked then codes ">=received" else []
+
+-- what is known of a value: an int's range and mark, or another kind
+abbrev pub fact_text : Fact → List ℕ
+fact_text (fact.Int range) = decimal range.low ++ codes ".." ++ decimal range.high ++ mark range.at_least_received
+fact_text fact.Bool = codes "bool"
+fact_text fact.Ip = codes "ip"
+fact_text fact.Prefix = codes "prefix"
+
+-- what is known at a place
+abbrev pub place_text : Option Fact → List ℕ
+place_text None = codes "?"
+place_text (Some known) = fact_text known
+
+-- what is known at each of some places, each behind a space
+abbrev pub places_text : List (Option Fact) → List ℕ
+places_text [] = []
+places_text (place ∷ places) = (32 ∷ [] ++ place_text place) ++ places_text places
+
+-- what is known before an instruction, the top of the stack first
+abbrev pub state_text : InStateView → List ℕ
+state_text Unreached = codes "  no path leads here" ++ 10 ∷ []
+state_text UnlikeDepths = codes "  paths meet here whose stacks differ in depth" ++ 10 ∷ []
+state_text (Known frame) = codes "  stack:" ++ places_text frame.stack ++ codes "; variables:" ++ places_text frame.locals ++ 10 ∷ []
+
+-- where an instruction jumps to
+abbrev pub target_text : ℕ → Instr → List ℕ
+target_text at (instr.Jump skipped) = codes " to " ++ decimal (at + 1 + skipped)
+target_text at (instr.JumpIfNot skipped) = codes " to " ++ decimal (at + 1 + skipped)
+target_text at _ = []
+
+-- the line of an instruction: its index, its words, and where it jumps to
+abbrev pub instruction_line : ℕ → List ℕ → Instr → List ℕ
+instruction_line at words i = decimal at ++ 32 ∷ [] ++ words ++ target_text at i ++ 10 ∷ []
+
+-- a text lists the first n instructions of a code, each behind what is known before it
+unfoldable pub Lists : List Instr → (ℕ → List ℕ) → ℕ → List ℕ → Type 0
+Lists instrs known zero text = text ≡ []
+Lists instrs known (suc n) text = (front : List ℕ) × (i : Instr) × (words : List ℕ) × Lists instrs known n front
+    × (slice_get instrs n ≡ Some i) × (text ≡ front ++ known n ++ instruction_line n words i)
+
+-- nothing, and what the verifier knows before an instruction in a domain of a size
+abbrev pub nothing_known : ℕ → List ℕ
+nothing_known n = []
+
+abbrev pub known_before : CodeView → ℕ → ℕ → List ℕ
+known_before program size n = state_text (in_state program size n)
+
+-- the listing of a code, and why it is refused: with a size it ends at the instruction that is refused
+abbrev pub IsListing : Option ℕ → CodeView → List ℕ → Option Refusal → Type 0
+IsListing None program text why = Lists program.instrs nothing_known (length program.instrs) text × (why ≡ None)
+IsListing (Some size) program text why = (front : List ℕ)
+    × Lists program.instrs (known_before program size) (surveyed program size (the_fault program size)) front
+    × (text ≡ front ++ (verdict_on program (the_fault program size)).text)
+    × (why ≡ option_map (λ fault. Verify fault) (the_fault program size))
+
+-- the listing of a source, or the line that refuses it
+abbrev pub IsListed : Option ℕ → Bool → List ℕ → List ℕ → Option Refusal → Type 0
+IsListed size is_code source text why =
+    ((program : CodeView) × GivesCode is_code source program × IsListing size program text why)
+    ⊎ ((refusal : Refusal) × IsRefused is_code source refusal × (why ≡ Some refusal) × (text ≡ refusal_line refusal))
+
+-- what was written where a fault cut a listing
+abbrev pub IsCutListing : StreamFault → Option ℕ → Bool → List ℕ → Option (List ℕ) → Option (List ℕ) → Type 0
+IsCutListing Read size is_code source held holds = ⊥
+IsCutListing Write size is_code source held holds =
+    (text : List ℕ) × (why : Option Refusal) × IsListed size is_code source text why × AppendsFront held holds text
+IsCutListing Memory size is_code source held holds = Appends held holds []
+IsCutListing TooLong size is_code source held holds = ⊥

@@ -1,0 +1,227 @@
+//! `ncroute list`: code as a listing, with what the verifier knows before each instruction.
+ghost use Rattle.std.specs.Prelude.{◌≡◌, ◌≤◌, ◌<◌, ◌++◌, ℕ, List, [], Some, IfOk, IfErr, OnOk, length, slice_get};
+ghost use Rattle.std.specs.Io.KnownBytes.{Appends};
+ghost use Rattle.filter_code.specs.Limits.{instruction_limit};
+ghost use Rattle.filter_commands.specs.Check.{verdict_on};
+ghost use Rattle.filter_commands.specs.Faults.{stream_fault};
+ghost use Rattle.filter_verifier.specs.FirstFault.{the_fault};
+ghost use Rattle.filter_verifier.specs.InStateView.{Known};
+ghost use Rattle.filter_verifier.specs.Pass.{in_state_view};
+ghost use Rattle.filter_verifier.specs.Surveys.{surveyed};
+ghost use Rattle.filter_tools.specs.Listing.{IsCutListing, IsListed, IsListing, Lists, fact_text, instruction_line, known_before, mark};
+ghost use Rattle.filter_tools.specs.Listing.{nothing_known, place_text, places_text, state_text, target_text};
+
+use crate::filter::refusal_line;
+use filter_code::{Code, Instr};
+use filter_commands::{ProgramFault, code_of};
+use filter_source::{Failure, Refusal, push_verified, verify_code};
+use filter_verifier::{AbstractFrame, Fact, InState, Range, survey_code};
+use line_protocol::{push_decimal, push_refusal, write_text};
+use std::alloc::{AllocError, Global};
+use std::io::Write;
+
+/// The listing of a source, or the line that refuses it.
+#[derive(Drop)]
+struct Listing {
+    /// The lines.
+    text: Vec<u8>,
+    /// Why the source or its code is refused.
+    refusal: Option<Refusal>,
+}
+
+/// Puts the range of an int, and its mark, at the end of `out`.
+fn push_range(out: &mut Vec<u8>, range: Range) -> Result<(), AllocError>
+    ensures { OnOk result (out.new.items ≡ out.old.items ++ fact_text (Fact.Int range)) }
+{
+    push_decimal(out, u64::from(range.low()))?;
+    out.extend_from_slice(b"..")?;
+    push_decimal(out, u64::from(range.high()))?;
+    if range.is_at_least_received() {
+        out.extend_from_slice(b">=received")?;
+    }
+    Ok(())
+}
+
+/// Puts what is known at a place at the end of `out`.
+fn push_place(out: &mut Vec<u8>, place: &Option<Fact>) -> Result<(), AllocError>
+    ensures { OnOk result (out.new.items ≡ out.old.items ++ place_text place.now) }
+{
+    match place {
+        None => out.extend_from_slice(b"?"),
+        Some(Fact::Int(range)) => push_range(out, *range),
+        Some(Fact::Bool) => out.extend_from_slice(b"bool"),
+        Some(Fact::Ip) => out.extend_from_slice(b"ip"),
+        Some(Fact::Prefix) => out.extend_from_slice(b"prefix"),
+    }
+}
+
+/// Puts what is known at each of some places, each behind a space, at the end of `out`.
+fn push_places(out: &mut Vec<u8>, places: &[Option<Fact>]) -> Result<(), AllocError>
+    ensures { OnOk result (out.new.items ≡ out.old.items ++ places_text places.now) }
+{
+    for place in places {
+        out.push(b' ')?;
+        push_place(out, place)?;
+    }
+    Ok(())
+}
+
+/// Puts what is known of a stack and of the variables at the end of `out`.
+fn push_frame(out: &mut Vec<u8>, frame: &AbstractFrame) -> Result<(), AllocError>
+    ensures { OnOk result (out.new.items ≡ out.old.items ++ state_text (Known frame.now)) }
+{
+    out.extend_from_slice(b"  stack:")?;
+    push_places(out, frame.stack())?;
+    out.extend_from_slice(b"; variables:")?;
+    push_places(out, frame.locals())?;
+    out.push(b'\n')?;
+    Ok(())
+}
+
+/// Puts what is known before an instruction at the end of `out`.
+fn push_state(out: &mut Vec<u8>, state: &InState) -> Result<(), AllocError>
+    ensures { OnOk result (out.new.items ≡ out.old.items ++ state_text (in_state_view state.now)) }
+{
+    match state {
+        InState::Unreached => out.extend_from_slice(b"  no path leads here\n"),
+        InState::UnlikeDepths => out.extend_from_slice(
+            b"  paths meet here whose stacks differ in depth\n",
+        ),
+        InState::Known(frame) => push_frame(out, frame),
+    }
+}
+
+/// Puts where the instruction at an index jumps to at the end of `out`.
+fn push_target(out: &mut Vec<u8>, at: usize, instr: Instr) -> Result<(), AllocError>
+    requires { at ≤ instruction_limit }
+    ensures { OnOk result (out.new.items ≡ out.old.items ++ target_text at instr) }
+{
+    match instr {
+        Instr::Jump(skipped) | Instr::JumpIfNot(skipped) => {
+            out.extend_from_slice(b" to ")?;
+            push_decimal(out, (at + 1 + usize::from(skipped)) as u64)
+        }
+        _ => Ok(()),
+    }
+}
+
+/// Puts the line of the instruction at an index at the end of `out`.
+fn push_instruction(
+    alloc: Global,
+    out: &mut Vec<u8>,
+    at: usize,
+    instr: Instr,
+) -> Result<(), AllocError>
+    requires { at ≤ instruction_limit }
+    ensures { OnOk result ((words : List ℕ) × (out.new.items ≡ out.old.items ++ instruction_line at words instr)) }
+{
+    let words = format!(in alloc; "{instr}")?;
+    push_decimal(out, at as u64)?;
+    out.push(b' ')?;
+    out.extend_from_slice(words.as_bytes())?;
+    push_target(out, at, instr)?;
+    out.push(b'\n')?;
+    Ok(())
+}
+
+/// The lines of all instructions.
+fn list_instructions(alloc: Global, code: &Code) -> Result<Vec<u8>, AllocError>
+    ensures { IfOk result (λ text. Lists code.now.instrs nothing_known (length code.now.instrs) text.items) }
+{
+    let mut out = Vec::new(alloc);
+    for (at, instr) in code.instrs().iter().enumerate() {
+        push_instruction(alloc, &mut out, at, *instr)?;
+    }
+    Ok(out)
+}
+
+/// The lines of the instructions that the verifier visits in domains of a size, each behind what it knows there.
+fn list_visited(alloc: Global, code: &Code, size: u32) -> Result<Vec<u8>, AllocError>
+    ensures { IfOk result (λ text. Lists code.now.instrs (known_before code.now size)
+        (surveyed code.now size (the_fault code.now size)) text.items) }
+{
+    let survey = survey_code(alloc, code, size)?;
+    let instrs = code.instrs();
+    let mut out = Vec::new(alloc);
+    for (at, state) in survey.in_states.iter().enumerate() {
+        push_state(&mut out, state)?;
+        push_instruction(alloc, &mut out, at, instrs[at])?;
+    }
+    Ok(out)
+}
+
+/// The listing of code for domains of a size: it ends with the bounds of the code, or with why it is refused.
+fn list_verified(alloc: Global, code: Code, size: u32) -> Result<Listing, AllocError>
+    ensures { IfOk result (λ listing. IsListing (Some size) code listing.text.items listing.refusal) }
+{
+    let mut text = list_visited(alloc, &code, size)?;
+    match verify_code(alloc, code, size) {
+        Ok(verified) => {
+            push_verified(&mut text, &verified)?;
+            Ok(Listing {
+                text,
+                refusal: None,
+            })
+        }
+        Err(Failure::Refused(why)) => {
+            push_refusal(&mut text, why.code(), why.at() as u64)?;
+            Ok(Listing {
+                text,
+                refusal: Some(why),
+            })
+        }
+        Err(Failure::Memory) => Err(AllocError),
+    }
+}
+
+/// The listing of code.
+fn list(alloc: Global, code: Code, size: Option<u32>) -> Result<Listing, AllocError>
+    ensures { IfOk result (λ listing. IsListing size code listing.text.items listing.refusal) }
+{
+    match size {
+        Some(size) => list_verified(alloc, code, size),
+        None => Ok(Listing {
+            text: list_instructions(alloc, &code)?,
+            refusal: None,
+        }),
+    }
+}
+
+/// The listing of a source.
+fn list_source(
+    alloc: Global,
+    source: &[u8],
+    size: Option<u32>,
+    is_code: bool,
+) -> Result<Listing, AllocError>
+    ensures { IfOk result (λ listing. IsListed size is_code source.now listing.text.items listing.refusal) }
+{
+    match code_of(alloc, source, is_code) {
+        Ok(code) => list(alloc, code, size),
+        Err(Failure::Refused(why)) => Ok(Listing {
+            text: refusal_line(alloc, why)?,
+            refusal: Some(why),
+        }),
+        Err(Failure::Memory) => Err(AllocError),
+    }
+}
+
+/// Writes the listing of a filter's code, or of a code file in hexadecimal where `is_code` says so. For domains of a size what the
+/// verifier knows stands before each instruction, and the listing ends at the instruction that it refuses, or with the bounds of the
+/// code. Returns why the source or its code is refused.
+pub fn write_listing<W: Write>(
+    alloc: Global,
+    source: &[u8],
+    writer: &mut W,
+    size: Option<u32>,
+    is_code: bool,
+) -> Result<Option<Refusal>, ProgramFault>
+    ensures finished { IfOk result (λ why. (text : List ℕ) × IsListed size is_code source.now text why
+        × Appends (W.contents writer.old) (W.contents writer.new) text) }
+    ensures broken_off { IfErr result (λ fault. IsCutListing (stream_fault fault) size is_code source.now
+        (W.contents writer.old) (W.contents writer.new)) }
+{
+    let listing = list_source(alloc, source, size, is_code)?;
+    write_text(writer, listing.text.as_slice())?;
+    Ok(listing.refusal)
+}
