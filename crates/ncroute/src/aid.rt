@@ -1,5 +1,5 @@
 //! From what people ask for to an exit status.
-ghost use Rattle.std.specs.Prelude.{◌≡◌, ◌||◌, IfErr, IfOk, is_some, length};
+ghost use Rattle.std.specs.Prelude.{◌≡◌, ◌⊎◌, ◌||◌, ℕ, List, Option, IfErr, IfOk, is_some, length};
 ghost use Rattle.std.specs.Io.KnownBytes.{Appends};
 ghost use Rattle.filter_commands.specs.Evaluation.{IsCut};
 ghost use Rattle.filter_commands.specs.Faults.{stream_fault};
@@ -7,8 +7,9 @@ ghost use Rattle.filter_tools.specs.Listing.{IsCutListing};
 ghost use Rattle.filter_source.specs.declared.refusal.Refusal.{Refusal as TheRefusal};
 ghost use Rattle.filter_tools.specs.Telling.{Explains, IsCutExplanation};
 ghost use Rattle.filter_tools.specs.declared.filter.Filtered.TheVariants.{Refused};
+ghost use Rattle.ncroute.specs.Serving.{fault_line};
 ghost use Rattle.ncroute.specs.Helping.{ChecksFirst, ChecksOne, ChecksSome, IsCutOne, IsRead, StopsFilter};
-ghost use Rattle.ncroute.specs.Helping.{ListsText, TriesFilter, name_of, status_of_filter, told_refusal};
+ghost use Rattle.ncroute.specs.Helping.{Helps, ListsText, TriesFilter, name_of, status_of_filter, told_refusal};
 
 use crate::aid_words::{Aid, Checking, Source};
 use crate::serve::{FAILED, report_fault};
@@ -203,7 +204,11 @@ fn help<F: Files, R: Read, W: Write, E: Write>(
     reader: &mut R,
     writer: &mut W,
     errors: &mut E,
-) -> Result<u8, ProgramFault> {
+) -> Result<u8, ProgramFault>
+    ensures { IfOk result (Helps aid.now
+        (record { reads = R.remaining reader.old; holds = W.contents writer.old; tells = E.contents errors.old })
+        (record { reads = R.remaining reader.new; holds = W.contents writer.new; tells = E.contents errors.new })) }
+{
     match aid {
         Aid::Check { how, sources } => {
             let is_refused = check_sources(
@@ -256,7 +261,12 @@ pub fn serve_people<F: Files, R: Read, W: Write, E: Write>(
     reader: &mut R,
     writer: &mut W,
     errors: &mut E,
-) -> Result<u8, StreamFault> {
+) -> Result<u8, StreamFault>
+    ensures { IfOk result (λ status. Helps aid.now
+        (record { reads = R.remaining reader.old; holds = W.contents writer.old; tells = E.contents errors.old })
+        (record { reads = R.remaining reader.new; holds = W.contents writer.new; tells = E.contents errors.new }) status
+        ⊎ ((status ≡ 1) × (heard : Option (List ℕ)) × (fault : ProgramFault) × Appends heard (E.contents errors.new) (fault_line fault))) }
+{
     match help(files, alloc, aid, reader, writer, errors) {
         Ok(status) => Ok(status),
         Err(fault) => {
