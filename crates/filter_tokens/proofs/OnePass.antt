@@ -20,22 +20,6 @@ use Rattle.filter_tokens.proofs.Forms.{address_whole, after_byte-found, after_pr
 use Rattle.filter_tokens.proofs.Fronts.{drop_while-no, split_length}
 use Rattle.filter_tokens.proofs.Longest.{Found, a_shape, address_begins, prefix_is}
 
--- digits that were read, up to a byte that is none
-pub leads-number : (most : ℕ) (text : List ℕ) (at value : ℕ) → at < length text → at ≢ 0 → All IsAsciiDigit (take at text)
-    → value ≡ decimal_value (take at text) → value ≤ most → is_ascii_digit (get_or text at 0) ≡ false
-    → LeadsNumber most text value (drop at text)
-leads-number most text at value within some digits is limit ends =
-    let more = drop_more text at 0 within in
-    record {
-      digits = take at text;
-      is = (record { some = omega (arith, length-take at text); each = digits }, omega (arith, is));
-      value = is;
-      whole = sym (take-append-drop at text);
-      ends =
-          ap (drop_while is_ascii_digit) more ∙ drop_while-no is_ascii_digit (get_or text at 0) (drop (at + 1) text) ends
-          ∙ sym more;
-    }
-
 -- a prefix is at the front of a text, with all the digits of its length
 pub record LeadsPrefix (text : List ℕ) (bits : List Bool) (rest : List ℕ) : Type 0 where
   pub bytes : List ℕ
