@@ -74,7 +74,7 @@ fn texts_are_explained(rt: HostRuntime) -> Result<(), Fail> {
         (
             "filter d { if 8 / rip_metric = 2 then accept; }",
             "code 4e43463100000008010000000813230100000002306100017071\nrefused V3 2\n",
-            "f: instruction 2: the divisor may be 0 (V3)\n",
+            "f: instruction 2: the divisor may be 0: it is 0..16 here (V3)\n",
         ),
     ];
     for (text, answer, told) in rows {

@@ -5,3 +5,7 @@
 mod explanation_tests;
 #[cfg(test)]
 mod filter_tests;
+#[cfg(test)]
+mod listing_tests;
+#[cfg(test)]
+mod mistake_tests;
