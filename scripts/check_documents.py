@@ -6,6 +6,7 @@ usage: scripts/check_documents.py        (NCROUTE=PATH: the program; without it,
 - Each example: a line `    $ COMMAND` of README.md or docs/*.md, run at the top of the repository, writes the indented lines below it. One that
   looks at standard error (`2>&1`) or names a file of a filter (`ncroute filter`) needs the program, and is left out without NCROUTE=PATH.
 - The table of the examples in docs/LANGUAGE.md: each filter of examples/ answers the route so.
+- Each row of a table of codes says what `ncroute explain CODE` says, and each example of `ncroute explain` writes what it shows.
 - Each listing of docs/VERIFIER.md (`    0 METRIC`, `    1 INT 2`, ..), as a code file with as many variables and sets as it names: `check --code`
   refuses it as the listing says (`V3 at 6`), or verifies it. If a line of hexadecimal follows, it is that file.
 - The filters in crates/command_tests/src/examples_tests.rt are those of examples/, without the comments.
@@ -18,6 +19,10 @@ import sys
 sys.dont_write_bytecode = True
 import program  # noqa: E402
 
+# The document whose table has the codes of a letter, and the column of their meaning.
+TABLES = {"P": ("LANGUAGE", 1), "Y": ("KINDS", 1), "V": ("VERIFIER", 1), "C": ("CODE_FILE", 1), "K": ("MACHINE", 1), "E": ("EVAL", 1), "O": ("SCRIPT", 1),
+          "N": ("ROUTER", 1), "J": ("ROUTER", 1), "L": ("LOCK", 2), "X": ("SESSIONS", 1)}
+OTHER_CODES = ["G1", "G2", "G3"]
 SIZE = 8
 SET = "0001" + "01000000" + "080f11"
 
@@ -48,6 +53,14 @@ def answers(text):
         route = f"{row[1]} {row[2]} 16"
         command = f"(ncroute check --size 16 < examples/{name} | sed -n 's/^code //p'; echo {route}) | ncroute eval"
         yield command, row[3] + "\n"
+
+
+def meanings():
+    """The rows of the tables of codes: the document, a code and what it means."""
+    for letter, (name, column) in TABLES.items():
+        for row in re.findall(rf"(?m)^\| ({letter}\d+ \| .*) \|$", read(f"docs/{name}.md")):
+            cells = re.split(r"(?<!\\) \| ?", row)
+            yield f"docs/{name}.md", cells[0], cells[column].replace("\\|", "|")
 
 
 def opcodes():
@@ -89,7 +102,22 @@ def copies():
 
 def needs_program(command):
     """`rt try --cases` tells no standard error, and runs in a folder without the files of the repository."""
-    return "2>&1" in command or "ncroute filter" in command
+    return "2>&1" in command or "ncroute filter" in command or ".filter" in re.sub(r"< *[\w/.]+", "", command)
+
+
+def explained(ncroute, tell):
+    """Compares the tables of codes with `ncroute explain`, and runs the examples of its pages."""
+    rows = list(meanings())
+    codes = sorted({code for _, code, _ in rows} | set(OTHER_CODES))
+    said = ncroute.runs([(f"ncroute explain {code}", b"") for code in codes])
+    pages = {code: wrote.decode() for code, (wrote, _) in zip(codes, said)}
+    tell("ncroute explain", "pages", [(code, not pages[code].startswith(code + ": ") and "has no page") for code in codes])
+    tell("docs", "rows of codes as explained", [(f"{name} {code}", meaning not in pages[code] and f"not said by `ncroute explain {code}`: {meaning}")
+                                                for name, code, meaning in rows])
+    shown = [(code, *row) for code in codes for row in examples(pages[code]) if os.environ.get("NCROUTE") or not needs_program(row[0])]
+    said = ncroute.runs([(command, b"") for _, command, _ in shown])
+    tell("ncroute explain", "examples", [(command, wrote.decode() != wanted and f"{code}: wrote {wrote.decode()!r}, and not {wanted!r}")
+                                         for (code, command, wanted), (wrote, _) in zip(shown, said)])
 
 
 def main():
@@ -132,6 +160,7 @@ def main():
     found = {name for name, _ in same}
     same += [(name, "has no copy in the tests") for name in sorted(glob.glob("examples/*.filter", root_dir=program.TOP)) if name not in found]
     tell("examples", "filters as in the tests", same)
+    explained(ncroute, tell)
     ncroute.close()
     program.finish(passed, failed)
 
