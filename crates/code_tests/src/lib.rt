@@ -8,6 +8,8 @@ mod damaged_file_tests;
 #[cfg(test)]
 mod filter_code_tests;
 #[cfg(test)]
+mod leading_tests;
+#[cfg(test)]
 mod line_protocol_tests;
 #[cfg(test)]
 mod prefix_patterns_tests;

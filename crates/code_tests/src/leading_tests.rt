@@ -1,0 +1,61 @@
+//! What texts begin with, in the usual spelling.
+
+use prefix_patterns::{after_byte, leading_number, leading_prefix};
+
+/// The number that a text begins with, and how many bytes follow it.
+fn number(text: &[u8]) -> Option<(u32, usize)> {
+    let (value, rest) = leading_number(text)?;
+    Some((value, rest.len()))
+}
+
+/// The prefix that a text begins with, as its first address and its length, and how many bytes follow it.
+fn prefix(text: &[u8]) -> Option<(u32, u8, usize)> {
+    let Some((prefix, rest)) = leading_prefix(text) else {
+        return None;
+    };
+    Some((prefix.address().0, prefix.len(), rest.len()))
+}
+
+#[test]
+fn texts_begin_with_numbers(rt: HostRuntime) {
+    let rows: [(&[u8], Option<(u32, usize)>); 7] = [
+        (b"0", Some((0, 0))),
+        (b"16 32", Some((16, 3))),
+        (b"255.1", Some((255, 2))),
+        (b"007", Some((7, 0))),
+        (b"65535", Some((655, 2))),
+        (b"", None),
+        (b" 1", None),
+    ];
+    for (text, wanted) in rows {
+        assert_eq!(rt; number(text), wanted);
+    }
+}
+
+#[test]
+fn texts_begin_with_prefixes(rt: HostRuntime) {
+    let rows: [(&[u8], Option<(u32, u8, usize)>); 8] = [
+        (b"10.0.0.0/8 3 8", Some((0x0a00_0000, 8, 4))),
+        (b"1.2.3.4/32", Some((0x0102_0304, 32, 0))),
+        (b"255.255.255.255/0,", Some((0, 0, 1))),
+        (b"010.1.2.3/24", Some((0x0a01_0200, 24, 0))),
+        (b"10.0.0.256/8", None),
+        (b"10.0.0.0/33", None),
+        (b"10.0.0/8", None),
+        (b"10.0.0.0", None),
+    ];
+    for (text, wanted) in rows {
+        assert_eq!(rt; prefix(text), wanted);
+    }
+}
+
+#[test]
+fn what_follows_a_byte(rt: HostRuntime) {
+    assert_eq!(rt; after_byte(b".5", b'.').map(length), Some(1));
+    assert_eq!(rt; after_byte(b"5", b'.').map(length), None);
+    assert_eq!(rt; after_byte(b"", b'.').map(length), None);
+}
+
+fn length(text: &[u8]) -> usize {
+    text.len()
+}
