@@ -69,9 +69,9 @@ fn expect_tree(rt: &impl Abort, filter: &Filter) -> Result<(), fmt::Error> {
     Ok(())
 }
 
-/// Asserts that a filter is that of the text `TEXT`, and that the variable of each of its uses is the first one.
+/// Asserts that a filter is that of the text `TEXT`, and that its variable is the first one.
 fn expect_typed(rt: &impl Abort, typed: &Typed) -> Result<(), fmt::Error> {
-    assert_eq!(rt; typed.numbers(), [0, 0].as_slice());
+    assert_eq!(rt; (typed.number_of(b"a"), typed.number_of(b"other")), (0, 1));
     expect_tree(rt, typed.filter())
 }
 
