@@ -1,9 +1,9 @@
 -- What begins with a byte: the punctuators, the keywords and the words left out, chosen by the first byte of a text.
-use Rattle.std.proofs.Common.{◌≡◌, ℕ, Bool, true, false, List, [], ◌∷◌, ◌||◌, eqb, map, refl, sym, ap, subst}
+use Rattle.std.proofs.Common.{◌≡◌, ℕ, Bool, true, false, List, [], ◌∷◌, None, ◌||◌, eqb, map, refl, sym, ◌∙◌, ap, subst}
 use Rattle.std.specs.List.{find, list_any}
 use Rattle.std.specs.Str.{bytes_eq}
 use Rattle.std.proofs.lemmas.Bool.{eqb-true, eqb-false, ne_eqb}
-use Rattle.filter_tokens.specs.Reading.{pair_of, pair, single, pair_or, punctuator_in, is_spelled, keyword_in, keywords_with}
+use Rattle.filter_tokens.specs.Reading.{pair, single, pair_or, punctuator_in, is_spelled, keyword_in, keywords_with}
 use Rattle.filter_tokens.specs.Reading.{is_left_out, left_out_with}
 
 by_test : (byte wanted : ℕ) (P : ℕ → Type 0) (same : Bool) → eqb byte wanted ≡ same → P wanted
@@ -15,140 +15,121 @@ by_test byte wanted P false e here other = other e (ne_eqb wanted byte (λ same.
 at_byte : (byte wanted : ℕ) (P : ℕ → Type 0) → P wanted → (eqb byte wanted ≡ false → eqb wanted byte ≡ false → P byte) → P byte
 at_byte byte wanted P here other = by_test byte wanted P (eqb byte wanted) refl here other
 
+-- a byte with which no punctuator of two bytes begins
+record BeginsNoPair (byte : ℕ) : Type 0 where
+  and : (eqb byte 38 ≡ false) × (eqb 38 byte ≡ false)
+  or : (eqb byte 124 ≡ false) × (eqb 124 byte ≡ false)
+  not : (eqb byte 33 ≡ false) × (eqb 33 byte ≡ false)
+  less : (eqb byte 60 ≡ false) × (eqb 60 byte ≡ false)
+  greater : (eqb byte 62 ≡ false) × (eqb 62 byte ≡ false)
+
+no_pair : (first : ℕ) (others : List ℕ) → BeginsNoPair first → pair first others ≡ None
+no_pair first [] none = refl
+no_pair first (second ∷ rest) none = simp (none.and.0, none.or.0, none.not.0, none.less.0, none.greater.0)
+
+-- the longest punctuator is then that of the first byte
+single-by : (first : ℕ) (others : List ℕ) → BeginsNoPair first → punctuator_in (first ∷ others) ≡ single first
+unfolding punctuator_in
+single-by first others none =
+    let P : ℕ → Type 0 = λ byte. punctuator_in (byte ∷ others) ≡ single byte in
+    at_byte first 40 P refl (λ a40 b40.
+    at_byte first 41 P refl (λ a41 b41.
+    at_byte first 123 P refl (λ a123 b123.
+    at_byte first 125 P refl (λ a125 b125.
+    at_byte first 91 P refl (λ a91 b91.
+    at_byte first 93 P refl (λ a93 b93.
+    at_byte first 59 P refl (λ a59 b59.
+    at_byte first 44 P refl (λ a44 b44.
+    at_byte first 46 P refl (λ a46 b46.
+    at_byte first 61 P refl (λ a61 b61.
+    at_byte first 126 P refl (λ a126 b126.
+    at_byte first 43 P refl (λ a43 b43.
+    at_byte first 45 P refl (λ a45 b45.
+    at_byte first 42 P refl (λ a42 b42.
+    at_byte first 47 P refl (λ a47 b47.
+    simp (
+      none.and.1,
+      none.or.1,
+      none.not.0,
+      none.not.1,
+      none.less.0,
+      none.less.1,
+      none.greater.0,
+      none.greater.1,
+      a40,
+      b40,
+      a41,
+      b41,
+      a123,
+      b123,
+      a125,
+      b125,
+      a91,
+      b91,
+      a93,
+      b93,
+      a59,
+      b59,
+      a44,
+      b44,
+      a46,
+      b46,
+      a61,
+      b61,
+      a126,
+      b126,
+      a43,
+      b43,
+      a45,
+      b45,
+      a42,
+      b42,
+      a47,
+      b47,
+    ))))))))))))))))
+
 -- the longest punctuator of a text is that of its first two bytes, or of its first
-abbrev IsChosen : ℕ → ℕ → List ℕ → Type 0
-IsChosen first second rest = punctuator_in (first ∷ second ∷ rest) ≡ pair_or (pair_of first second) (single first)
+abbrev IsChosen : ℕ → List ℕ → Type 0
+IsChosen first others = punctuator_in (first ∷ others) ≡ pair_or (pair first others) (single first)
+
+begun_by_and : (others : List ℕ) → IsChosen 38 others
+unfolding punctuator_in
+begun_by_and [] = refl
+begun_by_and (second ∷ rest) = at_byte second 38 (λ byte. IsChosen 38 (byte ∷ rest)) refl (λ a38 b38. simp (a38, b38))
+
+begun_by_or : (others : List ℕ) → IsChosen 124 others
+unfolding punctuator_in
+begun_by_or [] = refl
+begun_by_or (second ∷ rest) = at_byte second 124 (λ byte. IsChosen 124 (byte ∷ rest)) refl (λ a124 b124. simp (a124, b124))
+
+begun_by_not : (others : List ℕ) → IsChosen 33 others
+unfolding punctuator_in
+begun_by_not [] = refl
+begun_by_not (second ∷ rest) =
+    let P : ℕ → Type 0 = λ byte. IsChosen 33 (byte ∷ rest) in
+    at_byte second 61 P refl (λ a61 b61. at_byte second 126 P refl (λ a126 b126. simp (a61, b61, a126, b126)))
+
+begun_by_less : (others : List ℕ) → IsChosen 60 others
+unfolding punctuator_in
+begun_by_less [] = refl
+begun_by_less (second ∷ rest) = at_byte second 61 (λ byte. IsChosen 60 (byte ∷ rest)) refl (λ a61 b61. simp (a61, b61))
+
+begun_by_greater : (others : List ℕ) → IsChosen 62 others
+unfolding punctuator_in
+begun_by_greater [] = refl
+begun_by_greater (second ∷ rest) = at_byte second 61 (λ byte. IsChosen 62 (byte ∷ rest)) refl (λ a61 b61. simp (a61, b61))
 
 -- the longest punctuator, by the first byte and the next
 pub punctuator-by : (first : ℕ) (others : List ℕ) → punctuator_in (first ∷ others) ≡ pair_or (pair first others) (single first)
-unfolding punctuator_in
-punctuator-by first [] =
-    let P : ℕ → Type 0 = λ byte. punctuator_in (byte ∷ []) ≡ single byte in
-    at_byte first 38 P refl (λ a38 b38.
-    at_byte first 124 P refl (λ a124 b124.
-    at_byte first 33 P refl (λ a33 b33.
-    at_byte first 60 P refl (λ a60 b60.
-    at_byte first 62 P refl (λ a62 b62.
-    at_byte first 40 P refl (λ a40 b40.
-    at_byte first 41 P refl (λ a41 b41.
-    at_byte first 123 P refl (λ a123 b123.
-    at_byte first 125 P refl (λ a125 b125.
-    at_byte first 91 P refl (λ a91 b91.
-    at_byte first 93 P refl (λ a93 b93.
-    at_byte first 59 P refl (λ a59 b59.
-    at_byte first 44 P refl (λ a44 b44.
-    at_byte first 46 P refl (λ a46 b46.
-    at_byte first 61 P refl (λ a61 b61.
-    at_byte first 126 P refl (λ a126 b126.
-    at_byte first 43 P refl (λ a43 b43.
-    at_byte first 45 P refl (λ a45 b45.
-    at_byte first 42 P refl (λ a42 b42.
-    at_byte first 47 P refl (λ a47 b47.
-    simp (
-      b38,
-      b124,
-      a33,
-      b33,
-      a60,
-      b60,
-      a62,
-      b62,
-      a40,
-      b40,
-      a41,
-      b41,
-      a123,
-      b123,
-      a125,
-      b125,
-      a91,
-      b91,
-      a93,
-      b93,
-      a59,
-      b59,
-      a44,
-      b44,
-      a46,
-      b46,
-      a61,
-      b61,
-      a126,
-      b126,
-      a43,
-      b43,
-      a45,
-      b45,
-      a42,
-      b42,
-      a47,
-      b47,
-    )))))))))))))))))))))
-punctuator-by first (second ∷ rest) =
-    let P : ℕ → Type 0 = λ byte. IsChosen byte second rest in
-    at_byte first 38 P (at_byte second 38 (λ byte. IsChosen 38 byte rest) refl (λ a38 b38. simp (a38, b38))) (λ a38 b38.
-    at_byte first 124 P (at_byte second 124 (λ byte. IsChosen 124 byte rest) refl (λ a124 b124. simp (a124, b124))) (λ a124 b124.
-    at_byte first 33 P (at_byte second 61 (λ byte. IsChosen 33 byte rest) refl (λ a61 b61.
-    at_byte second 126 (λ byte. IsChosen 33 byte rest) refl (λ a126 b126. simp (a61, b61, a126, b126)))) (λ a33 b33.
-    at_byte first 60 P (at_byte second 61 (λ byte. IsChosen 60 byte rest) refl (λ a61 b61. simp (a61, b61))) (λ a60 b60.
-    at_byte first 62 P (at_byte second 61 (λ byte. IsChosen 62 byte rest) refl (λ a61 b61. simp (a61, b61))) (λ a62 b62.
-    at_byte first 40 P refl (λ a40 b40.
-    at_byte first 41 P refl (λ a41 b41.
-    at_byte first 123 P refl (λ a123 b123.
-    at_byte first 125 P refl (λ a125 b125.
-    at_byte first 91 P refl (λ a91 b91.
-    at_byte first 93 P refl (λ a93 b93.
-    at_byte first 59 P refl (λ a59 b59.
-    at_byte first 44 P refl (λ a44 b44.
-    at_byte first 46 P refl (λ a46 b46.
-    at_byte first 61 P refl (λ a61 b61.
-    at_byte first 126 P refl (λ a126 b126.
-    at_byte first 43 P refl (λ a43 b43.
-    at_byte first 45 P refl (λ a45 b45.
-    at_byte first 42 P refl (λ a42 b42.
-    at_byte first 47 P refl (λ a47 b47.
-    simp (
-      a38,
-      b38,
-      a124,
-      b124,
-      a33,
-      b33,
-      a60,
-      b60,
-      a62,
-      b62,
-      a40,
-      b40,
-      a41,
-      b41,
-      a123,
-      b123,
-      a125,
-      b125,
-      a91,
-      b91,
-      a93,
-      b93,
-      a59,
-      b59,
-      a44,
-      b44,
-      a46,
-      b46,
-      a61,
-      b61,
-      a126,
-      b126,
-      a43,
-      b43,
-      a45,
-      b45,
-      a42,
-      b42,
-      a47,
-      b47,
-    )))))))))))))))))))))
+punctuator-by first others =
+    let P : ℕ → Type 0 = λ byte. IsChosen byte others in
+    at_byte first 38 P (begun_by_and others) (λ a38 b38.
+    at_byte first 124 P (begun_by_or others) (λ a124 b124.
+    at_byte first 33 P (begun_by_not others) (λ a33 b33.
+    at_byte first 60 P (begun_by_less others) (λ a60 b60.
+    at_byte first 62 P (begun_by_greater others) (λ a62 b62.
+    let none : BeginsNoPair first = record { and = (a38, b38); or = (a124, b124); not = (a33, b33); less = (a60, b60); greater = (a62, b62) } in
+    single-by first others none ∙ ap (λ both. pair_or both (single first)) (sym (no_pair first others none)))))))
 
 -- whether one of the things that are made from others passes
 pub any_of_map : {X Y : Type 0} (p : Y → Bool) (made : X → Y) (xs : List X) → list_any (λ x. p (made x)) xs ≡ list_any p (map made xs)

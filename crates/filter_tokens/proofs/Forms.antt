@@ -114,7 +114,7 @@ after_address-there x rest is =
     ∙ ap after_address (joined is.first is.second is.third is.fourth rest)
     ∙ after_groups is.first is.second is.third is.fourth rest is.groups.0 is.groups.1 is.groups.2 is.groups.3
 
-pub address_whole : (text one two three four five six rest a b c d : List ℕ)
+address_whole : (text one two three four five six rest a b c d : List ℕ)
     → text ≡ a ++ one → one ≡ dot ∷ two → two ≡ b ++ three → three ≡ dot ∷ four → four ≡ c ++ five → five ≡ dot ∷ six → six ≡ d ++ rest
     → text ≡ join_with_byte dot (a ∷ b ∷ c ∷ d ∷ []) ++ rest
 address_whole text one two three four five six rest a b c d e f g h i j k =

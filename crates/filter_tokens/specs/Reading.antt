@@ -1,13 +1,12 @@
 -- Reading a text from the left: what the lexer's functions answer (this project's own choice).
 -- No promise to a caller cites it: those cite Cutting, and proofs join the two.
 use Rattle.std.specs.Prelude.{◌≡◌, ℕ, ◌+◌, ◌-◌, ◌*◌, ◌==◌, ◌&&◌, nat_le, nat_lt, if◌then◌else◌, Bool}
-use Rattle.std.specs.Prelude.{not, List, [], ◌∷◌, ◌++◌, length, take, drop, find, codes, Option, Some, None, Result, Ok, Err}
+use Rattle.std.specs.Prelude.{not, List, [], ◌∷◌, length, take, drop, find, codes, Option, Some, None, Result, Ok, Err}
 use Rattle.std.specs.Char.{digit_value, is_ascii_digit, is_ascii_hexdigit}
 use Rattle.std.specs.List.{prefix_len, list_any}
 use Rattle.std.specs.Option.{option_map}
 use Rattle.std.specs.Str.{bytes_eq}
 use Rattle.prefix_patterns.specs.Reading.{◌>>=◌, number_in, address_in, prefix_in}
-use Rattle.prefix_patterns.specs.Number.{decimal_value, IsNumber}
 use Rattle.prefix_patterns.specs.Token.{dot, slash}
 use Rattle.filter_tokens.specs.declared.symbol.Symbol.{Symbol}
 use Rattle.filter_tokens.specs.declared.symbol.Symbol.TheVariants as symbol
@@ -93,14 +92,6 @@ digits_shape text =
     (or_shape shape.Address (after_address text)
     (or_shape shape.Hexadecimal (after_hexadecimal text)
     (shape.Decimal, drop_while is_ascii_digit text)))
-
--- a number of at most a limit is at the front of a text, with all the digits there
-pub record LeadsNumber (most : ℕ) (text : List ℕ) (n : ℕ) (rest : List ℕ) : Type 0 where
-  pub digits : List ℕ
-  pub is : IsNumber most digits
-  pub value : n ≡ decimal_value digits
-  pub whole : text ≡ digits ++ rest
-  pub ends : drop_while is_ascii_digit rest ≡ rest
 
 -- the punctuators, longer ones first
 abbrev pub punctuators : List Symbol

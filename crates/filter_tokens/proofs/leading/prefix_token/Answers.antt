@@ -1,16 +1,24 @@
-use Rattle.filter_tokens.proofs.OnePass.{LeadsPrefix, leads-prefix, leads-token, leads-within}
+use Rattle.std.proofs.Common.{rules, ◌≡◌, ◌-◌, ◌≤◌, Some, length, arith}
+use Rattle.std.specs.Char.{is_ascii_digit}
+use Rattle.std.specs.List.{prefix_len}
+use Rattle.filter_tokens.specs.declared.part.Part.TheVariants as part
+use Rattle.filter_tokens.specs.declared.token_kind.TokenKind.TheVariants as kind
+use Rattle.filter_tokens.specs.Reading.{token_in}
+use Rattle.filter_tokens.proofs.OnePass.{leads-token, leads-within}
 use Rattle.filter_tokens.proofs.leading.prefix_token.Goals as goal
 
-leads : (c : goal.In_ok-prefix) → LeadsPrefix c.args.text.now c.in_ok-prefix.prefix c.in_ok-len.rest.now
-leads c =
-    leads-prefix c.args.text.now c.in_ok-first.rest.now c.in_ok-rest.rest.now c.in_ok-second.rest.now c.in_ok-rest-2.rest.now
-    c.in_ok-third.rest.now c.in_ok-rest-3.rest.now c.in_ok-fourth.rest.now c.in_ok-rest-4.rest.now c.in_ok-len.rest.now
-    c.in_ok-first.first c.in_ok-second.second c.in_ok-third.third c.in_ok-fourth.fourth c.in_ok-len.len c.in_ok-prefix.prefix
-    c.in_ok-first.ensures c.in_ok-rest.ensures c.in_ok-second.ensures c.in_ok-rest-2.ensures c.in_ok-third.ensures
-    c.in_ok-rest-3.ensures c.in_ok-fourth.ensures c.in_ok-rest-4.ensures c.in_ok-len.ensures c.in_ok-prefix.ensures.1
-
 pub overflow_sub-result : goal.overflow_sub-result
-overflow_sub-result c = leads-within c.args.text.now c.in_ok-prefix.prefix c.in_ok-len.rest.now (leads c)
+overflow_sub-result c =
+    let within : length c.in-Some.rest.now ≤ length c.args.text.now =
+    leads-within c.args.text.now c.in-Some.prefix c.in-Some.rest.now c.in-Some.ensures in
+    search rules
 
 pub returns : goal.returns
-returns c = leads-token c.args.text.now c.in_ok-prefix.prefix c.in_ok-len.rest.now (leads c)
+returns c =
+    let text = c.args.text.now in
+    let rest = c.in-Some.rest.now in
+    let count : c.leading_len.result ≡ prefix_len is_ascii_digit rest = search rules in
+    let ends : prefix_len is_ascii_digit rest ≡ 0 = omega (arith, count, c.if-leading_len-gt0.false) in
+    let token : token_in text ≡ Some (part.Token (kind.Prefix c.in-Some.prefix) (length text - length rest)) =
+    leads-token text c.in-Some.prefix rest c.in-Some.ensures ends in
+    search rules
