@@ -5,30 +5,23 @@ use Rattle.std.specs.Bool.{beq}
 use Rattle.std.specs.Cmp.{booleans_Decides}
 use Rattle.std.specs.Cmp.Lexicographic.{pointwise, pointwise_decides}
 use Rattle.std.proofs.lemmas.Bool.Decides.{Decides-eqb, Decides-like, nat_tests, same_from_decides}
-use Rattle.std.proofs.lemmas.Nat.{shl_below}
-use Rattle.prefix_patterns.specs.Bits.{address_of, number, prefix_bits}
-use Rattle.prefix_patterns.specs.BitLists.{number_lt, prefix_bits-address_of}
+use Rattle.prefix_patterns.specs.Bits.{address_of, prefix_bits}
+use Rattle.prefix_patterns.specs.BitLists.{address_below, prefix_bits-address_of}
 use Rattle.filter_code.specs.declared.value.Value.{Value}
 use Rattle.filter_code.specs.declared.value.Value.TheVariants as value
 use Rattle.filter_code.specs.Table.{are_alike}
-use Rattle.filter_code.specs.Values.{is_same, kind_of}
-use Rattle.filter_code.specs.Tagged.{HasLimits, IsTagged, tagged, value_tagged}
-
--- an address of a prefix has 32 bits
-address_below : (net : List Bool) → length net ≤ 32 → address_of net < 2 ^ 32
-address_below net limit =
-    let all : length net + (32 - length net) ≡ 32 = omega arith in
-    rw all at (shl_below (number net) (length net) (32 - length net) (number_lt net))
+use Rattle.filter_code.specs.Values.{IsWithinType, is_same, kind_of}
+use Rattle.filter_code.specs.Tagged.{IsTagged, tagged, value_tagged}
 
 -- the number that a value has
 pub record IsNumberOf (w : ℕ) (v : Value) : Type 0 where
   pub number_is : tagged v ≡ w
-  pub within : HasLimits v
+  pub within : IsWithinType v
 
 pub number_of_value : (w : ℕ) (v : Value) → value_tagged w ≡ v → IsTagged w → IsNumberOf w v
 number_of_value w v is h = record {
   number_is = subst (λ (x : Value). tagged x ≡ w) is h.back;
-  within = subst HasLimits is h.within;
+  within = subst IsWithinType is h.within;
 }
 
 -- the upper half of a value's number

@@ -3,6 +3,7 @@ use Rattle.std.specs.Prelude.{◌≡◌, ℕ, ◌+◌, ◌-◌, ◌*◌, ◌/◌
 use Rattle.prefix_patterns.specs.Bits.{address_of, prefix_bits}
 use Rattle.filter_code.specs.declared.value.Value.{Value}
 use Rattle.filter_code.specs.declared.value.Value.TheVariants as value
+use Rattle.filter_code.specs.Values.{IsLocalWithinType, IsWithinType}
 
 -- the number of a value
 abbrev pub tagged : Value → ℕ
@@ -23,17 +24,10 @@ value_of_halves upper lower =
 abbrev pub value_tagged : ℕ → Value
 value_tagged w = value_of_halves (w / 2 ^ 32) (w % 2 ^ 32)
 
--- a value is within the limits of its kind: an int and an ip have 32 bits, and a prefix has at most 32
-abbrev pub HasLimits : Value → Type 0
-HasLimits (value.Int n) = n < 2 ^ 32
-HasLimits (value.Bool b) = Unit {0}
-HasLimits (value.Addr a) = a.0 < 2 ^ 32
-HasLimits (value.Net bits) = length bits ≤ 32
-
 -- the number of a value within its limits
 pub record IsTagged (w : ℕ) : Type 0 where
   pub back : tagged (value_tagged w) ≡ w
-  pub within : HasLimits (value_tagged w)
+  pub within : IsWithinType (value_tagged w)
 
 -- the number of a local variable: an empty one has the upper half that no value has
 abbrev pub slot : Option Value → ℕ
@@ -43,10 +37,6 @@ slot (Some v) = tagged v
 abbrev pub local_in : ℕ → Option Value
 local_in w = if w == 3 * 2 ^ 32 then None else Some (value_tagged w)
 
-abbrev pub HasLocalLimits : Option Value → Type 0
-HasLocalLimits None = Unit {0}
-HasLocalLimits (Some v) = HasLimits v
-
 pub record IsSlot (w : ℕ) : Type 0 where
   pub back : slot (local_in w) ≡ w
-  pub within : HasLocalLimits (local_in w)
+  pub within : IsLocalWithinType (local_in w)

@@ -38,15 +38,3 @@ impl Value {
         }
     }
 }
-
-impl Default for Value {
-    ghost use Rattle.std.specs.Prelude.{◌≡◌};
-    ghost use Rattle.filter_code.specs.declared.value.Value.TheVariants as value;
-
-    ghost is_default = { λ v. v ≡ value.Int 0 };
-
-    /// An int of 0, which fills the unused places of a stack.
-    fn default() -> Value {
-        Value::Int(0)
-    }
-}

@@ -3,7 +3,7 @@
 use Rattle.std.proofs.Math.Nat.{pow-suc, add-mul-div_right}
 use Rattle.std.proofs.Common.{Bool, List, [], ◌∷◌, lit<, true, false, ◌≡◌, ℕ, zero, suc, ◌+◌, ◌-◌, ◌*◌, ◌/◌, ◌%◌, ◌^◌, ◌==◌, ◌<◌}
 use Rattle.std.proofs.Common.{◌≤◌, cond, length, take, refl, sym, ◌∙◌, ap, arith}
-use Rattle.std.proofs.lemmas.Nat.{shr_high, pow_pos, mod-pow-add, shr-shr, shl-shr}
+use Rattle.std.proofs.lemmas.Nat.{shl_below, shr_high, pow_pos, mod-pow-add, shr-shr, shl-shr}
 use Rattle.std.proofs.Math.Pow.{shr_mod}
 use Rattle.std.proofs.lemmas.List.{length-take-le}
 use Rattle.prefix_patterns.specs.Bits.{bits, number, prefix_bits, address_of, HasNoBitPast}
@@ -83,6 +83,12 @@ unfolding number
 number_lt [] = lit< tt
 number_lt (true ∷ digits) = rw (pow-suc 2 (length digits)) (omega (arith, number_lt digits))
 number_lt (false ∷ digits) = rw (pow-suc 2 (length digits)) (omega (arith, number_lt digits))
+
+-- an address of a prefix has 32 bits
+pub address_below : (prefix : List Bool) → length prefix ≤ 32 → address_of prefix < 2 ^ 32
+address_below prefix limit =
+    let all : length prefix + (32 - length prefix) ≡ 32 = omega arith in
+    rw all at (shl_below (number prefix) (length prefix) (32 - length prefix) (number_lt prefix))
 
 -- one more digit above
 digit_above : (digits : List Bool) (digit : Bool) (high n : ℕ) → n ≡ number digits + high * 2 ^ length digits → (high % 2 == 1) ≡ digit
