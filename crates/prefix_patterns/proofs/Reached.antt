@@ -28,10 +28,14 @@ pub at_few : (nodes : List Node) (leaves : List PrefixPattern) (prefix : List Bo
 at_few nodes leaves prefix all depth from to r =
     r.same ∙ ap (list_any (hits prefix)) r.stands.2 ∙ sym (any_hits prefix (slice_range leaves from to))
 
--- the range is one of the leaves
-pub few_within : (nodes : List Node) (leaves : List PrefixPattern) (prefix : List Bool) (all : List PrefixPattern) (depth from to : ℕ) →
-    Reached nodes leaves prefix all depth (Few from to) → (from ≤ to) × (to ≤ length leaves)
-few_within nodes leaves prefix all depth from to r = (r.stands.0, r.stands.1)
+-- where the walk has come down to leaves, they are a range of all leaves
+pub few_within : {nodes : List Node} {leaves : List PrefixPattern} {prefix : List Bool} {start depth from to : ℕ} {root subtree : Subtree}
+    → (all : List PrefixPattern) × Reached nodes leaves prefix all start root
+    → ((all : List PrefixPattern) → Reached nodes leaves prefix all start root → Reached nodes leaves prefix all depth subtree)
+    → subtree ≡ Few from to → (from ≤ to) × (to ≤ length leaves)
+few_within some told is =
+    let reached = rw is at (told some.0 some.1) in
+    (reached.stands.0, reached.stands.1)
 
 node_in : (nodes : List Node) (leaves : List PrefixPattern) (depth at levels : ℕ) (part : List PrefixPattern) →
     StandsFor levels nodes leaves depth (Inner at) part →

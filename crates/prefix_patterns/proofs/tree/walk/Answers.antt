@@ -10,34 +10,22 @@ down-init c = record { within = c.requires.within; some = c.requires.reached; to
 
 pub offset_bounds-leaves-from : goal.offset_bounds-leaves-from
 offset_bounds-leaves-from c =
-    let (all, h) = c.down.invariant.some in
-    let reached = rw c.in-Few.is at (c.down.invariant.told all h) in
-    let (order, within) = few_within c.args.nodes.now c.args.leaves.now c.args.prefix.now all c.down.depth c.in-Few.from c.in-Few.to
-    reached in
+    let (order, within) = few_within c.down.invariant.some c.down.invariant.told c.in-Few.is in
     omega arith
 
 pub slice_bounds-any_matches-count : goal.slice_bounds-any_matches-count
 slice_bounds-any_matches-count c =
-    let (all, h) = c.down.invariant.some in
-    let reached = rw c.in-Few.is at (c.down.invariant.told all h) in
-    let (order, within) = few_within c.args.nodes.now c.args.leaves.now c.args.prefix.now all c.down.depth c.in-Few.from c.in-Few.to
-    reached in
+    let (order, within) = few_within c.down.invariant.some c.down.invariant.told c.in-Few.is in
     omega arith
 
 pub slice_bounds-any_matches-start : goal.slice_bounds-any_matches-start
 slice_bounds-any_matches-start c =
-    let (all, h) = c.down.invariant.some in
-    let reached = rw c.in-Few.is at (c.down.invariant.told all h) in
-    let (order, within) = few_within c.args.nodes.now c.args.leaves.now c.args.prefix.now all c.down.depth c.in-Few.from c.in-Few.to
-    reached in
+    let (order, within) = few_within c.down.invariant.some c.down.invariant.told c.in-Few.is in
     omega arith
 
 pub slice_bounds-any_matches-end : goal.slice_bounds-any_matches-end
 slice_bounds-any_matches-end c =
-    let (all, h) = c.down.invariant.some in
-    let reached = rw c.in-Few.is at (c.down.invariant.told all h) in
-    let (order, within) = few_within c.args.nodes.now c.args.leaves.now c.args.prefix.now all c.down.depth c.in-Few.from c.in-Few.to
-    reached in
+    let (order, within) = few_within c.down.invariant.some c.down.invariant.told c.in-Few.is in
     omega arith
 
 pub returns-in-Few : goal.returns-in-Few
