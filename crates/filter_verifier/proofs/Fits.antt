@@ -2,7 +2,6 @@
 use Rattle.std.proofs.Common.{◌≡◌, ℕ, ◌≤◌, Bool, true, false, Option, Some, None, List, [], ◌∷◌, length, zero, suc, refl, ap}
 use Rattle.std.specs.Prelude.{if◌then◌else◌, slice_get}
 use Rattle.filter_code.specs.declared.instruction.Instr.{Instr}
-use Rattle.filter_code.specs.declared.instruction.Instr.TheVariants as instr
 use Rattle.filter_code.specs.declared.outcome.FaultKind.{FaultKind}
 use Rattle.filter_code.specs.declared.value.Kind.{Kind}
 use Rattle.filter_code.specs.declared.value.Value.{Value}

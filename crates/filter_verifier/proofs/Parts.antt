@@ -2,6 +2,7 @@
 use Rattle.std.proofs.Common.{ℕ, ◌≤◌, Bool, Option, Some, None, List, length}
 use Rattle.std.specs.Prelude.{option_and_then}
 use Rattle.std.specs.Option.{option_map}
+use Rattle.prefix_patterns.specs.declared.address.Ip.{Ip}
 use Rattle.filter_code.specs.declared.value.Value.{Value}
 use Rattle.filter_code.specs.declared.value.Value.TheVariants as value
 use Rattle.filter_code.specs.Machine.{on_one, on_two, whole}
@@ -78,48 +79,36 @@ LiesIn received x span = InRange received span x
 abbrev pub IsShort : List Bool → Unit {0} → Type 0
 IsShort bits known = length bits ≤ address_length
 
--- the parts of values
+-- the parts of values are as is known of them where they are so for each kind
+by_kind : {A B : Type 0} (received : ℕ) (related : A → B → Type 0) (part : Value → Option A) (known : Fact → Option B) →
+    ((x : ℕ) (span : RangeView) → InRange received span x → Alike related (part (value.Int x)) (known (fact.Int span))) →
+    ((b : Bool) → Alike related (part (value.Bool b)) (known fact.Bool)) →
+    ((a : Ip) → Alike related (part (value.Addr a)) (known fact.Ip)) →
+    ((bits : List Bool) → length bits ≤ address_length → Alike related (part (value.Net bits)) (known fact.Prefix)) →
+    PartsAre received related part known
+by_kind received related part known ints bools ips nets (value.Int x) (fact.Int span) p = ints x span p
+by_kind received related part known ints bools ips nets (value.Bool b) fact.Bool p = bools b
+by_kind received related part known ints bools ips nets (value.Addr a) fact.Ip p = ips a
+by_kind received related part known ints bools ips nets (value.Net bits) fact.Prefix p = nets bits p
+by_kind received related part known ints bools ips nets _ _ p = absurd p
+
 pub ints_are : (received : ℕ) → PartsAre received (LiesIn received) int_of range_of
-ints_are received (value.Int x) (fact.Int span) p = p
-ints_are received (value.Bool b) fact.Bool p = tt
-ints_are received (value.Addr a) fact.Ip p = tt
-ints_are received (value.Net bits) fact.Prefix p = tt
-ints_are received _ _ p = absurd p
+ints_are received = by_kind received (LiesIn received) int_of range_of (λ x span p. p) (λ b. tt) (λ a. tt) (λ bits p. tt)
 
 pub bools_are : (received : ℕ) → PartsAre received Any bool_of known_bool
-bools_are received (value.Int x) (fact.Int span) p = tt
-bools_are received (value.Bool b) fact.Bool p = tt
-bools_are received (value.Addr a) fact.Ip p = tt
-bools_are received (value.Net bits) fact.Prefix p = tt
-bools_are received _ _ p = absurd p
+bools_are received = by_kind received Any bool_of known_bool (λ x span p. tt) (λ b. tt) (λ a. tt) (λ bits p. tt)
 
 pub ips_are : (received : ℕ) → PartsAre received Any ip_of known_ip
-ips_are received (value.Int x) (fact.Int span) p = tt
-ips_are received (value.Bool b) fact.Bool p = tt
-ips_are received (value.Addr a) fact.Ip p = tt
-ips_are received (value.Net bits) fact.Prefix p = tt
-ips_are received _ _ p = absurd p
+ips_are received = by_kind received Any ip_of known_ip (λ x span p. tt) (λ b. tt) (λ a. tt) (λ bits p. tt)
 
 pub nets_are : (received : ℕ) → PartsAre received IsShort net_of known_prefix
-nets_are received (value.Int x) (fact.Int span) p = tt
-nets_are received (value.Bool b) fact.Bool p = tt
-nets_are received (value.Addr a) fact.Ip p = tt
-nets_are received (value.Net bits) fact.Prefix p = p
-nets_are received _ _ p = absurd p
+nets_are received = by_kind received IsShort net_of known_prefix (λ x span p. tt) (λ b. tt) (λ a. tt) (λ bits p. p)
 
 pub numbers_are : (received : ℕ) → PartsAre received Any number_of known_number
-numbers_are received (value.Int x) (fact.Int span) p = tt
-numbers_are received (value.Bool b) fact.Bool p = tt
-numbers_are received (value.Addr a) fact.Ip p = tt
-numbers_are received (value.Net bits) fact.Prefix p = tt
-numbers_are received _ _ p = absurd p
+numbers_are received = by_kind received Any number_of known_number (λ x span p. tt) (λ b. tt) (λ a. tt) (λ bits p. tt)
 
 pub bits_are : (received : ℕ) → PartsAre received Any bits_of known_bits
-bits_are received (value.Int x) (fact.Int span) p = tt
-bits_are received (value.Bool b) fact.Bool p = tt
-bits_are received (value.Addr a) fact.Ip p = tt
-bits_are received (value.Net bits) fact.Prefix p = tt
-bits_are received _ _ p = absurd p
+bits_are received = by_kind received Any bits_of known_bits (λ x span p. tt) (λ b. tt) (λ a. tt) (λ bits p. tt)
 
 pub wholes_are : (received : ℕ) → PartsAre received (IsAs received) whole whole
 wholes_are received v k p = p

@@ -1,4 +1,4 @@
-use Rattle.std.proofs.Common.{◌≡◌, ◌<◌, length, sym, ◌∙◌, ap}
+use Rattle.std.proofs.Common.{◌<◌, length, sym, ◌∙◌}
 use Rattle.filter_verifier.proofs.Passes.{state_is}
 use Rattle.filter_verifier.proofs.Surveys.{advanced, begun, kept_all, reached, refused}
 use Rattle.filter_verifier.proofs.survey.survey_instructions.Goals as goal
