@@ -14,7 +14,7 @@ use Rattle.filter_parser.specs.declared.tree.op.Membership.TheVariants as member
 use Rattle.filter_parser.specs.declared.tree.op.Op.{Op}
 use Rattle.filter_parser.specs.declared.tree.op.Op.TheVariants as o
 use Rattle.filter_parser.specs.declared.tree.op.Suffix.{Suffix}
-use Rattle.filter_parser.specs.Syntax.{ExprView, binary, suffixed, chain_of, suffixes_of, view}
+use Rattle.filter_parser.specs.Syntax.{ExprView, binary, suffixed, chain_of, suffixes_of, view, view_more}
 use Rattle.filter_parser.specs.SyntaxCommands.{CommandView, DeclView, commands_of, view_command, view_decl}
 use Rattle.filter_types.proofs.Lists.{map_next}
 use Rattle.filter_compiler.specs.declared.output.Output.{Output}
@@ -35,9 +35,10 @@ takes_both o.And right not_and not_or = absurd (not_and refl)
 takes_both o.Or right not_and not_or = absurd (not_or refl)
 takes_both _ right not_and not_or = refl
 
-chain_push : (left : ExprView) (xs : List (Op × ExprView)) (x : Op × ExprView) → binary x.0 (chain_of left xs) x.1 ≡ chain_of left (xs ++ x ∷ [])
+chain_push : (left : ExprView) (xs : List (ℕ × Op × ExprView)) (x : ℕ × Op × ExprView)
+    → binary x.1 (chain_of left xs) x.2 ≡ chain_of left (xs ++ x ∷ [])
 chain_push left [] x = refl
-chain_push left (y ∷ xs) x = chain_push (binary y.0 left y.1) xs x
+chain_push left (y ∷ xs) x = chain_push (binary y.1 left y.2) xs x
 
 suffixes_push : (inner : ExprView) (xs : List Suffix) (x : Suffix) → suffixed (suffixes_of inner xs) x ≡ suffixes_of inner (xs ++ x ∷ [])
 suffixes_push inner [] x = refl
@@ -55,15 +56,15 @@ module _ (decls : List DeclView) (a b c : Output) where
       (λ n. joined_apart op (expression_code decls n left) (expression_code decls (n + length (sets_of left)) right)) refl
       (then first second)
 
-  pub chain_next : (left : ExprView) (xs : List (Op × Expr)) (i : ℕ) (x : Op × Expr) → i < length xs → x ≡ get_or xs i x
-      → Puts a b (expression_part decls (chain_of left (map (λ p. (p.0, view p.1)) (take i xs)))) → Puts b c (right_part decls x.0 (view x.1))
-      → Puts a c (expression_part decls (chain_of left (map (λ p. (p.0, view p.1)) (take (i + 1) xs))))
+  pub chain_next : (left : ExprView) (xs : List (ℕ × Op × Expr)) (i : ℕ) (x : ℕ × Op × Expr) → i < length xs → x ≡ get_or xs i x
+      → Puts a b (expression_part decls (chain_of left (view_more (take i xs)))) → Puts b c (right_part decls x.1 (view x.2))
+      → Puts a c (expression_part decls (chain_of left (view_more (take (i + 1) xs))))
   chain_next left xs i x low is first second =
-      let f : (Op × Expr) → (Op × ExprView) = λ p. (p.0, view p.1) in
+      let f : (ℕ × Op × Expr) → (ℕ × Op × ExprView) = λ p. (p.0, p.1, view p.2) in
       let so_far = map f (take i xs) in
       subst (λ t. Puts a c (expression_part decls t))
       (chain_push left so_far (f x) ∙ ap (chain_of left) (sym (map_next f xs i x low is)))
-      (right_next (chain_of left so_far) x.0 (view x.1) first second)
+      (right_next (chain_of left so_far) x.1 (view x.2) first second)
 
   pub suffix_next : (inner : ExprView) (xs : List Suffix) (i : ℕ) (x : Suffix) → i < length xs → x ≡ get_or xs i x
       → Puts a b (expression_part decls (suffixes_of inner (take i xs))) → Puts b c (code_alone (suffix_code x ∷ []))

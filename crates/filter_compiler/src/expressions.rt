@@ -2,7 +2,7 @@
 
 ghost use Rattle.std.specs.Prelude.{◌≡◌, [], ◌∷◌, map};
 ghost use Rattle.filter_code.specs.CodeView.{HasMask};
-ghost use Rattle.filter_parser.specs.Syntax.{ExprView, chain_of, suffixes_of, view, view_set_pattern};
+ghost use Rattle.filter_parser.specs.Syntax.{ExprView, chain_of, suffixes_of, view, view_more, view_set_pattern};
 ghost use Rattle.filter_parser.specs.SyntaxText.{view_filter};
 ghost use Rattle.filter_compiler.specs.Translation.{attribute_code, operator_code, suffix_code};
 ghost use Rattle.filter_compiler.specs.declared.output.Output.{Output as TheOutput};
@@ -134,11 +134,11 @@ fn emit_right(typed: &Typed, op: Op, right: &Expr, out: &mut Output)
 
 /// Writes the operators after a first operand, each with the operand at its right.
 #[cycle(expressions)]
-fn emit_chain(typed: &Typed, more: &[(Op, Expr)], out: &mut Output)
+fn emit_chain(typed: &Typed, more: &[(usize, Op, Expr)], out: &mut Output)
     ensures { (before : TheOutput) (first : ExprView) → Puts before out.old (expression_part (view_filter typed.now).decls first)
-        → Puts before out.new (expression_part (view_filter typed.now).decls (chain_of first (map (λ p. (p.0, view p.1)) more.now))) }
+        → Puts before out.new (expression_part (view_filter typed.now).decls (chain_of first (view_more more.now))) }
 {
-    for (op, right) in more {
+    for (_, op, right) in more {
         emit_right(typed, *op, right, out);
     }
 }

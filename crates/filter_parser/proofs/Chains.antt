@@ -19,10 +19,10 @@ pub map_one : {A B : Type 0} (f : A → B) (xs : List A) (x : A) → map f (xs +
 map_one f [] x = refl
 map_one f (y ∷ xs) x = ap (λ v. f y ∷ v) (map_one f xs x)
 
-pub more_one : (xs : List (Op × Expr)) (op : Op) (right : Expr) →
-    view_more (xs ++ ((op, right) ∷ [])) ≡ view_more xs ++ ((op, view right) ∷ [])
-more_one [] op right = refl
-more_one (y ∷ xs) op right = ap (λ v. (y.0, view y.1) ∷ v) (more_one xs op right)
+pub more_one : (xs : List (ℕ × Op × Expr)) (at : ℕ) (op : Op) (right : Expr) →
+    view_more (xs ++ ((at, op, right) ∷ [])) ≡ view_more xs ++ ((at, op, view right) ∷ [])
+more_one [] at op right = refl
+more_one (y ∷ xs) at op right = ap (λ v. (y.0, y.1, view y.2) ∷ v) (more_one xs at op right)
 
 -- one more suffix was read
 pub suffix_on : {x : ExprView} {s : Suffix} {ws rest after : List Lexeme} {answer : Option (ExprView × List Lexeme)} →

@@ -52,6 +52,17 @@ not_kept at (t ∷ ts) h = h.1
 pub unkept : {at : ℕ} {x y : Input} → Spans (Some at ∷ []) x y → Spans (None ∷ []) x y
 unkept {at} h = record { tokens = h.tokens; whole = h.whole; same_text = h.same_text; placed = not_kept at h.tokens h.placed }
 
+last_not_kept : (kept : Kept) (at : ℕ) (ts : List Token) → AreAt (kept ++ Some at ∷ []) ts → AreAt (kept ++ None ∷ []) ts
+last_not_kept [] at [] h = absurd h
+last_not_kept [] at (t ∷ ts) h = h.1
+last_not_kept (p ∷ kept) at [] h = absurd h
+last_not_kept (None ∷ kept) at (t ∷ ts) h = last_not_kept kept at ts h
+last_not_kept (Some p ∷ kept) at (t ∷ ts) h = (h.0, last_not_kept kept at ts h.1)
+
+pub unkept_last : (kept : Kept) (at : ℕ) {x y : Input} → Spans (kept ++ Some at ∷ []) x y → Spans (kept ++ None ∷ []) x y
+unkept_last kept at h =
+    record { tokens = h.tokens; whole = h.whole; same_text = h.same_text; placed = last_not_kept kept at h.tokens h.placed }
+
 -- what follows from a fact of each answer
 pub ok_map : {A E : Type 0} {P Q : A → Type 0} (r : Result A E) → ((x : A) → P x → Q x) → IfOk r P → IfOk r Q
 ok_map (Ok x) f h = f x h
@@ -113,12 +124,12 @@ kept_reject at has_text =
     ap command_kept (sym (command.rolls-Reject at has_text)) ∙ fold-roll-Command Kept command_kept_step (Command-F.Reject at has_text)
 
 -- an operator of a chain and the operand at its right
-abbrev pub right_kept : Op × Expr → Kept
-right_kept x = None ∷ expr_kept x.1
+abbrev pub right_kept : ℕ × Op × Expr → Kept
+right_kept x = Some x.0 ∷ expr_kept x.2
 
-pub rights_kept : (xs : List (Op × Expr)) → joined (map operand_kept (kept_more xs)) ≡ joined (map right_kept xs)
+pub rights_kept : (xs : List (ℕ × Op × Expr)) → joined (map operand_kept (kept_more xs)) ≡ joined (map right_kept xs)
 rights_kept [] = refl
-rights_kept (x ∷ xs) = ap (λ (k : Kept). None ∷ (expr_kept x.1 ++ k)) (rights_kept xs)
+rights_kept (x ∷ xs) = ap (λ (k : Kept). Some x.0 ∷ (expr_kept x.2 ++ k)) (rights_kept xs)
 
 -- the patterns of a set, after the first
 pub set_grown : (at : ℕ) (first : SetPattern) (old all : List SetPattern) {x y z : Input} {start : Input} {end : ℕ} → old ≡ first ∷ []

@@ -18,10 +18,10 @@ use Rattle.filter_parser.specs.Syntax.{ExprView, chain_of, suffixes_of, view, vi
 use Rattle.filter_parser.specs.SyntaxCommands.{CommandView, commands_of, view_command, view_step}
 
 -- a chain with one more operator after it
-pub chain_more : (left : ExprView) (xs : List (Op × ExprView)) (op : Op) (right : ExprView) →
-    chain_of left (xs ++ ((op, right) ∷ [])) ≡ ExprView.binary op (chain_of left xs) right
-chain_more left [] op right = refl
-chain_more left (x ∷ xs) op right = chain_more (ExprView.binary x.0 left x.1) xs op right
+pub chain_more : (left : ExprView) (xs : List (ℕ × Op × ExprView)) (at : ℕ) (op : Op) (right : ExprView) →
+    chain_of left (xs ++ ((at, op, right) ∷ [])) ≡ ExprView.binary op (chain_of left xs) right
+chain_more left [] at op right = refl
+chain_more left (x ∷ xs) at op right = chain_more (ExprView.binary x.1 left x.2) xs at op right
 
 -- one more suffix
 pub suffixes_more : (inner : ExprView) (xs : List Suffix) (s : Suffix) →
@@ -36,7 +36,7 @@ view_group at inner = ap view (sym (e.rolls-Group at inner)) ∙ fold-roll-Expr 
 pub view_not : (at : ℕ) (inner : Box Expr Global) → view (e.Not at inner) ≡ ExprView.negation (view inner.value)
 view_not at inner = ap view (sym (e.rolls-Not at inner)) ∙ fold-roll-Expr ExprView view_expr_step (Expr-F.Not at inner)
 
-pub view_chain : (first : Box Expr Global) (more : Vec (Op × Expr) Global) →
+pub view_chain : (first : Box Expr Global) (more : Vec (ℕ × Op × Expr) Global) →
     view (e.Chain first more) ≡ chain_of (view first.value) (view_more more.items)
 view_chain first more = ap view (sym (e.rolls-Chain first more)) ∙ fold-roll-Expr ExprView view_expr_step (Expr-F.Chain first more)
 

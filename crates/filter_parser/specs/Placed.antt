@@ -54,9 +54,9 @@ set_patterns_kept (first ∷ more) = set_pattern_kept first ++ joined (map next_
 abbrev pub set_kept : Set → Kept
 set_kept set = Some set.at ∷ (set_patterns_kept set.patterns.items ++ None ∷ [])
 
--- an operator and the operand at its right
-abbrev pub operand_kept : Op × Kept → Kept
-operand_kept x = None ∷ x.1
+-- an operator keeps its place, and the operand at its right follows
+abbrev pub operand_kept : ℕ × Op × Kept → Kept
+operand_kept x = Some x.0 ∷ x.2
 
 -- an expression, where the expressions in it are known: it keeps the place of its first token, unless its first part does
 abbrev pub expr_kept_step : Expr-F Kept → Kept
@@ -78,8 +78,8 @@ abbrev pub expr_kept : Expr → Kept
 expr_kept = fold-Expr Kept expr_kept_step
 
 -- the operators of a chain, each with what the operand at its right keeps
-abbrev pub kept_more : List (Op × Expr) → List (Op × Kept)
-kept_more xs = map (λ p. (p.0, expr_kept p.1)) xs
+abbrev pub kept_more : List (ℕ × Op × Expr) → List (ℕ × Op × Kept)
+kept_more xs = map (λ p. (p.0, p.1, expr_kept p.2)) xs
 
 -- the text, if there is one, and the `;` that ends `accept` and `reject`
 abbrev pub end_kept : Bool → Kept

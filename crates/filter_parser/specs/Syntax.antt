@@ -48,10 +48,10 @@ view_set_pattern (written.OrLonger at bits) = or_longer bits
 view_set_pattern (written.OrShorter at bits) = or_shorter bits
 view_set_pattern (written.Between at pattern) = between pattern.bits pattern.low pattern.high
 
--- a chain from the left: `a op b op c` is `(a op b) op c`
-abbrev pub chain_of : ExprView → List (Op × ExprView) → ExprView
+-- a chain from the left, whatever the places of its operators: `a op b op c` is `(a op b) op c`
+abbrev pub chain_of : ExprView → List (ℕ × Op × ExprView) → ExprView
 chain_of left [] = left
-chain_of left (x ∷ xs) = chain_of (binary x.0 left x.1) xs
+chain_of left (x ∷ xs) = chain_of (binary x.1 left x.2) xs
 
 -- an operand with suffixes, from the left
 abbrev pub suffixes_of : ExprView → List Suffix → ExprView
@@ -77,9 +77,9 @@ view_expr_step (Expr-F.Suffixed inner suffixes) = suffixes_of inner.value suffix
 abbrev pub view : Expr → ExprView
 view = fold-Expr ExprView view_expr_step
 
--- the operators and operands of a chain after its first operand, without their places
-abbrev pub view_more : List (Op × Expr) → List (Op × ExprView)
-view_more xs = map (λ p. (p.0, view p.1)) xs
+-- the operators of a chain, each with its place and the operand at its right, which is without its places
+abbrev pub view_more : List (ℕ × Op × Expr) → List (ℕ × Op × ExprView)
+view_more xs = map (λ p. (p.0, p.1, view p.2)) xs
 
 -- the pattern that is meant: `+` takes the longer prefixes too, `-` the shorter ones
 abbrev pub pattern_of : SetPatternView → PrefixPattern

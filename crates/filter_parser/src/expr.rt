@@ -140,7 +140,7 @@ fn parse_chain<'a>(
     while let Some((op, after)) = eat_operator(level, rest) {
         match parse_operand(alloc, depth, level, after) {
             Ok((right, next)) => {
-                more.push((op, right))?;
+                more.push((rest.at(), op, right))?;
                 rest = next;
             }
             Err(fault) => return Err(fault),
@@ -185,16 +185,17 @@ fn parse_comparison<'a>(
 {
     let (left, rest) = parse_sum(alloc, depth, input)?;
     match eat_operator(Level::Comparison, rest) {
-        Some((op, after)) => parse_right_operand(alloc, depth, op, left, after),
+        Some((op, after)) => parse_right_operand(alloc, depth, rest.at(), op, left, after),
         None => Ok((left, rest)),
     }
 }
 
-/// What follows a comparison operator.
+/// What follows a comparison operator, which has the place `at`.
 #[cycle(expr)]
 fn parse_right_operand<'a>(
     alloc: Global,
     depth: usize,
+    at: usize,
     op: Op,
     left: Expr,
     input: Input<'a>,
@@ -202,14 +203,14 @@ fn parse_right_operand<'a>(
     ensures reads { ReadsAs spec.read_of result
         (spec.right_operand_with (spec.sum_with (spec.unary_at depth)) (view left) op (remaining input.entry)) }
     ensures shorter { IfOk result (λ x. length (remaining x.1) < length (remaining input.entry)) }
-    ensures placed { IfOk result (λ x. Continues (expr_kept left ++ None ∷ []) (expr_kept x.0) input.entry x.1) }
+    ensures placed { IfOk result (λ x. Continues (expr_kept left ++ Some at ∷ []) (expr_kept x.0) input.entry x.1) }
     ensures within { StaysWithin input.entry result }
 {
     if let Some((found, after)) = eat_set_opening(op, input) {
         return parse_member(alloc, input.at(), found, left, after);
     }
     match parse_sum(alloc, depth, input) {
-        Ok((other, rest)) => Ok((binary(alloc, op, left, other)?, rest)),
+        Ok((other, rest)) => Ok((binary(alloc, at, op, left, other)?, rest)),
         Err(fault) => Err(right_operand_fault(op, input.at(), fault)),
     }
 }

@@ -22,7 +22,7 @@ pub fn negation(alloc: Global, at: usize, inner: Expr) -> Result<Expr, AllocErro
 }
 
 /// An operand and the operators after it, if there are any.
-pub fn chain(alloc: Global, first: Expr, more: Vec<(Op, Expr)>) -> Result<Expr, AllocError>
+pub fn chain(alloc: Global, first: Expr, more: Vec<(usize, Op, Expr)>) -> Result<Expr, AllocError>
     ensures is { IfOk result (λ t. view t ≡ chain_of (view first) (view_more more.items)) }
     ensures placed { IfOk result (λ t. expr_kept t ≡ expr_kept first ++ joined (map operand_kept (kept_more more.items))) }
 {
@@ -32,13 +32,13 @@ pub fn chain(alloc: Global, first: Expr, more: Vec<(Op, Expr)>) -> Result<Expr, 
     Ok(Expr::Chain(Box::new(alloc, first)?, more))
 }
 
-/// Two operands and the operator between them.
-pub fn binary(alloc: Global, op: Op, left: Expr, right: Expr) -> Result<Expr, AllocError>
+/// Two operands and the operator between them, which has the place `at`.
+pub fn binary(alloc: Global, at: usize, op: Op, left: Expr, right: Expr) -> Result<Expr, AllocError>
     ensures is { IfOk result (λ t. view t ≡ ExprView.binary op (view left) (view right)) }
-    ensures placed { IfOk result (λ t. expr_kept t ≡ expr_kept left ++ None ∷ expr_kept right) }
+    ensures placed { IfOk result (λ t. expr_kept t ≡ expr_kept left ++ Some at ∷ expr_kept right) }
 {
     let mut more = Vec::new(alloc);
-    more.push((op, right))?;
+    more.push((at, op, right))?;
     chain(alloc, left, more)
 }
 

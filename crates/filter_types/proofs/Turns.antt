@@ -1,5 +1,5 @@
 -- Chains and operands with suffixes, judged part by part, have the kinds that their trees have.
-use Rattle.std.proofs.Common.{◌≡◌, Option, Some, None, List, [], ◌∷◌, Result, refl, sym, ap, subst, ◌∙◌}
+use Rattle.std.proofs.Common.{◌≡◌, ℕ, Option, Some, None, List, [], ◌∷◌, Result, refl, sym, ap, subst, ◌∙◌}
 use Rattle.filter_parser.specs.Syntax.{ExprView, chain_of, suffixes_of}
 use Rattle.filter_parser.specs.SyntaxCommands.{DeclView}
 use Rattle.filter_parser.specs.declared.tree.decl.Kind.{Kind}
@@ -26,12 +26,12 @@ some_is None = refl
 some_is (Some a) = refl
 
 -- the kind of a chain is that of its first operand with what follows it
-chain_kind : (vs : List DeclView) (left : ExprView) (xs : List (Op × ExprView))
+chain_kind : (vs : List DeclView) (left : ExprView) (xs : List (ℕ × Op × ExprView))
     → kind_in vs (chain_of left xs) ≡ of_one (λ k. kind_with vs k xs) (kind_in vs left)
 chain_kind vs left [] = sym (some_is (kind_in vs left))
 chain_kind vs left (x ∷ xs) =
-    chain_kind vs (ExprView.binary x.0 left x.1) xs
-    ∙ two_is (operator x.0) (kind_in vs left) (kind_in vs x.1) (λ k. kind_with vs k xs)
+    chain_kind vs (ExprView.binary x.1 left x.2) xs
+    ∙ two_is (operator x.1) (kind_in vs left) (kind_in vs x.2) (λ k. kind_with vs k xs)
 
 -- the kind of an operand with suffixes is that of the operand with what follows it
 suffixes_kind : (vs : List DeclView) (inner : ExprView) (xs : List Suffix)
@@ -41,12 +41,12 @@ suffixes_kind vs inner (x ∷ xs) =
     suffixes_kind vs (ExprView.suffixed inner x) xs ∙ one_is (suffixed_by x) (λ k. kind_after k xs) (kind_in vs inner)
 
 -- what is known of the first operand
-pub chain_gives : (vs : List DeclView) (t left : ExprView) (xs : List (Op × ExprView)) (k : Kind) (answer : Result Kind TypeFault)
+pub chain_gives : (vs : List DeclView) (t left : ExprView) (xs : List (ℕ × Op × ExprView)) (k : Kind) (answer : Result Kind TypeFault)
     → t ≡ chain_of left xs → kind_in vs left ≡ Some k → AnswersKind answer (kind_with vs k xs) → AnswersKind answer (kind_in vs t)
 chain_gives vs t left xs k answer is found given =
     subst (AnswersKind answer) (sym (ap (kind_in vs) is ∙ chain_kind vs left xs ∙ ap (of_one (λ j. kind_with vs j xs)) found)) given
 
-pub chain_none : (vs : List DeclView) (t left : ExprView) (xs : List (Op × ExprView)) → t ≡ chain_of left xs → kind_in vs left ≡ None
+pub chain_none : (vs : List DeclView) (t left : ExprView) (xs : List (ℕ × Op × ExprView)) → t ≡ chain_of left xs → kind_in vs left ≡ None
     → kind_in vs t ≡ None
 chain_none vs t left xs is none = ap (kind_in vs) is ∙ chain_kind vs left xs ∙ ap (of_one (λ j. kind_with vs j xs)) none
 

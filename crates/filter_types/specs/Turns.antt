@@ -1,5 +1,5 @@
 -- The kinds of chains and of operands with suffixes, part by part from the left, as they are judged.
-use Rattle.std.specs.Prelude.{Option, Some, List, [], ◌∷◌}
+use Rattle.std.specs.Prelude.{ℕ, Option, Some, List, [], ◌∷◌}
 use Rattle.filter_parser.specs.Syntax.{ExprView}
 use Rattle.filter_parser.specs.SyntaxCommands.{DeclView}
 use Rattle.filter_parser.specs.declared.tree.decl.Kind.{Kind}
@@ -9,10 +9,10 @@ use Rattle.filter_types.specs.Kinds.{kind_in, of_one}
 use Rattle.filter_types.specs.Table.{operator, suffixed_by}
 
 -- the kind of an operand of this kind with operators after it, each with the operand at its right
-abbrev pub kind_with : List DeclView → Kind → List (Op × ExprView) → Option Kind
+abbrev pub kind_with : List DeclView → Kind → List (ℕ × Op × ExprView) → Option Kind
 kind_with variables kind [] = Some kind
 kind_with variables kind (x ∷ xs) =
-    of_one (λ k. kind_with variables k xs) (of_one (operator x.0 kind) (kind_in variables x.1))
+    of_one (λ k. kind_with variables k xs) (of_one (operator x.1 kind) (kind_in variables x.2))
 
 -- the kind of an operand of this kind with suffixes
 abbrev pub kind_after : Kind → List Suffix → Option Kind

@@ -1,7 +1,7 @@
 //! The kinds of expressions.
 
 ghost use Rattle.std.specs.Prelude.{map};
-ghost use Rattle.filter_parser.specs.Syntax.{view};
+ghost use Rattle.filter_parser.specs.Syntax.{view, view_more};
 ghost use Rattle.filter_parser.specs.SyntaxCommands.{view_decl};
 ghost use Rattle.filter_types.specs.Answers.{AnswersKind};
 ghost use Rattle.filter_types.specs.Kinds.{kind_in};
@@ -25,11 +25,15 @@ fn kind_with_suffixes(operand: Operand, suffixes: &[Suffix]) -> Result<Kind, Typ
 
 /// The kind of a first operand with the operators after it, each with the operand at its right.
 #[cycle(kinds)]
-fn kind_of_chain(more: &[(Op, Expr)], first: Operand, variables: &[Decl]) -> Result<Kind, TypeFault>
-    ensures { AnswersKind result (kind_with (map view_decl variables.now) first.entry.kind (map (λ p. (p.0, view p.1)) more.now)) }
+fn kind_of_chain(
+    more: &[(usize, Op, Expr)],
+    first: Operand,
+    variables: &[Decl],
+) -> Result<Kind, TypeFault>
+    ensures { AnswersKind result (kind_with (map view_decl variables.now) first.entry.kind (view_more more.now)) }
 {
     let mut kind = first.kind;
-    for (op, right) in more {
+    for (_, op, right) in more {
         let left = Operand {
             expr: first.expr,
             kind,

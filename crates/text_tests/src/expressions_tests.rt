@@ -150,6 +150,6 @@ fn a_run_as_long_as_a_text_is_read_and_dropped(rt: HostRuntime) -> Result<(), Fa
         return Err(Fail::from("no run"));
     };
     assert_eq!(rt; more.len(), 32_000);
-    assert!(rt; more.iter().all(|(op, _)| *op == Op::Add));
+    assert!(rt; more.iter().all(|(_, op, _)| *op == Op::Add));
     Ok(())
 }

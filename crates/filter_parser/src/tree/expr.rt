@@ -39,9 +39,9 @@ pub enum Expr {
     Group(usize, Box<Expr>),
     /// `!` and its operand. The place is that of its `!`.
     Not(usize, Box<Expr>),
-    /// A first operand, and one or more operators, each with the operand at its right: a sum or product, a
+    /// A first operand, and one or more operators, each with its place and the operand at its right: a sum or product, a
     /// comparison of two operands, or a chain of all `&&` or all `||`. It groups to the left: `a - b - c` is `(a - b) - c`.
-    Chain(Box<Expr>, Vec<(Op, Expr)>),
+    Chain(Box<Expr>, Vec<(usize, Op, Expr)>),
     /// Whether an operand matches a set.
     Member(Membership, Box<Expr>, Set),
     /// An operand with one or more suffixes, as `net.ip.mask(8)`.

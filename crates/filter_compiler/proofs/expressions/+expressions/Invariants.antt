@@ -1,5 +1,5 @@
-use Rattle.std.proofs.Common.{map, take}
-use Rattle.filter_parser.specs.Syntax.{ExprView, chain_of, suffixes_of, view}
+use Rattle.std.proofs.Common.{take}
+use Rattle.filter_parser.specs.Syntax.{ExprView, chain_of, suffixes_of, view, view_more}
 use Rattle.filter_parser.specs.SyntaxText.{view_filter}
 use Rattle.filter_compiler.specs.declared.output.Output.{Output}
 use Rattle.filter_compiler.specs.Written.{Puts, expression_part}
@@ -9,7 +9,7 @@ use Rattle.filter_compiler.proofs.expressions.+expressions.Given as goal
 abbrev pub invariant-emit_chain-loop-op : goal.invariant-emit_chain-loop-op
 invariant-emit_chain-loop-op l =
     (before : Output) (first : ExprView) → Puts before l.initial.out (expression_part (view_filter l.typed).decls first)
-    → Puts before l.out (expression_part (view_filter l.typed).decls (chain_of first (map (λ p. (p.0, view p.1)) (take l.op-index l.more))))
+    → Puts before l.out (expression_part (view_filter l.typed).decls (chain_of first (view_more (take l.op-index l.more))))
 
 -- the operand and the suffixes so far are written
 abbrev pub invariant-emit_suffixed-loop-suffix : goal.invariant-emit_suffixed-loop-suffix

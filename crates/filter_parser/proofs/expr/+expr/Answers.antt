@@ -1,4 +1,4 @@
-use Rattle.std.proofs.Common.{◌-◌, ◌∙◌, ◌∷◌, ◌++◌, [], None, List, ap, map, sym, append_assoc, arith}
+use Rattle.std.proofs.Common.{ℕ, ◌-◌, ◌∙◌, ◌∷◌, ◌++◌, [], Some, List, ap, map, sym, append_assoc, arith}
 use Rattle.filter_parser.specs.Placed.{Kept, expr_kept, joined}
 use Rattle.filter_parser.specs.declared.tree.expr.Expr.{Expr}
 use Rattle.filter_parser.specs.declared.tree.op.Op.{Op}
@@ -6,7 +6,7 @@ use Rattle.filter_parser.specs.Reading.{unary_at, next_with, sum_with}
 use Rattle.filter_parser.specs.Steps.{remaining}
 use Rattle.filter_parser.specs.Syntax.{view}
 use Rattle.filter_parser.proofs.Chains.{more_one, right_none, chain_on, chain_ends, chain_stops}
-use Rattle.filter_parser.proofs.Placing.{grown_more, ok_map, right_kept, rights_kept, spans_as, spans_at, spans_both, unkept}
+use Rattle.filter_parser.proofs.Placing.{grown_more, ok_map, right_kept, rights_kept, spans_as, spans_at, spans_both, unkept_last}
 use Rattle.filter_parser.proofs.Views.{chain_more}
 use Rattle.filter_parser.proofs.Chains.{group_read}
 use Rattle.filter_parser.proofs.Within.{failed}
@@ -19,11 +19,11 @@ parse_chain-returns-in-Err-clause-reads t c =
 
 pub parse_chain-loop-op-preserved : goal.parse_chain-loop-op-preserved
 parse_chain-loop-op-preserved t c = record {
-  goes = rw (c.in_ok-push-in-Ok.ensures.items, more_one c.loop-op.more.items c.in-Some.op c.in-Ok.right, chain_more)
+  goes = rw (c.in_ok-push-in-Ok.ensures.items, more_one c.loop-op.more.items c.at.result c.in-Some.op c.in-Ok.right, chain_more)
       (chain_on (next_with (unary_at c.args.depth) c.args.level) c.args.level c.in-Some.ensures.found c.in-Ok.ensures.reads
       (omega (arith, c.in-Ok.ensures.shorter, c.in-Some.ensures.shorter)) c.loop-op.invariant.goes);
   kept = c.loop-op.invariant.kept;
-  grown = grown_more c.loop-op.invariant.grown (spans_both (unkept c.in-Some.ensures.placed) c.in-Ok.ensures.placed) c.in_ok-push-in-Ok.ensures.items;
+  grown = grown_more c.loop-op.invariant.grown (spans_both (spans_at c.at.ensures c.in-Some.ensures.placed) c.in-Ok.ensures.placed) c.in_ok-push-in-Ok.ensures.items;
   within = λ len start. c.in-Ok.ensures.within len (c.in-Some.ensures.within len (c.loop-op.invariant.within len start));
   shorter = omega (arith, c.in-Ok.ensures.shorter, c.in-Some.ensures.shorter);
 }
@@ -43,12 +43,12 @@ parse_chain-returns-clause-placed t c = λ start first.
     let g = c.loop-op.invariant.grown in
     spans_as (c.in_ok-chain.ensures.placed
     ∙ ap (λ (k : Kept). expr_kept c.loop-op.first-1 ++ k) (rights_kept c.loop-op.more.items
-    ∙ ap (λ (xs : List (Op × Expr)). joined (map right_kept xs)) g.whole))
+    ∙ ap (λ (xs : List (ℕ × Op × Expr)). joined (map right_kept xs)) g.whole))
     (spans_both (rw c.loop-op.invariant.kept first) g.spans)
 
 pub parse_comparison-returns-in-Some-clause-placed : goal.parse_comparison-returns-in-Some-clause-placed
 parse_comparison-returns-in-Some-clause-placed t c =
-    ok_map c.parse_right_operand.result (λ x h. h c.args.input (spans_both c.in_ok-left.ensures.placed (unkept c.in-Some.ensures.placed)))
+    ok_map c.parse_right_operand.result (λ x h. h c.args.input (spans_both c.in_ok-left.ensures.placed (spans_at c.at.ensures c.in-Some.ensures.placed)))
     c.parse_right_operand.ensures.placed
 
 pub parse_primary-returns-clause-reads : goal.parse_primary-returns-clause-reads
@@ -65,8 +65,14 @@ parse_primary-returns-clause-placed t c =
 
 pub parse_right_operand-returns-in_ok-binary-in-Ok-clause-placed : goal.parse_right_operand-returns-in_ok-binary-in-Ok-clause-placed
 parse_right_operand-returns-in_ok-binary-in-Ok-clause-placed t c = λ start first.
-    spans_as (c.in_ok-binary-in-Ok.ensures.placed ∙ sym (append_assoc (expr_kept c.args.left) (None ∷ []) (expr_kept c.in-Ok.other)))
+    spans_as (c.in_ok-binary-in-Ok.ensures.placed ∙ sym (append_assoc (expr_kept c.args.left) (Some c.args.at ∷ []) (expr_kept c.in-Ok.other)))
     (spans_both first c.in-Ok.ensures.placed)
+
+pub parse_right_operand-returns-in-Some-clause-placed : goal.parse_right_operand-returns-in-Some-clause-placed
+parse_right_operand-returns-in-Some-clause-placed t c =
+    ok_map c.parse_member.result
+    (λ x h. λ start first. h start c.args.input (unkept_last (expr_kept c.args.left) c.args.at first) (spans_at c.at.ensures c.in-Some.ensures.placed))
+    c.parse_member.ensures.placed
 
 pub parse_unary-returns-clause-placed : goal.parse_unary-returns-clause-placed
 parse_unary-returns-clause-placed t c =

@@ -1,6 +1,6 @@
 use Rattle.std.proofs.Common.{refl, map}
 use Rattle.std.proofs.lemmas.Result.{err_from_is_err_and}
-use Rattle.filter_parser.specs.Syntax.{view}
+use Rattle.filter_parser.specs.Syntax.{view, view_more}
 use Rattle.filter_parser.specs.SyntaxCommands.{view_decl}
 use Rattle.filter_types.proofs.Turns.{chain_gives, chain_none, suffixes_give, suffixes_none}
 use Rattle.filter_types.proofs.Views.{view_chain, view_suffixed}
@@ -11,7 +11,7 @@ pub kind_of-returns-in_err-kind-in-Chain :
 kind_of-returns-in_err-kind-in-Chain t c =
     let p = err_from_is_err_and c.from_residual-in_err-kind-in-Chain.result c.from_residual-in_err-kind-in-Chain.ensures.1 in
     rw (p.1, p.2) (λ not_memory. chain_none (map view_decl c.args.variables.now) (view c.args.expr.now) (view c.deref-in-Chain.result.now)
-    (map (λ p. (p.0, view p.1)) c.in-Chain.more.items)
+    (view_more c.in-Chain.more.items)
     (view_chain c.args.expr.now c.in-Chain.first c.in-Chain.more c.deref-in-Chain.result.now c.in-Chain.more.items c.in-Chain.is
     c.deref-in-Chain.ensures refl)
     (c.in_err-kind-in-Chain.ensures not_memory))
@@ -31,7 +31,7 @@ pub kind_of-returns-in_ok-kind-in-Chain :
     goal.kind_of-returns-in_ok-kind-in-Chain
 kind_of-returns-in_ok-kind-in-Chain t c =
     chain_gives (map view_decl c.args.variables.now) (view c.args.expr.now) (view c.deref-in-Chain.result.now)
-    (map (λ p. (p.0, view p.1)) c.deref-in-Chain-2.result.now) c.in_ok-kind-in-Chain.kind c.kind_of_chain.result
+    (view_more c.deref-in-Chain-2.result.now) c.in_ok-kind-in-Chain.kind c.kind_of_chain.result
     (view_chain c.args.expr.now c.in-Chain.first c.in-Chain.more c.deref-in-Chain.result.now c.deref-in-Chain-2.result.now c.in-Chain.is
     c.deref-in-Chain.ensures c.deref-in-Chain-2.ensures.value)
     c.in_ok-kind-in-Chain.ensures c.kind_of_chain.ensures

@@ -1,5 +1,5 @@
 use Rattle.std.proofs.Common.{◌≡◌, drop, map}
-use Rattle.filter_parser.specs.Syntax.{view}
+use Rattle.filter_parser.specs.Syntax.{view_more}
 use Rattle.filter_parser.specs.SyntaxCommands.{view_decl}
 use Rattle.filter_types.specs.Turns.{kind_with}
 use Rattle.filter_types.proofs.kinds.+kinds.Given as goal
@@ -7,5 +7,5 @@ use Rattle.filter_types.proofs.kinds.+kinds.Given as goal
 -- the operators that are left give what all of them give
 abbrev pub invariant-kind_of_chain-loop-op : goal.invariant-kind_of_chain-loop-op
 invariant-kind_of_chain-loop-op l =
-    kind_with (map view_decl l.variables) l.kind (map (λ p. (p.0, view p.1)) (drop l.op-index l.more))
-    ≡ kind_with (map view_decl l.variables) l.initial.kind (map (λ p. (p.0, view p.1)) l.more)
+    kind_with (map view_decl l.variables) l.kind (view_more (drop l.op-index l.more))
+    ≡ kind_with (map view_decl l.variables) l.initial.kind (view_more l.more)
