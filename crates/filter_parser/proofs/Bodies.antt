@@ -6,10 +6,11 @@ use Rattle.filter_tokens.specs.declared.symbol.Symbol.TheVariants as symbols
 use Rattle.filter_parser.specs.declared.fault.ParseFault.{ParseFault}
 use Rattle.filter_parser.specs.declared.input.Input.{Input}
 use Rattle.filter_parser.specs.declared.tree.command.Command.{Command}
-use Rattle.filter_parser.specs.ReadingCommands.{commands_from, commands_with, command_with, command_at, block_at, if_at}
-use Rattle.filter_parser.specs.Reading.{Reader, expr_at}
+use Rattle.filter_parser.specs.ReadingCommands.{commands_from, commands_with, command_with, command_at, block_at, if_at, if_with}
+use Rattle.filter_parser.specs.Readers.{Reader, symbol}
+use Rattle.filter_parser.specs.Reading.{expr_at}
 use Rattle.prefix_patterns.specs.Reading.{◌>>=◌}
-use Rattle.filter_parser.specs.Steps.{after_symbol, remaining, ReadsAs}
+use Rattle.filter_parser.specs.Steps.{remaining, ReadsAs}
 use Rattle.filter_parser.specs.SyntaxCommands.{CommandView, CommandsView, commands_of, view_command}
 
 -- a command where this many more levels may nest, by its first lexeme
@@ -17,6 +18,13 @@ pub command_is : (depth : ℕ) (ws : List Lexeme) → command_at depth ws ≡ co
 unfolding command_at
 command_is zero ws = refl
 command_is (suc depth) ws = refl
+
+-- an `if` where a level is left
+pub if_is : (depth : ℕ) (ws : List Lexeme) → 0 < depth → if_at depth ws ≡ if_with (expr_at (depth - 1)) (command_at (depth - 1)) ws
+if_is zero ws some = absurd (omega arith)
+if_is (suc depth) ws some =
+    let same : depth ≡ suc depth - 1 = omega arith in
+    ap (λ (n : ℕ). if_with (expr_at n) (command_at n) ws) same
 
 -- what answers as a command does by its first lexeme, answers as the command
 pub by_lexeme : (r : Result (Command × Input) ParseFault) (depth : ℕ) (ws vs : List Lexeme) → ws ≡ vs
@@ -55,14 +63,14 @@ regroup : (xs : List CommandView) (x : CommandView) (r : Option (CommandsView ×
 regroup xs x None = refl
 regroup xs x (Some more) = ap (λ (all : CommandsView). Some (all, more.1)) (sym (one_more xs x more.0))
 
-first_is : (command : Reader CommandView) (n : ℕ) (ws rest : List Lexeme) (x : CommandView) → after_symbol symbols.RightBrace ws ≡ None → command ws ≡ Some (x, rest)
+first_is : (command : Reader CommandView) (n : ℕ) (ws rest : List Lexeme) (x : CommandView) → symbol symbols.RightBrace ws ≡ None → command ws ≡ Some (x, rest)
     → commands_from command (suc n) ws ≡ (commands_from command n rest >>= λ more. Some (CommandsView.command_then x more.0, more.1))
 first_is command n ws rest x none found = rw (none, found) refl
 
-none_is : (command : Reader CommandView) (n : ℕ) (ws : List Lexeme) → after_symbol symbols.RightBrace ws ≡ None → command ws ≡ None → commands_from command (suc n) ws ≡ None
+none_is : (command : Reader CommandView) (n : ℕ) (ws : List Lexeme) → symbol symbols.RightBrace ws ≡ None → command ws ≡ None → commands_from command (suc n) ws ≡ None
 none_is command n ws none found = rw (none, found) refl
 
-end_is : (command : Reader CommandView) (n : ℕ) (ws rest : List Lexeme) → after_symbol symbols.RightBrace ws ≡ Some rest
+end_is : (command : Reader CommandView) (n : ℕ) (ws rest : List Lexeme) → symbol symbols.RightBrace ws ≡ Some rest
     → commands_from command (suc n) ws ≡ Some (CommandsView.no_commands, rest)
 end_is command n ws rest found = rw found refl
 
@@ -75,7 +83,7 @@ map_one f [] x = refl
 map_one {B = B} f (y ∷ xs) x = ap (λ (ys : List B). f y ∷ ys) (map_one f xs x)
 
 pub goes_on : {command : Reader CommandView} {xs : List CommandView} {ws rest : List Lexeme} {total : Option (CommandsView × List Lexeme)} {x : CommandView}
-    → Goes command xs ws total → after_symbol symbols.RightBrace ws ≡ None → command ws ≡ Some (x, rest) → length rest < length ws
+    → Goes command xs ws total → symbol symbols.RightBrace ws ≡ None → command ws ≡ Some (x, rest) → length rest < length ws
     → Goes command (xs ++ x ∷ []) rest total
 goes_on {command} {xs} {ws} {rest} {total} {x} g none found lt =
     let enough : length ws < g.turns = g.enough in
@@ -89,7 +97,7 @@ goes_on {command} {xs} {ws} {rest} {total} {x} g none found lt =
     }
 
 pub stops : {command : Reader CommandView} {xs : List CommandView} {ws : List Lexeme} {total : Option (CommandsView × List Lexeme)}
-    → Goes command xs ws total → after_symbol symbols.RightBrace ws ≡ None → command ws ≡ None → total ≡ None
+    → Goes command xs ws total → symbol symbols.RightBrace ws ≡ None → command ws ≡ None → total ≡ None
 stops {command} {xs} {ws} {total} g none found =
     let enough : length ws < g.turns = g.enough in
     let n : ℕ = g.turns - 1 in
@@ -97,7 +105,7 @@ stops {command} {xs} {ws} {total} g none found =
     sym g.same ∙ ap (λ (k : ℕ). with_front xs (commands_from command k ws)) (sym is_suc) ∙ ap (with_front xs) (none_is command n ws none found)
 
 pub ends : {command : Reader CommandView} {xs : List CommandView} {ws rest : List Lexeme} {total : Option (CommandsView × List Lexeme)}
-    → Goes command xs ws total → after_symbol symbols.RightBrace ws ≡ Some rest → total ≡ Some (commands_of xs, rest)
+    → Goes command xs ws total → symbol symbols.RightBrace ws ≡ Some rest → total ≡ Some (commands_of xs, rest)
 ends {command} {xs} {ws} {rest} {total} g found =
     let enough : length ws < g.turns = g.enough in
     let n : ℕ = g.turns - 1 in

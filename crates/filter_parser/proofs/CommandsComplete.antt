@@ -5,8 +5,8 @@ use Rattle.filter_tokens.specs.Lexemes.{Lexeme}
 use Rattle.filter_tokens.specs.declared.symbol.Symbol.TheVariants as symbols
 use Rattle.filter_parser.specs.ReadingCommands.{command_at, commands_from, commands_with, assign_with, block_with}
 use Rattle.filter_parser.specs.ReadingCommands.{if_with, end_of}
-use Rattle.filter_parser.specs.Reading.{Reader, expr_at}
-use Rattle.filter_parser.specs.Steps.{after_symbol}
+use Rattle.filter_parser.specs.Readers.{Reader, symbol}
+use Rattle.filter_parser.specs.Reading.{expr_at}
 use Rattle.filter_parser.specs.Syntax.{ExprView, Fits, spelling}
 use Rattle.filter_parser.specs.SyntaxCommands.{TargetView, CommandView, CommandsView, FitsCommand, FitsCommands, is_open, spelling_command, spelling_commands}
 use Rattle.filter_parser.specs.SyntaxCommands.{spelling_target, spelling_end}
@@ -21,14 +21,14 @@ pub record AreComplete (depth : ℕ) (expr : Reader ExprView) : Type 0 where
 
 -- where an `else` would belong to an `if` in the command, none follows
 abbrev pub Settled : CommandView → List Lexeme → Type 0
-Settled t rest = is_open t ≡ true → after_symbol symbols.Else rest ≡ None
+Settled t rest = is_open t ≡ true → symbol symbols.Else rest ≡ None
 
 -- each command is read as it is spelled
 pub record IsCommandComplete (depth : ℕ) (command : Reader CommandView) : Type 0 where
   pub complete : (t : CommandView) (rest : List Lexeme) → FitsCommand t depth → Settled t rest → command (spelling_command t ++ rest) ≡ Some (t, rest)
 
 -- no command begins with `}` or `else`
-pub no_brace : (t : CommandView) (rest : List Lexeme) → after_symbol symbols.RightBrace (spelling_command t ++ rest) ≡ None
+pub no_brace : (t : CommandView) (rest : List Lexeme) → symbol symbols.RightBrace (spelling_command t ++ rest) ≡ None
 no_brace CommandView.empty rest = refl
 no_brace (CommandView.block body) rest = refl
 no_brace (CommandView.if_then test chosen) rest = refl
@@ -39,7 +39,7 @@ no_brace (CommandView.assign TargetView.to_net value) rest = refl
 no_brace (CommandView.accept has_text) rest = refl
 no_brace (CommandView.reject has_text) rest = refl
 
-no_else : (t : CommandView) (rest : List Lexeme) → after_symbol symbols.Else (spelling_command t ++ rest) ≡ None
+no_else : (t : CommandView) (rest : List Lexeme) → symbol symbols.Else (spelling_command t ++ rest) ≡ None
 no_else CommandView.empty rest = refl
 no_else (CommandView.block body) rest = refl
 no_else (CommandView.if_then test chosen) rest = refl
@@ -50,7 +50,7 @@ no_else (CommandView.assign TargetView.to_net value) rest = refl
 no_else (CommandView.accept has_text) rest = refl
 no_else (CommandView.reject has_text) rest = refl
 
-no_else_commands : (body : CommandsView) (rest : List Lexeme) → after_symbol symbols.Else (spelling_commands body ++ Lexeme.symbol symbols.RightBrace ∷ rest) ≡ None
+no_else_commands : (body : CommandsView) (rest : List Lexeme) → symbol symbols.Else (spelling_commands body ++ Lexeme.symbol symbols.RightBrace ∷ rest) ≡ None
 no_else_commands CommandsView.no_commands rest = refl
 no_else_commands (CommandsView.command_then first more) rest =
     rw (append_assoc {A = Lexeme} (spelling_command first) (spelling_commands more) (Lexeme.symbol symbols.RightBrace ∷ rest))
@@ -70,7 +70,7 @@ some_lexeme (CommandView.assign target value) rest =
 some_lexeme (CommandView.accept has_text) rest = after_more (Lexeme.symbol symbols.Accept) _ rest
 some_lexeme (CommandView.reject has_text) rest = after_more (Lexeme.symbol symbols.Reject) _ rest
 
-one_turn : (command : Reader CommandView) (n : ℕ) (ws rest : List Lexeme) (t : CommandView) (x : CommandsView × List Lexeme) → after_symbol symbols.RightBrace ws ≡ None
+one_turn : (command : Reader CommandView) (n : ℕ) (ws rest : List Lexeme) (t : CommandView) (x : CommandsView × List Lexeme) → symbol symbols.RightBrace ws ≡ None
     → command ws ≡ Some (t, rest)
     → commands_from command n rest ≡ Some x → commands_from command (suc n) ws ≡ Some (CommandsView.command_then t x.0, x.1)
 one_turn command n ws rest t x none one more = rw (none, one, more) refl
@@ -120,7 +120,7 @@ block_complete depth command of body rest fits =
 
 if_complete : (depth : ℕ) (expr : Reader ExprView) (command : Reader CommandView) → AreComplete depth expr → IsCommandComplete depth command
     → (test : ExprView) (chosen : CommandView) (rest : List Lexeme)
-    → Fits test depth → FitsCommand chosen depth → after_symbol symbols.Else rest ≡ None
+    → Fits test depth → FitsCommand chosen depth → symbol symbols.Else rest ≡ None
     → if_with expr command ((spelling test ++ Lexeme.symbol symbols.Then ∷ spelling_command chosen) ++ rest) ≡ Some (CommandView.if_then test chosen, rest)
 if_complete depth expr command tests of test chosen rest a b none =
     let after = spelling_command chosen ++ rest in

@@ -5,9 +5,9 @@ use Rattle.filter_tokens.specs.Lexemes.{Lexeme}
 use Rattle.filter_tokens.specs.declared.symbol.Symbol.{Symbol}
 use Rattle.filter_tokens.specs.declared.symbol.Symbol.TheVariants as symbols
 use Rattle.filter_parser.specs.ReadingCommands.{accepts, command_at, command_by, command_with, commands_from, commands_with, assign_with, block_with}
-use Rattle.filter_parser.specs.ReadingCommands.{if_with, end_of, refuses, rejects}
-use Rattle.filter_parser.specs.Reading.{Reader, expr_at}
-use Rattle.filter_parser.specs.Steps.{after_symbol, after_quote}
+use Rattle.filter_parser.specs.Readers.{refused, Reader, symbol, quote}
+use Rattle.filter_parser.specs.ReadingCommands.{if_with, end_of, rejects}
+use Rattle.filter_parser.specs.Reading.{expr_at}
 use Rattle.filter_parser.specs.Syntax.{ExprView, Fits, spelling}
 use Rattle.filter_parser.specs.SyntaxCommands.{TargetView, CommandView, CommandsView, FitsCommand, FitsCommands, is_open, spelling_command, spelling_commands}
 use Rattle.filter_parser.specs.SyntaxCommands.{spelling_target, spelling_end}
@@ -22,14 +22,14 @@ pub record AreSound (depth : ℕ) (expr : Reader ExprView) : Type 0 where
 pub record FoundCommand (depth : ℕ) (ws : List Lexeme) (x : CommandView × List Lexeme) : Type 0 where
   pub spelled : ws ≡ spelling_command x.0 ++ x.1
   pub fits : FitsCommand x.0 depth
-  pub settled : is_open x.0 ≡ true → after_symbol symbols.Else x.1 ≡ None
+  pub settled : is_open x.0 ≡ true → symbol symbols.Else x.1 ≡ None
 
 -- a reading function finds only such commands, of which these lexemes were read before
 pub record IsCommandSound (depth : ℕ) (before : List Lexeme) (command : Reader CommandView) : Type 0 where
   pub sound : (ws : List Lexeme) (x : CommandView × List Lexeme) → command ws ≡ Some x → FoundCommand depth (before ++ ws) x
 
 -- a text was found
-pub quote_found : (ws rest : List Lexeme) → after_quote ws ≡ Some rest → ws ≡ Lexeme.quote ∷ rest
+pub quote_found : (ws rest : List Lexeme) → quote ws ≡ Some rest → ws ≡ Lexeme.quote ∷ rest
 quote_found [] rest e = absurd (cc)
 quote_found (Lexeme.quote ∷ ws) rest e = let f : ws ≡ rest = some_is e in ap (λ (vs : List Lexeme). Lexeme.quote ∷ vs) f
 quote_found (Lexeme.name text ∷ ws) rest e = absurd (cc)
@@ -41,12 +41,12 @@ quote_found (Lexeme.symbol k ∷ ws) rest e = absurd (cc)
 end_sound : (ws : List Lexeme) (x : Bool × List Lexeme) → end_of ws ≡ Some x → ws ≡ spelling_end x.0 ++ x.1
 end_sound ws x e =
     let P : Bool × List Lexeme → Type 0 = λ y. ws ≡ spelling_end y.0 ++ y.1 in
-    elim (with_some_cases (after_quote ws) _ _ x e) [
+    elim (with_some_cases (quote ws) _ _ x e) [
       | inl (none, read) ↦
-          let (rest, found, same) = bind_some (after_symbol symbols.Semicolon ws) _ x read in
+          let (rest, found, same) = bind_some (symbol symbols.Semicolon ws) _ x read in
           subst P (some_is same) (symbol_found symbols.Semicolon ws rest found)
       | inr (after, quoted, read) ↦
-          let (rest, found, same) = bind_some (after_symbol symbols.Semicolon after) _ x read in
+          let (rest, found, same) = bind_some (symbol symbols.Semicolon after) _ x read in
           subst P (some_is same) (quote_found ws after quoted
           ∙ ap (λ (vs : List Lexeme). Lexeme.quote ∷ vs) (symbol_found symbols.Semicolon after rest found))
     ]
@@ -79,9 +79,9 @@ assign_sound : (depth : ℕ) (expr : Reader ExprView) → AreSound depth expr �
     → IsCommandSound depth (spelling_target target ∷ []) (assign_with expr target)
 assign_sound depth expr of target = record {
   sound = λ ws x e.
-      let (value, e1, f1) = bind_some (after_symbol symbols.Equal ws) _ x e in
+      let (value, e1, f1) = bind_some (symbol symbols.Equal ws) _ x e in
       let (tree, e2, f2) = bind_some (expr value) _ x f1 in
-      let (rest, e3, f3) = bind_some (after_symbol symbols.Semicolon tree.1) _ x f2 in
+      let (rest, e3, f3) = bind_some (symbol symbols.Semicolon tree.1) _ x f2 in
       let read = of.sound value tree e2 in
       let found : FoundCommand depth (spelling_target target ∷ ws) (CommandView.assign target tree.0, rest) = record {
         spelled = assign_joined (spelling_target target) (Lexeme.symbol symbols.Equal) (Lexeme.symbol symbols.Semicolon) ws value (spelling tree.0) tree.1 rest
@@ -101,7 +101,7 @@ commands_sound : (depth : ℕ) (command : Reader CommandView) → IsCommandSound
     → commands_from command n ws ≡ Some x → FoundCommands depth ws x
 commands_sound depth command of zero ws x e = absurd (cc)
 commands_sound depth command of (suc n) ws x e =
-    elim (with_some_cases (after_symbol symbols.RightBrace ws) _ _ x e) [
+    elim (with_some_cases (symbol symbols.RightBrace ws) _ _ x e) [
       | inl (none, read) ↦
           let (first, e1, f1) = bind_some (command ws) _ x read in
           let (more, e2, f2) = bind_some (commands_from command n first.1) _ x f1 in
@@ -138,27 +138,27 @@ block_sound depth command of = record {
 }
 
 -- a command after which an `else` was found is not open
-closed : (t : CommandView) (ws after : List Lexeme) → (is_open t ≡ true → after_symbol symbols.Else ws ≡ None) → after_symbol symbols.Else ws ≡ Some after
+closed : (t : CommandView) (ws after : List Lexeme) → (is_open t ≡ true → symbol symbols.Else ws ≡ None) → symbol symbols.Else ws ≡ Some after
     → is_open t ≡ false
 closed t ws after settled found = go (is_open t) refl
   where
     go : (b : Bool) → is_open t ≡ b → is_open t ≡ false
     go false e = e
-    go true e = let none : after_symbol symbols.Else ws ≡ None = settled e in absurd (cc)
+    go true e = let none : symbol symbols.Else ws ≡ None = settled e in absurd (cc)
 
 if_sound : (depth : ℕ) (expr : Reader ExprView) (command : Reader CommandView) → AreSound depth expr → IsCommandSound depth [] command
     → IsCommandSound (suc depth) (Lexeme.symbol symbols.If ∷ []) (if_with expr command)
 if_sound depth expr command tests of = record {
   sound = λ ws x e.
       let (test, e1, f1) = bind_some (expr ws) _ x e in
-      let (after, e2, f2) = bind_some (after_symbol symbols.Then test.1) _ x f1 in
+      let (after, e2, f2) = bind_some (symbol symbols.Then test.1) _ x f1 in
       let (chosen, e3, f3) = bind_some (command after) _ x f2 in
       let asked = tests.sound ws test e1 in
       let taken = of.sound after chosen e3 in
       let front : ws ≡ spelling test.0 ++ Lexeme.symbol symbols.Then ∷ (spelling_command chosen.0 ++ chosen.1) =
       front_joined (Lexeme.symbol symbols.Then) ws (spelling test.0) test.1 after (spelling_command chosen.0) chosen.1 asked.0
       (symbol_found symbols.Then test.1 after e2) taken.spelled in
-      elim (with_some_cases (after_symbol symbols.Else chosen.1) _ _ x f3) [
+      elim (with_some_cases (symbol symbols.Else chosen.1) _ _ x f3) [
         | inl (none, same) ↦
             let found : FoundCommand (suc depth) (Lexeme.symbol symbols.If ∷ ws) (CommandView.if_then test.0 chosen.0, chosen.1) = record {
               spelled = if_joined (Lexeme.symbol symbols.If) (Lexeme.symbol symbols.Then) ws (spelling test.0) (spelling_command chosen.0) chosen.1 front;
@@ -180,8 +180,8 @@ if_sound depth expr command tests of = record {
       ];
 }
 
-refuses_sound : (depth : ℕ) (before : List Lexeme) → IsCommandSound depth before refuses
-refuses_sound depth before = record { sound = λ ws x e. absurd (cc) }
+refused_sound : (depth : ℕ) (before : List Lexeme) → IsCommandSound depth before refused
+refused_sound depth before = record { sound = λ ws x e. absurd (cc) }
 
 by_sound : (depth : ℕ) (expr : Reader ExprView) (block if_then : Reader CommandView) → AreSound depth expr
     → IsCommandSound depth (Lexeme.symbol symbols.LeftBrace ∷ []) block
@@ -218,7 +218,7 @@ with_sound depth expr block if_then of blocks choices (Lexeme.symbol k ∷ ws) x
 pub command_sound : (of : (depth : ℕ) → AreSound depth (expr_at depth)) (depth : ℕ) → IsCommandSound depth [] (command_at depth)
 unfolding command_at
 command_sound of zero = record {
-  sound = λ ws x e. with_sound zero (expr_at zero) refuses refuses (of zero) (refuses_sound zero _) (refuses_sound zero _) ws x e;
+  sound = λ ws x e. with_sound zero (expr_at zero) refused refused (of zero) (refused_sound zero _) (refused_sound zero _) ws x e;
 }
 command_sound of (suc depth) = record {
   sound = λ ws x e.

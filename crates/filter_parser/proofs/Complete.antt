@@ -8,10 +8,10 @@ use Rattle.filter_parser.specs.declared.expr_level.Level.{Level}
 use Rattle.filter_parser.specs.declared.expr_level.Level.TheVariants as l
 use Rattle.filter_parser.specs.declared.tree.op.Op.{Op}
 use Rattle.filter_parser.specs.declared.tree.op.Op.TheVariants as o
-use Rattle.filter_parser.specs.Reading.{Reader, op_first, chain_from, comparison_with, level_by, level_of, unmixed, expr_with, refused}
+use Rattle.filter_parser.specs.Readers.{Reader, refused, with_some, symbol}
+use Rattle.filter_parser.specs.Reading.{an_operator, chain_from, comparison_with, level_by, level_of, unmixed, expr_with}
 use Rattle.filter_parser.specs.Reading.{unary_at, expr_at}
 use Rattle.prefix_patterns.specs.Reading.{◌>>=◌}
-use Rattle.filter_parser.specs.Steps.{with_some, after_symbol}
 use Rattle.filter_parser.specs.Syntax.{ExprView, Fits, rank, rank_of, op_symbol, spelling}
 use Rattle.filter_parser.proofs.Operators.{FitsLeft, left_cases, op_read, side, top}
 use Rattle.filter_parser.proofs.Stops.{Stops, binds_op_symbol, op_stops, or_stops, stops_less}
@@ -105,15 +105,15 @@ level_is l.Comparison op ws j e = absurd j
 level_is l.And op ws j e = level_and op ws e
 level_is l.Or op ws j e = level_or op ws e
 
-unmixed_back : (t : ExprView) (rest : List Lexeme) → Stops 6 rest → unmixed (t, rest) ≡ Some (t, rest)
+unmixed_back : (t : ExprView) (rest : List Lexeme) → Stops 6 rest → unmixed t rest ≡ Some (t, rest)
 unmixed_back t rest stops =
-    ap (λ r. with_some r (with_some (op_first l.Or rest) (Some (t, rest)) (λ _. None)) (λ _. None))
+    ap (λ r. with_some r (with_some (an_operator l.Or rest) (Some (t, rest)) (λ _. None)) (λ _. None))
     (op_stops l.And rest (stops_less 5 6 rest (omega arith) stops))
     ∙ ap (λ r. with_some r (Some (t, rest)) (λ _. None)) (op_stops l.Or rest stops)
 
 -- what follows the first operand of an expression
 abbrev after_first : Reader ExprView → ExprView × List Lexeme → Option (ExprView × List Lexeme)
-after_first unary first = chain_from (comparison_with unary) (level_of first.1) first.0 first.1 >>= unmixed
+after_first unary first = chain_from (comparison_with unary) (level_of first.1) first.0 first.1 >>= λ x. unmixed x.0 x.1
 
 -- an expression whose first operand and level are known
 expr_from : (unary : Reader ExprView) (level : Level) (ws : List Lexeme) (first : ExprView × List Lexeme) (t : ExprView) (rest : List Lexeme) →
@@ -124,8 +124,8 @@ expr_from unary level ws first t rest e f g stops =
     let a : chain_from (comparison_with unary) level first.0 first.1 ≡ Some (t, rest) =
     sym (ap (λ r. r >>= λ first. chain_from (comparison_with unary) level first.0 first.1) e) ∙ g in
     ap (λ r. r >>= after_first unary) e
-    ∙ (ap (λ k. chain_from (comparison_with unary) k first.0 first.1 >>= unmixed) f
-    ∙ (ap (λ r. r >>= unmixed) a ∙ unmixed_back t rest stops))
+    ∙ (ap (λ k. chain_from (comparison_with unary) k first.0 first.1 >>= λ x. unmixed x.0 x.1) f
+    ∙ (ap (λ r. r >>= λ x. unmixed x.0 x.1) a ∙ unmixed_back t rest stops))
 
 expr_join : (depth : ℕ) (unary : Reader ExprView) → IsComplete depth 1 unary → (level : Level) → is_join level → FitsLeft level (top level) →
     top level ≤ 6 →
@@ -152,7 +152,7 @@ expr_plain depth unary s t rest f low stops =
     (level_none rest (or_stops rest stops))
     (chain_complete depth l.And (comparison_with unary) (λ e. absurd (cc)) next t rest f (omega arith) five) stops
   where
-    level_none : (rest : List Lexeme) → after_symbol symbols.Or rest ≡ None → level_of rest ≡ l.And
+    level_none : (rest : List Lexeme) → symbol symbols.Or rest ≡ None → level_of rest ≡ l.And
     level_none rest e = ap level_by e
 
 pub expr_with_complete : (depth : ℕ) (unary : Reader ExprView) → IsComplete depth 1 unary → IsComplete depth 6 (expr_with unary)

@@ -5,7 +5,8 @@ use Rattle.filter_tokens.specs.Lexemes.{Lexeme}
 use Rattle.filter_parser.specs.declared.expr_level.Level.{Level}
 use Rattle.filter_parser.specs.declared.expr_level.Level.TheVariants as l
 use Rattle.filter_parser.specs.declared.tree.op.Op.{Op}
-use Rattle.filter_parser.specs.Reading.{Reader, op_first, joins, chain_from, product_with, sum_with}
+use Rattle.filter_parser.specs.Readers.{Reader}
+use Rattle.filter_parser.specs.Reading.{an_operator, joins, chain_from, product_with, sum_with}
 use Rattle.prefix_patterns.specs.Reading.{◌>>=◌}
 use Rattle.filter_parser.specs.Syntax.{ExprView, Fits, rank, rank_of, op_symbol, spelling}
 use Rattle.filter_parser.proofs.Operators.{FitsLeft, left_cases, op_read, side, top}
@@ -64,7 +65,7 @@ chain_reach depth level next other s (ExprView.binary op a b) rest f left stops 
       let ws : List Lexeme = spelling b ++ rest in
       let g = chain_reach depth level next other s a (Lexeme.symbol (op_symbol op) ∷ ws) f.1 (r.left (rank a) (rank b) f.0)
       (op_symbol_stops level op ws e) in
-      let first : op_first level (Lexeme.symbol (op_symbol op) ∷ ws) ≡ Some (op, ws) = ap (λ r. r >>= λ op. Some (op, ws)) r.reads in
+      let first : an_operator level (Lexeme.symbol (op_symbol op) ∷ ws) ≡ Some (op, ws) = ap (λ r. r >>= λ op. Some (op, ws)) r.reads in
       let shorter : length rest < length (Lexeme.symbol (op_symbol op) ∷ ws) = omega (arith, length-append (spelling b) rest) in
       let P : List Lexeme → Type 0 = λ ws. Goes (joins next level) (ExprView.binary op a b) rest (starts_chain next level ws) in
       subst P (sym (append_assoc (spelling a) (Lexeme.symbol (op_symbol op) ∷ spelling b) rest))

@@ -10,10 +10,10 @@ use Rattle.filter_parser.specs.declared.tree.op.Membership.{Membership}
 use Rattle.filter_parser.specs.declared.tree.op.Membership.TheVariants as membership
 use Rattle.filter_parser.specs.declared.tree.op.Op.{Op}
 use Rattle.filter_parser.specs.declared.tree.op.Op.TheVariants as o
-use Rattle.filter_parser.specs.Reading.{Reader, op_first, set_of, sum_with, membership_of, set_opening, member_of, right_operand_with}
+use Rattle.filter_parser.specs.Readers.{given, Reader, with_some, symbol}
+use Rattle.filter_parser.specs.Reading.{an_operator, set_of, sum_with, membership_of, set_opening, member_of, right_operand_with}
 use Rattle.filter_parser.specs.Reading.{comparison_with}
 use Rattle.prefix_patterns.specs.Reading.{◌>>=◌}
-use Rattle.filter_parser.specs.Steps.{with_some, after_symbol}
 use Rattle.filter_parser.specs.Syntax.{SetPatternView, ExprView, Fits, FitsSet, membership_symbol, rank, rank_of, op_symbol, spelling, spelling_set_pattern}
 use Rattle.filter_parser.specs.Syntax.{spelling_set_patterns, spelling_set, spelling_suffix}
 use Rattle.filter_parser.proofs.CompleteWords.{set_back}
@@ -23,7 +23,7 @@ use Rattle.filter_parser.proofs.CompleteOperands.{IsComplete}
 use Rattle.filter_parser.proofs.CompleteChains.{sum_complete}
 
 -- an operand begins with no `[`
-no_bracket : (t : ExprView) (rest : List Lexeme) → after_symbol symbols.LeftBracket (spelling t ++ rest) ≡ None
+no_bracket : (t : ExprView) (rest : List Lexeme) → symbol symbols.LeftBracket (spelling t ++ rest) ≡ None
 no_bracket (ExprView.number n) rest = refl
 no_bracket (ExprView.address a) rest = refl
 no_bracket (ExprView.prefix p) rest = refl
@@ -36,13 +36,13 @@ no_bracket (ExprView.defined a) rest = refl
 no_bracket (ExprView.group inner) rest = refl
 no_bracket (ExprView.negation inner) rest = refl
 no_bracket (ExprView.binary op a b) rest =
-    ap (after_symbol symbols.LeftBracket) (append_assoc (spelling a) (Lexeme.symbol (op_symbol op) ∷ spelling b) rest)
+    ap (symbol symbols.LeftBracket) (append_assoc (spelling a) (Lexeme.symbol (op_symbol op) ∷ spelling b) rest)
     ∙ no_bracket a (Lexeme.symbol (op_symbol op) ∷ (spelling b ++ rest))
 no_bracket (ExprView.member op a xs) rest =
-    ap (after_symbol symbols.LeftBracket) (append_assoc (spelling a) (Lexeme.symbol (membership_symbol op) ∷ spelling_set xs) rest)
+    ap (symbol symbols.LeftBracket) (append_assoc (spelling a) (Lexeme.symbol (membership_symbol op) ∷ spelling_set xs) rest)
     ∙ no_bracket a (Lexeme.symbol (membership_symbol op) ∷ (spelling_set xs ++ rest))
 no_bracket (ExprView.suffixed inner x) rest =
-    ap (after_symbol symbols.LeftBracket) (append_assoc (spelling inner) (spelling_suffix x) rest) ∙ no_bracket inner (spelling_suffix x ++ rest)
+    ap (symbol symbols.LeftBracket) (append_assoc (spelling inner) (spelling_suffix x) rest) ∙ no_bracket inner (spelling_suffix x ++ rest)
 
 abbrev after_bracket : Membership → List Lexeme → Option (Membership × List Lexeme)
 after_bracket k rest = Some (k, rest)
@@ -50,7 +50,7 @@ after_bracket k rest = Some (k, rest)
 bracket_none : (op : Op) (t : ExprView) (rest : List Lexeme) → set_opening op (spelling t ++ rest) ≡ None
 bracket_none op t rest = go (membership_of op)
   where
-    go : (r : Option Membership) → (r >>= λ k. after_symbol symbols.LeftBracket (spelling t ++ rest) >>= after_bracket k) ≡ None
+    go : (r : Option Membership) → (given r (spelling t ++ rest) >>= λ k. symbol symbols.LeftBracket k.1 >>= after_bracket k.0) ≡ None
     go None = refl
     go (Some k) = ap (λ r. r >>= after_bracket k) (no_bracket t rest)
 
@@ -74,7 +74,7 @@ op_of_member membership.In = o.Match
 op_of_member membership.NotIn = o.NotMatch
 
 member_first : (k : Membership) (ws : List Lexeme) →
-    op_first l.Comparison (Lexeme.symbol (membership_symbol k) ∷ ws) ≡ Some (op_of_member k, ws)
+    an_operator l.Comparison (Lexeme.symbol (membership_symbol k) ∷ ws) ≡ Some (op_of_member k, ws)
 unfolding op_of_member
 member_first membership.In ws = refl
 member_first membership.NotIn ws = refl
@@ -96,7 +96,7 @@ member_back sum k a xs rest f =
 
 -- a comparison so far: the sum at its left, and what follows it
 abbrev after_sum : Reader ExprView → ExprView × List Lexeme → Option (ExprView × List Lexeme)
-after_sum unary left = with_some (op_first l.Comparison left.1) (Some left) (λ op. right_operand_with (sum_with unary) left.0 op.0 op.1)
+after_sum unary left = with_some (an_operator l.Comparison left.1) (Some left) (λ op. right_operand_with (sum_with unary) left.0 op.0 op.1)
 
 comparison_plain : (depth : ℕ) (unary : Reader ExprView) → IsComplete depth 1 unary → (t : ExprView) (rest : List Lexeme) → Fits t depth →
     rank t ≤ 3 → Stops 4 rest →
@@ -113,7 +113,7 @@ comparison_binary depth unary s op a b rest f e stops =
     let ws : List Lexeme = spelling b ++ rest in
     let sum = sum_complete depth unary s in
     let h : Stops 3 (Lexeme.symbol (op_symbol op) ∷ ws) = omega (arith, binds_op_symbol op) in
-    let first : op_first l.Comparison (Lexeme.symbol (op_symbol op) ∷ ws) ≡ Some (op, ws) = ap (λ r. r >>= λ op. Some (op, ws)) r.reads in
+    let first : an_operator l.Comparison (Lexeme.symbol (op_symbol op) ∷ ws) ≡ Some (op, ws) = ap (λ r. r >>= λ op. Some (op, ws)) r.reads in
     ap (comparison_with unary) (append_assoc (spelling a) (Lexeme.symbol (op_symbol op) ∷ spelling b) rest)
     ∙ (ap (λ r. r >>= after_sum unary) (sum.complete a (Lexeme.symbol (op_symbol op) ∷ ws) f.1 (r.left (rank a) (rank b) f.0) h)
     ∙ (ap (λ r. with_some r (Some (a, Lexeme.symbol (op_symbol op) ∷ ws)) (λ op. right_operand_with (sum_with unary) a op.0 op.1)) first

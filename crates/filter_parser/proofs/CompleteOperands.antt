@@ -6,9 +6,9 @@ use Rattle.filter_tokens.specs.declared.symbol.Symbol.TheVariants as symbols
 use Rattle.filter_parser.specs.declared.tree.expr.Attribute.TheVariants as attributes
 use Rattle.filter_parser.specs.declared.tree.op.Op.{Op}
 use Rattle.filter_parser.specs.declared.tree.op.Op.TheVariants as o
-use Rattle.filter_parser.specs.Reading.{Reader, suffixes, suffixes_from, group_end, group_with, postfix_with, not_with, unary_with}
+use Rattle.filter_parser.specs.Readers.{Reader, with_some, symbol}
+use Rattle.filter_parser.specs.Reading.{suffixes, suffixes_from, group_end, group_with, postfix_with, not_with, unary_with}
 use Rattle.prefix_patterns.specs.Reading.{◌>>=◌}
-use Rattle.filter_parser.specs.Steps.{with_some, after_symbol}
 use Rattle.filter_parser.specs.Syntax.{ExprView, Fits, rank, rank_of, spelling, spelling_suffix}
 use Rattle.filter_parser.proofs.CompleteWords.{suffix_back}
 use Rattle.filter_parser.proofs.Chains.{suffix_on, suffix_ends}
@@ -114,7 +114,7 @@ postfix_complete depth expr s = record {
 }
 
 -- such an operand begins with no `!`
-no_not_symbol : (depth : ℕ) (t : ExprView) (rest : List Lexeme) → Fits t depth → rank t ≤ 0 → after_symbol symbols.Not (spelling t ++ rest) ≡ None
+no_not_symbol : (depth : ℕ) (t : ExprView) (rest : List Lexeme) → Fits t depth → rank t ≤ 0 → symbol symbols.Not (spelling t ++ rest) ≡ None
 no_not_symbol depth (ExprView.number n) rest f low = refl
 no_not_symbol depth (ExprView.address a) rest f low = refl
 no_not_symbol depth (ExprView.prefix p) rest f low = refl
@@ -129,7 +129,7 @@ no_not_symbol depth (ExprView.negation inner) rest f low = absurd (omega arith)
 no_not_symbol depth (ExprView.binary op a b) rest f low = absurd (omega (arith, rank_pos op))
 no_not_symbol depth (ExprView.member op a xs) rest f low = absurd (omega arith)
 no_not_symbol depth (ExprView.suffixed inner x) rest f low =
-    ap (after_symbol symbols.Not) (append_assoc (spelling inner) (spelling_suffix x) rest)
+    ap (symbol symbols.Not) (append_assoc (spelling inner) (spelling_suffix x) rest)
     ∙ no_not_symbol depth inner (spelling_suffix x ++ rest) f.1 f.0
 
 -- an operand is read after its `!`

@@ -5,9 +5,9 @@ use Rattle.filter_tokens.specs.Lexemes.{Lexeme}
 use Rattle.filter_tokens.specs.declared.symbol.Symbol.TheVariants as symbols
 use Rattle.filter_parser.specs.declared.tree.op.Suffix.{Suffix}
 use Rattle.filter_parser.specs.declared.tree.op.Suffix.TheVariants as suffix
-use Rattle.filter_parser.specs.Reading.{suffix_of, set_pattern_first, adds_set_pattern, set_patterns_from, set_after_first, set_of}
+use Rattle.filter_parser.specs.Reading.{suffix_of, a_set_pattern, adds_set_pattern, set_patterns_from, set_after_first, set_of}
 use Rattle.prefix_patterns.specs.Reading.{◌>>=◌}
-use Rattle.filter_parser.specs.Steps.{after_symbol}
+use Rattle.filter_parser.specs.Readers.{symbol}
 use Rattle.filter_parser.specs.Syntax.{SetPatternView, FitsSetPattern, FitsSetPatterns, FitsSuffix, spelling_set_pattern, spelling_set_patterns, spelling_suffix}
 use Rattle.filter_parser.proofs.Chains.{set_pattern_on, set_pattern_ends}
 use Rattle.filter_parser.proofs.Turns.{Goes, starts}
@@ -18,7 +18,7 @@ le_true a b h = grind arith
 -- a suffix is read after its dot
 pub record SuffixBack (s : Suffix) (rest : List Lexeme) : Type 0 where
   pub after : List Lexeme
-  pub dot : after_symbol symbols.Dot (spelling_suffix s ++ rest) ≡ Some after
+  pub dot : symbol symbols.Dot (spelling_suffix s ++ rest) ≡ Some after
   pub reads : suffix_of after ≡ Some (s, rest)
   pub shorter : length rest < length (spelling_suffix s ++ rest)
 
@@ -34,7 +34,7 @@ suffix_back (suffix.Mask n) rest f = record {
 
 -- a pattern is read where a comma or the set's bracket follows
 set_pattern_back : (x : SetPatternView) (more : List SetPatternView) (rest : List Lexeme) → FitsSetPattern x →
-    set_pattern_first (spelling_set_pattern x ++ (spelling_set_patterns more ++ rest)) ≡ Some (x, spelling_set_patterns more ++ rest)
+    a_set_pattern (spelling_set_pattern x ++ (spelling_set_patterns more ++ rest)) ≡ Some (x, spelling_set_patterns more ++ rest)
 set_pattern_back (SetPatternView.exact p) [] rest f = refl
 set_pattern_back (SetPatternView.exact p) (y ∷ ys) rest f = refl
 set_pattern_back (SetPatternView.or_longer p) more rest f = refl
@@ -52,7 +52,7 @@ set_patterns_back xs (x ∷ more) rest answer f g =
     omega (arith, ap length same, length-append (spelling_set_pattern x) (spelling_set_patterns more ++ rest)) in
     let t : Goes adds_set_pattern (xs ++ (x ∷ [])) (spelling_set_patterns more ++ rest) answer =
     set_pattern_on {ws = spelling_set_patterns (x ∷ more) ++ rest} {rest = (spelling_set_pattern x ++ spelling_set_patterns more) ++ rest} refl
-    (ap set_pattern_first same ∙ set_pattern_back x more rest f.0) h g in
+    (ap a_set_pattern same ∙ set_pattern_back x more rest f.0) h g in
     let P : List SetPatternView → Type 0 = λ v. Goes adds_set_pattern v (Lexeme.symbol symbols.RightBracket ∷ rest) answer in
     subst P (append_assoc xs (x ∷ []) more) (set_patterns_back (xs ++ (x ∷ [])) more rest answer f.1 t)
 
@@ -62,7 +62,7 @@ after_back x more rest f =
     let g = set_patterns_back (x ∷ []) more rest (set_patterns_from (x ∷ []) (spelling_set_patterns more ++ rest)) f
     (starts adds_set_pattern (x ∷ []) (spelling_set_patterns more ++ rest)) in
     let e : set_patterns_from (x ∷ []) (spelling_set_patterns more ++ rest) ≡ Some (x ∷ more, Lexeme.symbol symbols.RightBracket ∷ rest) = set_pattern_ends refl g in
-    ap (λ r. r >>= λ xs. after_symbol symbols.RightBracket xs.1 >>= λ rest. Some (xs.0, rest)) e
+    ap (λ r. r >>= λ xs. symbol symbols.RightBracket xs.1 >>= λ rest. Some (xs.0, rest)) e
 
 -- a set is read after its bracket
 pub set_back : (x : SetPatternView) (more : List SetPatternView) (rest : List Lexeme) → FitsSetPattern x → FitsSetPatterns more →

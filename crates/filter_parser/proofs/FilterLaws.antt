@@ -7,10 +7,10 @@ use Rattle.filter_tokens.specs.declared.symbol.Symbol.{Symbol}
 use Rattle.filter_tokens.specs.declared.symbol.Symbol.TheVariants as symbols
 use Rattle.filter_parser.specs.declared.tree.decl.Kind.{Kind}
 use Rattle.filter_parser.specs.declared.tree.decl.Kind.TheVariants as kind
-use Rattle.filter_parser.specs.ReadingCommands.{PartsView, command_at, commands_with, decl_turn, decl_with, decls_after, filter_of, kind_first}
-use Rattle.filter_parser.specs.ReadingCommands.{kind_of, name_first, nothing_after}
-use Rattle.filter_parser.specs.Reading.{turns, expr_at}
-use Rattle.filter_parser.specs.Steps.{after_symbol}
+use Rattle.filter_parser.specs.ReadingCommands.{PartsView, command_at, commands_with, decl_turn, decl_with, decls_after, filter_of, a_kind}
+use Rattle.filter_parser.specs.Readers.{a_name, turns, symbol}
+use Rattle.filter_parser.specs.ReadingCommands.{kind_of, nothing_after}
+use Rattle.filter_parser.specs.Reading.{expr_at}
 use Rattle.filter_parser.specs.Syntax.{nesting_limit}
 use Rattle.filter_parser.specs.SyntaxCommands.{TargetView, CommandView, CommandsView, DeclView, FitsCommands, kind_symbol, spelling_command, spelling_commands}
 use Rattle.filter_parser.specs.SyntaxCommands.{spelling_decl, spelling_decls}
@@ -46,7 +46,7 @@ kind_again kind.Bool = refl
 kind_again kind.Ip = refl
 kind_again kind.Prefix = refl
 
-kind_found : (ws : List Lexeme) (x : Kind × List Lexeme) → kind_first ws ≡ Some x → ws ≡ Lexeme.symbol (kind_symbol x.0) ∷ x.1
+kind_found : (ws : List Lexeme) (x : Kind × List Lexeme) → a_kind ws ≡ Some x → ws ≡ Lexeme.symbol (kind_symbol x.0) ∷ x.1
 kind_found [] x e = absurd (cc)
 kind_found (Lexeme.symbol k ∷ ws) x e =
     let (found, e1, same) = bind_some (kind_of k) _ x e in
@@ -54,7 +54,7 @@ kind_found (Lexeme.symbol k ∷ ws) x e =
     subst P (some_is same) (ap (λ (n : Symbol). Lexeme.symbol n ∷ ws) (kind_is k found e1))
 kind_found (_ ∷ ws) x e = absurd (cc)
 
-name_found : (ws : List Lexeme) (x : List ℕ × List Lexeme) → name_first ws ≡ Some x → ws ≡ Lexeme.name x.0 ∷ x.1
+name_found : (ws : List Lexeme) (x : List ℕ × List Lexeme) → a_name ws ≡ Some x → ws ≡ Lexeme.name x.0 ∷ x.1
 name_found [] x e = absurd (cc)
 name_found (Lexeme.name text ∷ ws) x e =
     let P : List ℕ × List Lexeme → Type 0 = λ y. Lexeme.name text ∷ ws ≡ Lexeme.name y.0 ∷ y.1 in
@@ -64,8 +64,8 @@ name_found (_ ∷ ws) x e = absurd (cc)
 decl_found : (k : Kind) (w : Lexeme) (ws : List Lexeme) (x : DeclView × List Lexeme) → w ≡ Lexeme.symbol (kind_symbol k)
     → decl_with k ws ≡ Some x → w ∷ ws ≡ spelling_decl x.0 ++ x.1
 decl_found k w ws x first e =
-    let (name, e1, f1) = bind_some (name_first ws) _ x e in
-    let (rest, e2, f2) = bind_some (after_symbol symbols.Semicolon name.1) _ x f1 in
+    let (name, e1, f1) = bind_some (a_name ws) _ x e in
+    let (rest, e2, f2) = bind_some (symbol symbols.Semicolon name.1) _ x f1 in
     let P : DeclView × List Lexeme → Type 0 = λ y. w ∷ ws ≡ spelling_decl y.0 ++ y.1 in
     let a : ws ≡ Lexeme.name name.0 ∷ name.1 = name_found ws name e1 in
     let b : name.1 ≡ Lexeme.symbol symbols.Semicolon ∷ rest = symbol_found symbols.Semicolon name.1 rest e2 in
@@ -81,7 +81,7 @@ pub record FoundDecls (front : List DeclView) (ws : List Lexeme) (x : List DeclV
 turn_found : (front : List DeclView) (ws : List Lexeme) (y : List DeclView × List Lexeme) → decl_turn front ws ≡ Some (Some y)
     → (d : DeclView) × (y.0 ≡ front ++ d ∷ []) × (ws ≡ spelling_decl d ++ y.1)
 turn_found front ws y e =
-    elim (with_some_cases (kind_first ws) _ _ (Some y) e) [
+    elim (with_some_cases (a_kind ws) _ _ (Some y) e) [
       | inl (none, same) ↦ absurd (cc)
       | inr (k, e1, read) ↦
           let (d, e2, same) = bind_some (decl_with k.0 k.1) _ (Some y) read in
@@ -127,7 +127,7 @@ turn_again : (front : List DeclView) (d : DeclView) (rest : List Lexeme)
     → decl_turn front (spelling_decl d ++ rest) ≡ Some (Some (front ++ d ∷ [], rest))
 turn_again front d rest = rw (kind_again d.kind) refl
 
-turns_again : (ds : List DeclView) (n : ℕ) (front : List DeclView) (rest : List Lexeme) → kind_first rest ≡ None
+turns_again : (ds : List DeclView) (n : ℕ) (front : List DeclView) (rest : List Lexeme) → a_kind rest ≡ None
     → length (spelling_decls ds ++ rest) ≤ n
     → turns decl_turn n front (spelling_decls ds ++ rest) ≡ Some (front ++ ds, rest)
 turns_again [] zero front rest none le = ap (λ (xs : List DeclView). Some (xs, rest)) (sym (append-nil front))
@@ -137,7 +137,7 @@ turns_again (d ∷ ds) (suc n) front rest none le =
     rw (kind_again d.kind) (turns_again ds n (front ++ d ∷ []) rest none (omega arith)
     ∙ ap (λ (xs : List DeclView). Some (xs, rest)) (append_assoc front (d ∷ []) ds))
 
-decls_again : (ds front : List DeclView) (rest : List Lexeme) → kind_first rest ≡ None
+decls_again : (ds front : List DeclView) (rest : List Lexeme) → a_kind rest ≡ None
     → decls_after front (spelling_decls ds ++ rest) ≡ Some (front ++ ds, rest)
 unfolding decls_after
 decls_again ds front rest none = turns_again ds (length (spelling_decls ds ++ rest)) front rest none (omega arith)
@@ -145,7 +145,7 @@ decls_again ds front rest none = turns_again ds (length (spelling_decls ds ++ re
 -- ---- a filter
 
 -- no declaration begins as a command, or as the end of commands
-no_kind : (t : CommandView) (rest : List Lexeme) → kind_first (spelling_command t ++ rest) ≡ None
+no_kind : (t : CommandView) (rest : List Lexeme) → a_kind (spelling_command t ++ rest) ≡ None
 no_kind CommandView.empty rest = refl
 no_kind (CommandView.block body) rest = refl
 no_kind (CommandView.if_then test chosen) rest = refl
@@ -156,7 +156,7 @@ no_kind (CommandView.assign TargetView.to_net value) rest = refl
 no_kind (CommandView.accept has_text) rest = refl
 no_kind (CommandView.reject has_text) rest = refl
 
-no_kind_commands : (body : CommandsView) (rest : List Lexeme) → kind_first (spelling_commands body ++ Lexeme.symbol symbols.RightBrace ∷ rest) ≡ None
+no_kind_commands : (body : CommandsView) (rest : List Lexeme) → a_kind (spelling_commands body ++ Lexeme.symbol symbols.RightBrace ∷ rest) ≡ None
 no_kind_commands CommandsView.no_commands rest = refl
 no_kind_commands (CommandsView.command_then first more) rest =
     rw (append_assoc {A = Lexeme} (spelling_command first) (spelling_commands more) (Lexeme.symbol symbols.RightBrace ∷ rest))
@@ -181,10 +181,10 @@ filter_joined ws a b c d e f g h k n front inner body e1 e2 e3 e4 e5 e6 = rw (e1
 
 pub filter_sound : (ws : List Lexeme) (x : PartsView) → filter_of ws ≡ Some x → FoundFilter ws x
 filter_sound ws x e =
-    let (a, e1, f1) = bind_some (after_symbol symbols.Filter ws) _ x e in
-    let (name, e2, f2) = bind_some (name_first a) _ x f1 in
+    let (a, e1, f1) = bind_some (symbol symbols.Filter ws) _ x e in
+    let (name, e2, f2) = bind_some (a_name a) _ x f1 in
     let (head, e3, f3) = bind_some (decls_after [] name.1) _ x f2 in
-    let (d, e4, f4) = bind_some (after_symbol symbols.LeftBrace head.1) _ x f3 in
+    let (d, e4, f4) = bind_some (symbol symbols.LeftBrace head.1) _ x f3 in
     let (all, e5, f5) = bind_some (decls_after head.0 d) _ x f4 in
     let (body, e6, f6) = bind_some (commands_with (command_at nesting_limit) all.1) _ x f5 in
     let (nothing, is) = whole_found _ body.1 x f6 in

@@ -21,7 +21,8 @@ use Rattle.filter_parser.specs.declared.tree.expr.Expr.TheOpen.{Expr-F}
 use Rattle.filter_parser.specs.declared.tree.expr.Expr.TheVariants as e
 use Rattle.filter_parser.specs.declared.tree.decl.Decl.{Decl}
 use Rattle.filter_parser.specs.Placed.{ArePlaced, decl_kept, Kept, AreAt, joined, operand_kept, kept_more, next_pattern_kept, set_pattern_kept, set_patterns_kept, expr_kept, expr_kept_step, command_kept, command_kept_step, end_kept}
-use Rattle.filter_parser.specs.Steps.{Spans, Grown, after_symbol, remaining}
+use Rattle.filter_parser.specs.Readers.{symbol}
+use Rattle.filter_parser.specs.Steps.{Spans, Grown, remaining}
 use Rattle.filter_parser.proofs.Steps.{symbol_found}
 
 at_both : (a b : Kept) (s t : List Token) → AreAt a s → AreAt b t → AreAt (a ++ b) (s ++ t)
@@ -157,7 +158,7 @@ one_token at text tokens (t ∷ u ∷ ts) more e placed read = absurd placed.1
 -- a filter from its first token on
 pub all_placed : {start input rest second last : Input} {at : ℕ} {head decls : List Decl} {body : List Command}
     → Spans (None ∷ None ∷ joined (map decl_kept head)) start input → Spans (Some at ∷ []) input rest
-    → after_symbol symbols.LeftBrace (remaining input) ≡ Some (remaining rest) → Grown decl_kept head decls rest second
+    → symbol symbols.LeftBrace (remaining input) ≡ Some (remaining rest) → Grown decl_kept head decls rest second
     → Spans (joined (map command_kept body) ++ None ∷ []) second last → last.tokens.now ≡ []
     → ArePlaced start.source.now.text.now start.tokens.now decls body
 all_placed {start} {input} {rest} {second} {last} {at} {head} {decls} {body} front brace read grown commands end =

@@ -9,16 +9,16 @@ use Rattle.filter_parser.specs.declared.expr_level.Level.TheVariants as l
 use Rattle.filter_parser.specs.declared.tree.op.Membership.{Membership}
 use Rattle.filter_parser.specs.declared.tree.op.Op.{Op}
 use Rattle.filter_parser.specs.declared.tree.op.Op.TheVariants as o
-use Rattle.filter_parser.specs.Reading.{Reader, turns, op_of, op_first, joins, chain_from, suffix_of, suffixes, set_of, group_with}
+use Rattle.filter_parser.specs.Readers.{Reader, turns, refused, symbol}
+use Rattle.filter_parser.specs.Reading.{op_of, an_operator, joins, chain_from, suffix_of, suffixes, set_of, group_with}
 use Rattle.filter_parser.specs.Reading.{primary_with, postfix_with, not_with, unary_with, product_with, sum_with, membership_of, set_opening}
-use Rattle.filter_parser.specs.Reading.{member_of, right_operand_with, comparison_with, level_by, level_of, unmixed, expr_with, refused, unary_at}
+use Rattle.filter_parser.specs.Reading.{member_of, right_operand_with, comparison_with, level_by, level_of, unmixed, expr_with, unary_at}
 use Rattle.filter_parser.specs.Reading.{expr_at}
-use Rattle.filter_parser.specs.Steps.{after_symbol}
 use Rattle.filter_parser.specs.Syntax.{ExprView, Fits, membership_symbol, rank, rank_of, op_symbol, spelling, spelling_set, spelling_suffix}
 use Rattle.filter_parser.proofs.Operators.{FitsLeft, IsOp, op_found, side, top}
 use Rattle.filter_parser.proofs.SoundSets.{atom_sound, set_sound}
 use Rattle.filter_parser.proofs.SoundWords.{suffix_sound}
-use Rattle.filter_parser.proofs.Steps.{bind_some, symbol_found, some_is, with_some_cases}
+use Rattle.filter_parser.proofs.Steps.{bind_given, bind_some, symbol_found, some_is, with_some_cases}
 
 -- what was read: it is spelled so, fits where this many more levels may nest, and binds at most so loosely
 pub record Found (depth most : ℕ) (ws : List Lexeme) (x : ExprView × List Lexeme) : Type 0 where
@@ -31,16 +31,16 @@ pub record IsSound (depth most : ℕ) (next : Reader ExprView) : Type 0 where
   pub sound : (ws : List Lexeme) (x : ExprView × List Lexeme) → next ws ≡ Some x → Found depth most ws x
 
 -- the symbol of an operator that was found
-pub op_first_found : (level : Level) (ws : List Lexeme) (x : Op × List Lexeme) → op_first level ws ≡ Some x →
+pub an_operator_found : (level : Level) (ws : List Lexeme) (x : Op × List Lexeme) → an_operator level ws ≡ Some x →
     (ws ≡ Lexeme.symbol (op_symbol x.0) ∷ x.1) × IsOp level (op_symbol x.0) x.0
-op_first_found level [] x e = absurd (cc)
-op_first_found level (Lexeme.symbol k ∷ ws) x e =
+an_operator_found level [] x e = absurd (cc)
+an_operator_found level (Lexeme.symbol k ∷ ws) x e =
     let (op, e1, e2) = bind_some (op_of level k) _ x e in
     let a = op_found level k op e1 in
     let P : (Op × List Lexeme) → Type 0 = λ y. (Lexeme.symbol k ∷ ws ≡ Lexeme.symbol (op_symbol y.0) ∷ y.1) × IsOp level (op_symbol y.0) y.0 in
     let Q : Symbol → Type 0 = λ n. IsOp level n op in
     subst P (some_is e2) (ap (λ n. Lexeme.symbol n ∷ ws) a.spelled, subst Q a.spelled a)
-op_first_found level (_ ∷ ws) x e = absurd (cc)
+an_operator_found level (_ ∷ ws) x e = absurd (cc)
 
 -- a chain so far, with what is left after it
 record Chain (depth : ℕ) (level : Level) (all : List Lexeme) (x : ExprView × List Lexeme) : Type 0 where
@@ -74,11 +74,11 @@ chain_sound depth level next other s (suc n) all x y r e =
     let (t, e1, e2) = bind_some (joins next level x.0 x.1) _ y e in
     elim (with_some_cases t _ _ y e2) [
       | inl p ↦ subst P (some_is p.1) r
-      | inr p ↦ elim (with_some_cases (op_first level x.1) _ _ t e1) [
+      | inr p ↦ elim (with_some_cases (an_operator level x.1) _ _ t e1) [
         | inl q ↦ absurd (cc (p.1, q.1))
         | inr q ↦
             let (right, e3, e4) = bind_some (next q.0.1) _ t q.2 in
-            let a = op_first_found level x.1 q.0 q.1 in
+            let a = an_operator_found level x.1 q.0 q.1 in
             let b = s.sound q.0.1 right e3 in
             let again = left_again level q.0.0 other a.1.binds in
             let z : ExprView × List Lexeme = (ExprView.binary q.0.0 x.0 right.0, right.1) in
@@ -128,8 +128,8 @@ membership_found _ k e = absurd (cc)
 bracket_found : (op : Op) (ws : List Lexeme) (x : Membership × List Lexeme) → set_opening op ws ≡ Some x →
     (op_symbol op ≡ membership_symbol x.0) × (ws ≡ Lexeme.symbol symbols.LeftBracket ∷ x.1)
 bracket_found op ws x e =
-    let (k, e1, e2) = bind_some (membership_of op) _ x e in
-    let (rest, e3, e4) = bind_some (after_symbol symbols.LeftBracket ws) _ x e2 in
+    let (k, e1, e2) = bind_given (membership_of op) ws _ x e in
+    let (rest, e3, e4) = bind_some (symbol symbols.LeftBracket ws) _ x e2 in
     let P : (Membership × List Lexeme) → Type 0 = λ x. (op_symbol op ≡ membership_symbol x.0) × (ws ≡ Lexeme.symbol symbols.LeftBracket ∷ x.1) in
     subst P (some_is e4) (membership_found op k e1, symbol_found symbols.LeftBracket ws rest e3)
 
@@ -180,10 +180,10 @@ comparison_sound depth unary s =
           let (left, e1, e2) = bind_some (sum_with unary ws) _ x e in
           let f = p.sound ws left e1 in
           let P : (ExprView × List Lexeme) → Type 0 = Found depth 4 ws in
-          elim (with_some_cases (op_first l.Comparison left.1) _ _ x e2) [
+          elim (with_some_cases (an_operator l.Comparison left.1) _ _ x e2) [
             | inl q ↦ subst P (some_is q.1) (record { spelled = f.spelled; fits = f.fits; low = omega (arith, f.low) })
             | inr q ↦
-                let a = op_first_found l.Comparison left.1 q.0 q.1 in
+                let a = an_operator_found l.Comparison left.1 q.0 q.1 in
                 right_sound depth (sum_with unary) p ws left.0 q.0.0 q.0.1 x (f.spelled
                 ∙ ap (λ v. spelling left.0 ++ v) a.0) f.fits f.low a.1 q.2
           ];
@@ -198,20 +198,20 @@ join_sound depth unary s None ws first x f e =
 join_sound depth unary s (Some rest) ws first x f e =
     level_sound depth l.Or (comparison_with unary) (λ e. absurd (cc)) (comparison_sound depth unary s) ws first x f e
 
-unmixed_found : (x y : ExprView × List Lexeme) → unmixed x ≡ Some y → x ≡ y
-unmixed_found x y e = elim (with_some_cases (op_first l.And x.1) _ _ y e) [
+unmixed_found : (x y : ExprView × List Lexeme) → unmixed x.0 x.1 ≡ Some y → x ≡ y
+unmixed_found x y e = elim (with_some_cases (an_operator l.And x.1) _ _ y e) [
   | inr p ↦ absurd (cc (p.2))
-  | inl p ↦ elim (with_some_cases (op_first l.Or x.1) _ _ y p.1) [ inr q ↦ absurd (cc (q.2)) | inl q ↦ some_is q.1 ]
+  | inl p ↦ elim (with_some_cases (an_operator l.Or x.1) _ _ y p.1) [ inr q ↦ absurd (cc (q.2)) | inl q ↦ some_is q.1 ]
 ]
 
 pub expr_with_sound : (depth : ℕ) (unary : Reader ExprView) → IsSound depth 1 unary → IsSound depth 6 (expr_with unary)
 expr_with_sound depth unary s = record {
   sound = λ ws x e.
       let (first, e1, e2) = bind_some (comparison_with unary ws) _ x e in
-      let (whole, e3, e4) = bind_some (chain_from (comparison_with unary) (level_of first.1) first.0 first.1) unmixed x e2 in
+      let (whole, e3, e4) = bind_some (chain_from (comparison_with unary) (level_of first.1) first.0 first.1) _ x e2 in
       let P : (ExprView × List Lexeme) → Type 0 = Found depth 6 ws in
       subst P (unmixed_found whole x e4)
-      (join_sound depth unary s (after_symbol symbols.Or first.1) ws first whole ((comparison_sound depth unary s).sound ws first e1) e3);
+      (join_sound depth unary s (symbol symbols.Or first.1) ws first whole ((comparison_sound depth unary s).sound ws first e1) e3);
 }
 
 -- an operand so far, and its suffixes after it
@@ -224,7 +224,7 @@ suffixes_sound depth (suc n) all x y r e =
     let (t, e1, e2) = bind_some (suffixes x.0 x.1) _ y e in
     elim (with_some_cases t _ _ y e2) [
       | inl p ↦ subst P (some_is p.1) r
-      | inr p ↦ elim (with_some_cases (after_symbol symbols.Dot x.1) _ _ t e1) [
+      | inr p ↦ elim (with_some_cases (symbol symbols.Dot x.1) _ _ t e1) [
         | inl q ↦ absurd (cc (p.1, q.1))
         | inr q ↦
             let (found, e3, e4) = bind_some (suffix_of q.0) _ t q.2 in
@@ -252,7 +252,7 @@ group_sound : (depth : ℕ) (expr : Reader ExprView) → IsSound depth 6 expr �
 group_sound depth expr s = record {
   groups = λ ws x e.
       let (inner, e1, e2) = bind_some (expr ws) _ x e in
-      let (rest, e3, e4) = bind_some (after_symbol symbols.RightParen inner.1) _ x e2 in
+      let (rest, e3, e4) = bind_some (symbol symbols.RightParen inner.1) _ x e2 in
       let f = s.sound ws inner e1 in
       let P : (ExprView × List Lexeme) → Type 0 = Found (suc depth) 0 (Lexeme.symbol symbols.LeftParen ∷ ws) in
       subst P (some_is e4) (record {
@@ -268,7 +268,7 @@ postfix_sound : (depth : ℕ) (expr : Reader ExprView) → IsGroup depth expr �
 postfix_sound depth expr s = record {
   sound = λ ws x e.
       let (first, e1, e2) = bind_some (primary_with expr ws) _ x e in
-      let f : Found depth 0 ws first = elim (with_some_cases (after_symbol symbols.LeftParen ws) _ _ first e1) [
+      let f : Found depth 0 ws first = elim (with_some_cases (symbol symbols.LeftParen ws) _ _ first e1) [
         | inl p ↦ let a = atom_sound ws first p.1 in record { spelled = a.spelled; fits = a.fits depth; low = a.low }
         | inr p ↦
             let Q : List Lexeme → Type 0 = λ v. Found depth 0 v first in
@@ -296,7 +296,7 @@ not_sound depth unary s = record {
 unary_with_sound : (depth : ℕ) (expr unary : Reader ExprView) → IsGroup depth expr → IsNot depth unary → IsSound depth 1 (unary_with expr unary)
 unary_with_sound depth expr unary g n = record {
   sound = λ ws x e.
-      elim (with_some_cases (after_symbol symbols.Not ws) _ _ x e) [
+      elim (with_some_cases (symbol symbols.Not ws) _ _ x e) [
         | inl p ↦ let a = (postfix_sound depth expr g).sound ws x p.1 in record {
           spelled = a.spelled;
           fits = a.fits;

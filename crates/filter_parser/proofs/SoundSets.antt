@@ -4,12 +4,12 @@ use Rattle.std.proofs.Common.{append-nil, arith}
 use Rattle.filter_tokens.specs.Lexemes.{Lexeme}
 use Rattle.filter_tokens.specs.declared.symbol.Symbol.{Symbol}
 use Rattle.filter_tokens.specs.declared.symbol.Symbol.TheVariants as symbols
-use Rattle.filter_parser.specs.Reading.{turns, attribute_first, set_pattern_first, adds_set_pattern, set_patterns_from, set_after_first, set_of, defined_of, keyword_of}
-use Rattle.filter_parser.specs.Reading.{single_of, single_first, atom_of}
-use Rattle.filter_parser.specs.Steps.{after_symbol}
+use Rattle.filter_parser.specs.Readers.{turns, symbol}
+use Rattle.filter_parser.specs.Reading.{an_attribute, a_set_pattern, adds_set_pattern, set_patterns_from, set_after_first, set_of, defined_of, keyword_of}
+use Rattle.filter_parser.specs.Reading.{single_of, a_single, atom_of}
 use Rattle.filter_parser.specs.Syntax.{SetPatternView, ExprView, Fits, FitsSetPattern, FitsSetPatterns, FitsSet, attribute_symbol, rank, spelling, spelling_set_pattern}
 use Rattle.filter_parser.specs.Syntax.{spelling_set_patterns, spelling_set}
-use Rattle.filter_parser.proofs.SoundWords.{attribute_first_found, set_pattern_sound}
+use Rattle.filter_parser.proofs.SoundWords.{an_attribute_found, set_pattern_sound}
 use Rattle.filter_parser.proofs.Steps.{bind_some, symbol_found, some_is, with_some_cases}
 
 -- more patterns after some, up to where no comma follows
@@ -27,10 +27,10 @@ no_more xs ws y e =
 -- one turn that went on
 set_pattern_turn : (xs : List SetPatternView) (ws : List Lexeme) (z : List SetPatternView × List Lexeme) → adds_set_pattern xs ws ≡ Some (Some z) →
     (x : SetPatternView) × (z.0 ≡ xs ++ (x ∷ [])) × FitsSetPattern x × (ws ≡ Lexeme.symbol symbols.Comma ∷ (spelling_set_pattern x ++ z.1))
-set_pattern_turn xs ws z e = elim (with_some_cases (after_symbol symbols.Comma ws) _ _ (Some z) e) [
+set_pattern_turn xs ws z e = elim (with_some_cases (symbol symbols.Comma ws) _ _ (Some z) e) [
   | inl p ↦ absurd (cc (p.1))
   | inr p ↦
-      let (x, first, e1) = bind_some (set_pattern_first p.0) _ (Some z) p.2 in
+      let (x, first, e1) = bind_some (a_set_pattern p.0) _ (Some z) p.2 in
       let a = set_pattern_sound p.0 x first in
       let b : (xs ++ (x.0 ∷ []), x.1) ≡ z = some_is (some_is e1) in
       let Q : (List SetPatternView × List Lexeme) → Type 0 =
@@ -67,7 +67,7 @@ record IsBehind (first : SetPatternView) (ws : List Lexeme) (x : List SetPattern
 after_sound : (first : SetPatternView) (ws : List Lexeme) (x : List SetPatternView × List Lexeme) → set_after_first first ws ≡ Some x → IsBehind first ws x
 after_sound first ws x e =
     let (y, e1, e2) = bind_some (set_patterns_from (first ∷ []) ws) _ x e in
-    let (rest, e3, e4) = bind_some (after_symbol symbols.RightBracket y.1) _ x e2 in
+    let (rest, e3, e4) = bind_some (symbol symbols.RightBracket y.1) _ x e2 in
     let g = set_patterns_sound _ (first ∷ []) ws y e1 in
     let Q : (List SetPatternView × List Lexeme) → Type 0 = IsBehind first ws in
     subst Q (some_is e4) (record {
@@ -84,7 +84,7 @@ pub record IsSet (ws : List Lexeme) (x : List SetPatternView × List Lexeme) : T
 
 pub set_sound : (ws : List Lexeme) (x : List SetPatternView × List Lexeme) → set_of ws ≡ Some x → IsSet ws x
 set_sound ws x e =
-    let (first, e1, e2) = bind_some (set_pattern_first ws) _ x e in
+    let (first, e1, e2) = bind_some (a_set_pattern ws) _ x e in
     let a = set_pattern_sound ws first e1 in
     let b = after_sound first.0 first.1 x e2 in
     let Q : List SetPatternView → Type 0 = λ xs. IsSet ws (xs, x.1) in
@@ -130,9 +130,9 @@ single_sound (Lexeme.name s) t e = let P : ExprView → Type 0 = IsWord (Lexeme.
 single_sound (Lexeme.symbol k) t e = keyword_sound k t e
 single_sound Lexeme.quote t e = absurd (cc)
 
-single_first_sound : (ws : List Lexeme) (x : ExprView × List Lexeme) → single_first ws ≡ Some x → IsAtom ws x
-single_first_sound [] x e = absurd (cc)
-single_first_sound (w ∷ ws) x e =
+a_single_sound : (ws : List Lexeme) (x : ExprView × List Lexeme) → a_single ws ≡ Some x → IsAtom ws x
+a_single_sound [] x e = absurd (cc)
+a_single_sound (w ∷ ws) x e =
     let (t, e1, e2) = bind_some (single_of w) _ x e in
     let a = single_sound w t e1 in
     let P : (ExprView × List Lexeme) → Type 0 = IsAtom (w ∷ ws) in
@@ -140,17 +140,17 @@ single_first_sound (w ∷ ws) x e =
 
 defined_sound : (ws : List Lexeme) (x : ExprView × List Lexeme) → defined_of ws ≡ Some x → IsAtom (Lexeme.symbol symbols.Defined ∷ ws) x
 defined_sound ws x e =
-    let (after, e1, e2) = bind_some (after_symbol symbols.LeftParen ws) _ x e in
-    let (a, e3, e4) = bind_some (attribute_first after) _ x e2 in
-    let (rest, e5, e6) = bind_some (after_symbol symbols.RightParen a.1) _ x e4 in
+    let (after, e1, e2) = bind_some (symbol symbols.LeftParen ws) _ x e in
+    let (a, e3, e4) = bind_some (an_attribute after) _ x e2 in
+    let (rest, e5, e6) = bind_some (symbol symbols.RightParen a.1) _ x e4 in
     let f : ws ≡ Lexeme.symbol symbols.LeftParen ∷ after = symbol_found symbols.LeftParen ws after e1 in
-    let g : after ≡ Lexeme.symbol (attribute_symbol a.0) ∷ a.1 = attribute_first_found after a e3 in
+    let g : after ≡ Lexeme.symbol (attribute_symbol a.0) ∷ a.1 = an_attribute_found after a e3 in
     let h : a.1 ≡ Lexeme.symbol symbols.RightParen ∷ rest = symbol_found symbols.RightParen a.1 rest e5 in
     let P : (ExprView × List Lexeme) → Type 0 = IsAtom (Lexeme.symbol symbols.Defined ∷ ws) in
     subst P (some_is e6) (record { spelled = cc; fits = λ d. tt; low = omega arith })
 
 pub atom_sound : (ws : List Lexeme) (x : ExprView × List Lexeme) → atom_of ws ≡ Some x → IsAtom ws x
-atom_sound ws x e = elim (with_some_cases (after_symbol symbols.Defined ws) _ _ x e) [
-  | inl p ↦ single_first_sound ws x p.1
+atom_sound ws x e = elim (with_some_cases (symbol symbols.Defined ws) _ _ x e) [
+  | inl p ↦ a_single_sound ws x p.1
   | inr p ↦ let Q : List Lexeme → Type 0 = λ v. IsAtom v x in subst Q (sym (symbol_found symbols.Defined ws p.0 p.1)) (defined_sound p.0 x p.2)
 ]

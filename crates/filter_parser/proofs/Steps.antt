@@ -5,7 +5,7 @@ use Rattle.filter_tokens.specs.Lexemes.{Lexeme}
 use Rattle.filter_tokens.specs.declared.symbol.Symbol.{Symbol}
 use Rattle.filter_tokens.specs.contracts.symbol.Symbol.{the_type}
 use Rattle.prefix_patterns.specs.Reading.{◌>>=◌}
-use Rattle.filter_parser.specs.Steps.{with_some, is_symbol, after_symbol}
+use Rattle.filter_parser.specs.Readers.{given, with_some, is_symbol, symbol}
 
 -- what two equal answers hold
 pub some_is : {A : Type 0} {x y : A} → Some x ≡ Some y → x ≡ y
@@ -15,6 +15,12 @@ some_is {x = x} {y = y} e = cc
 pub bind_some : {A B : Type 0} (r : Option A) (f : A → Option B) (y : B) → (r >>= f) ≡ Some y → (x : A) × (r ≡ Some x) × (f x ≡ Some y)
 bind_some None f y e = absurd (cc)
 bind_some (Some x) f y e = (x, refl, e)
+
+-- the same of a reader's two steps, where the first only looks at what was read
+pub bind_given : {A B : Type 0} (r : Option A) (ws : List Lexeme) (f : A × List Lexeme → Option B) (y : B) → (given r ws >>= f) ≡ Some y
+    → (x : A) × (r ≡ Some x) × (f (x, ws) ≡ Some y)
+bind_given None ws f y e = absurd (cc)
+bind_given (Some x) ws f y e = (x, refl, e)
 
 -- one of two ways was taken
 pub with_some_cases : {A B : Type 0} (r : Option A) (other : Option B) (f : A → Option B) (y : B) →
@@ -31,7 +37,7 @@ symbol_is m (Lexeme.prefix bits) e = absurd (cc)
 symbol_is m Lexeme.quote e = absurd (cc)
 
 -- what a symbol was found before
-pub symbol_found : (m : Symbol) (ws rest : List Lexeme) → after_symbol m ws ≡ Some rest → ws ≡ Lexeme.symbol m ∷ rest
+pub symbol_found : (m : Symbol) (ws rest : List Lexeme) → symbol m ws ≡ Some rest → ws ≡ Lexeme.symbol m ∷ rest
 symbol_found m [] rest e = absurd (cc)
 symbol_found m (w ∷ ws) rest e = go (is_symbol m w) refl e
   where
@@ -40,5 +46,5 @@ symbol_found m (w ∷ ws) rest e = go (is_symbol m w) refl e
     go false s h = absurd (cc)
 
 -- a symbol is found where it is
-pub symbol_there : (m : Symbol) (ws : List Lexeme) → after_symbol m (Lexeme.symbol m ∷ ws) ≡ Some ws
+pub symbol_there : (m : Symbol) (ws : List Lexeme) → symbol m (Lexeme.symbol m ∷ ws) ≡ Some ws
 symbol_there m ws = rw (true_same the_type m m refl) refl

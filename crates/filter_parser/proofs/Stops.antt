@@ -6,8 +6,8 @@ use Rattle.filter_tokens.specs.declared.symbol.Symbol.TheVariants as symbols
 use Rattle.filter_parser.specs.declared.expr_level.Level.{Level}
 use Rattle.filter_parser.specs.declared.tree.op.Op.{Op}
 use Rattle.filter_parser.specs.declared.tree.op.Op.TheVariants as o
-use Rattle.filter_parser.specs.Reading.{op_of, op_first}
-use Rattle.filter_parser.specs.Steps.{is_symbol, after_symbol}
+use Rattle.filter_parser.specs.Reading.{op_of, an_operator}
+use Rattle.filter_parser.specs.Readers.{is_symbol, symbol}
 use Rattle.filter_parser.specs.Syntax.{rank_of, op_symbol}
 use Rattle.filter_parser.proofs.Operators.{op_found, top}
 use Rattle.filter_parser.proofs.Steps.{symbol_is}
@@ -49,14 +49,14 @@ stops_less a b [] h s = tt
 stops_less a b (w ∷ ws) h s = omega arith
 
 -- a symbol is not there
-pub no_symbol : (k n : Symbol) (ws : List Lexeme) → (n ≡ k → ⊥) → after_symbol k (Lexeme.symbol n ∷ ws) ≡ None
+pub no_symbol : (k n : Symbol) (ws : List Lexeme) → (n ≡ k → ⊥) → symbol k (Lexeme.symbol n ∷ ws) ≡ None
 no_symbol k n ws other = go (is_symbol k (Lexeme.symbol n)) refl
   where
-    go : (b : Bool) → is_symbol k (Lexeme.symbol n) ≡ b → after_symbol k (Lexeme.symbol n ∷ ws) ≡ None
+    go : (b : Bool) → is_symbol k (Lexeme.symbol n) ≡ b → symbol k (Lexeme.symbol n ∷ ws) ≡ None
     go true s = absurd (other (let f : Lexeme.symbol n ≡ Lexeme.symbol k = symbol_is k (Lexeme.symbol n) s in cc))
     go false s = rw s refl
 
-pub dot_stops : (ws : List Lexeme) → Stops 0 ws → after_symbol symbols.Dot ws ≡ None
+pub dot_stops : (ws : List Lexeme) → Stops 0 ws → symbol symbols.Dot ws ≡ None
 dot_stops [] s = refl
 dot_stops (Lexeme.symbol k ∷ ws) s = no_symbol symbols.Dot k ws (λ e. let f : binds_symbol k ≡ 0 = ap binds_symbol e in omega arith)
 dot_stops (Lexeme.name text ∷ ws) s = refl
@@ -65,7 +65,7 @@ dot_stops (Lexeme.address a ∷ ws) s = refl
 dot_stops (Lexeme.prefix bits ∷ ws) s = refl
 dot_stops (Lexeme.quote ∷ ws) s = refl
 
-pub or_stops : (ws : List Lexeme) → Stops 6 ws → after_symbol symbols.Or ws ≡ None
+pub or_stops : (ws : List Lexeme) → Stops 6 ws → symbol symbols.Or ws ≡ None
 or_stops [] s = refl
 or_stops (Lexeme.symbol k ∷ ws) s = no_symbol symbols.Or k ws (λ e. let f : binds_symbol k ≡ 6 = ap binds_symbol e in omega arith)
 or_stops (Lexeme.name text ∷ ws) s = refl
@@ -92,11 +92,11 @@ binds_op_symbol o.And = refl
 binds_op_symbol o.Or = refl
 
 -- no operator of a level follows
-pub op_stops : (level : Level) (ws : List Lexeme) → Stops (top level) ws → op_first level ws ≡ None
+pub op_stops : (level : Level) (ws : List Lexeme) → Stops (top level) ws → an_operator level ws ≡ None
 op_stops level [] s = refl
 op_stops level (Lexeme.symbol k ∷ ws) s = go (op_of level k) refl
   where
-    go : (r : Option Op) → op_of level k ≡ r → op_first level (Lexeme.symbol k ∷ ws) ≡ None
+    go : (r : Option Op) → op_of level k ≡ r → an_operator level (Lexeme.symbol k ∷ ws) ≡ None
     go None e = rw e refl
     go (Some op) e =
         let a = op_found level k op e in

@@ -1,7 +1,7 @@
 -- Loops: some number of turns, which is enough for what is left to read.
 use Rattle.std.proofs.Common.{◌≡◌, refl, sym, ℕ, zero, suc, ◌<◌, ◌≤◌, List, [], ◌∷◌, length, Option, Some, None, arith}
 use Rattle.filter_tokens.specs.Lexemes.{Lexeme}
-use Rattle.filter_parser.specs.Reading.{turns}
+use Rattle.filter_parser.specs.Readers.{turns}
 
 -- a loop that has made so much, with so much left, will answer this
 pub record Goes {A : Type 0} (turn : A → List Lexeme → Option (Option (A × List Lexeme))) (x : A) (ws : List Lexeme)

@@ -1,5 +1,5 @@
 -- The places of the tokens of a text, and of a fault that is handed on.
-use Rattle.std.proofs.Common.{◌≡◌, ℕ, ◌<◌, ◌≤◌, List, [], ◌∷◌, length, Option, Some, None, sym, subst, arith}
+use Rattle.std.proofs.Common.{◌≡◌, ◌≢◌, ◌∙◌, ℕ, ◌<◌, ◌≤◌, List, [], ◌∷◌, length, Option, Some, None, sym, subst, arith}
 use Rattle.std.specs.Prelude.{IfSome, IsErr, IsErrAnd, MatchResult, Result, Ok, Err}
 use Rattle.filter_tokens.specs.Codes.{fault_place}
 use Rattle.filter_tokens.specs.Lexemes.{lexemes}
@@ -7,8 +7,9 @@ use Rattle.filter_tokens.specs.Tokenization.{AreInOrder}
 use Rattle.filter_tokens.specs.declared.fault.TokenFault.{TokenFault}
 use Rattle.filter_tokens.specs.declared.token.Token.{Token}
 use Rattle.filter_parser.specs.Codes.{LiesWithin}
-use Rattle.filter_parser.specs.Steps.{BeginWithin, EndsWithin, IsWithin, first_place, first_place_of, remaining}
+use Rattle.filter_parser.specs.Steps.{ReadsAs, BeginWithin, EndsWithin, IsWithin, first_place, first_place_of, remaining}
 use Rattle.filter_parser.specs.declared.fault.ParseFault.{ParseFault}
+use Rattle.filter_parser.specs.declared.fault.ParseFault.TheVariants as fault
 use Rattle.filter_parser.specs.declared.input.Input.{Input}
 
 order_ends : (from len : ℕ) (tokens : List Token) → AreInOrder from tokens len → from ≤ len
@@ -41,6 +42,12 @@ pub failed : {A : Type 0} (P : A → Type 0) (len : ℕ) (why : ParseFault) (r :
     → LiesWithin len why → MatchResult r P (LiesWithin len)
 failed P len why (Ok x) h k = absurd h.1
 failed P len why (Err e) h k = subst (LiesWithin len) (sym h.1) k
+
+-- a function that hands on a fault with a `?` reads nothing, where what it called read nothing
+pub unread : {X A : Type 0} (view : X → A) (why : ParseFault) (r : Result X ParseFault) (read : Option A) → IsErr r × IsErrAnd r (λ e. e ≡ why)
+    → (why ≢ fault.Memory → read ≡ None) → ReadsAs view r read
+unread view why (Ok x) read h k = absurd h.1
+unread view why (Err e) read h k = λ other. k (λ m. other (h.1 ∙ m))
 
 begins : (len end : ℕ) (text : List ℕ) (tokens : List Token) → BeginWithin len tokens → 0 < length (lexemes text tokens)
     → first_place_of end tokens < len

@@ -20,13 +20,10 @@ use Rattle.filter_parser.specs.declared.tree.op.Suffix.{Suffix}
 use Rattle.filter_parser.specs.declared.tree.op.Suffix.TheVariants as suffix
 use Rattle.filter_parser.specs.declared.tree.set.Set.{Set}
 use Rattle.filter_parser.specs.declared.tree.set.SetPattern.{SetPattern}
-use Rattle.prefix_patterns.specs.Reading.{◌>>=◌}
-use Rattle.filter_parser.specs.Steps.{remaining, with_some, after_symbol, after_name, number_first, prefix_first}
+use Rattle.filter_parser.specs.Readers.{Reader, Turn, ◌>>=◌, ◌>>◌, after◌then◌else◌, with◌then◌else◌, done, given, refused}
+use Rattle.filter_parser.specs.Readers.{again, stop, turns, symbol, word, a_number, a_prefix}
+use Rattle.filter_parser.specs.Steps.{remaining}
 use Rattle.filter_parser.specs.Syntax.{SetPatternView, ExprView, view, view_set_pattern}
-
--- what reads a thing of a kind, and leaves the lexemes after it
-abbrev pub Reader : Type 0 → Type 0
-Reader A = List Lexeme → Option (A × List Lexeme)
 
 -- what the program read, as the reading functions answer it
 abbrev pub read_of : Expr × Input → ExprView × List Lexeme
@@ -44,11 +41,6 @@ set_patterns_read_of x = (map view_set_pattern x.0.items, remaining x.1)
 abbrev pub set_read_of : Set × Input → List SetPatternView × List Lexeme
 set_read_of x = (map view_set_pattern x.0.patterns.items, remaining x.1)
 
--- turns of a loop, at most this many: a turn refuses, ends the loop, or goes on with what it made
-abbrev pub turns : {A : Type 0} → (A → List Lexeme → Option (Option (A × List Lexeme))) → ℕ → A → Reader A
-turns turn zero x ws = Some (x, ws)
-turns turn (suc n) x ws = turn x ws >>= λ r. with_some r (Some (x, ws)) (λ y. turns turn n y.0 y.1)
-
 -- the attribute that a keyword names
 abbrev pub attribute_of : Symbol → Option Attribute
 attribute_of symbols.Net = Some attributes.Net
@@ -56,10 +48,10 @@ attribute_of symbols.RipMetric = Some attributes.RipMetric
 attribute_of _ = None
 
 -- an attribute
-abbrev pub attribute_first : Reader Attribute
-attribute_first [] = None
-attribute_first (Lexeme.symbol k ∷ ws) = attribute_of k >>= λ a. Some (a, ws)
-attribute_first (_ ∷ ws) = None
+abbrev pub an_attribute : Reader Attribute
+an_attribute [] = None
+an_attribute (Lexeme.symbol k ∷ ws) = given (attribute_of k) ws
+an_attribute (_ ∷ ws) = None
 
 -- the operators of each level
 abbrev pub op_of : Level → Symbol → Option Op
@@ -84,15 +76,18 @@ op_of l.Or symbols.Or = Some o.Or
 op_of l.Or _ = None
 
 -- an operator of a level
-abbrev pub op_first : Level → Reader Op
-op_first level [] = None
-op_first level (Lexeme.symbol k ∷ ws) = op_of level k >>= λ op. Some (op, ws)
-op_first level (_ ∷ ws) = None
+abbrev pub an_operator : Level → Reader Op
+an_operator level [] = None
+an_operator level (Lexeme.symbol k ∷ ws) = given (op_of level k) ws
+an_operator level (_ ∷ ws) = None
 
 -- one operator of a level, and the operand at its right
-abbrev pub joins : Reader ExprView → Level → ExprView → List Lexeme → Option (Option (ExprView × List Lexeme))
-joins next level left ws =
-    with_some (op_first level ws) (Some None) (λ op. next op.1 >>= λ right. Some (Some (ExprView.binary op.0 left right.0, right.1)))
+abbrev pub joins : Reader ExprView → Level → Turn ExprView
+joins next level left =
+    with an_operator level then (λ op. do
+      right ← next
+      again (ExprView.binary op left right))
+    else stop
 
 -- a chain of a level's operators, after its first operand
 abbrev pub chain_from : Reader ExprView → Level → ExprView → Reader ExprView
@@ -104,23 +99,28 @@ mask_suffix n = if nat_le n 32 then Some (suffix.Mask n) else None
 
 -- what follows `.mask`
 abbrev pub mask_of : Reader Suffix
-mask_of ws =
-    after_symbol symbols.LeftParen ws >>= λ after. number_first after >>= λ n. mask_suffix n.0
-    >>= λ s. after_symbol symbols.RightParen n.1 >>= λ rest. Some (s, rest)
+mask_of = do
+  symbol symbols.LeftParen
+  n ← a_number
+  found ← given (mask_suffix n)
+  symbol symbols.RightParen
+  done found
 
 -- what follows a dot
 abbrev pub suffix_of : Reader Suffix
-suffix_of ws =
-    with_some (after_symbol symbols.Ip ws)
-    (with_some (after_name (codes "len") ws)
-    (after_name (codes "mask") ws >>= mask_of)
-    (λ rest. Some (suffix.Len, rest)))
-    (λ rest. Some (suffix.Ip, rest))
+suffix_of =
+    after symbol symbols.Ip then done suffix.Ip else
+    after word (codes "len") then done suffix.Len else do
+      word (codes "mask")
+      mask_of
 
 -- one suffix
-abbrev pub suffixes : ExprView → List Lexeme → Option (Option (ExprView × List Lexeme))
-suffixes inner ws =
-    with_some (after_symbol symbols.Dot ws) (Some None) (λ rest. suffix_of rest >>= λ s. Some (Some (ExprView.suffixed inner s.0, s.1)))
+abbrev pub suffixes : Turn ExprView
+suffixes inner =
+    after symbol symbols.Dot then (do
+      found ← suffix_of
+      again (ExprView.suffixed inner found))
+    else stop
 
 -- the suffixes of an operand
 abbrev pub suffixes_from : ExprView → Reader ExprView
@@ -132,26 +132,34 @@ between_of p low high = if nat_le low high && nat_le high 32 then Some (SetPatte
 
 -- the lengths of a pattern, after the `{`
 abbrev pub braces_of : List Bool → Reader SetPatternView
-braces_of p ws =
-    number_first ws >>= λ low. after_symbol symbols.Comma low.1 >>= λ comma. number_first comma
-    >>= λ high. after_symbol symbols.RightBrace high.1 >>= λ rest. between_of p low.0 high.0 >>= λ x. Some (x, rest)
+braces_of p = do
+  low ← a_number
+  symbol symbols.Comma
+  high ← a_number
+  symbol symbols.RightBrace
+  given (between_of p low high)
 
 -- what follows a pattern's prefix
 abbrev pub lengths_of : List Bool → Reader SetPatternView
-lengths_of p ws =
-    with_some (after_symbol symbols.Plus ws)
-    (with_some (after_symbol symbols.Minus ws)
-    (with_some (after_symbol symbols.LeftBrace ws) (Some (SetPatternView.exact p, ws)) (braces_of p))
-    (λ rest. Some (SetPatternView.or_shorter p, rest)))
-    (λ rest. Some (SetPatternView.or_longer p, rest))
+lengths_of p =
+    after symbol symbols.Plus then done (SetPatternView.or_longer p) else
+    after symbol symbols.Minus then done (SetPatternView.or_shorter p) else
+    after symbol symbols.LeftBrace then braces_of p else
+    done (SetPatternView.exact p)
 
 -- a pattern
-abbrev pub set_pattern_first : Reader SetPatternView
-set_pattern_first ws = prefix_first ws >>= λ p. lengths_of p.0 p.1
+abbrev pub a_set_pattern : Reader SetPatternView
+a_set_pattern = do
+  p ← a_prefix
+  lengths_of p
 
 -- one more pattern of a set
-abbrev pub adds_set_pattern : List SetPatternView → List Lexeme → Option (Option (List SetPatternView × List Lexeme))
-adds_set_pattern xs ws = with_some (after_symbol symbols.Comma ws) (Some None) (λ rest. set_pattern_first rest >>= λ x. Some (Some (xs ++ (x.0 ∷ []), x.1)))
+abbrev pub adds_set_pattern : Turn (List SetPatternView)
+adds_set_pattern xs =
+    after symbol symbols.Comma then (do
+      x ← a_set_pattern
+      again (xs ++ (x ∷ [])))
+    else stop
 
 -- the patterns of a set, after the first
 abbrev pub set_patterns_from : List SetPatternView → Reader (List SetPatternView)
@@ -159,17 +167,24 @@ set_patterns_from xs ws = turns adds_set_pattern (length ws) xs ws
 
 -- a set, after its first pattern
 abbrev pub set_after_first : SetPatternView → Reader (List SetPatternView)
-set_after_first first ws = set_patterns_from (first ∷ []) ws >>= λ xs. after_symbol symbols.RightBracket xs.1 >>= λ rest. Some (xs.0, rest)
+set_after_first first = do
+  xs ← set_patterns_from (first ∷ [])
+  symbol symbols.RightBracket
+  done xs
 
 -- a set, after its `[`
 abbrev pub set_of : Reader (List SetPatternView)
-set_of ws = set_pattern_first ws >>= λ first. set_after_first first.0 first.1
+set_of = do
+  first ← a_set_pattern
+  set_after_first first
 
 -- what follows `defined`
 abbrev pub defined_of : Reader ExprView
-defined_of ws =
-    after_symbol symbols.LeftParen ws >>= λ after. attribute_first after
-    >>= λ a. after_symbol symbols.RightParen a.1 >>= λ rest. Some (ExprView.defined a.0, rest)
+defined_of = do
+  symbol symbols.LeftParen
+  a ← an_attribute
+  symbol symbols.RightParen
+  done (ExprView.defined a)
 
 -- the expression that a keyword is
 abbrev pub keyword_of : Symbol → Option ExprView
@@ -189,45 +204,57 @@ single_of (Lexeme.symbol k) = keyword_of k
 single_of Lexeme.quote = None
 
 -- an expression of one lexeme
-abbrev pub single_first : Reader ExprView
-single_first [] = None
-single_first (w ∷ ws) = single_of w >>= λ t. Some (t, ws)
+abbrev pub a_single : Reader ExprView
+a_single [] = None
+a_single (w ∷ ws) = given (single_of w) ws
 
 -- an operand without parentheses
 abbrev pub atom_of : Reader ExprView
-atom_of ws = with_some (after_symbol symbols.Defined ws) (single_first ws) defined_of
+atom_of = after symbol symbols.Defined then defined_of else a_single
 
 -- the `)` after an expression in parentheses
 abbrev pub group_end : ExprView → Reader ExprView
-group_end inner ws = after_symbol symbols.RightParen ws >>= λ rest. Some (ExprView.group inner, rest)
+group_end inner = do
+  symbol symbols.RightParen
+  done (ExprView.group inner)
 
 -- an operand in parentheses, after the `(`
 abbrev pub group_with : Reader ExprView → Reader ExprView
-group_with expr ws = expr ws >>= λ x. group_end x.0 x.1
+group_with expr = do
+  inner ← expr
+  group_end inner
 
 -- an operand
 abbrev pub primary_with : Reader ExprView → Reader ExprView
-primary_with expr ws = with_some (after_symbol symbols.LeftParen ws) (atom_of ws) (group_with expr)
+primary_with expr = after symbol symbols.LeftParen then group_with expr else atom_of
 
 -- an operand and its suffixes
 abbrev pub postfix_with : Reader ExprView → Reader ExprView
-postfix_with expr ws = primary_with expr ws >>= λ x. suffixes_from x.0 x.1
+postfix_with expr = do
+  inner ← primary_with expr
+  suffixes_from inner
 
 -- an operand, after its `!`
 abbrev pub not_with : Reader ExprView → Reader ExprView
-not_with unary ws = unary ws >>= λ x. Some (ExprView.negation x.0, x.1)
+not_with unary = do
+  inner ← unary
+  done (ExprView.negation inner)
 
 -- an operand, with any `!` before it
 abbrev pub unary_with : Reader ExprView → Reader ExprView → Reader ExprView
-unary_with expr unary ws = with_some (after_symbol symbols.Not ws) (postfix_with expr ws) (not_with unary)
+unary_with expr unary = after symbol symbols.Not then not_with unary else postfix_with expr
 
 -- a product, or its one operand
 abbrev pub product_with : Reader ExprView → Reader ExprView
-product_with unary ws = unary ws >>= λ first. chain_from unary l.Product first.0 first.1
+product_with unary = do
+  first ← unary
+  chain_from unary l.Product first
 
 -- a sum, or its one operand
 abbrev pub sum_with : Reader ExprView → Reader ExprView
-sum_with unary ws = product_with unary ws >>= λ first. chain_from (product_with unary) l.Sum first.0 first.1
+sum_with unary = do
+  first ← product_with unary
+  chain_from (product_with unary) l.Sum first
 
 -- the operator before a set
 abbrev pub membership_of : Op → Option Membership
@@ -235,25 +262,31 @@ membership_of o.Match = Some membership.In
 membership_of o.NotMatch = Some membership.NotIn
 membership_of _ = None
 
--- the `[` of a set, after such a operator
+-- the `[` of a set, after such an operator
 abbrev pub set_opening : Op → Reader Membership
-set_opening op ws = membership_of op >>= λ k. after_symbol symbols.LeftBracket ws >>= λ rest. Some (k, rest)
+set_opening op = do
+  k ← given (membership_of op)
+  symbol symbols.LeftBracket
+  done k
 
 -- an operand's set
 abbrev pub member_of : ExprView → Membership → Reader ExprView
-member_of left k ws = set_of ws >>= λ xs. Some (ExprView.member k left xs.0, xs.1)
+member_of left k = do
+  xs ← set_of
+  done (ExprView.member k left xs)
 
 -- what follows a comparison operator
 abbrev pub right_operand_with : Reader ExprView → ExprView → Op → Reader ExprView
-right_operand_with sum left op ws =
-    with_some (set_opening op ws)
-    (sum ws >>= λ right. Some (ExprView.binary op left right.0, right.1))
-    (λ k. member_of left k.0 k.1)
+right_operand_with sum left op =
+    with set_opening op then member_of left else do
+      right ← sum
+      done (ExprView.binary op left right)
 
 -- a sum, or a comparison
 abbrev pub comparison_with : Reader ExprView → Reader ExprView
-comparison_with unary ws =
-    sum_with unary ws >>= λ left. with_some (op_first l.Comparison left.1) (Some left) (λ op. right_operand_with (sum_with unary) left.0 op.0 op.1)
+comparison_with unary = do
+  left ← sum_with unary
+  with an_operator l.Comparison then right_operand_with (sum_with unary) left else done left
 
 -- the kind of a chain, by whether its first operator is `||`
 abbrev pub level_by : Option (List Lexeme) → Level
@@ -262,16 +295,25 @@ level_by (Some ws) = l.Or
 
 -- the kind of a chain, by what follows its first operand
 abbrev pub level_of : List Lexeme → Level
-level_of ws = level_by (after_symbol symbols.Or ws)
+level_of ws = level_by (symbol symbols.Or ws)
+
+-- a chain of `&&` or of `||`, after its first operand
+abbrev pub join_from : Reader ExprView → ExprView → Reader ExprView
+join_from comparison first ws = chain_from comparison (level_of ws) first ws
 
 -- what was read, where no operator of the other kind follows
-abbrev pub unmixed : ExprView × List Lexeme → Option (ExprView × List Lexeme)
-unmixed x = with_some (op_first l.And x.1) (with_some (op_first l.Or x.1) (Some x) (λ _. None)) (λ _. None)
+abbrev pub unmixed : ExprView → Reader ExprView
+unmixed x =
+    with an_operator l.And then (λ _. refused) else
+    with an_operator l.Or then (λ _. refused) else
+    done x
 
 -- an expression
 abbrev pub expr_with : Reader ExprView → Reader ExprView
-expr_with unary ws =
-    comparison_with unary ws >>= λ first. chain_from (comparison_with unary) (level_of first.1) first.0 first.1 >>= unmixed
+expr_with unary = do
+  first ← comparison_with unary
+  whole ← join_from (comparison_with unary) first
+  unmixed whole
 
 -- the operands of a level's operators
 abbrev pub next_with : Reader ExprView → Level → Reader ExprView
@@ -283,11 +325,7 @@ next_with unary l.Or = comparison_with unary
 
 -- a chain after its first operand, where this many more levels may nest
 abbrev pub chain_with : Reader ExprView → Level → ExprView → Reader ExprView
-chain_with unary level left ws = chain_from (next_with unary level) level left ws
-
--- nothing
-abbrev pub refused : Reader ExprView
-refused ws = None
+chain_with unary level left = chain_from (next_with unary level) level left
 
 -- an operand where this many more levels may nest
 unfoldable pub unary_at : ℕ → Reader ExprView

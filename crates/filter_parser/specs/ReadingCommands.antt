@@ -11,9 +11,10 @@ use Rattle.filter_parser.specs.declared.parts.Parts.{Parts}
 use Rattle.filter_parser.specs.declared.tree.command.Command.{Command}
 use Rattle.filter_parser.specs.declared.tree.decl.Kind.{Kind}
 use Rattle.filter_parser.specs.declared.tree.decl.Kind.TheVariants as kind
-use Rattle.filter_parser.specs.Reading.{Reader, expr_at, turns}
-use Rattle.prefix_patterns.specs.Reading.{◌>>=◌}
-use Rattle.filter_parser.specs.Steps.{remaining, with_some, after_symbol, after_quote}
+use Rattle.filter_parser.specs.Readers.{Reading, Reader, Turn, ◌>>=◌, ◌>>◌, after◌then◌else◌, with◌then◌else◌, done, given, refused}
+use Rattle.filter_parser.specs.Readers.{again, stop, turns, symbol, quote, a_name}
+use Rattle.filter_parser.specs.Reading.{expr_at}
+use Rattle.filter_parser.specs.Steps.{remaining}
 use Rattle.filter_parser.specs.Syntax.{ExprView, nesting_limit}
 use Rattle.filter_parser.specs.SyntaxCommands.{TargetView, CommandView, CommandsView, DeclView, commands_of, view_command, view_decl}
 
@@ -27,15 +28,17 @@ body_read_of x = (commands_of (map view_command x.0.items), remaining x.1)
 
 -- the text, if there is one, and the `;`
 abbrev pub end_of : Reader Bool
-end_of ws =
-    with_some (after_quote ws)
-    (after_symbol symbols.Semicolon ws >>= λ rest. Some (false, rest))
-    (λ after. after_symbol symbols.Semicolon after >>= λ rest. Some (true, rest))
+end_of =
+    after quote then (do symbol symbols.Semicolon; done true)
+    else (do symbol symbols.Semicolon; done false)
 
 -- `= e ;`
 abbrev pub assign_with : Reader ExprView → TargetView → Reader CommandView
-assign_with expr target ws =
-    after_symbol symbols.Equal ws >>= λ value. expr value >>= λ x. after_symbol symbols.Semicolon x.1 >>= λ rest. Some (CommandView.assign target x.0, rest)
+assign_with expr target = do
+  symbol symbols.Equal
+  value ← expr
+  symbol symbols.Semicolon
+  done (CommandView.assign target value)
 
 -- what an assignment sets that begins with this token, a name
 abbrev pub target_of : List ℕ → Token → TargetView
@@ -43,11 +46,12 @@ target_of text token = TargetView.to_name (covered text token)
 
 -- commands up to a `}`, at most this many
 abbrev pub commands_from : Reader CommandView → ℕ → Reader CommandsView
-commands_from command zero ws = None
-commands_from command (suc n) ws =
-    with_some (after_symbol symbols.RightBrace ws)
-    (command ws >>= λ first. commands_from command n first.1 >>= λ more. Some (CommandsView.command_then first.0 more.0, more.1))
-    (λ rest. Some (CommandsView.no_commands, rest))
+commands_from command zero = refused
+commands_from command (suc n) =
+    after symbol symbols.RightBrace then done CommandsView.no_commands else do
+      first ← command
+      more ← commands_from command n
+      done (CommandsView.command_then first more)
 
 -- commands up to a `}`
 unfoldable pub commands_with : Reader CommandView → Reader CommandsView
@@ -55,41 +59,48 @@ commands_with command ws = commands_from command (suc (length ws)) ws
 
 -- a block, after its `{`
 abbrev pub block_with : Reader CommandView → Reader CommandView
-block_with command ws = commands_with command ws >>= λ body. Some (CommandView.block body.0, body.1)
+block_with command = do
+  body ← commands_with command
+  done (CommandView.block body)
 
 -- what follows the first command of an `if`
 abbrev pub else_with : Reader CommandView → ExprView → CommandView → Reader CommandView
-else_with command test chosen ws =
-    with_some (after_symbol symbols.Else ws) (Some (CommandView.if_then test chosen, ws))
-    (λ after. command after >>= λ other. Some (CommandView.if_else test chosen other.0, other.1))
+else_with command test chosen =
+    after symbol symbols.Else then (do
+      other ← command
+      done (CommandView.if_else test chosen other))
+    else done (CommandView.if_then test chosen)
 
 -- an `if`, after that word
 abbrev pub if_with : Reader ExprView → Reader CommandView → Reader CommandView
-if_with expr command ws =
-    expr ws >>= λ test. after_symbol symbols.Then test.1 >>= λ after. command after >>= λ chosen. else_with command test.0 chosen.0 chosen.1
+if_with expr command = do
+  test ← expr
+  symbol symbols.Then
+  chosen ← command
+  else_with command test chosen
 
 -- what follows `accept`
 abbrev pub accepts : Reader CommandView
-accepts ws = end_of ws >>= λ x. Some (CommandView.accept x.0, x.1)
+accepts = do
+  has_text ← end_of
+  done (CommandView.accept has_text)
 
 -- what follows `reject`
 abbrev pub rejects : Reader CommandView
-rejects ws = end_of ws >>= λ x. Some (CommandView.reject x.0, x.1)
-
--- nothing
-abbrev pub refuses : {A : Type 0} → Reader A
-refuses ws = None
+rejects = do
+  has_text ← end_of
+  done (CommandView.reject has_text)
 
 -- a command that a symbol begins
 abbrev pub command_by : Reader ExprView → Reader CommandView → Reader CommandView → Symbol → Reader CommandView
-command_by expr block if_then symbols.Semicolon ws = Some (CommandView.empty, ws)
-command_by expr block if_then symbols.LeftBrace ws = block ws
-command_by expr block if_then symbols.If ws = if_then ws
-command_by expr block if_then symbols.Accept ws = accepts ws
-command_by expr block if_then symbols.Reject ws = rejects ws
-command_by expr block if_then symbols.RipMetric ws = assign_with expr TargetView.to_metric ws
-command_by expr block if_then symbols.Net ws = assign_with expr TargetView.to_net ws
-command_by expr block if_then _ ws = None
+command_by expr block if_then symbols.Semicolon = done CommandView.empty
+command_by expr block if_then symbols.LeftBrace = block
+command_by expr block if_then symbols.If = if_then
+command_by expr block if_then symbols.Accept = accepts
+command_by expr block if_then symbols.Reject = rejects
+command_by expr block if_then symbols.RipMetric = assign_with expr TargetView.to_metric
+command_by expr block if_then symbols.Net = assign_with expr TargetView.to_net
+command_by expr block if_then _ = refused
 
 -- a command, by its first lexeme
 abbrev pub command_with : Reader ExprView → Reader CommandView → Reader CommandView → Reader CommandView
@@ -103,17 +114,17 @@ command_with expr block if_then (Lexeme.symbol k ∷ ws) = command_by expr block
 
 -- a command where this many more levels may nest
 unfoldable pub command_at : ℕ → Reader CommandView
-command_at zero = command_with (expr_at zero) refuses refuses
+command_at zero = command_with (expr_at zero) refused refused
 command_at (suc depth) = command_with (expr_at (suc depth)) (block_with (command_at depth)) (if_with (expr_at depth) (command_at depth))
 
 -- a block where this many more levels may nest, this one included
 abbrev pub block_at : ℕ → Reader CommandView
-block_at zero = refuses
+block_at zero = refused
 block_at (suc depth) = block_with (command_at depth)
 
 -- an `if` where this many more levels may nest, this one included
 abbrev pub if_at : ℕ → Reader CommandView
-if_at zero = refuses
+if_at zero = refused
 if_at (suc depth) = if_with (expr_at depth) (command_at depth)
 
 -- the kind that a keyword names
@@ -125,25 +136,25 @@ kind_of symbols.Prefix = Some kind.Prefix
 kind_of _ = None
 
 -- a kind's keyword
-abbrev pub kind_first : Reader Kind
-kind_first [] = None
-kind_first (Lexeme.symbol k ∷ ws) = kind_of k >>= λ kind. Some (kind, ws)
-kind_first (_ ∷ ws) = None
-
--- a name
-abbrev pub name_first : Reader (List ℕ)
-name_first [] = None
-name_first (Lexeme.name text ∷ ws) = Some (text, ws)
-name_first (_ ∷ ws) = None
+abbrev pub a_kind : Reader Kind
+a_kind [] = None
+a_kind (Lexeme.symbol k ∷ ws) = given (kind_of k) ws
+a_kind (_ ∷ ws) = None
 
 -- a declaration, after its kind
 abbrev pub decl_with : Kind → Reader DeclView
-decl_with k ws =
-    name_first ws >>= λ name. after_symbol symbols.Semicolon name.1 >>= λ rest. Some (record { kind = k; name = name.0 }, rest)
+decl_with k = do
+  name ← a_name
+  symbol symbols.Semicolon
+  done (record { kind = k; name = name })
 
 -- one more declaration, if one begins here
-abbrev pub decl_turn : List DeclView → List Lexeme → Option (Option (List DeclView × List Lexeme))
-decl_turn front ws = with_some (kind_first ws) (Some None) (λ k. decl_with k.0 k.1 >>= λ d. Some (Some (front ++ d.0 ∷ [], d.1)))
+abbrev pub decl_turn : Turn (List DeclView)
+decl_turn front =
+    with a_kind then (λ k. do
+      d ← decl_with k
+      again (front ++ d ∷ []))
+    else stop
 
 -- declarations, as many as there are, after others
 unfoldable pub decls_after : List DeclView → Reader (List DeclView)
@@ -156,20 +167,25 @@ pub record PartsView : Type 0 where
   pub body : CommandsView
 
 -- what was read, where nothing is left
-abbrev pub nothing_after : {A : Type 0} → A → List Lexeme → Option A
+abbrev pub nothing_after : {A : Type 0} → A → Reading A
 nothing_after x [] = Some x
 nothing_after x (w ∷ ws) = None
 
 -- a body from its `{` on, after a name and declarations, and nothing after it
-abbrev pub body_of : List ℕ → List DeclView → List Lexeme → Option PartsView
-body_of name head ws =
-    after_symbol symbols.LeftBrace ws >>= λ after. decls_after head after >>= λ all. commands_with (command_at nesting_limit) all.1
-    >>= λ body. nothing_after (record { name = name; decls = all.0; body = body.0 }) body.1
+abbrev pub body_of : List ℕ → List DeclView → Reading PartsView
+body_of name head = do
+  symbol symbols.LeftBrace
+  decls ← decls_after head
+  body ← commands_with (command_at nesting_limit)
+  nothing_after (record { name = name; decls = decls; body = body })
 
 -- a filter, and nothing after it
-abbrev pub filter_of : List Lexeme → Option PartsView
-filter_of ws =
-    after_symbol symbols.Filter ws >>= λ after. name_first after >>= λ name. decls_after [] name.1 >>= λ head. body_of name.0 head.0 head.1
+abbrev pub filter_of : Reading PartsView
+filter_of = do
+  symbol symbols.Filter
+  name ← a_name
+  head ← decls_after []
+  body_of name head
 
 -- what the program's parts of a filter say
 abbrev pub view_parts : Parts → PartsView

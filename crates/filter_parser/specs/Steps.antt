@@ -1,11 +1,7 @@
--- The parser's steps on lists of lexemes: what is read first, and what is left. Nothing that is published cites them.
-use Rattle.std.specs.Prelude.{◌≡◌, ◌≢◌, ℕ, ◌<◌, ⊤, Bool, false, List, [], ◌∷◌, ◌++◌, length, map, Option, Some, None, Result, Ok, Err, MatchResult, nat_eq, if◌then◌else◌}
-use Rattle.std.specs.Cmp.Lexicographic.{pointwise}
-use denote.Enum.Bare.{sameb}
+-- What the functions of the parser say of what they read, of its places and of its faults. Nothing that is published cites it.
+use Rattle.std.specs.Prelude.{◌≡◌, ◌≢◌, ℕ, ◌<◌, ⊤, List, [], ◌∷◌, ◌++◌, length, map, Option, Some, None, Result, Ok, Err, MatchResult}
 use Rattle.filter_tokens.specs.Codes.{fault_place as token_fault_place}
 use Rattle.filter_tokens.specs.Lexemes.{Lexeme, lexemes}
-use Rattle.filter_tokens.specs.declared.symbol.Symbol.{Symbol}
-use Rattle.filter_tokens.specs.contracts.symbol.Symbol.{the_type}
 use Rattle.filter_tokens.specs.declared.token.Token.{Token}
 use Rattle.filter_tokens.specs.declared.fault.TokenFault.{TokenFault}
 use Rattle.filter_tokens.specs.declared.token_kind.TokenKind.{TokenKind}
@@ -84,11 +80,6 @@ abbrev pub StaysWithinAfter : {X : Type 0} → ℕ → Input → Result (X × In
 StaysWithinAfter at input result =
     (len : ℕ) → at < len → IsWithin len input → MatchResult result (λ x. IsWithin len x.1) (LiesWithin len)
 
--- one step if there is a first, and another one otherwise
-abbrev pub with_some : {A B : Type 0} → Option A → Option B → (A → Option B) → Option B
-with_some None other later = other
-with_some (Some x) other later = later x
-
 -- a function of the program answers as the reading function does, or for refused memory
 abbrev pub ReadsAs : {X A : Type 0} → (X → A) → Result X ParseFault → Option A → Type 0
 ReadsAs view (Ok x) read = read ≡ Some (view x)
@@ -116,52 +107,3 @@ unexpected_of none (token ∷ tokens) wanted = unexpected_token token.kind token
 
 abbrev pub unexpected : Input → Expected → ParseFault
 unexpected i wanted = unexpected_of (end_fault_of (length i.source.now.text.now) i.source.now.end) i.tokens.now wanted
-
--- whether two symbols are the same
-abbrev pub same_symbol : Symbol → Symbol → Bool
-same_symbol = sameb the_type
-
--- whether a lexeme is a symbol
-abbrev pub is_symbol : Symbol → Lexeme → Bool
-is_symbol wanted (Lexeme.symbol m) = same_symbol wanted m
-is_symbol wanted (Lexeme.name text) = false
-is_symbol wanted (Lexeme.number n) = false
-is_symbol wanted (Lexeme.address a) = false
-is_symbol wanted (Lexeme.prefix bits) = false
-is_symbol wanted Lexeme.quote = false
-
--- what follows a symbol
-abbrev pub after_symbol : Symbol → List Lexeme → Option (List Lexeme)
-after_symbol wanted [] = None
-after_symbol wanted (w ∷ ws) = if is_symbol wanted w then Some ws else None
-
--- what follows a text in quotes
-abbrev pub after_quote : List Lexeme → Option (List Lexeme)
-after_quote (Lexeme.quote ∷ ws) = Some ws
-after_quote _ = None
-
--- whether a lexeme is a name that is this word
-abbrev pub is_word : List ℕ → Lexeme → Bool
-is_word wanted (Lexeme.name text) = pointwise nat_eq text wanted
-is_word wanted (Lexeme.symbol k) = false
-is_word wanted (Lexeme.number n) = false
-is_word wanted (Lexeme.address a) = false
-is_word wanted (Lexeme.prefix bits) = false
-is_word wanted Lexeme.quote = false
-
--- what follows a name that is this word
-abbrev pub after_name : List ℕ → List Lexeme → Option (List Lexeme)
-after_name wanted [] = None
-after_name wanted (w ∷ ws) = if is_word wanted w then Some ws else None
-
--- a number
-abbrev pub number_first : List Lexeme → Option (ℕ × List Lexeme)
-number_first [] = None
-number_first (Lexeme.number n ∷ ws) = Some (n, ws)
-number_first (_ ∷ ws) = None
-
--- a prefix
-abbrev pub prefix_first : List Lexeme → Option (List Bool × List Lexeme)
-prefix_first [] = None
-prefix_first (Lexeme.prefix p ∷ ws) = Some (p, ws)
-prefix_first (_ ∷ ws) = None

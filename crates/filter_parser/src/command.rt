@@ -110,6 +110,7 @@ fn parse_else<'a>(
 
 /// An `if`, after that word.
 #[cycle(command)]
+#[tactic(auto, using(crate::proofs::Bodies::if_is))]
 fn parse_if<'a>(
     alloc: Global,
     depth: usize,

@@ -2,6 +2,7 @@
 
 ghost use Rattle.std.specs.Prelude.{◌≡◌, ◌∷◌, ◌<◌, ◌≤◌, [], length, map, Some, None, IfOk, IfSome};
 ghost use Rattle.filter_parser.specs.Placed.{decl_kept};
+ghost use Rattle.filter_parser.specs.Readers.{a_name};
 ghost use Rattle.filter_parser.specs.ReadingCommands as spec;
 ghost use Rattle.filter_parser.specs.Steps.{Continues, Finds, Follows, Grown, LeavesWithin, ReadsAs, Spans, StaysWithin, first_place, remaining};
 ghost use Rattle.filter_parser.specs.SyntaxCommands.{view_decl};
@@ -28,7 +29,7 @@ fn kind_of(symbol: Symbol) -> Option<Kind>
 
 /// The kind with which a declaration begins, if one comes first.
 fn eat_kind<'a>(input: Input<'a>) -> Option<(Kind, Input<'a>)>
-    ensures found { Finds (λ x. (x.0, remaining x.1)) result (spec.kind_first (remaining input.entry)) }
+    ensures found { Finds (λ x. (x.0, remaining x.1)) result (spec.a_kind (remaining input.entry)) }
     ensures shorter { IfSome result (λ x. length (remaining x.1) < length (remaining input.entry)) }
     ensures placed { IfSome result (λ x. Spans (Some (first_place input.entry) ∷ []) input.entry x.1) }
     ensures within { IfSome result (λ x. Follows input.entry x.1) }
@@ -48,7 +49,7 @@ pub fn parse_name<'a>(
     alloc: Global,
     input: Input<'a>,
 ) -> Result<(usize, Vec<u8>, Input<'a>), ParseFault>
-    ensures reads { ReadsAs (λ x. (x.1.items, remaining x.2)) result (spec.name_first (remaining input.entry)) }
+    ensures reads { ReadsAs (λ x. (x.1.items, remaining x.2)) result (a_name (remaining input.entry)) }
     ensures shorter { IfOk result (λ x. length (remaining x.2) < length (remaining input.entry)) }
     ensures placed { IfOk result (λ x. Spans (Some x.0 ∷ []) input.entry x.2) }
     ensures within { LeavesWithin (λ x. x.2) input.entry result }

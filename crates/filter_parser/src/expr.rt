@@ -20,7 +20,7 @@ use std::alloc::Global;
 
 /// An expression that was read, where no operator of the other kind of chain follows it.
 fn unmixed<'a>(whole: Expr, rest: Input<'a>) -> Result<(Expr, Input<'a>), ParseFault>
-    ensures reads { ReadsAs spec.read_of result (spec.unmixed (view whole, remaining rest.entry)) }
+    ensures reads { ReadsAs spec.read_of result (spec.unmixed (view whole) (remaining rest.entry)) }
     ensures same { IfOk result (λ x. length (remaining x.1) ≤ length (remaining rest.entry)) }
     ensures placed { IfOk result (λ x. Continues (expr_kept whole) (expr_kept x.0) rest.entry x.1) }
     ensures within { StaysWithin rest.entry result }

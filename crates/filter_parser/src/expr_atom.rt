@@ -25,7 +25,7 @@ fn attribute_of(symbol: Symbol) -> Option<Attribute>
 
 /// An attribute that has to come first, and what is left after it.
 fn parse_attribute<'a>(input: Input<'a>) -> Result<(Attribute, Input<'a>), ParseFault>
-    ensures reads { ReadsAs (λ x. (x.0, remaining x.1)) result (spec.attribute_first (remaining input.entry)) }
+    ensures reads { ReadsAs (λ x. (x.0, remaining x.1)) result (spec.an_attribute (remaining input.entry)) }
     ensures shorter { IfOk result (λ x. length (remaining x.1) < length (remaining input.entry)) }
     ensures placed { IfOk result (λ x. Spans (Some (first_place input.entry) ∷ []) input.entry x.1) }
     ensures within { StaysWithin input.entry result }
@@ -71,7 +71,7 @@ fn keyword_expr(at: usize, symbol: Symbol) -> Option<Expr>
 
 /// An expression of one token.
 fn parse_single<'a>(alloc: Global, input: Input<'a>) -> Result<(Expr, Input<'a>), ParseFault>
-    ensures reads { ReadsAs spec.read_of result (spec.single_first (remaining input.entry)) }
+    ensures reads { ReadsAs spec.read_of result (spec.a_single (remaining input.entry)) }
     ensures shorter { IfOk result (λ x. length (remaining x.1) < length (remaining input.entry)) }
     ensures placed { IfOk result (λ x. Spans (expr_kept x.0) input.entry x.1) }
     ensures within { StaysWithin input.entry result }

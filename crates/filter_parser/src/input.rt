@@ -1,6 +1,7 @@
 ghost use Rattle.std.specs.Prelude.{◌≡◌, ◌≢◌, ◌∷◌, ◌<◌, ℕ, List, [], Some, None, IfErr, IfOk, IfSome, MatchOption, length};
 ghost use Rattle.std.specs.Cmp.Lexicographic.{pointwise};
 ghost use Rattle.filter_tokens.specs.Lexemes as lexemes;
+ghost use Rattle.filter_parser.specs.Readers as readers;
 ghost use Rattle.filter_parser.specs.Steps as spec;
 ghost use Rattle.filter_parser.specs.declared.fault.ParseFault.TheVariants.{Memory};
 
@@ -30,7 +31,7 @@ pub struct Input<'a> {
 
 /// Whether a token is a symbol.
 fn is_symbol(token: &Token, text: &[u8], symbol: Symbol) -> bool
-    ensures { result ≡ spec.is_symbol symbol (lexemes.lexeme text.now token.now) }
+    ensures { result ≡ readers.is_symbol symbol (lexemes.lexeme text.now token.now) }
 {
     match &token.kind {
         TokenKind::Symbol(found) => symbol == *found,
@@ -39,8 +40,7 @@ fn is_symbol(token: &Token, text: &[u8], symbol: Symbol) -> bool
 }
 
 impl<'a> Input<'a> {
-    ghost use Rattle.filter_parser.specs.Steps.{FailsWithin, Finds, Follows, LeavesWithin, ReadsAs, Spans, StaysWithin, after_symbol, after_name, after_quote, first_place, remaining};
-    ghost use Rattle.filter_parser.specs.Steps.{number_first, prefix_first};
+    ghost use Rattle.filter_parser.specs.Steps.{FailsWithin, Finds, Follows, LeavesWithin, ReadsAs, Spans, StaysWithin, first_place, remaining};
 
     /// The first token, and what is left after it.
     pub fn next(self) -> Option<(&'a Token, Input<'a>)>
@@ -99,7 +99,7 @@ impl<'a> Input<'a> {
 
     /// What is left after a symbol, if that comes first.
     pub fn eat(self, symbol: Symbol) -> Option<Input<'a>>
-        ensures found { Finds remaining result (after_symbol symbol (remaining self.entry)) }
+        ensures found { Finds remaining result (readers.symbol symbol (remaining self.entry)) }
         ensures placed { IfSome result (λ rest. Spans (Some (first_place self.entry) ∷ []) self.entry rest) }
         ensures within { IfSome result (Follows self.entry) }
         ensures shorter { IfSome result (λ rest. length (remaining rest) < length (remaining self.entry)) }
@@ -114,7 +114,7 @@ impl<'a> Input<'a> {
 
     /// What is left after a symbol that has to come first.
     pub fn expect(self, symbol: Symbol, expected: Expected) -> Result<Input<'a>, ParseFault>
-        ensures reads { ReadsAs remaining result (after_symbol symbol (remaining self.entry)) }
+        ensures reads { ReadsAs remaining result (readers.symbol symbol (remaining self.entry)) }
         ensures shorter { IfOk result (λ rest. length (remaining rest) < length (remaining self.entry)) }
         ensures placed { IfOk result (λ rest. Spans (Some (first_place self.entry) ∷ []) self.entry rest) }
         ensures refusal { IfErr result (λ why. why ≡ spec.unexpected self.entry expected) }
@@ -128,7 +128,7 @@ impl<'a> Input<'a> {
 
     /// What is left after a text in quotes, if that comes first.
     pub fn eat_text(self) -> Option<Input<'a>>
-        ensures found { Finds remaining result (after_quote (remaining self.entry)) }
+        ensures found { Finds remaining result (readers.quote (remaining self.entry)) }
         ensures shorter { IfSome result (λ rest. length (remaining rest) < length (remaining self.entry)) }
         ensures placed { IfSome result (λ rest. Spans (Some (first_place self.entry) ∷ []) self.entry rest) }
         ensures within { IfSome result (Follows self.entry) }
@@ -142,7 +142,7 @@ impl<'a> Input<'a> {
 
     /// What is left after a name that is this word, if that comes first.
     pub fn eat_name(self, word: &[u8]) -> Option<Input<'a>>
-        ensures found { Finds remaining result (after_name word.now (remaining self.entry)) }
+        ensures found { Finds remaining result (readers.word word.now (remaining self.entry)) }
         ensures shorter { IfSome result (λ rest. length (remaining rest) < length (remaining self.entry)) }
         ensures placed { IfSome result (λ rest. Spans (Some (first_place self.entry) ∷ []) self.entry rest) }
         ensures within { IfSome result (Follows self.entry) }
@@ -160,7 +160,7 @@ impl<'a> Input<'a> {
 
     /// A number that has to come first, and what is left after it.
     pub fn expect_number(self) -> Result<(u32, Input<'a>), ParseFault>
-        ensures reads { ReadsAs (λ x. (x.0, remaining x.1)) result (number_first (remaining self.entry)) }
+        ensures reads { ReadsAs (λ x. (x.0, remaining x.1)) result (readers.a_number (remaining self.entry)) }
         ensures shorter { IfOk result (λ x. length (remaining x.1) < length (remaining self.entry)) }
         ensures placed { IfOk result (λ x. Spans (Some (first_place self.entry) ∷ []) self.entry x.1) }
         ensures refusal { IfErr result (λ why. why ≡ spec.unexpected self.entry Expected.Number) }
@@ -177,7 +177,7 @@ impl<'a> Input<'a> {
 
     /// A prefix that has to come first, and what is left after it.
     pub fn expect_prefix(self) -> Result<(Prefix, Input<'a>), ParseFault>
-        ensures reads { ReadsAs (λ x. (x.0, remaining x.1)) result (prefix_first (remaining self.entry)) }
+        ensures reads { ReadsAs (λ x. (x.0, remaining x.1)) result (readers.a_prefix (remaining self.entry)) }
         ensures shorter { IfOk result (λ x. length (remaining x.1) < length (remaining self.entry)) }
         ensures placed { IfOk result (λ x. Spans (Some (first_place self.entry) ∷ []) self.entry x.1) }
         ensures refusal { IfErr result (λ why. why ≡ spec.unexpected self.entry Expected.Prefix) }

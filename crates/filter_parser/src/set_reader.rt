@@ -70,7 +70,7 @@ fn parse_lengths<'a>(
 
 /// A pattern.
 fn parse_set_pattern<'a>(input: Input<'a>) -> Result<(SetPattern, Input<'a>), ParseFault>
-    ensures reads { ReadsAs spec.set_pattern_read_of result (spec.set_pattern_first (remaining input.entry)) }
+    ensures reads { ReadsAs spec.set_pattern_read_of result (spec.a_set_pattern (remaining input.entry)) }
     ensures shorter { IfOk result (λ x. length (remaining x.1) < length (remaining input.entry)) }
     ensures placed { IfOk result (λ x. Spans (set_pattern_kept x.0) input.entry x.1) }
     ensures within { StaysWithin input.entry result }
@@ -108,7 +108,7 @@ fn parse_set_patterns<'a>(
 
 /// The first pattern of a set. A number there begins a set of numbers, which is left out.
 fn parse_first_pattern<'a>(input: Input<'a>) -> Result<(SetPattern, Input<'a>), ParseFault>
-    ensures reads { ReadsAs spec.set_pattern_read_of result (spec.set_pattern_first (remaining input.entry)) }
+    ensures reads { ReadsAs spec.set_pattern_read_of result (spec.a_set_pattern (remaining input.entry)) }
     ensures shorter { IfOk result (λ x. length (remaining x.1) < length (remaining input.entry)) }
     ensures placed { IfOk result (λ x. Spans (set_pattern_kept x.0) input.entry x.1) }
     ensures within { StaysWithin input.entry result }

@@ -2,14 +2,14 @@ use Rattle.std.proofs.Common.{ℕ, ◌-◌, ◌∙◌, ◌∷◌, ◌++◌, [], 
 use Rattle.filter_parser.specs.Placed.{Kept, expr_kept, joined}
 use Rattle.filter_parser.specs.declared.tree.expr.Expr.{Expr}
 use Rattle.filter_parser.specs.declared.tree.op.Op.{Op}
-use Rattle.filter_parser.specs.Reading.{unary_at, next_with, sum_with}
+use Rattle.filter_parser.specs.Reading.{unary_at, next_with, read_of, sum_with}
 use Rattle.filter_parser.specs.Steps.{remaining}
 use Rattle.filter_parser.specs.Syntax.{view}
 use Rattle.filter_parser.proofs.Chains.{more_one, right_none, chain_on, chain_ends, chain_stops}
 use Rattle.filter_parser.proofs.Placing.{grown_more, ok_map, right_kept, rights_kept, spans_as, spans_at, spans_both, unkept_last}
 use Rattle.filter_parser.proofs.Views.{chain_more}
-use Rattle.filter_parser.proofs.Chains.{group_read}
-use Rattle.filter_parser.proofs.Within.{failed}
+use Rattle.filter_parser.proofs.Chains.{expr_read, group_none, group_read}
+use Rattle.filter_parser.proofs.Within.{failed, unread}
 use Rattle.filter_parser.proofs.expr.+expr.Goals as goal
 
 pub parse_chain-returns-in-Err-clause-reads : goal.parse_chain-returns-in-Err-clause-reads
@@ -56,6 +56,25 @@ parse_primary-returns-clause-reads t c =
     group_read c.parse_group_end.result c.args.depth (c.args.depth - 1) (remaining c.args.input) (remaining c.in-Some.after)
     (view c.in_ok-inner.inner, remaining c.in_ok-inner.rest) (omega arith) c.in-Some.ensures.found c.in_ok-inner.ensures.reads
     c.parse_group_end.ensures.reads
+
+pub parse_primary-returns-in_err-inner-clause-reads : goal.parse_primary-returns-in_err-inner-clause-reads
+parse_primary-returns-in_err-inner-clause-reads t c = unread read_of _ c.from_residual.result _ c.from_residual.ensures
+    (λ other. group_none c.args.depth (c.args.depth - 1) (remaining c.args.input) (remaining c.in-Some.after) (omega arith) c.in-Some.ensures.found
+    (c.in_err-inner.ensures.reads other))
+
+pub parse_expr-returns-in_err-whole-clause-reads : goal.parse_expr-returns-in_err-whole-clause-reads
+parse_expr-returns-in_err-whole-clause-reads t c = unread read_of _ c.from_residual-in_err-whole.result _ c.from_residual-in_err-whole.ensures
+    (λ other. rw (c.in_err-whole.ensures.reads other)
+    at (expr_read (unary_at c.args.depth) c.join_level.result (remaining c.args.input) (view c.in_ok-first.first, remaining c.in_ok-first.rest)
+    c.join_level.ensures c.in_ok-first.ensures.reads))
+
+pub parse_expr-returns-clause-reads : goal.parse_expr-returns-clause-reads
+parse_expr-returns-clause-reads t c =
+    rw (
+      expr_read (unary_at c.args.depth) c.join_level.result (remaining c.args.input) (view c.in_ok-first.first, remaining c.in_ok-first.rest)
+          c.join_level.ensures c.in_ok-first.ensures.reads,
+      c.in_ok-whole.ensures.reads,
+    ) c.unmixed.ensures.reads
 
 pub parse_primary-returns-clause-placed : goal.parse_primary-returns-clause-placed
 parse_primary-returns-clause-placed t c =
