@@ -1,17 +1,13 @@
 -- The loop over the commands of a body, beside the function that reads them.
-use Rattle.std.proofs.Common.{◌≡◌, ℕ, zero, suc, ◌-◌, ◌<◌, List, [], ◌∷◌, ◌++◌, length, map, Option, Some, None, Result, refl}
+use Rattle.std.proofs.Common.{◌≡◌, ℕ, zero, suc, ◌-◌, ◌<◌, List, [], ◌∷◌, ◌++◌, length, map, Option, Some, None, refl}
 use Rattle.std.proofs.Common.{sym, ap, ◌∙◌, arith}
 use Rattle.filter_tokens.specs.Lexemes.{Lexeme}
 use Rattle.filter_tokens.specs.declared.symbol.Symbol.TheVariants as symbols
-use Rattle.filter_parser.specs.declared.fault.ParseFault.{ParseFault}
-use Rattle.filter_parser.specs.declared.input.Input.{Input}
-use Rattle.filter_parser.specs.declared.tree.command.Command.{Command}
 use Rattle.filter_parser.specs.ReadingCommands.{commands_from, commands_with, command_with, command_at, block_at, if_at, if_with}
 use Rattle.filter_parser.specs.Readers.{Reader, symbol}
 use Rattle.filter_parser.specs.Reading.{expr_at}
 use Rattle.prefix_patterns.specs.Reading.{◌>>=◌}
-use Rattle.filter_parser.specs.Steps.{remaining, ReadsAs}
-use Rattle.filter_parser.specs.SyntaxCommands.{CommandView, CommandsView, commands_of, view_command}
+use Rattle.filter_parser.specs.SyntaxCommands.{CommandView, CommandsView, commands_of}
 
 -- a command where this many more levels may nest, by its first lexeme
 pub command_is : (depth : ℕ) (ws : List Lexeme) → command_at depth ws ≡ command_with (expr_at depth) (block_at depth) (if_at depth) ws
@@ -25,12 +21,6 @@ if_is zero ws some = absurd (omega arith)
 if_is (suc depth) ws some =
     let same : depth ≡ suc depth - 1 = omega arith in
     ap (λ (n : ℕ). if_with (expr_at n) (command_at n) ws) same
-
--- what answers as a command does by its first lexeme, answers as the command
-pub by_lexeme : (r : Result (Command × Input) ParseFault) (depth : ℕ) (ws vs : List Lexeme) → ws ≡ vs
-    → ReadsAs (λ (x : Command × Input). (view_command x.0, remaining x.1)) r (command_with (expr_at depth) (block_at depth) (if_at depth) vs)
-    → ReadsAs (λ (x : Command × Input). (view_command x.0, remaining x.1)) r (command_at depth ws)
-by_lexeme r depth ws vs e h = rw (e, command_is depth vs) h
 
 -- commands before others
 abbrev pub before : List CommandView → CommandsView → CommandsView

@@ -1,11 +1,13 @@
 -- What `view` answers at each expression and command that holds others: the equations of the folds, for the crates above.
 use Rattle.std.proofs.Common.{◌≡◌, refl, sym, ap, ◌∙◌, ℕ, Some, None, List, [], ◌∷◌, ◌++◌, map}
-use Rattle.std.specs.Prelude.{Box, Vec}
+use Rattle.std.specs.Prelude.{Bool, Box, Vec}
 use Rattle.std.specs.declared.alloc.Global.{Global}
 use Rattle.filter_parser.specs.declared.tree.command.Command.{Command}
 use Rattle.filter_parser.specs.declared.tree.command.Command.TheFolds.{fold-roll-Command}
 use Rattle.filter_parser.specs.declared.tree.command.Command.TheOpen.{Command-F}
 use Rattle.filter_parser.specs.declared.tree.command.Command.TheVariants as command
+use Rattle.filter_parser.specs.declared.tree.command.Target.{Target}
+use Rattle.filter_parser.specs.declared.tree.expr.Attribute.{Attribute}
 use Rattle.filter_parser.specs.declared.tree.expr.Expr.{Expr}
 use Rattle.filter_parser.specs.declared.tree.expr.Expr.TheFolds.{fold-roll-Expr}
 use Rattle.filter_parser.specs.declared.tree.expr.Expr.TheOpen.{Expr-F}
@@ -15,7 +17,7 @@ use Rattle.filter_parser.specs.declared.tree.op.Op.{Op}
 use Rattle.filter_parser.specs.declared.tree.op.Suffix.{Suffix}
 use Rattle.filter_parser.specs.declared.tree.set.Set.{Set}
 use Rattle.filter_parser.specs.Syntax.{ExprView, chain_of, suffixes_of, view, view_expr_step, view_set_pattern, view_more}
-use Rattle.filter_parser.specs.SyntaxCommands.{CommandView, commands_of, view_command, view_step}
+use Rattle.filter_parser.specs.SyntaxCommands.{CommandView, commands_of, view_command, view_step, view_target}
 
 -- a chain with one more operator after it
 pub chain_more : (left : ExprView) (xs : List (ℕ × Op × ExprView)) (at : ℕ) (op : Op) (right : ExprView) →
@@ -65,3 +67,19 @@ pub view_if_else : (at : ℕ) (test : Expr) (chosen other : Box Command Global) 
 view_if_else at test chosen other =
     ap view_command (sym (command.rolls-If at test chosen (Some other)))
     ∙ fold-roll-Command CommandView view_step (Command-F.If at test chosen (Some other))
+
+pub view_defined : (at : ℕ) (a : Attribute) → view (e.Defined at a) ≡ ExprView.defined a
+view_defined at a = ap view (sym (e.rolls-Defined at a)) ∙ fold-roll-Expr ExprView view_expr_step (Expr-F.Defined at a)
+
+pub view_assigned : (at : ℕ) (target : Target) (value : Expr) → view_command (command.Assign at target value)
+    ≡ CommandView.assign (view_target target) (view value)
+view_assigned at target value =
+    ap view_command (sym (command.rolls-Assign at target value)) ∙ fold-roll-Command CommandView view_step (Command-F.Assign at target value)
+
+pub view_accepted : (at : ℕ) (has_text : Bool) → view_command (command.Accept at has_text) ≡ CommandView.accept has_text
+view_accepted at has_text =
+    ap view_command (sym (command.rolls-Accept at has_text)) ∙ fold-roll-Command CommandView view_step (Command-F.Accept at has_text)
+
+pub view_rejected : (at : ℕ) (has_text : Bool) → view_command (command.Reject at has_text) ≡ CommandView.reject has_text
+view_rejected at has_text =
+    ap view_command (sym (command.rolls-Reject at has_text)) ∙ fold-roll-Command CommandView view_step (Command-F.Reject at has_text)

@@ -20,8 +20,8 @@ use Rattle.filter_parser.specs.declared.tree.op.Suffix.{Suffix}
 use Rattle.filter_parser.specs.declared.tree.op.Suffix.TheVariants as suffix
 use Rattle.filter_parser.specs.declared.tree.set.Set.{Set}
 use Rattle.filter_parser.specs.declared.tree.set.SetPattern.{SetPattern}
-use Rattle.filter_parser.specs.Readers.{Reader, Turn, ◌>>=◌, ◌>>◌, after◌then◌else◌, with◌then◌else◌, done, given, refused}
-use Rattle.filter_parser.specs.Readers.{again, stop, turns, symbol, word, a_number, a_prefix}
+use Rattle.filter_parser.specs.Readers.{Reader, Turn, ◌>>=◌, ◌>>◌, after◌then◌else◌, with◌then◌else◌, done, given, refused, again, stop}
+use Rattle.filter_parser.specs.Readers.{turns, symbol, word, a_number, a_prefix}
 use Rattle.filter_parser.specs.Steps.{remaining}
 use Rattle.filter_parser.specs.Syntax.{SetPatternView, ExprView, view, view_set_pattern}
 
@@ -37,9 +37,9 @@ set_pattern_read_of x = (view_set_pattern x.0, remaining x.1)
 abbrev pub set_patterns_read_of : Vec SetPattern Global × Input → List SetPatternView × List Lexeme
 set_patterns_read_of x = (map view_set_pattern x.0.items, remaining x.1)
 
--- a set that the program read
-abbrev pub set_read_of : Set × Input → List SetPatternView × List Lexeme
-set_read_of x = (map view_set_pattern x.0.patterns.items, remaining x.1)
+-- the patterns of a set of the program
+abbrev pub set_view : Set → List SetPatternView
+set_view set = map view_set_pattern set.patterns.items
 
 -- the attribute that a keyword names
 abbrev pub attribute_of : Symbol → Option Attribute

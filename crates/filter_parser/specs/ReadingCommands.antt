@@ -22,9 +22,9 @@ use Rattle.filter_parser.specs.SyntaxCommands.{TargetView, CommandView, Commands
 abbrev pub command_read_of : Command × Input → CommandView × List Lexeme
 command_read_of x = (view_command x.0, remaining x.1)
 
--- commands that the program read
-abbrev pub body_read_of : Vec Command Global × Input → CommandsView × List Lexeme
-body_read_of x = (commands_of (map view_command x.0.items), remaining x.1)
+-- commands of the program
+abbrev pub body_view : Vec Command Global → CommandsView
+body_view body = commands_of (map view_command body.items)
 
 -- the text, if there is one, and the `;`
 abbrev pub end_of : Reader Bool

@@ -1,5 +1,5 @@
 -- What the functions of the parser say of what they read, of its places and of its faults. Nothing that is published cites it.
-use Rattle.std.specs.Prelude.{◌≡◌, ◌≢◌, ℕ, ◌<◌, ⊤, List, [], ◌∷◌, ◌++◌, length, map, Option, Some, None, Result, Ok, Err, MatchResult}
+use Rattle.std.specs.Prelude.{◌≡◌, ◌≢◌, ℕ, ◌+◌, ◌<◌, ◌≤◌, IfOk, ⊤, List, [], ◌∷◌, ◌++◌, length, map, Option, Some, None, Result, Ok, Err, MatchResult}
 use Rattle.filter_tokens.specs.Codes.{fault_place as token_fault_place}
 use Rattle.filter_tokens.specs.Lexemes.{Lexeme, lexemes}
 use Rattle.filter_tokens.specs.declared.token.Token.{Token}
@@ -12,6 +12,7 @@ use Rattle.filter_parser.specs.declared.fault.ParseFault.TheVariants as fault
 use Rattle.filter_parser.specs.declared.input.Input.{Input}
 use Rattle.filter_parser.specs.Codes.{LiesWithin}
 use Rattle.filter_parser.specs.Placed.{Kept, AreAt, joined}
+use Rattle.filter_parser.specs.Readers.{Reader}
 
 -- the lexemes that are left
 abbrev pub remaining : Input → List Lexeme
@@ -107,3 +108,20 @@ unexpected_of none (token ∷ tokens) wanted = unexpected_token token.kind token
 
 abbrev pub unexpected : Input → Expected → ParseFault
 unexpected i wanted = unexpected_of (end_fault_of (length i.source.now.text.now) i.source.now.end) i.tokens.now wanted
+
+-- A function of the program reads what a reader does. Fewer lexemes are left, what it read keeps the places of its tokens, and a
+-- fault is in the text.
+pub record Reads {X A : Type 0} (view : X → A) (kept : X → Kept) (reader : Reader A) (input : Input) (result : Result (X × Input) ParseFault)
+    : Type 0 where
+  pub reads : ReadsAs (λ x. (view x.0, remaining x.1)) result (reader (remaining input))
+  pub shorter : IfOk result (λ x. length (remaining x.1) < length (remaining input))
+  pub placed : IfOk result (λ x. Spans (kept x.0) input x.1)
+  pub within : StaysWithin input result
+
+-- The same of one that goes on after a part that kept so much, and reads at least so many lexemes.
+pub record ReadsOn {X A : Type 0} (least : ℕ) (so_far : Kept) (view : X → A) (kept : X → Kept) (reader : Reader A) (input : Input)
+    (result : Result (X × Input) ParseFault) : Type 0 where
+  pub reads : ReadsAs (λ x. (view x.0, remaining x.1)) result (reader (remaining input))
+  pub shorter : IfOk result (λ x. least + length (remaining x.1) ≤ length (remaining input))
+  pub placed : IfOk result (λ x. Continues so_far (kept x.0) input x.1)
+  pub within : StaysWithin input result

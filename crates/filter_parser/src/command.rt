@@ -6,7 +6,7 @@ ghost use Rattle.filter_parser.specs.Codes.{LiesWithin};
 ghost use Rattle.filter_parser.specs.ReadingCommands as spec;
 ghost use Rattle.filter_parser.specs.Placed.{command_kept, end_kept, expr_kept, joined};
 ghost use Rattle.filter_parser.specs.Reading.{expr_at};
-ghost use Rattle.filter_parser.specs.Steps.{Continues, IsWithin, ReadsAs, Spans, StaysWithin, StaysWithinAfter, remaining};
+ghost use Rattle.filter_parser.specs.Steps.{Reads, ReadsOn, Continues, IsWithin, ReadsAs, StaysWithinAfter, remaining};
 ghost use Rattle.filter_parser.specs.Syntax.{view};
 ghost use Rattle.filter_parser.specs.SyntaxCommands.{view_command, view_target};
 ghost use Rattle.filter_parser.specs.SyntaxCommands.CommandView.{if_then, if_else};
@@ -21,10 +21,7 @@ use std::alloc::{AllocError, Global};
 
 /// The text, if there is one, and the `;` that ends `accept` and `reject`.
 fn parse_end<'a>(input: Input<'a>) -> Result<(bool, Input<'a>), ParseFault>
-    ensures reads { ReadsAs (λ x. (x.0, remaining x.1)) result (spec.end_of (remaining input.entry)) }
-    ensures shorter { IfOk result (λ x. length (remaining x.1) < length (remaining input.entry)) }
-    ensures placed { IfOk result (λ x. Spans (end_kept x.0) input.entry x.1) }
-    ensures within { StaysWithin input.entry result }
+    ensures { Reads (λ x. x) end_kept spec.end_of input.entry result }
 {
     match input.eat_text() {
         Some(rest) => Ok((true, rest.expect(Symbol::Semicolon, Expected::Semicolon)?)),
@@ -43,10 +40,8 @@ fn parse_assignment<'a>(
     target: Target,
     input: Input<'a>,
 ) -> Result<(Command, Input<'a>), ParseFault>
-    ensures reads { ReadsAs spec.command_read_of result (spec.assign_with (expr_at depth) (view_target target) (remaining input.entry)) }
-    ensures shorter { IfOk result (λ x. length (remaining x.1) < length (remaining input.entry)) }
-    ensures placed { IfOk result (λ x. Continues (Some at ∷ []) (command_kept x.0) input.entry x.1) }
-    ensures within { StaysWithin input.entry result }
+    ensures { ReadsOn 1 (Some at ∷ []) view_command command_kept
+        (spec.assign_with (expr_at depth) (view_target target)) input.entry result }
 {
     let value = input.expect(Symbol::Equal, Expected::Assign)?;
     let (value, end) = parse_expr(alloc, depth, value)?;
@@ -92,12 +87,8 @@ fn parse_else<'a>(
     chosen: Command,
     input: Input<'a>,
 ) -> Result<(Command, Input<'a>), ParseFault>
-    ensures reads { ReadsAs spec.command_read_of result
-        (spec.else_with (spec.command_at depth) (view test) (view_command chosen) (remaining input.entry)) }
-    ensures shorter { IfOk result (λ x. length (remaining x.1) ≤ length (remaining input.entry)) }
-    ensures placed { IfOk result (λ x.
-        Continues (Some at ∷ (expr_kept test ++ None ∷ command_kept chosen)) (command_kept x.0) input.entry x.1) }
-    ensures within { StaysWithin input.entry result }
+    ensures { ReadsOn 0 (Some at ∷ (expr_kept test ++ None ∷ command_kept chosen)) view_command command_kept
+        (spec.else_with (spec.command_at depth) (view test) (view_command chosen)) input.entry result }
 {
     match input.eat(Symbol::Else) {
         None => Ok((if_command(alloc, at, test, chosen)?, input)),
@@ -138,10 +129,8 @@ pub fn parse_commands<'a>(
     depth: usize,
     input: Input<'a>,
 ) -> Result<(Vec<Command>, Input<'a>), ParseFault>
-    ensures reads { ReadsAs spec.body_read_of result (spec.commands_with (spec.command_at depth) (remaining input.entry)) }
-    ensures shorter { IfOk result (λ x. length (remaining x.1) < length (remaining input.entry)) }
-    ensures placed { IfOk result (λ x. Spans (joined (map command_kept x.0.items) ++ None ∷ []) input.entry x.1) }
-    ensures within { StaysWithin input.entry result }
+    ensures { Reads spec.body_view (λ x. joined (map command_kept x.items) ++ None ∷ [])
+        (spec.commands_with (spec.command_at depth)) input.entry result }
 {
     let mut commands = Vec::new(alloc);
     let mut rest = input;
@@ -187,11 +176,8 @@ fn parse_variable_assignment<'a>(
     name: &Token,
     rest: Input<'a>,
 ) -> Result<(Command, Input<'a>), ParseFault>
-    ensures reads { ReadsAs spec.command_read_of result
-        (spec.assign_with (expr_at depth) (spec.target_of input.entry.source.now.text.now name.now) (remaining rest.entry)) }
-    ensures shorter { IfOk result (λ x. length (remaining x.1) < length (remaining rest.entry)) }
-    ensures placed { IfOk result (λ x. Continues (Some name.now.from ∷ []) (command_kept x.0) rest.entry x.1) }
-    ensures within { StaysWithin rest.entry result }
+    ensures { ReadsOn 1 (Some name.now.from ∷ []) view_command command_kept
+        (spec.assign_with (expr_at depth) (spec.target_of input.entry.source.now.text.now name.now)) rest.entry result }
 {
     let text = input.bytes(alloc, name)?;
     parse_assignment(alloc, depth, name.from, Target::Name(text), rest)
@@ -199,10 +185,7 @@ fn parse_variable_assignment<'a>(
 
 /// `accept`, after that word.
 fn parse_accept<'a>(at: usize, input: Input<'a>) -> Result<(Command, Input<'a>), ParseFault>
-    ensures reads { ReadsAs spec.command_read_of result (spec.accepts (remaining input.entry)) }
-    ensures shorter { IfOk result (λ x. length (remaining x.1) < length (remaining input.entry)) }
-    ensures placed { IfOk result (λ x. Continues (Some at ∷ []) (command_kept x.0) input.entry x.1) }
-    ensures within { StaysWithin input.entry result }
+    ensures { ReadsOn 1 (Some at ∷ []) view_command command_kept spec.accepts input.entry result }
 {
     let (has_text, rest) = parse_end(input)?;
     Ok((Command::Accept(at, has_text), rest))
@@ -210,10 +193,7 @@ fn parse_accept<'a>(at: usize, input: Input<'a>) -> Result<(Command, Input<'a>),
 
 /// `reject`, after that word.
 fn parse_reject<'a>(at: usize, input: Input<'a>) -> Result<(Command, Input<'a>), ParseFault>
-    ensures reads { ReadsAs spec.command_read_of result (spec.rejects (remaining input.entry)) }
-    ensures shorter { IfOk result (λ x. length (remaining x.1) < length (remaining input.entry)) }
-    ensures placed { IfOk result (λ x. Continues (Some at ∷ []) (command_kept x.0) input.entry x.1) }
-    ensures within { StaysWithin input.entry result }
+    ensures { ReadsOn 1 (Some at ∷ []) view_command command_kept spec.rejects input.entry result }
 {
     let (has_text, rest) = parse_end(input)?;
     Ok((Command::Reject(at, has_text), rest))
@@ -258,10 +238,7 @@ pub fn parse_command<'a>(
     expected: Expected,
     input: Input<'a>,
 ) -> Result<(Command, Input<'a>), ParseFault>
-    ensures reads { ReadsAs spec.command_read_of result (spec.command_at depth (remaining input.entry)) }
-    ensures shorter { IfOk result (λ x. length (remaining x.1) < length (remaining input.entry)) }
-    ensures placed { IfOk result (λ x. Spans (command_kept x.0) input.entry x.1) }
-    ensures within { StaysWithin input.entry result }
+    ensures { Reads view_command command_kept (spec.command_at depth) input.entry result }
 {
     let other = input.unexpected(expected);
     let Some((first, rest)) = input.next() else {

@@ -1,10 +1,10 @@
 //! Declarations.
 
-ghost use Rattle.std.specs.Prelude.{◌≡◌, ◌∷◌, ◌<◌, ◌≤◌, [], length, map, Some, None, IfOk, IfSome};
+ghost use Rattle.std.specs.Prelude.{◌≡◌, ◌∷◌, ◌<◌, [], length, map, Some, None, IfOk, IfSome};
 ghost use Rattle.filter_parser.specs.Placed.{decl_kept};
 ghost use Rattle.filter_parser.specs.Readers.{a_name};
 ghost use Rattle.filter_parser.specs.ReadingCommands as spec;
-ghost use Rattle.filter_parser.specs.Steps.{Continues, Finds, Follows, Grown, LeavesWithin, ReadsAs, Spans, StaysWithin, first_place, remaining};
+ghost use Rattle.filter_parser.specs.Steps.{ReadsOn, Finds, Follows, Grown, LeavesWithin, ReadsAs, Spans, StaysWithin, first_place, remaining};
 ghost use Rattle.filter_parser.specs.SyntaxCommands.{view_decl};
 
 use crate::expected::Expected;
@@ -69,10 +69,7 @@ fn parse_declaration<'a>(
     kind: Kind,
     input: Input<'a>,
 ) -> Result<(Decl, Input<'a>), ParseFault>
-    ensures reads { ReadsAs (λ x. (view_decl x.0, remaining x.1)) result (spec.decl_with kind (remaining input.entry)) }
-    ensures shorter { IfOk result (λ x. length (remaining x.1) < length (remaining input.entry)) }
-    ensures placed { IfOk result (λ x. Continues (None ∷ []) (decl_kept x.0) input.entry x.1) }
-    ensures within { StaysWithin input.entry result }
+    ensures { ReadsOn 1 (None ∷ []) view_decl decl_kept (spec.decl_with kind) input.entry result }
 {
     let (at, name, rest) = parse_name(alloc, input)?;
     let rest = rest.expect(Symbol::Semicolon, Expected::Semicolon)?;

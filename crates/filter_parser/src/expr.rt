@@ -1,8 +1,8 @@
-ghost use Rattle.std.specs.Prelude.{◌≡◌, ◌∷◌, ◌++◌, ℕ, ◌<◌, ◌≤◌, [], Some, None, IfOk, IfSome, length};
+ghost use Rattle.std.specs.Prelude.{◌≡◌, ◌∷◌, ◌++◌, ℕ, ◌<◌, [], Some, None, IfOk, IfSome, length};
 ghost use Rattle.filter_parser.specs.Codes.{LiesWithin};
 ghost use Rattle.filter_parser.specs.Placed.{expr_kept};
 ghost use Rattle.filter_parser.specs.Reading as spec;
-ghost use Rattle.filter_parser.specs.Steps.{Continues, Finds, Follows, ReadsAs, Spans, StaysWithin, first_place, remaining};
+ghost use Rattle.filter_parser.specs.Steps.{Reads, ReadsOn, Finds, Follows, ReadsAs, Spans, StaysWithin, first_place, remaining};
 ghost use Rattle.filter_parser.specs.Syntax.{view};
 ghost use Rattle.filter_parser.specs.declared.fault.ParseFault.TheVariants.{Memory};
 ghost use Rattle.filter_parser.specs.declared.input.Input.{Input as TheInput};
@@ -20,10 +20,7 @@ use std::alloc::Global;
 
 /// An expression that was read, where no operator of the other kind of chain follows it.
 fn unmixed<'a>(whole: Expr, rest: Input<'a>) -> Result<(Expr, Input<'a>), ParseFault>
-    ensures reads { ReadsAs spec.read_of result (spec.unmixed (view whole) (remaining rest.entry)) }
-    ensures same { IfOk result (λ x. length (remaining x.1) ≤ length (remaining rest.entry)) }
-    ensures placed { IfOk result (λ x. Continues (expr_kept whole) (expr_kept x.0) rest.entry x.1) }
-    ensures within { StaysWithin rest.entry result }
+    ensures { ReadsOn 0 (expr_kept whole) view expr_kept (spec.unmixed (view whole)) rest.entry result }
 {
     if eat_operator(Level::And, rest).is_some() {
         return Err(ParseFault::MixedOperators(rest.at()));
@@ -93,10 +90,7 @@ fn parse_group_end<'a>(
     inner: Expr,
     input: Input<'a>,
 ) -> Result<(Expr, Input<'a>), ParseFault>
-    ensures reads { ReadsAs spec.read_of result (spec.group_end (view inner) (remaining input.entry)) }
-    ensures shorter { IfOk result (λ x. length (remaining x.1) < length (remaining input.entry)) }
-    ensures placed { IfOk result (λ x. Continues (Some at ∷ expr_kept inner) (expr_kept x.0) input.entry x.1) }
-    ensures within { StaysWithin input.entry result }
+    ensures { ReadsOn 1 (Some at ∷ expr_kept inner) view expr_kept (spec.group_end (view inner)) input.entry result }
 {
     match input.expect(Symbol::RightParen, Expected::RightParen) {
         Ok(rest) => Ok((group(alloc, at, inner)?, rest)),
@@ -111,10 +105,7 @@ pub fn parse_expr<'a>(
     depth: usize,
     input: Input<'a>,
 ) -> Result<(Expr, Input<'a>), ParseFault>
-    ensures reads { ReadsAs spec.read_of result (spec.expr_at depth (remaining input.entry)) }
-    ensures shorter { IfOk result (λ x. length (remaining x.1) < length (remaining input.entry)) }
-    ensures placed { IfOk result (λ x. Spans (expr_kept x.0) input.entry x.1) }
-    ensures within { StaysWithin input.entry result }
+    ensures { Reads view expr_kept (spec.expr_at depth) input.entry result }
 {
     let (first, rest) = parse_comparison(alloc, depth, input)?;
     let (whole, rest) = parse_chain(alloc, depth, join_level(rest), first, rest)?;
@@ -130,10 +121,7 @@ fn parse_chain<'a>(
     first: Expr,
     input: Input<'a>,
 ) -> Result<(Expr, Input<'a>), ParseFault>
-    ensures reads { ReadsAs spec.read_of result (spec.chain_with (spec.unary_at depth) level (view first) (remaining input.entry)) }
-    ensures shorter { IfOk result (λ x. length (remaining x.1) ≤ length (remaining input.entry)) }
-    ensures placed { IfOk result (λ x. Continues (expr_kept first) (expr_kept x.0) input.entry x.1) }
-    ensures within { StaysWithin input.entry result }
+    ensures { ReadsOn 0 (expr_kept first) view expr_kept (spec.chain_with (spec.unary_at depth) level (view first)) input.entry result }
 {
     let mut more = Vec::new(alloc);
     let mut rest = input;
@@ -157,10 +145,7 @@ fn parse_operand<'a>(
     level: Level,
     input: Input<'a>,
 ) -> Result<(Expr, Input<'a>), ParseFault>
-    ensures reads { ReadsAs spec.read_of result (spec.next_with (spec.unary_at depth) level (remaining input.entry)) }
-    ensures shorter { IfOk result (λ x. length (remaining x.1) < length (remaining input.entry)) }
-    ensures placed { IfOk result (λ x. Spans (expr_kept x.0) input.entry x.1) }
-    ensures within { StaysWithin input.entry result }
+    ensures { Reads view expr_kept (spec.next_with (spec.unary_at depth) level) input.entry result }
 {
     match level {
         Level::Or => parse_comparison(alloc, depth, input),
@@ -178,10 +163,7 @@ fn parse_comparison<'a>(
     depth: usize,
     input: Input<'a>,
 ) -> Result<(Expr, Input<'a>), ParseFault>
-    ensures reads { ReadsAs spec.read_of result (spec.comparison_with (spec.unary_at depth) (remaining input.entry)) }
-    ensures shorter { IfOk result (λ x. length (remaining x.1) < length (remaining input.entry)) }
-    ensures placed { IfOk result (λ x. Spans (expr_kept x.0) input.entry x.1) }
-    ensures within { StaysWithin input.entry result }
+    ensures { Reads view expr_kept (spec.comparison_with (spec.unary_at depth)) input.entry result }
 {
     let (left, rest) = parse_sum(alloc, depth, input)?;
     match eat_operator(Level::Comparison, rest) {
@@ -200,11 +182,8 @@ fn parse_right_operand<'a>(
     left: Expr,
     input: Input<'a>,
 ) -> Result<(Expr, Input<'a>), ParseFault>
-    ensures reads { ReadsAs spec.read_of result
-        (spec.right_operand_with (spec.sum_with (spec.unary_at depth)) (view left) op (remaining input.entry)) }
-    ensures shorter { IfOk result (λ x. length (remaining x.1) < length (remaining input.entry)) }
-    ensures placed { IfOk result (λ x. Continues (expr_kept left ++ Some at ∷ []) (expr_kept x.0) input.entry x.1) }
-    ensures within { StaysWithin input.entry result }
+    ensures { ReadsOn 1 (expr_kept left ++ Some at ∷ []) view expr_kept
+        (spec.right_operand_with (spec.sum_with (spec.unary_at depth)) (view left) op) input.entry result }
 {
     if let Some((found, after)) = eat_set_opening(op, input) {
         return parse_member(alloc, input.at(), found, left, after);
@@ -222,10 +201,7 @@ fn parse_sum<'a>(
     depth: usize,
     input: Input<'a>,
 ) -> Result<(Expr, Input<'a>), ParseFault>
-    ensures reads { ReadsAs spec.read_of result (spec.sum_with (spec.unary_at depth) (remaining input.entry)) }
-    ensures shorter { IfOk result (λ x. length (remaining x.1) < length (remaining input.entry)) }
-    ensures placed { IfOk result (λ x. Spans (expr_kept x.0) input.entry x.1) }
-    ensures within { StaysWithin input.entry result }
+    ensures { Reads view expr_kept (spec.sum_with (spec.unary_at depth)) input.entry result }
 {
     let (first, rest) = parse_product(alloc, depth, input)?;
     parse_chain(alloc, depth, Level::Sum, first, rest)
@@ -238,10 +214,7 @@ fn parse_product<'a>(
     depth: usize,
     input: Input<'a>,
 ) -> Result<(Expr, Input<'a>), ParseFault>
-    ensures reads { ReadsAs spec.read_of result (spec.product_with (spec.unary_at depth) (remaining input.entry)) }
-    ensures shorter { IfOk result (λ x. length (remaining x.1) < length (remaining input.entry)) }
-    ensures placed { IfOk result (λ x. Spans (expr_kept x.0) input.entry x.1) }
-    ensures within { StaysWithin input.entry result }
+    ensures { Reads view expr_kept (spec.product_with (spec.unary_at depth)) input.entry result }
 {
     let (first, rest) = parse_unary(alloc, depth, input)?;
     parse_chain(alloc, depth, Level::Product, first, rest)
@@ -255,10 +228,7 @@ fn parse_unary<'a>(
     depth: usize,
     input: Input<'a>,
 ) -> Result<(Expr, Input<'a>), ParseFault>
-    ensures reads { ReadsAs spec.read_of result (spec.unary_at depth (remaining input.entry)) }
-    ensures shorter { IfOk result (λ x. length (remaining x.1) < length (remaining input.entry)) }
-    ensures placed { IfOk result (λ x. Spans (expr_kept x.0) input.entry x.1) }
-    ensures within { StaysWithin input.entry result }
+    ensures { Reads view expr_kept (spec.unary_at depth) input.entry result }
 {
     let Some(rest) = input.eat(Symbol::Not) else {
         return parse_postfix(alloc, depth, input);
@@ -277,10 +247,7 @@ fn parse_postfix<'a>(
     depth: usize,
     input: Input<'a>,
 ) -> Result<(Expr, Input<'a>), ParseFault>
-    ensures reads { ReadsAs spec.read_of result (spec.postfix_with (spec.inner_at depth) (remaining input.entry)) }
-    ensures shorter { IfOk result (λ x. length (remaining x.1) < length (remaining input.entry)) }
-    ensures placed { IfOk result (λ x. Spans (expr_kept x.0) input.entry x.1) }
-    ensures within { StaysWithin input.entry result }
+    ensures { Reads view expr_kept (spec.postfix_with (spec.inner_at depth)) input.entry result }
 {
     let (inner, rest) = parse_primary(alloc, depth, input)?;
     parse_suffixes(alloc, inner, rest)
@@ -293,10 +260,7 @@ fn parse_primary<'a>(
     depth: usize,
     input: Input<'a>,
 ) -> Result<(Expr, Input<'a>), ParseFault>
-    ensures reads { ReadsAs spec.read_of result (spec.primary_with (spec.inner_at depth) (remaining input.entry)) }
-    ensures shorter { IfOk result (λ x. length (remaining x.1) < length (remaining input.entry)) }
-    ensures placed { IfOk result (λ x. Spans (expr_kept x.0) input.entry x.1) }
-    ensures within { StaysWithin input.entry result }
+    ensures { Reads view expr_kept (spec.primary_with (spec.inner_at depth)) input.entry result }
 {
     let Some(after) = input.eat(Symbol::LeftParen) else {
         return parse_atom(alloc, input);

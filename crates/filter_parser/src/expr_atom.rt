@@ -1,7 +1,7 @@
-ghost use Rattle.std.specs.Prelude.{◌≡◌, ◌∷◌, ◌<◌, ◌≤◌, [], Some, None, IfOk, IfSome, length};
+ghost use Rattle.std.specs.Prelude.{◌≡◌, ◌∷◌, ◌<◌, [], Some, None, IfSome};
 ghost use Rattle.filter_parser.specs.Placed.{expr_kept, suffix_kept};
 ghost use Rattle.filter_parser.specs.Reading as spec;
-ghost use Rattle.filter_parser.specs.Steps.{Continues, Finds, ReadsAs, Spans, StaysWithin, first_place, remaining};
+ghost use Rattle.filter_parser.specs.Steps.{Reads, ReadsOn, Finds, first_place};
 ghost use Rattle.filter_parser.specs.Syntax.{view};
 
 use crate::expected::Expected;
@@ -25,10 +25,7 @@ fn attribute_of(symbol: Symbol) -> Option<Attribute>
 
 /// An attribute that has to come first, and what is left after it.
 fn parse_attribute<'a>(input: Input<'a>) -> Result<(Attribute, Input<'a>), ParseFault>
-    ensures reads { ReadsAs (λ x. (x.0, remaining x.1)) result (spec.an_attribute (remaining input.entry)) }
-    ensures shorter { IfOk result (λ x. length (remaining x.1) < length (remaining input.entry)) }
-    ensures placed { IfOk result (λ x. Spans (Some (first_place input.entry) ∷ []) input.entry x.1) }
-    ensures within { StaysWithin input.entry result }
+    ensures { Reads (λ x. x) (λ _. Some (first_place input.entry) ∷ []) spec.an_attribute input.entry result }
 {
     let Some((first, rest)) = input.next() else {
         return Err(input.unexpected(Expected::Attribute));
@@ -44,10 +41,7 @@ fn parse_attribute<'a>(input: Input<'a>) -> Result<(Attribute, Input<'a>), Parse
 
 /// `(net)` or `(rip_metric)`, after `defined`, which has the place `at`.
 fn parse_defined<'a>(at: usize, input: Input<'a>) -> Result<(Expr, Input<'a>), ParseFault>
-    ensures reads { ReadsAs spec.read_of result (spec.defined_of (remaining input.entry)) }
-    ensures shorter { IfOk result (λ x. length (remaining x.1) < length (remaining input.entry)) }
-    ensures placed { IfOk result (λ x. Continues (Some at ∷ []) (expr_kept x.0) input.entry x.1) }
-    ensures within { StaysWithin input.entry result }
+    ensures { ReadsOn 1 (Some at ∷ []) view expr_kept spec.defined_of input.entry result }
 {
     let rest = input.expect(Symbol::LeftParen, Expected::LeftParen)?;
     let (found, rest) = parse_attribute(rest)?;
@@ -71,10 +65,7 @@ fn keyword_expr(at: usize, symbol: Symbol) -> Option<Expr>
 
 /// An expression of one token.
 fn parse_single<'a>(alloc: Global, input: Input<'a>) -> Result<(Expr, Input<'a>), ParseFault>
-    ensures reads { ReadsAs spec.read_of result (spec.a_single (remaining input.entry)) }
-    ensures shorter { IfOk result (λ x. length (remaining x.1) < length (remaining input.entry)) }
-    ensures placed { IfOk result (λ x. Spans (expr_kept x.0) input.entry x.1) }
-    ensures within { StaysWithin input.entry result }
+    ensures { Reads view expr_kept spec.a_single input.entry result }
 {
     let Some((first, rest)) = input.next() else {
         return Err(input.unexpected(Expected::Operand));
@@ -95,10 +86,7 @@ fn parse_single<'a>(alloc: Global, input: Input<'a>) -> Result<(Expr, Input<'a>)
 
 /// An operand without parentheses.
 pub fn parse_atom<'a>(alloc: Global, input: Input<'a>) -> Result<(Expr, Input<'a>), ParseFault>
-    ensures reads { ReadsAs spec.read_of result (spec.atom_of (remaining input.entry)) }
-    ensures shorter { IfOk result (λ x. length (remaining x.1) < length (remaining input.entry)) }
-    ensures placed { IfOk result (λ x. Spans (expr_kept x.0) input.entry x.1) }
-    ensures within { StaysWithin input.entry result }
+    ensures { Reads view expr_kept spec.atom_of input.entry result }
 {
     match input.eat(Symbol::Defined) {
         Some(rest) => parse_defined(input.at(), rest),
@@ -119,10 +107,7 @@ fn mask_of_bits(n: u32) -> Option<Suffix>
 
 /// `(n)`, after `.mask`.
 fn parse_mask<'a>(input: Input<'a>) -> Result<(Suffix, Input<'a>), ParseFault>
-    ensures reads { ReadsAs (λ x. (x.0, remaining x.1)) result (spec.mask_of (remaining input.entry)) }
-    ensures shorter { IfOk result (λ x. length (remaining x.1) < length (remaining input.entry)) }
-    ensures placed { IfOk result (λ x. Continues (None ∷ None ∷ []) (suffix_kept x.0) input.entry x.1) }
-    ensures within { StaysWithin input.entry result }
+    ensures { ReadsOn 1 (None ∷ None ∷ []) (λ x. x) suffix_kept spec.mask_of input.entry result }
 {
     let after = input.expect(Symbol::LeftParen, Expected::LeftParen)?;
     let (n, rest) = after.expect_number()?;
@@ -135,10 +120,7 @@ fn parse_mask<'a>(input: Input<'a>) -> Result<(Suffix, Input<'a>), ParseFault>
 
 /// What follows a dot.
 fn parse_suffix<'a>(input: Input<'a>) -> Result<(Suffix, Input<'a>), ParseFault>
-    ensures reads { ReadsAs (λ x. (x.0, remaining x.1)) result (spec.suffix_of (remaining input.entry)) }
-    ensures shorter { IfOk result (λ x. length (remaining x.1) < length (remaining input.entry)) }
-    ensures placed { IfOk result (λ x. Continues (None ∷ []) (suffix_kept x.0) input.entry x.1) }
-    ensures within { StaysWithin input.entry result }
+    ensures { ReadsOn 1 (None ∷ []) (λ x. x) suffix_kept spec.suffix_of input.entry result }
 {
     if let Some(rest) = input.eat(Symbol::Ip) {
         return Ok((Suffix::Ip, rest));
@@ -158,10 +140,7 @@ pub fn parse_suffixes<'a>(
     inner: Expr,
     input: Input<'a>,
 ) -> Result<(Expr, Input<'a>), ParseFault>
-    ensures reads { ReadsAs spec.read_of result (spec.suffixes_from (view inner) (remaining input.entry)) }
-    ensures shorter { IfOk result (λ x. length (remaining x.1) ≤ length (remaining input.entry)) }
-    ensures placed { IfOk result (λ x. Continues (expr_kept inner) (expr_kept x.0) input.entry x.1) }
-    ensures within { StaysWithin input.entry result }
+    ensures { ReadsOn 0 (expr_kept inner) view expr_kept (spec.suffixes_from (view inner)) input.entry result }
 {
     let mut all = Vec::new(alloc);
     let mut rest = input;

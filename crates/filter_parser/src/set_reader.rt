@@ -1,7 +1,7 @@
-ghost use Rattle.std.specs.Prelude.{◌≡◌, ◌∷◌, ◌<◌, ◌≤◌, [], Some, None, IfOk, length, map};
+ghost use Rattle.std.specs.Prelude.{◌∷◌, ◌<◌, ◌≤◌, [], Some, None, IfOk, length, map};
 ghost use Rattle.filter_parser.specs.Placed.{next_pattern_kept, set_kept, set_pattern_kept};
 ghost use Rattle.filter_parser.specs.Reading as spec;
-ghost use Rattle.filter_parser.specs.Steps.{Continues, Finds, Grown, ReadsAs, Spans, StaysWithin, StaysWithinAfter, remaining};
+ghost use Rattle.filter_parser.specs.Steps.{Reads, ReadsOn, Continues, Finds, Grown, ReadsAs, StaysWithin, StaysWithinAfter, remaining};
 ghost use Rattle.filter_parser.specs.Syntax.{SetPatternView, view_set_pattern};
 
 use crate::expected::Expected;
@@ -51,10 +51,7 @@ fn parse_lengths<'a>(
     prefix: Prefix,
     input: Input<'a>,
 ) -> Result<(SetPattern, Input<'a>), ParseFault>
-    ensures reads { ReadsAs spec.set_pattern_read_of result (spec.lengths_of prefix (remaining input.entry)) }
-    ensures shorter { IfOk result (λ x. length (remaining x.1) ≤ length (remaining input.entry)) }
-    ensures placed { IfOk result (λ x. Continues (Some at ∷ []) (set_pattern_kept x.0) input.entry x.1) }
-    ensures within { StaysWithin input.entry result }
+    ensures { ReadsOn 0 (Some at ∷ []) view_set_pattern set_pattern_kept (spec.lengths_of prefix) input.entry result }
 {
     if let Some(rest) = input.eat(Symbol::Plus) {
         return Ok((SetPattern::OrLonger(at, prefix), rest));
@@ -70,10 +67,7 @@ fn parse_lengths<'a>(
 
 /// A pattern.
 fn parse_set_pattern<'a>(input: Input<'a>) -> Result<(SetPattern, Input<'a>), ParseFault>
-    ensures reads { ReadsAs spec.set_pattern_read_of result (spec.a_set_pattern (remaining input.entry)) }
-    ensures shorter { IfOk result (λ x. length (remaining x.1) < length (remaining input.entry)) }
-    ensures placed { IfOk result (λ x. Spans (set_pattern_kept x.0) input.entry x.1) }
-    ensures within { StaysWithin input.entry result }
+    ensures { Reads view_set_pattern set_pattern_kept spec.a_set_pattern input.entry result }
 {
     match input.expect_prefix() {
         Ok((prefix, rest)) => parse_lengths(input.at(), prefix, rest),
@@ -108,10 +102,7 @@ fn parse_set_patterns<'a>(
 
 /// The first pattern of a set. A number there begins a set of numbers, which is left out.
 fn parse_first_pattern<'a>(input: Input<'a>) -> Result<(SetPattern, Input<'a>), ParseFault>
-    ensures reads { ReadsAs spec.set_pattern_read_of result (spec.a_set_pattern (remaining input.entry)) }
-    ensures shorter { IfOk result (λ x. length (remaining x.1) < length (remaining input.entry)) }
-    ensures placed { IfOk result (λ x. Spans (set_pattern_kept x.0) input.entry x.1) }
-    ensures within { StaysWithin input.entry result }
+    ensures { Reads view_set_pattern set_pattern_kept spec.a_set_pattern input.entry result }
 {
     match input.expect_number() {
         Ok(_) => Err(ParseFault::NumberSet(input.at())),
@@ -126,10 +117,8 @@ fn parse_set_after_first<'a>(
     first: SetPattern,
     input: Input<'a>,
 ) -> Result<(Set, Input<'a>), ParseFault>
-    ensures reads { ReadsAs spec.set_read_of result (spec.set_after_first (view_set_pattern first) (remaining input.entry)) }
-    ensures placed { IfOk result (λ x. Continues (Some at ∷ set_pattern_kept first) (set_kept x.0) input.entry x.1) }
-    ensures shorter { IfOk result (λ x. length (remaining x.1) < length (remaining input.entry)) }
-    ensures within { StaysWithin input.entry result }
+    ensures { ReadsOn 1 (Some at ∷ set_pattern_kept first) spec.set_view set_kept
+        (spec.set_after_first (view_set_pattern first)) input.entry result }
 {
     let mut patterns = Vec::new(alloc);
     patterns.push(first)?;
@@ -148,10 +137,7 @@ pub fn parse_set<'a>(
     at: usize,
     input: Input<'a>,
 ) -> Result<(Set, Input<'a>), ParseFault>
-    ensures reads { ReadsAs spec.set_read_of result (spec.set_of (remaining input.entry)) }
-    ensures placed { IfOk result (λ x. Continues (Some at ∷ []) (set_kept x.0) input.entry x.1) }
-    ensures shorter { IfOk result (λ x. length (remaining x.1) < length (remaining input.entry)) }
-    ensures within { StaysWithin input.entry result }
+    ensures { ReadsOn 1 (Some at ∷ []) spec.set_view set_kept spec.set_of input.entry result }
 {
     match parse_first_pattern(input) {
         Ok((first, rest)) => parse_set_after_first(alloc, at, first, rest),

@@ -1,6 +1,13 @@
+use Rattle.std.proofs.Common.{refl, rules}
+use Rattle.filter_parser.proofs.Views.{view_accepted}
 use Rattle.filter_parser.proofs.Placing.{kept_accept, spans_as, spans_both}
 use Rattle.filter_parser.proofs.command.parse_accept.Goals as goal
 
-pub returns-clause-placed : goal.returns-clause-placed
-returns-clause-placed c = λ start first.
-    spans_as (kept_accept c.args.at c.in_ok-has_text.has_text) (spans_both first c.in_ok-has_text.ensures.placed)
+pub returns : goal.returns
+returns c = record {
+  reads = rw (view_accepted c.args.at c.in_ok-has_text.has_text, c.in_ok-has_text.ensures.reads) refl;
+  shorter = search rules;
+  placed = λ start first.
+      spans_as (kept_accept c.args.at c.in_ok-has_text.has_text) (spans_both first c.in_ok-has_text.ensures.placed);
+  within = λ len start. c.in_ok-has_text.ensures.within len start;
+}

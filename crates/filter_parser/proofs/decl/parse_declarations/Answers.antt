@@ -1,4 +1,4 @@
-use Rattle.std.proofs.Common.{map}
+use Rattle.std.proofs.Common.{map, arith}
 use Rattle.filter_parser.specs.Steps.{remaining}
 use Rattle.filter_parser.specs.SyntaxCommands.{view_decl}
 use Rattle.filter_parser.proofs.Decls.{begins, goes_on, stops, ends}
@@ -16,7 +16,7 @@ loop-kind-init c = record {
 pub loop-kind-preserved : goal.loop-kind-preserved
 loop-kind-preserved c = record {
   goes = rw (c.in_ok-push-in-Ok.ensures.items, map_one view_decl c.loop-kind.decls.items c.in-Ok.decl)
-      (goes_on c.loop-kind.invariant.goes c.in-Some.ensures.found c.in-Ok.ensures.reads c.in-Ok.ensures.shorter c.in-Some.ensures.shorter);
+      (goes_on c.loop-kind.invariant.goes c.in-Some.ensures.found c.in-Ok.ensures.reads (omega (arith, c.in-Ok.ensures.shorter)) c.in-Some.ensures.shorter);
   grown = grown_more c.loop-kind.invariant.grown (c.in-Ok.ensures.placed _ (unkept c.in-Some.ensures.placed)) c.in_ok-push-in-Ok.ensures.items;
   within = λ len start. c.in-Ok.ensures.within len (c.in-Some.ensures.within len (c.loop-kind.invariant.within len start));
 }

@@ -1,13 +1,10 @@
-use Rattle.std.proofs.Common.{◌∙◌, ◌++◌, ap, map, List, arith}
+use Rattle.std.proofs.Common.{◌∙◌, ◌++◌, ap, map, List, arith, rules}
 use Rattle.filter_parser.specs.Placed.{expr_kept, joined, suffix_kept}
 use Rattle.filter_parser.specs.declared.tree.op.Suffix.{Suffix}
 use Rattle.filter_parser.proofs.Chains.{suffix_on, suffix_ends, suffix_stops}
 use Rattle.filter_parser.proofs.Placing.{grown_more, spans_as, spans_both, unkept}
 use Rattle.filter_parser.proofs.Views.{suffixes_more}
 use Rattle.filter_parser.proofs.expr_atom.parse_suffixes.Goals as goal
-
-pub returns-in-Err-clause-reads : goal.returns-in-Err-clause-reads
-returns-in-Err-clause-reads c = λ other. suffix_stops c.in-Some.ensures.found (c.in-Err.ensures.reads other) c.loop-after.invariant.goes
 
 pub loop-after-preserved : goal.loop-after-preserved
 loop-after-preserved c = record {
@@ -20,16 +17,23 @@ loop-after-preserved c = record {
   shorter = omega (arith, c.in-Ok.ensures.shorter, c.in-Some.ensures.shorter);
 }
 
-pub returns-clause-reads : goal.returns-clause-reads
-returns-clause-reads c = rw (c.in_ok-suffixed.ensures.is, c.loop-after.invariant.kept)
-    (suffix_ends c.in_default.ensures.found c.loop-after.invariant.goes)
+pub returns-in-Err : goal.returns-in-Err
+returns-in-Err c = record {
+  reads = λ other. suffix_stops c.in-Some.ensures.found (c.in-Err.ensures.reads other) c.loop-after.invariant.goes;
+  shorter = search rules;
+  placed = search rules;
+  within = λ len start.
+      c.in-Err.ensures.within len (c.in-Some.ensures.within len (c.loop-after.invariant.within len start));
+}
 
-pub returns-clause-placed : goal.returns-clause-placed
-returns-clause-placed c = λ start first.
-    let g = c.loop-after.invariant.grown in
-    spans_as (c.in_ok-suffixed.ensures.placed ∙ ap (λ (xs : List Suffix). expr_kept c.loop-after.inner-1 ++ joined (map suffix_kept xs)) g.whole)
-    (spans_both (rw c.loop-after.invariant.kept first) g.spans)
-
-pub returns-in-Err-clause-within : goal.returns-in-Err-clause-within
-returns-in-Err-clause-within c = λ len start.
-    c.in-Err.ensures.within len (c.in-Some.ensures.within len (c.loop-after.invariant.within len start))
+pub returns : goal.returns
+returns c = record {
+  reads = rw (c.in_ok-suffixed.ensures.is, c.loop-after.invariant.kept)
+      (suffix_ends c.in_default.ensures.found c.loop-after.invariant.goes);
+  shorter = search rules;
+  placed = λ start first.
+      let g = c.loop-after.invariant.grown in
+      spans_as (c.in_ok-suffixed.ensures.placed ∙ ap (λ (xs : List Suffix). expr_kept c.loop-after.inner-1 ++ joined (map suffix_kept xs)) g.whole)
+      (spans_both (rw c.loop-after.invariant.kept first) g.spans);
+  within = search rules;
+}
