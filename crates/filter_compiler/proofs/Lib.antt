@@ -1,8 +1,11 @@
+pub mod CommandPlaces
 pub mod CommandRuns
 pub mod ExpressionRuns
+pub mod InstructionPlaces
 pub mod Jumps
 pub mod Operators
 pub mod Parts
+pub mod PlaceCounts
 pub mod Puts
 pub mod Reaching
 pub mod Rows

@@ -1,5 +1,6 @@
 -- What callers cite.
 pub mod Codes
+pub mod InstructionPlaces
 pub mod Limits
 pub mod Meaning
 pub mod Need

@@ -6,7 +6,9 @@ mod compiler;
 mod expressions;
 mod fault;
 mod output;
+mod places;
 mod sets;
 
 pub use compiler::compile;
 pub use fault::CompileFault;
+pub use places::{instruction_places, one_place_each};

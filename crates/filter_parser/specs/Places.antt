@@ -1,11 +1,14 @@
 -- The places of the parts of a tree: each is a number of bytes, those of the text before the part (this project's own choice).
-use Rattle.std.specs.Prelude.{ℕ}
+use Rattle.std.specs.Prelude.{ℕ, ◌-◌, List, Option, Some, None, length, slice_get}
+use Rattle.filter_tokens.specs.declared.token.Token.{Token}
 use Rattle.filter_parser.specs.declared.tree.command.Command.{Command}
 use Rattle.filter_parser.specs.declared.tree.command.Command.TheFolds.{fold-Command}
 use Rattle.filter_parser.specs.declared.tree.command.Command.TheOpen.{Command-F}
+use Rattle.filter_parser.specs.declared.tree.decl.Decl.{Decl}
 use Rattle.filter_parser.specs.declared.tree.expr.Expr.{Expr}
 use Rattle.filter_parser.specs.declared.tree.expr.Expr.TheFolds.{fold-Expr}
 use Rattle.filter_parser.specs.declared.tree.expr.Expr.TheOpen.{Expr-F}
+use Rattle.filter_parser.specs.declared.tree.filter.Filter.{Filter}
 use Rattle.filter_parser.specs.declared.tree.set.SetPattern.{SetPattern}
 use Rattle.filter_parser.specs.declared.tree.set.SetPattern.TheVariants as written
 
@@ -47,3 +50,19 @@ pattern_place (written.Exact at bits) = at
 pattern_place (written.OrLonger at bits) = at
 pattern_place (written.OrShorter at bits) = at
 pattern_place (written.Between at pattern) = at
+
+-- the declarations and the commands of a filter, with their places
+abbrev pub decls_of : Filter → List Decl
+decls_of filter = filter.decls.items
+
+abbrev pub body_of : Filter → List Command
+body_of filter = filter.body.items
+
+-- the place of a token, and 0 where there is none
+abbrev pub token_place : Option Token → ℕ
+token_place None = 0
+token_place (Some token) = token.from
+
+-- the place of the last token of a filter, which is the `}` of its body
+abbrev pub end_place : Filter → ℕ
+end_place filter = token_place (slice_get filter.tokens.items (length filter.tokens.items - 1))

@@ -1,4 +1,5 @@
 ghost use Rattle.std.specs.Prelude.{◌≡◌, map};
+ghost use Rattle.filter_parser.specs.Places.{body_of, decls_of};
 ghost use Rattle.filter_parser.specs.SyntaxCommands.{commands_of, view_command, view_decl};
 ghost use Rattle.filter_parser.specs.SyntaxText.{view_filter};
 
@@ -25,14 +26,16 @@ impl Filter {
 
     /// The variables in the order of their declarations, those before the body first.
     pub fn decls(&self) -> &[Decl]
-        ensures { map view_decl result.now ≡ (view_filter self.now).decls }
+        ensures value { result.now ≡ decls_of self.now }
+        ensures view { map view_decl result.now ≡ (view_filter self.now).decls }
     {
         self.decls.as_slice()
     }
 
     /// The commands of the body.
     pub fn body(&self) -> &[Command]
-        ensures { commands_of (map view_command result.now) ≡ (view_filter self.now).body }
+        ensures value { result.now ≡ body_of self.now }
+        ensures view { commands_of (map view_command result.now) ≡ (view_filter self.now).body }
     {
         self.body.as_slice()
     }

@@ -15,7 +15,7 @@ returns-in_ok-build_code-in-None-clause-meaning c =
     let out = c.write_filter-out.result in
     let locals : length c.decls.result.now ≡ length f.decls =
     sym (length-map c.decls.result.now view_decl)
-    ∙ ap length (c.decls.ensures ∙ ap (λ (x : Filter). (view_filter x).decls) c.filter.ensures.value) in
+    ∙ ap length (c.decls.ensures.view ∙ ap (λ (x : Filter). (view_filter x).decls) c.filter.ensures.value) in
     let is : c.in_ok-build_code-in-None.field-0 ≡ code_of f =
     c.in_ok-build_code-in-None.ensures
     ∙ (ap (λ n. program_of n out.sets.items out.instrs) locals

@@ -11,9 +11,9 @@ pub returns : goal.returns
 returns c =
     let f = view_filter c.args.typed.now in
     let decls_are : map view_decl c.decls.result.now ≡ f.decls =
-    c.decls.ensures ∙ ap (λ (x : Filter). (view_filter x).decls) c.filter-filter.ensures.value in
+    c.decls.ensures.view ∙ ap (λ (x : Filter). (view_filter x).decls) c.filter-filter.ensures.value in
     let body_is : commands_of (map view_command c.body.result.now) ≡ f.body =
-    c.body.ensures ∙ ap (λ (x : Filter). (view_filter x).body) c.filter-filter.ensures.value in
+    c.body.ensures.view ∙ ap (λ (x : Filter). (view_filter x).body) c.filter-filter.ensures.value in
     let declared =
     subst (λ l. Puts c.new-out.result c.emit_declarations.new.out (code_alone (declarations_code 0 l))) decls_are c.emit_declarations.ensures in
     let commanded =

@@ -7,4 +7,4 @@ pub overflow_cast-result : goal.overflow_cast-result
 overflow_cast-result c =
     let few = c.self.invariant.declared.few in
     let count : length c.decls.result.now ≡ length (map view_decl c.decls.result.now) = sym (length-map c.decls.result.now view_decl) in
-    omega (arith, c.number_of.ensures.limit, ap length c.decls.ensures)
+    omega (arith, c.number_of.ensures.limit, ap length c.decls.ensures.view)
