@@ -3,4 +3,5 @@ pub mod Answered
 pub mod Endings
 pub mod InWords
 pub mod Listings
+pub mod SourcePlaces
 mod Rows

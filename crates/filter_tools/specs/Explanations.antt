@@ -1,21 +1,9 @@
 -- A refusal for people: where it is, in words, and the line with a caret under the place. (This project's own choice.)
-use Rattle.std.specs.Prelude.{ℕ, ◌==◌, ◌&&◌, ◌||◌, not, nat_lt, if◌then◌else◌, List, [], ◌∷◌, ◌++◌, Option, Some, None, codes, decimal, drop, filter, map, take}
-use Rattle.filter_parser.specs.Codes as parse
-use Rattle.filter_types.specs.Codes as types
+use Rattle.std.specs.Prelude.{◌≡◌, ℕ, Bool, ◌==◌, ◌&&◌, ◌||◌, not, nat_lt, if◌then◌else◌, List, [], ◌∷◌, ◌++◌, Option, Some, None, codes, decimal, drop, filter, map, take}
 use Rattle.filter_source.specs.Refusals.{refusal_code}
 use Rattle.filter_source.specs.declared.refusal.Refusal.{Refusal}
-use Rattle.filter_source.specs.declared.refusal.Refusal.TheVariants.{TooLong, Hexadecimal, File, Parse, Typing, Compile, Verify}
 use Rattle.filter_tools.specs.Places.{before_first_feed, begins_character, behind_last_feed, column_at, line_at}
-
--- the byte of a filter's text at which a refusal stands
-abbrev pub byte_of_text : Refusal → Option ℕ
-byte_of_text (Parse why) = Some (parse.fault_place why)
-byte_of_text (Typing why) = Some (types.fault_place why)
-byte_of_text TooLong = None
-byte_of_text Hexadecimal = None
-byte_of_text (File why) = None
-byte_of_text (Compile why) = None
-byte_of_text (Verify why) = None
+use Rattle.filter_tools.specs.SourcePlaces.{StandsAt}
 
 -- a byte of a line as it is shown: control bytes other than the tab are shown as spaces
 abbrev pub shown_byte : ℕ → ℕ
@@ -38,12 +26,13 @@ abbrev pub excerpt : List ℕ → List ℕ → List ℕ
 excerpt before behind = map shown_byte before ++ map shown_byte behind ++ 10 ∷ []
     ++ map indent_of (filter begins_character before) ++ 94 ∷ (10 ∷ [])
 
--- what is said of a refusal, by its place
-abbrev pub said_at : List ℕ → List ℕ → List ℕ → Refusal → Option ℕ → List ℕ
-said_at name text words why None = name ++ message words (refusal_code why)
-said_at name text words why (Some at) = name ++ position (line_at text at) (column_at text at) ++ message words (refusal_code why)
+-- what is said of a refusal in some words, by the byte of the text at which it stands
+abbrev pub explanation : List ℕ → List ℕ → List ℕ → Refusal → Option ℕ → List ℕ
+explanation name text words why None = name ++ message words (refusal_code why)
+explanation name text words why (Some at) = name ++ position (line_at text at) (column_at text at) ++ message words (refusal_code why)
     ++ excerpt (behind_last_feed (take at text)) (before_first_feed (drop at text))
 
--- what people are told of a refusal
-abbrev pub explanation : List ℕ → List ℕ → List ℕ → Refusal → List ℕ
-explanation name text words why = said_at name text words why (byte_of_text why)
+-- what people are told of a refusal of a source: some words, where it stands
+abbrev pub IsExplanation : Bool → List ℕ → List ℕ → Refusal → List ℕ → Type 0
+IsExplanation is_code name text why told =
+    (words : List ℕ) × (byte : Option ℕ) × StandsAt is_code text why byte × (told ≡ explanation name text words why byte)

@@ -1,4 +1,5 @@
 pub mod Places
+pub mod SourcePlaces
 pub mod Explanations
 pub mod Telling
 pub mod RouteOfSize

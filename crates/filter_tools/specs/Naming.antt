@@ -14,17 +14,17 @@ named_refusal name why = name ++ codes ": " ++ refusal_line why
 
 -- What standard error got of a source: its refusal in words, or behind its name, and nothing where there is none. Only what was
 -- read of the source, to its end or to its limit, is explained.
-abbrev pub TellsOf : Bool → List ℕ → List ℕ → Option Refusal → Option (List ℕ) → Option (List ℕ) → Type 0
-TellsOf true name text why told tells =
-    (read : List ℕ) × (left : Option (List ℕ)) × Consumes (Some text) left read × Explains name read why told tells
-TellsOf false name text None told tells = Keeps told tells
-TellsOf false name text (Some why) told tells = Appends told tells (named_refusal name why)
+abbrev pub TellsOf : Bool → Bool → List ℕ → List ℕ → Option Refusal → Option (List ℕ) → Option (List ℕ) → Type 0
+TellsOf true is_code name text why told tells =
+    (read : List ℕ) × (left : Option (List ℕ)) × Consumes (Some text) left read × Explains is_code name read why told tells
+TellsOf false is_code name text None told tells = Keeps told tells
+TellsOf false is_code name text (Some why) told tells = Appends told tells (named_refusal name why)
 
 -- what standard error got where a fault cut it
-abbrev pub IsCutTelling : StreamFault → Bool → List ℕ → List ℕ → Option (List ℕ) → Option (List ℕ) → Type 0
-IsCutTelling fault true name text told tells = (why : Refusal) × (read : List ℕ) × (left : Option (List ℕ))
-    × Consumes (Some text) left read × IsCutExplanation fault name read why told tells
-IsCutTelling fault false name text told tells = (why : Refusal) × IsCut fault told tells (named_refusal name why)
+abbrev pub IsCutTelling : StreamFault → Bool → Bool → List ℕ → List ℕ → Option (List ℕ) → Option (List ℕ) → Type 0
+IsCutTelling fault true is_code name text told tells = (why : Refusal) × (read : List ℕ) × (left : Option (List ℕ))
+    × Consumes (Some text) left read × IsCutExplanation fault is_code name read why told tells
+IsCutTelling fault false is_code name text told tells = (why : Refusal) × IsCut fault told tells (named_refusal name why)
 
 -- The report on a source was written, and standard error got what is told of it. `held` and `holds` are what the writer held before
 -- and holds now, `told` and `tells` the same of standard error.
@@ -32,4 +32,4 @@ pub record ChecksNamed (size : ℕ) (is_code is_explained : Bool) (name text : L
     (why : Option Refusal) : Type 0 where
   pub left : Option (List ℕ)
   pub checks : Checks size is_code text left held holds (refusals_of why)
-  pub told_of : TellsOf is_explained name text why told tells
+  pub told_of : TellsOf is_explained is_code name text why told tells

@@ -1,23 +1,14 @@
 //! A refusal in words for people, at its line and column where it has one.
-ghost use Rattle.std.specs.Prelude.{◌≡◌, ◌++◌, ℕ, List, IfOk, OnOk, filter, map};
+ghost use Rattle.std.specs.Prelude.{◌≡◌, ◌++◌, IfOk, OnOk, filter, map};
 ghost use Rattle.filter_tools.specs.Places.{begins_character};
-ghost use Rattle.filter_tools.specs.Explanations.{byte_of_text, explanation, excerpt, indent_of, message, position, shown_byte};
+ghost use Rattle.filter_tools.specs.Explanations.{IsExplanation, explanation, excerpt, indent_of, message, position, shown_byte};
 
 use crate::place::{begins_character, place_in};
 use crate::reason::words_of;
+use crate::source_place::byte_of;
 use filter_source::Refusal;
 use line_protocol::push_decimal;
 use std::alloc::{AllocError, Global};
-
-/// The byte of a filter's text at which a refusal stands. Other refusals have no place in a text.
-fn byte_of_text(why: Refusal) -> Option<usize>
-    ensures { result ≡ byte_of_text why }
-{
-    match why {
-        Refusal::Parse(_) | Refusal::Typing(_) => Some(why.at()),
-        _ => None,
-    }
-}
 
 /// A byte of a line as it is shown: a control byte other than a tab is shown as a space.
 fn shown_byte(byte: u8) -> u8
@@ -95,19 +86,20 @@ fn push_message(out: &mut Vec<u8>, words: &[u8], code: &str) -> Result<(), Alloc
     out.extend_from_slice(b")\n")
 }
 
-/// What is said of a refusal in these words.
+/// What is said of a refusal in these words, where it stands at this byte.
 fn explain_in(
     alloc: Global,
     name: &[u8],
     text: &[u8],
     words: &[u8],
     why: Refusal,
+    byte: Option<usize>,
 ) -> Result<Vec<u8>, AllocError>
-    ensures { IfOk result (λ out. out.items ≡ explanation name.now text.now words.now why) }
+    ensures { IfOk result (λ out. out.items ≡ explanation name.now text.now words.now why byte) }
 {
     let mut out = Vec::new(alloc);
     out.extend_from_slice(name)?;
-    match byte_of_text(why) {
+    match byte {
         None => push_message(&mut out, words, why.code())?,
         Some(at) => {
             let place = place_in(text, at);
@@ -119,8 +111,8 @@ fn explain_in(
     Ok(out)
 }
 
-/// Why a source of this name is refused for domains of a size, for people: `NAME: WORDS (CODE)`. Where the refusal has a place in a filter's text, its
-/// line and column stand behind the name, and the line with a caret under the place follows.
+/// Why a source of this name is refused for domains of a size, for people: `NAME: WORDS (CODE)`. Where the refusal has a place in a
+/// filter's text, its line and column stand behind the name, and the line with a caret under the place follows.
 pub fn explain(
     alloc: Global,
     name: &[u8],
@@ -129,8 +121,9 @@ pub fn explain(
     is_code: bool,
     why: Refusal,
 ) -> Result<Vec<u8>, AllocError>
-    ensures { IfOk result (λ out. (words : List ℕ) × (out.items ≡ explanation name.now text.now words why)) }
+    ensures { IfOk result (λ out. IsExplanation is_code name.now text.now why out.items) }
 {
     let words = words_of(alloc, text, size, is_code, why)?;
-    explain_in(alloc, name, text, words.as_bytes(), why)
+    let byte = byte_of(alloc, text, is_code, why)?;
+    explain_in(alloc, name, text, words.as_bytes(), why, byte)
 }

@@ -9,6 +9,7 @@ mod named;
 mod place;
 mod reason;
 mod route_of_size;
+mod source_place;
 
 pub use aloud::{check_aloud, tell};
 pub use explanation::explain;

@@ -67,7 +67,7 @@ pub fn check_named<W: Write, E: Write>(
         (ChecksOff (stream_fault fault) size is_code text.now left (W.contents writer.old) (W.contents writer.new)
         ⊎ Checks size is_code text.now left (W.contents writer.old) (W.contents writer.new) 1)) }
     ensures cut { IfErr result (λ fault. Keeps (E.contents errors.old) (E.contents errors.new)
-        ⊎ IsCutTelling (stream_fault fault) is_explained name.now text.now (E.contents errors.old) (E.contents errors.new)) }
+        ⊎ IsCutTelling (stream_fault fault) is_explained is_code name.now text.now (E.contents errors.old) (E.contents errors.new)) }
 {
     let mut reader = text;
     if is_explained {

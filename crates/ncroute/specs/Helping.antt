@@ -59,7 +59,7 @@ IsCutOne fault how source before after =
     ⊎ ((text : List ℕ) × IsRead source text before.reads after.reads × (left : Option (List ℕ))
     × (ChecksOff fault how.size how.is_code text left before.holds after.holds
     ⊎ Checks how.size how.is_code text left before.holds after.holds 1)
-    × (Keeps before.tells after.tells ⊎ IsCutTelling fault how.is_explained (name_of source) text before.tells after.tells))
+    × (Keeps before.tells after.tells ⊎ IsCutTelling fault how.is_explained how.is_code (name_of source) text before.tells after.tells))
 
 -- A fault ended the checks behind the first of the sources.
 pub record ChecksSome (fault : StreamFault) (how : Checking) (sources : List Source) (before after : Streams) : Type 0 where
@@ -87,7 +87,7 @@ pub record TriesFilter (size : ℕ) (name : List ℕ) (is_explained : Bool) (bef
   pub text : List ℕ
   pub filtered : Filtered
   pub answered : IfSome before.reads (λ input. Filters size text input after.reads before.holds after.holds filtered)
-  pub told : Explains name text (told_refusal is_explained filtered) before.tells after.tells
+  pub told : Explains false name text (told_refusal is_explained filtered) before.tells after.tells
   pub ends : status ≡ status_of_filter filtered
 
 -- A fault ended that: the file was not read, the answers broke off, or the words of a refusal were cut.
@@ -96,7 +96,7 @@ StopsFilter fault size name before after = (after ≡ before)
     ⊎ ((text : List ℕ) × (((after.tells ≡ before.tells)
     × IfSome before.reads (λ input. FiltersOff fault size text input after.reads before.holds after.holds))
     ⊎ ((why : Refusal) × IfSome before.reads (λ input. Filters size text input after.reads before.holds after.holds (Refused why))
-    × IsCutExplanation fault name text why before.tells after.tells)))
+    × IsCutExplanation fault false name text why before.tells after.tells)))
 
 -- The listing of a text was written, and the exit status says whether something was refused.
 pub record ListsText (size : Option ℕ) (is_code : Bool) (text : List ℕ) (held holds : Option (List ℕ)) (status : ℕ) : Type 0 where

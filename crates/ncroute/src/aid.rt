@@ -1,5 +1,5 @@
 //! From what people ask for to an exit status.
-ghost use Rattle.std.specs.Prelude.{◌≡◌, ◌⊎◌, ◌||◌, ℕ, List, Option, IfErr, IfOk, is_some, length};
+ghost use Rattle.std.specs.Prelude.{◌≡◌, ◌⊎◌, ◌||◌, ℕ, List, Option, false, IfErr, IfOk, is_some, length};
 ghost use Rattle.std.specs.Io.KnownBytes.{Appends};
 ghost use Rattle.filter_commands.specs.Evaluation.{IsCut};
 ghost use Rattle.filter_commands.specs.Faults.{stream_fault};
@@ -127,10 +127,10 @@ fn tell_filter<E: Write>(
     is_explained: bool,
     filtered: Filtered,
 ) -> Result<u8, ProgramFault>
-    ensures told { IfOk result (λ status. Explains name.now text.now (told_refusal is_explained filtered)
+    ensures told { IfOk result (λ status. Explains false name.now text.now (told_refusal is_explained filtered)
         (E.contents errors.old) (E.contents errors.new) × (status ≡ status_of_filter filtered)) }
     ensures cut { IfErr result (λ fault. (why : TheRefusal) × (filtered ≡ Refused why)
-        × IsCutExplanation (stream_fault fault) name.now text.now why (E.contents errors.old) (E.contents errors.new)) }
+        × IsCutExplanation (stream_fault fault) false name.now text.now why (E.contents errors.old) (E.contents errors.new)) }
 {
     match filtered {
         Filtered::Answered(0) => Ok(0),

@@ -35,7 +35,7 @@ fn expect_told(
 /// A mistake of each class, each at its line and column.
 #[test]
 fn texts_are_explained(rt: HostRuntime) -> Result<(), Fail> {
-    let rows: [(&str, &str, &str); 8] = [
+    let rows: [(&str, &str, &str); 9] = [
         (
             "filter q { accept }",
             "refused P2 18\n",
@@ -74,7 +74,12 @@ fn texts_are_explained(rt: HostRuntime) -> Result<(), Fail> {
         (
             "filter d { if 8 / rip_metric = 2 then accept; }",
             "code 4e43463100000008010000000813230100000002306100017071\nrefused V3 2\n",
-            "f: instruction 2: the divisor may be 0: it is 0..16 here (V3)\n",
+            "f:1:17: instruction 2: the divisor may be 0: it is 0..16 here (V3)\nfilter d { if 8 / rip_metric = 2 then accept; }\n                ^\n",
+        ),
+        (
+            "filter d { if\t/* \u{e9} */ 8 / rip_metric = 2 then accept; }",
+            "code 4e43463100000008010000000813230100000002306100017071\nrefused V3 2\n",
+            "f:1:25: instruction 2: the divisor may be 0: it is 0..16 here (V3)\nfilter d { if\t/* \u{e9} */ 8 / rip_metric = 2 then accept; }\n             \t          ^\n",
         ),
     ];
     for (text, answer, told) in rows {
@@ -90,10 +95,15 @@ fn a_verified_filter_is_not_explained(rt: HostRuntime) -> Result<(), Fail> {
     expect_told(&rt, rt.alloc(), b"filter a { accept; }", false, answer, "")
 }
 
-/// A code file is explained by its byte.
+/// A code file is explained by its byte or its instruction.
 #[test]
 fn code_files_are_explained(rt: HostRuntime) -> Result<(), Fail> {
-    let rows: [(&str, &str, &str); 2] = [
+    let rows: [(&str, &str, &str); 3] = [
+        (
+            "4e43463100000008010000000813230100000002306100017071",
+            "code 4e43463100000008010000000813230100000002306100017071\nrefused V3 2\n",
+            "f: instruction 2: the divisor may be 0: it is 0..16 here (V3)\n",
+        ),
         (
             "4e434631000000017000",
             "refused C6 9\n",

@@ -134,13 +134,33 @@ fn mistakes_of_names_and_kinds_are_placed(rt: HostRuntime) -> Result<(), Fail> {
     Ok(())
 }
 
-/// What the verifier refuses is told by its instruction, with what is known of the operand.
+/// What the verifier refuses is told at the operator or operand that gave the instruction, with what is known of the operand.
 #[test]
-fn refusals_of_the_verifier_are_told(rt: HostRuntime) -> Result<(), Fail> {
-    let divided = filter_of(rt.alloc(), ("\ta = 100 / rip_metric;", "", 0, ""))?;
-    let told = told_of(rt.alloc(), divided.as_slice(), true)?;
-    let want = "f: instruction 4: the divisor may be 0: it is 0..16 here (V3)\n";
-    assert_eq!(&rt; told.as_slice(), want.as_bytes());
+fn refusals_of_the_verifier_are_placed(rt: HostRuntime) -> Result<(), Fail> {
+    let rows: [((&str, &str, usize, &str), &str); 3] = [
+        (
+            ("\ta = 100 / rip_metric;", "", 0, ""),
+            "f:22:10: instruction 4: the divisor may be 0: it is 0..16 here (V3)",
+        ),
+        (
+            ("\ta =\t/* caf\u{e9} */ 7 / (rip_metric * 2);", "", 0, ""),
+            "f:22:19: instruction 6: the divisor may be 0: it is 0..32 here (V3)",
+        ),
+        (
+            (
+                "\ta = ",
+                "1+(",
+                32,
+                "rip_metric))))))))))))))))))))))))))))))));",
+            ),
+            "f:22:102: instruction 34: the stack may overflow (V5)",
+        ),
+    ];
+    for (mistake, want) in rows {
+        let text = filter_of(rt.alloc(), mistake)?;
+        let told = told_of(rt.alloc(), text.as_slice(), true)?;
+        assert_eq!(&rt; first_line(told.as_slice()), want.as_bytes());
+    }
     Ok(())
 }
 

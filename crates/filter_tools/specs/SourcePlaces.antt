@@ -1,0 +1,43 @@
+-- Where in a source a refusal stands: at a byte of a filter's text. (This project's own choice.)
+use Rattle.std.specs.Prelude.{◌≡◌, ◌⊎◌, ℕ, Bool, true, false, List, [], Option, Some, None, slice_get}
+use Rattle.filter_compiler.specs.InstructionPlaces.{places_of}
+use Rattle.filter_parser.specs.Codes as parse
+use Rattle.filter_parser.specs.Placed.{IsPlaced}
+use Rattle.filter_parser.specs.SyntaxText.{FilterView, IsText, view_filter}
+use Rattle.filter_parser.specs.declared.tree.filter.Filter.{Filter}
+use Rattle.filter_source.specs.declared.refusal.Refusal.{Refusal}
+use Rattle.filter_source.specs.declared.refusal.Refusal.TheVariants.{TooLong, Hexadecimal, File, Parse, Typing, Compile, Verify}
+use Rattle.filter_types.specs.Codes as types
+use Rattle.filter_verifier.specs.Faults.{fault_place}
+use Rattle.filter_verifier.specs.declared.fault.VerifyFault.{VerifyFault}
+use Rattle.filter_verifier.specs.declared.fault.VerifyFault.TheVariants as fault
+
+-- The places of the instructions of the filter that a text spells: of each, the place of the part that it translates. There are none
+-- where the text spells no filter.
+abbrev pub ArePlacesIn : List ℕ → List ℕ → Type 0
+ArePlacesIn text places =
+    ((tree : Filter) × IsText text (view_filter tree) × IsPlaced text tree × (places ≡ places_of tree))
+    ⊎ (((filter : FilterView) → IsText text filter → ⊥) × (places ≡ []))
+
+-- the instruction that the verifier refuses; the size of a domain, and memory, are about none
+abbrev pub refused_instruction : VerifyFault → Option ℕ
+refused_instruction fault.BadSize = None
+refused_instruction fault.Memory = None
+refused_instruction why = Some (fault_place why)
+
+-- the byte of a text that an instruction comes from
+abbrev pub IsInstructionAt : List ℕ → Option ℕ → Option ℕ → Type 0
+IsInstructionAt text None byte = byte ≡ None
+IsInstructionAt text (Some at) byte = (places : List ℕ) × ArePlacesIn text places × (byte ≡ slice_get places at)
+
+-- The byte of a source at which a refusal stands: of a filter's text, the byte that it names, or the part that gave the instruction
+-- which is refused. A code file has no such byte.
+abbrev pub StandsAt : Bool → List ℕ → Refusal → Option ℕ → Type 0
+StandsAt is_code text (Parse why) byte = byte ≡ Some (parse.fault_place why)
+StandsAt is_code text (Typing why) byte = byte ≡ Some (types.fault_place why)
+StandsAt true text (Verify why) byte = byte ≡ None
+StandsAt false text (Verify why) byte = IsInstructionAt text (refused_instruction why) byte
+StandsAt is_code text TooLong byte = byte ≡ None
+StandsAt is_code text Hexadecimal byte = byte ≡ None
+StandsAt is_code text (File why) byte = byte ≡ None
+StandsAt is_code text (Compile why) byte = byte ≡ None
