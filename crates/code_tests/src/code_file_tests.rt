@@ -16,9 +16,15 @@ pub fn fault_of(alloc: Global, bytes: &[u8]) -> Option<FileFault> {
 }
 
 #[test]
-fn the_smallest_file(rt: HostRuntime) -> Result<(), Fail> {
-    let code = read_code(rt.alloc(), b"NCF1\0\0\0\x01\x70")?;
-    assert_eq!(rt; code.instrs(), [Instr::Accept].as_slice());
+fn the_smallest_files(rt: HostRuntime) -> Result<(), Fail> {
+    let rows: [(&[u8], &[Instr]); 2] = [
+        (b"NCF1\0\0\0\0", &[]),
+        (b"NCF1\0\0\0\x01\x70", &[Instr::Accept]),
+    ];
+    for (bytes, instrs) in rows {
+        let code = read_code(rt.alloc(), bytes)?;
+        assert_eq!(rt; code.instrs(), instrs);
+    }
     Ok(())
 }
 
@@ -107,117 +113,56 @@ fn everything_is_written(rt: HostRuntime) -> Result<(), Fail> {
     Ok(())
 }
 
-#[test]
-fn a_file_without_instructions(rt: HostRuntime) -> Result<(), Fail> {
-    let code = read_code(rt.alloc(), b"NCF1\0\0\0\0")?;
-    assert_eq!(rt; code.instrs().len(), 0);
-    Ok(())
-}
+/// Bytes that are no code file, and why.
+const REFUSED: [(&[u8], FileFault); 20] = [
+    (b"NCF1\0\0\0\x01\x70\0", FileFault::BytesAfterEnd(9)),
+    (b"", FileFault::EndsEarly(0)),
+    (b"NC", FileFault::EndsEarly(2)),
+    (b"NCF1\0\0\0\x01", FileFault::EndsEarly(8)),
+    (b"NCF1\0\0\0\x01\x01\xff\xff\xff", FileFault::EndsEarly(12)),
+    (b"NCF2\0\0\0\x01\x70", FileFault::OtherMark(3)),
+    (b"N\0", FileFault::OtherMark(1)),
+    (b"NCF1\0\0\0\x01\x72", FileFault::UnknownOpcode(8)),
+    // Operands: a mask of 33 bits, a prefix with bits after its length, one of length 33, and a truth value of 2.
+    (
+        b"NCF1\0\0\0\x03\x03\x01\x02\x03\x04\x42\x21\x70",
+        FileFault::BadOperand(14),
+    ),
+    (
+        b"NCF1\0\0\0\x02\x04\x01\x02\x03\x04\x10\x70",
+        FileFault::BadOperand(9),
+    ),
+    (
+        b"NCF1\0\0\0\x02\x04\x01\x02\0\0\x21\x70",
+        FileFault::BadOperand(9),
+    ),
+    (b"NCF1\0\0\0\x02\x02\x02\x70", FileFault::BadOperand(9)),
+    // Patterns: lengths that fall, a length of 33, and an early end in one that is wrong besides.
+    (
+        b"NCF1\0\x01\0\x01\x01\0\0\0\x08\x11\x0f\0\0",
+        FileFault::BadOperand(8),
+    ),
+    (
+        b"NCF1\0\x01\0\x01\x01\0\0\0\x08\x08\x21\0\0",
+        FileFault::BadOperand(8),
+    ),
+    (
+        b"NCF1\0\x01\0\x01\x01\x01\0\0\x08\x11",
+        FileFault::EndsEarly(14),
+    ),
+    // 17 variables, 65 sets and 1,025 instructions are too many; 1,024 instructions are not.
+    (b"NCF1\x11\0\0\0", FileFault::OverLimit(4)),
+    (b"NCF1\x10\x41", FileFault::OverLimit(5)),
+    (b"NCF1\x10\x40\x04\x01", FileFault::OverLimit(6)),
+    (b"NCF1\0\0\x04\x01", FileFault::OverLimit(6)),
+    (b"NCF1\0\0\x04\0", FileFault::EndsEarly(8)),
+];
 
 #[test]
-fn a_byte_after_the_end(rt: HostRuntime) {
-    let alloc = rt.alloc();
-    assert_eq!(rt;
-        fault_of(alloc, b"NCF1\0\0\0\x01\x70\0"),
-        Some(FileFault::BytesAfterEnd(9))
-    );
-}
-
-#[test]
-fn an_early_end(rt: HostRuntime) {
-    let alloc = rt.alloc();
-    assert_eq!(rt; fault_of(alloc, b""), Some(FileFault::EndsEarly(0)));
-    assert_eq!(rt; fault_of(alloc, b"NC"), Some(FileFault::EndsEarly(2)));
-    assert_eq!(rt;
-        fault_of(alloc, b"NCF1\0\0\0\x01"),
-        Some(FileFault::EndsEarly(8))
-    );
-    assert_eq!(rt;
-        fault_of(alloc, b"NCF1\0\0\0\x01\x01\xff\xff\xff"),
-        Some(FileFault::EndsEarly(12))
-    );
-}
-
-#[test]
-fn another_mark(rt: HostRuntime) {
-    let alloc = rt.alloc();
-    assert_eq!(rt;
-        fault_of(alloc, b"NCF2\0\0\0\x01\x70"),
-        Some(FileFault::OtherMark(3))
-    );
-    assert_eq!(rt; fault_of(alloc, b"N\0"), Some(FileFault::OtherMark(1)));
-}
-
-#[test]
-fn another_opcode(rt: HostRuntime) {
-    let alloc = rt.alloc();
-    assert_eq!(rt;
-        fault_of(alloc, b"NCF1\0\0\0\x01\x72"),
-        Some(FileFault::UnknownOpcode(8))
-    );
-}
-
-#[test]
-fn an_operand_out_of_range(rt: HostRuntime) {
-    let alloc = rt.alloc();
-    assert_eq!(rt;
-        fault_of(alloc, b"NCF1\0\0\0\x03\x03\x01\x02\x03\x04\x42\x21\x70"),
-        Some(FileFault::BadOperand(14))
-    );
-    assert_eq!(rt;
-        fault_of(alloc, b"NCF1\0\0\0\x02\x04\x01\x02\x03\x04\x10\x70"),
-        Some(FileFault::BadOperand(9))
-    );
-    assert_eq!(rt;
-        fault_of(alloc, b"NCF1\0\0\0\x02\x04\x01\x02\0\0\x21\x70"),
-        Some(FileFault::BadOperand(9))
-    );
-    assert_eq!(rt;
-        fault_of(alloc, b"NCF1\0\0\0\x02\x02\x02\x70"),
-        Some(FileFault::BadOperand(9))
-    );
-}
-
-#[test]
-fn a_pattern_out_of_range(rt: HostRuntime) {
-    let alloc = rt.alloc();
-    assert_eq!(rt;
-        fault_of(alloc, b"NCF1\0\x01\0\x01\x01\0\0\0\x08\x11\x0f\0\0"),
-        Some(FileFault::BadOperand(8))
-    );
-    assert_eq!(rt;
-        fault_of(alloc, b"NCF1\0\x01\0\x01\x01\0\0\0\x08\x08\x21\0\0"),
-        Some(FileFault::BadOperand(8))
-    );
-    assert_eq!(rt;
-        fault_of(alloc, b"NCF1\0\x01\0\x01\x01\x01\0\0\x08\x11"),
-        Some(FileFault::EndsEarly(14))
-    );
-}
-
-#[test]
-fn a_number_over_its_limit(rt: HostRuntime) {
-    let alloc = rt.alloc();
-    assert_eq!(rt;
-        fault_of(alloc, b"NCF1\x11\0\0\0"),
-        Some(FileFault::OverLimit(4))
-    );
-    assert_eq!(rt;
-        fault_of(alloc, b"NCF1\x10\x41"),
-        Some(FileFault::OverLimit(5))
-    );
-    assert_eq!(rt;
-        fault_of(alloc, b"NCF1\x10\x40\x04\x01"),
-        Some(FileFault::OverLimit(6))
-    );
-    assert_eq!(rt;
-        fault_of(alloc, b"NCF1\0\0\x04\x01"),
-        Some(FileFault::OverLimit(6))
-    );
-    assert_eq!(rt;
-        fault_of(alloc, b"NCF1\0\0\x04\0"),
-        Some(FileFault::EndsEarly(8))
-    );
+fn what_is_no_file_is_refused(rt: HostRuntime) {
+    for (bytes, fault) in REFUSED {
+        assert_eq!(rt; fault_of(rt.alloc(), bytes), Some(fault));
+    }
 }
 
 fn text(alloc: Global, fault: FileFault) -> Result<String, Fail> {

@@ -5,6 +5,7 @@ use prefix_patterns::{
     read_prefix,
 };
 use std::alloc::Global;
+use std::process::Abort;
 use std::test::Fail;
 
 /// A prefix as its first address and its length.
@@ -185,55 +186,72 @@ fn sets_match_what_a_pattern_matches(rt: HostRuntime) -> Result<(), Fail> {
 
 /// The patterns, and twenty more that match none of the prefixes of these tests: enough for the set to be searched by its
 /// index.
-fn among_others(alloc: Global, patterns: &[Pattern]) -> Result<Vec<Pattern>, Fail> {
-    let mut all = Vec::from_slice(alloc, patterns)?;
+fn among_others(mut patterns: Vec<Pattern>) -> Result<Vec<Pattern>, Fail> {
     for low_bits in 0..20u32 {
         let host = Prefix::new(Ip(0xfa00_0000 + low_bits), 32).ok_or("no prefix")?;
-        all.push(Pattern::new(host, 32, 32).ok_or("no pattern")?)?;
+        patterns.push(Pattern::new(host, 32, 32).ok_or("no pattern")?)?;
     }
-    Ok(all)
+    Ok(patterns)
+}
+
+/// Patterns, each a prefix and its lengths, a prefix, and whether one of the patterns matches it.
+const MATCHES: [(&[(&[u8], u8, u8)], &[u8], bool); 16] = [
+    (TWO, b"1.0.0.0/8", true),
+    (TWO, b"1.128.0.0/9", true),
+    (TWO, b"1.0.0.0/10", false),
+    (TWO, b"0.0.0.0/0", false),
+    (NONE_BUT_ALL, b"0.0.0.0/0", true),
+    (NONE_BUT_ALL, b"128.0.0.0/1", false),
+    (UPPER_HALF, b"0.0.0.0/1", false),
+    (UPPER_HALF, b"0.0.0.0/0", true),
+    (UPPER_HALF, b"200.1.2.3/32", true),
+    (SHORT_AND_LONG, b"10.1.2.0/24", true),
+    (SHORT_AND_LONG, b"10.1.3.0/24", true),
+    (SHORT_AND_LONG, b"10.1.0.0/16", true),
+    (SHORT_AND_LONG, b"10.1.2.0/25", false),
+    (SHORT_AND_LONG, b"10.0.0.0/8", false),
+    (&[], b"0.0.0.0/0", false),
+    (&[], b"1.2.3.4/32", false),
+];
+
+const TWO: &[(&[u8], u8, u8)] = &[(b"1.0.0.0/8", 8, 8), (b"1.0.0.0/8", 9, 9)];
+
+const NONE_BUT_ALL: &[(&[u8], u8, u8)] = &[(b"128.0.0.0/1", 0, 0)];
+
+const UPPER_HALF: &[(&[u8], u8, u8)] = &[(b"128.0.0.0/1", 0, 32)];
+
+const SHORT_AND_LONG: &[(&[u8], u8, u8)] = &[(b"10.1.2.0/24", 24, 24), (b"10.1.0.0/16", 16, 24)];
+
+/// Whether a set of these patterns matches a prefix. It has the patterns that it was built of.
+fn set_matches(
+    rt: &impl Abort,
+    alloc: Global,
+    patterns: &[Pattern],
+    prefix: &Prefix,
+) -> Result<bool, SetFault> {
+    let set = PatternSet::build(alloc, patterns)?;
+    assert_eq!(rt; set.patterns(), patterns);
+    Ok(set.matches(prefix))
+}
+
+/// The patterns of a row.
+fn patterns_of(alloc: Global, parts: &[(&[u8], u8, u8)]) -> Result<Vec<Pattern>, Fail> {
+    let mut patterns = Vec::new(alloc);
+    for (text, low, high) in parts {
+        patterns.push(pattern(text, *low, *high).ok_or("no pattern")?)?;
+    }
+    Ok(patterns)
 }
 
 #[test]
 fn small_and_large_sets_match_by_length_and_bits(rt: HostRuntime) -> Result<(), Fail> {
-    let two = [
-        pattern(b"1.0.0.0/8", 8, 8).ok_or("no pattern")?,
-        pattern(b"1.0.0.0/8", 9, 9).ok_or("no pattern")?,
-    ];
-    let none_but_all = [pattern(b"128.0.0.0/1", 0, 0).ok_or("no pattern")?];
-    let upper_half = [pattern(b"128.0.0.0/1", 0, 32).ok_or("no pattern")?];
-    let short_and_long = [
-        pattern(b"10.1.2.0/24", 24, 24).ok_or("no pattern")?,
-        pattern(b"10.1.0.0/16", 16, 24).ok_or("no pattern")?,
-    ];
-    let rows: [(&[Pattern], &[u8], bool); 16] = [
-        (&two, b"1.0.0.0/8", true),
-        (&two, b"1.128.0.0/9", true),
-        (&two, b"1.0.0.0/10", false),
-        (&two, b"0.0.0.0/0", false),
-        (&none_but_all, b"0.0.0.0/0", true),
-        (&none_but_all, b"128.0.0.0/1", false),
-        (&upper_half, b"0.0.0.0/1", false),
-        (&upper_half, b"0.0.0.0/0", true),
-        (&upper_half, b"200.1.2.3/32", true),
-        (&short_and_long, b"10.1.2.0/24", true),
-        (&short_and_long, b"10.1.3.0/24", true),
-        (&short_and_long, b"10.1.0.0/16", true),
-        (&short_and_long, b"10.1.2.0/25", false),
-        (&short_and_long, b"10.0.0.0/8", false),
-        (&[], b"0.0.0.0/0", false),
-        (&[], b"1.2.3.4/32", false),
-    ];
-    for (patterns, text, wanted) in rows {
+    let alloc = rt.alloc();
+    for (parts, text, wanted) in MATCHES {
         let prefix = read_prefix(text).ok_or("no prefix")?;
-        let small = PatternSet::build(rt.alloc(), patterns)?;
-        let all = among_others(rt.alloc(), patterns)?;
-        let large = PatternSet::build(rt.alloc(), &all)?;
-        assert_eq!(rt;
-            (small.matches(&prefix), large.matches(&prefix)),
-            (wanted, wanted)
-        );
-        assert_eq!(rt; large.patterns(), all.as_slice());
+        let patterns = patterns_of(alloc, parts)?;
+        assert_eq!(rt; set_matches(&rt, alloc, &patterns, &prefix)?, wanted);
+        let all = among_others(patterns)?;
+        assert_eq!(rt; set_matches(&rt, alloc, &all, &prefix)?, wanted);
     }
     Ok(())
 }
