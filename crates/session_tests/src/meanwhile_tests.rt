@@ -85,15 +85,14 @@ fn restart<R: Wait + Clock>(
     (pass, is_held && is_down && is_up)
 }
 
-/// Looks at two routes, and takes what waits for session 2.
-fn look<R: Wait>(rt: &R, router: &Router, pass: &mut Pass) -> Option<()>
+/// Looks at two routes, and takes what waits for session 2. The journal keeps what is answered.
+fn look<R: Wait>(rt: &R, router: &Router, pass: &mut Pass)
     requires { IsPassOf router.now pass.old }
     ensures { IsPassOf router.now pass.new }
 {
-    router.call(rt, pass, Event::Show(1)).ok()?;
-    router.call(rt, pass, Event::Show(2)).ok()?;
-    router.call(rt, pass, Event::Take(2, 9)).ok()?;
-    Some(())
+    let _near = router.call(rt, pass, Event::Show(1));
+    let _far = router.call(rt, pass, Event::Show(2));
+    let _taken = router.call(rt, pass, Event::Take(2, 9));
 }
 
 /// The entries of a journal as text, one a line.
@@ -139,7 +138,7 @@ fn a_held_reader_goes_on_in_an_old_session(rt: HostRuntime) -> Result<(), Fail> 
     assert!(&rt; is_restarted);
     assert_eq!(&rt; ended, end(Cause::Stale, 3, None));
     router.join(&mut pass, other);
-    look(&rt, &router, &mut pass).ok_or("the history is full")?;
+    look(&rt, &router, &mut pass);
     let Ok(journal) = router.close(pass) else {
         return Err(Fail::from("the router is closed"));
     };

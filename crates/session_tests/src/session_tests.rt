@@ -133,12 +133,19 @@ pub fn expect_written<R: Wait + Clock + Abort>(
     assert_eq!(rt; end.sent, row.sent);
     assert_eq!(rt; end.unsent.as_slice().len(), row.unsent);
     assert_eq!(rt; link.given().len() as u64, row.sent);
-    let all = link.given().iter().chain(end.unsent.as_slice().iter());
-    for (node, told) in (0..64u16).zip(all) {
-        let dist = if node == 0 { 0 } else { row.size };
-        assert_eq!(rt; *told, message(node, dist));
-    }
+    expect_told(rt, link.given(), 0, row.size);
+    expect_told(rt, end.unsent.as_slice(), row.sent, row.size);
     Ok(())
+}
+
+/// Asserts that messages tell of the nodes from one on, in order: of node 0 that it is here, and of the others that they are out of
+/// reach.
+fn expect_told(rt: &impl Abort, told: &[Message], from: u64, size: u16) {
+    for (at, one) in (0..64u64).zip(told) {
+        let node = from.saturating_add(at);
+        let dist = if node == 0 { 0 } else { size };
+        assert!(rt; u64::from(one.dest) == node && one.dist == dist);
+    }
 }
 
 /// A row of 4 nodes, of session 1 and a sound link.
