@@ -4,6 +4,7 @@ use crate::refusals::answered;
 use code_file::{FileFault, read_code, write_code};
 use filter_code::{Code, Instr, Outcome, Route, run_checked};
 use prefix_patterns::{Ip, Pattern, PatternSet, Prefix, SetFault};
+use std::alloc::Global;
 use std::process::Abort;
 use std::test::Fail;
 
@@ -39,18 +40,29 @@ fn expect_code(rt: &impl Abort, code: &Code, patterns: &[Pattern]) {
     assert_eq!(rt; code.instrs(), instrs.as_slice());
 }
 
+/// Builds the set of some patterns, once more where memory was refused. It has them, and matches the prefix of each.
+fn expect_set_or_s2(rt: &impl Abort, alloc: Global, given: &[Pattern]) -> Result<(), Fail> {
+    match PatternSet::build(alloc, given) {
+        Ok(set) => {
+            assert_eq!(rt; set.patterns(), given);
+            for pattern in given {
+                assert!(rt; set.matches(&pattern.prefix()));
+            }
+            Ok(())
+        }
+        Err(fault) => {
+            assert_eq!(rt; fault, SetFault::Memory);
+            let set = PatternSet::build(alloc, given)?;
+            assert_eq!(rt; set.patterns(), given);
+            Err(answered("build", "S2"))
+        }
+    }
+}
+
 #[test]
 fn a_set_is_built_or_s2(rt: HostRuntime) -> Result<(), Fail> {
     let given = patterns().ok_or("two patterns")?;
-    let built = PatternSet::build(rt.alloc(), &given);
-    if let Err(fault) = &built {
-        assert_eq!(rt; *fault, SetFault::Memory);
-        let set = PatternSet::build(rt.alloc(), &given)?;
-        assert_eq!(rt; set.patterns(), given.as_slice());
-    }
-    let set = built.map_err(|fault| answered("build", fault))?;
-    assert_eq!(rt; set.patterns(), given.as_slice());
-    Ok(())
+    expect_set_or_s2(&rt, rt.alloc(), &given)
 }
 
 #[test]
@@ -58,29 +70,20 @@ fn a_large_set_is_built_or_s2(rt: HostRuntime) -> Result<(), Fail> {
     let [first, second] = patterns().ok_or("two patterns")?;
     let mut given = [second; 20];
     given[7] = first;
-    let built = PatternSet::build(rt.alloc(), &given);
-    if let Err(fault) = &built {
-        assert_eq!(rt; *fault, SetFault::Memory);
-        let set = PatternSet::build(rt.alloc(), &given)?;
-        assert_eq!(rt; set.patterns(), given.as_slice());
-    }
-    let set = built.map_err(|fault| answered("build", fault))?;
-    assert_eq!(rt; set.patterns(), given.as_slice());
-    assert!(rt; set.matches(&first.prefix()));
-    Ok(())
+    expect_set_or_s2(&rt, rt.alloc(), &given)
 }
 
 #[test]
 fn a_file_is_read_or_c7(rt: HostRuntime) -> Result<(), Fail> {
     let patterns = patterns().ok_or("two patterns")?;
-    let read = read_code(rt.alloc(), &FILE);
-    if let Err(fault) = &read {
-        assert_eq!(rt; *fault, FileFault::Memory);
-        let code = read_code(rt.alloc(), &FILE)?;
-        expect_code(&rt, &code, &patterns);
+    match read_code(rt.alloc(), &FILE) {
+        Ok(code) => expect_code(&rt, &code, &patterns),
+        Err(fault) => {
+            assert_eq!(rt; fault, FileFault::Memory);
+            expect_code(&rt, &read_code(rt.alloc(), &FILE)?, &patterns);
+            return Err(answered("read_code", "C7"));
+        }
     }
-    let code = read.map_err(|fault| answered("read_code", fault))?;
-    expect_code(&rt, &code, &patterns);
     Ok(())
 }
 
@@ -88,15 +91,16 @@ fn a_file_is_read_or_c7(rt: HostRuntime) -> Result<(), Fail> {
 fn a_file_is_written_or_c7(rt: HostRuntime) -> Result<(), Fail> {
     let patterns = patterns().ok_or("two patterns")?;
     let code = read_code(rt.alloc(), &FILE)?;
-    let written = write_code(rt.alloc(), &code);
-    if let Err(fault) = &written {
-        assert_eq!(rt; *fault, FileFault::Memory);
-        expect_code(&rt, &code, &patterns);
-        let bytes = write_code(rt.alloc(), &code)?;
-        assert_eq!(rt; bytes.as_slice(), FILE.as_slice());
+    match write_code(rt.alloc(), &code) {
+        Ok(bytes) => assert_eq!(rt; bytes.as_slice(), FILE.as_slice()),
+        Err(fault) => {
+            assert_eq!(rt; fault, FileFault::Memory);
+            expect_code(&rt, &code, &patterns);
+            let bytes = write_code(rt.alloc(), &code)?;
+            assert_eq!(rt; bytes.as_slice(), FILE.as_slice());
+            return Err(answered("write_code", "C7"));
+        }
     }
-    let bytes = written.map_err(|fault| answered("write_code", fault))?;
-    assert_eq!(rt; bytes.as_slice(), FILE.as_slice());
     Ok(())
 }
 

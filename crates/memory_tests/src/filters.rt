@@ -112,14 +112,15 @@ fn expect_code(rt: &impl Abort, code: &Code) -> Result<(), Fail> {
 
 #[test]
 fn a_text_is_read_or_p11(rt: HostRuntime) -> Result<(), Fail> {
-    let read = parse(rt.alloc(), TEXT.as_bytes());
-    if let Err(fault) = &read {
-        assert_eq!(rt; *fault, ParseFault::Memory);
-        assert_eq!(rt; (fault.code(), fault.at()), ("P11", 0));
-        expect_tree(&rt, &parse(rt.alloc(), TEXT.as_bytes())?)?;
+    match parse(rt.alloc(), TEXT.as_bytes()) {
+        Ok(filter) => expect_tree(&rt, &filter)?,
+        Err(fault) => {
+            assert_eq!(rt; fault, ParseFault::Memory);
+            assert_eq!(rt; (fault.code(), fault.at()), ("P11", 0));
+            expect_tree(&rt, &parse(rt.alloc(), TEXT.as_bytes())?)?;
+            return Err(answered("parse", "P11"));
+        }
     }
-    let filter = read.map_err(|fault| answered("parse", fault))?;
-    expect_tree(&rt, &filter)?;
     Ok(())
 }
 
@@ -134,12 +135,13 @@ fn a_filter_is_judged_without_memory(rt: HostRuntime) -> Result<(), Fail> {
 #[test]
 fn a_filter_is_compiled_or_g3(rt: HostRuntime) -> Result<(), Fail> {
     let typed = check(rt.alloc(), parse(rt.alloc(), TEXT.as_bytes())?)?;
-    let compiled = compile(rt.alloc(), &typed);
-    if let Err(fault) = &compiled {
-        assert_eq!(rt; *fault, CompileFault::Memory);
-        assert_eq!(rt; (fault.code(), fault.at()), ("G3", 0));
-        expect_code(&rt, &compile(rt.alloc(), &typed)?)?;
+    match compile(rt.alloc(), &typed) {
+        Ok(code) => expect_code(&rt, &code),
+        Err(fault) => {
+            assert_eq!(rt; fault, CompileFault::Memory);
+            assert_eq!(rt; (fault.code(), fault.at()), ("G3", 0));
+            expect_code(&rt, &compile(rt.alloc(), &typed)?)?;
+            Err(answered("compile", "G3"))
+        }
     }
-    let code = compiled.map_err(|fault| answered("compile", fault))?;
-    expect_code(&rt, &code)
 }

@@ -49,7 +49,7 @@ fn a_router_is_opened_or_l3(rt: HostRuntime) -> Result<(), Fail> {
             assert_eq!(rt; (fault.code(), fault.at()), ("L3", 0));
             let (_router, pass) = opened(alloc, 3)?;
             assert_eq!(rt; pass.shares(), 65_536);
-            Err(answered("Router::open", fault))
+            Err(answered("Router::open", "L3"))
         }
     }
 }
@@ -68,13 +68,11 @@ fn a_try_is_entered_or_j2_and_the_pass_stays(rt: HostRuntime) -> Result<(), Fail
                 expect_answer(&rt, alloc, at, (answer.at, answer.reply))?;
                 let journal = router.close(pass)?;
                 assert_eq!(rt; journal.entries().len(), at as usize + 1);
-                return Err(answered("try_call", fault));
+                return Err(answered("try_call", "J2"));
             }
         }
     }
-    let journal = router
-        .close(pass)
-        .map_err(|fault| answered("close", fault))?;
+    let journal = router.close(pass)?;
     assert_eq!(rt; journal.entries().len(), 3);
     Ok(())
 }
@@ -93,13 +91,11 @@ fn a_call_is_entered_or_j2_and_the_pass_stays(rt: HostRuntime) -> Result<(), Fai
                 expect_answer(&rt, alloc, at, (answer.at, answer.reply))?;
                 let journal = router.close(pass)?;
                 assert_eq!(rt; journal.entries().len(), at as usize + 1);
-                return Err(answered("call", fault));
+                return Err(answered("call", "J2"));
             }
         }
     }
-    let journal = router
-        .close(pass)
-        .map_err(|fault| answered("close", fault))?;
+    let journal = router.close(pass)?;
     assert_eq!(rt; journal.entries().len(), 3);
     Ok(())
 }

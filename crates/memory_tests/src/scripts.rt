@@ -17,14 +17,15 @@ const ANSWERS: &[u8] =
 fn a_script_is_answered_or_e3(rt: HostRuntime) -> Result<(), Fail> {
     let mut reader = Pieces { rest: SCRIPT };
     let mut out = Page::new();
-    let result = run_script(rt.alloc(), &mut reader, &mut out);
-    if let Err(fault) = &result {
-        assert_eq!(rt; *fault, ScriptFault::Memory);
-        assert!(rt; ANSWERS.starts_with(out.text()));
-        assert!(rt; out.text().is_empty() || out.text().ends_with(b"\n"));
+    match run_script(rt.alloc(), &mut reader, &mut out) {
+        Ok(refused) => assert_eq!(rt; refused, 0),
+        Err(fault) => {
+            assert_eq!(rt; fault, ScriptFault::Memory);
+            assert!(rt; ANSWERS.starts_with(out.text()));
+            assert!(rt; out.text().is_empty() || out.text().ends_with(b"\n"));
+            return Err(answered("run_script", "E3"));
+        }
     }
-    let refused = result.map_err(|fault| answered("run_script", fault))?;
-    assert_eq!(rt; refused, 0);
     assert_eq!(rt; out.text(), ANSWERS);
     Ok(())
 }

@@ -47,49 +47,53 @@ fn expect_verified(rt: &impl Abort, verified: &Verified) {
 
 #[test]
 fn a_text_has_code_or_memory_is_refused(rt: HostRuntime) -> Result<(), Fail> {
-    let compiled = compile_text(rt.alloc(), TEXT.as_bytes());
-    if let Err(failure) = &compiled {
-        assert_eq!(rt; *failure, Failure::Memory);
-        expect_code(&rt, &compile_text(rt.alloc(), TEXT.as_bytes())?);
+    match compile_text(rt.alloc(), TEXT.as_bytes()) {
+        Ok(code) => expect_code(&rt, &code),
+        Err(failure) => {
+            assert_eq!(rt; failure, Failure::Memory);
+            expect_code(&rt, &compile_text(rt.alloc(), TEXT.as_bytes())?);
+            return Err(answered("compile_text", "Memory"));
+        }
     }
-    let code = compiled.map_err(|failure| answered("compile_text", failure))?;
-    expect_code(&rt, &code);
     Ok(())
 }
 
 #[test]
 fn a_file_has_code_or_memory_is_refused(rt: HostRuntime) -> Result<(), Fail> {
-    let read = read_file(rt.alloc(), FILE);
-    if let Err(failure) = &read {
-        assert_eq!(rt; *failure, Failure::Memory);
-        expect_code(&rt, &read_file(rt.alloc(), FILE)?);
+    match read_file(rt.alloc(), FILE) {
+        Ok(code) => expect_code(&rt, &code),
+        Err(failure) => {
+            assert_eq!(rt; failure, Failure::Memory);
+            expect_code(&rt, &read_file(rt.alloc(), FILE)?);
+            return Err(answered("read_file", "Memory"));
+        }
     }
-    let code = read.map_err(|failure| answered("read_file", failure))?;
-    expect_code(&rt, &code);
     Ok(())
 }
 
 #[test]
 fn digits_have_code_or_memory_is_refused(rt: HostRuntime) -> Result<(), Fail> {
-    let read = read_hexadecimal(rt.alloc(), DIGITS.as_bytes());
-    if let Err(failure) = &read {
-        assert_eq!(rt; *failure, Failure::Memory);
-        expect_code(&rt, &read_hexadecimal(rt.alloc(), DIGITS.as_bytes())?);
+    match read_hexadecimal(rt.alloc(), DIGITS.as_bytes()) {
+        Ok(code) => expect_code(&rt, &code),
+        Err(failure) => {
+            assert_eq!(rt; failure, Failure::Memory);
+            expect_code(&rt, &read_hexadecimal(rt.alloc(), DIGITS.as_bytes())?);
+            return Err(answered("read_hexadecimal", "Memory"));
+        }
     }
-    let code = read.map_err(|failure| answered("read_hexadecimal", failure))?;
-    expect_code(&rt, &code);
     Ok(())
 }
 
 #[test]
 fn code_is_verified_or_memory_is_refused(rt: HostRuntime) -> Result<(), Fail> {
-    let verified = verify_code(rt.alloc(), read_file(rt.alloc(), FILE)?, SIZE);
-    if let Err(failure) = &verified {
-        assert_eq!(rt; *failure, Failure::Memory);
-        let again = verify_code(rt.alloc(), read_file(rt.alloc(), FILE)?, SIZE)?;
-        expect_verified(&rt, &again);
+    match verify_code(rt.alloc(), read_file(rt.alloc(), FILE)?, SIZE) {
+        Ok(verified) => expect_verified(&rt, &verified),
+        Err(failure) => {
+            assert_eq!(rt; failure, Failure::Memory);
+            let again = verify_code(rt.alloc(), read_file(rt.alloc(), FILE)?, SIZE)?;
+            expect_verified(&rt, &again);
+            return Err(answered("verify_code", "Memory"));
+        }
     }
-    let verified = verified.map_err(|failure| answered("verify_code", failure))?;
-    expect_verified(&rt, &verified);
     Ok(())
 }

@@ -65,7 +65,7 @@ fn a_code_is_verified_or_v10_with_the_same_code(rt: HostRuntime) -> Result<(), F
                 Ok(verified) => expect_verified(&rt, &verified)?,
                 Err((_, fault)) => return Err(Fail::from(fault)),
             }
-            Err(answered("verify", fault))
+            Err(answered("verify", "V10"))
         }
     }
 }
