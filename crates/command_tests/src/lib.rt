@@ -9,3 +9,5 @@ mod eval_tests;
 mod examples_tests;
 #[cfg(test)]
 mod filter_compiler_tests;
+#[cfg(test)]
+mod instruction_places_tests;

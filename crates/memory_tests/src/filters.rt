@@ -2,7 +2,7 @@
 
 use crate::refusals::answered;
 use filter_code::{Code, Instr};
-use filter_compiler::{CompileFault, compile};
+use filter_compiler::{CompileFault, compile, instruction_places};
 use filter_parser::{Filter, ParseFault, parse};
 use filter_types::{Typed, check};
 use prefix_patterns::{Ip, Pattern, Prefix};
@@ -20,10 +20,15 @@ const DECLS: &str = "[Decl { at: 15, kind: Int, name: [97] }]";
 
 /// The commands of that text.
 const BODY: &str =
-    "[Assign(18, Name([97]), Chain(Number(22, 1), [(Add, Suffixed(Attribute(26, Net), [Len]))])), \
-    If(35, Not(38, Group(39, Chain(Name(40, [97]), [(Greater, Number(44, 9))]))), \
+    "[Assign(18, Name([97]), Chain(Number(22, 1), [(24, Add, Suffixed(Attribute(26, Net), [Len]))])), \
+    If(35, Not(38, Group(39, Chain(Name(40, [97]), [(42, Greater, Number(44, 9))]))), \
     If(52, Member(In, Attribute(55, Net), Set { at: 61, patterns: [OrLonger(62, Prefix { address: 167772160, len: 8 })] }), \
     Block(80, [Accept(82, false)]), Some(Reject(97, false))), None)]";
+
+/// Where the instructions of that text come from.
+const PLACES: [usize; 20] = [
+    15, 15, 22, 26, 26, 24, 18, 40, 44, 42, 42, 38, 35, 55, 61, 52, 82, 52, 97, 105,
+];
 
 /// Holds what was shown. It needs no memory.
 #[derive(Drop)]
@@ -144,4 +149,18 @@ fn a_filter_is_compiled_or_g3(rt: HostRuntime) -> Result<(), Fail> {
             Err(answered("compile", "G3"))
         }
     }
+}
+
+#[test]
+fn the_places_of_instructions_are_found_or_not(rt: HostRuntime) -> Result<(), Fail> {
+    let filter = parse(rt.alloc(), TEXT.as_bytes())?;
+    match instruction_places(rt.alloc(), &filter) {
+        Ok(places) => assert_eq!(rt; places.as_slice(), PLACES.as_slice()),
+        Err(_) => {
+            let again = instruction_places(rt.alloc(), &filter)?;
+            assert_eq!(rt; again.as_slice(), PLACES.as_slice());
+            return Err(answered("instruction_places", "AllocError"));
+        }
+    }
+    Ok(())
 }

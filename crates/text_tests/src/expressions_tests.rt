@@ -30,23 +30,23 @@ fn operators_group_by_their_levels(rt: HostRuntime) -> Result<(), Fail> {
     for (text, tree) in [
         (
             "1 - 2 - 3",
-            "Chain(Number(24, 1), [(Sub, Number(28, 2)), (Sub, Number(32, 3))])",
+            "Chain(Number(24, 1), [(26, Sub, Number(28, 2)), (30, Sub, Number(32, 3))])",
         ),
         (
             "1 + 2 * 3 / 4",
-            "Chain(Number(24, 1), [(Add, Chain(Number(28, 2), [(Mul, Number(32, 3)), (Div, Number(36, 4))]))])",
+            "Chain(Number(24, 1), [(26, Add, Chain(Number(28, 2), [(30, Mul, Number(32, 3)), (34, Div, Number(36, 4))]))])",
         ),
         (
             "1 + 2 != 3",
-            "Chain(Chain(Number(24, 1), [(Add, Number(28, 2))]), [(NotEqual, Number(33, 3))])",
+            "Chain(Chain(Number(24, 1), [(26, Add, Number(28, 2))]), [(30, NotEqual, Number(33, 3))])",
         ),
         (
             "true && !false",
-            "Chain(Truth(24, true), [(And, Not(32, Truth(33, false)))])",
+            "Chain(Truth(24, true), [(29, And, Not(32, Truth(33, false)))])",
         ),
         (
             "(true && false) || true",
-            "Chain(Group(24, Chain(Truth(25, true), [(And, Truth(33, false))])), [(Or, Truth(43, true))])",
+            "Chain(Group(24, Chain(Truth(25, true), [(30, And, Truth(33, false))])), [(40, Or, Truth(43, true))])",
         ),
         (
             "!net.ip.mask(8).len",
@@ -55,7 +55,7 @@ fn operators_group_by_their_levels(rt: HostRuntime) -> Result<(), Fail> {
         ("defined ( rip_metric )", "Defined(24, RipMetric)"),
         (
             "net ~ 10.0.0.0/8",
-            "Chain(Attribute(24, Net), [(Match, Prefix(30, Prefix { address: 167772160, len: 8 }))])",
+            "Chain(Attribute(24, Net), [(28, Match, Prefix(30, Prefix { address: 167772160, len: 8 }))])",
         ),
     ] {
         assert_eq!(rt; shape(rt.alloc(), text)?.as_str(), tree, "{text}");
