@@ -20,16 +20,16 @@ places_more (first ∷ places) place =
     ap (λ (text : List ℕ). (32 ∷ [] ++ place_text first) ++ text) (places_more places place) ∙ simp append_assoc
 
 -- no instruction
-pub none_listed : (instrs : List Instr) (known : ℕ → List ℕ) (text : List ℕ) → text ≡ [] → Lists instrs known 0 text
+pub none_listed : (instrs : List Instr) (known origin : ℕ → List ℕ) (text : List ℕ) → text ≡ [] → Lists instrs known origin 0 text
 unfolding Lists
-none_listed instrs known text empty = empty
+none_listed instrs known origin text empty = empty
 
 -- one instruction more
-pub listed_more : (instrs : List Instr) (known : ℕ → List ℕ) (n : ℕ) (i : Instr) (words front text : List ℕ)
-    → slice_get instrs n ≡ Some i → Lists instrs known n front → text ≡ front ++ known n ++ instruction_line n words i
-    → Lists instrs known (n + 1) text
+pub listed_more : (instrs : List Instr) (known origin : ℕ → List ℕ) (n : ℕ) (i : Instr) (words front text : List ℕ)
+    → slice_get instrs n ≡ Some i → Lists instrs known origin n front
+    → text ≡ front ++ known n ++ instruction_line n words i (origin n) → Lists instrs known origin (n + 1) text
 unfolding Lists
-listed_more instrs known n i words front text is listed more = rw add-one (front, i, words, listed, is, more)
+listed_more instrs known origin n i words front text is listed more = rw add-one (front, i, words, listed, is, more)
 
 -- a survey does not come behind the last instruction
 within : (found : Option VerifyFault) (program : CodeView) → reach program found ≤ length program.instrs

@@ -1,6 +1,6 @@
--- The listing of a code: a line for each instruction and, for domains of a size, a line before it that says what the verifier knows
--- there. (This project's own choice.)
-use Rattle.std.specs.Prelude.{◌≡◌, ℕ, zero, suc, ◌+◌, ◌⊎◌, Bool, if◌then◌else◌, List, [], ◌∷◌, ◌++◌, Option, Some, None, codes, decimal, length, slice_get}
+-- The listing of a code: a line for each instruction, with the place in the text that it comes from, and, for domains of a size, a
+-- line before it that says what the verifier knows there. (This project's own choice.)
+use Rattle.std.specs.Prelude.{◌≡◌, ℕ, zero, suc, ◌+◌, ◌⊎◌, Bool, true, false, if◌then◌else◌, List, [], ◌∷◌, ◌++◌, Option, Some, None, codes, decimal, length, slice_get}
 use Rattle.std.specs.Option.{option_map}
 use Rattle.std.specs.Io.KnownBytes.{Appends}
 use Rattle.filter_code.specs.CodeView.{CodeView}
@@ -19,6 +19,8 @@ use Rattle.line_protocol.specs.declared.faults.StreamFault.{StreamFault}
 use Rattle.line_protocol.specs.declared.faults.StreamFault.TheVariants.{Read, Write, Memory, TooLong}
 use Rattle.filter_commands.specs.Check.{GivesCode, IsRefused, verdict_on}
 use Rattle.filter_tools.specs.Filtering.{refusal_line}
+use Rattle.filter_tools.specs.Places.{column_at, line_at}
+use Rattle.filter_tools.specs.SourcePlaces.{ArePlacesIn}
 
 -- the mark of an int that is at least the metric received
 abbrev pub mark : Bool → List ℕ
@@ -53,15 +55,24 @@ target_text at (instr.Jump skipped) = codes " to " ++ decimal (at + 1 + skipped)
 target_text at (instr.JumpIfNot skipped) = codes " to " ++ decimal (at + 1 + skipped)
 target_text at _ = []
 
--- the line of an instruction: its index, its words, and where it jumps to
-abbrev pub instruction_line : ℕ → List ℕ → Instr → List ℕ
-instruction_line at words i = decimal at ++ 32 ∷ [] ++ words ++ target_text at i ++ 10 ∷ []
+-- the line and the column of a byte of a text that an instruction comes from
+abbrev pub origin_text : List ℕ → Option ℕ → List ℕ
+origin_text source None = []
+origin_text source (Some byte) = codes " ; " ++ decimal (line_at source byte) ++ 58 ∷ [] ++ decimal (column_at source byte)
 
--- a text lists the first n instructions of a code, each behind what is known before it
-unfoldable pub Lists : List Instr → (ℕ → List ℕ) → ℕ → List ℕ → Type 0
-Lists instrs known zero text = text ≡ []
-Lists instrs known (suc n) text = (front : List ℕ) × (i : Instr) × (words : List ℕ) × Lists instrs known n front
-    × (slice_get instrs n ≡ Some i) × (text ≡ front ++ known n ++ instruction_line n words i)
+-- the same of the instruction of an index, where the bytes that the instructions of a code come from are known
+abbrev pub origin_in : List ℕ → List ℕ → ℕ → List ℕ
+origin_in source places at = origin_text source (slice_get places at)
+
+-- the line of an instruction: its index, its words, where it jumps to, and where it comes from
+abbrev pub instruction_line : ℕ → List ℕ → Instr → List ℕ → List ℕ
+instruction_line at words i origin = decimal at ++ 32 ∷ [] ++ words ++ target_text at i ++ origin ++ 10 ∷ []
+
+-- a text lists the first n instructions of a code, each behind what is known before it, with where it comes from
+unfoldable pub Lists : List Instr → (ℕ → List ℕ) → (ℕ → List ℕ) → ℕ → List ℕ → Type 0
+Lists instrs known origin zero text = text ≡ []
+Lists instrs known origin (suc n) text = (front : List ℕ) × (i : Instr) × (words : List ℕ) × Lists instrs known origin n front
+    × (slice_get instrs n ≡ Some i) × (text ≡ front ++ known n ++ instruction_line n words i (origin n))
 
 -- nothing, and what the verifier knows before an instruction in a domain of a size
 abbrev pub nothing_known : ℕ → List ℕ
@@ -71,17 +82,23 @@ abbrev pub known_before : CodeView → ℕ → ℕ → List ℕ
 known_before program size n = state_text (in_state program size n)
 
 -- the listing of a code, and why it is refused: with a size it ends at the instruction that is refused
-abbrev pub IsListing : Option ℕ → CodeView → List ℕ → Option Refusal → Type 0
-IsListing None program text why = Lists program.instrs nothing_known (length program.instrs) text × (why ≡ None)
-IsListing (Some size) program text why = (front : List ℕ)
-    × Lists program.instrs (known_before program size) (surveyed program size (the_fault program size)) front
+abbrev pub IsListing : Option ℕ → CodeView → (ℕ → List ℕ) → List ℕ → Option Refusal → Type 0
+IsListing None program origin text why = Lists program.instrs nothing_known origin (length program.instrs) text × (why ≡ None)
+IsListing (Some size) program origin text why = (front : List ℕ)
+    × Lists program.instrs (known_before program size) origin (surveyed program size (the_fault program size)) front
     × (text ≡ front ++ (verdict_on program (the_fault program size)).text)
     × (why ≡ option_map (λ fault. Verify fault) (the_fault program size))
+
+-- the bytes of a source that the instructions come from: a code file has none
+abbrev pub AreOrigins : Bool → List ℕ → List ℕ → Type 0
+AreOrigins true source places = places ≡ []
+AreOrigins false source places = ArePlacesIn source places
 
 -- the listing of a source, or the line that refuses it
 abbrev pub IsListed : Option ℕ → Bool → List ℕ → List ℕ → Option Refusal → Type 0
 IsListed size is_code source text why =
-    ((program : CodeView) × GivesCode is_code source program × IsListing size program text why)
+    ((program : CodeView) × GivesCode is_code source program × (places : List ℕ) × AreOrigins is_code source places
+    × IsListing size program (origin_in source places) text why)
     ⊎ ((refusal : Refusal) × IsRefused is_code source refusal × (why ≡ Some refusal) × (text ≡ refusal_line refusal))
 
 -- what was written where a fault cut a listing

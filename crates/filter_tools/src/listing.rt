@@ -8,10 +8,12 @@ ghost use Rattle.filter_verifier.specs.FirstFault.{the_fault};
 ghost use Rattle.filter_verifier.specs.InStateView.{Known};
 ghost use Rattle.filter_verifier.specs.Pass.{in_state_view};
 ghost use Rattle.filter_verifier.specs.Surveys.{surveyed};
-ghost use Rattle.filter_tools.specs.Listing.{IsCutListing, IsListed, IsListing, Lists, fact_text, instruction_line, known_before, mark};
-ghost use Rattle.filter_tools.specs.Listing.{nothing_known, place_text, places_text, state_text, target_text};
+ghost use Rattle.filter_tools.specs.Listing.{AreOrigins, IsCutListing, IsListed, IsListing, Lists, fact_text, instruction_line, known_before, mark};
+ghost use Rattle.filter_tools.specs.Listing.{nothing_known, origin_in, place_text, places_text, state_text, target_text};
 
 use crate::filter::refusal_line;
+use crate::place::place_in;
+use crate::source_place::{place_at, places_in};
 use filter_code::{Code, Instr};
 use filter_commands::{ProgramFault, code_of};
 use filter_source::{Failure, Refusal, push_verified, verify_code};
@@ -19,6 +21,13 @@ use filter_verifier::{AbstractFrame, Fact, InState, Range, survey_code};
 use line_protocol::{push_decimal, push_refusal, write_text};
 use std::alloc::{AllocError, Global};
 use std::io::Write;
+
+/// The text that a code was compiled from, and for each instruction the byte that it comes from. A code file has no such bytes.
+#[derive(Clone, Copy)]
+struct Origins<'a> {
+    source: &'a [u8],
+    places: &'a [usize],
+}
 
 /// The listing of a source, or the line that refuses it.
 #[derive(Drop)]
@@ -105,39 +114,63 @@ fn push_target(out: &mut Vec<u8>, at: usize, instr: Instr) -> Result<(), AllocEr
     }
 }
 
+/// Puts where the instruction at an index comes from at the end of `out`.
+fn push_origin(out: &mut Vec<u8>, origins: Origins, at: usize) -> Result<(), AllocError>
+    ensures { OnOk result (out.new.items ≡ out.old.items ++ origin_in origins.entry.source.now origins.entry.places.now at) }
+{
+    match place_at(origins.places, at) {
+        Some(byte) => {
+            let place = place_in(origins.source, byte);
+            out.extend_from_slice(b" ; ")?;
+            push_decimal(out, place.line as u64)?;
+            out.push(b':')?;
+            push_decimal(out, place.column as u64)
+        }
+        None => Ok(()),
+    }
+}
+
 /// Puts the line of the instruction at an index at the end of `out`.
 fn push_instruction(
     alloc: Global,
     out: &mut Vec<u8>,
+    origins: Origins,
     at: usize,
     instr: Instr,
 ) -> Result<(), AllocError>
     requires { at ≤ instruction_limit }
-    ensures { OnOk result ((words : List ℕ) × (out.new.items ≡ out.old.items ++ instruction_line at words instr)) }
+    ensures { OnOk result ((words : List ℕ) × (out.new.items
+        ≡ out.old.items ++ instruction_line at words instr (origin_in origins.entry.source.now origins.entry.places.now at))) }
 {
     let words = format!(in alloc; "{instr}")?;
     push_decimal(out, at as u64)?;
     out.push(b' ')?;
     out.extend_from_slice(words.as_bytes())?;
     push_target(out, at, instr)?;
+    push_origin(out, origins, at)?;
     out.push(b'\n')?;
     Ok(())
 }
 
 /// The lines of all instructions.
-fn list_instructions(alloc: Global, code: &Code) -> Result<Vec<u8>, AllocError>
-    ensures { IfOk result (λ text. Lists code.now.instrs nothing_known (length code.now.instrs) text.items) }
+fn list_instructions(alloc: Global, code: &Code, origins: Origins) -> Result<Vec<u8>, AllocError>
+    ensures { IfOk result (λ text. Lists code.now.instrs nothing_known (origin_in origins.entry.source.now origins.entry.places.now) (length code.now.instrs) text.items) }
 {
     let mut out = Vec::new(alloc);
     for (at, instr) in code.instrs().iter().enumerate() {
-        push_instruction(alloc, &mut out, at, *instr)?;
+        push_instruction(alloc, &mut out, origins, at, *instr)?;
     }
     Ok(out)
 }
 
 /// The lines of the instructions that the verifier visits in domains of a size, each behind what it knows there.
-fn list_visited(alloc: Global, code: &Code, size: u32) -> Result<Vec<u8>, AllocError>
-    ensures { IfOk result (λ text. Lists code.now.instrs (known_before code.now size)
+fn list_visited(
+    alloc: Global,
+    code: &Code,
+    origins: Origins,
+    size: u32,
+) -> Result<Vec<u8>, AllocError>
+    ensures { IfOk result (λ text. Lists code.now.instrs (known_before code.now size) (origin_in origins.entry.source.now origins.entry.places.now)
         (surveyed code.now size (the_fault code.now size)) text.items) }
 {
     let survey = survey_code(alloc, code, size)?;
@@ -145,16 +178,21 @@ fn list_visited(alloc: Global, code: &Code, size: u32) -> Result<Vec<u8>, AllocE
     let mut out = Vec::new(alloc);
     for (at, state) in survey.in_states.iter().enumerate() {
         push_state(&mut out, state)?;
-        push_instruction(alloc, &mut out, at, instrs[at])?;
+        push_instruction(alloc, &mut out, origins, at, instrs[at])?;
     }
     Ok(out)
 }
 
 /// The listing of code for domains of a size: it ends with the bounds of the code, or with why it is refused.
-fn list_verified(alloc: Global, code: Code, size: u32) -> Result<Listing, AllocError>
-    ensures { IfOk result (λ listing. IsListing (Some size) code listing.text.items listing.refusal) }
+fn list_verified(
+    alloc: Global,
+    code: Code,
+    origins: Origins,
+    size: u32,
+) -> Result<Listing, AllocError>
+    ensures { IfOk result (λ listing. IsListing (Some size) code (origin_in origins.entry.source.now origins.entry.places.now) listing.text.items listing.refusal) }
 {
-    let mut text = list_visited(alloc, &code, size)?;
+    let mut text = list_visited(alloc, &code, origins, size)?;
     match verify_code(alloc, code, size) {
         Ok(verified) => {
             push_verified(&mut text, &verified)?;
@@ -175,15 +213,31 @@ fn list_verified(alloc: Global, code: Code, size: u32) -> Result<Listing, AllocE
 }
 
 /// The listing of code.
-fn list(alloc: Global, code: Code, size: Option<u32>) -> Result<Listing, AllocError>
-    ensures { IfOk result (λ listing. IsListing size code listing.text.items listing.refusal) }
+fn list(
+    alloc: Global,
+    code: Code,
+    origins: Origins,
+    size: Option<u32>,
+) -> Result<Listing, AllocError>
+    ensures { IfOk result (λ listing. IsListing size code (origin_in origins.entry.source.now origins.entry.places.now) listing.text.items listing.refusal) }
 {
     match size {
-        Some(size) => list_verified(alloc, code, size),
+        Some(size) => list_verified(alloc, code, origins, size),
         None => Ok(Listing {
-            text: list_instructions(alloc, &code)?,
+            text: list_instructions(alloc, &code, origins)?,
             refusal: None,
         }),
+    }
+}
+
+/// The bytes of a source that its instructions come from.
+fn origins_in(alloc: Global, source: &[u8], is_code: bool) -> Result<Vec<usize>, AllocError>
+    ensures { IfOk result (λ places. AreOrigins is_code source.now places.items) }
+{
+    if is_code {
+        Ok(Vec::new(alloc))
+    } else {
+        places_in(alloc, source)
     }
 }
 
@@ -197,7 +251,14 @@ fn list_source(
     ensures { IfOk result (λ listing. IsListed size is_code source.now listing.text.items listing.refusal) }
 {
     match code_of(alloc, source, is_code) {
-        Ok(code) => list(alloc, code, size),
+        Ok(code) => {
+            let places = origins_in(alloc, source, is_code)?;
+            let origins = Origins {
+                source,
+                places: places.as_slice(),
+            };
+            list(alloc, code, origins, size)
+        }
         Err(Failure::Refused(why)) => Ok(Listing {
             text: refusal_line(alloc, why)?,
             refusal: Some(why),
@@ -206,7 +267,8 @@ fn list_source(
     }
 }
 
-/// Writes the listing of a filter's code, or of a code file in hexadecimal where `is_code` says so. For domains of a size what the
+/// Writes the listing of a filter's code, with the line and the column that each instruction comes from, or of a code file in
+/// hexadecimal where `is_code` says so. For domains of a size what the
 /// verifier knows stands before each instruction, and the listing ends at the instruction that it refuses, or with the bounds of the
 /// code. Returns why the source or its code is refused.
 pub fn write_listing<W: Write>(

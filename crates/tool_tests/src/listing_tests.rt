@@ -23,13 +23,22 @@ fn expect_listing(
     Ok(())
 }
 
-/// Each instruction is listed at its index, and a jump with where it leads.
+/// Each instruction is listed at its index, a jump with where it leads, and that of a text with where it comes from.
 #[test]
 fn instructions_are_listed(rt: HostRuntime) -> Result<(), Fail> {
     let filter = "filter f { if net.len > 24 then reject; accept; }";
     let want =
-        "0 NET\n1 LEN\n2 INT 24\n3 LE\n4 NOT\n5 JUMPIFNOT 1 to 7\n6 REJECT\n7 ACCEPT\n8 REJECT\n";
+        "0 NET ; 1:15\n1 LEN ; 1:15\n2 INT 24 ; 1:25\n3 LE ; 1:23\n4 NOT ; 1:23\n5 JUMPIFNOT 1 to 7 ; 1:12\n6 REJECT ; 1:33\n7 ACCEPT ; 1:41\n8 REJECT ; 1:49\n";
     expect_listing(&rt, rt.alloc(), filter, None, false, want, false)?;
+    expect_listing(
+        &rt,
+        rt.alloc(),
+        "filter f { # caf\u{e9}\n\t/* \u{e9} */ accept;\n}",
+        None,
+        false,
+        "0 ACCEPT ; 2:10\n1 REJECT ; 3:1\n",
+        false,
+    )?;
     expect_listing(
         &rt,
         rt.alloc(),
@@ -55,7 +64,7 @@ fn instructions_are_listed(rt: HostRuntime) -> Result<(), Fail> {
 fn knowledge_is_listed(rt: HostRuntime) -> Result<(), Fail> {
     let filter = "filter d int c; { c = 100 / rip_metric; accept; }";
     let want =
-        "  stack:; variables: ?\n0 INT 0\n  stack: 0..0; variables: ?\n1 STORE 0\n  stack:; variables: 0..0\n2 INT 100\n  stack: 100..100>=received; variables: 0..0\n3 METRIC\n  stack: 0..16>=received 100..100>=received; variables: 0..0\n4 DIV\nrefused V3 4\n";
+        "  stack:; variables: ?\n0 INT 0 ; 1:14\n  stack: 0..0; variables: ?\n1 STORE 0 ; 1:14\n  stack:; variables: 0..0\n2 INT 100 ; 1:23\n  stack: 100..100>=received; variables: 0..0\n3 METRIC ; 1:29\n  stack: 0..16>=received 100..100>=received; variables: 0..0\n4 DIV ; 1:27\nrefused V3 4\n";
     expect_listing(&rt, rt.alloc(), filter, Some(16), false, want, true)?;
     let accept = "  stack:; variables:\n0 ACCEPT\nverified 1 0\n";
     expect_listing(

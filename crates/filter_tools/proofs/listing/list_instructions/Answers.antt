@@ -1,18 +1,19 @@
 use Rattle.std.proofs.Common.{ℕ, List, ◌++◌, ◌∙◌, length, refl, ap, sym}
 use Rattle.std.proofs.lemmas.List.{append-nil}
 use Rattle.std.proofs.lemmas.Option.{slice_get_read}
-use Rattle.filter_tools.specs.Listing.{instruction_line, nothing_known}
+use Rattle.filter_tools.specs.Listing.{instruction_line, nothing_known, origin_in}
 use Rattle.filter_tools.proofs.Listings.{listed_more, none_listed}
 use Rattle.filter_tools.proofs.listing.list_instructions.Goals as goal
 
 pub loop-at-init : goal.loop-at-init
-loop-at-init c = none_listed c.args.code.now.instrs nothing_known c.new-out.result.items c.new-out.ensures.items
+loop-at-init c = none_listed c.args.code.now.instrs nothing_known (origin_in c.args.origins.source.now c.args.origins.places.now) c.new-out.result.items c.new-out.ensures.items
 
 pub loop-at-preserved : goal.loop-at-preserved
 loop-at-preserved c =
+    let origin : ℕ → List ℕ = origin_in c.args.origins.source.now c.args.origins.places.now in
     let is = slice_get_read c.instrs-instr-items.result.now (length c.instrs-instr-items.result.now) c.loop-at.at c.instr-item.result refl
     c.loop-at-test.true c.instr-item.is in
     let said = c.in_ok-push_instruction.ensures in
-    listed_more c.args.code.now.instrs nothing_known c.loop-at.at c.instr-item.result said.0 c.loop-at.out.items
+    listed_more c.args.code.now.instrs nothing_known origin c.loop-at.at c.instr-item.result said.0 c.loop-at.out.items
     c.push_instruction.new.out.items (rw c.instrs-instr-items.ensures.value at is) c.loop-at.invariant
-    (said.1 ∙ ap (λ (t : List ℕ). t ++ instruction_line c.loop-at.at said.0 c.instr-item.result) (sym (append-nil c.loop-at.out.items)))
+    (said.1 ∙ ap (λ (t : List ℕ). t ++ instruction_line c.loop-at.at said.0 c.instr-item.result (origin c.loop-at.at)) (sym (append-nil c.loop-at.out.items)))

@@ -2,15 +2,17 @@ use Rattle.std.proofs.Common.{◌≡◌, ◌<◌, ℕ, List, ◌++◌, ◌∙◌
 use Rattle.std.proofs.lemmas.Option.{slice_get_read}
 use Rattle.filter_verifier.proofs.Passes.{state_is}
 use Rattle.filter_verifier.specs.InStateView.{InStateView}
-use Rattle.filter_tools.specs.Listing.{instruction_line, known_before, state_text}
+use Rattle.filter_tools.specs.Listing.{instruction_line, known_before, origin_in, state_text}
 use Rattle.filter_tools.proofs.Listings.{listed_more, none_listed, surveyed_within}
 use Rattle.filter_tools.proofs.listing.list_visited.Goals as goal
 
 pub loop-at-init : goal.loop-at-init
-loop-at-init c = none_listed c.args.code.now.instrs (known_before c.args.code.now c.args.size) c.new-out.result.items c.new-out.ensures.items
+loop-at-init c = none_listed c.args.code.now.instrs (known_before c.args.code.now c.args.size)
+    (origin_in c.args.origins.source.now c.args.origins.places.now) c.new-out.result.items c.new-out.ensures.items
 
 pub loop-at-preserved : goal.loop-at-preserved
 loop-at-preserved c =
+    let origin : ℕ → List ℕ = origin_in c.args.origins.source.now c.args.origins.places.now in
     let inside : c.loop-at.at < length c.in_ok-survey.survey.in_states.items = rw (← c.deref-state-items.ensures.value) c.loop-at-test.true in
     let within = surveyed_within c.args.code.now c.args.size c.in_ok-survey.survey.refusal in
     let below : c.loop-at.at < length c.instrs-instrs.result.now =
@@ -20,7 +22,7 @@ loop-at-preserved c =
     let here = state_is c.in_ok-survey.survey.in_states.items c.loop-at.at c.state-item.result inside
     (rw c.deref-state-items.ensures.value at c.state-item.is) ∙ c.in_ok-survey.ensures.known c.loop-at.at inside in
     let said = c.in_ok-push_instruction.ensures in
-    listed_more c.args.code.now.instrs (known_before c.args.code.now c.args.size) c.loop-at.at c.index-instrs-at.result said.0
+    listed_more c.args.code.now.instrs (known_before c.args.code.now c.args.size) origin c.loop-at.at c.index-instrs-at.result said.0
     c.loop-at.out.items c.push_instruction.new.out.items (rw c.instrs-instrs.ensures.value at is) c.loop-at.invariant
-    (said.1 ∙ ap (λ (t : List ℕ). t ++ instruction_line c.loop-at.at said.0 c.index-instrs-at.result)
+    (said.1 ∙ ap (λ (t : List ℕ). t ++ instruction_line c.loop-at.at said.0 c.index-instrs-at.result (origin c.loop-at.at))
     (c.in_ok-push_state.ensures ∙ ap (λ (s : InStateView). c.loop-at.out.items ++ state_text s) here))
