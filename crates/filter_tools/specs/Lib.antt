@@ -1,6 +1,7 @@
 pub mod Places
 pub mod SourcePlaces
 pub mod Explanations
+pub mod ScriptLines
 pub mod Telling
 pub mod RouteOfSize
 pub mod Filtering

@@ -29,7 +29,7 @@ fn indent_of(byte: u8) -> u8
 }
 
 /// Puts a line and a column at the end of `out`, each behind a colon.
-fn push_position(out: &mut Vec<u8>, line: usize, column: usize) -> Result<(), AllocError>
+pub(crate) fn push_position(out: &mut Vec<u8>, line: usize, column: usize) -> Result<(), AllocError>
     ensures { OnOk result (out.new.items ≡ out.old.items ++ position line column) }
 {
     out.push(b':')?;
@@ -57,7 +57,7 @@ fn indent_under(alloc: Global, before: &[u8]) -> Result<Vec<u8>, AllocError>
 }
 
 /// Puts a line of two parts, and a caret under the first character of the second, at the end of `out`.
-fn push_excerpt(
+pub(crate) fn push_excerpt(
     alloc: Global,
     out: &mut Vec<u8>,
     before: &[u8],
@@ -76,7 +76,7 @@ fn push_excerpt(
 }
 
 /// Puts words and a code at the end of `out`, to the end of the line.
-fn push_message(out: &mut Vec<u8>, words: &[u8], code: &str) -> Result<(), AllocError>
+pub(crate) fn push_message(out: &mut Vec<u8>, words: &[u8], code: &str) -> Result<(), AllocError>
     ensures { OnOk result (out.new.items ≡ out.old.items ++ message words.now code.now) }
 {
     out.extend_from_slice(b": ")?;

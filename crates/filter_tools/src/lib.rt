@@ -9,6 +9,7 @@ mod named;
 mod place;
 mod reason;
 mod route_of_size;
+mod script_line;
 mod source_place;
 
 pub use aloud::{check_aloud, tell};
@@ -17,3 +18,4 @@ pub use filter::{Filtered, filter_lines};
 pub use listing::write_listing;
 pub use named::check_named;
 pub use place::{Place, place_in};
+pub use script_line::explain_line;

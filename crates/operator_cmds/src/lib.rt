@@ -11,12 +11,14 @@ mod reply;
 mod script;
 mod stage;
 mod verb;
+mod watch;
 mod words;
 
 pub use command::Command;
 pub use fault::CommandFault;
 pub use read::read_command;
 pub use script::{ScriptFault, run_script};
+pub use watch::{RefusedFilter, Watch, refused_filter, run_watched_script};
 
 /// A number of a command, the limit of a history excepted, is at most this.
 pub const NUMBER_LIMIT: u32 = 65_535;

@@ -9,9 +9,10 @@ use crate::filter::{verify_file, verify_text};
 use crate::read::read_command;
 use crate::reply::{confirm, refuse};
 use crate::stage::{Setup, Stage};
+use crate::watch::{Nobody, run_watched_script};
 use filter_source::{Failure, push_verified};
 use filter_verifier::Verified;
-use line_protocol::{Reply, Service, StreamFault, answer_lines};
+use line_protocol::{Reply, Service, StreamFault};
 use netchange_core::Event;
 use prefix_patterns::Prefix;
 use std::alloc::{AllocError, Global};
@@ -63,6 +64,21 @@ impl Script {
     ghost use Rattle.operator_cmds.specs.Script as spec;
     ghost use Rattle.operator_cmds.specs.Stages.{stage_of, session_in};
     ghost use Rattle.operator_cmds.specs.State.{filter_at, script_of};
+
+    /// A script at its first line.
+    pub(crate) fn new(alloc: Global) -> Script
+        ensures { script_of result ≡ spec.fresh }
+    {
+        Script {
+            stage: Stage::Empty,
+            filters: HashMap::new(alloc),
+        }
+    }
+
+    /// The number of nodes of the domain, if one is set up.
+    pub(crate) fn size(&self) -> Option<u16> {
+        self.stage.size()
+    }
 
     /// Carries out the command of a line, and answers it.
     fn carry_out(
@@ -322,9 +338,5 @@ pub fn run_script<R: Read, W: Write>(
     ensures broken_off { IfErr result (λ fault. IfSome (R.remaining reader.old) (λ input.
         IsBrokenOff fault input (R.remaining reader.new) (W.contents writer.old) (W.contents writer.new))) }
 {
-    let mut script = Script {
-        stage: Stage::Empty,
-        filters: HashMap::new(alloc),
-    };
-    answer_lines(alloc, reader, writer, &mut script)
+    run_watched_script(alloc, reader, writer, Nobody)
 }

@@ -2,10 +2,10 @@
 use Rattle.std.proofs.lemmas.Result.{IfErr-weaker, IfOk-weaker}
 use Rattle.operator_cmds.specs.Script.{AnswersLine}
 use Rattle.operator_cmds.specs.State.{script_of}
-use Rattle.operator_cmds.specs.declared.stage.Stage.TheVariants as stage
-use Rattle.operator_cmds.proofs.Ending.{broken_off, carried_out, is_fresh}
+use Rattle.operator_cmds.specs.declared.watch.Watched.{Watched}
+use Rattle.operator_cmds.proofs.Ending.{broken_off, carried_out}
 use Rattle.operator_cmds.proofs.Viewed.{finishes, if_known, stops}
-use Rattle.operator_cmds.proofs.script.run_script.Goals as goal
+use Rattle.operator_cmds.proofs.watch.run_watched_script.Goals as goal
 
 pub returns-clause-finished : goal.returns-clause-finished
 returns-clause-finished g c =
@@ -16,8 +16,8 @@ returns-clause-finished g c =
     let after = c.answer_lines.new.service in
     IfOk-weaker c.answer_lines.result _ _
     (λ n h. if_known known
-    (λ input f. carried_out _ _ input left held holds n (is_fresh c.new.result c.new.ensures.empty)
-    (finishes script_of AnswersLine (record { stage = stage.Empty; filters = c.new.result }) after input left held holds n f)) h)
+    (λ input f. carried_out _ _ input left held holds n c.new.ensures
+    (finishes (λ s. script_of s.script) AnswersLine (record { script = c.new.result; watcher = c.args.watcher }) after input left held holds n f)) h)
     c.answer_lines.ensures.ok
 
 pub returns-clause-broken_off : goal.returns-clause-broken_off
@@ -29,6 +29,6 @@ returns-clause-broken_off g c =
     let after = c.answer_lines.new.service in
     IfErr-weaker c.answer_lines.result _ _
     (λ fault h. if_known known
-    (λ input f. broken_off fault _ _ input left held holds (is_fresh c.new.result c.new.ensures.empty)
-    (stops script_of AnswersLine fault (record { stage = stage.Empty; filters = c.new.result }) after input left held holds f)) h)
+    (λ input f. broken_off fault _ _ input left held holds c.new.ensures
+    (stops (λ s. script_of s.script) AnswersLine fault (record { script = c.new.result; watcher = c.args.watcher }) after input left held holds f)) h)
     c.answer_lines.ensures.err

@@ -1,0 +1,119 @@
+//! A script that somebody watches: they are shown each line that it refuses.
+ghost use Rattle.std.specs.Prelude.{◌≡◌, IfErr, IfOk, IfSome};
+ghost use Rattle.operator_cmds.specs.Running.{IsBrokenOff, IsCarriedOut};
+
+use crate::command::Command;
+use crate::filter::{verify_file, verify_text};
+use crate::read::read_command;
+use crate::script::{Script, ScriptFault};
+use crate::words::three_words;
+use filter_source::{Failure, Refusal};
+use filter_verifier::Verified;
+use line_protocol::{Reply, Service, answer_lines};
+use std::alloc::{AllocError, Global};
+use std::io::{Read, Write};
+
+/// A filter that a line of a script gives, and that is refused.
+#[derive(Clone, Copy, Debug)]
+pub struct RefusedFilter<'a> {
+    /// The filter's text, with which the line ends, or the hexadecimal digits of its code file.
+    pub source: &'a [u8],
+    /// The source is a code file.
+    pub is_code: bool,
+    /// Why the filter is refused.
+    pub why: Refusal,
+}
+
+/// Somebody who watches a script.
+pub trait Watch {
+    /// Is shown a line that is refused, and the number of nodes of the domain, if one is set up. The answer is written later.
+    fn see_refused(&mut self, alloc: Global, number: u32, line: &[u8], size: Option<u16>);
+}
+
+/// Nobody watches.
+#[derive(Drop)]
+pub(crate) struct Nobody;
+
+impl Watch for Nobody {
+    fn see_refused(&mut self, _alloc: Global, _number: u32, _line: &[u8], _size: Option<u16>) {}
+}
+
+/// Why a source gives no verified code. Nothing is known where memory was refused.
+fn refusal_of(verified: Result<Verified, Failure>) -> Option<Refusal> {
+    match verified {
+        Err(Failure::Refused(why)) => Some(why),
+        Err(Failure::Memory) | Ok(_) => None,
+    }
+}
+
+/// The filter that a line gives for a domain of a size, if it gives one that is refused. `None` also where memory is refused.
+pub fn refused_filter(alloc: Global, line: &[u8], size: u16) -> Option<RefusedFilter<'_>> {
+    match read_command(alloc, line) {
+        Ok(Command::Load { text, .. }) => Some(RefusedFilter {
+            source: text,
+            is_code: false,
+            why: refusal_of(verify_text(alloc, text, size))?,
+        }),
+        Ok(Command::Code { bytes, .. }) => {
+            let why = refusal_of(verify_file(alloc, bytes.as_slice(), size))?;
+            let (_, _, digits) = three_words(line)?;
+            Some(RefusedFilter {
+                source: digits,
+                is_code: true,
+                why,
+            })
+        }
+        _ => None,
+    }
+}
+
+/// A script and who watches it.
+#[derive(Drop)]
+struct Watched<S: Watch + Drop> {
+    /// The script.
+    script: Script,
+    /// Who watches it.
+    watcher: S,
+}
+
+impl<S: Watch + Drop> Service for Watched<S> {
+    ghost use Rattle.operator_cmds.specs.Script.{AnswersLine};
+    ghost use Rattle.operator_cmds.specs.State.{script_of};
+
+    ghost answers = { λ before number line answer after.
+        AnswersLine (script_of before.script) number line answer (script_of after.script) };
+
+    fn answer(
+        &mut self,
+        alloc: Global,
+        number: u32,
+        line: &[u8],
+        out: &mut Vec<u8>,
+    ) -> Result<Reply, AllocError> {
+        let reply = self.script.answer(alloc, number, line, out)?;
+        if reply == Reply::Refused {
+            self.watcher
+                .see_refused(alloc, number, line, self.script.size());
+        }
+        Ok(reply)
+    }
+}
+
+/// Does what `run_script` does, and shows each line that is refused to who watches.
+pub fn run_watched_script<R: Read, W: Write, S: Watch + Drop>(
+    alloc: Global,
+    reader: &mut R,
+    writer: &mut W,
+    watcher: S,
+) -> Result<u32, ScriptFault>
+    ensures finished { IfOk result (λ refused. IfSome (R.remaining reader.old) (λ input.
+        IsCarriedOut input (R.remaining reader.new) (W.contents writer.old) (W.contents writer.new) refused)) }
+    ensures broken_off { IfErr result (λ fault. IfSome (R.remaining reader.old) (λ input.
+        IsBrokenOff fault input (R.remaining reader.new) (W.contents writer.old) (W.contents writer.new))) }
+{
+    let mut service = Watched {
+        script: Script::new(alloc),
+        watcher,
+    };
+    answer_lines(alloc, reader, writer, &mut service)
+}
