@@ -4,7 +4,8 @@ last 'N passed, M failed'.
 
 usage: scripts/check_program_runs.py     (NCROUTE=PATH: the program; without it, the sources as they are, by `rt try`)
 
-With NCROUTE=PATH it runs the program on streams that fail too: closed ones, a full device, an input that is a folder.
+With NCROUTE=PATH it runs the program on streams that fail too: closed ones, a full device, an input that is a folder. And it runs it on a
+terminal, where people are told more.
 """
 import os
 import sys
@@ -36,13 +37,14 @@ RUNS = [
     ("check --size 8 --explain always", b"filter a { accept }", b"refused P2 18\n", 1),
     ("check --size 8 --explain always", FILTER, LINES, 0),
     ("check --size 8 --explain never", b"filter a { accept }", b"refused P2 18\n", 1),
-    ("check --size 8 --explain auto", FILTER, b"", 2),
+    ("check --size 8 --explain auto", b"filter a { accept }", b"refused P2 18\n", 1),
+    ("check --size 8 --explain sometimes", FILTER, b"", 2),
     ("check --size 8 -", FILTER, LINES, 0),
     ("check --size 8 --explain always - -", FILTER, LINES + b"refused P9 0\n", 1),
     ("check --size 8 no_such.filter", FILTER, b"", 1),
     ("explain", b"", b"", 2),
     ("explain P99", b"", b"", 2),
-    ("list", b"filter a { accept; }", b"0 ACCEPT\n1 REJECT\n", 0),
+    ("list", b"filter a { accept; }", b"0 ACCEPT ; 1:12\n1 REJECT ; 1:20\n", 0),
     ("list --size 65", b"filter a { accept; }", b"refused V8 0\n", 1),
     ("list --size 8 --code", b"4e4346310000000170", b"  stack:; variables:\n0 ACCEPT\nverified 1 0\n", 0),
     ("list --code no_such.code", b"", b"", 1),
@@ -85,8 +87,34 @@ FAULTS = [
     ("echo 'filter a { accept }' | ncroute check --size 8 --explain always 2>/dev/full; echo $?", b"refused P2 18\n1\n"),
     ("ncroute check --size 16 examples/up_two.eval examples/no_bogons.filter 2>&1 >/dev/null; echo $?", b"examples/up_two.eval: refused P2 100\n1\n"),
     ("ncroute check --size 16 examples examples/no_bogons.filter 2>&1; echo $?", b"ncroute: E1\n1\n"),
+    ("printf 'network 16 0\\n\\tload  b filter b int c; { c = 100 / rip_metric; accept; }\\ncode d 00\\nload\\n' | ncroute run --explain always 2>&1 >/dev/null; echo $?",
+     b"<stdin>:2:36: instruction 4: the divisor may be 0: it is 0..16 here (V3)\n\tload  b filter b int c; { c = 100 / rip_metric; accept; }\n\t"
+     + b" " * 34 + b"^\n<stdin>:3: byte 0 does not match the mark NCF1, which begins a code file (C1)\n1\n"),
+    ("printf 'network 4 0\\nload a filter a { accept }\\nup 1\\n' | ncroute run --explain always 2>/dev/full; echo $?",
+     b"ok\nrefused P2 18\nopened 1\n1\n"),
     ("ncroute explain P2 2>&1 >/dev/full; echo $?", b"ncroute: E2\n1\n"),
     ("ncroute list examples/no_bogons.filter 2>&1 >/dev/full; echo $?", b"ncroute: E2\n1\n"),
+]
+
+HINT = b"ncroute: reading standard input, which Ctrl-D ends\n"
+IN_WORDS = b"<stdin>:1:19: expected a text or `;` at byte 18 (P2)\nfilter a { accept }\n                  ^\n"
+LOADED = b"<stdin>:2:26: expected a text or `;` at byte 18 (P2)\nload a filter a { accept }\n                         ^\n"
+
+# Lines of a shell in which standard error is a terminal, and standard input too where something is typed; what they write on standard
+# output and on standard error.
+TERMINALS = [
+    ("echo 'filter a { accept }' | ncroute check --size 8", b"", b"refused P2 18\n", IN_WORDS),
+    ("echo 'filter a { accept }' | ncroute check --size 8 --explain auto", b"", b"refused P2 18\n", IN_WORDS),
+    ("echo 'filter a { accept }' | ncroute check --size 8 --explain never", b"", b"refused P2 18\n", b""),
+    ("ncroute check --size 8", FILTER + b"\4", LINES, HINT),
+    ("ncroute check --size 8", b"filter a { accept }\n\4", b"refused P2 18\n", HINT + IN_WORDS),
+    ("ncroute list", b"filter a { accept; }\n\4", b"0 ACCEPT ; 1:12\n1 REJECT ; 1:20\n", HINT),
+    ("ncroute run", b"network 4 0\n\4", b"ok\n", HINT),
+    ("printf 'network 4 0\\nload a filter a { accept }\\nup 1\\n' | ncroute run", b"", b"ok\nrefused P2 18\nopened 1\n", LOADED),
+    ("printf 'network 4 0\\nload a filter a { accept }\\nup 1\\n' | ncroute run --explain never", b"", b"ok\nrefused P2 18\nopened 1\n", b""),
+    ("ncroute eval", CODE + b"\n10.0.0.0/8 3 8\n\4", b"accept 5\n", HINT),
+    ("ncroute filter --size 16 examples/backup_link.filter", b"8.8.8.0/24 9\n\4", b"accept 12\n", HINT),
+    ("ncroute check --size 16 examples/no_bogons.filter >/dev/null", b"\4", b"", b""),
 ]
 
 
@@ -96,6 +124,10 @@ def main():
     said = ncroute.runs([(f"ncroute {words}", given) for words, given, _, _ in RUNS] + [(line, b"") for line, _ in faults])
     wanted = [(output, status) for _, _, output, status in RUNS] + [(output, 0) for _, output in faults]
     names = [f"ncroute {words}".strip() for words, _, _, _ in RUNS] + [line for line, _ in faults]
+    terminals = TERMINALS if os.environ.get("NCROUTE") else []
+    names += [f"{line}, on a terminal" for line, _, _, _ in terminals]
+    said += [ncroute.on_terminal(line, typed) for line, typed, _, _ in terminals]
+    wanted += [(output, shown) for _, _, output, shown in terminals]
     failed = 0
     for name, (wrote, status), (output, wanted_status) in zip(names, said, wanted):
         if (wrote, status) != (output, wanted_status):

@@ -5,14 +5,19 @@ all inputs at once: a command that was not run yet stands for each input that th
 """
 import hashlib
 import os
+import pty
 import re
 import shutil
 import subprocess
 import sys
 import tempfile
+import termios
 
 TOP = os.path.realpath(os.path.join(os.path.dirname(os.path.abspath(__file__)), ".."))
 NOT_RUN = 125
+
+# Where the settings of a terminal have the flags of its output and of its lines.
+OUTPUT_MODES, LOCAL_MODES = 1, 3
 
 # The command that stands for the program: it answers what it was told, or leaves its words and input for the next round.
 STAND_IN = """#!{python} -S
@@ -55,9 +60,30 @@ class Program:
 
     def shell(self, line, given=b""):
         """What a line writes and its status, at the top of the repository."""
-        path = self.bin + os.pathsep + os.environ["PATH"]
-        ran = subprocess.run(["bash", "-o", "pipefail", "-c", line], cwd=TOP, env={**os.environ, "PATH": path}, input=given, capture_output=True)
+        ran = subprocess.run(["bash", "-o", "pipefail", "-c", line], cwd=TOP, env=self.environment(), input=given, capture_output=True)
         return ran.stdout, ran.returncode
+
+    def environment(self):
+        """The environment in which a shell finds the program."""
+        return {**os.environ, "PATH": self.bin + os.pathsep + os.environ["PATH"]}
+
+    def on_terminal(self, line, typed):
+        """What a line writes on standard output, and on standard error, which is a terminal, as standard input is where something is typed."""
+        terminal, side = pty.openpty()
+        settings = termios.tcgetattr(side)
+        settings[LOCAL_MODES] &= ~termios.ECHO
+        settings[OUTPUT_MODES] &= ~termios.OPOST
+        termios.tcsetattr(side, termios.TCSANOW, settings)
+        os.write(terminal, typed)
+        ran = subprocess.Popen(["bash", "-c", line], cwd=TOP, env=self.environment(), stdin=side if typed else subprocess.DEVNULL,
+                               stdout=subprocess.PIPE, stderr=side)
+        os.close(side)
+        output, shown = ran.stdout.read(), b""
+        while part := read_terminal(terminal):
+            shown += part
+        os.close(terminal)
+        ran.wait()
+        return output, shown
 
     def runs(self, lines):
         """The same for many lines with their input."""
@@ -81,6 +107,14 @@ class Program:
             if not name.endswith(".args") and not os.path.exists(os.path.join(self.answers, name)):
                 sys.exit(f"'rt try' gave no answer:\n{tried.stderr.decode()}")
             os.remove(os.path.join(self.asked, name))
+
+
+def read_terminal(terminal):
+    """What a terminal shows next; nothing where no program has it open any more."""
+    try:
+        return os.read(terminal, 65536)
+    except OSError:
+        return b""
 
 
 def finish(passed, failed):

@@ -4,8 +4,8 @@ use Rattle.std.specs.Prelude.{is_some, slice_get}
 use Rattle.filter_source.specs.declared.refusal.Refusal.{Refusal}
 use Rattle.line_protocol.specs.declared.faults.StreamFault.{StreamFault}
 use Rattle.ncroute.specs.Helping.{ChecksFirst, ChecksOne, ChecksSome, IsCutOne, Streams}
-use Rattle.ncroute.specs.declared.aid_words.Checking.{Checking}
-use Rattle.ncroute.specs.declared.aid_words.Source.{Source}
+use Rattle.command_line.specs.declared.aid_words.Checking.{Checking}
+use Rattle.command_line.specs.declared.aid_words.Source.{Source}
 
 pub none_checked : (how : Checking) (sources : List Source) (before : Streams) → ChecksFirst how sources 0 before before false
 unfolding ChecksFirst

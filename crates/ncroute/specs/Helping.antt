@@ -16,12 +16,13 @@ use Rattle.filter_tools.specs.declared.filter.Filtered.{Filtered}
 use Rattle.filter_tools.specs.declared.filter.Filtered.TheVariants.{Refused, Answered}
 use Rattle.line_protocol.specs.Runs.{AppendsFront}
 use Rattle.line_protocol.specs.declared.faults.StreamFault.{StreamFault}
+use Rattle.operator_cmds.specs.Running.{IsBrokenOff, IsCarriedOut}
 use Rattle.ncroute.specs.Serving.{fault_line, status_of}
-use Rattle.ncroute.specs.declared.aid_words.Aid.{Aid}
-use Rattle.ncroute.specs.declared.aid_words.Aid.TheVariants as aid
-use Rattle.ncroute.specs.declared.aid_words.Checking.{Checking}
-use Rattle.ncroute.specs.declared.aid_words.Source.{Source}
-use Rattle.ncroute.specs.declared.aid_words.Source.TheVariants.{Input, File}
+use Rattle.command_line.specs.declared.aid_words.Aid.{Aid}
+use Rattle.command_line.specs.declared.aid_words.Aid.TheVariants as aid
+use Rattle.command_line.specs.declared.aid_words.Checking.{Checking}
+use Rattle.command_line.specs.declared.aid_words.Source.{Source}
+use Rattle.command_line.specs.declared.aid_words.Source.TheVariants.{Input, File}
 
 -- what the input has left, what the output holds, and what standard error holds
 pub record Streams : Type 0 where
@@ -119,6 +120,16 @@ StopsListing fault size is_code source before after = (after.tells ≡ before.te
     × ((after.holds ≡ before.holds)
     ⊎ ((text : List ℕ) × IsRead source text before.reads after.reads × IsCutListing fault size is_code text before.holds after.holds))
 
+-- A script was carried out, and the exit status says whether a line was refused. What was told of the filters that it refuses is left
+-- open.
+abbrev pub RunsScript : Streams → Streams → ℕ → Type 0
+RunsScript before after status = (refused : ℕ)
+    × IfSome before.reads (λ input. IsCarriedOut input after.reads before.holds after.holds refused) × (status ≡ status_of refused)
+
+-- A fault broke it off.
+abbrev pub StopsScript : StreamFault → Streams → Streams → Type 0
+StopsScript fault before after = IfSome before.reads (λ input. IsBrokenOff fault input after.reads before.holds after.holds)
+
 -- What people asked for was done to its end, with this exit status.
 abbrev pub Helps : Aid → Streams → Streams → ℕ → Type 0
 Helps (aid.Check how sources) before after status = (refused : Bool)
@@ -126,6 +137,7 @@ Helps (aid.Check how sources) before after status = (refused : Bool)
 Helps (aid.Explain page) before after status =
     Appends before.holds after.holds page.now × (after.reads ≡ before.reads) × (after.tells ≡ before.tells) × (status ≡ 0)
 Helps (aid.List size is_code source) before after status = ListsSource size is_code source before after status
+Helps aid.Run before after status = RunsScript before after status
 Helps (aid.Filter size file is_explained) before after status = TriesFilter size (string_bytes file) is_explained before after status
 
 -- A fault ended it.
@@ -134,6 +146,7 @@ StopsHelp fault (aid.Check how sources) before after = ChecksSome fault how sour
 StopsHelp fault (aid.Explain page) before after =
     IsCut fault before.holds after.holds page.now × (after.reads ≡ before.reads) × (after.tells ≡ before.tells)
 StopsHelp fault (aid.List size is_code source) before after = StopsListing fault size is_code source before after
+StopsHelp fault aid.Run before after = StopsScript fault before after
 StopsHelp fault (aid.Filter size file is_explained) before after = StopsFilter fault size (string_bytes file) before after
 
 -- What people asked for ended with this exit status: it was done to its end; or a fault ended it, which standard error was told,

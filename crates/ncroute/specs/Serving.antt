@@ -8,8 +8,8 @@ use Rattle.filter_commands.specs.declared.fault.ProgramFault.{ProgramFault}
 use Rattle.line_protocol.specs.Runs.{AppendsFront}
 use Rattle.line_protocol.specs.declared.faults.StreamFault.{StreamFault}
 use Rattle.operator_cmds.specs.Running.{IsBrokenOff, IsCarriedOut}
-use Rattle.ncroute.specs.declared.words.Request.{Request}
-use Rattle.ncroute.specs.declared.words.Request.TheVariants.{Eval, Check, Run}
+use Rattle.command_line.specs.declared.words.Request.{Request}
+use Rattle.command_line.specs.declared.words.Request.TheVariants.{Eval, Check, Run}
 
 -- A request was answered to its end, with so many refused lines. `input` is all that the reader had, `left` what it has now;
 -- `held` and `holds` are what the writer held before and holds now.

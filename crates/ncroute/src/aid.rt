@@ -1,5 +1,5 @@
 //! From what people ask for to an exit status.
-ghost use Rattle.std.specs.Prelude.{◌≡◌, ◌⊎◌, ◌||◌, ℕ, List, Option, false, IfErr, IfOk, is_some, length};
+ghost use Rattle.std.specs.Prelude.{◌≡◌, ◌||◌, false, IfErr, IfOk, OnErr, is_some, length};
 ghost use Rattle.std.specs.Io.KnownBytes.{Appends};
 ghost use Rattle.filter_commands.specs.Evaluation.{IsCut};
 ghost use Rattle.filter_commands.specs.Faults.{stream_fault};
@@ -7,16 +7,17 @@ ghost use Rattle.filter_tools.specs.Listing.{IsCutListing};
 ghost use Rattle.filter_source.specs.declared.refusal.Refusal.{Refusal as TheRefusal};
 ghost use Rattle.filter_tools.specs.Telling.{Explains, IsCutExplanation};
 ghost use Rattle.filter_tools.specs.declared.filter.Filtered.TheVariants.{Refused};
-ghost use Rattle.ncroute.specs.Serving.{fault_line};
-ghost use Rattle.ncroute.specs.Helping.{ChecksFirst, ChecksOne, ChecksSome, IsCutOne, IsRead, StopsFilter};
-ghost use Rattle.ncroute.specs.Helping.{Helps, ListsText, TriesFilter, name_of, status_of_filter, told_refusal};
+ghost use Rattle.ncroute.specs.Helping.{ChecksFirst, ChecksOne, ChecksSome, FailsToTell, Helps, IsCutOne, IsRead, ListsText};
+ghost use Rattle.ncroute.specs.Helping.{RunsScript, ServesPeople, StopsFilter, StopsHelp, StopsScript, TriesFilter, name_of, status_of_filter, told_refusal};
 
-use crate::aid_words::{Aid, Checking, Source};
-use crate::serve::{FAILED, report_fault};
+use crate::serve::{FAILED, report_fault, status_of};
+use crate::watcher::Teller;
+use command_line::{Aid, Checking, Source};
 use filter_commands::ProgramFault;
 use filter_source::{Refusal, SOURCE_LIMIT};
 use filter_tools::{Filtered, check_named, filter_lines, tell, write_listing};
 use line_protocol::{StreamFault, read_input, write_text};
+use operator_cmds::run_watched_script;
 use std::alloc::Global;
 use std::fs;
 use std::io::{Read, Write};
@@ -196,6 +197,24 @@ fn list<W: Write>(
     }
 }
 
+/// Carries out a script, and tells in words why a filter is refused. Returns the exit status.
+fn run_aloud<R: Read, W: Write, E: Write>(
+    alloc: Global,
+    reader: &mut R,
+    writer: &mut W,
+    errors: &mut E,
+) -> Result<u8, ProgramFault>
+    ensures finished { IfOk result (RunsScript
+        (record { reads = R.remaining reader.old; holds = W.contents writer.old; tells = E.contents errors.old })
+        (record { reads = R.remaining reader.new; holds = W.contents writer.new; tells = E.contents errors.new })) }
+    ensures stopped { IfErr result (λ fault. StopsScript (stream_fault fault)
+        (record { reads = R.remaining reader.old; holds = W.contents writer.old; tells = E.contents errors.old })
+        (record { reads = R.remaining reader.new; holds = W.contents writer.new; tells = E.contents errors.new })) }
+{
+    let refused = run_watched_script(alloc, reader, writer, Teller { errors })?;
+    Ok(status_of(refused))
+}
+
 /// Does what people ask for, and returns the exit status: 0, or 1 where something was refused.
 fn help<F: Files, R: Read, W: Write, E: Write>(
     files: &F,
@@ -205,7 +224,10 @@ fn help<F: Files, R: Read, W: Write, E: Write>(
     writer: &mut W,
     errors: &mut E,
 ) -> Result<u8, ProgramFault>
-    ensures { IfOk result (Helps aid.now
+    ensures finished { IfOk result (Helps aid.now
+        (record { reads = R.remaining reader.old; holds = W.contents writer.old; tells = E.contents errors.old })
+        (record { reads = R.remaining reader.new; holds = W.contents writer.new; tells = E.contents errors.new })) }
+    ensures stopped { IfErr result (λ fault. StopsHelp (stream_fault fault) aid.now
         (record { reads = R.remaining reader.old; holds = W.contents writer.old; tells = E.contents errors.old })
         (record { reads = R.remaining reader.new; holds = W.contents writer.new; tells = E.contents errors.new })) }
 {
@@ -231,6 +253,7 @@ fn help<F: Files, R: Read, W: Write, E: Write>(
             let text = read_source(files, alloc, source, reader)?;
             list(alloc, text.as_slice(), writer, *size, *is_code)
         }
+        Aid::Run => run_aloud(alloc, reader, writer, errors),
         Aid::Filter {
             size,
             file,
@@ -262,10 +285,12 @@ pub fn serve_people<F: Files, R: Read, W: Write, E: Write>(
     writer: &mut W,
     errors: &mut E,
 ) -> Result<u8, StreamFault>
-    ensures { IfOk result (λ status. Helps aid.now
+    ensures served { IfOk result (ServesPeople aid.now
         (record { reads = R.remaining reader.old; holds = W.contents writer.old; tells = E.contents errors.old })
-        (record { reads = R.remaining reader.new; holds = W.contents writer.new; tells = E.contents errors.new }) status
-        ⊎ ((status ≡ 1) × (heard : Option (List ℕ)) × (fault : ProgramFault) × Appends heard (E.contents errors.new) (fault_line fault))) }
+        (record { reads = R.remaining reader.new; holds = W.contents writer.new; tells = E.contents errors.new })) }
+    ensures not_reported { OnErr result (FailsToTell aid.now
+        (record { reads = R.remaining reader.old; holds = W.contents writer.old; tells = E.contents errors.old })
+        (record { reads = R.remaining reader.new; holds = W.contents writer.new; tells = E.contents errors.new })) }
 {
     match help(files, alloc, aid, reader, writer, errors) {
         Ok(status) => Ok(status),

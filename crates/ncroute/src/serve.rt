@@ -5,7 +5,7 @@ ghost use Rattle.filter_commands.specs.Faults.{stream_fault};
 ghost use Rattle.line_protocol.specs.Runs.{AppendsFront};
 ghost use Rattle.ncroute.specs.Serving.{BreaksOff, Does, FailsToReport, Serves, fault_line, status_of};
 
-use crate::words::Request;
+use command_line::Request;
 use filter_commands::{ProgramFault, check_text, eval_lines};
 use line_protocol::{StreamFault, write_text};
 use operator_cmds::run_script;
@@ -36,7 +36,7 @@ fn answer<R: Read, W: Write>(
 }
 
 /// The exit status of a run with that many refused lines.
-fn status_of(refused: u32) -> u8
+pub fn status_of(refused: u32) -> u8
     ensures { result ≡ status_of refused }
 {
     if refused == 0 { 0 } else { FAILED }

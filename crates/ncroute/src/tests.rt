@@ -1,9 +1,16 @@
 //! Which words of the command line ask for what.
-use crate::aid_words::{Aid, Checking, Source};
 use crate::serve::serve;
-use crate::words::{Request, Words, request_of};
+use command_line::{
+    Aid, Checking, Request, Source, Terminals, Words, request_of, waits_for_people,
+};
 use line_protocol::StreamFault;
 use std::test::Fail;
+
+/// People neither type the input nor read the errors.
+const NO_TERMINAL: Terminals = Terminals {
+    input: false,
+    errors: false,
+};
 
 #[test]
 fn reads_words(rt: HostRuntime) -> Result<(), Fail> {
@@ -40,7 +47,7 @@ fn reads_words(rt: HostRuntime) -> Result<(), Fail> {
         (&["ncroute", "eval", "--help"], Words::Shown(0)),
     ];
     for (words, want) in rows {
-        assert_eq!(&rt; request_of(&rt, rt.alloc(), words)?, want);
+        assert_eq!(&rt; request_of(&rt, rt.alloc(), words, NO_TERMINAL)?, want);
     }
     Ok(())
 }
@@ -56,7 +63,7 @@ fn reads_words_of_aids(rt: HostRuntime) -> Result<(), Fail> {
     };
     let sources = vec![in rt.alloc(); Source::Input]?;
     let want = Words::Aided(Aid::Check { how, sources });
-    assert_eq!(&rt; request_of(&rt, rt.alloc(), check)?, want);
+    assert_eq!(&rt; request_of(&rt, rt.alloc(), check, NO_TERMINAL)?, want);
     let files: &[&str] = &["ncroute", "check", "a", "--size", "16", "--code", "-"];
     let how = Checking {
         size: 16,
@@ -66,14 +73,93 @@ fn reads_words_of_aids(rt: HostRuntime) -> Result<(), Fail> {
     let first = Source::File(String::from_str(rt.alloc(), "a")?);
     let sources = vec![in rt.alloc(); first, Source::Input]?;
     let want = Words::Aided(Aid::Check { how, sources });
-    assert_eq!(&rt; request_of(&rt, rt.alloc(), files)?, want);
+    assert_eq!(&rt; request_of(&rt, rt.alloc(), files, NO_TERMINAL)?, want);
     let filter: &[&str] = &["ncroute", "filter", "a.filter", "--size=8"];
     let want = Words::Aided(Aid::Filter {
         size: 8,
         file: String::from_str(rt.alloc(), "a.filter")?,
         is_explained: false,
     });
-    assert_eq!(&rt; request_of(&rt, rt.alloc(), filter)?, want);
+    assert_eq!(&rt; request_of(&rt, rt.alloc(), filter, NO_TERMINAL)?, want);
+    Ok(())
+}
+
+/// Whether these words ask that a refusal is told in words, where standard error is a terminal or is none.
+fn is_told(rt: &HostRuntime, words: &[&str], errors: bool) -> Result<bool, Fail> {
+    let terminals = Terminals {
+        input: false,
+        errors,
+    };
+    match request_of(rt, rt.alloc(), words, terminals)? {
+        Words::Aided(Aid::Check { how, .. }) => Ok(how.is_explained),
+        Words::Aided(Aid::Filter { is_explained, .. }) => Ok(is_explained),
+        Words::Aided(Aid::Run) => Ok(true),
+        Words::Asked(Request::Run) => Ok(false),
+        _ => Err(Fail::from("neither check, filter nor run")),
+    }
+}
+
+/// A refusal is told in words where standard error is a terminal, unless the words say when it is.
+#[test]
+fn explanations_are_for_terminals(rt: HostRuntime) -> Result<(), Fail> {
+    // The words, and whether a refusal is told on a terminal, and elsewhere.
+    let rows: [(&[&str], bool, bool); 8] = [
+        (&["ncroute", "check", "--size=8", "a"], true, false),
+        (
+            &["ncroute", "check", "--size=8", "a", "--explain", "auto"],
+            true,
+            false,
+        ),
+        (
+            &["ncroute", "check", "--size=8", "a", "--explain=always"],
+            true,
+            true,
+        ),
+        (
+            &["ncroute", "check", "--size=8", "a", "--explain=never"],
+            false,
+            false,
+        ),
+        (&["ncroute", "filter", "--size=8", "a"], true, false),
+        (
+            &["ncroute", "filter", "--size=8", "a", "--explain=never"],
+            false,
+            false,
+        ),
+        (&["ncroute", "run"], true, false),
+        (&["ncroute", "run", "--explain=always"], true, true),
+    ];
+    for (words, on_terminal, elsewhere) in rows {
+        assert_eq!(&rt; is_told(&rt, words, true)?, on_terminal);
+        assert_eq!(&rt; is_told(&rt, words, false)?, elsewhere);
+    }
+    Ok(())
+}
+
+/// People are told to type where standard input is a terminal and is read.
+#[test]
+fn input_that_people_type_is_waited_for(rt: HostRuntime) -> Result<(), Fail> {
+    let rows: [(&[&str], bool); 9] = [
+        (&["ncroute", "eval"], true),
+        (&["ncroute", "run"], true),
+        (&["ncroute", "check", "--size", "8"], true),
+        (&["ncroute", "check", "--size", "8", "a", "-"], true),
+        (&["ncroute", "check", "--size", "8", "a"], false),
+        (&["ncroute", "list"], true),
+        (&["ncroute", "list", "a"], false),
+        (&["ncroute", "filter", "--size", "8", "a"], true),
+        (&["ncroute", "net"], false),
+    ];
+    for (words, want) in rows {
+        for input in [true, false] {
+            let terminals = Terminals {
+                input,
+                errors: false,
+            };
+            let asked = request_of(&rt, rt.alloc(), words, terminals)?;
+            assert_eq!(&rt; waits_for_people(&asked, terminals), input && want);
+        }
+    }
     Ok(())
 }
 

@@ -1,11 +1,13 @@
 //! The words of the command line.
 use crate::aid_words::{
-    Aid, Checking, explain_command, explain_option, file_option, filter_command, filter_in,
-    is_explained, list_command, list_in, sources_in,
+    Aid, Checking, explain_command, filter_command, filter_in, is_explained, list_command, list_in,
+    sources_in,
 };
+use crate::options::{code_option, explain_option, file_option, size_option};
+use crate::terminals::Terminals;
 use clap::error::ErrorKind;
-use clap::{Arg, ArgAction, ArgMatches, Command, Error};
-use filter_commands::ProgramFault;
+use clap::{ArgMatches, Command, Error};
+use line_protocol::StreamFault;
 use refusal_texts::explanation_of;
 use std::alloc::{AllocError, Global};
 use std::convert::AsStr;
@@ -49,17 +51,18 @@ pub enum Words {
 
 /// Reads the words that the program was started with. Help goes to standard output, and what is wrong with the words to
 /// standard error.
-pub fn read<R: Env + AllocGlobal + Print + Eprint>(rt: &R) -> Result<Words, ProgramFault> {
+pub fn read<R: Env + AllocGlobal + Print + Eprint>(
+    rt: &R,
+    terminals: Terminals,
+) -> Result<Words, StreamFault> {
     let alloc = rt.alloc();
     let words = match env::args(rt) {
         Ok(words) => words,
-        Err(error) if error.kind() == io::ErrorKind::OutOfMemory => return Err(
-            ProgramFault::MEMORY,
-        ),
+        Err(error) if error.kind() == io::ErrorKind::OutOfMemory => return Err(StreamFault::Memory),
         Err(_) => return Ok(show_not_text(rt)),
     };
-    let words: Vec<String> = words.collect(alloc)?;
-    request_of(rt, alloc, words.as_slice())
+    let words: Vec<String> = words.collect(alloc).map_err(|_| StreamFault::Memory)?;
+    request_of(rt, alloc, words.as_slice(), terminals)
 }
 
 /// What the words ask for, the program's name being the first of them.
@@ -67,9 +70,11 @@ pub fn request_of<R: Print + Eprint, S: AsStr>(
     rt: &R,
     alloc: Global,
     words: &[S],
-) -> Result<Words, ProgramFault> {
-    match command(alloc)?.try_get_matches_from(words) {
-        Ok(matches) => Ok(words_in(rt, alloc, &matches)?),
+    terminals: Terminals,
+) -> Result<Words, StreamFault> {
+    let command = command(alloc).map_err(|_| StreamFault::Memory)?;
+    match command.try_get_matches_from(words) {
+        Ok(matches) => words_in(rt, alloc, &matches, terminals).map_err(|_| StreamFault::Memory),
         Err(error) => show(rt, &error),
     }
 }
@@ -79,9 +84,10 @@ fn words_in<R: Eprint>(
     rt: &R,
     alloc: Global,
     matches: &ArgMatches<'_>,
+    terminals: Terminals,
 ) -> Result<Words, AllocError> {
-    if matches.subcommand_matches("run").is_some() {
-        return Ok(Words::Asked(Request::Run));
+    if let Some(run) = matches.subcommand_matches("run") {
+        return Ok(run_in(run, terminals));
     }
     if matches.subcommand_matches("net").is_some() {
         return Ok(Words::Network);
@@ -94,7 +100,7 @@ fn words_in<R: Eprint>(
     }
     // The parser accepts no words without a size.
     if let Some(filter) = matches.subcommand_matches("filter") {
-        return Ok(match filter_in(alloc, filter)? {
+        return Ok(match filter_in(alloc, filter, terminals)? {
             Some(aid) => Words::Aided(aid),
             None => Words::Shown(WRONG_WORDS),
         });
@@ -106,7 +112,7 @@ fn words_in<R: Eprint>(
         return Ok(Words::Shown(WRONG_WORDS));
     };
     let is_code = check.get_flag("code");
-    let is_explained = is_explained(check);
+    let is_explained = is_explained(check, terminals);
     let files = check.get_strs("file").unwrap_or(&[]);
     if files.is_empty() && !is_explained {
         return Ok(Words::Asked(Request::Check { size, is_code }));
@@ -120,17 +126,26 @@ fn words_in<R: Eprint>(
     Ok(Words::Aided(Aid::Check { how, sources }))
 }
 
+/// What the words of `run` ask for.
+fn run_in(run: &ArgMatches<'_>, terminals: Terminals) -> Words {
+    if is_explained(run, terminals) {
+        Words::Aided(Aid::Run)
+    } else {
+        Words::Asked(Request::Run)
+    }
+}
+
 /// Shows what the parser of words answered in place of matches: help on standard output, or what is wrong with the words on
 /// standard error. Wrong words have their status also where standard error takes no text.
-fn show<R: Print + Eprint>(rt: &R, error: &Error) -> Result<Words, ProgramFault> {
+fn show<R: Print + Eprint>(rt: &R, error: &Error) -> Result<Words, StreamFault> {
     if error.kind() == ErrorKind::OutOfMemory {
-        return Err(ProgramFault::MEMORY);
+        return Err(StreamFault::Memory);
     }
     let printed = error.print(rt);
     if error.use_stderr() {
         return Ok(Words::Shown(WRONG_WORDS));
     }
-    printed.map_err(|_| ProgramFault::WRITE)?;
+    printed.map_err(|_| StreamFault::Write)?;
     Ok(Words::Shown(0))
 }
 
@@ -156,9 +171,6 @@ fn command<'a>(alloc: Global) -> Result<Command<'a>, AllocError> {
     let eval = Command::new(alloc, "eval")
         .about("Take routes through a code file, and print the verdict of each")
         .after_help(EVAL_HELP);
-    let run = Command::new(alloc, "run")
-        .about("Run a router by a script of commands, and answer each of them")
-        .after_help(RUN_HELP);
     let net = Command::new(alloc, "net")
         .about("Run three routers in a ring, and replay what happened at each")
         .after_help(NET_HELP);
@@ -172,27 +184,25 @@ fn command<'a>(alloc: Global) -> Result<Command<'a>, AllocError> {
         .subcommand(explain_command(alloc)?)?
         .subcommand(filter_command(alloc)?)?
         .subcommand(list_command(alloc)?)?
-        .subcommand(run)?
+        .subcommand(run_command(alloc)?)?
         .subcommand(net)
+}
+
+/// The command `run`.
+fn run_command<'a>(alloc: Global) -> Result<Command<'a>, AllocError> {
+    Command::new(alloc, "run")
+        .about("Run a router by a script of commands, and answer each of them")
+        .after_help(RUN_HELP)
+        .arg(explain_option(alloc))
 }
 
 /// The command `check`.
 fn check_command<'a>(alloc: Global) -> Result<Command<'a>, AllocError> {
-    let size = Arg::new(alloc, "size")
-        .long("size")
-        .value_name("N")
-        .required(true)
-        .value_parser(clap::value_parser!(u32))
-        .help("The number of nodes of the routing domain (2 to 64)");
-    let code = Arg::new(alloc, "code")
-        .long("code")
-        .action(ArgAction::SetTrue)
-        .help("Read a code file in hexadecimal in place of a filter");
     Command::new(alloc, "check")
         .about("Compile a filter, and verify its code")
         .after_help(CHECK_HELP)
-        .arg(size)?
-        .arg(code)?
+        .arg(size_option(alloc))?
+        .arg(code_option(alloc))?
         .arg(explain_option(alloc))?
         .arg(file_option(alloc))
 }

@@ -1,6 +1,10 @@
-//! The words of what helps people: `filter`, and `check` with its refusals in words.
-use clap::builder::ValueParser;
-use clap::{Arg, ArgAction, ArgMatches, Command};
+//! The words of what helps people: `explain`, `filter`, `list`, and `check` of files; and `check` and `run` with refusals in words.
+use crate::options::{
+    code_option, explain_option, explained_code, filter_file, listed_file, size_option,
+    verified_size_option,
+};
+use crate::terminals::Terminals;
+use clap::{ArgMatches, Command};
 use std::alloc::{AllocError, Global};
 
 /// Where a source comes from.
@@ -47,6 +51,8 @@ pub enum Aid {
         /// The source.
         source: Source,
     },
+    /// Carry out the script of standard input, and tell in words why a filter is refused.
+    Run,
     /// Take the routes of standard input through the filter of a file.
     Filter {
         /// The number of nodes of the domain.
@@ -56,26 +62,6 @@ pub enum Aid {
         /// A refusal of the filter is told in words too.
         is_explained: bool,
     },
-}
-
-/// The option by which a refusal is told in words on standard error.
-pub fn explain_option<'a>(alloc: Global) -> Arg<'a> {
-    Arg::new(alloc, "explain")
-        .long("explain")
-        .value_name("WHEN")
-        .value_parser(ValueParser::Names(&["always", "never"]))
-        .help(
-            "Say in words on standard error why something is refused, with its line and column: always or never (the default)",
-        )
-}
-
-/// The files to check.
-pub fn file_option<'a>(alloc: Global) -> Arg<'a> {
-    Arg::new(alloc, "file")
-        .value_name("FILE")
-        .action(ArgAction::Append)
-        .num_args(0..)
-        .help("A file to check in place of standard input; - is standard input")
 }
 
 /// The source of a name: standard input for `-`.
@@ -99,20 +85,28 @@ pub fn sources_in(alloc: Global, names: &[&str]) -> Result<Vec<Source>, AllocErr
     Ok(sources)
 }
 
-/// Whether a refusal is to be told in words.
-pub fn is_explained(matches: &ArgMatches<'_>) -> bool {
-    matches.get_str("explain") == Some("always")
+/// Whether a refusal is to be told in words: as the option says, and otherwise where standard error is a terminal.
+pub fn is_explained(matches: &ArgMatches<'_>, terminals: Terminals) -> bool {
+    match matches.get_str("explain") {
+        Some("always") => true,
+        Some("never") => false,
+        _ => terminals.errors,
+    }
 }
 
 /// What the words of `filter` ask for.
-pub fn filter_in(alloc: Global, matches: &ArgMatches<'_>) -> Result<Option<Aid>, AllocError> {
+pub fn filter_in(
+    alloc: Global,
+    matches: &ArgMatches<'_>,
+    terminals: Terminals,
+) -> Result<Option<Aid>, AllocError> {
     let (Some(size), Some(file)) = (matches.get_one::<u32>("size"), matches.get_str("file")) else {
         return Ok(None);
     };
     Ok(Some(Aid::Filter {
         size,
         file: String::from_str(alloc, file)?,
-        is_explained: is_explained(matches),
+        is_explained: is_explained(matches, terminals),
     }))
 }
 
@@ -127,43 +121,25 @@ pub fn list_in(alloc: Global, matches: &ArgMatches<'_>) -> Result<Aid, AllocErro
 
 /// The command `explain`.
 pub fn explain_command<'a>(alloc: Global) -> Result<Command<'a>, AllocError> {
-    let code = Arg::new(alloc, "code")
-        .value_name("CODE")
-        .required(true)
-        .help("A code by which something was refused, as P2");
     Command::new(alloc, "explain")
         .about("Say what a code means, with an example that earns it, and how to mend it")
-        .arg(code)
+        .arg(explained_code(alloc))
 }
 
 /// The command `list`.
 pub fn list_command<'a>(alloc: Global) -> Result<Command<'a>, AllocError> {
-    let size = Arg::new(alloc, "size")
-        .long("size")
-        .value_name("N")
-        .value_parser(clap::value_parser!(u32))
-        .help(
-            "Verify the code for a routing domain of N nodes (2 to 64), and say what is known before each instruction",
-        );
-    let code = Arg::new(alloc, "code")
-        .long("code")
-        .action(ArgAction::SetTrue)
-        .help("Read a code file in hexadecimal in place of a filter");
-    let file = Arg::new(alloc, "file").value_name("FILE").help(
-        "The file to list in place of standard input; - is standard input",
-    );
     Command::new(alloc, "list")
         .about("List the code of a filter, with what the verifier knows before each instruction")
         .after_help(LIST_HELP)
-        .arg(size)?
-        .arg(code)?
-        .arg(file)
+        .arg(verified_size_option(alloc))?
+        .arg(code_option(alloc))?
+        .arg(listed_file(alloc))
 }
 
 const LIST_HELP: &str = "\
-Each line is an instruction: its index, its name, and where it jumps to. With --size N a
-line before it says what the verifier knows there: the operands on the stack, the top
-first, and the variables.
+Each line is an instruction: its index, its name, where it jumps to, and behind ; the line
+and the column of the text that it comes from. With --size N a line before it says what
+the verifier knows there: the operands on the stack, the top first, and the variables.
   0..16             an int in this range
   0..16>=received   one that is at least the metric received
   bool, ip, prefix  another kind
@@ -179,22 +155,12 @@ the command line is wrong.
 
 /// The command `filter`.
 pub fn filter_command<'a>(alloc: Global) -> Result<Command<'a>, AllocError> {
-    let size = Arg::new(alloc, "size")
-        .long("size")
-        .value_name("N")
-        .required(true)
-        .value_parser(clap::value_parser!(u32))
-        .help("The number of nodes of the routing domain (2 to 64)");
-    let file = Arg::new(alloc, "file")
-        .value_name("FILE")
-        .required(true)
-        .help("The file of the filter's text");
     Command::new(alloc, "filter")
         .about("Verify a filter, and take routes through it")
         .after_help(FILTER_HELP)
-        .arg(size)?
+        .arg(size_option(alloc))?
         .arg(explain_option(alloc))?
-        .arg(file)
+        .arg(filter_file(alloc))
 }
 
 const FILTER_HELP: &str = "\

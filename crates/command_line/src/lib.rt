@@ -1,0 +1,11 @@
+//! The words of the command line of `ncroute`: what they ask for, and the help that is shown in its place.
+#![tactic(auto)]
+
+mod aid_words;
+mod options;
+mod terminals;
+mod words;
+
+pub use aid_words::{Aid, Checking, Source};
+pub use terminals::{Terminals, tell_that_input_is_read, waits_for_people};
+pub use words::{Request, Words, read, request_of};

@@ -1,0 +1,38 @@
+//! Which of the standard streams are terminals.
+use crate::aid_words::{Aid, Source};
+use crate::words::Words;
+
+/// Which of the standard streams that people type into or read are terminals.
+#[derive(Clone, Copy, Debug, PartialEq, Eq)]
+pub struct Terminals {
+    /// Standard input is one.
+    pub input: bool,
+    /// Standard error is one.
+    pub errors: bool,
+}
+
+/// Whether standard input is among these sources.
+fn has_input(sources: &[Source]) -> bool {
+    sources.iter().any(|source| *source == Source::Input)
+}
+
+/// Whether what is asked for reads standard input.
+fn reads_input(words: &Words) -> bool {
+    match words {
+        Words::Asked(_) => true,
+        Words::Aided(Aid::Check { sources, .. }) => has_input(sources.as_slice()),
+        Words::Aided(Aid::List { source, .. }) => *source == Source::Input,
+        Words::Aided(Aid::Filter { .. } | Aid::Run) => true,
+        Words::Aided(Aid::Explain { .. }) | Words::Network | Words::Shown(_) => false,
+    }
+}
+
+/// Whether people are waited for: standard input is read, and they type it.
+pub fn waits_for_people(words: &Words, terminals: Terminals) -> bool {
+    terminals.input && reads_input(words)
+}
+
+/// Tells people that standard input is waited for. Where standard error takes no text, they are not told.
+pub fn tell_that_input_is_read<R: Eprint>(rt: &R) {
+    let _ = eprintln!(rt; "ncroute: reading standard input, which Ctrl-D ends");
+}

@@ -1,0 +1,37 @@
+//! Who watches a script: people are told in words why a filter is refused.
+use filter_tools::explain_line;
+use line_protocol::write_text;
+use operator_cmds::{Watch, refused_filter};
+use std::alloc::Global;
+use std::io::Write;
+
+/// Tells people on `errors`. Where these take no text, or memory is refused, people are not told: the answer on standard output stays.
+#[derive(Drop)]
+pub struct Teller<'a, E: Write> {
+    /// What people read.
+    pub errors: &'a mut E,
+}
+
+impl<'a, E: Write> Watch for Teller<'a, E> {
+    fn see_refused(&mut self, alloc: Global, number: u32, line: &[u8], size: Option<u16>) {
+        let Some(size) = size else {
+            return;
+        };
+        let Some(filter) = refused_filter(alloc, line, size) else {
+            return;
+        };
+        let explained = explain_line(
+            alloc,
+            b"<stdin>",
+            number,
+            line,
+            filter.source,
+            u32::from(size),
+            filter.is_code,
+            filter.why,
+        );
+        if let Ok(words) = explained {
+            let _ = write_text(self.errors, words.as_slice());
+        }
+    }
+}
