@@ -5,3 +5,4 @@ pub mod InWords
 pub mod Listings
 pub mod SourcePlaces
 mod Rows
+pub mod HeadWords

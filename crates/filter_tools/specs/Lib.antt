@@ -1,4 +1,5 @@
 pub mod Places
+pub mod HeadWords
 pub mod SourcePlaces
 pub mod Explanations
 pub mod ScriptLines

@@ -8,6 +8,7 @@ use Rattle.filter_parser.specs.declared.tree.filter.Filter.{Filter}
 use Rattle.filter_source.specs.declared.refusal.Refusal.{Refusal}
 use Rattle.filter_source.specs.declared.refusal.Refusal.TheVariants.{TooLong, Hexadecimal, File, Parse, Typing, Compile, Verify}
 use Rattle.filter_types.specs.Codes as types
+use Rattle.filter_tools.specs.HeadWords.{IsShownAt, missing_assign}
 use Rattle.filter_verifier.specs.Faults.{fault_place}
 use Rattle.filter_verifier.specs.declared.fault.VerifyFault.{VerifyFault}
 use Rattle.filter_verifier.specs.declared.fault.VerifyFault.TheVariants as fault
@@ -33,7 +34,7 @@ IsInstructionAt text (Some at) byte = (places : List ℕ) × ArePlacesIn text pl
 -- The byte of a source at which a refusal stands: of a filter's text, the byte that it names, or the part that gave the instruction
 -- which is refused. A code file has no such byte.
 abbrev pub StandsAt : Bool → List ℕ → Refusal → Option ℕ → Type 0
-StandsAt is_code text (Parse why) byte = byte ≡ Some (parse.fault_place why)
+StandsAt is_code text (Parse why) byte = IsShownAt text (parse.fault_place why) (missing_assign why) byte
 StandsAt is_code text (Typing why) byte = byte ≡ Some (types.fault_place why)
 StandsAt true text (Verify why) byte = byte ≡ None
 StandsAt false text (Verify why) byte = IsInstructionAt text (refused_instruction why) byte

@@ -4,6 +4,7 @@
 mod aloud;
 mod explanation;
 mod filter;
+mod head_word;
 mod listing;
 mod named;
 mod place;

@@ -1,5 +1,6 @@
 //! The words of a refusal, with what the verifier knows of the operand.
 
+use crate::head_word::{head_word, missing_assign};
 use filter_commands::code_of;
 use filter_source::{Failure, Refusal};
 use filter_verifier::{Fact, InState, Survey, VerifyFault, survey_code};
@@ -34,6 +35,27 @@ fn refused_range(
     }
 }
 
+/// The word at the head of a command that is none, where a text is refused behind it.
+fn mistyped_word<'a>(
+    alloc: Global,
+    text: &'a [u8],
+    why: Refusal,
+) -> Result<Option<&'a str>, AllocError> {
+    let Refusal::Parse(fault) = why else {
+        return Ok(None);
+    };
+    let Some(at) = missing_assign(fault) else {
+        return Ok(None);
+    };
+    let Some(word) = head_word(alloc, text, at)? else {
+        return Ok(None);
+    };
+    let Some(bytes) = text.get(word.from..word.to) else {
+        return Ok(None);
+    };
+    Ok(str::from_utf8(bytes).ok())
+}
+
 /// Why a source is refused for domains of a size, in words.
 pub(crate) fn words_of(
     alloc: Global,
@@ -42,6 +64,9 @@ pub(crate) fn words_of(
     is_code: bool,
     why: Refusal,
 ) -> Result<String, AllocError> {
+    if let Some(word) = mistyped_word(alloc, text, why)? {
+        return format!(in alloc; "`{word}` is no command: {why}");
+    }
     match refused_range(alloc, text, size, is_code, why)? {
         Some((low, high)) => format!(in alloc; "{why}: it is {low}..{high} here"),
         None => format!(in alloc; "{why}"),

@@ -2,6 +2,7 @@
 ghost use Rattle.std.specs.Prelude.{◌≡◌, IfOk, slice_get};
 ghost use Rattle.filter_tools.specs.SourcePlaces.{ArePlacesIn, IsInstructionAt, StandsAt, refused_instruction};
 
+use crate::head_word::byte_of_fault;
 use filter_compiler::instruction_places;
 use filter_parser::{ParseFault, parse};
 use filter_source::Refusal;
@@ -65,7 +66,8 @@ pub(crate) fn byte_of(
     ensures { IfOk result (StandsAt is_code text.now why) }
 {
     match why {
-        Refusal::Parse(_) | Refusal::Typing(_) => Ok(Some(why.at())),
+        Refusal::Parse(fault) => byte_of_fault(alloc, text, fault),
+        Refusal::Typing(_) => Ok(Some(why.at())),
         Refusal::Verify(fault) => {
             if is_code {
                 return Ok(None);

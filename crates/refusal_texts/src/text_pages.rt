@@ -25,7 +25,7 @@ Place: its first byte
     refused P2 18
 
 Most often a `;` is missing before the place, or the word before it is misspelt: `acept;` is refused at
-the `;`, since `acept` could be a variable. `--explain always` says what was expected.
+the `;`, since `acept` could be a variable. `--explain always` says what was expected, and shows the word.
 ",
     },
     Page {

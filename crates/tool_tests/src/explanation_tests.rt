@@ -35,7 +35,7 @@ fn expect_told(
 /// A mistake of each class, each at its line and column.
 #[test]
 fn texts_are_explained(rt: HostRuntime) -> Result<(), Fail> {
-    let rows: [(&str, &str, &str); 9] = [
+    let rows: [(&str, &str, &str); 11] = [
         (
             "filter q { accept }",
             "refused P2 18\n",
@@ -44,7 +44,17 @@ fn texts_are_explained(rt: HostRuntime) -> Result<(), Fail> {
         (
             "filter q {\n\tacept;\n}\n",
             "refused P2 17\n",
-            "f:2:7: expected `=` at byte 17 (P2)\n\tacept;\n\t     ^\n",
+            "f:2:2: `acept` is no command: expected `=` at byte 17 (P2)\n\tacept;\n\t^\n",
+        ),
+        (
+            "filter q { share /* is\nnone */ # at\n; }",
+            "refused P2 36\n",
+            "f:1:12: `share` is no command: expected `=` at byte 36 (P2)\nfilter q { share /* is\n           ^\n",
+        ),
+        (
+            "filter q { rip_metric; }",
+            "refused P2 21\n",
+            "f:1:22: expected `=` at byte 21 (P2)\nfilter q { rip_metric; }\n                     ^\n",
         ),
         (
             "filter q { # caf\u{e9}\n /* \u{20ac}\u{20ac} */ $ }",

@@ -81,7 +81,7 @@ fn mistakes_of_the_text_are_placed(rt: HostRuntime) -> Result<(), Fail> {
             "f:22:15: ",
             "(P1)",
         ),
-        (("\tacept;", "", 0, ""), "f:22:7: ", "(P2)"),
+        (("\tacept;", "", 0, ""), "f:22:2: ", "(P2)"),
         (
             ("\trip_metric = 4294967296;", "", 0, ""),
             "f:22:15: ",

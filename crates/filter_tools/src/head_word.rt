@@ -1,0 +1,92 @@
+//! The word at the head of a command that is none.
+ghost use Rattle.std.specs.Prelude.{◌≡◌, None, IfOk};
+ghost use Rattle.filter_parser.specs.Codes.{fault_place};
+ghost use Rattle.filter_tools.specs.HeadWords.{IsHeadWord, IsShownAt, missing_assign, name_before, named, place_or};
+
+use filter_parser::{Expected, ParseFault};
+use filter_tokens::{Token, TokenKind, lex};
+use std::alloc::{AllocError, Global};
+
+/// The byte at which the `=` of an assignment is missing, if that is the fault.
+pub(crate) fn missing_assign(fault: ParseFault) -> Option<usize>
+    ensures { result ≡ missing_assign fault }
+{
+    match fault {
+        ParseFault::Unexpected(at, expected) => match expected {
+            Expected::Assign => Some(at),
+            _ => None,
+        },
+        _ => None,
+    }
+}
+
+/// A word of a text: its bytes `from..to`.
+#[derive(Clone, Copy, Debug, PartialEq, Eq)]
+pub(crate) struct Word {
+    /// The place of its first byte.
+    pub from: usize,
+    /// The place after its last byte.
+    pub to: usize,
+}
+
+/// Where a token is, if it is a name.
+fn named(token: &Token) -> Option<Word>
+    ensures { result ≡ named token.now.kind token.now }
+{
+    match token.kind {
+        TokenKind::Name => Some(Word {
+            from: token.from,
+            to: token.to,
+        }),
+        _ => None,
+    }
+}
+
+/// Where the last of the tokens is that end at a byte or before it, if it is a name.
+fn name_before(tokens: &[Token], at: usize) -> Option<Word>
+    ensures { result ≡ name_before at None tokens.now }
+{
+    let mut found = None;
+    for token in tokens {
+        if token.to <= at {
+            found = named(token);
+        }
+    }
+    found
+}
+
+/// The word at the head of the command whose `=` is missing at a byte, if it is a name.
+pub(crate) fn head_word(alloc: Global, text: &[u8], at: usize) -> Result<Option<Word>, AllocError>
+    ensures { IfOk result (IsHeadWord text.now at) }
+{
+    let lexed = lex(alloc, text)?;
+    Ok(name_before(lexed.tokens.as_slice(), at))
+}
+
+/// The place of a word, or another one where there is none.
+fn place_or(word: Option<Word>, at: usize) -> usize
+    ensures { result ≡ place_or word at }
+{
+    match word {
+        Some(word) => word.from,
+        None => at,
+    }
+}
+
+/// The byte of a text at which a refusal of the parser is shown: that of the word at the head of a command which is none, and otherwise
+/// its own.
+pub(crate) fn byte_of_fault(
+    alloc: Global,
+    text: &[u8],
+    fault: ParseFault,
+) -> Result<Option<usize>, AllocError>
+    ensures { IfOk result (IsShownAt text.now (fault_place fault) (missing_assign fault)) }
+{
+    match missing_assign(fault) {
+        Some(at) => {
+            let word = head_word(alloc, text, at)?;
+            Ok(Some(place_or(word, at)))
+        }
+        None => Ok(Some(fault.at())),
+    }
+}
