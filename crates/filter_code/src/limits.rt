@@ -14,4 +14,4 @@ pub const STACK_LIMIT: usize = 32;
 pub const SMALLEST_SIZE: u32 = 2;
 
 /// The greatest number of nodes of a domain.
-pub const LARGEST_SIZE: u32 = 64;
+pub const LARGEST_SIZE: u32 = 250;

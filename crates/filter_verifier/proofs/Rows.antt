@@ -40,11 +40,11 @@ pub too_small_and_empty : fault_of 0 [] 1 ≡ Some refusal.BadSize
 unfolding incoming first_fault
 too_small_and_empty = refl
 
-pub too_large : fault_of 0 raising 65 ≡ Some refusal.BadSize
+pub too_large : fault_of 0 raising 251 ≡ Some refusal.BadSize
 unfolding incoming first_fault
 too_large = refl
 
-pub largest : fault_of 0 raising 64 ≡ None
+pub largest : fault_of 0 raising 250 ≡ None
 unfolding incoming first_fault
 largest = refl
 

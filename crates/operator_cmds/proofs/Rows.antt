@@ -49,7 +49,7 @@ bad_digits : command_in (codes "code A zz") ≡ Err fault.Hexadecimal
 unfolding verb_in decode_pairs
 bad_digits = refl
 
-out_of_range : command_in (codes "network 65 0") ≡ Err fault.Numbers
+out_of_range : command_in (codes "network 251 0") ≡ Err fault.Numbers
 unfolding verb_in number_in decimal_value
 out_of_range = refl
 
@@ -155,21 +155,21 @@ limit_of_three = (
   ),
 )
 
--- refused lines change nothing: no domain, a range, a second domain, an unknown name
+-- refused lines change nothing: no domain, a second domain twice, an unknown name, no command
 refused_lines : Runs AnswersLine fresh (numbered (codes "up 1\nnetwork 65 0\nnetwork 4 0\nnetwork 4 0\nimport 1 Z\njump\n"))
-    (refused (codes "O4") 1 ∷ refused (codes "O2") 2 ∷ answered (codes "ok") ∷ refused (codes "O5") 4 ∷ refused (codes "O6") 5
-    ∷ refused (codes "O1") 6 ∷ []) (script_at (Setting (default_opening 4 0) 1000000))
+    (refused (codes "O4") 1 ∷ answered (codes "ok") ∷ refused (codes "O5") 3 ∷ refused (codes "O5") 4 ∷ refused (codes "O6") 5
+    ∷ refused (codes "O1") 6 ∷ []) (script_at (Setting (default_opening 65 0) 1000000))
 unfolding verb_in number_in decimal_value
 refused_lines =
-    let setting : StageView = Setting (default_opening 4 0) 1000000 in (
+    let setting : StageView = Setting (default_opening 65 0) 1000000 in (
       fresh,
       (refl, stays _),
       (
-        fresh,
-        (refl, stays _),
+        script_at setting,
+        (refl, moves _ _),
         (
           script_at setting,
-          (refl, moves _ _),
+          (refl, stays _),
           (
             script_at setting,
             (refl, stays _),
