@@ -17,7 +17,7 @@ or a code file in hexadecimal, or one of these texts, which are written alone (R
     text_of_expressions  60 KB: assignments of arithmetic, conditions, and the accept of a metric
 
 ROUTES is the number of route lines (100,000 for `straight_filter`, 200,000 otherwise),
-SEED the seed of the generator (1), SIZE the size of each network (2 to 64; without it sizes differ). The same words give the same bytes on every machine: the numbers come from a small
+SEED the seed of the generator (1), SIZE the size of each network (2 to 250; without it sizes differ). The same words give the same bytes on every machine: the numbers come from a small
 generator of this file. One route line in 500 is one that `eval` refuses, and before every thousandth there is a comment
 line, which is no route line.
 """
@@ -225,8 +225,8 @@ def net_near(patterns):
 
 
 def size_within(numbers, size):
-    """The size that is given, or any from 2 to 64."""
-    return size or 2 + numbers.below(63)
+    """The size that is given, or any from 2 to 250."""
+    return size or 2 + numbers.below(249)
 
 
 def route(numbers, net, size):

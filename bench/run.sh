@@ -68,7 +68,7 @@ fi
 
 if [ "$wanted" = script ]; then
     inputs=()
-    for size in 16 64; do
+    for size in 16 64 250; do
         "$bench/script.py" "$size" >"$folder/script_of_$size"
         inputs+=("$folder/script_of_$size")
     done
@@ -82,7 +82,7 @@ if [ "$wanted" = router ]; then
         ROUTER_BENCH="$bench/../crates/router_bench/out/router_bench"
     fi
     inputs=()
-    for size in 16 64; do
+    for size in 16 64 250; do
         for kind_rounds in changes=25000 no_changes=11000 show=62000 down_up=40000 imports=99000; do
             "$bench/events.py" "${kind_rounds%=*}" "$size" >"$folder/${kind_rounds%=*}_$size"
             inputs+=("$folder/${kind_rounds%=*}_$size=$((${kind_rounds#*=} * 16 / size))")

@@ -3,7 +3,7 @@
 
 usage: script.py SIZE [LINES [SEED]]
 
-The router is node 0 of a domain of SIZE nodes (2 to 64). A hundred filters are loaded by `code` lines, each of which adds another number to
+The router is node 0 of a domain of SIZE nodes (2 to 250). A hundred filters are loaded by `code` lines, each of which adds another number to
 the metric; then come LINES lines (200,000). Of a hundred lines, about 55 tell a distance (`recv`), 30 look at a route, 10 empty a queue, 2
 replace a filter in force, 2 take a neighbour down and up again, and 1 loads another code under a filter's name. The same words give the
 same bytes on every machine.

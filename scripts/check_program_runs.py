@@ -83,7 +83,7 @@ FAULTS = [
     ("ncroute filter --size 16 examples/backup_link.filter < examples 2>&1; echo $?", b"ncroute: E1\n1\n"),
     ("ncroute filter --size 16 examples </dev/null 2>&1; echo $?", b"ncroute: E1\n1\n"),
     ("echo 1 | ncroute filter --size 1 --explain always examples/backup_link.filter 2>&1; echo $?",
-     b"refused V8 0\nexamples/backup_link.filter: the size of a domain must be 2 to 64 (V8)\n1\n"),
+     b"refused V8 0\nexamples/backup_link.filter: the size of a domain must be 2 to 250 (V8)\n1\n"),
     ("echo 'filter a { accept }' | ncroute check --size 8 --explain always 2>/dev/full; echo $?", b"refused P2 18\n1\n"),
     ("ncroute check --size 16 examples/up_two.eval examples/no_bogons.filter 2>&1 >/dev/null; echo $?", b"examples/up_two.eval: refused P2 100\n1\n"),
     ("ncroute check --size 16 examples examples/no_bogons.filter 2>&1; echo $?", b"ncroute: E1\n1\n"),

@@ -43,7 +43,7 @@ pub struct Route {
 
 impl Route {
     pub fn new(net: Prefix, metric: u32, size: u32) -> Option<Route> {
-        ((2..=64).contains(&size) && metric <= size).then_some(Route { net, metric, size })
+        ((2..=250).contains(&size) && metric <= size).then_some(Route { net, metric, size })
     }
 }
 

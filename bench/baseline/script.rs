@@ -52,7 +52,7 @@ fn read_network(line: &[u8]) -> Result<Command<'_>, &'static str> {
             (size, me, None)
         }
     };
-    let size = number(size).ok().filter(|size| (2..=64).contains(size)).ok_or("O2")?;
+    let size = number(size).ok().filter(|size| (2..=250).contains(size)).ok_or("O2")?;
     let me = number(me).ok().filter(|me| *me < size).ok_or("O2")?;
     let limit = match limit {
         Some(limit) => read_number(limit).filter(|limit| (1..=LARGEST_LIMIT).contains(limit)).ok_or("O2")?,

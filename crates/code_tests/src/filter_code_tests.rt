@@ -294,9 +294,9 @@ fn a_route_is_within_the_limits(rt: HostRuntime) -> Result<(), Fail> {
     assert_eq!(rt; kept.metric(), 3);
     assert_eq!(rt; kept.size(), 8);
     assert_eq!(rt; kept.net().len(), 8);
-    assert_eq!(rt; route(64, 64)?.metric(), 64);
+    assert_eq!(rt; route(250, 250)?.metric(), 250);
     assert_eq!(rt; route(0, 2)?.size(), 2);
-    for (metric, size) in [(0, 1), (0, 65), (9, 8), (3, 2)] {
+    for (metric, size) in [(0, 1), (0, 251), (251, 250), (9, 8), (3, 2)] {
         assert!(rt; Route::new(kept.net(), metric, size).is_none());
     }
     Ok(())

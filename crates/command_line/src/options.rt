@@ -13,7 +13,7 @@ pub fn size_option<'a>(alloc: Global) -> Arg<'a> {
         .value_name("N")
         .required(true)
         .value_parser(clap::value_parser!(u32))
-        .help("The number of nodes of the routing domain (2 to 64)")
+        .help("The number of nodes of the routing domain (2 to 250)")
 }
 
 /// The number of nodes of the domain that a listing is verified for.
@@ -23,7 +23,7 @@ pub fn verified_size_option<'a>(alloc: Global) -> Arg<'a> {
         .value_name("N")
         .value_parser(clap::value_parser!(u32))
         .help(
-            "Verify the code for a routing domain of N nodes (2 to 64), and say what is known before each instruction",
+            "Verify the code for a routing domain of N nodes (2 to 250), and say what is known before each instruction",
         )
 }
 

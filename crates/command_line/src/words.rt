@@ -220,7 +220,7 @@ For a filter or code that is refused, the last line is `refused CODE AT` instead
   P1 to P10   the text is not a filter: a syntax error at byte AT
   Y1 to Y5    a name or a kind is wrong at byte AT
   G1, G2      the code would be too long, or have too many sets
-  V1 to V9    instruction AT might go wrong on some route; V8: N is not 2 to 64
+  V1 to V9    instruction AT might go wrong on some route; V8: N is not 2 to 250
   C1 to C6    not a code file: an error at byte AT
   O3, O7      not hexadecimal; more than 1,048,576 bytes
 
@@ -232,7 +232,7 @@ the command line is wrong.
 
 const EVAL_HELP: &str = "\
 Standard input is lines. The first is a code file in hexadecimal; each other line is a route:
-its prefix, the metric that a neighbour sent, and the domain's number of nodes (2 to 64).
+its prefix, the metric that a neighbour sent, and the domain's number of nodes (2 to 250).
 Empty lines and lines that begin with # are skipped.
 
 Each route is answered on standard output:
@@ -250,7 +250,7 @@ ended the run; 2 if the command line is wrong.
 
 const RUN_HELP: &str = "\
 Standard input is commands, one a line. Empty lines and lines that begin with # are skipped.
-  network N ME [LIMIT]   a domain of N nodes (2 to 64), of which the router is node ME;
+  network N ME [LIMIT]   a domain of N nodes (2 to 250), of which the router is node ME;
                          its history has at most LIMIT entries (1,000,000)
   prefix V P             P is the prefix of node V; otherwise it is 10.V.0.0/16
   load NAME TEXT         name a filter: the rest of the line is its text

@@ -6,7 +6,7 @@ use std::alloc::Global;
 use std::io::ErrorKind;
 use std::process::Abort;
 use std::test::Fail;
-use worked_rows::{FILTERS, FailingReader, FailingWriter};
+use worked_rows::{FILTERS, FailingReader, FailingWriter, UP_TWO};
 
 /// The number of bytes that an input may have.
 const LIMIT: usize = 1_048_576;
@@ -56,11 +56,16 @@ fn filters_are_compiled_and_verified(rt: HostRuntime) -> Result<(), Fail> {
 }
 
 #[test]
-fn domains_have_2_to_64_nodes(rt: HostRuntime) -> Result<(), Fail> {
+fn domains_have_2_to_250_nodes(rt: HostRuntime) -> Result<(), Fail> {
     let want = "code 4e434631000000027071\nrefused V8 0\n";
-    for size in [0, 1, 65, 250, u32::MAX] {
+    for size in [0, 1, 251, 65_536, u32::MAX] {
         expect_lines(&rt, rt.alloc(), b"filter q { accept; }", size, false, want)?;
         expect_lines(&rt, rt.alloc(), b"4e434631000000027071", size, true, want)?;
+    }
+    for (size, verdict) in [(250, "verified 7 2"), (251, "refused V8 0")] {
+        let want = format!(in rt.alloc(); "code {}\n{verdict}\n", UP_TWO.file)?;
+        let text = UP_TWO.text.as_bytes();
+        expect_lines(&rt, rt.alloc(), text, size, false, want.as_str())?;
     }
     Ok(())
 }

@@ -6,7 +6,7 @@ use std::alloc::Global;
 use std::io::ErrorKind;
 use std::process::Abort;
 use std::test::Fail;
-use worked_rows::{FILTERS, FailingReader, FailingWriter, Terminal, WorkedFilter};
+use worked_rows::{FILTERS, FailingReader, FailingWriter, Terminal, UP_TWO, WorkedFilter};
 
 /// ACCEPT alone.
 const ACCEPT: &str = "4e4346310000000170";
@@ -131,17 +131,21 @@ fn judges_words_from_the_left(rt: HostRuntime) -> Result<(), Fail> {
         (" \t ", "refused O1 2"),
         ("10.0.0/8 9 1", "refused O8 2"),
         ("10.0.0.0/8 x 1", "refused O2 2"),
-        ("10.0.0.0/8 3 65", "refused O2 2"),
+        ("10.0.0.0/8 3 251", "refused O2 2"),
         ("10.0.0.0/8 1 1", "refused O2 2"),
         ("10.0.0.0/8 65536 8", "refused O2 2"),
         ("10.0.0.0/8 +3 8", "refused O2 2"),
         (" \t10.0.0.0/8\t 003   8 \t", "accept 3"),
         ("010.1.2.3/08 64 64", "accept 64"),
+        ("10.0.0.0/8 250 250", "accept 250"),
+        ("10.0.0.0/8 251 250", "refused O2 2"),
         ("0.0.0.0/0 0 2", "accept 0"),
     ];
     for (route, want) in rows {
         expect_verdict(&rt, rt.alloc(), ACCEPT, route, want)?;
     }
+    let raised = "10.0.0.0/8 249 250";
+    expect_verdict(&rt, rt.alloc(), UP_TWO.file, raised, "accept 250")?;
     Ok(())
 }
 

@@ -31,7 +31,7 @@ impl Model for Route {
 impl Route {
     ghost use Rattle.filter_code.specs.RouteView.{IsWithinLimits};
 
-    /// The route to a prefix. None if and only if the size is not 2 to 64 or the metric is above the size.
+    /// The route to a prefix. None if and only if the size is not 2 to 250 or the metric is above the size.
     pub fn new(net: Prefix, metric: u32, size: u32) -> Option<Route>
         ensures { SomeIff result (IsWithinLimits metric size) (record { net = net; metric = metric; size = size }) }
     {
@@ -56,7 +56,7 @@ impl Route {
         self.metric
     }
 
-    /// The size of the domain: its number of nodes, 2 to 64.
+    /// The size of the domain: its number of nodes, 2 to 250.
     pub fn size(&self) -> u32
         ensures value { result ≡ self.now.size }
         ensures limits { IsWithinLimits self.now.metric self.now.size }

@@ -47,7 +47,7 @@ pub fn verified_code_says_the_same()
 {}
 
 /// A line of `eval` gives a route if and only if it is within the limit of a line and has three words: a prefix, and two numbers
-/// of at most 65,535, the second a size from 2 to 64 and the first a metric of at most that size. Otherwise the first fault in
+/// of at most 65,535, the second a size from 2 to 250 and the first a metric of at most that size. Otherwise the first fault in
 /// the order O7, O1, O8, O2 refuses it.
 pub fn route_lines()
     ensures found { (line : List ℕ) (route : RouteView) → (route_in line ≡ Ok route) ↔ IsRouteLine line route }

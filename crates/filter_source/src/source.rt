@@ -61,7 +61,7 @@ pub fn read_hexadecimal(alloc: Global, digits: &[u8]) -> Result<Code, Failure>
     read_file(alloc, bytes.as_slice())
 }
 
-/// Verifies code for domains of a size, 2 to 64 nodes. Code that is refused is dropped; `verify` hands it back.
+/// Verifies code for domains of a size, 2 to 250 nodes. Code that is refused is dropped; `verify` hands it back.
 pub fn verify_code(alloc: Global, code: Code, size: u32) -> Result<Verified, Failure>
     ensures verified { IfOk result (λ v. (v ≡ record { program = code; size = size }) × (the_fault code size ≡ None)) }
     ensures safe { OnOk result (IsSafe code size) }

@@ -3,6 +3,7 @@
 ghost use Rattle.std.specs.Prelude.{◌≡◌};
 ghost use Rattle.filter_verifier.specs.declared.fault.VerifyFault.TheVariants.{Memory};
 
+use filter_code::{LARGEST_SIZE, SMALLEST_SIZE};
 use std::alloc::{AllocError, AllocFailed};
 use thiserror::Error;
 
@@ -33,8 +34,8 @@ pub enum VerifyFault {
     /// V7: the code has no such local variable or set.
     #[error("instruction {0}: no such local variable or set")]
     UnknownName(usize),
-    /// V8: the size is not 2 to 64.
-    #[error("the size of a domain must be 2 to 64")]
+    /// V8: the size is not 2 to 250.
+    #[error("the size of a domain must be {least} to {most}", least = SMALLEST_SIZE, most = LARGEST_SIZE)]
     BadSize,
     /// V9: paths meet here whose stacks differ in depth.
     #[error("instruction {0}: the stack depth differs between the paths that lead here")]

@@ -13,7 +13,7 @@ use std::test::Fail;
 use worked_rows::answer;
 
 /// The size of the largest domain.
-const SIZE: u32 = 64;
+const SIZE: u32 = 250;
 
 /// The bytes of 1,024 patterns: X.0.0.0/24 to X.3.255.0/24 with all that is longer, where X is the number of the set.
 fn push_patterns(bytes: &mut Vec<u8>, set: u8) -> Result<(), AllocError> {

@@ -8,7 +8,7 @@ pub record OpeningView : Type 0 where
   pub me : ℕ
   pub prefixes : List (List Bool)
 
--- a domain has 2 to 64 nodes, of which the router is one, and each has a prefix (this project's own choice)
+-- a domain has 2 to 250 nodes, of which the router is one, and each has a prefix (this project's own choice)
 pub record IsOpening (o : OpeningView) : Type 0 where
   pub from_two : smallest_size ≤ o.size
   pub to_largest : o.size ≤ largest_size

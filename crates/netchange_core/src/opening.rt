@@ -32,7 +32,7 @@ impl Opening {
     ghost use Rattle.netchange_core.specs.OpeningView.{OpeningView, IsOpening};
 
     /// The opening of node `me` in a domain of `size` nodes with these prefixes, one a node, by number. None exactly where
-    /// the size is not 2 to 64, `me` is no node, or there are more or fewer prefixes than nodes; the prefixes are then dropped.
+    /// the size is not 2 to 250, `me` is no node, or there are more or fewer prefixes than nodes; the prefixes are then dropped.
     pub fn new(size: u16, me: u16, prefixes: Vec<Prefix>) -> Option<Opening>
         ensures { let opening : OpeningView = record { size = size; me = me; prefixes = prefixes.items } in
             SomeIff result (IsOpening opening) opening }
@@ -57,7 +57,7 @@ impl Opening {
         })
     }
 
-    /// The number of nodes of the domain, 2 to 64.
+    /// The number of nodes of the domain, 2 to 250.
     pub fn size(&self) -> u16
         ensures value { result ≡ self.now.size }
         ensures limits { IsOpening self.now }

@@ -20,7 +20,7 @@ use Rattle.operator_cmds.specs.declared.verb.Verb.TheVariants as verb
 abbrev pub Read : Type 0
 Read = Result CommandView CommandFault
 
--- a domain has 2 to 64 nodes, the router is one of them, and a history has at least one entry
+-- a domain has 2 to 250 nodes, the router is one of them, and a history has at least one entry
 abbrev pub is_network : ℕ → ℕ → Bool
 is_network size me = nat_le smallest_size size && nat_le size largest_size && nat_lt me size
 

@@ -6,7 +6,7 @@ use prefix_patterns::Prefix;
 pub enum Command<'a> {
     /// `network N ME [LIMIT]`: a domain of N nodes, of which the router is ME, and the most entries of its history.
     Network {
-        /// N, 2 to 64.
+        /// N, 2 to 250.
         size: u16,
         /// ME, below N.
         me: u16,

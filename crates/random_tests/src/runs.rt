@@ -17,7 +17,7 @@ pub fn expect_safe(
     code: Code,
     seed: u64,
 ) -> Result<bool, Fail> {
-    let size = numbers.below(63).saturating_add(2);
+    let size = numbers.below(249).saturating_add(2);
     let verified = match verify(alloc, code, size) {
         Ok(verified) => verified,
         Err((_, VerifyFault::Memory)) => return Err(Fail::from("memory was refused")),

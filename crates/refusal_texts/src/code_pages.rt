@@ -92,13 +92,13 @@ Only code that was written by hand has this fault. `ncroute list` shows what is 
     Page {
         code: "V8",
         text: "\
-V8: a size that is not 2 to 64; this comes before all else, at place 0
+V8: a size that is not 2 to 250; this comes before all else, at place 0
 Place: 0
 
-    $ echo 'filter q { accept; }' | ncroute check --size 65 | tail -n 1
+    $ echo 'filter q { accept; }' | ncroute check --size 251 | tail -n 1
     refused V8 0
 
-Give the number of nodes of the routing domain, 2 to 64, to `--size`.
+Give the number of nodes of the routing domain, 2 to 250, to `--size`.
 ",
     },
     Page {

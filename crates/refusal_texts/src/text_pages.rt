@@ -37,7 +37,7 @@ Place: its first byte
     $ echo 'filter q { rip_metric = 4294967296; }' | ncroute check --size 16
     refused P3 24
 
-Write a number of 32 bits. No metric is over 64.
+Write a number of 32 bits. No metric is over 250.
 ",
     },
     Page {

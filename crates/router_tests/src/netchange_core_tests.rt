@@ -406,18 +406,26 @@ fn the_router_itself_stays_at_distance_0(rt: HostRuntime) -> Result<(), Fail> {
 }
 
 #[test]
-fn the_largest_domain_has_64_nodes(rt: HostRuntime) -> Result<(), Fail> {
-    let mut tables = open(rt.alloc(), 64)?;
-    expect(&rt, &mut tables, Event::Up(63), Reply::Opened(1))?;
-    expect_done(&rt, &mut tables, Event::Receive(1, 1, 62), 1)?;
-    expect_route(&rt, &mut tables, 1, 63, Via::Node(63))?;
-    expect_done(&rt, &mut tables, Event::Receive(1, 1, 63), 1)?;
-    expect_route(&rt, &mut tables, 1, 64, Via::Nowhere)?;
+fn the_largest_domain_has_250_nodes(rt: HostRuntime) -> Result<(), Fail> {
+    let mut tables = open(rt.alloc(), 250)?;
+    expect(&rt, &mut tables, Event::Up(249), Reply::Opened(1))?;
+    expect_done(&rt, &mut tables, Event::Receive(1, 1, 248), 1)?;
+    expect_route(&rt, &mut tables, 1, 249, Via::Node(249))?;
+    expect_done(&rt, &mut tables, Event::Receive(1, 1, 249), 1)?;
+    expect_route(&rt, &mut tables, 1, 250, Via::Nowhere)?;
+    let smaller = filter(rt.alloc(), b"filter b { accept; }", 64)?;
+    expect_refused(
+        &rt,
+        &mut tables,
+        Event::SetImport(249, smaller),
+        Refusal::OtherSize,
+        "N6",
+    )?;
     let mut prefixes = Vec::new(rt.alloc());
-    for node in 0..65 {
+    for node in 0..251 {
         prefixes.push(prefix_of(node).ok_or("16 bits")?)?;
     }
-    assert!(rt; Opening::new(65, 0, prefixes).is_none());
+    assert!(rt; Opening::new(251, 0, prefixes).is_none());
     Ok(())
 }
 

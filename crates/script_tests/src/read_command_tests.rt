@@ -21,10 +21,10 @@ fn reads_numbers(rt: HostRuntime) -> Result<(), Fail> {
         return Err(Fail::from("another command"));
     };
     assert_eq!(&rt; (size, me, limit), (4, 3, None));
-    let Command::Network { size, me, limit } = read_command(alloc, b"network 64 63 1000000")? else {
+    let Command::Network { size, me, limit } = read_command(alloc, b"network 250 249 1000000")? else {
         return Err(Fail::from("another command"));
     };
-    assert_eq!(&rt; (size, me, limit), (64, 63, Some(1_000_000)));
+    assert_eq!(&rt; (size, me, limit), (250, 249, Some(1_000_000)));
     Ok(())
 }
 
@@ -40,7 +40,7 @@ fn refuses_lines(rt: HostRuntime) {
         (b"network 4", "O1"),
         (b"network 4 0 1 1", "O1"),
         (b"network 1 0", "O2"),
-        (b"network 65 0", "O2"),
+        (b"network 251 0", "O2"),
         (b"network 4 4", "O2"),
         (b"network 4 0 0", "O2"),
         (b"network 4 0 1000001", "O2"),

@@ -125,7 +125,7 @@ fn commands_before_and_after_the_network(rt: HostRuntime) -> Result<(), Fail> {
         &rt,
         rt.alloc(),
         b"up 1\nnetwork 65 0\nnetwork 4 0\nnetwork 4 0\nimport 1 Z\njump\n",
-        b"refused O4 1\nrefused O2 2\nok\nrefused O5 4\nrefused O6 5\nrefused O1 6\n",
+        b"refused O4 1\nok\nrefused O5 3\nrefused O5 4\nrefused O6 5\nrefused O1 6\n",
         5,
     )?;
     expect_answers(
@@ -135,6 +135,27 @@ fn commands_before_and_after_the_network(rt: HostRuntime) -> Result<(), Fail> {
         b"refused O4 1\nrefused O4 2\nrefused O4 3\nrefused O4 4\nrefused O4 5\nrefused O4 6\nrefused O4 7\nrefused O4 8\nrefused O4 9\n",
         9,
     )?;
+    Ok(())
+}
+
+#[test]
+fn the_largest_domain_has_250_nodes(rt: HostRuntime) -> Result<(), Fail> {
+    let rows: [(&[u8], &[u8], u32); 3] = [
+        (
+            b"network 250 249\nshow 249\nshow 0\nshow 250\n",
+            b"ok\nroute 0 local\nroute 250 none\nrefused N4 2\n",
+            1,
+        ),
+        (
+            b"network 250 0\nup 1\nrecv 1 7 248\nshow 7\nrecv 1 7 249\nshow 7\n",
+            b"ok\nopened 1\ndone 1\nroute 249 via 1\ndone 1\nroute 250 none\n",
+            0,
+        ),
+        (b"network 251 0\n", b"refused O2 1\n", 1),
+    ];
+    for (script, want, refused) in rows {
+        expect_answers(&rt, rt.alloc(), script, want, refused)?;
+    }
     Ok(())
 }
 

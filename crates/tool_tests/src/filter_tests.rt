@@ -32,7 +32,7 @@ fn a_refused_filter_answers_no_route(rt: HostRuntime) -> Result<(), Fail> {
             16,
             "refused V3 2\n",
         ),
-        (b"filter a { accept; }", 65, "refused V8 0\n"),
+        (b"filter a { accept; }", 251, "refused V8 0\n"),
     ];
     for (text, size, want) in rows {
         let mut reader: &[u8] = b"8.8.8.0/24 3\n";

@@ -80,7 +80,7 @@ fn knowledge_is_listed(rt: HostRuntime) -> Result<(), Fail> {
         &rt,
         rt.alloc(),
         "4e4346310000000170",
-        Some(65),
+        Some(251),
         true,
         "refused V8 0\n",
         true,

@@ -103,7 +103,7 @@ fn runs_answer_as_the_checked_machine(rt: HostRuntime) -> Result<(), Fail> {
         (product.as_slice(), 3, 8, Some(6), 5),
         (eight.as_slice(), 3, 8, Some(8), 3),
         (accepts.as_slice(), 0, 8, Some(0), 1),
-        (jumps.as_slice(), 64, 64, None, 1024),
+        (jumps.as_slice(), 250, 250, None, 1024),
         (full.as_slice(), 3, 8, None, 67),
     ];
     for (instrs, metric, size, accepted, steps) in rows {

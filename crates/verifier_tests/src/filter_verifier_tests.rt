@@ -97,8 +97,8 @@ fn sizes(rt: HostRuntime) -> Result<(), Fail> {
             (&RAISED, 0, 0, "refused V8 0"),
             (&RAISED, 0, 1, "refused V8 0"),
             (&RAISED, 0, 2, "verified 7 2"),
-            (&RAISED, 0, 64, "verified 7 2"),
-            (&RAISED, 0, 65, "refused V8 0"),
+            (&RAISED, 0, 250, "verified 7 2"),
+            (&RAISED, 0, 251, "refused V8 0"),
             // The size is judged before the code is.
             (&[], 0, 1, "refused V8 0"),
             (&[], 0, 8, "refused V4 0"),
@@ -449,7 +449,7 @@ fn texts(rt: HostRuntime) -> Result<(), Fail> {
         (
             VerifyFault::BadSize,
             "V8",
-            "the size of a domain must be 2 to 64",
+            "the size of a domain must be 2 to 250",
         ),
         (VerifyFault::Memory, "V10", "out of memory"),
     ] {

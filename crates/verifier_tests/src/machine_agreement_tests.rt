@@ -10,7 +10,7 @@ use std::test::Fail;
 use worked_rows::Numbers;
 
 /// The size of the domain.
-const SIZE: u32 = 64;
+const SIZE: u32 = 250;
 
 /// The instructions that take operands and give a value, and SETMETRIC.
 const OPERATIONS: [Instr; 18] = [
