@@ -1,8 +1,34 @@
 #!/usr/bin/env bash
 # The test command: proves every crate from nothing, tries the must-fail edits, runs all tests and the program, and then the examples
 # of the documents and runs with their exit status. The last line is 'N passed, M failed', the sum of all.
+#
+# usage: scripts/test.sh [--all]      (--all: tries the edits of wrong-bodies/ too)
 set -u
 cd "$(dirname "$0")/.."
+case "$*" in
+    "") ;;
+    --all)
+        # All of it runs in a copy, where those edits stand among the must-fail edits. So the repository stays as it is, however this ends.
+        copy="$(mktemp -d)" || exit
+        trap 'rm -rf "$copy"' EXIT
+        trap 'exit 130' INT TERM
+        tar -c --exclude=./.git --exclude='./crates/*/out' . | tar -x -C "$copy" || exit
+        for edit in "$copy"/crates/*/wrong-bodies/*; do
+            to="${edit%/wrong-bodies/*}/must-fail"
+            if [ -e "$to/${edit##*/}" ]; then
+                echo "${edit#"$copy"/}: must-fail/ has an edit of this name" >&2
+                exit 1
+            fi
+            mkdir -p "$to" && mv "$edit" "$to/" || exit
+        done
+        "$copy/scripts/test.sh"
+        exit
+        ;;
+    *)
+        echo "usage: scripts/test.sh [--all]" >&2
+        exit 2
+        ;;
+esac
 output="$(mktemp)"
 trap 'rm -f "$output"' EXIT
 passed=0 failed=0
