@@ -15,6 +15,7 @@ pub mod Replaced
 pub mod Revised
 pub mod Rooms
 pub mod Rows
+pub mod Scanned
 pub mod Settled
 pub mod Unchanged
 pub mod Views

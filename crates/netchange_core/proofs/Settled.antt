@@ -145,3 +145,22 @@ settled_more_at o hop v i ms ns ns_new old ds new head count byte e s below with
 pub byte_within : (b : Bool) → from_bool b ≤ 1
 byte_within true = omega arith
 byte_within false = omega arith
+
+-- the destinations that are still to come are stale as they were
+pub still_stale : (o : OpeningView) (hop v i : ℕ) (ms ns : List Neighbour) (old ds : List Destination) (head : Destination)
+    (count : ℕ) → i ≡ v → Settled o ms old v ns ds count → v < o.size → hop < length ms →
+    AreStaleAt o hop (map view_of ms) old →
+    slice_set (slice_index_or ds i head).distances.items hop (neighbour_distance o v (neighbour_at (map view_of ns) hop))
+    ≡ map (neighbour_distance o v) (map view_of ns)
+still_stale o hop v i ms ns old ds head count e s below within stale =
+    let ps = map view_of ms in
+    let near = neighbour_distance o v (neighbour_at (map view_of ns) hop) in
+    let near_is : near ≡ neighbour_distance o v (neighbour_at ps hop) =
+    ap (λ qs. neighbour_distance o v (neighbour_at qs hop)) s.told
+    ∙ changes_distance o v hop (kept_distance old) (distance_by o ps) v ps (omega (arith, length-map ms view_of)) in
+    ap (λ j. slice_set (slice_index_or ds j head).distances.items hop near) e
+    ∙ ap (λ d. slice_set d.distances.items hop near) (s.rest v head (le_refl v))
+    ∙ ap (λ n. slice_set (slice_index_or old v head).distances.items hop n) near_is
+    ∙ stale.others v head below
+    ∙ sym (changes_distances o v (kept_distance old) (distance_by o ps) v ps)
+    ∙ ap (λ qs. map (neighbour_distance o v) qs) (sym s.told)

@@ -1,10 +1,14 @@
 //! The best route to a node, by how far each neighbour is from it.
 
 ghost use Rattle.std.specs.Prelude.{◌≡◌, ◌⊎◌, ℕ, ◌+◌, ◌<◌, ◌≤◌, ◌^◌, true, false, List, length, slice_index, slice_set};
-ghost use Rattle.netchange_core.specs.Best.{nearest};
-ghost use Rattle.netchange_core.specs.Leading.{Leads};
+ghost use Rattle.std.specs.List.{HoldsAt};
+ghost use Rattle.netchange_core.specs.declared.reply.Via.TheVariants.{Node};
+ghost use Rattle.netchange_core.specs.declared.sessions.Present.{Present};
+ghost use Rattle.netchange_core.specs.Best.{nearest, route_of};
+ghost use Rattle.netchange_core.specs.Leading.{LeadsListed, ListsReachable};
 
 use crate::reply::Via;
+use crate::sessions::Present;
 
 /// The distance to a node, and through whom the route goes.
 #[derive(Clone, Copy, Debug)]
@@ -21,37 +25,6 @@ fn distance_at(distances: &[u16], hop: usize, near: u16, k: usize) -> u16
     if k == hop { near } else { distances[k] }
 }
 
-/// The better of the best route through the neighbours before this one, and the one through it.
-fn nearer(best: BestRoute, near: u16, hop: usize) -> BestRoute
-    requires { hop < 2 ^ 16 }
-    ensures { (size : ℕ) → (distances : List ℕ) → slice_index distances hop ≡ near → best.dist ≤ size →
-        Leads size hop distances best → (result.dist ≤ size) × Leads size (hop + 1) distances result }
-{
-    if u32::from(near) + 1 < u32::from(best.dist) {
-        BestRoute {
-            dist: near + 1,
-            via: Via::Node(hop as u16),
-        }
-    } else {
-        best
-    }
-}
-
-/// The best route, where one neighbour is now at another distance, found by looking at each.
-fn nearest_after(size: u16, distances: &[u16], hop: usize, near: u16) -> BestRoute
-    requires { length distances.now ≤ 2 ^ 16 }
-    ensures { result ≡ nearest size (slice_set distances.now hop near) }
-{
-    let mut best = BestRoute {
-        dist: size,
-        via: Via::Nowhere,
-    };
-    for k in 0..distances.len() {
-        best = nearer(best, distance_at(distances, hop, near, k), k);
-    }
-    best
-}
-
 /// Whether a neighbour leads before the next hop that led at a distance: it is nearer, or as near and not after it in number.
 fn overtakes(near: u16, hop: usize, dist: u16, node: u16) -> bool
     ensures fits { result ≡ true → near + 1 ≤ dist }
@@ -63,10 +36,69 @@ fn overtakes(near: u16, hop: usize, dist: u16, node: u16) -> bool
     through < limit || (through == limit && hop <= usize::from(node))
 }
 
+/// The route through a neighbour, which is so far from the node.
+fn through(near: u16, node: u16) -> BestRoute
+    requires { near + 1 < 2 ^ 16 }
+    ensures { result ≡ route_of (near + 1) (Node node) }
+{
+    BestRoute {
+        dist: near + 1,
+        via: Via::Node(node),
+    }
+}
+
+/// The better of a route and the one through a neighbour, which is so far from the node.
+fn nearer(best: BestRoute, near: u16, node: u16) -> BestRoute
+    ensures { (size i : ℕ) (ps : List Present) (distances : List ℕ) → i < length ps → HoldsAt (λ p. p.node ≡ node) ps i →
+        node < length distances → slice_index distances node ≡ near → LeadsListed size i ps distances best →
+        LeadsListed size (i + 1) ps distances result }
+{
+    match best.via {
+        Via::Node(hop) => {
+            if overtakes(near, usize::from(node), best.dist, hop) {
+                through(near, node)
+            } else {
+                best
+            }
+        }
+        Via::Local | Via::Nowhere => {
+            if u32::from(near) + 1 < u32::from(best.dist) {
+                through(near, node)
+            } else {
+                best
+            }
+        }
+    }
+}
+
+/// The best route, where one neighbour is now at another distance, found by looking at each that is up. They stand in the order of
+/// their sessions, not of their numbers.
+fn nearest_after(
+    size: u16,
+    present: &[Present],
+    distances: &[u16],
+    hop: usize,
+    near: u16,
+) -> BestRoute
+    requires listed { ListsReachable size (slice_set distances.now hop near) present.now }
+    ensures { result ≡ nearest size (slice_set distances.now hop near) }
+{
+    let mut best = BestRoute {
+        dist: size,
+        via: Via::Nowhere,
+    };
+    for session in present {
+        let k = usize::from(session.node);
+        best = nearer(best, distance_at(distances, hop, near, k), session.node);
+    }
+    best
+}
+
 /// The best route, where one neighbour is now at another distance, from the one that was best. Only where the next hop
-/// got worse is each neighbour looked at.
+/// got worse is each up neighbour looked at.
 pub(crate) fn revised(
     size: u16,
+    present: &[Present],
     distances: &[u16],
     hop: usize,
     near: u16,
@@ -75,27 +107,22 @@ pub(crate) fn revised(
     requires best { best ≡ nearest size distances.now }
     requires within { hop < length distances.now }
     requires short { length distances.now ≤ 2 ^ 16 }
+    requires listed { ListsReachable size (slice_set distances.now hop near) present.now }
     ensures { result ≡ nearest size (slice_set distances.now hop near) }
 {
     match best.via {
         Via::Node(node) => {
             if overtakes(near, hop, best.dist, node) {
-                BestRoute {
-                    dist: near + 1,
-                    via: Via::Node(hop as u16),
-                }
+                through(near, hop as u16)
             } else if hop == usize::from(node) {
-                nearest_after(size, distances, hop, near)
+                nearest_after(size, present, distances, hop, near)
             } else {
                 best
             }
         }
         Via::Nowhere => {
             if u32::from(near) + 1 < u32::from(best.dist) {
-                BestRoute {
-                    dist: near + 1,
-                    via: Via::Node(hop as u16),
-                }
+                through(near, hop as u16)
             } else {
                 best
             }

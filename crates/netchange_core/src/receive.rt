@@ -50,7 +50,7 @@ pub(crate) fn receive(
     }
     let near = pass(opening, &neighbours[hop].imports, dest, dist);
     let destination = &mut destinations[usize::from(dest)];
-    let route = route_after(opening, dest, destination, hop, near);
+    let route = route_after(opening, present, dest, destination, hop, near);
     let old = destination.route.dist;
     make_room_if_differs(present, neighbours, old, route.dist)?;
     hear(&mut neighbours[hop], dest, dist);

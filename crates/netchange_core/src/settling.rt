@@ -3,6 +3,7 @@
 ghost use Rattle.std.specs.Prelude.{◌≡◌, ℕ, ◌+◌, ◌<◌, ◌≤◌, ◌==◌, not, if◌then◌else◌, map, length, slice_index_or, slice_set};
 ghost use Rattle.netchange_core.specs.Best.{best_by, neighbour_distance};
 ghost use Rattle.netchange_core.specs.Kept.{AreDestinations, AreKept, AreNeighbours, IsDestination, IsNeighbour, distance_by, kept_distance, view_of};
+ghost use Rattle.netchange_core.specs.Leading.{ListsReachable};
 ghost use Rattle.netchange_core.specs.Next.{count_changes, tell, tell_changes};
 ghost use Rattle.netchange_core.specs.Present.{AreListed, sessions_of};
 ghost use Rattle.netchange_core.specs.Room.{HaveRoom};
@@ -38,6 +39,7 @@ pub(crate) fn neighbour_distance(opening: &Opening, neighbour: &Neighbour, node:
 /// The best route to a node, where one neighbour is now at another distance from it.
 pub(crate) fn route_after(
     opening: &Opening,
+    present: &[Present],
     node: u16,
     destination: &Destination,
     hop: usize,
@@ -45,6 +47,7 @@ pub(crate) fn route_after(
 ) -> BestRoute
     requires right { IsDestination opening.now node destination.now }
     requires hop { hop < opening.now.size }
+    requires listed { ListsReachable opening.now.size (slice_set destination.now.distances.items hop near) present.now }
     ensures best { result ≡ best_by opening.now node (slice_set destination.now.distances.items hop near) }
     ensures reachable { result.dist ≤ opening.now.size }
 {
@@ -53,6 +56,7 @@ pub(crate) fn route_after(
     }
     revised(
         opening.size(),
+        present,
         &destination.distances,
         hop,
         near,
@@ -84,6 +88,8 @@ fn settle_at(
     requires neighbours { AreNeighbours opening.now.size (map view_of neighbours.old) }
     requires listed { AreListed (sessions_of (map view_of neighbours.old)) present.now }
     requires right { IsDestination opening.now node destination.old }
+    requires stale { slice_set destination.old.distances.items hop (neighbour_distance opening.now node (neighbour_at (map view_of neighbours.old) hop))
+        ≡ map (neighbour_distance opening.now node) (map view_of neighbours.old) }
     requires room { HaveRoom 1 neighbours.old }
     ensures changed { result ≡ not (destination.old.route.dist == destination.new.route.dist) }
     ensures told { map view_of neighbours.new ≡ told_if_differs opening.now node destination.old.route.dist destination.new.route.dist (map view_of neighbours.old) }
@@ -93,7 +99,7 @@ fn settle_at(
     ensures room { (more : ℕ) → HaveRoom (more + 1) neighbours.old → HaveRoom more neighbours.new }
 {
     let near = neighbour_distance(opening, &neighbours[hop], node);
-    let route = route_after(opening, node, destination, hop, near);
+    let route = route_after(opening, present, node, destination, hop, near);
     let old = destination.route.dist;
     put(destination, hop, near, route);
     tell_if_differs(opening, present, neighbours, node, old, route.dist)

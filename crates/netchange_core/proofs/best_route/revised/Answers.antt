@@ -1,10 +1,11 @@
-use Rattle.std.proofs.Common.{arith}
+use Rattle.std.proofs.Common.{arith, ◌∙◌}
 use Rattle.netchange_core.proofs.Revised.{revised_first, revised_nowhere, revised_now, revised_still}
 use Rattle.netchange_core.proofs.best_route.revised.Goals as goal
 
 pub returns-then-overtakes : goal.returns-then-overtakes
 returns-then-overtakes c =
-    revised_now c.args.size c.args.distances.now c.args.hop c.args.near c.args.best c.in-Node.node c.requires.best
+    c.through.ensures
+    ∙ revised_now c.args.size c.args.distances.now c.args.hop c.args.near c.args.best c.in-Node.node c.requires.best
     c.requires.within c.in-Node.is (c.overtakes.ensures.closer c.if-overtakes.true)
 
 pub returns-else-hop-from : goal.returns-else-hop-from
@@ -14,7 +15,8 @@ returns-else-hop-from c =
 
 pub returns-then-from : goal.returns-then-from
 returns-then-from c =
-    revised_first c.args.size c.args.distances.now c.args.hop c.args.near c.args.best c.requires.best c.requires.within
+    c.through-then-from.ensures
+    ∙ revised_first c.args.size c.args.distances.now c.args.hop c.args.near c.args.best c.requires.best c.requires.within
     c.in-Nowhere.is (omega arith)
 
 pub returns-else-from : goal.returns-else-from

@@ -1,7 +1,8 @@
-use Rattle.std.proofs.Common.{◌<◌, length, map, ap, refl, sym, subst, ◌∙◌, arith}
+use Rattle.std.proofs.Common.{◌<◌, length, map, slice_index_or, ap, refl, sym, subst, ◌∙◌, arith}
 use Rattle.std.specs.Int.{from_bool}
 use Rattle.std.proofs.lemmas.List.{length-map}
 use Rattle.netchange_core.specs.Kept.{AreNeighbours, view_of}
+use Rattle.netchange_core.specs.Leading.{ListsReachable}
 use Rattle.netchange_core.specs.Next.{heard}
 use Rattle.netchange_core.specs.Pass.{pass}
 use Rattle.netchange_core.specs.Present.{AreListed, sessions_of}
@@ -11,6 +12,7 @@ use Rattle.netchange_core.proofs.Good.{heard_good}
 use Rattle.netchange_core.proofs.Presence.{sessions_kept, sessions_told_one}
 use Rattle.netchange_core.proofs.Received.{receive_goes, received, received_kept}
 use Rattle.netchange_core.proofs.Rooms.{room_set}
+use Rattle.netchange_core.proofs.Scanned.{lists_reachable, reachable_set, up_is_listed}
 use Rattle.netchange_core.proofs.Views.{good_at, view_at}
 use Rattle.netchange_core.proofs.receive.receive.Goals as goal
 
@@ -103,3 +105,16 @@ returns-clause-sessions c =
     c.index-neighbours-hop-2.result f (omega (arith, c.requires.hop)) c.make_room_if_differs.ensures.same c.hear.ensures.view in
     ap sessions_of c.tell_if_differs-differs.ensures.told ∙ sessions_told_one c.args.opening.now c.args.message.dest _ _ _
     ∙ sessions_kept (map view_of c.args.neighbours.now) _ k f e (λ _. refl)
+
+pub route_after-route-requires-clause-listed : goal.route_after-route-requires-clause-listed
+route_after-route-requires-clause-listed c =
+    let o = c.args.opening.now in
+    let v = c.args.message.dest in
+    let ns = map view_of c.args.neighbours.now in
+    let ps = c.args.present.now in
+    let head = c.index-destinations-from.result in
+    let ds = c.args.destinations.now in
+    let column = ap (λ j. (slice_index_or ds j head).distances.items) c.from.ensures ∙ c.requires.kept.distances v head (omega arith) in
+    reachable_set o.size (slice_index_or ds c.from.result head).distances.items ps c.args.hop c.pass-near.result
+    (subst (λ xs. ListsReachable o.size xs ps) (sym column) (lists_reachable o v ns ps c.requires.listed))
+    (up_is_listed o v ns ps c.requires.listed c.args.hop c.requires.up)

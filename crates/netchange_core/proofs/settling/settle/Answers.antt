@@ -5,7 +5,7 @@ use Rattle.netchange_core.specs.Kept.{AreNeighbours, IsDestination, distance_by,
 use Rattle.netchange_core.specs.Present.{AreListed, sessions_of}
 use Rattle.netchange_core.proofs.Presence.{sessions_told}
 use Rattle.netchange_core.proofs.Queued.{changes_good}
-use Rattle.netchange_core.proofs.Settled.{Settled, count_within, byte_within, less_room, settled_kept, settled_more_at}
+use Rattle.netchange_core.proofs.Settled.{Settled, count_within, byte_within, less_room, settled_kept, still_stale, settled_more_at}
 use Rattle.netchange_core.proofs.settling.settle.Goals as goal
 
 pub settle_at-requires-clause-neighbours : goal.settle_at-requires-clause-neighbours
@@ -56,3 +56,9 @@ returns-clause-kept c =
     (subst (λ n. Settled c.args.opening.now c.args.neighbours.now c.args.destinations.now n c.loop-node.neighbours
     c.loop-node.destinations c.loop-node.changed) all c.loop-node.invariant)
     c.requires.neighbours (omega (arith, c.requires.destinations.one_a_node))
+
+pub settle_at-requires-clause-stale : goal.settle_at-requires-clause-stale
+settle_at-requires-clause-stale c =
+    still_stale c.args.opening.now c.args.hop c.loop-node.node c.from.result c.args.neighbours.now c.loop-node.neighbours
+    c.args.destinations.now c.loop-node.destinations c.index-destinations-from.result c.loop-node.changed c.from.ensures
+    c.loop-node.invariant (omega arith) (omega (arith, length-map c.args.neighbours.now view_of)) c.requires.stale
