@@ -25,14 +25,14 @@ fn expect_read<R: Wait + Clock + Abort>(
     bring_up(rt, &router, &mut pass, 1)?;
     let mut link = MemoryLink::new(alloc, messages(alloc, &TOLD)?, fails_at);
     let end = read_session(rt, &router, &mut pass, 1, &mut link, &OpenGate, 0, 10);
-    assert_eq!(rt; end, wanted);
+    assert!(rt; end == wanted);
     let Ok(journal) = router.close(pass) else {
         return Err(Fail::from("the router is closed"));
     };
     let entered = wanted.entered as usize;
     let before = TOLD.get(..entered).ok_or("at most four messages")?;
     expect_entered(rt, alloc, &journal, 1, messages(alloc, before)?.as_slice())?;
-    assert_eq!(rt; journal.entries().len(), entered.saturating_add(1));
+    assert!(rt; journal.entries().len() == entered.saturating_add(1));
     Ok(())
 }
 

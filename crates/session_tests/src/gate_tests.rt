@@ -81,7 +81,7 @@ fn jobs_run_at_the_same_time(rt: HostRuntime) -> Result<(), Fail> {
         has_given_up: AtomicBool::new(false),
     };
     let finished = run_sessions(&rt, alloc, &router, jobs, &gate, 10)?;
-    assert_eq!(&rt; finished.len(), 2);
+    assert!(&rt; finished.len() == 2);
     for one in &finished {
         expect_read(&rt, &one.ending, Cause::LinkEnded, 1);
     }
@@ -116,18 +116,18 @@ fn each_turn_is_asked_for(rt: HostRuntime) -> Result<(), Fail> {
     jobs.push(job(alloc, &router, &mut pass, Role::Writer, 2, Vec::new(alloc))?)?;
     jobs.push(job(alloc, &router, &mut pass, Role::Writer, 3, Vec::new(alloc))?)?;
     let finished = run_sessions(&rt, alloc, &router, jobs, &gate, 5)?;
-    assert_eq!(&rt; finished.len(), 3);
+    assert!(&rt; finished.len() == 3);
     let asked = gate.asked.lock(&rt);
-    assert_eq!(&rt; asked.len(), 15);
+    assert!(&rt; asked.len() == 15);
     for number in 0..3u32 {
         let mut next = 0;
         for (job, turn) in asked.iter() {
             if *job == number {
-                assert_eq!(&rt; *turn, next);
+                assert!(&rt; *turn == next);
                 next = turn.saturating_add(1);
             }
         }
-        assert_eq!(&rt; next, 5);
+        assert!(&rt; next == 5);
     }
     Ok(())
 }

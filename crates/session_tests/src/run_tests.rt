@@ -99,7 +99,7 @@ fn jobs_end_in_order(rt: HostRuntime) -> Result<(), Fail> {
     bring_up(&rt, &router, &mut pass, 1)?;
     let jobs = readers(alloc, &router, &mut pass, 5)?;
     let finished = run_sessions(&rt, alloc, &router, jobs, &OpenGate, 10)?;
-    assert_eq!(&rt; finished.len(), 5);
+    assert!(&rt; finished.len() == 5);
     let mut entered = 0;
     for one in &finished {
         expect_read(&rt, &one.ending, Cause::LinkEnded, entered);
@@ -107,12 +107,12 @@ fn jobs_end_in_order(rt: HostRuntime) -> Result<(), Fail> {
         entered = entered.saturating_add(1);
     }
     join_passes(&router, &mut pass, finished);
-    assert_eq!(&rt; pass.shares(), 65_536);
+    assert!(&rt; pass.shares() == 65_536);
     let Ok(journal) = router.close(pass) else {
         return Err(Fail::from("the router is closed"));
     };
     // The Up, and 0 + 1 + 2 + 3 + 4 messages.
-    assert_eq!(&rt; journal.entries().len(), 11);
+    assert!(&rt; journal.entries().len() == 11);
     let _tables = replay(alloc, journal.opening(), journal.entries())?;
     Ok(())
 }
@@ -129,7 +129,7 @@ fn a_reader_and_a_writer(rt: HostRuntime) -> Result<(), Fail> {
     jobs.push(job(alloc, &router, &mut pass, Role::Writer, 1, Vec::new(alloc))?)?;
     jobs.push(job(alloc, &router, &mut pass, Role::Reader, 2, waiting)?)?;
     let finished = run_sessions(&rt, alloc, &router, jobs, &OpenGate, 1)?;
-    assert_eq!(&rt; finished.len(), 2);
+    assert!(&rt; finished.len() == 2);
     expect_all_sent(&rt, &finished[0]);
     expect_read(&rt, &finished[1].ending, Cause::Turns, 1);
     Ok(())
@@ -143,11 +143,8 @@ fn no_jobs(rt: HostRuntime) -> Result<(), Fail> {
     let jobs = readers(alloc, &router, &mut pass, 0)?;
     let finished = run_sessions(&rt, alloc, &router, jobs, &OpenGate, 10)?;
     assert!(&rt; finished.is_empty());
-    assert_eq!(&rt;
-        (RunFault::Memory.code(), RunFault::NotStarted.code()),
-        ("X1", "X2")
-    );
-    assert_eq!(&rt; (RunFault::Memory.at(), RunFault::NotStarted.at()), (0, 0));
+    assert!(&rt; RunFault::Memory.code() == "X1" && RunFault::NotStarted.code() == "X2");
+    assert!(&rt; RunFault::Memory.at() == 0 && RunFault::NotStarted.at() == 0);
     Ok(())
 }
 
@@ -196,9 +193,9 @@ fn one_job_stays_on_the_thread(rt: HostRuntime) -> Result<(), Fail> {
             elsewhere: AtomicU64::new(0),
         };
         let finished = run_sessions(&rt, alloc, &router, jobs, &gate, 2)?;
-        assert_eq!(&rt; finished.len(), usize::from(count));
-        assert_eq!(&rt; gate.here.load(Ordering::SeqCst), 1);
-        assert_eq!(&rt; gate.elsewhere.load(Ordering::SeqCst), elsewhere);
+        assert!(&rt; finished.len() == usize::from(count));
+        assert!(&rt; gate.here.load(Ordering::SeqCst) == 1);
+        assert!(&rt; gate.elsewhere.load(Ordering::SeqCst) == elsewhere);
     }
     Ok(())
 }
