@@ -18,14 +18,14 @@ fn a_script_is_answered_or_e3(rt: HostRuntime) -> Result<(), Fail> {
     let mut reader = Pieces { rest: SCRIPT };
     let mut out = Page::new();
     match run_script(rt.alloc(), &mut reader, &mut out) {
-        Ok(refused) => assert!(rt; refused == 0),
+        Ok(refused) => assert_eq!(rt; refused, 0),
         Err(fault) => {
-            assert!(rt; fault == ScriptFault::Memory);
+            assert_eq!(rt; fault, ScriptFault::Memory);
             assert!(rt; ANSWERS.starts_with(out.text()));
             assert!(rt; out.text().is_empty() || out.text().ends_with(b"\n"));
             return Err(answered("run_script", "E3"));
         }
     }
-    assert!(rt; out.text() == ANSWERS);
+    assert_eq!(rt; out.text(), ANSWERS);
     Ok(())
 }

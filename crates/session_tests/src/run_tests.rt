@@ -1,10 +1,10 @@
 //! Many sessions: their results come in the order of the jobs, and all their calls stand in one history.
 
-ghost use Rattle.std.specs.Prelude.{◌≡◌, IfOk, vec_len};
+ghost use Rattle.std.specs.Prelude.{◌≡◌, ◌≤◌, IfOk, vec_len};
 ghost use Rattle.route_session.specs.Jobs.{AreFor};
 ghost use Rattle.slot_lock.specs.Held.{IsPassOf};
 
-use crate::fixtures::{OpenGate, bring_up, message, open};
+use crate::fixtures::{OpenGate, bring_up, message, messages, open};
 use netchange_core::Message;
 use route_history::replay;
 use route_session::{
@@ -23,7 +23,7 @@ use std::test::Fail;
 const SHARES: u32 = 100;
 
 /// A job over a link in memory, whose pass is split off from another.
-pub fn job(
+fn job(
     alloc: Global,
     router: &Router,
     pass: &mut Pass,
@@ -45,6 +45,31 @@ pub fn job(
         link: MemoryLink::new(alloc, waiting, None),
         pass: own,
     })
+}
+
+/// A job of a table: its role, its session, and what its link hands out.
+pub type JobRow<'a> = (Role, u32, &'a [(u16, u16)]);
+
+/// The jobs of a table, of which there are at most 16.
+pub fn jobs(
+    alloc: Global,
+    router: &Router,
+    pass: &mut Pass,
+    rows: &[JobRow<'_>],
+) -> Result<Vec<Job<MemoryLink>>, Fail>
+    requires { IsPassOf router.now pass.old }
+    ensures pass { IsPassOf router.now pass.new }
+    ensures jobs { IfOk result (λ v. AreFor router.now v.items × (vec_len v ≤ 16)) }
+{
+    let mut jobs = Vec::new(alloc);
+    for number in 0..16u16 {
+        let Some((role, session, told)) = rows.get(usize::from(number)) else {
+            return Ok(jobs);
+        };
+        let waiting = messages(alloc, told)?;
+        jobs.push(job(alloc, router, pass, *role, *session, waiting)?)?;
+    }
+    Ok(jobs)
 }
 
 /// Asserts how a reader ended.
@@ -123,11 +148,8 @@ fn a_reader_and_a_writer(rt: HostRuntime) -> Result<(), Fail> {
     let alloc = rt.alloc();
     let (router, mut pass) = open(alloc, 4, 100)?;
     bring_up(&rt, &router, &mut pass, 2)?;
-    let mut waiting = Vec::new(alloc);
-    waiting.push(message(2, 0))?;
-    let mut jobs = Vec::new(alloc);
-    jobs.push(job(alloc, &router, &mut pass, Role::Writer, 1, Vec::new(alloc))?)?;
-    jobs.push(job(alloc, &router, &mut pass, Role::Reader, 2, waiting)?)?;
+    let rows: [JobRow; 2] = [(Role::Writer, 1, &[]), (Role::Reader, 2, &[(2, 0)])];
+    let jobs = jobs(alloc, &router, &mut pass, &rows)?;
     let finished = run_sessions(&rt, alloc, &router, jobs, &OpenGate, 1)?;
     assert!(&rt; finished.len() == 2);
     expect_all_sent(&rt, &finished[0]);
