@@ -54,7 +54,7 @@ def work_of(process):
     if ran:
         # A crate's tests are run as NAME_tests.
         name = ran[1]
-        return (name if os.path.isdir(f"{TOP}/crates/{name}") else name.removesuffix("_tests")), "built"
+        return (name if os.path.isdir(f"{TOP}/crates/{name}") else re.sub("_tests$", "", name)), "built"
     if "--crate-name" in words:
         is_built = "--crate-checked" in words
         part = "edits" if "rt-edit" in folder else "built" if is_built else "tests" if "--test" in words else "check"
