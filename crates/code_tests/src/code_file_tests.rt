@@ -1,11 +1,12 @@
 //! Code files, read and written.
 
+use crate::texts::expect_fault;
 use code_file::{FileFault, read_code, write_code};
 use filter_code::{Code, Instr};
 use prefix_patterns::{Ip, Pattern, PatternSet, Prefix};
 use std::alloc::Global;
 use std::test::Fail;
-use worked_rows::{FILTERS, code_of_file, listing};
+use worked_rows::{FILTERS, WorkedFilter, code_of_file, listing};
 
 /// The fault of bytes that are no code file.
 pub fn fault_of(alloc: Global, bytes: &[u8]) -> Option<FileFault> {
@@ -23,25 +24,41 @@ fn the_smallest_files(rt: HostRuntime) -> Result<(), Fail> {
     ];
     for (bytes, instrs) in rows {
         let code = read_code(rt.alloc(), bytes)?;
-        assert_eq!(rt; code.instrs(), instrs);
+        assert!(rt; code.instrs() == instrs);
     }
     Ok(())
 }
 
+/// Whether a code is listed as a filter's is.
+fn is_listed(alloc: Global, code: &Code, row: &WorkedFilter) -> Result<bool, Fail> {
+    Ok(listing(alloc, code)?.as_str() == row.listing)
+}
+
+/// The digits of a code's file.
+fn digits(alloc: Global, code: &Code) -> Result<String, Fail> {
+    let written = write_code(alloc, code)?;
+    Ok(hex::encode(alloc, &written)?)
+}
+
+/// Whether a code has the file of a filter.
+fn is_written(alloc: Global, code: &Code, row: &WorkedFilter) -> Result<bool, Fail> {
+    Ok(digits(alloc, code)?.as_str() == row.file)
+}
+
+/// Whether the code of a filter's file is listed as that filter is, and written as that file.
+fn is_worked(alloc: Global, row: &WorkedFilter) -> Result<(bool, bool), Fail> {
+    let code = code_of_file(alloc, row.file)?;
+    Ok((
+        is_listed(alloc, &code, row)?,
+        is_written(alloc, &code, row)?,
+    ))
+}
+
 #[test]
 fn files_of_worked_filters(rt: HostRuntime) -> Result<(), Fail> {
-    let alloc = rt.alloc();
-    for row in FILTERS {
-        let code = code_of_file(alloc, row.file)?;
-        assert_eq!(rt;
-            listing(alloc, &code)?.as_str(),
-            row.listing,
-            "{}",
-            row.text
-        );
-        let written = write_code(alloc, &code)?;
-        let digits = hex::encode(alloc, &written)?;
-        assert_eq!(rt; digits.as_str(), row.file, "{}", row.text);
+    for row in &FILTERS {
+        let (is_listed, is_written) = is_worked(rt.alloc(), row)?;
+        assert!(rt; is_listed && is_written, "{}", row.text);
     }
     Ok(())
 }
@@ -49,6 +66,11 @@ fn files_of_worked_filters(rt: HostRuntime) -> Result<(), Fail> {
 /// Ten locals, a set and each instruction.
 const EVERYTHING: [u8; 67] =
     *b"NCF1\x0a\x01\0\x01\x0a\0\0\0\x08\x08\x10\0\x1c\x01\0\0\x01\x02\x02\x01\x03\x0a\0\0\x01\x04\x0a\x01\0\0\x10\x10\x09\x11\x09\x12\x13\x14\x15\x20\x21\x22\x23\x24\x30\x31\x32\x33\x40\x41\x42\x18\x50\x51\0\x60\x01\0\x61\0\x02\x70\x71";
+
+/// The set's pattern.
+fn pattern() -> Option<Pattern> {
+    Pattern::new(Prefix::new(Ip(0x0a00_0000), 8)?, 8, 16)
+}
 
 /// Each instruction once.
 fn instructions() -> Option<[Instr; 28]> {
@@ -86,30 +108,29 @@ fn instructions() -> Option<[Instr; 28]> {
 
 #[test]
 fn everything_is_read(rt: HostRuntime) -> Result<(), Fail> {
-    let code = read_code(rt.alloc(), &EVERYTHING)?;
     let instrs = instructions().ok_or("a prefix of 16 bits")?;
-    let prefix = Prefix::new(Ip(0x0a00_0000), 8).ok_or("a prefix of 8 bits")?;
-    let pattern = Pattern::new(prefix, 8, 16).ok_or("lengths in order")?;
-    assert_eq!(rt; code.locals(), 10);
-    assert_eq!(rt; code.sets().len(), 1);
+    let pattern = pattern().ok_or("a pattern")?;
+    let code = read_code(rt.alloc(), &EVERYTHING)?;
+    assert!(rt; code.locals() == 10 && code.sets().len() == 1);
     for set in code.sets() {
-        assert_eq!(rt; set.patterns(), [pattern].as_slice());
+        assert!(rt; set.patterns() == [pattern].as_slice());
     }
-    assert_eq!(rt; code.instrs(), instrs.as_slice());
+    assert!(rt; code.instrs() == instrs.as_slice());
     Ok(())
+}
+
+/// The code with that set and each instruction.
+fn everything(alloc: Global) -> Result<Code, Fail> {
+    let instrs = instructions().ok_or("a prefix of 16 bits")?;
+    let pattern = pattern().ok_or("a pattern")?;
+    let sets = vec![in alloc; PatternSet::build(alloc, &[pattern])?]?;
+    Ok(Code::new(10, sets, instrs.to_vec(alloc)?).ok_or("a code within the limits")?)
 }
 
 #[test]
 fn everything_is_written(rt: HostRuntime) -> Result<(), Fail> {
-    let alloc = rt.alloc();
-    let instrs = instructions().ok_or("a prefix of 16 bits")?;
-    let prefix = Prefix::new(Ip(0x0a00_0000), 8).ok_or("a prefix of 8 bits")?;
-    let pattern = Pattern::new(prefix, 8, 16).ok_or("lengths in order")?;
-    let mut sets = Vec::new(alloc);
-    sets.push(PatternSet::build(alloc, &[pattern])?)?;
-    let code = Code::new(10, sets, instrs.to_vec(alloc)?).ok_or("a code within the limits")?;
-    let bytes = write_code(alloc, &code)?;
-    assert_eq!(rt; bytes.as_slice(), EVERYTHING.as_slice());
+    let bytes = write_code(rt.alloc(), &everything(rt.alloc())?)?;
+    assert!(rt; bytes.as_slice() == EVERYTHING.as_slice());
     Ok(())
 }
 
@@ -160,18 +181,13 @@ const REFUSED: [(&[u8], FileFault); 20] = [
 
 #[test]
 fn what_is_no_file_is_refused(rt: HostRuntime) {
-    for (bytes, fault) in REFUSED {
-        assert_eq!(rt; fault_of(rt.alloc(), bytes), Some(fault));
+    for (bytes, fault) in &REFUSED {
+        assert!(rt; fault_of(rt.alloc(), bytes) == Some(*fault), "{fault}");
     }
-}
-
-fn text(alloc: Global, fault: FileFault) -> Result<String, Fail> {
-    Ok(format!(in alloc; "{} {} {fault}", fault.code(), fault.at())?)
 }
 
 #[test]
 fn the_texts(rt: HostRuntime) -> Result<(), Fail> {
-    let alloc = rt.alloc();
     let rows = [
         (
             FileFault::OtherMark(3),
@@ -200,8 +216,7 @@ fn the_texts(rt: HostRuntime) -> Result<(), Fail> {
         (FileFault::Memory, "C7 0 out of memory"),
     ];
     for (fault, wanted) in rows {
-        let shown = text(alloc, fault)?;
-        assert_eq!(rt; shown.as_str(), wanted);
+        expect_fault(&rt, rt.alloc(), fault.code(), fault.at(), &fault, wanted)?;
     }
     Ok(())
 }

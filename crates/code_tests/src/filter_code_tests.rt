@@ -1,5 +1,6 @@
 //! The machine on short codes, and the limits of codes and routes.
 
+use crate::texts::expect_text;
 use filter_code::{
     Code, Counted, FaultKind, Instr, Kind, Outcome, Route, Value, run_checked, run_counted,
 };
@@ -7,7 +8,7 @@ use prefix_patterns::{Ip, Pattern, PatternSet, Prefix};
 use std::alloc::Global;
 use std::process::Abort;
 use std::test::Fail;
-use worked_rows::{FILTERS, WorkedFilter, answer, code_of_file, route_in};
+use worked_rows::{FILTERS, WorkedFilter, WorkedRoute, answer, code_of_file, route_in};
 
 /// The route to 10.0.0.0/8.
 fn route(metric: u32, size: u32) -> Result<Route, Fail> {
@@ -15,12 +16,21 @@ fn route(metric: u32, size: u32) -> Result<Route, Fail> {
     Ok(Route::new(net, metric, size).ok_or("a route within the limits")?)
 }
 
-/// The code of these instructions, with two local variables and the set of 1.0.0.0/8 with lengths 15 to 17.
+/// The pattern of 1.0.0.0/8 with lengths 15 to 17.
+fn pattern() -> Option<Pattern> {
+    Pattern::new(Prefix::new(Ip(0x0100_0000), 8)?, 15, 17)
+}
+
+/// The set of that pattern.
+fn sets(alloc: Global) -> Result<Vec<PatternSet>, Fail> {
+    let pattern = pattern().ok_or("a pattern")?;
+    Ok(vec![in alloc; PatternSet::build(alloc, &[pattern])?]?)
+}
+
+/// The code of these instructions, with two local variables and that set.
 fn code(alloc: Global, instrs: &[Instr]) -> Result<Code, Fail> {
-    let net = Prefix::new(Ip(0x0100_0000), 8).ok_or("a prefix of 8 bits")?;
-    let pattern = Pattern::new(net, 15, 17).ok_or("lengths in order")?;
-    let sets = vec![in alloc; PatternSet::build(alloc, &[pattern])?]?;
-    Ok(Code::new(2, sets, instrs.to_vec(alloc)?).ok_or("a code within the limits")?)
+    let instrs = instrs.to_vec(alloc)?;
+    Ok(Code::new(2, sets(alloc)?, instrs).ok_or("a code within the limits")?)
 }
 
 fn outcome_on(alloc: Global, instrs: &[Instr], metric: u32) -> Result<Outcome, Fail> {
@@ -28,19 +38,19 @@ fn outcome_on(alloc: Global, instrs: &[Instr], metric: u32) -> Result<Outcome, F
     Ok(run_checked(&code, &route(metric, 8)?))
 }
 
+/// Whether the outcome of a route, and the steps of its run, are those of its row.
+fn is_run(alloc: Global, code: &Code, size: u32, line: &WorkedRoute) -> Result<bool, Fail> {
+    let route = route_in(line, size).ok_or("a route within the limits")?;
+    let Counted { outcome, steps } = run_counted(code, &route);
+    Ok(answer(alloc, outcome)?.as_str() == line.answer && steps == line.steps)
+}
+
 /// Compares the outcomes of a filter's routes, and the steps of their runs.
 fn compare(rt: &impl Abort, alloc: Global, row: &WorkedFilter) -> Result<(), Fail> {
     let code = code_of_file(alloc, row.file)?;
     for line in row.routes {
-        let route = route_in(line, row.size).ok_or("a route within the limits")?;
-        let Counted { outcome, steps } = run_counted(&code, &route);
-        assert_eq!(rt;
-            answer(alloc, outcome)?.as_str(),
-            line.answer,
-            "{}",
-            row.text
-        );
-        assert_eq!(rt; steps, line.steps, "{}", row.text);
+        let is_run = is_run(alloc, &code, row.size, line)?;
+        assert!(rt; is_run, "{}", row.text);
     }
     Ok(())
 }
@@ -53,34 +63,48 @@ fn worked_filters(rt: HostRuntime) -> Result<(), Fail> {
     Ok(())
 }
 
-#[test]
-fn a_sum_wraps(rt: HostRuntime) -> Result<(), Fail> {
-    let instrs = [
-        Instr::Metric,
-        Instr::Int(4_294_967_295),
-        Instr::Add,
-        Instr::SetMetric,
-        Instr::Accept,
-    ];
-    let lower = Outcome::Fault(FaultKind::LowerMetric, 3);
-    assert_eq!(rt; outcome_on(rt.alloc(), &instrs, 3)?, lower);
-    assert_eq!(rt; outcome_on(rt.alloc(), &instrs, 0)?, Outcome::Accept(8));
-    Ok(())
+/// Adds the greatest int to the metric.
+const WRAPPING: [Instr; 5] = [
+    Instr::Metric,
+    Instr::Int(4_294_967_295),
+    Instr::Add,
+    Instr::SetMetric,
+    Instr::Accept,
+];
+
+/// Whether instructions have this outcome on a metric.
+fn comes_to(alloc: Global, instrs: &[Instr], metric: u32, wanted: Outcome) -> Result<bool, Fail> {
+    Ok(outcome_on(alloc, instrs, metric)? == wanted)
 }
 
+/// Of a sum that wraps, of a reject, and of faults at their places.
 #[test]
-fn each_fault_names_its_place(rt: HostRuntime) -> Result<(), Fail> {
-    let none = Outcome::Fault(FaultKind::OutsideCode, 0);
-    assert_eq!(rt; outcome_on(rt.alloc(), &[], 3)?, none);
-    let ended = Outcome::Fault(FaultKind::OutsideCode, 1);
-    assert_eq!(rt; outcome_on(rt.alloc(), &[Instr::Metric], 3)?, ended);
-    let missing = Outcome::Fault(FaultKind::MissingOperand, 1);
-    assert_eq!(rt;
-        outcome_on(rt.alloc(), &[Instr::Metric, Instr::Add], 3)?,
-        missing
-    );
-    let full = Outcome::Fault(FaultKind::FullStack, 32);
-    assert_eq!(rt; outcome_on(rt.alloc(), &[Instr::Metric; 33], 3)?, full);
+fn outcomes(rt: HostRuntime) -> Result<(), Fail> {
+    let rows: [(&[Instr], u32, Outcome); 7] = [
+        (&WRAPPING, 3, Outcome::Fault(FaultKind::LowerMetric, 3)),
+        (&WRAPPING, 0, Outcome::Accept(8)),
+        (&[Instr::Reject], 3, Outcome::Reject),
+        (&[], 3, Outcome::Fault(FaultKind::OutsideCode, 0)),
+        (
+            &[Instr::Metric],
+            3,
+            Outcome::Fault(FaultKind::OutsideCode, 1),
+        ),
+        (
+            &[Instr::Metric, Instr::Add],
+            3,
+            Outcome::Fault(FaultKind::MissingOperand, 1),
+        ),
+        (
+            &[Instr::Metric; 33],
+            3,
+            Outcome::Fault(FaultKind::FullStack, 32),
+        ),
+    ];
+    for (instrs, metric, wanted) in &rows {
+        let is_so = comes_to(rt.alloc(), instrs, *metric, *wanted)?;
+        assert!(rt; is_so, "{instrs:?}");
+    }
     Ok(())
 }
 
@@ -166,31 +190,49 @@ const FIRST_FAULTS: [([Instr; 3], FaultKind, usize); 15] = [
 #[test]
 fn faults_come_in_their_order(rt: HostRuntime) -> Result<(), Fail> {
     for (instrs, kind, at) in &FIRST_FAULTS {
-        let fault = Outcome::Fault(*kind, *at);
-        assert_eq!(rt; outcome_on(rt.alloc(), instrs, 3)?, fault);
+        let is_so = comes_to(rt.alloc(), instrs, 3, Outcome::Fault(*kind, *at))?;
+        assert!(rt; is_so, "{instrs:?}");
     }
-    let net = Prefix::new(Ip(0x0a00_0000), 8).ok_or("a prefix of 8 bits")?;
-    let no_address = [Instr::Prefix(net), Instr::Mask(8), Instr::Accept];
-    let fault = Outcome::Fault(FaultKind::WrongKind, 1);
-    assert_eq!(rt; outcome_on(rt.alloc(), &no_address, 3)?, fault);
     Ok(())
 }
 
-/// What a code answers as a metric that leaves a number on the stack.
-fn number(alloc: Global, instrs: &[Instr]) -> Result<Outcome, Fail> {
-    let mut all = instrs.to_vec(alloc)?;
-    all.push(Instr::SetMetric)?;
-    all.push(Instr::Accept)?;
-    outcome_on(alloc, &all, 0)
+#[test]
+fn a_prefix_is_no_address(rt: HostRuntime) -> Result<(), Fail> {
+    let net = Prefix::new(Ip(0x0a00_0000), 8).ok_or("a prefix of 8 bits")?;
+    let instrs = [Instr::Prefix(net), Instr::Mask(8), Instr::Accept];
+    let is_so = comes_to(
+        rt.alloc(),
+        &instrs,
+        3,
+        Outcome::Fault(FaultKind::WrongKind, 1),
+    )?;
+    assert!(rt; is_so);
+    Ok(())
 }
 
-/// What a code answers that leaves a truth value on the stack: accept where it is true.
-fn verdict(alloc: Global, instrs: &[Instr]) -> Result<Outcome, Fail> {
+/// Instructions, and others behind them.
+fn joined(alloc: Global, instrs: &[Instr], behind: &[Instr]) -> Result<Vec<Instr>, Fail> {
     let mut all = instrs.to_vec(alloc)?;
-    all.push(Instr::JumpIfNot(1))?;
-    all.push(Instr::Accept)?;
-    all.push(Instr::Reject)?;
-    outcome_on(alloc, &all, 3)
+    all.extend_from_slice(behind)?;
+    Ok(all)
+}
+
+/// Whether a code that leaves a number on the stack answers this number as a metric.
+fn is_number(alloc: Global, instrs: &[Instr], metric: u32) -> Result<bool, Fail> {
+    let all = joined(alloc, instrs, &[Instr::SetMetric, Instr::Accept])?;
+    comes_to(alloc, &all, 0, Outcome::Accept(metric))
+}
+
+/// Whether a code that leaves a truth value on the stack leaves this one.
+fn is_truth(alloc: Global, instrs: &[Instr], holds: bool) -> Result<bool, Fail> {
+    let ends = [Instr::JumpIfNot(1), Instr::Accept, Instr::Reject];
+    let all = joined(alloc, instrs, &ends)?;
+    let wanted = if holds {
+        Outcome::Accept(3)
+    } else {
+        Outcome::Reject
+    };
+    comes_to(alloc, &all, 3, wanted)
 }
 
 #[test]
@@ -206,7 +248,8 @@ fn numbers_are_computed(rt: HostRuntime) -> Result<(), Fail> {
         ([Instr::Int(4), Instr::Store(1), Instr::Load(1)], 4),
     ];
     for (instrs, metric) in &rows {
-        assert_eq!(rt; number(rt.alloc(), instrs)?, Outcome::Accept(*metric));
+        let is_so = is_number(rt.alloc(), instrs, *metric)?;
+        assert!(rt; is_so, "{instrs:?}");
     }
     Ok(())
 }
@@ -235,13 +278,15 @@ fn truth_values_are_computed(rt: HostRuntime) -> Result<(), Fail> {
         ([Instr::Int(1), Instr::Net, Instr::Member(0)], false),
     ];
     for (instrs, holds) in &rows {
-        let wanted = if *holds {
-            Outcome::Accept(3)
-        } else {
-            Outcome::Reject
-        };
-        assert_eq!(rt; verdict(rt.alloc(), instrs)?, wanted);
+        let is_so = is_truth(rt.alloc(), instrs, *holds)?;
+        assert!(rt; is_so, "{instrs:?}");
     }
+    Ok(())
+}
+
+#[test]
+fn masked_addresses_are_equal(rt: HostRuntime) -> Result<(), Fail> {
+    let set = Prefix::new(Ip(0x0102_0000), 16).ok_or("a prefix of 16 bits")?;
     let masked = [
         Instr::Ip(Ip(0x0102_0304)),
         Instr::Mask(8),
@@ -250,54 +295,66 @@ fn truth_values_are_computed(rt: HostRuntime) -> Result<(), Fail> {
         Instr::Mask(8),
         Instr::Eq,
     ];
-    assert_eq!(rt; verdict(rt.alloc(), &masked)?, Outcome::Accept(3));
+    let is_so = is_truth(rt.alloc(), &masked, true)?;
+    assert!(rt; is_so);
     Ok(())
 }
 
 #[test]
-fn a_route_is_rejected(rt: HostRuntime) -> Result<(), Fail> {
-    assert_eq!(rt;
-        outcome_on(rt.alloc(), &[Instr::Reject], 3)?,
-        Outcome::Reject
-    );
+fn a_code_is_read_back(rt: HostRuntime) -> Result<(), Fail> {
+    let rows: [&[Instr]; 2] = [&[Instr::Accept; 1024], &[Instr::Int(5)]];
+    for instrs in rows {
+        let code = code(rt.alloc(), instrs)?;
+        assert!(rt; code.locals() == 2 && code.sets().len() == 1 && code.instrs() == instrs);
+    }
     Ok(())
+}
+
+/// Whether there is a code of these instructions, with so many local variables and no sets.
+fn is_code(alloc: Global, locals: u8, instrs: &[Instr]) -> Result<bool, Fail> {
+    let instrs = instrs.to_vec(alloc)?;
+    Ok(Code::new(locals, Vec::new(alloc), instrs).is_some())
 }
 
 #[test]
 fn a_code_is_within_the_limits(rt: HostRuntime) -> Result<(), Fail> {
-    let alloc = rt.alloc();
-    let most = code(alloc, &[Instr::Accept; 1024])?;
-    assert_eq!(rt; most.locals(), 2);
-    assert_eq!(rt; most.sets().len(), 1);
-    assert_eq!(rt; most.instrs().len(), 1024);
-    let none = Vec::new(alloc);
-    assert!(rt; Code::new(0, none, [Instr::Accept; 1025].to_vec(alloc)?).is_none());
-    assert!(rt; Code::new(17, Vec::new(alloc), Vec::new(alloc)).is_none());
-    assert!(rt; Code::new(16, Vec::new(alloc), Vec::new(alloc)).is_some());
-    let mask = [Instr::Mask(33)].to_vec(alloc)?;
-    assert!(rt; Code::new(0, Vec::new(alloc), mask).is_none());
-    let mut sets = Vec::new(alloc);
-    for _ in 0..65 {
-        sets.push(PatternSet::build(alloc, &[])?)?;
+    let rows: [(u8, &[Instr], bool); 4] = [
+        (0, &[Instr::Accept; 1025], false),
+        (17, &[], false),
+        (16, &[], true),
+        (0, &[Instr::Mask(33)], false),
+    ];
+    for (locals, instrs, wanted) in rows {
+        let is_code = is_code(rt.alloc(), locals, instrs)?;
+        assert!(rt; is_code == wanted, "{locals} local variables");
     }
-    assert!(rt; Code::new(0, sets, Vec::new(alloc)).is_none());
-    assert_eq!(rt;
-        code(alloc, &[Instr::Int(5)])?.instrs(),
-        [Instr::Int(5)].as_slice()
-    );
+    Ok(())
+}
+
+#[test]
+fn a_code_has_at_most_64_sets(rt: HostRuntime) -> Result<(), Fail> {
+    let mut sets = Vec::new(rt.alloc());
+    for _ in 0..65 {
+        sets.push(PatternSet::build(rt.alloc(), &[])?)?;
+    }
+    assert!(rt; Code::new(0, sets, Vec::new(rt.alloc())).is_none());
+    Ok(())
+}
+
+#[test]
+fn a_route_is_read_back(rt: HostRuntime) -> Result<(), Fail> {
+    for (metric, size) in [(3, 8), (250, 250), (0, 2)] {
+        let route = route(metric, size)?;
+        assert!(rt; route.metric() == metric && route.size() == size && route.net().len() == 8);
+    }
     Ok(())
 }
 
 #[test]
 fn a_route_is_within_the_limits(rt: HostRuntime) -> Result<(), Fail> {
-    let kept = route(3, 8)?;
-    assert_eq!(rt; kept.metric(), 3);
-    assert_eq!(rt; kept.size(), 8);
-    assert_eq!(rt; kept.net().len(), 8);
-    assert_eq!(rt; route(250, 250)?.metric(), 250);
-    assert_eq!(rt; route(0, 2)?.size(), 2);
+    let net = Prefix::new(Ip(0x0a00_0000), 8).ok_or("a prefix of 8 bits")?;
     for (metric, size) in [(0, 1), (0, 251), (251, 250), (9, 8), (3, 2)] {
-        assert!(rt; Route::new(kept.net(), metric, size).is_none());
+        assert!(rt; Route::new(net, metric, size).is_none());
     }
     Ok(())
 }
@@ -305,10 +362,15 @@ fn a_route_is_within_the_limits(rt: HostRuntime) -> Result<(), Fail> {
 #[test]
 fn values_have_kinds(rt: HostRuntime) -> Result<(), Fail> {
     let net = Prefix::new(Ip(0x0a00_0000), 8).ok_or("a prefix of 8 bits")?;
-    assert_eq!(rt; Value::Int(7).kind(), Kind::Int);
-    assert_eq!(rt; Value::Bool(true).kind(), Kind::Bool);
-    assert_eq!(rt; Value::Addr(Ip(7)).kind(), Kind::Ip);
-    assert_eq!(rt; Value::Net(net).kind(), Kind::Prefix);
+    let rows = [
+        (Value::Int(7), Kind::Int),
+        (Value::Bool(true), Kind::Bool),
+        (Value::Addr(Ip(7)), Kind::Ip),
+        (Value::Net(net), Kind::Prefix),
+    ];
+    for (value, kind) in &rows {
+        assert!(rt; value.kind() == *kind);
+    }
     Ok(())
 }
 
@@ -346,8 +408,8 @@ fn instructions_have_texts_and_bytes(rt: HostRuntime) -> Result<(), Fail> {
         (Instr::Reject, "REJECT", 0x71),
     ];
     for (instr, text, opcode) in &rows {
-        assert_eq!(rt; instr.to_string(rt.alloc())?.as_str(), *text);
-        assert_eq!(rt; instr.opcode(), *opcode);
+        assert!(rt; instr.opcode() == *opcode, "{text}");
+        expect_text(&rt, rt.alloc(), instr, text)?;
     }
     Ok(())
 }
@@ -380,8 +442,8 @@ fn faults_have_texts_and_codes(rt: HostRuntime) -> Result<(), Fail> {
         ),
     ];
     for (kind, code, text) in &rows {
-        assert_eq!(rt; kind.code(), *code);
-        assert_eq!(rt; kind.to_string(rt.alloc())?.as_str(), *text);
+        assert!(rt; kind.code() == *code, "{text}");
+        expect_text(&rt, rt.alloc(), kind, text)?;
     }
     Ok(())
 }

@@ -1,5 +1,6 @@
 //! Prefixes, patterns and sets, and how they are read and displayed.
 
+use crate::texts::{expect_fault, expect_text};
 use prefix_patterns::{
     Ip, Pattern, PatternSet, Prefix, SetFault, displayed_text_is_read, read_ip, read_number,
     read_prefix,
@@ -23,7 +24,7 @@ fn prefixes_are_made_of_an_address_and_a_length(rt: HostRuntime) {
         (0x0a00_0000, 33, None),
     ];
     for (address, len, wanted) in rows {
-        assert_eq!(rt; Prefix::new(Ip(address), len).map(parts), wanted);
+        assert!(rt; Prefix::new(Ip(address), len).map(parts) == wanted);
     }
 }
 
@@ -44,7 +45,7 @@ fn numbers_are_digits_up_to_a_limit(rt: HostRuntime) {
         (b"0x1", 9, None),
     ];
     for (text, most, wanted) in rows {
-        assert_eq!(rt; read_number(text, most), wanted);
+        assert!(rt; read_number(text, most) == wanted);
     }
 }
 
@@ -78,7 +79,7 @@ fn prefix_tokens_are_read(rt: HostRuntime) {
         (b"1.2.3.4/8/9", None),
     ];
     for (text, wanted) in rows {
-        assert_eq!(rt; read_prefix(text).map(parts), wanted);
+        assert!(rt; read_prefix(text).map(parts) == wanted);
     }
 }
 
@@ -94,20 +95,20 @@ fn addresses_are_read(rt: HostRuntime) {
         (b"10.20.30.40/8", None),
     ];
     for (text, wanted) in rows {
-        assert_eq!(rt; read_ip(text), wanted);
+        assert!(rt; read_ip(text) == wanted);
     }
 }
 
 #[test]
 fn addresses_and_prefixes_are_displayed(rt: HostRuntime) -> Result<(), Fail> {
     let rows = [
-        (0x0a14_1e28, 12, "10.20.30.40 10.16.0.0/12"),
-        (1, 0, "0.0.0.1 0.0.0.0/0"),
+        (0x0a14_1e28, 12, "10.20.30.40", "10.16.0.0/12"),
+        (1, 0, "0.0.0.1", "0.0.0.0/0"),
     ];
-    for (address, len, wanted) in rows {
+    for (address, len, address_text, text) in rows {
         let prefix = Prefix::new(Ip(address), len).ok_or("no prefix")?;
-        let text = format!(in rt.alloc(); "{} {prefix}", Ip(address))?;
-        assert_eq!(rt; text.as_str(), wanted);
+        expect_text(&rt, rt.alloc(), &Ip(address), address_text)?;
+        expect_text(&rt, rt.alloc(), &prefix, text)?;
     }
     displayed_text_is_read();
     Ok(())
@@ -125,12 +126,15 @@ fn addresses_and_prefixes_lie_within_prefixes(rt: HostRuntime) -> Result<(), Fai
     for (outer, outer_len, inner, inner_len, contains, within) in rows {
         let outer = Prefix::new(Ip(outer), outer_len).ok_or("no prefix")?;
         let prefix = Prefix::new(Ip(inner), inner_len).ok_or("no prefix")?;
-        assert_eq!(rt;
-            (outer.contains(Ip(inner)), prefix.within(&outer)),
-            (contains, within)
-        );
+        assert!(rt; outer.contains(Ip(inner)) == contains && prefix.within(&outer) == within);
     }
     Ok(())
+}
+
+/// A pattern as its prefix's first address and length, and its own lengths.
+fn pattern_parts(pattern: Pattern) -> (u32, u8, u8, u8) {
+    let (address, len) = parts(pattern.prefix());
+    (address, len, pattern.low(), pattern.high())
 }
 
 /// A pattern of a prefix in text.
@@ -142,14 +146,9 @@ fn pattern(text: &[u8], low: u8, high: u8) -> Option<Pattern> {
 fn patterns_have_lengths_in_order(rt: HostRuntime) {
     let rows = [(8, 8, true), (0, 32, true), (9, 8, false), (8, 33, false)];
     for (low, high, wanted) in rows {
-        let pattern = pattern(b"1.0.0.0/8", low, high);
-        assert_eq!(rt; pattern.is_some(), wanted);
-        if let Some(pattern) = pattern {
-            assert_eq!(rt;
-                (parts(pattern.prefix()), pattern.low(), pattern.high()),
-                ((0x0100_0000, 8), low, high)
-            );
-        }
+        let given = pattern(b"1.0.0.0/8", low, high).map(pattern_parts);
+        let parts = Some((0x0100_0000, 8, low, high));
+        assert!(rt; given == if wanted { parts } else { None });
     }
 }
 
@@ -175,11 +174,9 @@ fn sets_match_what_a_pattern_matches(rt: HostRuntime) -> Result<(), Fail> {
     for (from, to, text, first, any) in rows {
         let prefix = read_prefix(text).ok_or("no prefix")?;
         let patterns = &all[from..to];
-        let set = PatternSet::build(rt.alloc(), patterns)?;
-        assert_eq!(rt; set.patterns(), patterns);
+        let matches_any = set_matches(&rt, rt.alloc(), patterns, &prefix)?;
         let matches_first = patterns.first().map(|pattern| pattern.matches(&prefix));
-        assert_eq!(rt; matches_first, Some(first));
-        assert_eq!(rt; set.matches(&prefix), any);
+        assert!(rt; matches_first == Some(first) && matches_any == any);
     }
     Ok(())
 }
@@ -230,7 +227,7 @@ fn set_matches(
     prefix: &Prefix,
 ) -> Result<bool, SetFault> {
     let set = PatternSet::build(alloc, patterns)?;
-    assert_eq!(rt; set.patterns(), patterns);
+    assert!(rt; set.patterns() == patterns);
     Ok(set.matches(prefix))
 }
 
@@ -248,10 +245,14 @@ fn small_and_large_sets_match_by_length_and_bits(rt: HostRuntime) -> Result<(), 
     let alloc = rt.alloc();
     for (parts, text, wanted) in MATCHES {
         let prefix = read_prefix(text).ok_or("no prefix")?;
-        let patterns = patterns_of(alloc, parts)?;
-        assert_eq!(rt; set_matches(&rt, alloc, &patterns, &prefix)?, wanted);
-        let all = among_others(patterns)?;
-        assert_eq!(rt; set_matches(&rt, alloc, &all, &prefix)?, wanted);
+        let small = set_matches(&rt, alloc, &patterns_of(alloc, parts)?, &prefix)?;
+        let large = set_matches(
+            &rt,
+            alloc,
+            &among_others(patterns_of(alloc, parts)?)?,
+            &prefix,
+        )?;
+        assert!(rt; small == wanted && large == wanted);
     }
     Ok(())
 }
@@ -302,7 +303,7 @@ fn sets_match_as_a_scan_of_their_patterns(rt: HostRuntime) -> Result<(), Fail> {
         for _prefix in 0..1000 {
             let prefix = random.prefix().ok_or("no prefix")?;
             let scanned = patterns.iter().any(|pattern| pattern.matches(&prefix));
-            assert_eq!(rt; set.matches(&prefix), scanned);
+            assert!(rt; set.matches(&prefix) == scanned);
             found = found.wrapping_add(u32::from(scanned));
         }
         assert!(rt; found > 0 || count < 12);
@@ -316,13 +317,11 @@ fn sets_have_at_most_1024_patterns(rt: HostRuntime) -> Result<(), Fail> {
     let patterns = vec![in rt.alloc(); pattern; 1025]?;
     for count in 0..1025 {
         let set = PatternSet::build(rt.alloc(), &patterns[..count])?;
-        assert_eq!(rt;
-            (set.patterns().len(), set.matches(&pattern.prefix())),
-            (count, count > 0)
-        );
+        let is_matched = set.matches(&pattern.prefix());
+        assert!(rt; set.patterns().len() == count && is_matched == (count > 0));
     }
     let fault = PatternSet::build(rt.alloc(), &patterns).err();
-    assert_eq!(rt; fault, Some(SetFault::TooManyPatterns));
+    assert!(rt; fault == Some(SetFault::TooManyPatterns));
     Ok(())
 }
 
@@ -336,8 +335,7 @@ fn faults_have_texts_and_codes(rt: HostRuntime) -> Result<(), Fail> {
         (SetFault::Memory, "S2 0 out of memory"),
     ];
     for (fault, wanted) in rows {
-        let text = format!(in rt.alloc(); "{} {} {fault}", fault.code(), fault.at())?;
-        assert_eq!(rt; text.as_str(), wanted);
+        expect_fault(&rt, rt.alloc(), fault.code(), fault.at(), &fault, wanted)?;
     }
     Ok(())
 }

@@ -32,28 +32,28 @@ fn expect_code(rt: &impl Abort, code: &Code, patterns: &[Pattern]) {
         Instr::Accept,
         Instr::Reject,
     ];
-    assert_eq!(rt; code.locals(), 1);
-    assert_eq!(rt; code.sets().len(), 1);
+    assert!(rt; code.locals() == 1);
+    assert!(rt; code.sets().len() == 1);
     for set in code.sets() {
-        assert_eq!(rt; set.patterns(), patterns);
+        assert!(rt; set.patterns() == patterns);
     }
-    assert_eq!(rt; code.instrs(), instrs.as_slice());
+    assert!(rt; code.instrs() == instrs.as_slice());
 }
 
 /// Builds the set of some patterns, once more where memory was refused. It has them, and matches the prefix of each.
 fn expect_set_or_s2(rt: &impl Abort, alloc: Global, given: &[Pattern]) -> Result<(), Fail> {
     match PatternSet::build(alloc, given) {
         Ok(set) => {
-            assert_eq!(rt; set.patterns(), given);
+            assert!(rt; set.patterns() == given);
             for pattern in given {
                 assert!(rt; set.matches(&pattern.prefix()));
             }
             Ok(())
         }
         Err(fault) => {
-            assert_eq!(rt; fault, SetFault::Memory);
+            assert!(rt; fault == SetFault::Memory);
             let set = PatternSet::build(alloc, given)?;
-            assert_eq!(rt; set.patterns(), given);
+            assert!(rt; set.patterns() == given);
             Err(answered("build", "S2"))
         }
     }
@@ -79,7 +79,7 @@ fn a_file_is_read_or_c7(rt: HostRuntime) -> Result<(), Fail> {
     match read_code(rt.alloc(), &FILE) {
         Ok(code) => expect_code(&rt, &code, &patterns),
         Err(fault) => {
-            assert_eq!(rt; fault, FileFault::Memory);
+            assert!(rt; fault == FileFault::Memory);
             expect_code(&rt, &read_code(rt.alloc(), &FILE)?, &patterns);
             return Err(answered("read_code", "C7"));
         }
@@ -92,12 +92,12 @@ fn a_file_is_written_or_c7(rt: HostRuntime) -> Result<(), Fail> {
     let patterns = patterns().ok_or("two patterns")?;
     let code = read_code(rt.alloc(), &FILE)?;
     match write_code(rt.alloc(), &code) {
-        Ok(bytes) => assert_eq!(rt; bytes.as_slice(), FILE.as_slice()),
+        Ok(bytes) => assert!(rt; bytes.as_slice() == FILE.as_slice()),
         Err(fault) => {
-            assert_eq!(rt; fault, FileFault::Memory);
+            assert!(rt; fault == FileFault::Memory);
             expect_code(&rt, &code, &patterns);
             let bytes = write_code(rt.alloc(), &code)?;
-            assert_eq!(rt; bytes.as_slice(), FILE.as_slice());
+            assert!(rt; bytes.as_slice() == FILE.as_slice());
             return Err(answered("write_code", "C7"));
         }
     }
@@ -116,7 +116,7 @@ fn a_route_runs_through_what_was_read(rt: HostRuntime) -> Result<(), Fail> {
     for (address, len, wanted) in rows {
         let net = Prefix::new(Ip(address), len).ok_or("a prefix")?;
         let route = Route::new(net, 3, 8).ok_or("a route within the limits")?;
-        assert_eq!(rt; run_checked(&code, &route), wanted);
+        assert!(rt; run_checked(&code, &route) == wanted);
     }
     Ok(())
 }

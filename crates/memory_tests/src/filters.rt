@@ -67,16 +67,16 @@ fn expect_tree(rt: &impl Abort, filter: &Filter) -> Result<(), fmt::Error> {
     let (mut decls, mut body) = (Page::new(), Page::new());
     write!(decls, "{:?}", filter.decls())?;
     write!(body, "{:?}", filter.body())?;
-    assert_eq!(rt; filter.name(), b"f".as_slice());
-    assert_eq!(rt; decls.text(), DECLS.as_bytes());
-    assert_eq!(rt; body.text(), BODY.as_bytes());
-    assert_eq!(rt; filter.tokens().len(), 38);
+    assert!(rt; filter.name() == b"f".as_slice());
+    assert!(rt; decls.text() == DECLS.as_bytes());
+    assert!(rt; body.text() == BODY.as_bytes());
+    assert!(rt; filter.tokens().len() == 38);
     Ok(())
 }
 
 /// Asserts that a filter is that of the text `TEXT`, and that its variable is the first one.
 fn expect_typed(rt: &impl Abort, typed: &Typed) -> Result<(), fmt::Error> {
-    assert_eq!(rt; (typed.number_of(b"a"), typed.number_of(b"other")), (0, 1));
+    assert!(rt; typed.number_of(b"a") == 0 && typed.number_of(b"other") == 1);
     expect_tree(rt, typed.filter())
 }
 
@@ -106,12 +106,12 @@ fn expect_code(rt: &impl Abort, code: &Code) -> Result<(), Fail> {
         Instr::Reject,
         Instr::Reject,
     ];
-    assert_eq!(rt; code.locals(), 1);
-    assert_eq!(rt; code.sets().len(), 1);
+    assert!(rt; code.locals() == 1);
+    assert!(rt; code.sets().len() == 1);
     for set in code.sets() {
-        assert_eq!(rt; set.patterns(), [pattern].as_slice());
+        assert!(rt; set.patterns() == [pattern].as_slice());
     }
-    assert_eq!(rt; code.instrs(), instrs.as_slice());
+    assert!(rt; code.instrs() == instrs.as_slice());
     Ok(())
 }
 
@@ -120,8 +120,8 @@ fn a_text_is_read_or_p11(rt: HostRuntime) -> Result<(), Fail> {
     match parse(rt.alloc(), TEXT.as_bytes()) {
         Ok(filter) => expect_tree(&rt, &filter)?,
         Err(fault) => {
-            assert_eq!(rt; fault, ParseFault::Memory);
-            assert_eq!(rt; (fault.code(), fault.at()), ("P11", 0));
+            assert!(rt; fault == ParseFault::Memory);
+            assert!(rt; fault.code() == "P11" && fault.at() == 0);
             expect_tree(&rt, &parse(rt.alloc(), TEXT.as_bytes())?)?;
             return Err(answered("parse", "P11"));
         }
@@ -143,8 +143,8 @@ fn a_filter_is_compiled_or_g3(rt: HostRuntime) -> Result<(), Fail> {
     match compile(rt.alloc(), &typed) {
         Ok(code) => expect_code(&rt, &code),
         Err(fault) => {
-            assert_eq!(rt; fault, CompileFault::Memory);
-            assert_eq!(rt; (fault.code(), fault.at()), ("G3", 0));
+            assert!(rt; fault == CompileFault::Memory);
+            assert!(rt; fault.code() == "G3" && fault.at() == 0);
             expect_code(&rt, &compile(rt.alloc(), &typed)?)?;
             Err(answered("compile", "G3"))
         }
@@ -155,10 +155,10 @@ fn a_filter_is_compiled_or_g3(rt: HostRuntime) -> Result<(), Fail> {
 fn the_places_of_instructions_are_found_or_not(rt: HostRuntime) -> Result<(), Fail> {
     let filter = parse(rt.alloc(), TEXT.as_bytes())?;
     match instruction_places(rt.alloc(), &filter) {
-        Ok(places) => assert_eq!(rt; places.as_slice(), PLACES.as_slice()),
+        Ok(places) => assert!(rt; places.as_slice() == PLACES.as_slice()),
         Err(_) => {
             let again = instruction_places(rt.alloc(), &filter)?;
-            assert_eq!(rt; again.as_slice(), PLACES.as_slice());
+            assert!(rt; again.as_slice() == PLACES.as_slice());
             return Err(answered("instruction_places", "AllocError"));
         }
     }

@@ -43,7 +43,7 @@ pub fn expect_answer(
             Reply::Messages(Messages::from_vec(items))
         }
     };
-    assert_eq!(rt; answer.0, at);
+    assert!(rt; answer.0 == at);
     assert!(rt; answer.1.is_same(&wanted));
     Ok(())
 }
@@ -53,10 +53,10 @@ fn a_journal_is_opened_or_not(rt: HostRuntime) -> Result<(), Fail> {
     let alloc = rt.alloc();
     let Ok(journal) = Journal::open(alloc, opening(alloc)?, 3) else {
         let again = Journal::open(alloc, opening(alloc)?, 3)?;
-        assert_eq!(rt; (again.limit(), again.entries().len()), (3, 0));
+        assert!(rt; again.limit() == 3 && again.entries().len() == 0);
         return Err(answered("Journal::open", "AllocError"));
     };
-    assert_eq!(rt; (journal.limit(), journal.entries().len()), (3, 0));
+    assert!(rt; journal.limit() == 3 && journal.entries().len() == 0);
     Ok(())
 }
 
@@ -68,20 +68,20 @@ fn an_event_is_entered_or_j2_and_the_journal_stays(rt: HostRuntime) -> Result<()
         match journal.apply(event(at)) {
             Ok(answer) => expect_answer(&rt, alloc, at, answer)?,
             Err(fault) => {
-                assert_eq!(rt; fault, CallFault::Memory);
-                assert_eq!(rt; (fault.code(), fault.at()), ("J2", 0));
-                assert_eq!(rt; journal.entries().len(), at as usize);
+                assert!(rt; fault == CallFault::Memory);
+                assert!(rt; fault.code() == "J2" && fault.at() == 0);
+                assert!(rt; journal.entries().len() == at as usize);
                 expect_answer(&rt, alloc, at, journal.apply(event(at))?)?;
                 return Err(answered("Journal::apply", "J2"));
             }
         }
     }
     match replay(alloc, journal.opening(), journal.entries()) {
-        Ok(tables) => assert_eq!(rt; tables.session(1), 1),
+        Ok(tables) => assert!(rt; tables.session(1) == 1),
         Err(fault) => {
-            assert_eq!(rt; fault, ReplayFault::Memory);
+            assert!(rt; fault == ReplayFault::Memory);
             let tables = replay(alloc, journal.opening(), journal.entries())?;
-            assert_eq!(rt; tables.session(1), 1);
+            assert!(rt; tables.session(1) == 1);
             return Err(answered("replay", "Memory"));
         }
     }

@@ -39,16 +39,16 @@ fn a_router_is_opened_or_l3(rt: HostRuntime) -> Result<(), Fail> {
     let alloc = rt.alloc();
     match open(alloc, 3)? {
         Ok((router, pass)) => {
-            assert_eq!(rt; pass.shares(), 65_536);
+            assert!(rt; pass.shares() == 65_536);
             let journal = router.close(pass)?;
-            assert_eq!(rt; journal.entries().len(), 0);
+            assert!(rt; journal.entries().len() == 0);
             Ok(())
         }
         Err(fault) => {
-            assert_eq!(rt; fault, LockFault::Memory);
-            assert_eq!(rt; (fault.code(), fault.at()), ("L3", 0));
+            assert!(rt; fault == LockFault::Memory);
+            assert!(rt; fault.code() == "L3" && fault.at() == 0);
             let (_router, pass) = opened(alloc, 3)?;
-            assert_eq!(rt; pass.shares(), 65_536);
+            assert!(rt; pass.shares() == 65_536);
             Err(answered("Router::open", "L3"))
         }
     }
@@ -62,18 +62,18 @@ fn a_try_is_entered_or_j2_and_the_pass_stays(rt: HostRuntime) -> Result<(), Fail
         match router.try_call(&mut pass, event(at)) {
             Ok(answer) => expect_answer(&rt, alloc, at, (answer.at, answer.reply))?,
             Err(fault) => {
-                assert_eq!(rt; (fault.code(), fault.at()), ("J2", 0));
-                assert_eq!(rt; pass.shares(), 65_536);
+                assert!(rt; fault.code() == "J2" && fault.at() == 0);
+                assert!(rt; pass.shares() == 65_536);
                 let answer = router.try_call(&mut pass, event(at))?;
                 expect_answer(&rt, alloc, at, (answer.at, answer.reply))?;
                 let journal = router.close(pass)?;
-                assert_eq!(rt; journal.entries().len(), at as usize + 1);
+                assert!(rt; journal.entries().len() == at as usize + 1);
                 return Err(answered("try_call", "J2"));
             }
         }
     }
     let journal = router.close(pass)?;
-    assert_eq!(rt; journal.entries().len(), 3);
+    assert!(rt; journal.entries().len() == 3);
     Ok(())
 }
 
@@ -85,17 +85,17 @@ fn a_call_is_entered_or_j2_and_the_pass_stays(rt: HostRuntime) -> Result<(), Fai
         match router.call(&rt, &mut pass, event(at)) {
             Ok(answer) => expect_answer(&rt, alloc, at, (answer.at, answer.reply))?,
             Err(fault) => {
-                assert_eq!(rt; fault, CallFault::Memory);
-                assert_eq!(rt; pass.shares(), 65_536);
+                assert!(rt; fault == CallFault::Memory);
+                assert!(rt; pass.shares() == 65_536);
                 let answer = router.call(&rt, &mut pass, event(at))?;
                 expect_answer(&rt, alloc, at, (answer.at, answer.reply))?;
                 let journal = router.close(pass)?;
-                assert_eq!(rt; journal.entries().len(), at as usize + 1);
+                assert!(rt; journal.entries().len() == at as usize + 1);
                 return Err(answered("call", "J2"));
             }
         }
     }
     let journal = router.close(pass)?;
-    assert_eq!(rt; journal.entries().len(), 3);
+    assert!(rt; journal.entries().len() == 3);
     Ok(())
 }

@@ -63,12 +63,12 @@ fn expect_read(rt: &impl Abort, end: &ReadEnd) -> bool {
     let entered = end.entered as usize;
     match end.cause {
         Cause::Memory => {
-            assert_eq!(rt; end.lost, TOLD.get(entered).copied());
+            assert!(rt; end.lost == TOLD.get(entered).copied());
             assert!(rt; end.lost.is_some());
             true
         }
         cause => {
-            assert_eq!(rt; (cause, entered, end.lost), (Cause::LinkEnded, 2, None));
+            assert!(rt; cause == Cause::LinkEnded && entered == 2 && end.lost == None);
             false
         }
     }
@@ -76,18 +76,18 @@ fn expect_read(rt: &impl Abort, end: &ReadEnd) -> bool {
 
 /// Asserts that a writer sent what it took, or the beginning of that to a link that found no memory. Says whether it was stopped.
 fn expect_written(rt: &impl Abort, end: &WriteEnd, given: &[Message]) -> bool {
-    assert_eq!(rt; given.len() as u64, end.sent);
+    assert!(rt; given.len() as u64 == end.sent);
     match end.cause {
         Cause::Memory => assert!(rt; end.unsent.as_slice().is_empty()),
         Cause::LinkFault => assert!(rt; !end.unsent.as_slice().is_empty()),
-        cause => assert_eq!(rt; (cause, end.unsent.as_slice().len()), (Cause::Turns, 0)),
+        cause => assert!(rt; cause == Cause::Turns && end.unsent.as_slice().len() == 0),
     }
     end.cause != Cause::Turns
 }
 
 /// Asserts how jobs ended. Says whether all had the memory that they asked for.
 fn expect_ends(rt: &impl Abort, finished: &[Finished<MemoryLink>]) -> bool {
-    assert_eq!(rt; finished.len(), 2);
+    assert!(rt; finished.len() == 2);
     let mut had_memory = true;
     for job in finished {
         assert!(rt; job.link.is_closed());
@@ -104,7 +104,7 @@ fn expect_ends(rt: &impl Abort, finished: &[Finished<MemoryLink>]) -> bool {
 fn expect_replay(rt: &impl Abort, alloc: Global, journal: &Journal) -> Result<(), Fail> {
     assert!(rt; !journal.entries().is_empty());
     let tables = replay(alloc, journal.opening(), journal.entries())?;
-    assert_eq!(rt; tables.session(1), 1);
+    assert!(rt; tables.session(1) == 1);
     Ok(())
 }
 
@@ -118,7 +118,7 @@ fn sessions_are_run_or_x1_or_end_as_memory(rt: HostRuntime) -> Result<(), Fail> 
         Ok(finished) => {
             let had_memory = expect_ends(&rt, finished.as_slice());
             join_passes(&router, &mut pass, finished);
-            assert_eq!(&rt; pass.shares(), 65_536);
+            assert!(&rt; pass.shares() == 65_536);
             expect_replay(&rt, alloc, &router.close(pass)?)?;
             if had_memory {
                 return Ok(());

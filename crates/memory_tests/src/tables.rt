@@ -37,8 +37,8 @@ fn tables(alloc: Global) -> Result<Tables, Fail> {
 
 /// Asserts that the tables are those.
 fn expect_tables(rt: &impl Abort, tables: &mut Tables) -> Result<(), Fail> {
-    assert_eq!(rt; (tables.session(1), tables.session(2)), (1, 2));
-    assert_eq!(rt; (tables.queued(1), tables.queued(2)), (0, 4));
+    assert!(rt; tables.session(1) == 1 && tables.session(2) == 2);
+    assert!(rt; tables.queued(1) == 0 && tables.queued(2) == 4);
     let near = Reply::Route {
         dist: 1,
         via: Via::Node(1),
@@ -77,7 +77,7 @@ fn tables_are_opened_or_not(rt: HostRuntime) -> Result<(), Fail> {
     let opened = Tables::open(rt.alloc(), opening(rt.alloc())?);
     let Ok(mut tables) = opened else {
         let again = Tables::open(rt.alloc(), opening(rt.alloc())?)?;
-        assert_eq!(rt; again.session(1), 0);
+        assert!(rt; again.session(1) == 0);
         return Err(answered("Tables::open", "AllocError"));
     };
     let local = Reply::Route {
@@ -93,11 +93,11 @@ fn a_neighbour_joins_or_nothing_changes(rt: HostRuntime) -> Result<(), Fail> {
     let mut tables = tables(rt.alloc())?;
     tables.apply(&Event::Down(1))?;
     if tables.apply(&Event::Up(1)).is_err() {
-        assert_eq!(rt; (tables.session(1), tables.session(2)), (0, 2));
+        assert!(rt; tables.session(1) == 0 && tables.session(2) == 2);
         assert!(rt; tables.apply(&Event::Up(1))?.is_same(&Reply::Opened(3)));
         return Err(answered("Tables::apply", "AllocError"));
     }
-    assert_eq!(rt; (tables.session(1), tables.queued(3)), (3, 3));
+    assert!(rt; tables.session(1) == 3 && tables.queued(3) == 3);
     Ok(())
 }
 
@@ -110,7 +110,7 @@ fn a_neighbour_leaves_or_nothing_changes(rt: HostRuntime) -> Result<(), Fail> {
         &Event::Down(1),
         &Reply::Done { changed: 1 },
     )?;
-    assert_eq!(rt; (tables.session(1), tables.queued(2)), (0, 5));
+    assert!(rt; tables.session(1) == 0 && tables.queued(2) == 5);
     Ok(())
 }
 
@@ -123,7 +123,7 @@ fn a_distance_is_received_or_nothing_changes(rt: HostRuntime) -> Result<(), Fail
         &Event::Receive(2, 2, 0),
         &Reply::Done { changed: 1 },
     )?;
-    assert_eq!(rt; (tables.queued(1), tables.queued(2)), (1, 5));
+    assert!(rt; tables.queued(1) == 1 && tables.queued(2) == 5);
     Ok(())
 }
 
@@ -139,8 +139,8 @@ fn messages_are_taken_or_stay(rt: HostRuntime) -> Result<(), Fail> {
     };
     let first = Message { dest: 0, dist: 0 };
     let second = Message { dest: 1, dist: 3 };
-    assert_eq!(rt; messages.as_slice(), [first, second].as_slice());
-    assert_eq!(rt; tables.queued(2), 2);
+    assert!(rt; messages.as_slice() == [first, second].as_slice());
+    assert!(rt; tables.queued(2) == 2);
     Ok(())
 }
 
@@ -149,7 +149,7 @@ fn an_import_filter_is_set_or_nothing_changes(rt: HostRuntime) -> Result<(), Fai
     let mut tables = tables(rt.alloc())?;
     let event = Event::SetImport(1, rejecting(rt.alloc())?);
     apply_twice(&rt, &mut tables, &event, &Reply::Done { changed: 1 })?;
-    assert_eq!(rt; (tables.queued(1), tables.queued(2)), (1, 5));
+    assert!(rt; tables.queued(1) == 1 && tables.queued(2) == 5);
     Ok(())
 }
 
@@ -158,7 +158,7 @@ fn an_export_filter_is_set_or_nothing_changes(rt: HostRuntime) -> Result<(), Fai
     let mut tables = tables(rt.alloc())?;
     let event = Event::SetExport(1, rejecting(rt.alloc())?);
     apply_twice(&rt, &mut tables, &event, &Reply::Done { changed: 0 })?;
-    assert_eq!(rt; (tables.queued(1), tables.queued(2)), (3, 4));
+    assert!(rt; tables.queued(1) == 3 && tables.queued(2) == 4);
     Ok(())
 }
 

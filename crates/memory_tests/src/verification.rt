@@ -35,20 +35,20 @@ fn made(alloc: Global) -> Result<Code, Fail> {
 /// Asserts that a code is that one.
 fn expect_code(rt: &impl Abort, code: &Code) -> Result<(), Fail> {
     let pattern = pattern().ok_or("a pattern")?;
-    assert_eq!(rt; code.locals(), 1);
-    assert_eq!(rt; code.sets().len(), 1);
+    assert!(rt; code.locals() == 1);
+    assert!(rt; code.sets().len() == 1);
     for set in code.sets() {
-        assert_eq!(rt; set.patterns(), [pattern].as_slice());
+        assert!(rt; set.patterns() == [pattern].as_slice());
     }
-    assert_eq!(rt; code.instrs(), INSTRS.as_slice());
+    assert!(rt; code.instrs() == INSTRS.as_slice());
     Ok(())
 }
 
 /// Asserts that it was verified for 8 nodes: its longest way has seven steps, and one operand on the stack.
 fn expect_verified(rt: &impl Abort, verified: &Verified) -> Result<(), Fail> {
-    assert_eq!(rt; verified.size(), 8);
-    assert_eq!(rt; verified.budget(), 7);
-    assert_eq!(rt; verified.depth(), 1);
+    assert!(rt; verified.size() == 8);
+    assert!(rt; verified.budget() == 7);
+    assert!(rt; verified.depth() == 1);
     expect_code(rt, verified.code())
 }
 
@@ -58,8 +58,8 @@ fn a_code_is_verified_or_v10_with_the_same_code(rt: HostRuntime) -> Result<(), F
     match verify(rt.alloc(), code, 8) {
         Ok(verified) => expect_verified(&rt, &verified),
         Err((code, fault)) => {
-            assert_eq!(rt; fault, VerifyFault::Memory);
-            assert_eq!(rt; (fault.code(), fault.at()), ("V10", 0));
+            assert!(rt; fault == VerifyFault::Memory);
+            assert!(rt; fault.code() == "V10" && fault.at() == 0);
             expect_code(&rt, &code)?;
             match verify(rt.alloc(), code, 8) {
                 Ok(verified) => expect_verified(&rt, &verified)?,

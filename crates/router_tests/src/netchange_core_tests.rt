@@ -1,41 +1,37 @@
 //! Exchanges with the tables of node 0 of four, whose nodes' prefixes are 10.V.0.0/16.
 
-use filter_source::{compile_text, verify_code};
-use filter_verifier::Verified;
-use netchange_core::{Event, Message, Messages, Opening, Refusal, Reply, Tables, Via};
-use prefix_patterns::{Ip, Prefix};
+use crate::events::{Asked, BLOCK, FARTHER, Filter, PASS, event, opening};
+use netchange_core::{Message, Messages, Refusal, Reply, Tables, Via};
 use std::alloc::Global;
 use std::process::Abort;
-use std::sync::Arc;
 use std::test::Fail;
 
-/// The prefix of a node.
-fn prefix_of(node: u16) -> Option<Prefix> {
-    Prefix::new(Ip(0x0a00_0000 + 0x1_0000 * u32::from(node % 256)), 16)
+/// What the tables answer, as a row of a table has it.
+#[derive(Clone, Copy)]
+enum Told {
+    Opened(u32),
+    /// So many distances changed.
+    Done(u16),
+    /// Messages, each a node and a distance.
+    Messages(&'static [(u16, u16)]),
+    Route(u16, Via),
+    /// A refusal, and its code.
+    Refused(Refusal, &'static str),
 }
 
-/// The tables of node 0 of so many.
-fn open(alloc: Global, size: u16) -> Result<Tables, Fail> {
-    let mut prefixes = Vec::new(alloc);
-    for node in 0..size {
-        prefixes.push(prefix_of(node).ok_or("16 bits")?)?;
+/// The reply of a row.
+fn reply(alloc: Global, told: Told) -> Result<Reply, Fail> {
+    match told {
+        Told::Opened(session) => Ok(Reply::Opened(session)),
+        Told::Done(changed) => Ok(Reply::Done { changed }),
+        Told::Messages(told) => messages(alloc, told),
+        Told::Route(dist, via) => Ok(Reply::Route { dist, via }),
+        Told::Refused(why, code) if why.code() == code => Ok(Reply::Refused(why)),
+        Told::Refused(_, _) => Err(Fail::from("a refusal has another code")),
     }
-    let opening = Opening::new(size, 0, prefixes).ok_or("a domain")?;
-    Ok(Tables::open(alloc, opening)?)
 }
 
-/// A filter's text, compiled and verified for domains of a size.
-fn filter(alloc: Global, text: &[u8], size: u32) -> Result<Arc<Verified>, Fail> {
-    let code = compile_text(alloc, text)?;
-    Ok(Arc::new(alloc, verify_code(alloc, code, size)?)?)
-}
-
-/// The reply to an event.
-fn reply(tables: &mut Tables, event: Event) -> Result<Reply, Fail> {
-    Ok(tables.apply(&event)?)
-}
-
-/// A reply with these messages, each a node and a distance.
+/// A reply with these messages.
 fn messages(alloc: Global, told: &[(u16, u16)]) -> Result<Reply, Fail> {
     let mut items = Vec::new(alloc);
     for (dest, dist) in told {
@@ -47,446 +43,313 @@ fn messages(alloc: Global, told: &[(u16, u16)]) -> Result<Reply, Fail> {
     Ok(Reply::Messages(Messages::from_vec(items)))
 }
 
+/// Asserts that each event has its reply, at the tables of node 0 of so many, and returns these.
+fn exchange(
+    rt: &impl Abort,
+    alloc: Global,
+    size: u16,
+    rows: &[(Asked, Told)],
+) -> Result<Tables, Fail> {
+    let mut tables = Tables::open(alloc, opening(alloc, size)?)?;
+    for (asked, told) in rows {
+        expect(rt, alloc, &mut tables, *asked, *told)?;
+    }
+    Ok(tables)
+}
+
 /// Asserts that an event has this reply.
-fn expect(rt: &impl Abort, tables: &mut Tables, event: Event, wanted: Reply) -> Result<(), Fail> {
-    let given = reply(tables, event)?;
+fn expect(
+    rt: &impl Abort,
+    alloc: Global,
+    tables: &mut Tables,
+    asked: Asked,
+    told: Told,
+) -> Result<(), Fail> {
+    let wanted = reply(alloc, told)?;
+    let given = tables.apply(&event(alloc, asked)?)?;
     assert!(rt; given.is_same(&wanted), "{given:?}, and not {wanted:?}");
     Ok(())
 }
 
-/// Asserts that the first messages for a session are these, and that they are taken.
-fn expect_taken(
+/// Asserts the present sessions of nodes, each a node and its session, and how many messages wait for sessions.
+fn expect_state(
     rt: &impl Abort,
-    alloc: Global,
-    tables: &mut Tables,
-    session: u32,
-    max: u16,
-    told: &[(u16, u16)],
-) -> Result<(), Fail> {
-    expect(
-        rt,
-        tables,
-        Event::Take(session, max),
-        messages(alloc, told)?,
-    )
-}
-
-/// Asserts that an event was carried out, and so many distances changed.
-fn expect_done(
-    rt: &impl Abort,
-    tables: &mut Tables,
-    event: Event,
-    changed: u16,
-) -> Result<(), Fail> {
-    expect(rt, tables, event, Reply::Done { changed })
-}
-
-/// Asserts the route to a node.
-fn expect_route(
-    rt: &impl Abort,
-    tables: &mut Tables,
-    node: u16,
-    dist: u16,
-    via: Via,
-) -> Result<(), Fail> {
-    expect(rt, tables, Event::Show(node), Reply::Route { dist, via })
-}
-
-/// Asserts that an event is refused, and with which code.
-fn expect_refused(
-    rt: &impl Abort,
-    tables: &mut Tables,
-    event: Event,
-    why: Refusal,
-    code: &str,
-) -> Result<(), Fail> {
-    assert_eq!(rt; why.code(), code);
-    expect(rt, tables, event, Reply::Refused(why))
+    tables: &Tables,
+    sessions: &[(u16, u32)],
+    queues: &[(u32, usize)],
+) {
+    for (node, session) in sessions {
+        assert_eq!(rt; tables.session(*node), *session, "of node {node}");
+    }
+    for (session, waiting) in queues {
+        assert_eq!(rt; tables.queued(*session), *waiting, "for session {session}");
+    }
 }
 
 /// What a neighbour of node 0 of four is told when it joins while nothing else is reached.
-const NOTHING_REACHED: [(u16, u16); 4] = [(0, 0), (1, 4), (2, 4), (3, 4)];
+const NOTHING_REACHED: Told = Told::Messages(&[(0, 0), (1, 4), (2, 4), (3, 4)]);
+
+const JOINS: [(Asked, Told); 1] = [(Asked::Up(1), Told::Opened(1))];
+
+const JOINS_AND_TAKES: [(Asked, Told); 2] = [
+    (Asked::Up(1), Told::Opened(1)),
+    (Asked::Take(1, 65_535), NOTHING_REACHED),
+];
+
+const TAKES_AGAIN: [(Asked, Told); 3] = [
+    (Asked::Up(1), Told::Opened(1)),
+    (Asked::Take(1, 65_535), NOTHING_REACHED),
+    (Asked::Take(1, 65_535), Told::Messages(&[])),
+];
 
 #[test]
 fn a_neighbour_joins_and_is_told_once(rt: HostRuntime) -> Result<(), Fail> {
-    let mut tables = open(rt.alloc(), 4)?;
-    assert_eq!(rt; tables.session(1), 0);
-    expect(&rt, &mut tables, Event::Up(1), Reply::Opened(1))?;
-    assert_eq!(rt;
-        (tables.session(1), tables.session(2), tables.session(9)),
-        (1, 0, 0)
-    );
-    assert_eq!(rt;
-        (tables.queued(1), tables.queued(0), tables.queued(2)),
-        (4, 0, 0)
-    );
-    expect_taken(&rt, rt.alloc(), &mut tables, 1, 65_535, &NOTHING_REACHED)?;
-    assert_eq!(rt; tables.queued(1), 0);
-    expect_taken(&rt, rt.alloc(), &mut tables, 1, 65_535, &[])
-}
-
-#[test]
-fn a_distance_below_the_size_is_a_route(rt: HostRuntime) -> Result<(), Fail> {
-    let mut tables = open(rt.alloc(), 4)?;
-    expect(&rt, &mut tables, Event::Up(1), Reply::Opened(1))?;
-    expect_taken(&rt, rt.alloc(), &mut tables, 1, 65_535, &NOTHING_REACHED)?;
-    expect_done(&rt, &mut tables, Event::Receive(1, 1, 0), 1)?;
-    expect_route(&rt, &mut tables, 1, 1, Via::Node(1))?;
-    expect_taken(&rt, rt.alloc(), &mut tables, 1, 65_535, &[(1, 1)])?;
-    expect_done(&rt, &mut tables, Event::Receive(1, 2, 3), 0)?;
-    expect_route(&rt, &mut tables, 2, 4, Via::Nowhere)
-}
-
-#[test]
-fn an_import_filter_holds_of_what_was_told_before(rt: HostRuntime) -> Result<(), Fail> {
-    let mut tables = open(rt.alloc(), 4)?;
-    expect(&rt, &mut tables, Event::Up(1), Reply::Opened(1))?;
-    expect_taken(&rt, rt.alloc(), &mut tables, 1, 65_535, &NOTHING_REACHED)?;
-    expect_done(&rt, &mut tables, Event::Receive(1, 1, 0), 1)?;
-    expect_taken(&rt, rt.alloc(), &mut tables, 1, 65_535, &[(1, 1)])?;
-    let none = filter(
-        rt.alloc(),
-        b"filter a { if net ~ [10.0.0.0/8+] then reject; accept; }",
-        4,
-    )?;
-    expect_done(&rt, &mut tables, Event::SetImport(1, none), 1)?;
-    expect_route(&rt, &mut tables, 1, 4, Via::Nowhere)?;
-    expect_taken(&rt, rt.alloc(), &mut tables, 1, 65_535, &[(1, 4)])?;
-    let all = filter(rt.alloc(), b"filter b { accept; }", 4)?;
-    expect_done(&rt, &mut tables, Event::SetImport(1, all), 1)?;
-    expect_route(&rt, &mut tables, 1, 1, Via::Node(1))?;
-    expect_taken(&rt, rt.alloc(), &mut tables, 1, 65_535, &[(1, 1)])
-}
-
-#[test]
-fn an_import_filter_of_a_down_neighbour_is_kept(rt: HostRuntime) -> Result<(), Fail> {
-    let mut tables = open(rt.alloc(), 4)?;
-    let only_two = filter(
-        rt.alloc(),
-        b"filter c { if net = 10.2.0.0/16 then accept; }",
-        4,
-    )?;
-    expect_done(&rt, &mut tables, Event::SetImport(1, only_two), 0)?;
-    expect(&rt, &mut tables, Event::Up(1), Reply::Opened(1))?;
-    expect_done(&rt, &mut tables, Event::Receive(1, 1, 0), 0)?;
-    expect_done(&rt, &mut tables, Event::Receive(1, 2, 1), 1)?;
-    expect_route(&rt, &mut tables, 1, 4, Via::Nowhere)?;
-    expect_route(&rt, &mut tables, 2, 2, Via::Node(1))
-}
-
-#[test]
-fn the_tie_goes_to_the_least_neighbour(rt: HostRuntime) -> Result<(), Fail> {
-    let mut tables = open(rt.alloc(), 4)?;
-    expect(&rt, &mut tables, Event::Up(1), Reply::Opened(1))?;
-    expect(&rt, &mut tables, Event::Up(2), Reply::Opened(2))?;
-    expect_done(&rt, &mut tables, Event::Receive(2, 3, 1), 1)?;
-    expect_route(&rt, &mut tables, 3, 2, Via::Node(2))?;
-    expect_done(&rt, &mut tables, Event::Receive(1, 3, 1), 0)?;
-    expect_route(&rt, &mut tables, 3, 2, Via::Node(1))?;
-    expect_taken(
+    let alloc = rt.alloc();
+    expect_state(&rt, &exchange(&rt, alloc, 4, &[])?, &[(1, 0)], &[]);
+    let joined = exchange(&rt, alloc, 4, &JOINS)?;
+    expect_state(
         &rt,
-        rt.alloc(),
-        &mut tables,
-        1,
-        65_535,
-        &[(0, 0), (1, 4), (2, 4), (3, 4), (3, 2)],
-    )
+        &joined,
+        &[(1, 1), (2, 0), (9, 0)],
+        &[(1, 4), (0, 0), (2, 0)],
+    );
+    let told = exchange(&rt, alloc, 4, &JOINS_AND_TAKES)?;
+    expect_state(&rt, &told, &[], &[(1, 0)]);
+    let _tables = exchange(&rt, alloc, 4, &TAKES_AGAIN)?;
+    Ok(())
 }
 
+const A_DISTANCE_BELOW_THE_SIZE_IS_A_ROUTE: [(Asked, Told); 7] = [
+    (Asked::Up(1), Told::Opened(1)),
+    (Asked::Take(1, 65_535), NOTHING_REACHED),
+    (Asked::Receive(1, 1, 0), Told::Done(1)),
+    (Asked::Show(1), Told::Route(1, Via::Node(1))),
+    (Asked::Take(1, 65_535), Told::Messages(&[(1, 1)])),
+    (Asked::Receive(1, 2, 3), Told::Done(0)),
+    (Asked::Show(2), Told::Route(4, Via::Nowhere)),
+];
+
+const AN_IMPORT_FILTER_HOLDS_OF_WHAT_WAS_TOLD_BEFORE: [(Asked, Told); 10] = [
+    (Asked::Up(1), Told::Opened(1)),
+    (Asked::Take(1, 65_535), NOTHING_REACHED),
+    (Asked::Receive(1, 1, 0), Told::Done(1)),
+    (Asked::Take(1, 65_535), Told::Messages(&[(1, 1)])),
+    (Asked::SetImport(1, BLOCK), Told::Done(1)),
+    (Asked::Show(1), Told::Route(4, Via::Nowhere)),
+    (Asked::Take(1, 65_535), Told::Messages(&[(1, 4)])),
+    (Asked::SetImport(1, PASS), Told::Done(1)),
+    (Asked::Show(1), Told::Route(1, Via::Node(1))),
+    (Asked::Take(1, 65_535), Told::Messages(&[(1, 1)])),
+];
+
+/// Accepts the route to node 2 alone.
+const ONLY_TWO: Filter = ("filter c { if net = 10.2.0.0/16 then accept; }", 4);
+
+const AN_IMPORT_FILTER_OF_A_DOWN_NEIGHBOUR_IS_KEPT: [(Asked, Told); 6] = [
+    (Asked::SetImport(1, ONLY_TWO), Told::Done(0)),
+    (Asked::Up(1), Told::Opened(1)),
+    (Asked::Receive(1, 1, 0), Told::Done(0)),
+    (Asked::Receive(1, 2, 1), Told::Done(1)),
+    (Asked::Show(1), Told::Route(4, Via::Nowhere)),
+    (Asked::Show(2), Told::Route(2, Via::Node(1))),
+];
+
+const THE_TIE_GOES_TO_THE_LEAST_NEIGHBOUR: [(Asked, Told); 7] = [
+    (Asked::Up(1), Told::Opened(1)),
+    (Asked::Up(2), Told::Opened(2)),
+    (Asked::Receive(2, 3, 1), Told::Done(1)),
+    (Asked::Show(3), Told::Route(2, Via::Node(2))),
+    (Asked::Receive(1, 3, 1), Told::Done(0)),
+    (Asked::Show(3), Told::Route(2, Via::Node(1))),
+    (
+        Asked::Take(1, 65_535),
+        Told::Messages(&[(0, 0), (1, 4), (2, 4), (3, 4), (3, 2)]),
+    ),
+];
+
+const A_HOP_THAT_GOT_WORSE_GIVES_WAY: [(Asked, Told); 9] = [
+    (Asked::Up(1), Told::Opened(1)),
+    (Asked::Up(2), Told::Opened(2)),
+    (Asked::Receive(1, 3, 0), Told::Done(1)),
+    (Asked::Receive(2, 3, 1), Told::Done(0)),
+    (Asked::Show(3), Told::Route(1, Via::Node(1))),
+    (Asked::Receive(1, 3, 2), Told::Done(1)),
+    (Asked::Show(3), Told::Route(2, Via::Node(2))),
+    (Asked::Down(2), Told::Done(1)),
+    (Asked::Show(3), Told::Route(3, Via::Node(1))),
+];
+
+const AN_EXPORT_FILTER_OF_A_DOWN_NEIGHBOUR_IS_KEPT: [(Asked, Told); 3] = [
+    (Asked::SetExport(1, FARTHER), Told::Done(0)),
+    (Asked::Up(1), Told::Opened(1)),
+    (
+        Asked::Take(1, 65_535),
+        Told::Messages(&[(0, 2), (1, 4), (2, 4), (3, 4)]),
+    ),
+];
+
+/// A filter for domains of another size.
+const FIVE: Filter = ("filter b { accept; }", 5);
+
+const THE_FIRST_REFUSAL_IS_TOLD: [(Asked, Told); 9] = [
+    (Asked::Up(1), Told::Opened(1)),
+    (Asked::Receive(7, 9, 9), Told::Refused(Refusal::Stale, "N3")),
+    (
+        Asked::Receive(1, 9, 9),
+        Told::Refused(Refusal::BadDest, "N4"),
+    ),
+    (
+        Asked::SetImport(0, FIVE),
+        Told::Refused(Refusal::NoNode, "N1"),
+    ),
+    (
+        Asked::SetImport(1, FIVE),
+        Told::Refused(Refusal::OtherSize, "N6"),
+    ),
+    (
+        Asked::SetExport(4, FIVE),
+        Told::Refused(Refusal::NoNode, "N1"),
+    ),
+    (
+        Asked::SetExport(2, FIVE),
+        Told::Refused(Refusal::OtherSize, "N6"),
+    ),
+    (Asked::Take(0, 1), Told::Refused(Refusal::Stale, "N3")),
+    (Asked::Down(2), Told::Refused(Refusal::Stale, "N3")),
+];
+
+const A_SESSION_THAT_IS_OVER_TAKES_NOTHING: [(Asked, Told); 7] = [
+    (Asked::Up(2), Told::Opened(1)),
+    (Asked::Take(1, 2), Told::Messages(&[(0, 0), (1, 4)])),
+    (Asked::Down(1), Told::Done(0)),
+    (Asked::Up(2), Told::Opened(2)),
+    (Asked::Take(1, 9), Told::Refused(Refusal::Stale, "N3")),
+    (Asked::Receive(1, 1, 0), Told::Refused(Refusal::Stale, "N3")),
+    (Asked::Take(2, 9), NOTHING_REACHED),
+];
+
+const A_CHANNEL_THAT_FAILS_TAKES_ITS_ROUTES_ALONG: [(Asked, Told); 10] = [
+    (Asked::Up(1), Told::Opened(1)),
+    (Asked::Up(3), Told::Opened(2)),
+    (Asked::Take(2, 9), NOTHING_REACHED),
+    (Asked::Receive(1, 1, 0), Told::Done(1)),
+    (Asked::Receive(1, 2, 1), Told::Done(1)),
+    (Asked::Down(1), Told::Done(2)),
+    (Asked::Show(2), Told::Route(4, Via::Nowhere)),
+    (
+        Asked::Take(2, 9),
+        Told::Messages(&[(1, 1), (2, 2), (1, 4), (2, 4)]),
+    ),
+    (Asked::Up(1), Told::Opened(3)),
+    (Asked::Show(1), Told::Route(4, Via::Nowhere)),
+];
+
+const THE_ROUTER_ITSELF_STAYS_AT_DISTANCE_0: [(Asked, Told); 4] = [
+    (Asked::Up(1), Told::Opened(1)),
+    (Asked::Receive(1, 0, 3), Told::Done(0)),
+    (Asked::Show(0), Told::Route(0, Via::Local)),
+    (Asked::Show(1), Told::Route(4, Via::Nowhere)),
+];
+
 #[test]
-fn a_hop_that_got_worse_gives_way(rt: HostRuntime) -> Result<(), Fail> {
-    let mut tables = open(rt.alloc(), 4)?;
-    expect(&rt, &mut tables, Event::Up(1), Reply::Opened(1))?;
-    expect(&rt, &mut tables, Event::Up(2), Reply::Opened(2))?;
-    expect_done(&rt, &mut tables, Event::Receive(1, 3, 0), 1)?;
-    expect_done(&rt, &mut tables, Event::Receive(2, 3, 1), 0)?;
-    expect_route(&rt, &mut tables, 3, 1, Via::Node(1))?;
-    expect_done(&rt, &mut tables, Event::Receive(1, 3, 2), 1)?;
-    expect_route(&rt, &mut tables, 3, 2, Via::Node(2))?;
-    expect_done(&rt, &mut tables, Event::Down(2), 1)?;
-    expect_route(&rt, &mut tables, 3, 3, Via::Node(1))
+fn exchanges(rt: HostRuntime) -> Result<(), Fail> {
+    let all: [&[(Asked, Told)]; 10] = [
+        &A_DISTANCE_BELOW_THE_SIZE_IS_A_ROUTE,
+        &AN_IMPORT_FILTER_HOLDS_OF_WHAT_WAS_TOLD_BEFORE,
+        &AN_IMPORT_FILTER_OF_A_DOWN_NEIGHBOUR_IS_KEPT,
+        &THE_TIE_GOES_TO_THE_LEAST_NEIGHBOUR,
+        &A_HOP_THAT_GOT_WORSE_GIVES_WAY,
+        &AN_EXPORT_FILTER_OF_A_DOWN_NEIGHBOUR_IS_KEPT,
+        &THE_FIRST_REFUSAL_IS_TOLD,
+        &A_SESSION_THAT_IS_OVER_TAKES_NOTHING,
+        &A_CHANNEL_THAT_FAILS_TAKES_ITS_ROUTES_ALONG,
+        &THE_ROUTER_ITSELF_STAYS_AT_DISTANCE_0,
+    ];
+    for rows in all {
+        let _tables = exchange(&rt, rt.alloc(), 4, rows)?;
+    }
+    Ok(())
 }
+
+const AN_EXPORT_FILTER_HOLDS_OF_WHAT_IS_TOLD_AGAIN: [(Asked, Told); 6] = [
+    (Asked::Up(1), Told::Opened(1)),
+    (Asked::Up(2), Told::Opened(2)),
+    (Asked::Receive(1, 1, 0), Told::Done(1)),
+    (
+        Asked::Take(2, 65_535),
+        Told::Messages(&[(0, 0), (1, 4), (2, 4), (3, 4), (1, 1)]),
+    ),
+    (Asked::SetExport(2, FARTHER), Told::Done(0)),
+    (
+        Asked::Take(2, 65_535),
+        Told::Messages(&[(0, 2), (1, 3), (2, 4), (3, 4)]),
+    ),
+];
 
 #[test]
 fn an_export_filter_holds_of_what_is_told_again(rt: HostRuntime) -> Result<(), Fail> {
-    let mut tables = open(rt.alloc(), 4)?;
-    expect(&rt, &mut tables, Event::Up(1), Reply::Opened(1))?;
-    expect(&rt, &mut tables, Event::Up(2), Reply::Opened(2))?;
-    expect_done(&rt, &mut tables, Event::Receive(1, 1, 0), 1)?;
-    expect_taken(
-        &rt,
-        rt.alloc(),
-        &mut tables,
-        2,
-        65_535,
-        &[(0, 0), (1, 4), (2, 4), (3, 4), (1, 1)],
-    )?;
-    let farther = filter(
-        rt.alloc(),
-        b"filter u { rip_metric = rip_metric + 2; accept; }",
-        4,
-    )?;
-    expect_done(&rt, &mut tables, Event::SetExport(2, farther), 0)?;
-    expect_taken(
-        &rt,
-        rt.alloc(),
-        &mut tables,
-        2,
-        65_535,
-        &[(0, 2), (1, 3), (2, 4), (3, 4)],
-    )?;
-    assert_eq!(rt; tables.queued(1), 5);
+    let rows = &AN_EXPORT_FILTER_HOLDS_OF_WHAT_IS_TOLD_AGAIN;
+    expect_state(&rt, &exchange(&rt, rt.alloc(), 4, rows)?, &[], &[(1, 5)]);
     Ok(())
 }
 
 #[test]
-fn an_export_filter_of_a_down_neighbour_is_kept(rt: HostRuntime) -> Result<(), Fail> {
-    let mut tables = open(rt.alloc(), 4)?;
-    let farther = filter(
-        rt.alloc(),
-        b"filter u { rip_metric = rip_metric + 2; accept; }",
-        4,
-    )?;
-    expect_done(&rt, &mut tables, Event::SetExport(1, farther), 0)?;
-    assert_eq!(rt; tables.queued(0), 0);
-    expect(&rt, &mut tables, Event::Up(1), Reply::Opened(1))?;
-    expect_taken(
-        &rt,
-        rt.alloc(),
-        &mut tables,
-        1,
-        65_535,
-        &[(0, 2), (1, 4), (2, 4), (3, 4)],
-    )
+fn an_export_filter_queues_nothing_for_no_session(rt: HostRuntime) -> Result<(), Fail> {
+    let rows = &AN_EXPORT_FILTER_OF_A_DOWN_NEIGHBOUR_IS_KEPT[..1];
+    expect_state(&rt, &exchange(&rt, rt.alloc(), 4, rows)?, &[], &[(0, 0)]);
+    Ok(())
 }
+
+const REFUSED_EVENTS: [(Asked, Told); 9] = [
+    (Asked::Up(1), Told::Opened(1)),
+    (
+        Asked::Receive(1, 9, 0),
+        Told::Refused(Refusal::BadDest, "N4"),
+    ),
+    (
+        Asked::Receive(1, 2, 5),
+        Told::Refused(Refusal::BadDist, "N5"),
+    ),
+    (Asked::Up(1), Told::Refused(Refusal::AlreadyUp, "N2")),
+    (Asked::Down(1), Told::Done(0)),
+    (Asked::Receive(0, 1, 0), Told::Refused(Refusal::Stale, "N3")),
+    (Asked::Up(1), Told::Opened(2)),
+    (Asked::Up(0), Told::Refused(Refusal::NoNode, "N1")),
+    (Asked::Receive(1, 1, 0), Told::Refused(Refusal::Stale, "N3")),
+];
+
+/// What follows: the same routes as before, and a destination that is not in the domain.
+const AFTER_REFUSED_EVENTS: [(Asked, Told); 2] = [
+    (Asked::Show(1), Told::Route(4, Via::Nowhere)),
+    (Asked::Show(4), Told::Refused(Refusal::BadDest, "N4")),
+];
 
 #[test]
 fn refused_events_change_nothing(rt: HostRuntime) -> Result<(), Fail> {
-    let mut tables = open(rt.alloc(), 4)?;
-    expect(&rt, &mut tables, Event::Up(1), Reply::Opened(1))?;
-    expect_refused(
-        &rt,
-        &mut tables,
-        Event::Receive(1, 9, 0),
-        Refusal::BadDest,
-        "N4",
-    )?;
-    expect_refused(
-        &rt,
-        &mut tables,
-        Event::Receive(1, 2, 5),
-        Refusal::BadDist,
-        "N5",
-    )?;
-    expect_refused(&rt, &mut tables, Event::Up(1), Refusal::AlreadyUp, "N2")?;
-    expect_done(&rt, &mut tables, Event::Down(1), 0)?;
-    expect_refused(
-        &rt,
-        &mut tables,
-        Event::Receive(0, 1, 0),
-        Refusal::Stale,
-        "N3",
-    )?;
-    expect(&rt, &mut tables, Event::Up(1), Reply::Opened(2))?;
-    expect_refused(&rt, &mut tables, Event::Up(0), Refusal::NoNode, "N1")?;
-    expect_refused(
-        &rt,
-        &mut tables,
-        Event::Receive(1, 1, 0),
-        Refusal::Stale,
-        "N3",
-    )?;
-    assert_eq!(rt;
-        (tables.session(1), tables.queued(1), tables.queued(2)),
-        (2, 0, 4)
-    );
-    expect_route(&rt, &mut tables, 1, 4, Via::Nowhere)?;
-    expect_refused(&rt, &mut tables, Event::Show(4), Refusal::BadDest, "N4")
+    let alloc = rt.alloc();
+    let mut tables = exchange(&rt, alloc, 4, &REFUSED_EVENTS)?;
+    expect_state(&rt, &tables, &[(1, 2)], &[(1, 0), (2, 4)]);
+    for (asked, told) in AFTER_REFUSED_EVENTS {
+        expect(&rt, alloc, &mut tables, asked, told)?;
+    }
+    Ok(())
 }
 
-#[test]
-fn the_first_refusal_is_told(rt: HostRuntime) -> Result<(), Fail> {
-    let mut tables = open(rt.alloc(), 4)?;
-    expect(&rt, &mut tables, Event::Up(1), Reply::Opened(1))?;
-    expect_refused(
-        &rt,
-        &mut tables,
-        Event::Receive(7, 9, 9),
-        Refusal::Stale,
-        "N3",
-    )?;
-    expect_refused(
-        &rt,
-        &mut tables,
-        Event::Receive(1, 9, 9),
-        Refusal::BadDest,
-        "N4",
-    )?;
-    let five = filter(rt.alloc(), b"filter b { accept; }", 5)?;
-    let kept = Arc::try_clone(&five)?;
-    expect_refused(
-        &rt,
-        &mut tables,
-        Event::SetImport(0, five),
-        Refusal::NoNode,
-        "N1",
-    )?;
-    expect_refused(
-        &rt,
-        &mut tables,
-        Event::SetImport(1, Arc::try_clone(&kept)?),
-        Refusal::OtherSize,
-        "N6",
-    )?;
-    expect_refused(
-        &rt,
-        &mut tables,
-        Event::SetExport(4, Arc::try_clone(&kept)?),
-        Refusal::NoNode,
-        "N1",
-    )?;
-    expect_refused(
-        &rt,
-        &mut tables,
-        Event::SetExport(2, kept),
-        Refusal::OtherSize,
-        "N6",
-    )?;
-    expect_refused(&rt, &mut tables, Event::Take(0, 1), Refusal::Stale, "N3")?;
-    expect_refused(&rt, &mut tables, Event::Down(2), Refusal::Stale, "N3")
-}
-
-#[test]
-fn a_session_that_is_over_takes_nothing(rt: HostRuntime) -> Result<(), Fail> {
-    let mut tables = open(rt.alloc(), 4)?;
-    expect(&rt, &mut tables, Event::Up(2), Reply::Opened(1))?;
-    expect_taken(&rt, rt.alloc(), &mut tables, 1, 2, &[(0, 0), (1, 4)])?;
-    expect_done(&rt, &mut tables, Event::Down(1), 0)?;
-    expect(&rt, &mut tables, Event::Up(2), Reply::Opened(2))?;
-    expect_refused(&rt, &mut tables, Event::Take(1, 9), Refusal::Stale, "N3")?;
-    expect_refused(
-        &rt,
-        &mut tables,
-        Event::Receive(1, 1, 0),
-        Refusal::Stale,
-        "N3",
-    )?;
-    expect_taken(&rt, rt.alloc(), &mut tables, 2, 9, &NOTHING_REACHED)
-}
-
-#[test]
-fn a_channel_that_fails_takes_its_routes_along(rt: HostRuntime) -> Result<(), Fail> {
-    let mut tables = open(rt.alloc(), 4)?;
-    expect(&rt, &mut tables, Event::Up(1), Reply::Opened(1))?;
-    expect(&rt, &mut tables, Event::Up(3), Reply::Opened(2))?;
-    expect_taken(&rt, rt.alloc(), &mut tables, 2, 9, &NOTHING_REACHED)?;
-    expect_done(&rt, &mut tables, Event::Receive(1, 1, 0), 1)?;
-    expect_done(&rt, &mut tables, Event::Receive(1, 2, 1), 1)?;
-    expect_done(&rt, &mut tables, Event::Down(1), 2)?;
-    expect_route(&rt, &mut tables, 2, 4, Via::Nowhere)?;
-    expect_taken(
-        &rt,
-        rt.alloc(),
-        &mut tables,
-        2,
-        9,
-        &[(1, 1), (2, 2), (1, 4), (2, 4)],
-    )?;
-    expect(&rt, &mut tables, Event::Up(1), Reply::Opened(3))?;
-    expect_route(&rt, &mut tables, 1, 4, Via::Nowhere)
-}
-
-#[test]
-fn the_router_itself_stays_at_distance_0(rt: HostRuntime) -> Result<(), Fail> {
-    let mut tables = open(rt.alloc(), 4)?;
-    expect(&rt, &mut tables, Event::Up(1), Reply::Opened(1))?;
-    expect_done(&rt, &mut tables, Event::Receive(1, 0, 3), 0)?;
-    expect_route(&rt, &mut tables, 0, 0, Via::Local)?;
-    expect_route(&rt, &mut tables, 1, 4, Via::Nowhere)
-}
+/// At node 0 of 250, the largest domain: also a filter that was verified for another size.
+const LARGEST_DOMAIN: [(Asked, Told); 6] = [
+    (Asked::Up(249), Told::Opened(1)),
+    (Asked::Receive(1, 1, 248), Told::Done(1)),
+    (Asked::Show(1), Told::Route(249, Via::Node(249))),
+    (Asked::Receive(1, 1, 249), Told::Done(1)),
+    (Asked::Show(1), Told::Route(250, Via::Nowhere)),
+    (
+        Asked::SetImport(249, ("filter b { accept; }", 64)),
+        Told::Refused(Refusal::OtherSize, "N6"),
+    ),
+];
 
 #[test]
 fn the_largest_domain_has_250_nodes(rt: HostRuntime) -> Result<(), Fail> {
-    let mut tables = open(rt.alloc(), 250)?;
-    expect(&rt, &mut tables, Event::Up(249), Reply::Opened(1))?;
-    expect_done(&rt, &mut tables, Event::Receive(1, 1, 248), 1)?;
-    expect_route(&rt, &mut tables, 1, 249, Via::Node(249))?;
-    expect_done(&rt, &mut tables, Event::Receive(1, 1, 249), 1)?;
-    expect_route(&rt, &mut tables, 1, 250, Via::Nowhere)?;
-    let smaller = filter(rt.alloc(), b"filter b { accept; }", 64)?;
-    expect_refused(
-        &rt,
-        &mut tables,
-        Event::SetImport(249, smaller),
-        Refusal::OtherSize,
-        "N6",
-    )?;
-    let mut prefixes = Vec::new(rt.alloc());
-    for node in 0..251 {
-        prefixes.push(prefix_of(node).ok_or("16 bits")?)?;
-    }
-    assert!(rt; Opening::new(251, 0, prefixes).is_none());
-    Ok(())
-}
-
-#[test]
-fn an_opening_is_read_back(rt: HostRuntime) -> Result<(), Fail> {
-    let alloc = rt.alloc();
-    let prefixes = vec![in alloc;
-        prefix_of(0).ok_or("16 bits")?,
-        prefix_of(7).ok_or("16 bits")?,
-    ]?;
-    let opening = Opening::new(2, 1, prefixes).ok_or("a domain")?;
-    assert_eq!(rt; (opening.size(), opening.me()), (2, 1));
-    assert_eq!(rt; opening.prefixes().len(), 2);
-    assert_eq!(rt; opening.prefixes()[1], prefix_of(7).ok_or("16 bits")?);
-    assert!(rt; Opening::new(2, 2, Vec::new(alloc)).is_none());
-    assert!(rt; Opening::new(2, 1, Vec::new(alloc)).is_none());
-    let tables = Tables::open(alloc, opening)?;
-    assert_eq!(rt; tables.opening().me(), 1);
-    Ok(())
-}
-
-#[test]
-fn refusals_have_texts(rt: HostRuntime) -> Result<(), Fail> {
-    let alloc = rt.alloc();
-    let texts = [
-        (
-            Refusal::NoNode,
-            "N1",
-            "the node is the router itself, or not in the domain",
-        ),
-        (
-            Refusal::AlreadyUp,
-            "N2",
-            "the node is an up neighbour already",
-        ),
-        (
-            Refusal::Stale,
-            "N3",
-            "the session is not an up neighbour's present one",
-        ),
-        (
-            Refusal::BadDest,
-            "N4",
-            "the destination is not in the domain",
-        ),
-        (
-            Refusal::BadDist,
-            "N5",
-            "the distance is above the size of the domain",
-        ),
-        (
-            Refusal::OtherSize,
-            "N6",
-            "the filter was verified for domains of another size",
-        ),
-        (Refusal::NoSession, "N7", "no session number is left"),
-    ];
-    for (why, code, text) in texts {
-        assert_eq!(rt; why.code(), code);
-        let shown = format!(in alloc; "{why}")?;
-        assert_eq!(rt; shown.as_str(), text);
-    }
+    let _tables = exchange(&rt, rt.alloc(), 250, &LARGEST_DOMAIN)?;
     Ok(())
 }

@@ -2,6 +2,7 @@
 
 use crate::fixtures::{OpenGate, bring_up, expect_entered, message, messages, open};
 use crate::session_tests::{WriterRow, end, expect_written, writes};
+use route_history::Journal;
 use route_session::{Cause, MemoryLink, ReadEnd, read_session};
 use std::alloc::Global;
 use std::process::Abort;
@@ -12,8 +13,26 @@ use std::test::Fail;
 /// What a reader's link hands out, before it has ended.
 const TOLD: [(u16, u16); 4] = [(1, 0), (2, 1), (3, 2), (1, 1)];
 
-/// Asserts how a reader of that link ends at node 0 of 4, in session 1, with a history of so many entries at most, if the link
-/// fails at this call; and that what it entered is what was handed out before, in order.
+/// How a reader of that link ends at node 0 of 4, in session 1, with a history of so many entries at most, if the link fails at
+/// this call; and the journal.
+fn read<R: Wait + Clock>(
+    rt: &R,
+    alloc: Global,
+    limit: u32,
+    fails_at: Option<u64>,
+) -> Result<(ReadEnd, Journal), Fail> {
+    let told = messages(alloc, &TOLD)?;
+    let (router, mut pass) = open(alloc, 4, limit)?;
+    bring_up(rt, &router, &mut pass, 1)?;
+    let mut link = MemoryLink::new(alloc, told, fails_at);
+    let end = read_session(rt, &router, &mut pass, 1, &mut link, &OpenGate, 0, 10);
+    match router.close(pass) {
+        Ok(journal) => Ok((end, journal)),
+        Err(_) => Err(Fail::from("the router is closed")),
+    }
+}
+
+/// Asserts that such a reader ends so, and that what it entered is what was handed out before, in order.
 fn expect_read<R: Wait + Clock + Abort>(
     rt: &R,
     alloc: Global,
@@ -21,19 +40,11 @@ fn expect_read<R: Wait + Clock + Abort>(
     fails_at: Option<u64>,
     wanted: ReadEnd,
 ) -> Result<(), Fail> {
-    let (router, mut pass) = open(alloc, 4, limit)?;
-    bring_up(rt, &router, &mut pass, 1)?;
-    let mut link = MemoryLink::new(alloc, messages(alloc, &TOLD)?, fails_at);
-    let end = read_session(rt, &router, &mut pass, 1, &mut link, &OpenGate, 0, 10);
-    assert_eq!(rt; end, wanted);
-    let Ok(journal) = router.close(pass) else {
-        return Err(Fail::from("the router is closed"));
-    };
     let entered = wanted.entered as usize;
-    let before = TOLD.get(..entered).ok_or("at most four messages")?;
-    expect_entered(rt, alloc, &journal, 1, messages(alloc, before)?.as_slice())?;
-    assert_eq!(rt; journal.entries().len(), entered.saturating_add(1));
-    Ok(())
+    let before = messages(alloc, TOLD.get(..entered).ok_or("at most four messages")?)?;
+    let (end, journal) = read(rt, alloc, limit, fails_at)?;
+    assert!(rt; end == wanted && journal.entries().len() == entered.saturating_add(1));
+    expect_entered(rt, alloc, &journal, 1, before.as_slice())
 }
 
 /// The link is asked five times: for four messages, and once more. A failure at a sixth call never comes.

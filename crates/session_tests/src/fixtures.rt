@@ -70,10 +70,10 @@ pub fn expect_entered(
             }
         }
     }
-    assert_eq!(rt; entered.as_slice(), wanted);
+    assert!(rt; entered.as_slice() == wanted);
     let tables = replay(alloc, journal.opening(), journal.entries())?;
     for node in 0..4 {
-        assert_eq!(rt; tables.session(node), journal.session(node));
+        assert!(rt; tables.session(node) == journal.session(node));
     }
     Ok(())
 }

@@ -1,7 +1,7 @@
 //! Sessions run at the same time, and ask the gate before each turn.
 
-use crate::fixtures::{bring_up, messages, open};
-use crate::run_tests::{expect_read, job};
+use crate::fixtures::{bring_up, open};
+use crate::run_tests::{JobRow, expect_read, jobs};
 use route_session::{Cause, Gate, Role, run_sessions};
 use std::rt::Clock;
 use std::sync::atomic::{AtomicBool, AtomicU64, Ordering};
@@ -57,31 +57,14 @@ fn jobs_run_at_the_same_time(rt: HostRuntime) -> Result<(), Fail> {
     let alloc = rt.alloc();
     let (router, mut pass) = open(alloc, 4, 100)?;
     bring_up(&rt, &router, &mut pass, 2)?;
-    let first = job(
-        alloc,
-        &router,
-        &mut pass,
-        Role::Reader,
-        1,
-        messages(alloc, &[(1, 0)])?,
-    )?;
-    let second = job(
-        alloc,
-        &router,
-        &mut pass,
-        Role::Reader,
-        2,
-        messages(alloc, &[(2, 0)])?,
-    )?;
-    let mut jobs = Vec::new(alloc);
-    jobs.push(first)?;
-    jobs.push(second)?;
+    let rows: [JobRow; 2] = [(Role::Reader, 1, &[(1, 0)]), (Role::Reader, 2, &[(2, 0)])];
+    let jobs = jobs(alloc, &router, &mut pass, &rows)?;
     let gate = MeetingGate {
         asks: [AtomicU64::new(0), AtomicU64::new(0)],
         has_given_up: AtomicBool::new(false),
     };
     let finished = run_sessions(&rt, alloc, &router, jobs, &gate, 10)?;
-    assert_eq!(&rt; finished.len(), 2);
+    assert!(&rt; finished.len() == 2);
     for one in &finished {
         expect_read(&rt, &one.ending, Cause::LinkEnded, 1);
     }
@@ -111,23 +94,25 @@ fn each_turn_is_asked_for(rt: HostRuntime) -> Result<(), Fail> {
     let gate = NotingGate {
         asked: Mutex::new(Vec::new(alloc)),
     };
-    let mut jobs = Vec::new(alloc);
-    jobs.push(job(alloc, &router, &mut pass, Role::Writer, 1, Vec::new(alloc))?)?;
-    jobs.push(job(alloc, &router, &mut pass, Role::Writer, 2, Vec::new(alloc))?)?;
-    jobs.push(job(alloc, &router, &mut pass, Role::Writer, 3, Vec::new(alloc))?)?;
+    let rows: [JobRow; 3] = [
+        (Role::Writer, 1, &[]),
+        (Role::Writer, 2, &[]),
+        (Role::Writer, 3, &[]),
+    ];
+    let jobs = jobs(alloc, &router, &mut pass, &rows)?;
     let finished = run_sessions(&rt, alloc, &router, jobs, &gate, 5)?;
-    assert_eq!(&rt; finished.len(), 3);
+    assert!(&rt; finished.len() == 3);
     let asked = gate.asked.lock(&rt);
-    assert_eq!(&rt; asked.len(), 15);
+    assert!(&rt; asked.len() == 15);
     for number in 0..3u32 {
         let mut next = 0;
         for (job, turn) in asked.iter() {
             if *job == number {
-                assert_eq!(&rt; *turn, next);
+                assert!(&rt; *turn == next);
                 next = turn.saturating_add(1);
             }
         }
-        assert_eq!(&rt; next, 5);
+        assert!(&rt; next == 5);
     }
     Ok(())
 }

@@ -1,10 +1,10 @@
 //! Many sessions: their results come in the order of the jobs, and all their calls stand in one history.
 
-ghost use Rattle.std.specs.Prelude.{◌≡◌, IfOk, vec_len};
+ghost use Rattle.std.specs.Prelude.{◌≡◌, ◌≤◌, IfOk, vec_len};
 ghost use Rattle.route_session.specs.Jobs.{AreFor};
 ghost use Rattle.slot_lock.specs.Held.{IsPassOf};
 
-use crate::fixtures::{OpenGate, bring_up, message, open};
+use crate::fixtures::{OpenGate, bring_up, message, messages, open};
 use netchange_core::Message;
 use route_history::replay;
 use route_session::{
@@ -23,7 +23,7 @@ use std::test::Fail;
 const SHARES: u32 = 100;
 
 /// A job over a link in memory, whose pass is split off from another.
-pub fn job(
+fn job(
     alloc: Global,
     router: &Router,
     pass: &mut Pass,
@@ -45,6 +45,31 @@ pub fn job(
         link: MemoryLink::new(alloc, waiting, None),
         pass: own,
     })
+}
+
+/// A job of a table: its role, its session, and what its link hands out.
+pub type JobRow<'a> = (Role, u32, &'a [(u16, u16)]);
+
+/// The jobs of a table, of which there are at most 16.
+pub fn jobs(
+    alloc: Global,
+    router: &Router,
+    pass: &mut Pass,
+    rows: &[JobRow<'_>],
+) -> Result<Vec<Job<MemoryLink>>, Fail>
+    requires { IsPassOf router.now pass.old }
+    ensures pass { IsPassOf router.now pass.new }
+    ensures jobs { IfOk result (λ v. AreFor router.now v.items × (vec_len v ≤ 16)) }
+{
+    let mut jobs = Vec::new(alloc);
+    for number in 0..16u16 {
+        let Some((role, session, told)) = rows.get(usize::from(number)) else {
+            return Ok(jobs);
+        };
+        let waiting = messages(alloc, told)?;
+        jobs.push(job(alloc, router, pass, *role, *session, waiting)?)?;
+    }
+    Ok(jobs)
 }
 
 /// Asserts how a reader ended.
@@ -99,7 +124,7 @@ fn jobs_end_in_order(rt: HostRuntime) -> Result<(), Fail> {
     bring_up(&rt, &router, &mut pass, 1)?;
     let jobs = readers(alloc, &router, &mut pass, 5)?;
     let finished = run_sessions(&rt, alloc, &router, jobs, &OpenGate, 10)?;
-    assert_eq!(&rt; finished.len(), 5);
+    assert!(&rt; finished.len() == 5);
     let mut entered = 0;
     for one in &finished {
         expect_read(&rt, &one.ending, Cause::LinkEnded, entered);
@@ -107,12 +132,12 @@ fn jobs_end_in_order(rt: HostRuntime) -> Result<(), Fail> {
         entered = entered.saturating_add(1);
     }
     join_passes(&router, &mut pass, finished);
-    assert_eq!(&rt; pass.shares(), 65_536);
+    assert!(&rt; pass.shares() == 65_536);
     let Ok(journal) = router.close(pass) else {
         return Err(Fail::from("the router is closed"));
     };
     // The Up, and 0 + 1 + 2 + 3 + 4 messages.
-    assert_eq!(&rt; journal.entries().len(), 11);
+    assert!(&rt; journal.entries().len() == 11);
     let _tables = replay(alloc, journal.opening(), journal.entries())?;
     Ok(())
 }
@@ -123,13 +148,10 @@ fn a_reader_and_a_writer(rt: HostRuntime) -> Result<(), Fail> {
     let alloc = rt.alloc();
     let (router, mut pass) = open(alloc, 4, 100)?;
     bring_up(&rt, &router, &mut pass, 2)?;
-    let mut waiting = Vec::new(alloc);
-    waiting.push(message(2, 0))?;
-    let mut jobs = Vec::new(alloc);
-    jobs.push(job(alloc, &router, &mut pass, Role::Writer, 1, Vec::new(alloc))?)?;
-    jobs.push(job(alloc, &router, &mut pass, Role::Reader, 2, waiting)?)?;
+    let rows: [JobRow; 2] = [(Role::Writer, 1, &[]), (Role::Reader, 2, &[(2, 0)])];
+    let jobs = jobs(alloc, &router, &mut pass, &rows)?;
     let finished = run_sessions(&rt, alloc, &router, jobs, &OpenGate, 1)?;
-    assert_eq!(&rt; finished.len(), 2);
+    assert!(&rt; finished.len() == 2);
     expect_all_sent(&rt, &finished[0]);
     expect_read(&rt, &finished[1].ending, Cause::Turns, 1);
     Ok(())
@@ -143,11 +165,8 @@ fn no_jobs(rt: HostRuntime) -> Result<(), Fail> {
     let jobs = readers(alloc, &router, &mut pass, 0)?;
     let finished = run_sessions(&rt, alloc, &router, jobs, &OpenGate, 10)?;
     assert!(&rt; finished.is_empty());
-    assert_eq!(&rt;
-        (RunFault::Memory.code(), RunFault::NotStarted.code()),
-        ("X1", "X2")
-    );
-    assert_eq!(&rt; (RunFault::Memory.at(), RunFault::NotStarted.at()), (0, 0));
+    assert!(&rt; RunFault::Memory.code() == "X1" && RunFault::NotStarted.code() == "X2");
+    assert!(&rt; RunFault::Memory.at() == 0 && RunFault::NotStarted.at() == 0);
     Ok(())
 }
 
@@ -196,9 +215,9 @@ fn one_job_stays_on_the_thread(rt: HostRuntime) -> Result<(), Fail> {
             elsewhere: AtomicU64::new(0),
         };
         let finished = run_sessions(&rt, alloc, &router, jobs, &gate, 2)?;
-        assert_eq!(&rt; finished.len(), usize::from(count));
-        assert_eq!(&rt; gate.here.load(Ordering::SeqCst), 1);
-        assert_eq!(&rt; gate.elsewhere.load(Ordering::SeqCst), elsewhere);
+        assert!(&rt; finished.len() == usize::from(count));
+        assert!(&rt; gate.here.load(Ordering::SeqCst) == 1);
+        assert!(&rt; gate.elsewhere.load(Ordering::SeqCst) == elsewhere);
     }
     Ok(())
 }

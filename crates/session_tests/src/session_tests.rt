@@ -75,7 +75,7 @@ fn readers_end(rt: HostRuntime) -> Result<(), Fail> {
     ];
     for wanted in &rows {
         let got = read(&rt, rt.alloc(), wanted, &OpenGate)?;
-        assert_eq!(&rt; got, wanted.end);
+        assert!(&rt; got == wanted.end);
     }
     // A turn that the gate does not let go is used up: of ten turns five went, of five three.
     let got = read(
@@ -84,14 +84,14 @@ fn readers_end(rt: HostRuntime) -> Result<(), Fail> {
         &row(10, end(Cause::LinkEnded, 3, None)),
         &EvenGate,
     )?;
-    assert_eq!(&rt; got, end(Cause::LinkEnded, 3, None));
+    assert!(&rt; got == end(Cause::LinkEnded, 3, None));
     let got = read(
         &rt,
         rt.alloc(),
         &row(3, end(Cause::Turns, 2, None)),
         &EvenGate,
     )?;
-    assert_eq!(&rt; got, end(Cause::Turns, 2, None));
+    assert!(&rt; got == end(Cause::Turns, 2, None));
     Ok(())
 }
 
@@ -129,10 +129,10 @@ pub fn expect_written<R: Wait + Clock + Abort>(
         0,
         row.turns,
     );
-    assert_eq!(rt; end.cause, row.cause);
-    assert_eq!(rt; end.sent, row.sent);
-    assert_eq!(rt; end.unsent.as_slice().len(), row.unsent);
-    assert_eq!(rt; link.given().len() as u64, row.sent);
+    assert!(rt; end.cause == row.cause);
+    assert!(rt; end.sent == row.sent);
+    assert!(rt; end.unsent.as_slice().len() == row.unsent);
+    assert!(rt; link.given().len() as u64 == row.sent);
     expect_told(rt, link.given(), 0, row.size);
     expect_told(rt, end.unsent.as_slice(), row.sent, row.size);
     Ok(())
@@ -211,8 +211,8 @@ fn closed_links(rt: HostRuntime) -> Result<(), Fail> {
     let mut link = MemoryLink::new(rt.alloc(), messages(rt.alloc(), &[(1, 0)])?, None);
     link.close();
     assert!(&rt; link.is_closed());
-    assert_eq!(&rt; link.recv(&rt), Ok(route_session::Got::Ended));
-    assert_eq!(&rt; link.send(&rt, message(1, 0)), Err(LinkFault));
+    assert!(&rt; link.recv(&rt) == Ok(route_session::Got::Ended));
+    assert!(&rt; link.send(&rt, message(1, 0)) == Err(LinkFault));
     assert!(&rt; link.given().is_empty());
     Ok(())
 }

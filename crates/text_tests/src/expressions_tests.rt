@@ -1,8 +1,9 @@
 //! Expressions: their trees, and the faults that are answered.
 
-use filter_parser::{Command, Expr, Op, parse};
+use filter_parser::{Command, Expr, Filter, Op, SetPattern, parse};
 use prefix_patterns::{Ip, Pattern, Prefix};
 use std::alloc::Global;
+use std::process::Abort;
 use std::test::Fail;
 
 /// What comes before an expression in these tests: 24 bytes.
@@ -10,24 +11,46 @@ const FRONT: &str = "filter q { rip_metric = ";
 
 /// A filter's text with an expression in it.
 fn text_with(alloc: Global, expression: &str) -> Result<String, Fail> {
-    Ok(format!(in alloc; "{FRONT}{expression}; }}")?)
+    let mut text = String::from_str(alloc, FRONT)?;
+    text.push_str(expression)?;
+    text.push_str("; }")?;
+    Ok(text)
+}
+
+/// The tree of an expression.
+fn tree_of(alloc: Global, filter: &Filter) -> Result<String, Fail> {
+    match filter.body() {
+        [Command::Assign(_, _, tree)] => Ok(format!(in alloc; "{tree:?}")?),
+        _ => Err(Fail::from("one assignment is wanted")),
+    }
 }
 
 /// The tree of an expression, or the code and the place of the fault.
 fn shape(alloc: Global, expression: &str) -> Result<String, Fail> {
     let text = text_with(alloc, expression)?;
     match parse(alloc, text.as_bytes()) {
-        Ok(filter) => match filter.body() {
-            [Command::Assign(_, _, tree)] => Ok(format!(in alloc; "{tree:?}")?),
-            _ => Err(Fail::from("one assignment is wanted")),
-        },
-        Err(fault) => Ok(format!(in alloc; "{} {}", fault.code(), fault.at())?),
+        Ok(filter) => tree_of(alloc, &filter),
+        Err(fault) => code_and_place(alloc, fault.code(), fault.at()),
     }
+}
+
+/// A fault's code and place.
+fn code_and_place(alloc: Global, code: &str, at: usize) -> Result<String, Fail> {
+    Ok(format!(in alloc; "{code} {at}")?)
+}
+
+/// Compares each expression with its tree, or its fault.
+fn compare(rt: &impl Abort, alloc: Global, rows: &[(&str, &str)]) -> Result<(), Fail> {
+    for (text, wanted) in rows {
+        let shape = shape(alloc, text)?;
+        assert!(rt; shape.as_str() == *wanted, "{text}: {shape}");
+    }
+    Ok(())
 }
 
 #[test]
 fn operators_group_by_their_levels(rt: HostRuntime) -> Result<(), Fail> {
-    for (text, tree) in [
+    let rows = [
         (
             "1 - 2 - 3",
             "Chain(Number(24, 1), [(26, Sub, Number(28, 2)), (30, Sub, Number(32, 3))])",
@@ -57,15 +80,13 @@ fn operators_group_by_their_levels(rt: HostRuntime) -> Result<(), Fail> {
             "net ~ 10.0.0.0/8",
             "Chain(Attribute(24, Net), [(28, Match, Prefix(30, Prefix { address: 167772160, len: 8 }))])",
         ),
-    ] {
-        assert_eq!(rt; shape(rt.alloc(), text)?.as_str(), tree, "{text}");
-    }
-    Ok(())
+    ];
+    compare(&rt, rt.alloc(), &rows)
 }
 
 #[test]
 fn faults_of_expressions_stand_at_their_places(rt: HostRuntime) -> Result<(), Fail> {
-    for (text, fault) in [
+    let rows = [
         ("", "P2 24"),
         ("1 = 2 = 3", "P2 30"),
         ("1 + ;", "P2 28"),
@@ -90,10 +111,8 @@ fn faults_of_expressions_stand_at_their_places(rt: HostRuntime) -> Result<(), Fa
         ("defined(1)", "P2 32"),
         ("!!!!!!!!!!!!!!!!!!!!!!!!!!!!!!!!!1", "P5 56"),
         ("(((((((((((((((((((((((((((((((((1", "P5 56"),
-    ] {
-        assert_eq!(rt; shape(rt.alloc(), text)?.as_str(), fault, "{text}");
-    }
-    Ok(())
+    ];
+    compare(&rt, rt.alloc(), &rows)
 }
 
 #[test]
@@ -108,34 +127,46 @@ fn nesting_of_32_is_read(rt: HostRuntime) -> Result<(), Fail> {
     Ok(())
 }
 
-#[test]
-fn patterns_keep_their_places_and_lengths(rt: HostRuntime) -> Result<(), Fail> {
-    let text = text_with(
-        rt.alloc(),
-        "net ~ [10.0.0.0/8, 10.0.0.0/8, 10.0.0.0/8+, 10.0.0.0/8+, \
-        10.0.0.0/8-, 10.0.0.0/8-, 10.0.0.0/8{9,24}, 10.0.0.0/8{10,11}]",
-    )?;
-    let filter = parse(rt.alloc(), text.as_bytes())?;
+/// Patterns of 10.0.0.0/8 in each way to write one: 8 of them.
+const PATTERNS: &str = "net ~ [10.0.0.0/8, 10.0.0.0/8, 10.0.0.0/8+, 10.0.0.0/8+, \
+    10.0.0.0/8-, 10.0.0.0/8-, 10.0.0.0/8{9,24}, 10.0.0.0/8{10,11}]";
+
+/// The place, the least and the greatest length of each of these patterns.
+const PLACES_AND_LENGTHS: [(usize, u8, u8); 8] = [
+    (31, 8, 8),
+    (43, 8, 8),
+    (55, 8, 32),
+    (68, 8, 32),
+    (81, 0, 8),
+    (94, 0, 8),
+    (107, 9, 24),
+    (125, 10, 11),
+];
+
+/// Asserts that patterns are those, at their places.
+fn expect_patterns(rt: &impl Abort, patterns: &[SetPattern]) -> Result<(), Fail> {
+    let prefix = Prefix::new(Ip(0x0a00_0000), 8).ok_or("no prefix")?;
+    assert!(rt; patterns.len() == PLACES_AND_LENGTHS.len());
+    for (written, (at, low, high)) in patterns.iter().zip(&PLACES_AND_LENGTHS) {
+        let is_so = Some(written.pattern()) == Pattern::new(prefix, *low, *high);
+        assert!(rt; is_so && written.at() == *at, "at {at}");
+    }
+    Ok(())
+}
+
+/// Asserts that the set of a filter is that of those patterns.
+fn expect_set(rt: &impl Abort, filter: &Filter) -> Result<(), Fail> {
     let [Command::Assign(_, _, Expr::Member(_, _, set))] = filter.body() else {
         return Err(Fail::from("no set"));
     };
-    let prefix = Prefix::new(Ip(0x0a00_0000), 8).ok_or("no prefix")?;
-    let rows = [
-        (31, 8, 8),
-        (43, 8, 8),
-        (55, 8, 32),
-        (68, 8, 32),
-        (81, 0, 8),
-        (94, 0, 8),
-        (107, 9, 24),
-        (125, 10, 11),
-    ];
-    assert_eq!(rt; (set.at, set.patterns.len()), (30, rows.len()));
-    for (written, (at, low, high)) in set.patterns.iter().zip(rows) {
-        assert_eq!(rt; written.at(), at);
-        assert_eq!(rt; Some(written.pattern()), Pattern::new(prefix, low, high));
-    }
-    Ok(())
+    assert!(rt; set.at == 30);
+    expect_patterns(rt, set.patterns.as_slice())
+}
+
+#[test]
+fn patterns_keep_their_places_and_lengths(rt: HostRuntime) -> Result<(), Fail> {
+    let text = text_with(rt.alloc(), PATTERNS)?;
+    expect_set(&rt, &parse(rt.alloc(), text.as_bytes())?)
 }
 
 #[test]
@@ -149,7 +180,9 @@ fn a_run_as_long_as_a_text_is_read_and_dropped(rt: HostRuntime) -> Result<(), Fa
     let [Command::Assign(_, _, Expr::Chain(_, more))] = filter.body() else {
         return Err(Fail::from("no run"));
     };
-    assert_eq!(rt; more.len(), 32_000);
-    assert!(rt; more.iter().all(|(_, op, _)| *op == Op::Add));
+    assert!(rt; more.len() == 32_000);
+    for (_, op, _) in more {
+        assert!(rt; *op == Op::Add);
+    }
     Ok(())
 }

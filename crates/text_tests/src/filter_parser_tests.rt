@@ -1,7 +1,8 @@
 //! Texts and what is answered on them: codes and places of faults are shown here, by tables.
 
 use crate::left_out::LEFT_OUT_WORDS;
-use filter_parser::{Attribute, Command, Expected, MaskLength, ParseFault, parse};
+use crate::texts::{expect_fault, expect_text};
+use filter_parser::{Expected, Filter, MaskLength, ParseFault, parse};
 use filter_tokens::TokenFault;
 use std::alloc::Global;
 use std::process::Abort;
@@ -24,9 +25,8 @@ type Row = (&'static str, &'static str, usize);
 /// Compares each row of a table with what is answered.
 fn compare(rt: &impl Abort, alloc: Global, rows: &[Row]) -> Result<(), ParseFault> {
     for (text, code, at) in rows {
-        let answered = answer(alloc, text.as_bytes())?;
-        assert_eq!(rt; answered.0, *code, "the code of {text}");
-        assert_eq!(rt; answered.1, *at, "the place of {code} in {text}");
+        let (found, place) = answer(alloc, text.as_bytes())?;
+        assert!(rt; found == *code && place == *at, "{text}: {found} {place}");
     }
     Ok(())
 }
@@ -245,7 +245,7 @@ fn lengths_of_masks(rt: HostRuntime) {
         (u32::MAX, None),
     ];
     for (bits, wanted) in rows {
-        assert_eq!(rt; MaskLength::new(bits).map(MaskLength::bits), wanted);
+        assert!(rt; MaskLength::new(bits).map(MaskLength::bits) == wanted);
     }
 }
 
@@ -385,22 +385,20 @@ fn the_first_fault_in_reading_order(rt: HostRuntime) -> Result<(), ParseFault> {
     compare(&rt, rt.alloc(), &FIRST_IN_READING_ORDER)
 }
 
+/// The declarations and the commands of a filter, as the tree is shown.
+fn parts_of(alloc: Global, filter: &Filter) -> Result<String, Fail> {
+    let (decls, body) = (filter.decls(), filter.body());
+    Ok(format!(in alloc; "{decls:?} {body:?}")?)
+}
+
 #[test]
 fn each_part_keeps_its_place(rt: HostRuntime) -> Result<(), Fail> {
-    let alloc = rt.alloc();
     let text = b"filter q int v; { ; { accept; } if true then reject \"x\"; else v = 1; }";
-    let Ok(filter) = parse(alloc, text) else {
-        return Err(Fail::from("a filter is wanted"));
-    };
-    let declarations = format!(in alloc; "{:?}", filter.decls())?;
-    assert_eq!(rt;
-        declarations.as_str(),
-        "[Decl { at: 13, kind: Int, name: [118] }]"
-    );
-    let body = format!(in alloc; "{:?}", filter.body())?;
-    let parts = "[Empty(18), Block(20, [Accept(22, false)]), \
+    let parts = parts_of(rt.alloc(), &parse(rt.alloc(), text)?)?;
+    let wanted =
+        "[Decl { at: 13, kind: Int, name: [118] }] [Empty(18), Block(20, [Accept(22, false)]), \
         If(32, Truth(35, true), Reject(45, true), Some(Assign(62, Name([118]), Number(66, 1))))]";
-    assert_eq!(rt; body.as_str(), parts);
+    assert!(rt; parts.as_str() == wanted, "{parts}");
     Ok(())
 }
 
@@ -458,8 +456,8 @@ fn each_word_that_is_left_out(rt: HostRuntime) -> Result<(), Fail> {
     let alloc = rt.alloc();
     for word in LEFT_OUT_WORDS {
         let text = repeated(alloc, "filter q { a = ", word, 1, "; }")?;
-        let answered = answer(alloc, &text)?;
-        assert_eq!(rt; answered, ("P10", 15), "{word}");
+        let (found, place) = answer(alloc, &text)?;
+        assert!(rt; found == "P10" && place == 15, "{word}");
     }
     Ok(())
 }
@@ -495,16 +493,10 @@ type Repeated = (
 fn compare_repeated(rt: &impl Abort, alloc: Global, rows: &[Repeated]) -> Result<(), Fail> {
     for (front, part, count, end, code, at) in rows {
         let text = repeated(alloc, front, part, *count, end)?;
-        let answered = answer(alloc, &text)?;
-        assert_eq!(rt;
-            answered.0,
-            *code,
-            "the code of {count} times {part} behind {front}"
-        );
-        assert_eq!(rt;
-            answered.1,
-            *at,
-            "the place in {count} times {part} behind {front}"
+        let (found, place) = answer(alloc, &text)?;
+        assert!(rt;
+            found == *code && place == *at,
+            "{count} times {part} behind {front}"
         );
     }
     Ok(())
@@ -556,8 +548,8 @@ fn thirty_two_blocks(rt: HostRuntime) -> Result<(), Fail> {
     for _ in 0..33 {
         text.push(b'}')?;
     }
-    let answered = answer(alloc, &text)?;
-    assert_eq!(rt; answered.0, "tree");
+    let (found, _) = answer(alloc, &text)?;
+    assert!(rt; found == "tree");
     Ok(())
 }
 
@@ -589,10 +581,6 @@ const LONG_TEXTS: [Repeated; 7] = [
 #[test]
 fn long_texts(rt: HostRuntime) -> Result<(), Fail> {
     compare_repeated(&rt, rt.alloc(), &LONG_TEXTS)
-}
-
-fn text_of(alloc: Global, fault: ParseFault) -> Result<String, Fail> {
-    Ok(format!(in alloc; "{} {} {fault}", fault.code(), fault.at())?)
 }
 
 #[test]
@@ -642,8 +630,7 @@ fn the_texts_of_faults(rt: HostRuntime) -> Result<(), Fail> {
         (ParseFault::Memory, "P11 0 out of memory"),
     ];
     for (fault, wanted) in rows {
-        let shown = text_of(alloc, fault)?;
-        assert_eq!(rt; shown.as_str(), wanted);
+        expect_fault(&rt, alloc, fault.code(), fault.at(), &fault, wanted)?;
     }
     Ok(())
 }
@@ -675,8 +662,7 @@ fn what_is_expected(rt: HostRuntime) -> Result<(), Fail> {
         (Expected::End, "the end of the text"),
     ];
     for (expected, wanted) in rows {
-        let shown = format!(in alloc; "{expected}")?;
-        assert_eq!(rt; shown.as_str(), wanted);
+        expect_text(&rt, alloc, &expected, wanted)?;
     }
     Ok(())
 }

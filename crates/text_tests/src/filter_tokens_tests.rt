@@ -1,21 +1,34 @@
 //! Texts with their tokens and faults.
 
 use crate::left_out::LEFT_OUT_WORDS;
-use filter_tokens::{Lexed, TokenFault, lex};
+use crate::texts::expect_text;
+use filter_tokens::{Lexed, Token, TokenFault, lex};
 use std::alloc::{AllocError, Global};
 use std::process::Abort;
 use std::test::Fail;
 
-/// Writes the tokens of a text, each with the places where it begins and ends, and then the fault's code and place.
-fn write_cut(shown: &mut String, alloc: Global, text: &str) -> Result<(), AllocError> {
-    let Lexed { tokens, fault } = lex(alloc, text.as_bytes())?;
-    for token in &tokens {
-        write!(shown, "{:?} {} {}, ", token.kind, token.from, token.to)?;
-    }
+/// Writes a token, with the places where it begins and ends.
+fn write_token(shown: &mut String, token: &Token) -> Result<(), AllocError> {
+    let (kind, from, to) = (&token.kind, token.from, token.to);
+    write!(shown, "{kind:?} {from} {to}, ")?;
+    Ok(())
+}
+
+/// Writes a fault's code and place, if there is one.
+fn write_fault(shown: &mut String, fault: Option<TokenFault>) -> Result<(), AllocError> {
     if let Some(fault) = fault {
         write!(shown, "{} {}", fault.code(), fault.at())?;
     }
     Ok(())
+}
+
+/// Writes the tokens of a text, and then the fault.
+fn write_cut(shown: &mut String, alloc: Global, text: &str) -> Result<(), AllocError> {
+    let Lexed { tokens, fault } = lex(alloc, text.as_bytes())?;
+    for token in &tokens {
+        write_token(shown, token)?;
+    }
+    write_fault(shown, fault)
 }
 
 /// Each text has the tokens and the fault in its row.
@@ -24,7 +37,7 @@ fn check(rt: &impl Abort, alloc: Global, rows: &[(&str, &str)]) -> Result<(), Al
     for (text, wanted) in rows {
         shown.clear();
         write_cut(&mut shown, alloc, text)?;
-        assert_eq!(rt; shown.as_str(), *wanted, "at {text}");
+        assert!(rt; shown.as_str() == *wanted, "{text}: {shown}");
     }
     Ok(())
 }
@@ -305,8 +318,10 @@ fn names(rt: HostRuntime) -> Result<(), Fail> {
 fn words_left_out(rt: HostRuntime) -> Result<(), Fail> {
     for word in LEFT_OUT_WORDS {
         let Lexed { tokens, fault } = lex(rt.alloc(), word.as_bytes())?;
-        assert_eq!(rt; fault, Some(TokenFault::WordLeftOut(0)), "at {word}");
-        assert_eq!(rt; tokens.len(), 0);
+        assert!(rt;
+            fault == Some(TokenFault::WordLeftOut(0)) && tokens.is_empty(),
+            "at {word}"
+        );
     }
     Ok(())
 }
@@ -430,11 +445,8 @@ fn faults_say(rt: HostRuntime) -> Result<(), Fail> {
             "names in single quotes, as at byte 9, are not supported",
         ),
     ];
-    let mut shown = String::with_capacity(rt.alloc(), 128)?;
     for (fault, wanted) in &rows {
-        shown.clear();
-        write!(&mut shown, "{fault}")?;
-        assert_eq!(rt; shown.as_str(), *wanted);
+        expect_text(&rt, rt.alloc(), fault, wanted)?;
     }
     Ok(())
 }

@@ -1,8 +1,10 @@
 //! Names and kinds: the texts that are refused, with codes and places, and those that fit.
 
+use crate::texts::expect_text;
 use filter_parser::{Kind, parse};
 use filter_types::{ExpectedKind, TypeFault, check};
 use std::alloc::Global;
+use std::process::Abort;
 use std::test::Fail;
 
 #[test]
@@ -48,8 +50,7 @@ fn the_texts_of_faults(rt: HostRuntime) -> Result<(), Fail> {
         (TypeFault::Memory, "out of memory"),
     ];
     for (fault, text) in rows {
-        let shown = format!(in rt.alloc(); "{fault}")?;
-        assert_eq!(rt; shown.as_str(), text);
+        expect_text(&rt, rt.alloc(), &fault, text)?;
     }
     Ok(())
 }
@@ -186,16 +187,23 @@ fn fault_of(alloc: Global, text: &[u8]) -> Result<(&'static str, usize), Fail> {
     }
 }
 
+/// Asserts the code and the place of a text's first fault.
+fn expect_fault(
+    rt: &impl Abort,
+    alloc: Global,
+    text: &str,
+    code: &str,
+    at: usize,
+) -> Result<(), Fail> {
+    let (found, place) = fault_of(alloc, text.as_bytes())?;
+    assert!(rt; found == code && place == at, "{text}: {found} {place}");
+    Ok(())
+}
+
 #[test]
 fn the_first_fault_is_answered(rt: HostRuntime) -> Result<(), Fail> {
     for (text, code, at) in REFUSED {
-        let found = fault_of(rt.alloc(), text.as_bytes())?;
-        assert!(rt;
-            found.0 == *code && found.1 == *at,
-            "{text}: {} {}",
-            found.0,
-            found.1
-        );
+        expect_fault(&rt, rt.alloc(), text, code, *at)?;
     }
     Ok(())
 }
@@ -204,13 +212,7 @@ fn the_first_fault_is_answered(rt: HostRuntime) -> Result<(), Fail> {
 fn a_filter_has_at_most_sixteen_variables(rt: HostRuntime) -> Result<(), Fail> {
     for (before, behind, code, at) in AROUND_SIXTEEN {
         let text = format!(in rt.alloc(); "{before}{SIXTEEN}{behind}")?;
-        let found = fault_of(rt.alloc(), text.as_bytes())?;
-        assert!(rt;
-            found.0 == *code && found.1 == *at,
-            "{text}: {} {}",
-            found.0,
-            found.1
-        );
+        expect_fault(&rt, rt.alloc(), text.as_str(), code, *at)?;
     }
     Ok(())
 }

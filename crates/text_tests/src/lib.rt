@@ -13,3 +13,5 @@ mod filter_types_tests;
 mod left_out;
 #[cfg(test)]
 mod refusal_words_tests;
+#[cfg(test)]
+mod texts;

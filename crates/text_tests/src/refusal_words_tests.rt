@@ -1,6 +1,7 @@
 //! What the refusal of a text says to a person: the code, the place and the words of the fault that a text earns.
 
-use filter_parser::parse;
+use crate::texts::fault_line;
+use filter_parser::{Filter, parse};
 use filter_types::check;
 use std::alloc::Global;
 use std::process::Abort;
@@ -9,22 +10,27 @@ use std::test::Fail;
 /// A text, and its refusal.
 type Row = (&'static str, &'static str);
 
-/// The refusal of a text, or `fits`.
-fn refusal(alloc: Global, text: &str) -> Result<String, Fail> {
-    let filter = match parse(alloc, text.as_bytes()) {
-        Ok(filter) => filter,
-        Err(fault) => return Ok(format!(in alloc; "{} {} {fault}", fault.code(), fault.at())?),
-    };
+/// The refusal of a filter's names and kinds, or `fits`.
+fn refusal_of_filter(alloc: Global, filter: Filter) -> Result<String, Fail> {
     match check(alloc, filter) {
         Ok(_) => Ok(String::from_str(alloc, "fits")?),
-        Err(fault) => Ok(format!(in alloc; "{} {} {fault}", fault.code(), fault.at())?),
+        Err(fault) => fault_line(alloc, fault.code(), fault.at(), &fault),
+    }
+}
+
+/// The refusal of a text, or `fits`.
+fn refusal(alloc: Global, text: &str) -> Result<String, Fail> {
+    match parse(alloc, text.as_bytes()) {
+        Ok(filter) => refusal_of_filter(alloc, filter),
+        Err(fault) => fault_line(alloc, fault.code(), fault.at(), &fault),
     }
 }
 
 /// Compares each row with what is answered.
 fn compare(rt: &impl Abort, alloc: Global, rows: &[Row]) -> Result<(), Fail> {
     for (text, wanted) in rows {
-        assert_eq!(rt; refusal(alloc, text)?.as_str(), *wanted, "{text}");
+        let refusal = refusal(alloc, text)?;
+        assert!(rt; refusal.as_str() == *wanted, "{text}: {refusal}");
     }
     Ok(())
 }

@@ -1,35 +1,52 @@
 //! The verifier on short codes: budgets and depths, and each refusal with its place.
 
+use crate::texts::expect_text;
 use filter_code::{Code, Instr};
-use filter_verifier::{VerifyFault, verify};
+use filter_verifier::{Verified, VerifyFault, verify};
 use prefix_patterns::{Ip, Pattern, PatternSet, Prefix};
 use std::alloc::Global;
 use std::process::Abort;
 use std::test::Fail;
 use worked_rows::{FILTERS, code_of_file};
 
-/// The code of these instructions, with so many local variables and the set of 1.0.0.0/8 with lengths from 15 to 17.
+/// The pattern of 1.0.0.0/8 with lengths from 15 to 17.
+fn pattern() -> Option<Pattern> {
+    Pattern::new(Prefix::new(Ip(0x0100_0000), 8)?, 15, 17)
+}
+
+/// The set of that pattern.
+fn sets(alloc: Global) -> Result<Vec<PatternSet>, Fail> {
+    let pattern = pattern().ok_or("a pattern")?;
+    Ok(vec![in alloc; PatternSet::build(alloc, &[pattern])?]?)
+}
+
+/// The code of these instructions, with so many local variables and that set.
 fn code(alloc: Global, locals: u8, instrs: &[Instr]) -> Result<Code, Fail> {
-    let net = Prefix::new(Ip(0x0100_0000), 8).ok_or("a prefix of 8 bits")?;
-    let pattern = Pattern::new(net, 15, 17).ok_or("lengths in order")?;
-    let sets = vec![in alloc; PatternSet::build(alloc, &[pattern])?]?;
-    Ok(Code::new(locals, sets, instrs.to_vec(alloc)?).ok_or("a code within the limits")?)
+    let instrs = instrs.to_vec(alloc)?;
+    Ok(Code::new(locals, sets(alloc)?, instrs).ok_or("a code within the limits")?)
+}
+
+/// What is said of verified code.
+fn verified_line(alloc: Global, verified: &Verified) -> Result<String, Fail> {
+    let (budget, depth) = (verified.budget(), verified.depth());
+    Ok(format!(in alloc; "verified {budget} {depth}")?)
+}
+
+/// What is said of a refusal.
+fn refused_line(alloc: Global, code: &str, at: usize) -> Result<String, Fail> {
+    Ok(format!(in alloc; "refused {code} {at}")?)
 }
 
 /// What `verify` answers of a code: the budget and the depth, or the refusal's code and place.
 fn answer(alloc: Global, code: Code, size: u32) -> Result<String, Fail> {
     let instrs = code.instrs().to_vec(alloc)?;
     match verify(alloc, code, size) {
-        Ok(verified) => Ok(format!(in alloc;
-            "verified {} {}",
-            verified.budget(),
-            verified.depth()
-        )?),
+        Ok(verified) => verified_line(alloc, &verified),
         Err((_, VerifyFault::Memory)) => Err(Fail::from(VerifyFault::Memory)),
-        Err((handed_back, _)) if handed_back.instrs() != instrs.as_slice() => Ok(format!(in alloc;
-            "other code"
-        )?),
-        Err((_, fault)) => Ok(format!(in alloc; "refused {} {}", fault.code(), fault.at())?),
+        Err((handed_back, _)) if handed_back.instrs() != instrs.as_slice() => {
+            Err(Fail::from("other code"))
+        }
+        Err((_, fault)) => refused_line(alloc, fault.code(), fault.at()),
     }
 }
 
@@ -40,7 +57,7 @@ type Row<'a> = (&'a [Instr], u8, u32, &'a str);
 fn compare(rt: &impl Abort, alloc: Global, rows: &[Row<'_>]) -> Result<(), Fail> {
     for (instrs, locals, size, wanted) in rows {
         let answered = answer(alloc, code(alloc, *locals, instrs)?, *size)?;
-        assert_eq!(rt; answered.as_str(), *wanted, "{instrs:?}");
+        assert!(rt; answered.as_str() == *wanted, "{instrs:?}: {answered}");
     }
     Ok(())
 }
@@ -48,9 +65,9 @@ fn compare(rt: &impl Abort, alloc: Global, rows: &[Row<'_>]) -> Result<(), Fail>
 #[test]
 fn worked_filters(rt: HostRuntime) -> Result<(), Fail> {
     let alloc = rt.alloc();
-    for row in FILTERS {
+    for row in &FILTERS {
         let answered = answer(alloc, code_of_file(alloc, row.file)?, row.size)?;
-        assert_eq!(rt; answered.as_str(), row.verdict, "{}", row.text);
+        assert!(rt; answered.as_str() == row.verdict, "{}", row.text);
     }
     Ok(())
 }
@@ -59,17 +76,11 @@ fn worked_filters(rt: HostRuntime) -> Result<(), Fail> {
 fn verified_code_is_what_was_handed_in(rt: HostRuntime) -> Result<(), Fail> {
     match verify(rt.alloc(), code(rt.alloc(), 3, &RAISED)?, 8) {
         Ok(verified) => {
-            assert_eq!(rt; verified.code().instrs(), RAISED.as_slice());
-            assert_eq!(rt;
-                (
-                    verified.code().locals(),
-                    verified.code().sets().len(),
-                    verified.size(),
-                    verified.budget(),
-                    verified.depth()
-                ),
-                (3, 1, 8, 7, 2)
+            let code = verified.code();
+            assert!(rt;
+                code.locals() == 3 && code.sets().len() == 1 && code.instrs() == RAISED.as_slice()
             );
+            assert!(rt; verified.size() == 8 && verified.budget() == 7 && verified.depth() == 2);
             Ok(())
         }
         Err((_, fault)) => Err(Fail::from(fault)),
@@ -397,65 +408,70 @@ fn ends_of_the_code(rt: HostRuntime) -> Result<(), Fail> {
     )
 }
 
+/// Each refusal, its code and place, and its text.
+const REFUSALS: [(VerifyFault, &str, usize, &str); 10] = [
+    (
+        VerifyFault::MissingOperand(3),
+        "V1",
+        3,
+        "instruction 3: too few operands on the stack",
+    ),
+    (
+        VerifyFault::WrongKind(3),
+        "V2",
+        3,
+        "instruction 3: an operand has an unknown or wrong kind",
+    ),
+    (
+        VerifyFault::ZeroDivisor(3),
+        "V3",
+        3,
+        "instruction 3: the divisor may be 0",
+    ),
+    (
+        VerifyFault::OutsideCode(3),
+        "V4",
+        3,
+        "instruction 3: execution may continue outside the code",
+    ),
+    (
+        VerifyFault::FullStack(3),
+        "V5",
+        3,
+        "instruction 3: the stack may overflow",
+    ),
+    (
+        VerifyFault::LowerMetric(3),
+        "V6",
+        3,
+        "instruction 3: the new metric may be lower than the one received",
+    ),
+    (
+        VerifyFault::UnknownName(3),
+        "V7",
+        3,
+        "instruction 3: no such local variable or set",
+    ),
+    (
+        VerifyFault::UnlikeDepths(3),
+        "V9",
+        3,
+        "instruction 3: the stack depth differs between the paths that lead here",
+    ),
+    (
+        VerifyFault::BadSize,
+        "V8",
+        0,
+        "the size of a domain must be 2 to 250",
+    ),
+    (VerifyFault::Memory, "V10", 0, "out of memory"),
+];
+
 #[test]
 fn texts(rt: HostRuntime) -> Result<(), Fail> {
-    for (fault, code, text) in [
-        (
-            VerifyFault::MissingOperand(3),
-            "V1",
-            "instruction 3: too few operands on the stack",
-        ),
-        (
-            VerifyFault::WrongKind(3),
-            "V2",
-            "instruction 3: an operand has an unknown or wrong kind",
-        ),
-        (
-            VerifyFault::ZeroDivisor(3),
-            "V3",
-            "instruction 3: the divisor may be 0",
-        ),
-        (
-            VerifyFault::OutsideCode(3),
-            "V4",
-            "instruction 3: execution may continue outside the code",
-        ),
-        (
-            VerifyFault::FullStack(3),
-            "V5",
-            "instruction 3: the stack may overflow",
-        ),
-        (
-            VerifyFault::LowerMetric(3),
-            "V6",
-            "instruction 3: the new metric may be lower than the one received",
-        ),
-        (
-            VerifyFault::UnknownName(3),
-            "V7",
-            "instruction 3: no such local variable or set",
-        ),
-        (
-            VerifyFault::UnlikeDepths(3),
-            "V9",
-            "instruction 3: the stack depth differs between the paths that lead here",
-        ),
-    ] {
-        assert_eq!(rt; fault.code(), code);
-        assert_eq!(rt; fault.at(), 3);
-        assert_eq!(rt; format!(in rt.alloc(); "{fault}")?.as_str(), text);
-    }
-    for (fault, code, text) in [
-        (
-            VerifyFault::BadSize,
-            "V8",
-            "the size of a domain must be 2 to 250",
-        ),
-        (VerifyFault::Memory, "V10", "out of memory"),
-    ] {
-        assert_eq!(rt; fault.code(), code);
-        assert_eq!(rt; fault.at(), 0);
-        assert_eq!(rt; format!(in rt.alloc(); "{fault}")?.as_str(), text);
+    for (fault, code, at, text) in &REFUSALS {
+        assert!(rt; fault.code() == *code && fault.at() == *at, "{code}");
+        expect_text(&rt, rt.alloc(), fault, text)?;
     }
     Ok(())
 }
