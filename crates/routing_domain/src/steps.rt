@@ -6,7 +6,6 @@ ghost use Rattle.routing_domain.specs.Domain.{Domain, IsInOrder, IsSame, neighbo
 ghost use Rattle.routing_domain.specs.Steps.{IsNext, hears, sends};
 ghost use Rattle.routing_domain.specs.Weight.{weight};
 
-
 /// Each sending of a message and each hearing of one makes a domain lighter, so they cannot go on for ever, in whatever order they
 /// happen and whatever the filters are.
 pub fn steps_come_to_an_end()
