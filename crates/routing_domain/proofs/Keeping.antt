@@ -15,11 +15,11 @@ use Rattle.routing_domain.proofs.Places.{router_here, router_other}
 use Rattle.routing_domain.proofs.Told.{last_told_both}
 
 -- a router of a domain of this size, at this place
-pub record IsMember (size u : ℕ) (r : World) : Type 0 where
-  pub size : r.opening.size ≡ size
+pub record IsMember (n u : ℕ) (r : World) : Type 0 where
+  pub size : r.opening.size ≡ n
   pub me : r.opening.me ≡ u
-  pub tables : AreNeighbours size r.neighbours
-  pub sound : IsSound size r
+  pub tables : AreNeighbours n r.neighbours
+  pub sound : IsSound n r
   pub apart : is_up (neighbour_at r.neighbours u) ≡ false
 
 pub member_of : (d : Domain) (u : ℕ) → IsInOrder d → u < d.size → IsMember d.size u (d.router u)

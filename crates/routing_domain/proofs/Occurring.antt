@@ -112,16 +112,16 @@ refused_stays w (event.Down s) why = by_holder (holder w s)
     by_holder (Some k) h = absurd (cc)
 refused_stays w (event.Receive s v d) why = by_holder (holder w s)
   where
-    by_holder : (o : Option ℕ) → StaysIfRefused w why (receive w o v d)
-    by_holder None h = refl
-    by_holder (Some k) h = in_range k h
-
     in_range : (k : ℕ) → StaysIfRefused w why (receive w (Some k) v d)
     in_range k =
         let last = recomputed w (changed w k (heard v d)) in
         cond_both (nat_le w.opening.size v) (refused w refusal.BadDest) (cond (nat_lt w.opening.size d) (refused w refusal.BadDist) last)
         (StaysIfRefused w why) (λ _ _. refl)
         (λ _. cond_both (nat_lt w.opening.size d) (refused w refusal.BadDist) last (StaysIfRefused w why) (λ _ _. refl) (λ _ h. absurd (cc)))
+
+    by_holder : (o : Option ℕ) → StaysIfRefused w why (receive w o v d)
+    by_holder None h = refl
+    by_holder (Some k) h = in_range k h
 refused_stays w (event.Take s max) why = by_holder (holder w s)
   where
     by_holder : (o : Option ℕ) → StaysIfRefused w why (take_from w o max)

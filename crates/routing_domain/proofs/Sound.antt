@@ -56,7 +56,7 @@ relieved_queued size max n q = record {
   idle = λ down. ap (drop max) (q.idle down) ∙ nothing max;
 }
   where
-    nothing : (k : ℕ) → drop k [] ≡ []
+    nothing : (k : ℕ) → drop {A = Message} k [] ≡ []
     nothing zero = refl
     nothing (suc k) = refl
 
