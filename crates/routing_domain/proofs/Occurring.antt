@@ -9,9 +9,8 @@ use Rattle.netchange_core.specs.declared.reply.Refusal.{Refusal}
 use Rattle.netchange_core.specs.declared.reply.Refusal.TheVariants as refusal
 use Rattle.netchange_core.specs.declared.reply.Reply.TheVariants as reply
 use Rattle.netchange_core.specs.Best.{best, distance}
-use Rattle.netchange_core.specs.Next.{Answered, answered, count_changes, down, exporting, gone, heard, importing, is_no_neighbour, joined, last_session, next, receive, recomputed, refused, relieved, set_export, set_import, show, take_from, up}
+use Rattle.netchange_core.specs.Next.{Answered, answered, count_changes, down, exporting, gone, heard, importing, is_no_neighbour, joined, last_session, next, receive, recomputed, refused, take_from}
 use Rattle.netchange_core.specs.World.{World, changed, holder, is_up, neighbour_at}
-use Rattle.filter_verifier.specs.VerifiedView.{VerifiedView}
 use Rattle.routing_domain.specs.Domain.{Domain, IsInOrder, IsQuiet, IsWithin, are_linked, neighbour}
 use Rattle.routing_domain.specs.Events.{CanLink, cuts, enters, links}
 use Rattle.routing_domain.specs.Steps.{IsNext, hears, sends, with_router}

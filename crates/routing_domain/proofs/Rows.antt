@@ -1,6 +1,6 @@
 -- Worked rows of the definitions: a line of three nodes, and a filter that lowers distances, under which a loop stands at rest.
-use Rattle.std.proofs.Common.{◌≡◌, ℕ, ◌-◌, ◌<◌, ◌≤◌, zero, suc, Bool, true, false, List, [], ◌∷◌, slice_index, refl, arith}
-use Rattle.std.specs.Prelude.{◌==◌, ◌||◌, ◌≢◌}
+use Rattle.std.proofs.Common.{◌≡◌, ℕ, ◌-◌, ◌<◌, ◌≤◌, zero, suc, true, false, [], ◌∷◌, slice_index, refl, arith}
+use Rattle.std.specs.Prelude.{◌||◌, ◌≢◌}
 use Rattle.routing_domain.specs.Changes.{is_between}
 use Rattle.routing_domain.specs.Rest.{IsLeast, IsRest, LeadsThrough, NeverNearer, Topology}
 

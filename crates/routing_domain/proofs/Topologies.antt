@@ -1,19 +1,17 @@
 -- What there is between the nodes, after a step or an event.
-use Rattle.std.proofs.Common.{◌≡◌, ⊎_elim, ℕ, ◌+◌, ◌<◌, Bool, true, false, cond, nat_eq, nat_le, Option, Some, List, length, refl, sym, ap, subst, ◌∙◌, arith, eq-eqb, ne_eqb}
+use Rattle.std.proofs.Common.{◌≡◌, ⊎_elim, ℕ, ◌+◌, ◌<◌, Bool, true, false, cond, nat_eq, nat_le, Some, List, length, refl, sym, ap, ◌∙◌, arith, eq-eqb}
 use Rattle.std.specs.Prelude.{◌&&◌, ◌||◌, nat_lt}
 use Rattle.std.specs.declared.sync.Arc.{Arc}
 use Rattle.std.proofs.Common.{Global}
 use Rattle.std.proofs.lemmas.Bool.{cases_eq, cond_both, eqb-true, or_from}
 use Rattle.filter_verifier.specs.VerifiedView.{VerifiedView}
-use Rattle.netchange_core.specs.declared.event.Event.{Event}
 use Rattle.netchange_core.specs.declared.event.Event.TheVariants as event
 use Rattle.netchange_core.specs.declared.message.Message.{Message}
 use Rattle.netchange_core.specs.declared.reply.Refusal.TheVariants as refusal
 use Rattle.netchange_core.specs.Best.{distance}
-use Rattle.netchange_core.specs.Next.{Answered, exporting, gone, heard, importing, joined, next, receive, recomputed, refused, relieved}
-use Rattle.netchange_core.specs.OpeningView.{OpeningView}
+use Rattle.netchange_core.specs.Next.{Answered, exporting, gone, heard, importing, joined, receive, recomputed, refused, relieved}
 use Rattle.netchange_core.specs.Pass.{pass}
-use Rattle.netchange_core.specs.World.{NeighbourView, World, changed, is_up, neighbour_at}
+use Rattle.netchange_core.specs.World.{World, changed, is_up, neighbour_at}
 use Rattle.netchange_core.proofs.Change.{changed_at}
 use Rattle.netchange_core.proofs.Goes.{export_goes, import_goes}
 use Rattle.routing_domain.specs.Changes.{is_between, is_pair, with_link, with_toll, without_link}
