@@ -37,14 +37,18 @@ pub record IsSize (size : ℕ) : Type 0 where
   pub from_two : smallest_size ≤ size
   pub to_largest : size ≤ largest_size
 
--- each node has a prefix and a place for each node; links are mutual, and none leads back to its node; the filters were
+-- there is a place for each two nodes
+pub record HasPlaces (p : PlanView) : Type 0 where
+  pub rows : length p.rows ≡ p.size
+  pub places : (u : ℕ) → u < p.size → length (slice_index_or p.rows u []) ≡ p.size
+
+-- each node has a prefix, and there is a place for each two; links are mutual, and none leads back to its node; the filters were
 -- verified for the size
 pub record IsPlan (p : PlanView) : Type 0 where
   pub size : IsSize p.size
   pub one_a_node : length p.prefixes ≡ p.size
-  pub rows : length p.rows ≡ p.size
-  pub places : (u : ℕ) → u < p.size → length (slice_index_or p.rows u []) ≡ p.size
+  pub places : HasPlaces p
   pub apart : (u : ℕ) → is_linked p u u ≡ false
-  pub mutual : (u w : ℕ) → is_linked p u w ≡ is_linked p w u
+  pub both_ways : (u w : ℕ) → is_linked p u w ≡ is_linked p w u
   pub imports : (u w : ℕ) → FitsSize p.size (peer p u w).imports
   pub exports : (u w : ℕ) → FitsSize p.size (peer p u w).exports

@@ -1,7 +1,7 @@
 //! The route of a node to the destination.
 
-ghost use Rattle.std.specs.Prelude.{◌≡◌};
-ghost use Rattle.domain_routes.specs.Offers.{better};
+ghost use Rattle.std.specs.Prelude.{◌≡◌, suc};
+ghost use Rattle.domain_routes.specs.Offers.{IsBetter, hop_of};
 
 use netchange_core::Via;
 
@@ -14,17 +14,24 @@ pub struct Best {
     pub via: Via,
 }
 
-/// The better of a route and one through this neighbour, one more than what its distance comes to. Of two that are as
-/// short, the one through the neighbour of the lesser number.
-pub(crate) fn better(route: Best, hop: u16, toll: u16) -> Best
-    ensures { result ≡ better route hop toll }
+/// The number that decides between routes of one distance: that of the next hop, if there is one.
+fn hop_of(via: Via) -> u16
+    ensures { result ≡ hop_of via }
 {
-    let is_better = match route.via {
-        Via::Local => false,
-        Via::Node(other) => toll < route.dist && (toll + 1 < route.dist || hop < other),
-        Via::Nowhere => u32::from(toll) + 1 < u32::from(route.dist),
-    };
-    if is_better {
+    match via {
+        Via::Node(hop) => hop,
+        Via::Local | Via::Nowhere => 0,
+    }
+}
+
+/// The better of a route and the way through a neighbour, one more than what its distance comes to. Of two that are as
+/// short, the one through the neighbour of the lesser number.
+pub(crate) fn better(route: Best, toll: u16, hop: u16) -> Best
+    ensures { IsBetter route (suc toll) hop result }
+{
+    let length = u32::from(toll) + 1;
+    let dist = u32::from(route.dist);
+    if length < dist || (length == dist && hop < hop_of(route.via)) {
         Best {
             dist: toll + 1,
             via: Via::Node(hop),

@@ -102,10 +102,10 @@ impl Plan {
         requires u { u < self.now.size }
         requires w { w < self.now.size }
         ensures value { result ≡ is_linked self.now u w }
-        ensures mutual { is_linked self.now w u ≡ is_linked self.now u w }
+        ensures both_ways { is_linked self.now w u ≡ is_linked self.now u w }
         ensures apart { is_linked self.now u u ≡ false }
     {
-        self.peer(u, w).is_linked()
+        self.rows[usize::from(u)].peer(w).is_linked()
     }
 
     /// There is a link between two nodes from now on, or none.

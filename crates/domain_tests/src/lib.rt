@@ -2,4 +2,8 @@
 #![tactic(auto)]
 
 #[cfg(test)]
+mod plans;
+#[cfg(test)]
 mod routes_tests;
+#[cfg(test)]
+mod small_plans_tests;

@@ -1,35 +1,53 @@
-//! The routes of plans, against worked rows.
+//! The routes of plans: worked rows, and small plans against all distances that there could be.
 
+use crate::plans::{filter, unlinked};
 use domain_routes::{Best, Plan};
-use filter_source::{compile_text, verify_code};
-use filter_verifier::Verified;
 use netchange_core::Via;
 use prefix_patterns::{Ip, Prefix};
 use std::alloc::Global;
 use std::process::Abort;
-use std::sync::Arc;
 use std::test::Fail;
 
-/// A plan of so many nodes, whose prefixes are 10.V.0.0/16, with these links.
-fn plan(alloc: Global, size: u16, links: &[(u16, u16)]) -> Result<Plan, Fail> {
-    let mut prefixes = Vec::new(alloc);
-    for node in 0..size {
-        let ip = Ip(0x0a00_0000 + 0x1_0000 * u32::from(node % 256));
-        prefixes.push(Prefix::new(ip, 16).ok_or("16 bits")?)?;
-    }
-    let mut plan = Plan::new(alloc, prefixes)?.ok_or("a domain")?;
-    for (u, w) in links {
-        if *u < plan.size() && *w < plan.size() && u != w {
-            plan.link(*u, *w);
-        }
-    }
-    Ok(plan)
+/// A change of a plan.
+#[derive(Clone, Copy, Debug)]
+enum Edit {
+    Link(u16, u16),
+    Cut(u16, u16),
+    Import(u16, u16, &'static [u8]),
+    Export(u16, u16, &'static [u8]),
 }
 
-/// A filter's text, compiled and verified for a plan.
-fn filter(alloc: Global, text: &[u8], plan: &Plan) -> Result<Arc<Verified>, Fail> {
-    let code = compile_text(alloc, text)?;
-    Ok(Arc::new(alloc, verify_code(alloc, code, u32::from(plan.size()))?)?)
+/// The two nodes that an edit is about.
+fn nodes_of(edit: Edit) -> (u16, u16) {
+    match edit {
+        Edit::Link(u, w) | Edit::Cut(u, w) => (u, w),
+        Edit::Import(u, w, _) | Edit::Export(u, w, _) => (u, w),
+    }
+}
+
+/// Changes a plan.
+fn edit(alloc: Global, plan: &mut Plan, edit: Edit) -> Result<(), Fail> {
+    let (u, w) = nodes_of(edit);
+    if u == w || u >= plan.size() || w >= plan.size() {
+        return Err("two nodes".into());
+    }
+    match edit {
+        Edit::Link(_, _) => plan.link(u, w),
+        Edit::Cut(_, _) => plan.cut(u, w),
+        Edit::Import(_, _, text) => {
+            let filter = filter(alloc, text, plan)?;
+            if filter.size() == u32::from(plan.size()) {
+                plan.set_import(u, w, filter);
+            }
+        }
+        Edit::Export(_, _, text) => {
+            let filter = filter(alloc, text, plan)?;
+            if filter.size() == u32::from(plan.size()) {
+                plan.set_export(u, w, filter);
+            }
+        }
+    }
+    Ok(())
 }
 
 /// Asserts the routes to a node.
@@ -58,20 +76,142 @@ fn expect_routes(
     Ok(())
 }
 
-#[test]
-fn a_ring_of_five(rt: HostRuntime) -> Result<(), Fail> {
-    let plan = plan(rt.alloc(), 5, &[(0, 1), (1, 2), (2, 3), (3, 4), (4, 0)])?;
-    expect_routes(
-        &rt,
-        rt.alloc(),
-        &plan,
+const RING: [Edit; 5] = [
+    Edit::Link(0, 1),
+    Edit::Link(1, 2),
+    Edit::Link(2, 3),
+    Edit::Link(3, 4),
+    Edit::Link(4, 0),
+];
+
+const UP2: &[u8] = b"filter up2 { rip_metric = rip_metric + 2; accept; }";
+
+const UP1: &[u8] = b"filter up1 { rip_metric = rip_metric + 1; accept; }";
+
+/// Edits of the plan of five nodes, one after another, and the routes to a node after them.
+const ROWS: [(&[Edit], u16, [(u16, Via); 5]); 8] = [
+    (
+        &[],
+        3,
+        [
+            (5, Via::Nowhere),
+            (5, Via::Nowhere),
+            (5, Via::Nowhere),
+            (0, Via::Local),
+            (5, Via::Nowhere),
+        ],
+    ),
+    (
+        &RING,
         0,
-        &[
+        [
             (0, Via::Local),
             (1, Via::Node(0)),
             (2, Via::Node(1)),
             (2, Via::Node(4)),
             (1, Via::Node(0)),
         ],
-    )
+    ),
+    // two ways of one length: the least next hop, also where it is done later
+    (
+        &[Edit::Link(1, 4)],
+        0,
+        [
+            (0, Via::Local),
+            (1, Via::Node(0)),
+            (2, Via::Node(1)),
+            (2, Via::Node(4)),
+            (1, Via::Node(0)),
+        ],
+    ),
+    (
+        &[Edit::Cut(1, 4), Edit::Import(0, 4, UP2)],
+        3,
+        [
+            (3, Via::Node(1)),
+            (2, Via::Node(2)),
+            (1, Via::Node(3)),
+            (0, Via::Local),
+            (1, Via::Node(3)),
+        ],
+    ),
+    (
+        &[Edit::Cut(0, 1)],
+        3,
+        [
+            (4, Via::Node(4)),
+            (2, Via::Node(2)),
+            (1, Via::Node(3)),
+            (0, Via::Local),
+            (1, Via::Node(3)),
+        ],
+    ),
+    // an import at one end is no export at the other, and none at the other end
+    (
+        &[],
+        0,
+        [
+            (0, Via::Local),
+            (4, Via::Node(2)),
+            (3, Via::Node(3)),
+            (2, Via::Node(4)),
+            (1, Via::Node(0)),
+        ],
+    ),
+    (
+        &[Edit::Export(0, 4, UP1), Edit::Link(1, 0)],
+        0,
+        [
+            (0, Via::Local),
+            (1, Via::Node(0)),
+            (2, Via::Node(1)),
+            (3, Via::Node(2)),
+            (2, Via::Node(0)),
+        ],
+    ),
+    // an equal way through a node that is done later, whose number is less
+    (
+        &[
+            Edit::Link(4, 2),
+            Edit::Link(3, 4),
+            Edit::Export(2, 3, UP1),
+            Edit::Export(4, 3, b"filter same { accept; }"),
+        ],
+        1,
+        [
+            (1, Via::Node(1)),
+            (0, Via::Local),
+            (1, Via::Node(1)),
+            (3, Via::Node(2)),
+            (2, Via::Node(2)),
+        ],
+    ),
+];
+
+#[test]
+fn plans_of_five_nodes(rt: HostRuntime) -> Result<(), Fail> {
+    let mut plan = unlinked(rt.alloc(), 5)?;
+    for (edits, node, wanted) in &ROWS {
+        for change in *edits {
+            edit(rt.alloc(), &mut plan, *change)?;
+        }
+        expect_routes(&rt, rt.alloc(), &plan, *node, wanted.as_slice())?;
+    }
+    Ok(())
+}
+
+#[test]
+fn plans_have_2_to_250_nodes(rt: HostRuntime) -> Result<(), Fail> {
+    for (size, is_plan) in [(0, false), (1, false), (2, true), (250, true), (251, false)] {
+        let mut prefixes = Vec::new(rt.alloc());
+        for _ in 0..size {
+            prefixes.push(Prefix::new(Ip(0), 8).ok_or("8 bits")?)?;
+        }
+        assert_eq!(rt;
+            Plan::new(rt.alloc(), prefixes)?.is_some(),
+            is_plan,
+            "{size}"
+        );
+    }
+    Ok(())
 }

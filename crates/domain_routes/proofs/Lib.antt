@@ -1,0 +1,10 @@
+pub mod Filtering
+pub mod Finished
+pub mod Increasing
+pub mod Kept
+pub mod Linking
+pub mod Offering
+pub mod Places
+pub mod Started
+pub mod Unlinked
+pub mod Waiting
