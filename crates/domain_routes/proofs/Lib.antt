@@ -1,10 +1,11 @@
 pub mod Filtering
-pub mod Finished
 pub mod Increasing
 pub mod Kept
 pub mod Linking
+pub mod OfDomain
 pub mod Offering
+pub mod One
 pub mod Places
-pub mod Started
 pub mod Unlinked
+pub mod Values
 pub mod Waiting

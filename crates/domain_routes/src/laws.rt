@@ -27,6 +27,6 @@ pub fn rest_is_of_the_domain()
 
 /// A plan has just one list of routes to a node.
 pub fn routes_are_one()
-    ensures alone { (p : PlanView) → IsPlan p → (v : ℕ) → (a b : List Best) →
+    ensures alone { (p : PlanView) → (v : ℕ) → (a b : List Best) →
         AreRoutes (topology p v) v a → AreRoutes (topology p v) v b → a ≡ b }
 {}
