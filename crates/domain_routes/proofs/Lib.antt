@@ -6,6 +6,7 @@ pub mod OfDomain
 pub mod Offering
 pub mod One
 pub mod Places
+pub mod Quiet
 pub mod Unlinked
 pub mod Values
 pub mod Waiting

@@ -10,5 +10,7 @@ mod row;
 mod solving;
 
 pub use best::Best;
-pub use laws::{edits_change_one_place, rest_is_of_the_domain, routes_are_one};
+pub use laws::{
+    edits_change_one_place, quiet_routers_have_the_routes, rest_is_of_the_domain, routes_are_one,
+};
 pub use plan::Plan;

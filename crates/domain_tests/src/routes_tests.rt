@@ -18,20 +18,20 @@ enum Edit {
 }
 
 /// The two nodes that an edit is about.
-fn nodes_of(edit: Edit) -> (u16, u16) {
-    match edit {
+fn nodes_of(change: Edit) -> (u16, u16) {
+    match change {
         Edit::Link(u, w) | Edit::Cut(u, w) => (u, w),
         Edit::Import(u, w, _) | Edit::Export(u, w, _) => (u, w),
     }
 }
 
 /// Changes a plan.
-fn edit(alloc: Global, plan: &mut Plan, edit: Edit) -> Result<(), Fail> {
-    let (u, w) = nodes_of(edit);
+fn apply(alloc: Global, plan: &mut Plan, change: Edit) -> Result<(), Fail> {
+    let (u, w) = nodes_of(change);
     if u == w || u >= plan.size() || w >= plan.size() {
         return Err("two nodes".into());
     }
-    match edit {
+    match change {
         Edit::Link(_, _) => plan.link(u, w),
         Edit::Cut(_, _) => plan.cut(u, w),
         Edit::Import(_, _, text) => {
@@ -169,21 +169,21 @@ const ROWS: [(&[Edit], u16, [(u16, Via); 5]); 8] = [
             (2, Via::Node(0)),
         ],
     ),
-    // an equal way through a node that is done later, whose number is less
+    // ways of one length from 2: through 3, which is done first, and through 1, whose number is less
     (
         &[
-            Edit::Link(4, 2),
-            Edit::Link(3, 4),
-            Edit::Export(2, 3, UP1),
-            Edit::Export(4, 3, b"filter same { accept; }"),
+            Edit::Cut(0, 1),
+            Edit::Link(3, 0),
+            Edit::Link(3, 1),
+            Edit::Export(3, 2, UP1),
         ],
-        1,
+        0,
         [
-            (1, Via::Node(1)),
             (0, Via::Local),
-            (1, Via::Node(1)),
-            (3, Via::Node(2)),
-            (2, Via::Node(2)),
+            (2, Via::Node(3)),
+            (3, Via::Node(1)),
+            (1, Via::Node(0)),
+            (2, Via::Node(0)),
         ],
     ),
 ];
@@ -193,7 +193,7 @@ fn plans_of_five_nodes(rt: HostRuntime) -> Result<(), Fail> {
     let mut plan = unlinked(rt.alloc(), 5)?;
     for (edits, node, wanted) in &ROWS {
         for change in *edits {
-            edit(rt.alloc(), &mut plan, *change)?;
+            apply(rt.alloc(), &mut plan, *change)?;
         }
         expect_routes(&rt, rt.alloc(), &plan, *node, wanted.as_slice())?;
     }

@@ -181,7 +181,7 @@ fn expect_rest(rt: &impl Abort, alloc: Global, small: Small) -> Result<(), Fail>
 #[test]
 fn small_plans_have_one_rest(rt: HostRuntime) -> Result<(), Fail> {
     for size in 2..5 {
-        for number in 0..300 {
+        for number in 0..60 {
             expect_rest(&rt, rt.alloc(), Small { size, number })?;
         }
     }
