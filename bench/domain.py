@@ -1,5 +1,5 @@
 #!/usr/bin/env python3
-"""Writes an input of `ncroute domain`: a domain with random links and a filter of ten instructions at both ends of each, for
+"""Writes an input of `ncroute domain`: a domain with random links and filters at both ends of each, for
 what is heard and for what is told; then `table U` for each node.
 
 usage: domain.py [NODES [LINKS [SEED]]]
@@ -16,7 +16,7 @@ NODES = 250
 LINKS = 1_000
 SEED = 1
 
-# Two filters of ten instructions: one adds to the metric where it is small, one refuses a few prefixes' routes that are long.
+# Two filters, whose runs take at most 11 and 10 instructions: one adds to the metric where it is small, one refuses a few prefixes' routes that are long.
 FILTERS = {
     "near": "filter near { if rip_metric < 9 then rip_metric = rip_metric + 1; accept; }",
     "far": "filter far { if net ~ [ 10.7.0.0/16, 10.9.0.0/16 ] && rip_metric > 99 then reject; accept; }",

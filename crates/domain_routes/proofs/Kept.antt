@@ -32,10 +32,10 @@ pub keeps : (m : Topology) (to : ℕ) (old new : ℕ → Best) (before after : �
 keeps m to old new before after w r u short near =
     ⊎_elim
     (λ linked. ⊎_elim
-        (λ taken. absurd (not_before (old u) (suc (m.toll u w (old w).dist)) w
-            (omega (arith, longer m to old new before after w r u short, near)) (taken.1)))
-        (λ kept. kept.0)
-        ((r.offered u short).taken linked))
+    (λ taken. absurd (not_before (old u) (suc (m.toll u w (old w).dist)) w
+    (omega (arith, longer m to old new before after w r u short, near)) (taken.1)))
+    (λ kept. kept.0)
+    ((r.offered u short).taken linked))
     (λ apart. (r.offered u short).kept apart)
     (cases_Bool (m.linked u w))
 
@@ -45,9 +45,9 @@ pub keeps_done : (m : Topology) (to : ℕ) (old new : ℕ → Best) (before afte
 keeps_done m to old new before after w r x short done =
     keeps m to old new before after w r x short
     (⊎_elim
-        (λ same. omega (arith, ap (λ n. (old n).dist) same))
-        (λ other. r.settled.order x w short r.nearest.member (sym (r.others x other) ∙ done) r.nearest.waits)
-        (cases_eq x w))
+    (λ same. omega (arith, ap (λ n. (old n).dist) same))
+    (λ other. r.settled.order x w short r.nearest.member (sym (r.others x other) ∙ done) r.nearest.waits)
+    (cases_eq x w))
 
 -- a node's route changes only for a shorter one or as short a one
 pub no_farther : (m : Topology) (to : ℕ) (old new : ℕ → Best) (before after : ℕ → Bool) (w : ℕ) → IsRound m to old new before after w →
@@ -55,10 +55,10 @@ pub no_farther : (m : Topology) (to : ℕ) (old new : ℕ → Best) (before afte
 no_farther m to old new before after w r u short =
     ⊎_elim
     (λ linked. ⊎_elim
-        (λ taken. ⊎_elim
-            (λ shorter. omega (arith, ap dist taken.0, shorter)) (λ tie. omega (arith, ap dist taken.0, tie.0)) (taken.1))
-        (λ kept. omega (arith, ap dist kept.0))
-        ((r.offered u short).taken linked))
+    (λ taken. ⊎_elim
+    (λ shorter. omega (arith, ap dist taken.0, shorter)) (λ tie. omega (arith, ap dist taken.0, tie.0)) (taken.1))
+    (λ kept. omega (arith, ap dist kept.0))
+    ((r.offered u short).taken linked))
     (λ apart. omega (arith, ap dist ((r.offered u short).kept apart)))
     (cases_Bool (m.linked u w))
   where
@@ -72,9 +72,9 @@ no_nearer m to old new before after w r u short waits =
     let far : (old w).dist ≤ (old u).dist = r.nearest.least u short waits in
     ⊎_elim
     (λ linked. ⊎_elim
-        (λ taken. omega (arith, longer m to old new before after w r u short, ap dist taken.0))
-        (λ kept. omega (arith, far, ap dist kept.0))
-        ((r.offered u short).taken linked))
+    (λ taken. omega (arith, longer m to old new before after w r u short, ap dist taken.0))
+    (λ kept. omega (arith, far, ap dist kept.0))
+    ((r.offered u short).taken linked))
     (λ apart. omega (arith, far, ap dist ((r.offered u short).kept apart)))
     (cases_Bool (m.linked u w))
   where

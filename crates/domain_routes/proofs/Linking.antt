@@ -21,9 +21,9 @@ cases_ends u w x y =
     ⊎_elim
     (λ (one : (x ≡ u) × (y ≡ w)). inl (inl one))
     (λ (no : x ≡ u → y ≡ w → ⊥). ⊎_elim
-        (λ (two : (x ≡ w) × (y ≡ u)). inl (inr two))
-        (λ (nor : x ≡ w → y ≡ u → ⊥). inr (λ (ends : AreEnds u w x y). ⊎_elim (λ one. no (one.0) (one.1)) (λ two. nor (two.0) (two.1)) ends))
-        (cases_place w u x y))
+    (λ (two : (x ≡ w) × (y ≡ u)). inl (inr two))
+    (λ (nor : x ≡ w → y ≡ u → ⊥). inr (λ (ends : AreEnds u w x y). ⊎_elim (λ one. no (one.0) (one.1)) (λ two. nor (two.0) (two.1)) ends))
+    (cases_place w u x y))
     (cases_place u w x y)
 
 ends_back : (u w x y : ℕ) → AreEnds u w x y → AreEnds u w y x
@@ -40,13 +40,13 @@ linked_here p u w linked l x y ends =
     let half : PlanView = half_linking linked u w p in
     ⊎_elim
     (λ (one : (x ≡ u) × (y ≡ w)).
-        ap (λ (c : PeerView). c.linked)
-        (put_there half w u (record (peer half w u) { linked = linked }) (half_places p u w linked l) l.to x y
-            (λ same _. l.apart (sym (one.0) ∙ same))
-        ∙ put_here p u w (record (peer p u w) { linked = linked }) l.plan.places l.from l.to x y (one.0) (one.1)))
+    ap (λ (c : PeerView). c.linked)
+    (put_there half w u (record (peer half w u) { linked = linked }) (half_places p u w linked l) l.to x y
+    (λ same _. l.apart (sym (one.0) ∙ same))
+    ∙ put_here p u w (record (peer p u w) { linked = linked }) l.plan.places l.from l.to x y (one.0) (one.1)))
     (λ (two : (x ≡ w) × (y ≡ u)).
-        ap (λ (c : PeerView). c.linked)
-        (put_here half w u (record (peer half w u) { linked = linked }) (half_places p u w linked l) l.to l.from x y (two.0) (two.1)))
+    ap (λ (c : PeerView). c.linked)
+    (put_here half w u (record (peer half w u) { linked = linked }) (half_places p u w linked l) l.to l.from x y (two.0) (two.1)))
     ends
 
 -- and between no others
@@ -80,7 +80,7 @@ linking_plan p u w linked l =
       both_ways = λ x y. ⊎_elim
           (λ ends. linked_here p u w linked l x y ends ∙ sym (linked_here p u w linked l y x (ends_back u w x y ends)))
           (λ other. linked_there p u w linked l x y other ∙ l.plan.both_ways x y
-              ∙ sym (linked_there p u w linked l y x (λ ends. other (ends_back u w y x ends))))
+          ∙ sym (linked_there p u w linked l y x (λ ends. other (ends_back u w y x ends))))
           (cases_ends u w x y);
       imports = λ x y. subst (FitsSize p.size) (sym (linking_keeps (λ (c : PeerView). c.imports) (λ _ _. refl) p u w linked l x y)) (l.plan.imports x y);
       exports = λ x y. subst (FitsSize p.size) (sym (linking_keeps (λ (c : PeerView). c.exports) (λ _ _. refl) p u w linked l x y)) (l.plan.exports x y);

@@ -59,7 +59,7 @@ pub of_domain : (d : Domain) (p : PlanView) → IsPlanOf d p → (v : ℕ) (dist
 of_domain d p s v dist r =
     rest_alike (topology p v) (domain_topology d v)
     (record {
-        size = sym s.size;
-        linked = λ u w short within. sym (s.linked u w short within);
-        toll = λ u w x short within. toll_alike d p s v u w x short within;
+      size = sym s.size;
+      linked = λ u w short within. sym (s.linked u w short within);
+      toll = λ u w x short within. toll_alike d p s v u w x short within;
     }) v dist r

@@ -33,9 +33,9 @@ behind_still : (m : Topology) (to : ℕ) (old new : ℕ → Best) (before after 
 behind_still m to old new before after w r u route here there x short done linked =
     subst (λ (b : Best). StaysBehind (suc (m.toll u x b.dist)) x route) (sym (keeps_done m to old new before after w r x short done))
     (⊎_elim
-        (λ (same : x ≡ w). subst (λ n. m.linked u n ≡ true → StaysBehind (suc (m.toll u n (old n).dist)) n route) (sym same) here linked)
-        (λ (other : x ≡ w → ⊥). there x short (sym (r.others x other) ∙ done) linked)
-        (cases_eq x w))
+    (λ (same : x ≡ w). subst (λ n. m.linked u n ≡ true → StaysBehind (suc (m.toll u n (old n).dist)) n route) (sym same) here linked)
+    (λ (other : x ≡ w → ⊥). there x short (sym (r.others x other) ∙ done) linked)
+    (cases_eq x w))
 
 -- a route that stays is the best so far
 best_kept : (m : Topology) (to : ℕ) (old new : ℕ → Best) (before after : ℕ → Bool) (w : ℕ) → IsRound m to old new before after w →
@@ -59,11 +59,13 @@ behind_way : (length hop : ℕ) (route : Best) → ComesBefore length hop route 
 behind_way length hop route comes more other behind =
     ⊎_elim
     (λ (shorter : length < route.dist). record {
-        near = omega (arith, shorter, behind.near);
-        first = λ same. absurd (omega (arith, shorter, behind.near, same)) })
+      near = omega (arith, shorter, behind.near);
+      first = λ same. absurd (omega (arith, shorter, behind.near, same));
+    })
     (λ (tie : (length ≡ route.dist) × (hop < hop_of route.via)). record {
-        near = omega (arith, tie.0, behind.near);
-        first = λ same. omega (arith, tie.1, behind.first (sym (tie.0) ∙ same)) })
+      near = omega (arith, tie.0, behind.near);
+      first = λ same. omega (arith, tie.1, behind.first (sym (tie.0) ∙ same));
+    })
     comes
 
 -- a way that is taken is the best so far
@@ -79,10 +81,10 @@ best_taken m to old new before after w r u short best linked comes =
         linked = linked;
         one_more = ap (λ (b : Best). suc (m.toll u w b.dist)) (sym (keeps_done m to old new before after w r w r.nearest.member r.done));
         in_reach = ⊎_elim
-        (λ (shorter : suc (m.toll u w (old w).dist) < (old u).dist). omega (arith, shorter, r.settled.bounded u short))
-        (λ (tie : (suc (m.toll u w (old w).dist) ≡ (old u).dist) × (w < hop_of (old u).via)).
+            (λ (shorter : suc (m.toll u w (old w).dist) < (old u).dist). omega (arith, shorter, r.settled.bounded u short))
+            (λ (tie : (suc (m.toll u w (old w).dist) ≡ (old u).dist) × (w < hop_of (old u).via)).
             omega (arith, tie.0, tie_in_reach m old before u (old u).dist w (old u).via best.found (tie.1)))
-        comes;
+            comes;
       };
       behind = λ x within done there. behind_still m to old new before after w r u (way (suc (m.toll u w (old w).dist)) w)
           (λ _. record { near = omega arith; first = λ _. omega arith })
@@ -96,14 +98,14 @@ best_after m to old new before after w r u short other =
     let best : IsBestSoFar m old before u (old u) = r.settled.best u short other in
     ⊎_elim
     (λ (linked : m.linked u w ≡ true). ⊎_elim
-        (λ (taken : (new u ≡ way (suc (m.toll u w (old w).dist)) w) × ComesBefore (suc (m.toll u w (old w).dist)) w (old u)).
-            subst (IsBestSoFar m new after u) (sym (taken.0)) (best_taken m to old new before after w r u short best linked (taken.1)))
-        (λ (kept : (new u ≡ old u) × StaysBehind (suc (m.toll u w (old w).dist)) w (old u)).
-            subst (IsBestSoFar m new after u) (sym (kept.0)) (best_kept m to old new before after w r u best (λ _. kept.1)))
-        ((r.offered u short).taken linked))
+    (λ (taken : (new u ≡ way (suc (m.toll u w (old w).dist)) w) × ComesBefore (suc (m.toll u w (old w).dist)) w (old u)).
+    subst (IsBestSoFar m new after u) (sym (taken.0)) (best_taken m to old new before after w r u short best linked (taken.1)))
+    (λ (kept : (new u ≡ old u) × StaysBehind (suc (m.toll u w (old w).dist)) w (old u)).
+    subst (IsBestSoFar m new after u) (sym (kept.0)) (best_kept m to old new before after w r u best (λ _. kept.1)))
+    ((r.offered u short).taken linked))
     (λ (apart : m.linked u w ≡ false).
-        subst (IsBestSoFar m new after u) (sym ((r.offered u short).kept apart))
-        (best_kept m to old new before after w r u best (λ linked. absurd (false≢true (sym apart ∙ linked)))))
+    subst (IsBestSoFar m new after u) (sym ((r.offered u short).kept apart))
+    (best_kept m to old new before after w r u best (λ linked. absurd (false≢true (sym apart ∙ linked)))))
     (cases_Bool (m.linked u w))
 
 -- no node that waits is nearer than one that is done
@@ -116,8 +118,12 @@ order_after m to old new before after w r x u short within done waits =
     (λ other. r.settled.order x w short r.nearest.member (sym (r.others x other) ∙ done) r.nearest.waits)
     (cases_eq x w) in
     let other : u ≢ w = λ same. false≢true (sym waits ∙ ap after same ∙ r.done) in
-    omega (arith, near, ap (λ (b : Best). b.dist) (keeps_done m to old new before after w r x short done),
-    no_nearer m to old new before after w r u within (sym (r.others u other) ∙ waits))
+    omega (
+      arith,
+      near,
+      ap (λ (b : Best). b.dist) (keeps_done m to old new before after w r x short done),
+      no_nearer m to old new before after w r u within (sym (r.others u other) ∙ waits),
+    )
 
 pub round_settles : (m : Topology) (to : ℕ) (old new : ℕ → Best) (before after : ℕ → Bool) (w : ℕ) → IsRound m to old new before after w →
     AreBestSoFar m to new after

@@ -32,9 +32,9 @@ one_via m to a b ab ba u short (Node v) (Node w) p q =
     ⊎_elim
     (λ (same : v ≡ w). ap Node same)
     (λ (other : (v < w) ⊎ (w < v)). ⊎_elim
-        (λ (less : v < w). absurd (q.first v less (leads_too m to a b ab u v short p.leads)))
-        (λ (more : w < v). absurd (p.first w more (leads_too m to b a ba u w short q.leads)))
-        other)
+    (λ (less : v < w). absurd (q.first v less (leads_too m to a b ab u v short p.leads)))
+    (λ (more : w < v). absurd (p.first w more (leads_too m to b a ba u w short q.leads)))
+    other)
     (cases_order v w)
 one_via m to a b ab ba u short (Node v) Nowhere p q = absurd (omega (arith, p.leads.in_reach, ab u short, q.1))
 one_via m to a b ab ba u short Nowhere Local p q = absurd (p.0 q)
@@ -52,7 +52,7 @@ one m to n a b ra rb =
     let ab : AreSame m (λ u. (route_at m.size a u).dist) (λ u. (route_at m.size b u).dist) =
     alone m to (λ u. (route_at m.size a u).dist) (λ u. (route_at m.size b u).dist) n ra.rest rb.rest in
     ext_get_or (nowhere m.size) a b (ra.one_a_node ∙ sym rb.one_a_node) (λ u less.
-        let short : u < m.size = omega (arith, less, ra.one_a_node) in
-        route_of_parts (route_at m.size a u) (route_at m.size b u) (ab u short)
-        (one_via m to (λ x. (route_at m.size a x).dist) (λ x. (route_at m.size b x).dist) ab (λ x within. sym (ab x within)) u short
-            (route_at m.size a u).via (route_at m.size b u).via (ra.vias u short) (rb.vias u short)))
+    let short : u < m.size = omega (arith, less, ra.one_a_node) in
+    route_of_parts (route_at m.size a u) (route_at m.size b u) (ab u short)
+    (one_via m to (λ x. (route_at m.size a x).dist) (λ x. (route_at m.size b x).dist) ab (λ x within. sym (ab x within)) u short
+    (route_at m.size a u).via (route_at m.size b u).via (ra.vias u short) (rb.vias u short)))

@@ -27,10 +27,10 @@ pub put_there : (p : PlanView) (u w : ℕ) (c : PeerView) → HasPlaces p → u 
 put_there p u w c h short x y other =
     ⊎_elim
     (λ (same : x ≡ u).
-        ap (λ n. peer (put u w c p) n y) same
-        ∙ ap (λ (r : List PeerView). slice_index_or r y stranger) (row_here p u w c h short)
-        ∙ get_or-set_other (row p u) w y c stranger (other same)
-        ∙ ap (λ n. peer p n y) (sym same))
+    ap (λ n. peer (put u w c p) n y) same
+    ∙ ap (λ (r : List PeerView). slice_index_or r y stranger) (row_here p u w c h short)
+    ∙ get_or-set_other (row p u) w y c stranger (other same)
+    ∙ ap (λ n. peer p n y) (sym same))
     (λ (apart : x ≢ u). ap (λ (r : List PeerView). slice_index_or r y stranger) (row_there p u w c x apart))
     (cases_eq x u)
 
@@ -39,7 +39,7 @@ put_places p u w c h short = record {
   rows = length-set p.rows u (slice_set (row p u) w c) ∙ h.rows;
   places = λ x within. ⊎_elim
       (λ (same : x ≡ u). ap (λ n. length (row (put u w c p) n)) same ∙ ap (λ (r : List PeerView). length r) (row_here p u w c h short)
-          ∙ length-set (row p u) w c ∙ h.places u short)
+      ∙ length-set (row p u) w c ∙ h.places u short)
       (λ (apart : x ≢ u). ap (λ (r : List PeerView). length r) (row_there p u w c x apart) ∙ h.places x within)
       (cases_eq x u);
 }
@@ -67,6 +67,6 @@ pub put_same : {A : Type 0} (f : PeerView → A) (p : PlanView) (u w : ℕ) (c :
 put_same f p u w c h short within same x y =
     ⊎_elim
     (λ (at : (x ≡ u) × (y ≡ w)). ap f (put_here p u w c h short within x y (at.0) (at.1)) ∙ same
-        ∙ ap (λ n. f (peer p n w)) (sym (at.0)) ∙ ap (λ n. f (peer p x n)) (sym (at.1)))
+    ∙ ap (λ n. f (peer p n w)) (sym (at.0)) ∙ ap (λ n. f (peer p x n)) (sym (at.1)))
     (λ (other : x ≡ u → y ≡ w → ⊥). ap f (put_there p u w c h short x y other))
     (cases_place u w x y)

@@ -16,13 +16,13 @@ of_replicate n i x = ⊎_elim
 strange : (prefixes : List (List Bool)) (u w : ℕ) → peer (unlinked prefixes) u w ≡ stranger
 strange prefixes u w = ⊎_elim
     (λ (less : u < length prefixes).
-        ap (λ (r : List PeerView). slice_index_or r w stranger)
-        (get_or-replicate (length prefixes) u (replicate (length prefixes) stranger) [] less)
-        ∙ of_replicate (length prefixes) w stranger)
+    ap (λ (r : List PeerView). slice_index_or r w stranger)
+    (get_or-replicate (length prefixes) u (replicate (length prefixes) stranger) [] less)
+    ∙ of_replicate (length prefixes) w stranger)
     (λ (more : length prefixes ≤ u).
-        ap (λ (r : List PeerView). slice_index_or r w stranger)
-        (get_or_past (replicate (length prefixes) (replicate (length prefixes) stranger)) u []
-            (omega (arith, length-replicate (length prefixes) (replicate (length prefixes) stranger), more))))
+    ap (λ (r : List PeerView). slice_index_or r w stranger)
+    (get_or_past (replicate (length prefixes) (replicate (length prefixes) stranger)) u []
+    (omega (arith, length-replicate (length prefixes) (replicate (length prefixes) stranger), more))))
     (cases_lt u (length prefixes))
 
 pub unlinked_plan : (prefixes : List (List Bool)) → IsSize (length prefixes) → IsPlan (unlinked prefixes)
@@ -30,10 +30,10 @@ unlinked_plan prefixes size = record {
   size = size;
   one_a_node = refl;
   places = record {
-      rows = length-replicate (length prefixes) (replicate (length prefixes) stranger);
-      places = λ u short. ap (λ (r : List PeerView). length r)
-          (get_or-replicate (length prefixes) u (replicate (length prefixes) stranger) [] short)
-          ∙ length-replicate (length prefixes) stranger;
+    rows = length-replicate (length prefixes) (replicate (length prefixes) stranger);
+    places = λ u short. ap (λ (r : List PeerView). length r)
+        (get_or-replicate (length prefixes) u (replicate (length prefixes) stranger) [] short)
+        ∙ length-replicate (length prefixes) stranger;
   };
   apart = λ u. ap (λ (c : PeerView). c.linked) (strange prefixes u u);
   both_ways = λ u w. ap (λ (c : PeerView). c.linked) (strange prefixes u w ∙ sym (strange prefixes w u));

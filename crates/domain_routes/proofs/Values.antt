@@ -22,9 +22,9 @@ pub put_value : (p : PlanView) (u w : ℕ) (c : PeerView) → IsPlan p → u < p
 put_value p u w c plan from to x y =
     ⊎_elim
     (λ (at : (x ≡ u) × (y ≡ w)). put_here p u w c plan.places from to x y (at.0) (at.1)
-        ∙ ap (λ (b : Bool). if b then c else peer p x y) (sym (both_are u w x y (at.0) (at.1))))
+    ∙ ap (λ (b : Bool). if b then c else peer p x y) (sym (both_are u w x y (at.0) (at.1))))
     (λ (other : x ≡ u → y ≡ w → ⊥). put_there p u w c plan.places from x y other
-        ∙ ap (λ (b : Bool). if b then c else peer p x y) (sym (not_both u w x y other)))
+    ∙ ap (λ (b : Bool). if b then c else peer p x y) (sym (not_both u w x y other)))
     (cases_place u w x y)
 
 ends_are : (u w x y : ℕ) → AreEnds u w x y → (((x == u) && (y == w)) || ((x == w) && (y == u))) ≡ true

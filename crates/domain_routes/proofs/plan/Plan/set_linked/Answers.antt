@@ -12,8 +12,9 @@ invariant_of-self c =
     grind (arith, common_steps) in
     let same : slice_set (slice_set c.self.inside.rows.items c.from.result c.set_linked.new.self) c.from-2.result c.set_linked-2.new.self
     ≡ (linking c.args.linked c.args.u c.args.w p).rows = grind (arith, common_steps) in
-    let size = ap (λ (q : PlanView). q.size) c.self.view_is in
-    (c.self.invariant.0,
-    subst (λ (rows : List (List PeerView)). IsPlan (record p { rows = rows })) (sym same)
-    (linking_plan p c.args.u c.args.w c.args.linked
-        (record { plan = c.self.invariant.1; from = omega (arith, size); to = omega (arith, size); apart = c.requires.apart })))
+    let size = ap (λ (q : PlanView). q.size) c.self.view_is in (
+      c.self.invariant.0,
+      subst (λ (rows : List (List PeerView)). IsPlan (record p { rows = rows })) (sym same)
+          (linking_plan p c.args.u c.args.w c.args.linked
+          (record { plan = c.self.invariant.1; from = omega (arith, size); to = omega (arith, size); apart = c.requires.apart })),
+    )
