@@ -9,10 +9,11 @@ use filter_machine::{Verdict, run};
 use filter_verifier::Verified;
 use std::sync::Arc;
 
-/// What a distance to a node becomes under a filter, if there is one.
+/// What a distance to a node becomes under a filter, if there is one. Distances are 0 to the size of the domain, which says
+/// that there is no route; of the opening only the size and the prefixes matter.
 #[tactic(auto, unfolding(crate::specs::Pass::pass))]
 #[inline]
-pub(crate) fn pass(opening: &Opening, filter: &Option<Arc<Verified>>, node: u16, dist: u16) -> u16
+pub fn pass(opening: &Opening, filter: &Option<Arc<Verified>>, node: u16, dist: u16) -> u16
     requires fits { FitsSize opening.now.size (filter_of filter.now) }
     requires node { node < opening.now.size }
     requires reachable { dist ≤ opening.now.size }

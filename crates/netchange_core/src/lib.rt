@@ -24,6 +24,7 @@ mod telling;
 mod up;
 
 pub use event::Event;
+pub use filter::pass;
 pub use laws::best_route_leads;
 pub use message::{Message, Messages};
 pub use opening::Opening;

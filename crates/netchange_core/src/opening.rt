@@ -1,6 +1,6 @@
 //! What a router is opened with.
 
-ghost use Rattle.std.specs.Prelude.{◌≡◌, IfOk, length};
+ghost use Rattle.std.specs.Prelude.{◌≡◌, ◌<◌, IfOk, length, slice_set};
 ghost use Rattle.std.specs.Option.{SomeIff};
 
 use filter_code::{LARGEST_SIZE, SMALLEST_SIZE};
@@ -55,6 +55,14 @@ impl Opening {
             me: self.me,
             prefixes,
         })
+    }
+
+    /// Gives a node another prefix.
+    pub fn set_prefix(&mut self, node: u16, prefix: Prefix)
+        requires { node < self.old.size }
+        ensures { self.new ≡ record self.old { prefixes = slice_set self.old.prefixes node prefix } }
+    {
+        self.prefixes[usize::from(node)] = prefix;
     }
 
     /// The number of nodes of the domain, 2 to 250.

@@ -1,0 +1,12 @@
+pub mod Filtering
+pub mod Increasing
+pub mod Kept
+pub mod Linking
+pub mod OfDomain
+pub mod Offering
+pub mod One
+pub mod Places
+pub mod Quiet
+pub mod Unlinked
+pub mod Values
+pub mod Waiting

@@ -1,0 +1,65 @@
+-- A plan's topology and that of a domain with its links and filters are at rest together.
+use Rattle.std.proofs.Common.{◌≡◌, ◌≢◌, ℕ, suc, ◌<◌, List, Bool, Option, Some, None, true, sym, ap, subst, refl, ◌∙◌, arith}
+use Rattle.filter_verifier.specs.VerifiedView.{VerifiedView}
+use Rattle.netchange_core.specs.OpeningView.{OpeningView}
+use Rattle.netchange_core.specs.Pass.{pass}
+use Rattle.routing_domain.specs.Domain.{Domain, are_linked, exported, imported, neighbour, topology as domain_topology}
+use Rattle.routing_domain.specs.Rest.{IsRest, LeadsThrough, Topology}
+use Rattle.domain_routes.specs.OfDomain.{IsPlanOf}
+use Rattle.domain_routes.specs.PlanView.{PlanView, is_linked, opening_of, peer}
+use Rattle.domain_routes.specs.Topology.{toll, topology}
+
+-- two topologies of one size, with the same links and tolls between their nodes
+record AreAlike (m n : Topology) : Type 0 where
+  size : m.size ≡ n.size
+  linked : (u w : ℕ) → u < m.size → w < m.size → m.linked u w ≡ n.linked u w
+  toll : (u w x : ℕ) → u < m.size → w < m.size → m.toll u w x ≡ n.toll u w x
+
+leads_alike : (m n : Topology) → AreAlike m n → (to : ℕ) (dist : ℕ → ℕ) (u w : ℕ) → u < m.size → LeadsThrough m to dist u w →
+    LeadsThrough n to dist u w
+leads_alike m n s to dist u w short l = record {
+  other = l.other;
+  member = omega (arith, l.member, s.size);
+  linked = sym (s.linked u w short l.member) ∙ l.linked;
+  one_more = l.one_more ∙ ap suc (s.toll u w (dist w) short l.member);
+  in_reach = omega (arith, l.in_reach, s.size);
+}
+
+rest_alike : (m n : Topology) → AreAlike m n → (to : ℕ) (dist : ℕ → ℕ) → IsRest m to dist → IsRest n to dist
+rest_alike m n s to dist r = record {
+  own = r.own;
+  bounded = λ u short. omega (arith, s.size, r.bounded u (omega (arith, short, s.size)));
+  least = λ u short other w member linked.
+      let here : u < m.size = omega (arith, short, s.size) in
+      let there : w < m.size = omega (arith, member, s.size) in
+      omega (arith, s.toll u w (dist w) here there, r.least u here other w there (s.linked u w here there ∙ linked));
+  led = λ u short other reach.
+      let here : u < m.size = omega (arith, short, s.size) in
+      let l : (w : ℕ) × LeadsThrough m to dist u w = r.led u here other (omega (arith, reach, s.size)) in
+      (l.0, leads_alike m n s to dist u (l.0) here (l.1));
+}
+
+-- a filter is shown the size and the prefixes of an opening alone
+same_pass : (o p : OpeningView) → o.size ≡ p.size → o.prefixes ≡ p.prefixes → (f : Option VerifiedView) (v d : ℕ) → pass o f v d ≡ pass p f v d
+unfolding pass
+same_pass o p size prefixes None v d = refl
+same_pass o p size prefixes (Some f) v d = cc
+
+toll_alike : (d : Domain) (p : PlanView) → IsPlanOf d p → (v u w x : ℕ) → u < p.size → w < p.size → toll p v u w x ≡ imported d u w v (exported d w u v x)
+toll_alike d p s v u w x short within =
+    same_pass (opening_of p) (d.router u).opening (sym (s.sizes u short)) (sym (s.prefixes u short)) (peer p u w).imports v
+    (pass (opening_of p) (peer p w u).exports v x)
+    ∙ ap (λ y. pass (d.router u).opening (peer p u w).imports v y)
+    (same_pass (opening_of p) (d.router w).opening (sym (s.sizes w within)) (sym (s.prefixes w within)) (peer p w u).exports v x)
+    ∙ ap (λ f. pass (d.router u).opening f v (pass (d.router w).opening (peer p w u).exports v x)) (sym (s.imports u w short within))
+    ∙ ap (λ f. pass (d.router u).opening (neighbour d u w).imports v (pass (d.router w).opening f v x)) (sym (s.exports w u within short))
+
+pub of_domain : (d : Domain) (p : PlanView) → IsPlanOf d p → (v : ℕ) (dist : ℕ → ℕ) → IsRest (topology p v) v dist →
+    IsRest (domain_topology d v) v dist
+of_domain d p s v dist r =
+    rest_alike (topology p v) (domain_topology d v)
+    (record {
+      size = sym s.size;
+      linked = λ u w short within. sym (s.linked u w short within);
+      toll = λ u w x short within. toll_alike d p s v u w x short within;
+    }) v dist r

@@ -1,0 +1,42 @@
+//! The route of a node to the destination.
+
+ghost use Rattle.std.specs.Prelude.{◌≡◌, suc};
+ghost use Rattle.domain_routes.specs.Offers.{IsBetter, hop_of};
+
+use netchange_core::Via;
+
+/// The route of a node to a destination.
+#[derive(Clone, Copy, Debug, PartialEq, Eq)]
+pub struct Best {
+    /// The distance, 0 to the size of the domain, which says that there is no route.
+    pub dist: u16,
+    /// Through whom it goes: local at the destination itself, otherwise the next hop, or nowhere.
+    pub via: Via,
+}
+
+/// The number that decides between routes of one distance: that of the next hop, if there is one.
+fn hop_of(via: Via) -> u16
+    ensures { result ≡ hop_of via }
+{
+    match via {
+        Via::Node(hop) => hop,
+        Via::Local | Via::Nowhere => 0,
+    }
+}
+
+/// The better of a route and the way through a neighbour, one more than what its distance comes to. Of two that are as
+/// short, the one through the neighbour of the lesser number.
+pub(crate) fn better(route: Best, toll: u16, hop: u16) -> Best
+    ensures { IsBetter route (suc toll) hop result }
+{
+    let length = u32::from(toll) + 1;
+    let dist = u32::from(route.dist);
+    if length < dist || (length == dist && hop < hop_of(route.via)) {
+        Best {
+            dist: toll + 1,
+            via: Via::Node(hop),
+        }
+    } else {
+        route
+    }
+}

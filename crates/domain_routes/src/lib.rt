@@ -1,0 +1,16 @@
+//! Routes through a whole domain: which routes there will be at rest, computed from the links between the nodes and the
+//! filters on them, without running a router.
+#![tactic(auto)]
+
+mod best;
+mod laws;
+mod peer;
+mod plan;
+mod row;
+mod solving;
+
+pub use best::Best;
+pub use laws::{
+    edits_change_one_place, quiet_routers_have_the_routes, rest_is_of_the_domain, routes_are_one,
+};
+pub use plan::Plan;

@@ -1,0 +1,174 @@
+//! The plan of a domain: its nodes' prefixes, the links between the nodes, and the filters on them.
+
+ghost use Rattle.std.specs.Prelude.{◌≡◌, ◌≢◌, ◌≤◌, ◌<◌, IfOk, false, length, slice_set, true};
+ghost use Rattle.std.specs.Option.{SomeIff};
+ghost use Rattle.domain_routes.specs.Edits.{exporting, importing, linking, unlinked, with_prefix};
+ghost use Rattle.domain_routes.specs.PlanView.{IsPlan, IsSize, is_linked, opening_of, peer};
+ghost use Rattle.domain_routes.specs.Topology.{toll};
+
+use crate::peer::Peer;
+use crate::row::Row;
+use filter_verifier::Verified;
+use netchange_core::{Opening, pass};
+use prefix_patterns::Prefix;
+use std::alloc::{AllocError, Global};
+use std::marker::Model;
+use std::sync::Arc;
+
+/// The plan of a domain of 2 to 250 nodes: the prefix of each node, the links between the nodes, and the filters on them.
+///
+/// Nodes are numbered from 0. A link is mutual, and no node is linked to itself. A filter stays where there is no link, or no
+/// link any more. A contract sees a plan as a `PlanView`. It keeps a place for each two nodes, so that nothing but making one
+/// needs memory.
+#[derive(Debug, Drop)]
+pub struct Plan {
+    opening: Opening,
+    rows: Vec<Row>,
+}
+
+impl Model for Plan {
+    ghost use Rattle.std.specs.Prelude.{◌≡◌};
+    ghost use Rattle.domain_routes.specs.PlanView.{IsPlan, PlanView};
+
+    ghost Value = { PlanView };
+
+    ghost view = { λ p. record { size = p.opening.size; prefixes = p.opening.prefixes; rows = p.rows.items } };
+
+    ghost invariant = { λ p. (p.opening.me ≡ 0) × IsPlan (record { size = p.opening.size; prefixes = p.opening.prefixes; rows = p.rows.items }) };
+}
+
+/// The plan without links and filters, where its first node was opened with these prefixes.
+fn make_plan(alloc: Global, opening: Opening) -> Result<Plan, AllocError>
+    requires { opening.me ≡ 0 }
+    ensures { IfOk result (λ p. p ≡ unlinked opening.prefixes) }
+{
+    let size = opening.size();
+    let mut rows = Vec::with_capacity(alloc, usize::from(size))?;
+    for _ in 0..size {
+        rows.push(Row::strangers(alloc, size)?)?;
+    }
+    Ok(Plan { opening, rows })
+}
+
+impl Plan {
+    /// A plan without links and filters, of as many nodes as there are prefixes. None exactly where these are not 2 to 250.
+    pub fn new(alloc: Global, prefixes: Vec<Prefix>) -> Result<Option<Plan>, AllocError>
+        ensures { IfOk result (λ p. SomeIff p (IsSize (length prefixes.items)) (unlinked prefixes.items)) }
+    {
+        let Ok(size) = u16::try_from(prefixes.len()) else {
+            return Ok(None);
+        };
+        match Opening::new(size, 0, prefixes) {
+            Some(opening) => Ok(Some(make_plan(alloc, opening)?)),
+            None => Ok(None),
+        }
+    }
+
+    /// The number of nodes, 2 to 250.
+    pub fn size(&self) -> u16
+        ensures value { result ≡ self.now.size }
+        ensures limits { IsPlan self.now }
+    {
+        self.opening.size()
+    }
+
+    /// The prefix of each node, by number.
+    pub fn prefixes(&self) -> &[Prefix]
+        ensures value { result.now ≡ self.now.prefixes }
+        ensures one_a_node { length result.now ≡ self.now.size }
+    {
+        self.opening.prefixes()
+    }
+
+    /// Gives a node another prefix.
+    pub fn set_prefix(&mut self, node: u16, prefix: Prefix)
+        requires { node < self.old.size }
+        ensures { self.new ≡ with_prefix node prefix self.old }
+    {
+        self.opening.set_prefix(node, prefix);
+    }
+
+    /// A node as another has it.
+    pub(crate) fn peer(&self, u: u16, w: u16) -> &Peer
+        requires u { u < self.now.size }
+        requires w { w < self.now.size }
+        ensures { result.now ≡ peer self.now u w }
+    {
+        self.rows[usize::from(u)].peer(w)
+    }
+
+    /// Whether there is a link between two nodes.
+    pub fn is_linked(&self, u: u16, w: u16) -> bool
+        requires u { u < self.now.size }
+        requires w { w < self.now.size }
+        ensures value { result ≡ is_linked self.now u w }
+        ensures both_ways { is_linked self.now w u ≡ is_linked self.now u w }
+        ensures apart { is_linked self.now u u ≡ false }
+    {
+        self.rows[usize::from(u)].peer(w).is_linked()
+    }
+
+    /// There is a link between two nodes from now on, or none.
+    fn set_linked(&mut self, u: u16, w: u16, linked: bool)
+        requires u { u < self.old.size }
+        requires w { w < self.old.size }
+        requires apart { u ≢ w }
+        ensures { self.new ≡ linking linked u w self.old }
+    {
+        self.rows[usize::from(u)].set_linked(w, linked);
+        self.rows[usize::from(w)].set_linked(u, linked);
+    }
+
+    /// Two nodes are neighbours from now on.
+    pub fn link(&mut self, u: u16, w: u16)
+        requires u { u < self.old.size }
+        requires w { w < self.old.size }
+        requires apart { u ≢ w }
+        ensures { self.new ≡ linking true u w self.old }
+    {
+        self.set_linked(u, w, true);
+    }
+
+    /// Two nodes are neighbours no more. Their filters stay.
+    pub fn cut(&mut self, u: u16, w: u16)
+        requires u { u < self.old.size }
+        requires w { w < self.old.size }
+        requires apart { u ≢ w }
+        ensures { self.new ≡ linking false u w self.old }
+    {
+        self.set_linked(u, w, false);
+    }
+
+    /// What the first node hears from the second passes this filter from now on, whether they are linked or not.
+    pub fn set_import(&mut self, u: u16, w: u16, filter: Arc<Verified>)
+        requires u { u < self.old.size }
+        requires w { w < self.old.size }
+        requires fits { filter.value.size ≡ self.old.size }
+        ensures { self.new ≡ importing filter.value u w self.old }
+    {
+        self.rows[usize::from(u)].set_imports(w, filter);
+    }
+
+    /// What the first node tells the second passes this filter from now on, whether they are linked or not.
+    pub fn set_export(&mut self, u: u16, w: u16, filter: Arc<Verified>)
+        requires u { u < self.old.size }
+        requires w { w < self.old.size }
+        requires fits { filter.value.size ≡ self.old.size }
+        ensures { self.new ≡ exporting filter.value u w self.old }
+    {
+        self.rows[usize::from(u)].set_exports(w, filter);
+    }
+
+    /// What the second node's distance from a destination comes to at the first, under the filters between them.
+    pub(crate) fn toll(&self, v: u16, u: u16, w: u16, dist: u16) -> u16
+        requires v { v < self.now.size }
+        requires u { u < self.now.size }
+        requires w { w < self.now.size }
+        requires reachable { dist ≤ self.now.size }
+        ensures value { result ≡ toll self.now v u w dist }
+        ensures reachable { result ≤ self.now.size }
+    {
+        let told = pass(&self.opening, self.peer(w, u).exports(), v, dist);
+        pass(&self.opening, self.peer(u, w).imports(), v, told)
+    }
+}

@@ -1,0 +1,102 @@
+//! The routes of all nodes to one destination.
+
+ghost use Rattle.std.specs.Prelude.{◌≡◌, ◌<◌, ◌≤◌, IfOk, MatchOption, length};
+ghost use Rattle.domain_routes.specs.Routes.{AreRoutes, route_at};
+ghost use Rattle.domain_routes.specs.Solving.{AreAllDone, AreBestSoFar, AreOffered, IsNearest, IsOffered, is_done};
+ghost use Rattle.domain_routes.specs.Topology.{topology};
+
+use crate::best::{Best, better};
+use crate::plan::Plan;
+use netchange_core::Via;
+use std::alloc::{AllocError, Global};
+
+/// Of the nodes that are not done, one that no other is nearer than.
+fn nearest(routes: &[Best], done: &[bool]) -> Option<usize>
+    requires { length done.now ≡ length routes.now }
+    ensures { MatchOption result (AreAllDone (length routes.now) (is_done done.now))
+        (IsNearest (length routes.now) (route_at (length routes.now) routes.now) (is_done done.now)) }
+{
+    let mut found: Option<usize> = None;
+    for u in 0..routes.len() {
+        if !done[u] {
+            found = match found {
+                Some(w) if routes[w].dist <= routes[u].dist => Some(w),
+                _ => Some(u),
+            };
+        }
+    }
+    found
+}
+
+/// A node's route, after the way through another at this distance was offered to it.
+fn offered(plan: &Plan, v: u16, w: u16, dist: u16, u: u16, route: Best) -> Best
+    requires v { v < plan.now.size }
+    requires w { w < plan.now.size }
+    requires u { u < plan.now.size }
+    requires reachable { dist ≤ plan.now.size }
+    ensures { IsOffered (topology plan.now v) w dist u route result }
+{
+    if plan.is_linked(w, u) {
+        better(route, plan.toll(v, u, w, dist), w)
+    } else {
+        route
+    }
+}
+
+/// Each neighbour of a node is offered the way through it.
+fn offer(plan: &Plan, v: u16, w: usize, routes: &mut [Best])
+    requires v { v < plan.now.size }
+    requires w { w < plan.now.size }
+    requires one_a_node { length routes.old ≡ plan.now.size }
+    requires reachable { (route_at plan.now.size routes.old w).dist ≤ plan.now.size }
+    ensures { AreOffered (topology plan.now v) w (route_at plan.now.size routes.old) (route_at plan.now.size routes.new) }
+{
+    let dist = routes[w].dist;
+    let size = plan.size();
+    let hop = w as u16;
+    for u in 0..size {
+        let k = usize::from(u);
+        routes[k] = offered(plan, v, hop, dist, u, routes[k]);
+    }
+}
+
+/// One node after another is done, the nearest first, until all are.
+fn finish(plan: &Plan, v: u16, routes: &mut [Best], done: &mut [bool])
+    requires v { v < plan.now.size }
+    requires one_a_node { length routes.old ≡ plan.now.size }
+    requires done { length done.old ≡ plan.now.size }
+    requires best { AreBestSoFar (topology plan.now v) v (route_at plan.now.size routes.old) (is_done done.old) }
+    ensures { AreRoutes (topology plan.now v) v routes.new }
+{
+    while let Some(w) = nearest(routes, done) {
+        done[w] = true;
+        offer(plan, v, w, routes);
+    }
+}
+
+impl Plan {
+    /// The route of each node to a destination, by the node's number, when the domain is at rest.
+    ///
+    /// The distances are the fixed point of Bellman's equation under the filters, and by `only_one_rest` there is no other. The
+    /// next hop is the least neighbour through whom a route leads at that distance. They are found in Dijkstra's order, which
+    /// serves since no filter makes a distance less: each node is done once, the nearest first, and each link's filters run once
+    /// in each direction.
+    pub fn routes_to(&self, alloc: Global, v: u16) -> Result<Vec<Best>, AllocError>
+        requires { v < self.now.size }
+        ensures { IfOk result (λ routes. AreRoutes (topology self.now v) v routes.items) }
+    {
+        let size = self.size();
+        let nowhere = Best {
+            dist: size,
+            via: Via::Nowhere,
+        };
+        let mut routes = vec![in alloc; nowhere; usize::from(size)]?;
+        let mut done = vec![in alloc; false; usize::from(size)]?;
+        routes[usize::from(v)] = Best {
+            dist: 0,
+            via: Via::Local,
+        };
+        finish(self, v, &mut routes, &mut done);
+        Ok(routes)
+    }
+}

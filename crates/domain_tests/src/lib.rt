@@ -1,0 +1,9 @@
+//! Tests of whole domains.
+#![tactic(auto)]
+
+#[cfg(test)]
+mod plans;
+#[cfg(test)]
+mod routes_tests;
+#[cfg(test)]
+mod small_plans_tests;
