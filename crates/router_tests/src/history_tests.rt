@@ -26,6 +26,12 @@ fn expect_entries(
     Ok(())
 }
 
+/// The place of an event that a journal enters.
+fn enter(alloc: Global, journal: &mut Journal, asked: Asked) -> Result<u32, Fail> {
+    let (at, _reply) = journal.apply(event(alloc, asked)?)?;
+    Ok(at)
+}
+
 /// The journal of node 0 of four, of so many entries at most, that entered the events of these rows.
 fn journal_of(
     rt: &impl Abort,
@@ -35,7 +41,7 @@ fn journal_of(
 ) -> Result<Journal, Fail> {
     let mut journal = Journal::open(alloc, opening(alloc, 4)?, limit.clamp(1, 1_000_000))?;
     for (place, (asked, _)) in (0..1000u32).zip(rows) {
-        let (at, _reply) = journal.apply(event(alloc, *asked)?)?;
+        let at = enter(alloc, &mut journal, *asked)?;
         assert!(rt; at == place);
     }
     Ok(journal)
@@ -87,6 +93,12 @@ fn a_changed_reply_does_not_replay(rt: HostRuntime) -> Result<(), Fail> {
         _ => return Err(Fail::from("the second reply is another")),
     }
     Ok(())
+}
+
+/// Asserts that a journal enters the events of these rows with their replies.
+fn expect_journal(rt: &impl Abort, alloc: Global, rows: &[(Asked, &str)]) -> Result<(), Fail> {
+    let journal = journal_of(rt, alloc, 100, rows)?;
+    expect_entries(rt, alloc, &journal, rows)
 }
 
 const A_TIE_GOES_TO_THE_LEAST_NEIGHBOUR: [(Asked, &str); 7] = [
@@ -143,8 +155,7 @@ fn journals_have_events_and_replies(rt: HostRuntime) -> Result<(), Fail> {
         &AN_OLD_SESSION_IS_OVER,
     ];
     for rows in all {
-        let journal = journal_of(&rt, rt.alloc(), 100, rows)?;
-        expect_entries(&rt, rt.alloc(), &journal, rows)?;
+        expect_journal(&rt, rt.alloc(), rows)?;
     }
     Ok(())
 }

@@ -69,9 +69,9 @@ const REFUSALS: [(Refusal, &str, &str); 7] = [
 
 #[test]
 fn refusals_have_texts(rt: HostRuntime) -> Result<(), Fail> {
-    for (why, code, text) in REFUSALS {
+    for (why, code, text) in &REFUSALS {
         let shown = format!(in rt.alloc(); "{why}")?;
-        assert!(rt; why.code() == code && shown.as_str() == text, "{code}");
+        assert!(rt; why.code() == *code && shown.as_str() == *text, "{code}");
     }
     Ok(())
 }
