@@ -2,7 +2,7 @@
 
 ghost use Rattle.std.specs.Prelude.{◌≡◌, ◌+◌, ◌<◌, IfOk};
 ghost use Rattle.slot_lock.specs.Held.{IsPassOf};
-ghost use Rattle.slot_lock.specs.Views.{all_shares};
+ghost use Rattle.slot_lock.specs.Held.{all_shares};
 
 use crate::fault::NetworkFault;
 use netchange_core::{Event, Opening, Reply};

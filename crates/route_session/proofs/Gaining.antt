@@ -12,7 +12,7 @@ use Rattle.route_history.specs.Calls.{entry}
 use Rattle.route_history.specs.History.{IsLegal}
 use Rattle.route_session.specs.Calls.{Gained, IsFresh, StandsAt, StaysSound}
 use Rattle.slot_lock.specs.declared.answer.Answer.{Answer}
-use Rattle.slot_lock.specs.declared.rule.Part.{Part}
+use Rattle.slot_lock.specs.Held.{Part}
 use Rattle.slot_lock.specs.Calls.{Answered, Refused}
 use Rattle.slot_lock.specs.Held.{IsOwn, IsPassOf, PassView, RouterView}
 

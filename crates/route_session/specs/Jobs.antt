@@ -10,7 +10,7 @@ use Rattle.route_session.specs.Calls.{StaysSound}
 use Rattle.route_session.specs.Reads.{IsReadBy}
 use Rattle.route_session.specs.Told.{Told, closed}
 use Rattle.route_session.specs.Writes.{IsWrittenBy}
-use Rattle.slot_lock.specs.declared.rule.Part.{Part}
+use Rattle.slot_lock.specs.Held.{Part}
 use Rattle.slot_lock.specs.Held.{IsPassOf, RouterView}
 
 -- each job has a pass of this router

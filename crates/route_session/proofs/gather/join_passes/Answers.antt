@@ -1,7 +1,7 @@
 use Rattle.std.proofs.Common.{rules, ◌+◌, ◌∙◌, ap, sum_by, vec_len}
 use Rattle.route_session.proofs.Popped.{moved, none_left, nothing_more, popped, shares_popped}
 use Rattle.route_session.specs.Jobs.{shares_back}
-use Rattle.slot_lock.specs.declared.rule.Part.{Part}
+use Rattle.slot_lock.specs.Held.{Part}
 use Rattle.route_session.proofs.gather.join_passes.Goals as goal
 
 -- src/gather.rt:20:9
