@@ -2,7 +2,7 @@ use Rattle.std.proofs.Common.{subst, sym}
 use Rattle.netchange_core.specs.OpeningView.{OpeningView}
 use Rattle.route_history.specs.History.{IsFirstWrong, IsLegal}
 use Rattle.ring_network.proofs.Replaying.{none_wrong}
-use Rattle.ring_network.proofs.node.replay_whole.Goals as goal
+use Rattle.ring_network.proofs.replays.replay_whole.Goals as goal
 
 pub unreachable-requires : goal.unreachable-requires
 unreachable-requires c =
