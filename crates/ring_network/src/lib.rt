@@ -4,7 +4,9 @@
 mod fault;
 mod net;
 mod node;
+mod replays;
 mod ring;
 
 pub use fault::NetworkFault;
 pub use net::net_lines;
+pub use ring::{Ring, run_ring};

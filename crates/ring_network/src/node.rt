@@ -1,16 +1,16 @@
 //! One node of a ring.
 
 ghost use Rattle.std.specs.Prelude.{◌≡◌, ◌+◌, ◌<◌, IfOk};
-ghost use Rattle.slot_lock.specs.Held.{IsPassOf};
-ghost use Rattle.slot_lock.specs.Views.{all_shares};
+ghost use Rattle.ring_network.specs.Ring.{IsJournalOf, node_prefix, ring_opening};
+ghost use Rattle.slot_lock.specs.Held.{IsPassOf, all_shares};
 
 use crate::fault::NetworkFault;
 use netchange_core::{Event, Opening, Reply};
 use prefix_patterns::{Ip, Prefix};
-use route_history::{CallFault, Journal, LARGEST_LIMIT, ReplayFault, replay};
+use route_history::{CallFault, Journal, LARGEST_LIMIT};
 use route_session::{Cause, ChannelLink, Ending, Gate, Job, Role, join_passes, run_sessions};
 use slot_lock::{Pass, Router};
-use std::alloc::{AllocError, Global};
+use std::alloc::Global;
 use std::rt::Clock;
 use std::sync::Wait;
 use std::thread;
@@ -67,18 +67,24 @@ impl Gate for PacingGate {
     }
 }
 
-/// Opens the router of a node, whose nodes' prefixes are 10.V.0.0/16.
+/// The prefix of a node: 10.V.0.0/16.
+fn prefix_of(node: u32) -> Prefix
+    requires { node < 3 }
+    ensures { result ≡ node_prefix node }
+{
+    match Prefix::new(Ip(0x0a00_0000 + 0x1_0000 * node), 16) {
+        Some(prefix) => prefix,
+        None => unreachable!(),
+    }
+}
+
+/// Opens the router of a node.
 fn open(alloc: Global, me: u16) -> Result<(Router, Pass), NetworkFault>
     requires { me < 3 }
-    ensures { IfOk result (λ r. IsPassOf r.0 r.1 × (r.1.part.shares ≡ all_shares)) }
+    ensures router { IfOk result (λ r. (r.0.opening ≡ ring_opening me) × (r.0.limit ≡ 1000000)) }
+    ensures pass { IfOk result (λ r. IsPassOf r.0 r.1 × (r.1.part.shares ≡ all_shares)) }
 {
-    let mut prefixes = Vec::with_capacity(alloc, usize::from(SIZE))?;
-    for node in 0..SIZE {
-        let Some(prefix) = Prefix::new(Ip(0x0a00_0000 + 0x1_0000 * u32::from(node)), 16) else {
-            unreachable!()
-        };
-        prefixes.push(prefix)?;
-    }
+    let prefixes = vec![in alloc; prefix_of(0), prefix_of(1), prefix_of(2)]?;
     let Some(opening) = Opening::new(SIZE, me, prefixes) else {
         unreachable!()
     };
@@ -149,22 +155,14 @@ fn refused_call(ending: &Ending) -> Result<(), CallFault> {
     }
 }
 
-/// Replays a journal. Its history is legal, so memory alone can be refused.
-fn replay_whole(alloc: Global, journal: &Journal) -> Result<(), AllocError> {
-    match replay(alloc, journal.opening(), journal.entries()) {
-        Ok(_) => Ok(()),
-        Err(ReplayFault::Memory) => Err(AllocError),
-        Err(ReplayFault::Differs(_)) => unreachable!(),
-    }
-}
-
-/// Runs a node: brings its neighbours up, runs a reader and a writer for each, joins their passes, closes the journal and replays
-/// it.
+/// Runs a node: brings its neighbours up, runs a reader and a writer for each, joins their passes and closes the journal.
 pub(crate) fn run_node<R: Threads + Wait + Clock + Sync>(
     rt: &R,
     alloc: Global,
     node: Node,
-) -> Result<(), NetworkFault> {
+) -> Result<Journal, NetworkFault>
+    ensures { IfOk result (IsJournalOf node.me) }
+{
     let Node { me, low, high } = node;
     let (router, mut pass) = open(alloc, me)?;
     let (first, second) = bring_up(rt, &router, &mut pass, low)?;
@@ -180,7 +178,7 @@ pub(crate) fn run_node<R: Threads + Wait + Clock + Sync>(
     }
     join_passes(&router, &mut pass, finished);
     match router.close(pass) {
-        Ok(journal) => Ok(replay_whole(alloc, &journal)?),
+        Ok(journal) => Ok(journal),
         Err(fault) => Err(NetworkFault::Lock(fault)),
     }
 }

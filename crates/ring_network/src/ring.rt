@@ -1,16 +1,46 @@
 //! Three nodes in a ring, and the channels between them.
 
+ghost use Rattle.std.specs.Prelude.{◌≡◌, IfOk, IfSome};
+ghost use Rattle.ring_network.specs.Ring.{IsJournalOf};
+
 use crate::fault::NetworkFault;
 use crate::node::{Node, Side, run_node};
+use route_history::Journal;
 use route_session::{ChannelLink, RunFault};
 use std::alloc::{AllocError, Global};
 use std::rt::Clock;
 use std::sync::Wait;
 use std::thread;
-use std::thread::{JoinHandle, Threads};
+use std::thread::{Promise, PromisedHandle, Threads};
+
+/// The closed journals of three nodes in a ring.
+#[derive(Drop)]
+pub struct Ring {
+    /// That of node 0.
+    pub zero: Journal,
+    /// That of node 1.
+    pub one: Journal,
+    /// That of node 2.
+    pub two: Journal,
+}
+
+/// What a thread promises: the journal of the node of this number.
+#[derive(Drop)]
+struct RunsNode {
+    me: u16,
+}
+
+impl Promise<Result<Journal, NetworkFault>> for RunsNode {
+    ghost use Rattle.std.specs.Prelude.{IfOk};
+    ghost use Rattle.ring_network.specs.Ring.{IsJournalOf};
+
+    ghost kept_by = { λ p r. IfOk r (IsJournalOf p.me) };
+}
 
 /// The three nodes, with a channel from each to each other one.
-fn ring(alloc: Global) -> Result<(Node, Node, Node), AllocError> {
+fn nodes(alloc: Global) -> Result<(Node, Node, Node), AllocError>
+    ensures { IfOk result (λ n. (n.0.me ≡ 0) × (n.1.me ≡ 1) × (n.2.me ≡ 2)) }
+{
     let (to_one, from_zero_at_one) = ChannelLink::pair(alloc)?;
     let (to_two, from_zero_at_two) = ChannelLink::pair(alloc)?;
     let (one_to_zero, from_one_at_zero) = ChannelLink::pair(alloc)?;
@@ -39,28 +69,72 @@ fn ring(alloc: Global) -> Result<(Node, Node, Node), AllocError> {
 /// What became of a node, whose thread may not have been started.
 fn end_of<R: Threads>(
     rt: &R,
-    child: Option<JoinHandle<Result<(), NetworkFault>>>,
-) -> Result<(), NetworkFault> {
+    me: u16,
+    child: Option<PromisedHandle<Result<Journal, NetworkFault>, RunsNode>>,
+) -> Result<Journal, NetworkFault>
+    requires { IfSome child (λ h. h.promise.me ≡ me) }
+    ensures { IfOk result (IsJournalOf me) }
+{
     match child {
         Some(child) => child.join(rt),
         None => Err(NetworkFault::Run(RunFault::NotStarted)),
     }
 }
 
-/// Runs the three nodes, each on a thread of its own: the first fault by node.
-pub(crate) fn run_ring<R: Threads + Wait + Clock + Sync>(
+/// Runs three routers in a ring, each in threads of its own, until all their sessions have ended: their journals. Of several faults
+/// the one of the first node.
+///
+/// Each node brings its two neighbours up, and has a reader and a writer for each, of 200 turns.
+pub fn run_ring<R: Threads + Wait + Clock + Sync>(
     rt: &R,
     alloc: Global,
-) -> Result<(), NetworkFault> {
-    let (zero, one, two) = ring(alloc)?;
-    thread::scope(thread::scope_env(), rt, move |scope| {
-        // A node whose thread is not started is dropped here with its links, so that the others end.
-        let zero = scope.spawn(move || run_node(rt, alloc, zero)).ok();
-        let one = scope.spawn(move || run_node(rt, alloc, one)).ok();
-        let two = scope.spawn(move || run_node(rt, alloc, two)).ok();
-        let zero = end_of(rt, zero);
-        let one = end_of(rt, one);
-        let two = end_of(rt, two);
-        zero.and(one).and(two)
-    })
+) -> Result<Ring, NetworkFault>
+    ensures { IfOk result (λ r. IsJournalOf 0 r.zero × IsJournalOf 1 r.one × IsJournalOf 2 r.two) }
+{
+    let (zero, one, two) = nodes(alloc)?;
+    thread::scope(
+        thread::scope_env(),
+        rt,
+        move |scope| -> Result<Ring, NetworkFault>
+            requires { (zero.me ≡ 0) × (one.me ≡ 1) × (two.me ≡ 2) }
+            ensures { IfOk result (λ r. IsJournalOf 0 r.zero × IsJournalOf 1 r.one × IsJournalOf 2 r.two) }
+        {
+            // A node whose thread is not started is dropped here with its links, so that the others end.
+            let zero = scope
+                .spawn_with(
+                    RunsNode { me: 0 },
+                    move || -> Result<Journal, NetworkFault>
+                        requires { zero.me ≡ 0 }
+                        ensures { IfOk result (IsJournalOf 0) }
+                    { run_node(rt, alloc, zero) },
+                )
+                .ok();
+            let one = scope
+                .spawn_with(
+                    RunsNode { me: 1 },
+                    move || -> Result<Journal, NetworkFault>
+                        requires { one.me ≡ 1 }
+                        ensures { IfOk result (IsJournalOf 1) }
+                    { run_node(rt, alloc, one) },
+                )
+                .ok();
+            let two = scope
+                .spawn_with(
+                    RunsNode { me: 2 },
+                    move || -> Result<Journal, NetworkFault>
+                        requires { two.me ≡ 2 }
+                        ensures { IfOk result (IsJournalOf 2) }
+                    { run_node(rt, alloc, two) },
+                )
+                .ok();
+            let zero = end_of(rt, 0, zero);
+            let one = end_of(rt, 1, one);
+            let two = end_of(rt, 2, two);
+            Ok(Ring {
+                zero: zero?,
+                one: one?,
+                two: two?,
+            })
+        },
+    )
 }

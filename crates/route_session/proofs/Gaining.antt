@@ -12,14 +12,14 @@ use Rattle.route_history.specs.Calls.{entry}
 use Rattle.route_history.specs.History.{IsLegal}
 use Rattle.route_session.specs.Calls.{Gained, IsFresh, StandsAt, StaysSound}
 use Rattle.slot_lock.specs.declared.answer.Answer.{Answer}
-use Rattle.slot_lock.specs.declared.rule.Part.{Part}
+use Rattle.slot_lock.specs.Held.{Part}
 use Rattle.slot_lock.specs.Calls.{Answered, Refused}
 use Rattle.slot_lock.specs.Held.{IsOwn, IsPassOf, PassView, RouterView}
 
-begins_whole : (xs : List Entry) → Begins xs xs
+pub begins_whole : (xs : List Entry) → Begins xs xs
 begins_whole xs = record { rest = []; is = sym (append-nil xs) }
 
-begins_further : (xs ys zs : List Entry) → Begins xs ys → Begins ys zs → Begins xs zs
+pub begins_further : (xs ys zs : List Entry) → Begins xs ys → Begins ys zs → Begins xs zs
 begins_further xs ys zs a b = record {
   rest = a.rest ++ b.rest;
   is = b.is ∙ ap (λ (l : List Entry). l ++ b.rest) a.is ∙ append_assoc xs a.rest b.rest;

@@ -1,7 +1,7 @@
 mod Back
 mod Gaining
+mod Gathering
 mod Halves
 mod Reading
 mod Told
 mod Writing
-mod Popped

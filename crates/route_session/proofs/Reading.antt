@@ -19,7 +19,7 @@ use Rattle.route_session.specs.Told.{Rose, Told, ended_now, grown}
 use Rattle.route_session.proofs.Gaining.{IsCalled, fresh_more, gained_none, gained_one, gained_refused, sound_one, zip_more}
 use Rattle.route_session.proofs.Told.{grown_none, grown_more}
 use Rattle.slot_lock.specs.declared.answer.Answer.{Answer}
-use Rattle.slot_lock.specs.declared.rule.Part.{Part}
+use Rattle.slot_lock.specs.Held.{Part}
 use Rattle.slot_lock.specs.Calls.{Answered, Refused}
 use Rattle.slot_lock.specs.Held.{IsPassOf, PassView, RouterView}
 

@@ -13,7 +13,7 @@ use Rattle.route_history.specs.History.{IsLegal}
 use Rattle.route_session.specs.declared.ends.Cause.{Cause}
 use Rattle.route_session.specs.declared.ends.Cause.TheVariants as cause
 use Rattle.route_session.specs.Told.{Rose, Told, ended_now}
-use Rattle.slot_lock.specs.declared.rule.Part.{Part}
+use Rattle.slot_lock.specs.Held.{Part}
 use Rattle.slot_lock.specs.Held.{IsOwn, IsPassOf, PassView, RouterView}
 
 -- the event of a message that came in a session, and of taking at most 16 messages from its queue

@@ -1,5 +1,6 @@
 -- Jobs: sessions that run at the same time, and what each comes to. (This project's own choice.)
-use Rattle.std.specs.Prelude.{◌≡◌, ℕ, All, List}
+use Rattle.std.specs.Prelude.{◌≡◌, ℕ, ◌+◌, ◌++◌, All, List, flat_map, sum_by}
+use Rattle.route_history.specs.Beginning.{Begins}
 use Rattle.route_session.specs.declared.job.Ending.{Ending}
 use Rattle.route_session.specs.declared.job.Ending.TheVariants as ending
 use Rattle.route_session.specs.declared.job.Finished.{Finished}
@@ -10,7 +11,7 @@ use Rattle.route_session.specs.Calls.{StaysSound}
 use Rattle.route_session.specs.Reads.{IsReadBy}
 use Rattle.route_session.specs.Told.{Told, closed}
 use Rattle.route_session.specs.Writes.{IsWrittenBy}
-use Rattle.slot_lock.specs.declared.rule.Part.{Part}
+use Rattle.slot_lock.specs.Held.{Part}
 use Rattle.slot_lock.specs.Held.{IsPassOf, RouterView}
 
 -- each job has a pass of this router
@@ -23,6 +24,21 @@ AreBack r finished = All (λ f. IsPassOf r f.pass) finished
 
 abbrev pub shares_back : {L : Type 0} → Finished L → ℕ
 shares_back f = f.pass.part.shares
+
+abbrev pub missed_back : {L : Type 0} → Finished L → ℕ
+missed_back f = f.pass.part.missed
+
+abbrev pub mine_back : {L : Type 0} → Finished L → List ℕ
+mine_back f = f.pass.part.mine
+
+-- a pass and those of jobs that were done, in one: the shares and the tries that missed add up, the positions of the jobs' calls
+-- follow the pass's own, in the order of the jobs, and what each of the passes had seen begins what the one has seen
+pub record Gathered {L : Type 0} (old : Part) (finished : List (Finished L)) (new : Part) : Type 0 where
+  pub shares : new.shares ≡ old.shares + sum_by shares_back finished
+  pub missed : new.missed ≡ old.missed + sum_by missed_back finished
+  pub mine : new.mine ≡ old.mine ++ flat_map mine_back finished
+  pub begins : Begins old.seen new.seen
+  pub each_begins : All (λ f. Begins f.pass.part.seen new.seen) finished
 
 -- a reader ended as one, and a writer as one
 abbrev pub Did : RouterView → Role → ℕ → Part → Told → Ending → Part → Told → Type 0

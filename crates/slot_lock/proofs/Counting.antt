@@ -3,8 +3,9 @@ use Rattle.std.proofs.Common.{◌≡◌, sym, ap, refl, ℕ, zero, suc, ◌+◌,
 use Rattle.std.proofs.lemmas.Bool.{cases_Bool, eqb-true}
 use Rattle.std.proofs.lemmas.Bool.Decides.{nat_tests}
 use Rattle.route_history.specs.Positions.{once_below, times}
-use Rattle.slot_lock.specs.Counts.{HasEachOnce, StandsAt}
-use Rattle.slot_lock.proofs.Keeping.{once_within}
+use Rattle.lock_rule.specs.Closing.{HasEachOnce}
+use Rattle.lock_rule.proofs.Keeping.{once_within}
+use Rattle.slot_lock.specs.Counts.{StandsAt}
 
 -- how many of these are below n
 abbrev below : ℕ → List ℕ → ℕ

@@ -1,14 +1,4 @@
-mod Totals
-mod Prefixes
-mod Keeping
-mod Taking
-mod Giving
-mod Held
-mod Sound
-mod Trying
-mod Dividing
-mod Joining
-mod Longer
-mod SoundJoined
 mod Counting
-mod Closing
+mod Sound
+mod SoundJoined
+mod Trying

@@ -7,16 +7,17 @@ use Rattle.route_history.specs.declared.fault.CallFault.{CallFault}
 use Rattle.route_history.specs.declared.fault.CallFault.TheVariants as fault
 use Rattle.route_history.specs.Calls.{entry}
 use Rattle.route_history.specs.Positions.{times}
-use Rattle.slot_lock.specs.declared.answer.Answer.{Answer}
-use Rattle.slot_lock.specs.declared.rule.Part.{Part}
-use Rattle.slot_lock.specs.declared.rule.View.{View}
-use Rattle.slot_lock.specs.Entering.{Enters, EntersNot, TookLate}
+use Rattle.netchange_core.specs.declared.reply.Reply.{Reply}
+use Rattle.lock_rule.specs.declared.rule.Part.{Part}
+use Rattle.lock_rule.specs.declared.rule.View.{View}
+use Rattle.lock_rule.specs.Entering.{Enters, EntersNot}
 use Rattle.slot_lock.specs.Held.{IsOwn, IsSound}
-use Rattle.slot_lock.specs.Steps.{Seated, Took}
-use Rattle.slot_lock.specs.Views.{missing_by, noted, seeing, unnoted}
-use Rattle.slot_lock.proofs.Giving.{more_within, single, zero_or_more}
-use Rattle.slot_lock.proofs.Keeping.{times_append}
-use Rattle.slot_lock.proofs.Prefixes.{shorter}
+use Rattle.slot_lock.specs.Trying.{TookLate}
+use Rattle.lock_rule.specs.Steps.{Seated, Took}
+use Rattle.lock_rule.specs.Views.{missing_by, noted, seeing, unnoted}
+use Rattle.lock_rule.proofs.Giving.{more_within, single, zero_or_more}
+use Rattle.lock_rule.proofs.Keeping.{times_append}
+use Rattle.lock_rule.proofs.Prefixes.{shorter}
 
 at_most_once : (x n : ℕ) → times x (n ∷ []) ≤ 1
 at_most_once x n = grind (arith, nat_tests)
@@ -38,14 +39,15 @@ own_more p log e own le = record {
 own_longer : (p : Part) (log : List Entry) → IsOwn p → length p.seen ≤ length log → IsOwn (record p { seen = log })
 own_longer p log own le = record { within = λ x there. let below = own.within x there in omega arith; once = own.once }
 
-entered : (m mid new : Seated) (event : Event) (a : Answer) (n : ℕ) → IsSound m n → Took m mid → Enters mid event a new → IsSound new n
-entered m mid new event a n s took h =
+entered : (m mid new : Seated) (event : Event) (at : ℕ) (reply : Reply) (n : ℕ) → IsSound m n → Took m mid → Enters mid event at reply new →
+    IsSound new n
+entered m mid new event at reply n s took h =
     let log = took.taken.entries in
-    let e = entry event a.reply in
+    let e = entry event reply in
     let view : mid.0 ≡ record m.0 { note = Some log } = took.view in
-    let at : a.at ≡ length log = h.position ∙ ap (λ (v : View). length (noted v)) view in
+    let is_at : at ≡ length log = h.position ∙ ap (λ (v : View). length (noted v)) view in
     let is : new ≡ (seeing m.0 (log ++ e ∷ []) (m.0.own.mine ++ length log ∷ []), []) =
-    h.after ∙ (λ i. (seeing (view i) (noted (view i) ++ e ∷ []) ((view i).own.mine ++ at i ∷ []), [])) in
+    h.after ∙ (λ i. (seeing (view i) (noted (view i) ++ e ∷ []) ((view i).own.mine ++ is_at i ∷ []), [])) in
     subst (λ (u : Seated). IsSound u n) (sym is) (record {
       slots = refl;
       note = refl;
@@ -85,14 +87,14 @@ left m mid new n s took h =
       own = s.own;
     })
 
-pub sound_after : (m mid new : Seated) (event : Event) (r : Result Answer CallFault) (n : ℕ) → IsSound m n → Took m mid →
-    IfOk r (λ a. Enters mid event a new) → IfErr r (λ f. EntersNot f mid new) → IsSound new n
-sound_after m mid new event (Ok a) n s took ok err = entered m mid new event a n s took ok
+pub sound_after : (m mid new : Seated) (event : Event) (r : Result (ℕ × Reply) CallFault) (n : ℕ) → IsSound m n → Took m mid →
+    IfOk r (λ a. Enters mid event a.0 a.1 new) → IfErr r (λ f. EntersNot f mid new) → IsSound new n
+sound_after m mid new event (Ok a) n s took ok err = entered m mid new event a.0 a.1 n s took ok
 sound_after m mid new event (Err fault.Full) n s took ok err = shown m mid new n s took err.0
 sound_after m mid new event (Err fault.Memory) n s took ok err = left m mid new n s took err
 
-pub sound_after_tries : (m mid new : Seated) (event : Event) (r : Result Answer CallFault) (n : ℕ) → IsSound m n → TookLate m mid →
-    IfOk r (λ a. Enters mid event a new) → IfErr r (λ f. EntersNot f mid new) → IsSound new n
+pub sound_after_tries : (m mid new : Seated) (event : Event) (r : Result (ℕ × Reply) CallFault) (n : ℕ) → IsSound m n → TookLate m mid →
+    IfOk r (λ a. Enters mid event a.0 a.1 new) → IfErr r (λ f. EntersNot f mid new) → IsSound new n
 sound_after_tries m mid new event r n s late = sound_after (missing_by late.tries m.0, []) mid new event r n (record {
   slots = refl;
   note = s.note;

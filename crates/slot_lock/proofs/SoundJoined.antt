@@ -1,12 +1,12 @@
 -- A pass is sound after it took in another.
 use Rattle.std.proofs.Common.{◌≡◌, sym, refl, subst, ℕ, ◌+◌, arith}
-use Rattle.slot_lock.specs.declared.rule.Part.{Part}
-use Rattle.slot_lock.specs.declared.rule.View.{View}
+use Rattle.lock_rule.specs.declared.rule.Part.{Part}
+use Rattle.lock_rule.specs.declared.rule.View.{View}
 use Rattle.slot_lock.specs.Held.{IsOwn, IsSound}
-use Rattle.slot_lock.specs.Steps.{Absorbs, Agree, Seated, joined}
-use Rattle.slot_lock.specs.Views.{longer, united}
-use Rattle.slot_lock.proofs.Keeping.{times_append}
-use Rattle.slot_lock.proofs.Longer.{within_joined, within_longer}
+use Rattle.lock_rule.specs.Steps.{Absorbs, Agree, Seated, joined}
+use Rattle.lock_rule.specs.Views.{longer, united}
+use Rattle.lock_rule.proofs.Keeping.{times_append}
+use Rattle.lock_rule.proofs.Longer.{within_joined, within_longer}
 
 own_joined : (p q : Part) → IsOwn p → IsOwn q → Agree p q → IsOwn (joined p q)
 own_joined p q a b both = record {

@@ -1,9 +1,9 @@
 -- Tries, one after another.
 use Rattle.std.proofs.Common.{◌≡◌, ◌∙◌, sym, ap, refl, subst, ℕ, ◌+◌, ◌<◌, None, [], arith}
-use Rattle.slot_lock.specs.declared.rule.View.{View}
-use Rattle.slot_lock.specs.Entering.{TookLate}
-use Rattle.slot_lock.specs.Steps.{Missed, Seated, Took}
-use Rattle.slot_lock.specs.Views.{missing_by, shares_of}
+use Rattle.lock_rule.specs.declared.rule.View.{View}
+use Rattle.slot_lock.specs.Trying.{TookLate}
+use Rattle.lock_rule.specs.Steps.{Missed, Seated, Took}
+use Rattle.lock_rule.specs.Views.{missing_by, shares_of}
 
 missed_none : (v : View) → v ≡ missing_by 0 v
 missed_none v = let none_more : v.own.missed ≡ v.own.missed + 0 = omega arith in λ i. record v { own = record v.own { missed = none_more i } }

@@ -7,15 +7,15 @@ use Rattle.route_history.specs.declared.fault.CallFault.TheVariants as fault
 use Rattle.route_history.specs.Beginning.{Begins}
 use Rattle.route_history.specs.Calls.{entry}
 use Rattle.route_history.specs.History.{IsLegal}
-use Rattle.route_history.specs.JournalView.{JournalView}
 use Rattle.slot_lock.specs.declared.answer.Answer.{Answer}
 use Rattle.slot_lock.specs.declared.fault.TryFault.{TryFault}
 use Rattle.slot_lock.specs.declared.fault.TryFault.TheVariants as try_fault
-use Rattle.slot_lock.specs.declared.rule.Part.{Part}
-use Rattle.slot_lock.specs.Counts.{HasEachOnce}
-use Rattle.slot_lock.specs.Held.{PassView, RouterView}
-use Rattle.slot_lock.specs.Steps.{Agree, joined, showing}
-use Rattle.slot_lock.specs.Views.{all_shares, longer}
+use Rattle.slot_lock.specs.Held.{PassView}
+use Rattle.lock_rule.specs.declared.rule.Part.{Part}
+pub use Rattle.lock_rule.specs.Closing.{Closed}
+use Rattle.lock_rule.specs.Desk.{RouterView}
+use Rattle.lock_rule.specs.Steps.{Agree, joined, showing}
+use Rattle.lock_rule.specs.Views.{all_shares, longer}
 
 -- what the pass has seen goes on from before and ends with the event and its reply, at the position answered; the position
 -- is the caller's, and the history is legal
@@ -66,13 +66,3 @@ pub record Met (p q new other : PassView) : Type 0 where
   pub first : new ≡ record p { part = showing p.part (longer p.part.seen q.part.seen) }
   pub second : other ≡ record q { part = showing q.part (longer p.part.seen q.part.seen) }
   pub agree : Agree p.part q.part
-
--- the journal of a router that is closed: it has the router's opening and limit, is legal, and goes on from what the pass
--- has seen; if the pass has all shares, each position of the journal is one of the pass's own, once
-pub record Closed (r : RouterView) (p : Part) (j : JournalView) : Type 0 where
-  pub opening : j.opening ≡ r.opening
-  pub limit : j.limit ≡ r.limit
-  pub legal : IsLegal j.opening j.entries
-  pub room : length j.entries ≤ j.limit
-  pub begins : Begins p.seen j.entries
-  pub once : p.shares ≡ all_shares → HasEachOnce (length j.entries) p.mine

@@ -1,10 +1,7 @@
 -- Positions of calls, counted. (This project's own choice.)
 use Rattle.std.specs.Prelude.{◌≡◌, ℕ, ◌<◌, ◌≤◌, List, length, slice_index_or}
-use Rattle.route_history.specs.Positions.{once_below, times}
-
--- each position of a history of n entries stands in the list, once, and nothing else does
-abbrev pub HasEachOnce : ℕ → List ℕ → Type 0
-HasEachOnce n xs = (x : ℕ) → times x xs ≡ once_below x n
+use Rattle.route_history.specs.Positions.{times}
+pub use Rattle.lock_rule.specs.Closing.{HasEachOnce}
 
 -- nothing stands in the list twice
 abbrev pub HasNoneTwice : List ℕ → Type 0

@@ -3,20 +3,13 @@ use Rattle.std.specs.Prelude.{◌≡◌, ℕ, ◌<◌, ◌≤◌, Some, None, Op
 use Rattle.atomic_table.specs.Seated.{TableId}
 use Rattle.netchange_core.specs.OpeningView.{OpeningView}
 use Rattle.route_history.specs.Positions.{times}
-use Rattle.slot_lock.specs.declared.rule.Part.{Part}
-use Rattle.slot_lock.specs.declared.rule.View.{View}
-use Rattle.slot_lock.specs.Rule.{AreIn}
-use Rattle.slot_lock.specs.Steps.{Seated}
-use Rattle.slot_lock.specs.Views.{all_shares, idle}
-
--- which router it is, what it was opened with, and its limit
-pub record RouterView : Type 0 where
-  pub table : TableId
-  pub opening : OpeningView
-  pub limit : ℕ
-
-abbrev pub router_view : TableId → OpeningView → ℕ → RouterView
-router_view table opening limit = record { table = table; opening = opening; limit = limit }
+pub use Rattle.lock_rule.specs.declared.rule.Part.{Part}
+use Rattle.lock_rule.specs.declared.rule.View.{View}
+pub use Rattle.lock_rule.specs.Desk.{RouterView}
+use Rattle.lock_rule.specs.Rule.{AreIn}
+use Rattle.lock_rule.specs.Steps.{Seated}
+pub use Rattle.lock_rule.specs.Views.{all_shares}
+use Rattle.lock_rule.specs.Views.{idle}
 
 -- which router it is of, what that was opened with and its limit, and what the caller knows
 pub record PassView : Type 0 where

@@ -6,8 +6,7 @@ mod fault;
 mod laws;
 mod pass;
 mod router;
-mod rule;
-mod seat;
+mod waiting;
 
 pub use answer::Answer;
 pub use fault::{LockFault, TryFault};

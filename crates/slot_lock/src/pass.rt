@@ -1,15 +1,16 @@
 //! A caller's pass.
 
-ghost use Rattle.std.specs.Prelude.{◌≡◌};
+ghost use Rattle.std.specs.Prelude.{◌≡◌, ◌≤◌};
+ghost use Rattle.slot_lock.specs.Held.{IsOwn};
 
-use crate::rule::Place;
+use lock_rule::Place;
 use std::marker::Model;
 
 /// A caller's pass: what it has seen of the router's history, and which calls there are its own. A contract sees it as a
 /// `PassView`.
 #[derive(Drop)]
 pub struct Pass {
-    pub(crate) seat: Place,
+    pub(crate) place: Place,
     pub(crate) shares: u32,
 }
 
@@ -20,15 +21,17 @@ impl Model for Pass {
 
     ghost use Rattle.slot_lock.specs.Held.{IsSound, pass_view};
 
-    ghost view = { λ p. pass_view p.seat.table_id p.seat.me.0 };
+    ghost view = { λ p. pass_view p.place.table p.place.me.0 };
 
-    ghost invariant = { λ p. IsSound p.seat.me p.shares };
+    ghost invariant = { λ p. IsSound p.place.me p.shares };
 }
 
 impl Pass {
     /// The shares of the router that the pass has, 1 to 65,536.
     pub fn shares(&self) -> u32
-        ensures { result ≡ self.now.part.shares }
+        ensures shares { result ≡ self.now.part.shares }
+        ensures range { (1 ≤ result) × (result ≤ 65536) }
+        ensures own { IsOwn self.now.part }
     {
         self.shares
     }

@@ -8,13 +8,12 @@ ghost use Rattle.slot_lock.specs.Held.{IsFirst, IsOwn, IsPassOf};
 use crate::answer::Answer;
 use crate::fault::{LockFault, TryFault};
 use crate::pass::Pass;
-use crate::rule::Desk;
-use crate::seat::{absorb, compare, cut, enter, take, take_apart, take_in_the_end};
+use crate::waiting::take_in_the_end;
+use lock_rule::Desk;
 use netchange_core::Event;
 use route_history::{CallFault, Journal};
 use std::alloc::Global;
-use std::marker::{Brand, Model};
-use std::snapshot::Snapshot;
+use std::marker::Model;
 use std::sync::Wait;
 
 /// The shares of a router that all its passes have together.
@@ -27,14 +26,11 @@ pub struct Router {
 }
 
 impl Model for Router {
-    ghost use Rattle.std.specs.Prelude.{◌≡◌};
-    ghost use Rattle.slot_lock.specs.Held.{RouterView, router_view};
+    ghost use Rattle.slot_lock.specs.Held.{RouterView};
 
     ghost Value = { RouterView };
 
-    ghost view = { λ r. router_view r.desk.shared.table_id r.desk.shared.key.value.opening r.desk.shared.key.value.limit };
-
-    ghost invariant = { λ r. (r.desk.shared.table_id.words ≡ 1) × (r.desk.shared.table_id.slots ≡ 1) };
+    ghost view = { λ r. r.desk };
 }
 
 impl Router {
@@ -46,16 +42,11 @@ impl Router {
         ensures pass { IfOk result (λ r. IsFirst r.0 r.1) }
         ensures refused { IfErr result (λ f. f ≡ lock_fault.Memory) }
     {
-        let key = Snapshot::of(&journal);
-        let Ok(mut slots) = Vec::with_capacity(alloc, 1) else {
-            return Err(LockFault::Memory);
-        };
-        slots.push_reserved(journal);
-        match Desk::new(alloc, &[0], slots, &key) {
-            Ok((desk, seat)) => Ok((
+        match Desk::open(alloc, journal) {
+            Ok((desk, place)) => Ok((
                 Router { desk },
                 Pass {
-                    seat,
+                    place,
                     shares: ALL_SHARES,
                 },
             )),
@@ -71,11 +62,11 @@ impl Router {
         ensures answered { IfOk result (λ a. Answered self.now pass.old event a pass.new × (pass.new.part.missed ≡ pass.old.part.missed)) }
         ensures refused { IfErr result (λ f. TryRefused f self.now pass.old event pass.new) }
     {
-        if !take(&self.desk, &mut pass.seat) {
+        if !self.desk.take(&mut pass.place) {
             return Err(TryFault::Busy(event));
         }
-        match enter(&self.desk, &mut pass.seat, event) {
-            Ok(answer) => Ok(answer),
+        match self.desk.enter(&mut pass.place, event) {
+            Ok((at, reply)) => Ok(Answer { at, reply }),
             Err(CallFault::Full) => Err(TryFault::Full),
             Err(CallFault::Memory) => Err(TryFault::Memory),
         }
@@ -90,8 +81,11 @@ impl Router {
         ensures answered { IfOk result (λ a. Answered self.now pass.old event a pass.new) }
         ensures refused { IfErr result (λ f. Refused f self.now pass.old pass.new) }
     {
-        take_in_the_end(rt, &self.desk, &mut pass.seat);
-        enter(&self.desk, &mut pass.seat, event)
+        take_in_the_end(rt, &self.desk, &mut pass.place);
+        match self.desk.enter(&mut pass.place, event) {
+            Ok((at, reply)) => Ok(Answer { at, reply }),
+            Err(fault) => Err(fault),
+        }
     }
 
     /// Divides a pass: the new one has this many of its shares, has seen the same, and has made no calls.
@@ -102,9 +96,9 @@ impl Router {
         ensures old { pass.new ≡ record pass.old { part = record pass.old.part { shares = pass.old.part.shares - shares } } }
         ensures new { result.part ≡ record { seen = pass.old.part.seen; mine = []; missed = 0; shares = shares } }
     {
-        let seat = cut::<Brand>(&self.desk, &mut pass.seat, shares);
+        let place = self.desk.cut(&mut pass.place, shares);
         pass.shares -= shares;
-        Pass { seat, shares }
+        Pass { place, shares }
     }
 
     /// Makes two passes one.
@@ -114,8 +108,8 @@ impl Router {
         ensures own { IsOwn pass.new.part }
         ensures joined { Joined pass.old.part other.part pass.new.part }
     {
-        let Pass { seat, shares } = other;
-        absorb(&self.desk, &mut pass.seat, seat);
+        let Pass { place, shares } = other;
+        self.desk.absorb(&mut pass.place, place);
         pass.shares += shares;
     }
 
@@ -126,9 +120,9 @@ impl Router {
         ensures own { IsOwn pass.new.part × IsOwn result.part }
         ensures met { Met pass.old other pass.new result }
     {
-        let Pass { seat, shares } = other;
-        let seat = compare(&self.desk, &mut pass.seat, seat);
-        Pass { seat, shares }
+        let Pass { place, shares } = other;
+        let place = self.desk.compare(&mut pass.place, place);
+        Pass { place, shares }
     }
 
     /// Closes the router, and returns its journal. L2 if the lock is held, to which no call of this crate leads; router, pass
@@ -139,8 +133,9 @@ impl Router {
         ensures count { IfOk result (λ j. pass.part.shares ≡ ALL_SHARES → length pass.part.mine ≡ length j.entries) }
         ensures held { IfErr result (λ f. (f ≡ lock_fault.Held) × (pass.part.shares ≢ ALL_SHARES)) }
     {
-        let Router { desk } = self;
-        let Pass { seat, shares: _ } = pass;
-        take_apart(desk, seat)
+        match self.desk.close(pass.place) {
+            Some(journal) => Ok(journal),
+            None => Err(LockFault::Held),
+        }
     }
 }

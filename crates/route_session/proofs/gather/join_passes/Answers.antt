@@ -1,34 +1,32 @@
-use Rattle.std.proofs.Common.{rules, ◌+◌, ◌∙◌, ap, sum_by, vec_len}
-use Rattle.route_session.proofs.Popped.{moved, none_left, nothing_more, popped, shares_popped}
-use Rattle.route_session.specs.Jobs.{shares_back}
-use Rattle.slot_lock.specs.declared.rule.Part.{Part}
+use Rattle.std.proofs.Common.{rules, length, subst, List, ◌∙◌, sym, map-id}
+use Rattle.std.proofs.lemmas.Iterator.Consumers.{YieldsList-end, YieldsList-turn}
+use Rattle.std.proofs.lemmas.Iterator.Adapters.{YieldsList-from_vec}
+use Rattle.route_session.specs.declared.job.Finished.{Finished}
+use Rattle.route_session.specs.Jobs.{Gathered}
+use Rattle.route_session.proofs.Gathering.{gathered_none, gathered_one, of_router}
 use Rattle.route_session.proofs.gather.join_passes.Goals as goal
 
--- src/gather.rt:20:9
+pub loop-job-init : goal.loop-job-init
+loop-job-init g c = record { of = c.requires.of.0; own = λ x. x; joined = gathered_none c.args.pass.now.part }
+
 pub join-requires : goal.join-requires
-join-requires g c = (
-  c.loop-job.invariant.of,
-  (popped c.args.router.now c.loop-job.left.items c.pop.new.self.items c.in-Some.job c.in-Some.ensures.items c.loop-job.invariant.back).1,
-)
+join-requires g c =
+    let turn = YieldsList-turn (YieldsList-from_vec {s = c.into_iter-job-iterator.result} c.args.finished.items (search rules) (search rules))
+    c.loop-job.yielded c.loop-job.job-iterator c.loop-job.yielded_by c.next.result c.next.new.self c.in-Some.job c.in-Some.is c.next.ensures.steps in (
+      c.loop-job.invariant.of,
+      of_router c.args.router.now c.args.finished.items c.in-Some.job (length c.loop-job.yielded) c.requires.of.1 turn.0 turn.1,
+    )
 
--- src/gather.rt:19:5
 pub loop-job-preserved : goal.loop-job-preserved
-loop-job-preserved g c =
-    let rest = c.pop.new.self.items in
-    let job = c.in-Some.job in
-    record {
-      of = c.join.ensures.of;
-      back = (popped c.args.router.now c.loop-job.left.items rest job c.in-Some.ensures.items c.loop-job.invariant.back).0;
-      shares = ap (λ (p : Part). p.shares + sum_by shares_back rest) c.join.ensures.joined.part
-          ∙ moved c.loop-job.pass.part.shares job.pass.part.shares c.args.pass.now.part.shares (sum_by shares_back c.args.finished.items)
-          (sum_by shares_back c.loop-job.left.items) (sum_by shares_back rest)
-          (shares_popped c.loop-job.left.items rest job c.in-Some.ensures.items) c.loop-job.invariant.shares;
-      own = λ h. c.join.ensures.own;
-    }
+loop-job-preserved g c = record {
+  of = c.join.ensures.of;
+  own = λ x. c.join.ensures.own;
+  joined = gathered_one c.args.pass.now.part c.loop-job.pass.part c.loop-job.yielded c.in-Some.job c.join.new.pass.part
+      c.loop-job.invariant.joined c.join.ensures.joined;
+}
 
--- src/gather.rt:12:1
-pub returns-clause-shares : goal.returns-clause-shares
-returns-clause-shares g c =
-    let none = nothing_more c.loop-job.left.items (vec_len c.loop-job.left) c.pop.result (search rules) c.pop.ensures.variant c.in_default.is in
-    none_left c.loop-job.pass.part.shares (sum_by shares_back c.loop-job.left.items)
-    (c.args.pass.now.part.shares + sum_by shares_back c.args.finished.items) (ap (sum_by shares_back) none) c.loop-job.invariant.shares
+pub returns-clause-joined : goal.returns-clause-joined
+returns-clause-joined g c =
+    let end = YieldsList-end (YieldsList-from_vec {s = c.into_iter-job-iterator.result} c.args.finished.items (search rules) (search rules))
+    c.loop-job.yielded c.loop-job.job-iterator c.loop-job.yielded_by c.next.result c.next.new.self c.in-None.is c.next.ensures.steps in
+    subst (λ (l : List (Finished _)). Gathered c.args.pass.now.part l c.loop-job.pass.part) (sym (map-id _) ∙ end.0) c.loop-job.invariant.joined

@@ -1,4 +1,4 @@
-use Rattle.slot_lock.proofs.Keeping.{times_append}
+use Rattle.lock_rule.proofs.Keeping.{times_append}
 use Rattle.slot_lock.proofs.laws.counts_add_up.Goals as goal
 
 pub returns : goal.returns

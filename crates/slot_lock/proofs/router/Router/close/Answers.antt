@@ -1,13 +1,10 @@
-use Rattle.std.proofs.Common.{◌≡◌, subst, IfOk, length}
-use Rattle.route_history.specs.JournalView.{JournalView}
-use Rattle.slot_lock.specs.Held.{PassView, router_view}
-use Rattle.slot_lock.specs.Views.{all_shares}
-use Rattle.slot_lock.proofs.Closing.{counted_at_close}
+use Rattle.std.proofs.Common.{◌≡◌, subst, length}
+use Rattle.lock_rule.specs.Views.{all_shares}
+use Rattle.slot_lock.specs.Held.{PassView}
+use Rattle.slot_lock.proofs.Counting.{as_many}
 use Rattle.slot_lock.proofs.router.Router.close.Goals as goal
 
-pub returns-clause-count : goal.returns-clause-count
-returns-clause-count c =
-    subst (λ (p : PassView). IfOk c.take_apart.result (λ (j : JournalView). p.part.shares ≡ all_shares → length p.part.mine ≡ length j.entries))
-    c.pass.view_is
-    (counted_at_close (router_view c.self.inside.desk.shared.table_id c.self.inside.desk.shared.key.value.opening
-    c.self.inside.desk.shared.key.value.limit) c.pass.inside.seat.me.0.own c.take_apart.result c.take_apart.ensures.closed)
+pub returns-in-Some-clause-count : goal.returns-in-Some-clause-count
+returns-in-Some-clause-count c =
+    subst (λ (p : PassView). p.part.shares ≡ all_shares → length p.part.mine ≡ length c.in-Some.journal.entries) c.pass.view_is
+    (λ all. as_many (length c.in-Some.journal.entries) c.pass.inside.place.me.0.own.mine (c.in-Some.ensures.closed.once all))
