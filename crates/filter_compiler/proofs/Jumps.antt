@@ -14,7 +14,7 @@ use Rattle.filter_compiler.proofs.Within.{exchanged, is_short}
 -- the distance in a program that is not too long, and the place
 module _ (out : Output) (locals : ℕ) (sets : List (List PrefixPattern)) (before rest : List Instr) (empty : Instr) (at : ℕ) (jump : ℕ → Instr) where
   patched_code : Holds out (program_of locals sets (before ++ empty ∷ rest)) → at ≡ min (length before) 65535 → out.fault ≡ None
-      → slice_set out.instrs at (jump (out.length - at - 1)) ≡ before ++ jump (length rest) ∷ rest
+      → slice_set out.mapped.instrs at (jump (out.length - at - 1)) ≡ before ++ jump (length rest) ∷ rest
   patched_code h is none =
       let short : length (before ++ empty ∷ rest) ≤ 1024 = is_short out (program_of locals sets (before ++ empty ∷ rest)) h none in
       let all : length (before ++ empty ∷ rest) ≡ length before + (length rest + 1) = omega (arith, length-append before (empty ∷ rest)) in

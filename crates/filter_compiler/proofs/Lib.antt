@@ -3,9 +3,11 @@ pub mod CommandRuns
 pub mod ExpressionRuns
 pub mod InstructionPlaces
 pub mod Jumps
+pub mod Notes
 pub mod Operators
 pub mod Parts
 pub mod PlaceCounts
+pub mod PlacedParts
 pub mod Puts
 pub mod Reaching
 pub mod Rows

@@ -40,7 +40,7 @@ are_few out program h none = by_cases (cases_lt 64 (length program.sets))
 module _ (old new : Output) (locals : ℕ) (sets : List (List PrefixPattern)) (x y : List Instr) (counted : new.length ≡ old.length)
     (set_count : new.set_count ≡ old.set_count) (same_fault : new.fault ≡ old.fault) (same_sets : new.sets ≡ old.sets)
     (same_length : length x ≡ length y) where
-  pub exchanged : (new.fault ≡ None → new.instrs ≡ y) → Holds old (program_of locals sets x) → Holds new (program_of locals sets y)
+  pub exchanged : (new.fault ≡ None → new.mapped.instrs ≡ y) → Holds old (program_of locals sets x) → Holds new (program_of locals sets y)
   exchanged instrs h =
       let long : IsTooLong (program_of locals sets y) → IsTooLong (program_of locals sets x) = subst (λ n. 1024 < n) (sym same_length) in
       let long' : IsTooLong (program_of locals sets x) → IsTooLong (program_of locals sets y) = subst (λ n. 1024 < n) same_length in
@@ -71,7 +71,7 @@ module _ (old new : Output) (program : CodeView) (instr : Instr) (h : Holds old 
   pub put_within : old.length < 1024
       → (new.fault ≡ Some fault.TooManyInstructions → old.fault ≡ Some fault.TooManyInstructions)
       → ((new.fault ≡ Some fault.TooManySets) ↔ (old.fault ≡ Some fault.TooManySets))
-      → (new.fault ≡ None → (old.fault ≡ None) × (new.instrs ≡ old.instrs ++ instr ∷ []) × (new.sets ≡ old.sets))
+      → (new.fault ≡ None → (old.fault ≡ None) × (new.mapped.instrs ≡ old.mapped.instrs ++ instr ∷ []) × (new.sets ≡ old.sets))
       → Holds new (with_part program (code_alone (instr ∷ [])))
   put_within low long_is many_is kept =
       let c = h.counted in
@@ -125,7 +125,7 @@ module _ (old new : Output) (program : CodeView) (set : List PrefixPattern) (h :
   pub keep_within : old.set_count < 64 → length set ≤ 1024
       → ((new.fault ≡ Some fault.TooManyInstructions) ↔ (old.fault ≡ Some fault.TooManyInstructions))
       → ((new.fault ≡ Some fault.TooManySets) ↔ (old.fault ≡ Some fault.TooManySets))
-      → (new.fault ≡ None → (old.fault ≡ None) × (new.instrs ≡ old.instrs) × (new.sets.items ≡ old.sets.items ++ set ∷ []))
+      → (new.fault ≡ None → (old.fault ≡ None) × (new.mapped.instrs ≡ old.mapped.instrs) × (new.sets.items ≡ old.sets.items ++ set ∷ []))
       → Holds new (with_part program (record { code = λ n. []; sets = set ∷ [] }))
   keep_within low small long_is many_is kept =
       as_kept (record {

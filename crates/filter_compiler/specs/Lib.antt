@@ -8,4 +8,5 @@ pub mod Same
 pub mod Translation
 pub mod Verdicts
 -- What only the bodies of this crate are proved against.
+pub mod Mapped
 pub mod Written

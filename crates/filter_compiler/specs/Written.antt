@@ -55,18 +55,25 @@ pub record Holds (out : Output) (program : CodeView) : Type 0 where
   pub set_count : out.set_count ≡ min (length program.sets) 255
   pub too_long : (out.fault ≡ Some fault.TooManyInstructions) ↔ IsTooLong program
   pub too_many : (out.fault ≡ Some fault.TooManySets) ↔ (¬ IsTooLong program × HasTooMany program)
-  pub instrs : out.fault ≡ None → out.instrs ≡ program.instrs
+  pub instrs : out.fault ≡ None → out.mapped.instrs ≡ program.instrs
   pub sets : out.fault ≡ None → out.sets.items ≡ program.sets
 
 -- a part was put into the one output, and the other is what came of it
 pub record Puts (old new : Output) (part : Part) : Type 0 where
   pub holds : (program : CodeView) → Holds old program → Holds new (with_part program part)
 
+-- instructions from these places in the text were put into the one output, and the other is what came of it: where it has no
+-- fault, it has kept them all, and one place for each instruction if there was one for each before
+pub record Notes (old new : Output) (places : List ℕ) : Type 0 where
+  pub went_on : new.fault ≡ None → old.fault ≡ None
+  pub noted : new.fault ≡ None → new.mapped.places ≡ old.mapped.places ++ places
+  pub each : new.fault ≡ None → length old.mapped.places ≡ length old.mapped.instrs → length new.mapped.places ≡ length new.mapped.instrs
+
 -- an output with another instruction in this place
 abbrev pub patched : Output → ℕ → Instr → Output
 patched out at instr = record {
   alloc = out.alloc;
-  instrs = slice_set out.instrs at instr;
+  mapped = record { instrs = slice_set out.mapped.instrs at instr; places = out.mapped.places };
   sets = out.sets;
   length = out.length;
   set_count = out.set_count;

@@ -1,13 +1,14 @@
 //! The code of declarations and commands.
 
-ghost use Rattle.std.specs.Prelude.{◌≡◌, ◌≤◌, length, map};
+ghost use Rattle.std.specs.Prelude.{◌≡◌, ◌≤◌, ◌∷◌, [], flat_map, length, map};
 ghost use Rattle.filter_code.specs.CodeView.{HasMask};
 ghost use Rattle.filter_parser.specs.Syntax.{view};
 ghost use Rattle.filter_parser.specs.SyntaxCommands.{commands_of, view_command, view_decl, view_target};
 ghost use Rattle.filter_parser.specs.SyntaxText.{view_filter};
 ghost use Rattle.filter_types.specs.Kinds.{variable_limit};
+ghost use Rattle.filter_compiler.specs.InstructionPlaces.{command_places, decl_places, target_places};
 ghost use Rattle.filter_compiler.specs.Translation.{declarations_code, first_value, metric_code, target_code};
-ghost use Rattle.filter_compiler.specs.Written.{Puts, code_alone, command_part, commands_part};
+ghost use Rattle.filter_compiler.specs.Written.{Notes, Puts, code_alone, command_part, commands_part};
 
 use crate::expressions::emit;
 use crate::output::Output;
@@ -32,30 +33,33 @@ fn first_value(kind: Kind) -> Instr
 /// Writes the declarations: each gives its variable the first value.
 pub(crate) fn emit_declarations(variables: &[Decl], out: &mut Output)
     requires { length variables.now ≤ variable_limit }
-    ensures { Puts out.old out.new (code_alone (declarations_code 0 (map view_decl variables.now))) }
+    ensures code { Puts out.old out.new (code_alone (declarations_code 0 (map view_decl variables.now))) }
+    ensures places { Notes out.old out.new (flat_map decl_places variables.now) }
 {
     for (number, variable) in variables.iter().enumerate() {
-        out.put(first_value(variable.kind));
-        out.put(Instr::Store(number as u8));
+        out.put(variable.at, first_value(variable.kind));
+        out.put(variable.at, Instr::Store(number as u8));
     }
 }
 
 /// Writes what sets the metric, which is at least the metric received.
-fn emit_metric(out: &mut Output)
-    ensures { Puts out.old out.new (code_alone metric_code) }
+fn emit_metric(at: usize, out: &mut Output)
+    ensures code { Puts out.old out.new (code_alone metric_code) }
+    ensures places { Notes out.old out.new (at ∷ at ∷ at ∷ []) }
 {
-    out.put(Instr::Received);
-    out.put(Instr::Max);
-    out.put(Instr::SetMetric);
+    out.put(at, Instr::Received);
+    out.put(at, Instr::Max);
+    out.put(at, Instr::SetMetric);
 }
 
-/// Writes what sets a variable or the metric to a value.
-fn emit_target(typed: &Typed, target: &Target, out: &mut Output)
-    ensures { Puts out.old out.new (code_alone (target_code (view_filter typed.now).decls (view_target target.now))) }
+/// Writes what sets a variable or the metric to a value, where its name stands at a place.
+fn emit_target(typed: &Typed, at: usize, target: &Target, out: &mut Output)
+    ensures code { Puts out.old out.new (code_alone (target_code (view_filter typed.now).decls (view_target target.now))) }
+    ensures places { Notes out.old out.new (target_places at target.now) }
 {
     match target {
-        Target::Name(name) => out.put(Instr::Store(typed.number_of(name))),
-        Target::RipMetric => emit_metric(out),
+        Target::Name(name) => out.put(at, Instr::Store(typed.number_of(name))),
+        Target::RipMetric => emit_metric(at, out),
         Target::Net => {}
     }
 }
@@ -63,7 +67,8 @@ fn emit_target(typed: &Typed, target: &Target, out: &mut Output)
 /// Writes commands one after another.
 #[cycle(command)]
 pub(crate) fn emit_commands(typed: &Typed, commands: &[Command], out: &mut Output)
-    ensures { Puts out.old out.new (commands_part (view_filter typed.now).decls (commands_of (map view_command commands.now))) }
+    ensures code { Puts out.old out.new (commands_part (view_filter typed.now).decls (commands_of (map view_command commands.now))) }
+    ensures places { Notes out.old out.new (flat_map command_places commands.now) }
 {
     for command in commands {
         emit_command(typed, command, out);
@@ -73,15 +78,16 @@ pub(crate) fn emit_commands(typed: &Typed, commands: &[Command], out: &mut Outpu
 /// Writes a command.
 #[cycle(command)]
 fn emit_command(typed: &Typed, command: &Command, out: &mut Output)
-    ensures { Puts out.old out.new (command_part (view_filter typed.now).decls (view_command command.now)) }
+    ensures code { Puts out.old out.new (command_part (view_filter typed.now).decls (view_command command.now)) }
+    ensures places { Notes out.old out.new (command_places command.now) }
 {
     match command {
         Command::Empty(_) => {}
         Command::Block(_, body) => emit_commands(typed, body, out),
-        Command::If(_, test, chosen, other) => {
+        Command::If(at, test, chosen, other) => {
             emit(typed, test, out);
             let jump = out.length;
-            out.put(Instr::JumpIfNot(0));
+            out.put(*at, Instr::JumpIfNot(0));
             emit_command(typed, chosen, out);
             let distance = out.distance(jump);
             match other {
@@ -89,18 +95,18 @@ fn emit_command(typed: &Typed, command: &Command, out: &mut Output)
                 Some(other) => {
                     out.patch(jump, Instr::JumpIfNot(distance + 1));
                     let jump_over = out.length;
-                    out.put(Instr::Jump(0));
+                    out.put(*at, Instr::Jump(0));
                     emit_command(typed, other, out);
                     let distance = out.distance(jump_over);
                     out.patch(jump_over, Instr::Jump(distance));
                 }
             }
         }
-        Command::Assign(_, target, value) => {
+        Command::Assign(at, target, value) => {
             emit(typed, value, out);
-            emit_target(typed, target, out);
+            emit_target(typed, *at, target, out);
         }
-        Command::Accept(_, _) => out.put(Instr::Accept),
-        Command::Reject(_, _) => out.put(Instr::Reject),
+        Command::Accept(at, _) => out.put(*at, Instr::Accept),
+        Command::Reject(at, _) => out.put(*at, Instr::Reject),
     }
 }

@@ -1,9 +1,11 @@
 //! A filter becomes code.
 
-ghost use Rattle.std.specs.Prelude.{◌≡◌, ◌↔◌, ◌≤◌, IfOk, IsErrOf, length};
+ghost use Rattle.std.specs.Prelude.{◌≡◌, ◌↔◌, ◌≤◌, None, IfOk, IsErrOf, length};
+ghost use Rattle.filter_parser.specs.Places.{end_place};
 ghost use Rattle.filter_parser.specs.SyntaxText.{view_filter};
 ghost use Rattle.filter_types.specs.Kinds.{variable_limit};
 ghost use Rattle.filter_code.specs.CodeView.{IsAllowed, CodeView};
+ghost use Rattle.filter_compiler.specs.InstructionPlaces.{places_of};
 ghost use Rattle.filter_compiler.specs.Limits.{HasTooMany, IsTooLong};
 ghost use Rattle.filter_compiler.specs.Same.{MeansTheSame};
 ghost use Rattle.filter_compiler.specs.Translation.{code_of};
@@ -14,19 +16,42 @@ use crate::fault::CompileFault;
 use crate::output::Output;
 use crate::sets::build_sets;
 use filter_code::{Code, Instr};
+use filter_parser::Filter;
 use filter_types::Typed;
 use prefix_patterns::PatternSet;
 use std::alloc::{AllocError, Global};
 
+/// The code of a filter, and where in the text its instructions come from.
+#[derive(Drop)]
+pub struct MappedCode {
+    /// The code.
+    pub code: Code,
+    /// For each instruction of the code, in order, the place in the text of the part that it translates: the number of bytes
+    /// before it.
+    pub places: Vec<usize>,
+}
+
+/// The place of a filter's last token.
+fn end_place(filter: &Filter) -> usize
+    ensures { result ≡ end_place filter.now }
+{
+    match filter.tokens().last() {
+        Some(token) => token.from,
+        None => 0,
+    }
+}
+
 /// A filter's code, or what is wrong with it.
 fn write_filter(alloc: Global, typed: &Typed) -> Output
-    ensures { Holds result (code_of (view_filter typed.now)) }
+    ensures code { Holds result (code_of (view_filter typed.now)) }
+    ensures places { result.fault ≡ None → result.mapped.places ≡ places_of typed.now }
+    ensures each { result.fault ≡ None → length result.mapped.places ≡ length result.mapped.instrs }
 {
     let filter = typed.filter();
     let mut out = Output::new(alloc);
     emit_declarations(filter.decls(), &mut out);
     emit_commands(typed, filter.body(), &mut out);
-    out.put(Instr::Reject);
+    out.put(end_place(filter), Instr::Reject);
     out
 }
 
@@ -38,16 +63,42 @@ fn finished(locals: usize, sets: Vec<PatternSet>, instrs: Vec<Instr>) -> Code
     Code::new(locals as u8, sets, instrs).unwrap()
 }
 
-/// The code that an output has kept.
-fn build_code(alloc: Global, locals: usize, out: Output) -> Result<Code, AllocError>
+/// The code that an output has kept, and its places.
+fn build_code(alloc: Global, locals: usize, out: Output) -> Result<MappedCode, AllocError>
     requires locals { locals ≤ variable_limit }
-    requires short { let program : CodeView = record { locals = locals; sets = out.sets.items; instrs = out.instrs } in ¬ IsTooLong program }
-    requires few { let program : CodeView = record { locals = locals; sets = out.sets.items; instrs = out.instrs } in ¬ HasTooMany program }
-    ensures { let program : CodeView = record { locals = locals; sets = out.sets.items; instrs = out.instrs } in
-        IfOk result (λ code. code ≡ program) }
+    requires short { let program : CodeView = record { locals = locals; sets = out.sets.items; instrs = out.mapped.instrs } in ¬ IsTooLong program }
+    requires few { let program : CodeView = record { locals = locals; sets = out.sets.items; instrs = out.mapped.instrs } in ¬ HasTooMany program }
+    ensures code { let program : CodeView = record { locals = locals; sets = out.sets.items; instrs = out.mapped.instrs } in
+        IfOk result (λ mapped. mapped.code ≡ program) }
+    ensures places { IfOk result (λ mapped. mapped.places.items ≡ out.mapped.places) }
 {
     let sets = build_sets(alloc, &out.sets)?;
-    Ok(finished(locals, sets, out.instrs.into_vec()))
+    let (instrs, places) = out.mapped.into_parts();
+    Ok(MappedCode {
+        code: finished(locals, sets, instrs),
+        places,
+    })
+}
+
+/// The code of a filter as `compile` gives it, and for each instruction the place in the text of the part that it translates. The
+/// instructions of an operator are at the operator, those of an assignment at its name, the jumps of `if` and `else` at the `if`, the
+/// question for a set at its `[`, and the REJECT at the end at the last token.
+///
+/// It is refused as `compile` refuses it.
+pub fn compile_mapped(alloc: Global, typed: &Typed) -> Result<MappedCode, CompileFault>
+    ensures code { IfOk result (λ mapped. mapped.code ≡ code_of (view_filter typed.now)) }
+    ensures places { IfOk result (λ mapped. mapped.places.items ≡ places_of typed.now) }
+    ensures one_place_each { IfOk result (λ mapped. length mapped.places.items ≡ length mapped.code.instrs) }
+    ensures meaning { IfOk result (λ mapped. MeansTheSame (view_filter typed.now) mapped.code) }
+    ensures too_long { IsErrOf result CompileFault.TooManyInstructions ↔ IsTooLong (code_of (view_filter typed.now)) }
+    ensures too_many { IsErrOf result CompileFault.TooManySets
+        ↔ (¬ IsTooLong (code_of (view_filter typed.now)) × HasTooMany (code_of (view_filter typed.now))) }
+{
+    let out = write_filter(alloc, typed);
+    match out.fault {
+        Some(fault) => Err(fault),
+        None => Ok(build_code(alloc, typed.filter().decls().len(), out)?),
+    }
 }
 
 /// The code of a filter, which means what the filter means: for every route its outcome is what the filter says, or
@@ -62,9 +113,6 @@ pub fn compile(alloc: Global, typed: &Typed) -> Result<Code, CompileFault>
     ensures too_many { IsErrOf result CompileFault.TooManySets
         ↔ (¬ IsTooLong (code_of (view_filter typed.now)) × HasTooMany (code_of (view_filter typed.now))) }
 {
-    let out = write_filter(alloc, typed);
-    match out.fault {
-        Some(fault) => Err(fault),
-        None => Ok(build_code(alloc, typed.filter().decls().len(), out)?),
-    }
+    let mapped = compile_mapped(alloc, typed)?;
+    Ok(mapped.code)
 }

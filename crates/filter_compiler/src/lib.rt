@@ -9,6 +9,6 @@ mod output;
 mod places;
 mod sets;
 
-pub use compiler::compile;
+pub use compiler::{MappedCode, compile, compile_mapped};
 pub use fault::CompileFault;
 pub use places::{instruction_places, one_place_each};

@@ -11,59 +11,64 @@ use prefix_patterns::PATTERN_LIMIT;
 use std::alloc::{AllocError, Global};
 use std::marker::Model;
 
-/// Instructions of which no MASK keeps more than 32 bits. A contract sees them as their list.
+/// Instructions of which no MASK keeps more than 32 bits, and beside them the places in the text that they come from. A contract
+/// sees them as two lists.
 #[derive(Drop)]
-pub(crate) struct InstrList {
+pub(crate) struct MappedInstrs {
     instrs: Vec<Instr>,
+    places: Vec<usize>,
 }
 
-impl Model for InstrList {
-    ghost use Rattle.std.specs.Prelude.{List, All};
-    ghost use Rattle.filter_code.specs.declared.instruction.Instr.{Instr};
+impl Model for MappedInstrs {
+    ghost use Rattle.std.specs.Prelude.{All};
     ghost use Rattle.filter_code.specs.CodeView.{HasMask};
+    ghost use Rattle.filter_compiler.specs.Mapped.{Mapped};
 
-    ghost Value = { List Instr };
+    ghost Value = { Mapped };
 
-    ghost view = { λ l. l.instrs.items };
+    ghost view = { λ l. record { instrs = l.instrs.items; places = l.places.items } };
 
     ghost invariant = { λ l. All HasMask l.instrs.items };
 }
 
-impl InstrList {
+impl MappedInstrs {
     /// No instructions.
-    fn new(alloc: Global) -> InstrList
-        ensures { result ≡ [] }
+    fn new(alloc: Global) -> MappedInstrs
+        ensures { result ≡ record { instrs = []; places = [] } }
     {
-        InstrList {
+        MappedInstrs {
             instrs: Vec::new(alloc),
+            places: Vec::new(alloc),
         }
     }
 
-    /// One more instruction.
-    fn push(&mut self, instr: Instr) -> Result<(), AllocError>
+    /// One more instruction, and its place.
+    fn push(&mut self, at: usize, instr: Instr) -> Result<(), AllocError>
         requires { HasMask instr }
-        ensures { OnOk result (self.new ≡ self.old ++ instr ∷ []) }
+        ensures { OnOk result (self.new ≡ record { instrs = self.old.instrs ++ instr ∷ []; places = self.old.places ++ at ∷ [] }) }
     {
         self.instrs.push(instr)?;
+        self.places.push(at)?;
         Ok(())
     }
 
-    /// Another instruction in the place of the one at this index, if there is one.
+    /// Another instruction in the place of the one at this index, if there is one. It comes from the same place in the text.
     fn replace(&mut self, index: usize, instr: Instr)
         requires { HasMask instr }
-        ensures { self.new ≡ slice_set self.old index instr }
+        ensures { self.new ≡ record { instrs = slice_set self.old.instrs index instr; places = self.old.places } }
     {
         if index < self.instrs.len() {
             self.instrs[index] = instr;
         }
     }
 
-    /// The instructions.
-    pub(crate) fn into_vec(self) -> Vec<Instr>
-        ensures items { result.items ≡ self }
-        ensures masks { All HasMask result.items }
+    /// The instructions, and their places.
+    pub(crate) fn into_parts(self) -> (Vec<Instr>, Vec<usize>)
+        ensures instrs { result.0.items ≡ self.instrs }
+        ensures places { result.1.items ≡ self.places }
+        ensures masks { All HasMask result.0.items }
     {
-        self.instrs
+        (self.instrs, self.places)
     }
 }
 
@@ -71,8 +76,8 @@ impl InstrList {
 #[derive(Drop)]
 pub(crate) struct Output {
     pub alloc: Global,
-    /// The instructions, while there is no fault.
-    pub instrs: InstrList,
+    /// The instructions and their places, while there is no fault.
+    pub mapped: MappedInstrs,
     /// The patterns of each set, while there is no fault.
     pub sets: Vec<PatternList>,
     /// How many instructions were put, or the greatest number there is here.
@@ -87,15 +92,16 @@ impl Output {
     ghost use Rattle.std.specs.Prelude.{ℕ, ◌-◌, ◌<◌, length, map};
     ghost use Rattle.filter_code.specs.CodeView.{CodeView};
     ghost use Rattle.filter_parser.specs.Syntax.{pattern_of, view_set_pattern};
-    ghost use Rattle.filter_compiler.specs.Written.{Holds, Puts, code_alone, patched};
+    ghost use Rattle.filter_compiler.specs.Written.{Holds, Notes, Puts, code_alone, patched};
 
     /// Nothing yet.
     pub(crate) fn new(alloc: Global) -> Output
-        ensures { (locals : ℕ) → let program : CodeView = record { locals = locals; sets = []; instrs = [] } in Holds result program }
+        ensures holds { (locals : ℕ) → let program : CodeView = record { locals = locals; sets = []; instrs = [] } in Holds result program }
+        ensures empty { result.mapped ≡ record { instrs = []; places = [] } }
     {
         Output {
             alloc,
-            instrs: InstrList::new(alloc),
+            mapped: MappedInstrs::new(alloc),
             sets: Vec::new(alloc),
             length: 0,
             set_count: 0,
@@ -103,10 +109,11 @@ impl Output {
         }
     }
 
-    /// One more instruction.
-    pub(crate) fn put(&mut self, instr: Instr)
+    /// One more instruction, which comes from a place in the text: the number of bytes before it.
+    pub(crate) fn put(&mut self, at: usize, instr: Instr)
         requires { HasMask instr }
-        ensures { Puts self.old self.new (code_alone (instr ∷ [])) }
+        ensures code { Puts self.old self.new (code_alone (instr ∷ [])) }
+        ensures places { Notes self.old self.new (at ∷ []) }
     {
         let index = self.length;
         self.length = index.saturating_add(1);
@@ -114,7 +121,7 @@ impl Output {
             self.fault = Some(CompileFault::TooManyInstructions);
             return;
         }
-        if self.fault.is_none() && self.instrs.push(instr).is_err() {
+        if self.fault.is_none() && self.mapped.push(at, instr).is_err() {
             self.fault = Some(CompileFault::Memory);
         }
     }
@@ -127,12 +134,12 @@ impl Output {
         self.length.saturating_sub(jump).saturating_sub(1)
     }
 
-    /// Another instruction in the place of the one at this index.
+    /// Another instruction in the place of the one at this index, from the same place in the text.
     pub(crate) fn patch(&mut self, index: u16, instr: Instr)
         requires { HasMask instr }
         ensures { self.new ≡ patched self.old index instr }
     {
-        self.instrs.replace(usize::from(index), instr);
+        self.mapped.replace(usize::from(index), instr);
     }
 
     /// One more set, whose number is answered.
@@ -140,6 +147,7 @@ impl Output {
         ensures number { result ≡ self.old.set_count }
         ensures sets { Puts self.old self.new
             (record { code = λ n. []; sets = map pattern_of (map view_set_pattern set.now.patterns.items) ∷ [] }) }
+        ensures places { Notes self.old self.new [] }
     {
         let number = self.set_count;
         self.set_count = number.saturating_add(1);

@@ -12,6 +12,7 @@ pub use failure::Failure;
 pub use laws::one_translation;
 pub use refusal::Refusal;
 pub use source::{
-    SOURCE_LIMIT, check_length, compile_text, read_file, read_hexadecimal, verify_code,
+    SOURCE_LIMIT, check_length, compile_text, compile_text_mapped, read_file, read_hexadecimal,
+    verify_code,
 };
 pub use verified_line::push_verified;

@@ -7,6 +7,7 @@ ghost use Rattle.filter_verifier.specs.declared.fault.VerifyFault.TheVariants as
 ghost use Rattle.filter_source.specs.Failures.{OnRefusal};
 ghost use Rattle.filter_source.specs.Limits.{source_limit};
 ghost use Rattle.filter_source.specs.Sources as spec;
+ghost use Rattle.filter_source.specs.TextPlaces.{ArePlacesOf};
 ghost use Rattle.filter_source.specs.declared.failure.Failure.TheVariants as failure;
 ghost use Rattle.filter_source.specs.declared.refusal.Refusal.TheVariants as refusal;
 
@@ -14,7 +15,7 @@ use crate::failure::Failure;
 use crate::refusal::Refusal;
 use code_file::read_code;
 use filter_code::Code;
-use filter_compiler::compile;
+use filter_compiler::{MappedCode, compile_mapped};
 use filter_parser::parse;
 use filter_types::check;
 use filter_verifier::{Verified, verify};
@@ -34,14 +35,25 @@ pub fn check_length(source: &[u8]) -> Result<(), Failure>
     Ok(())
 }
 
-/// The code of the filter that a text spells: the text is parsed, its names and kinds are checked, and the filter is compiled.
-pub fn compile_text(alloc: Global, text: &[u8]) -> Result<Code, Failure>
-    ensures code { IfOk result (λ code. (filter : FilterView) × spec.Translates text.now filter code) }
+/// The code of the filter that a text spells, and for each instruction the place in the text of the part that it translates: the
+/// text is parsed, its names and kinds are checked, and the filter is compiled.
+pub fn compile_text_mapped(alloc: Global, text: &[u8]) -> Result<MappedCode, Failure>
+    ensures code { IfOk result (λ mapped. (filter : FilterView) × spec.Translates text.now filter mapped.code) }
+    ensures places { IfOk result (λ mapped. ArePlacesOf text.now mapped.places.items) }
     ensures refused { IfErr result (OnRefusal (spec.IsRefusedText text.now)) }
 {
     let filter = parse(alloc, text)?;
     let typed = check(alloc, filter)?;
-    Ok(compile(alloc, &typed)?)
+    Ok(compile_mapped(alloc, &typed)?)
+}
+
+/// The code of the filter that a text spells.
+pub fn compile_text(alloc: Global, text: &[u8]) -> Result<Code, Failure>
+    ensures code { IfOk result (λ code. (filter : FilterView) × spec.Translates text.now filter code) }
+    ensures refused { IfErr result (OnRefusal (spec.IsRefusedText text.now)) }
+{
+    let mapped = compile_text_mapped(alloc, text)?;
+    Ok(mapped.code)
 }
 
 /// The code of a code file.
