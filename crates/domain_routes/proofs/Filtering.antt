@@ -1,5 +1,5 @@
 -- A plan in which another filter stands.
-use Rattle.std.proofs.Common.{◌≡◌, ℕ, ◌<◌, IfSome, Option, Some, sym, subst, refl, ◌∙◌}
+use Rattle.std.proofs.Common.{◌≡◌, ℕ, ◌<◌, Some, sym, refl, ◌∙◌}
 use Rattle.filter_verifier.specs.VerifiedView.{VerifiedView}
 use Rattle.netchange_core.specs.Kept.{FitsSize}
 use Rattle.domain_routes.specs.Edits.{exporting, importing, put}

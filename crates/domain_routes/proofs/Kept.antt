@@ -1,10 +1,9 @@
 -- What the way through the nearest node that is not done leaves as it was.
-use Rattle.std.proofs.Common.{◌≡◌, ◌≢◌, ⊎_elim, ℕ, suc, ◌<◌, ◌≤◌, Bool, true, false, sym, ap, subst, ◌∙◌, arith, refl}
+use Rattle.std.proofs.Common.{◌≡◌, ◌≢◌, ⊎_elim, ℕ, suc, ◌<◌, ◌≤◌, Bool, true, false, sym, ap, ◌∙◌, arith}
 use Rattle.std.proofs.lemmas.Bool.{cases_Bool, cases_eq}
 use Rattle.routing_domain.specs.Rest.{NeverNearer, Topology}
 use Rattle.domain_routes.specs.declared.best.Best.{Best}
-use Rattle.domain_routes.specs.Offers.{ComesBefore, IsBetter, StaysBehind, hop_of, way}
-use Rattle.domain_routes.specs.Routes.{own_route}
+use Rattle.domain_routes.specs.Offers.{ComesBefore}
 use Rattle.domain_routes.specs.Solving.{AreBestSoFar, AreOffered, IsNearest}
 
 -- a node is done, and its neighbours were offered the way through it

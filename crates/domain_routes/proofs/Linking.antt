@@ -3,7 +3,7 @@ use Rattle.std.proofs.Common.{◌≡◌, ◌≢◌, ◌⊎◌, ⊎_elim, inl, in
 use Rattle.netchange_core.specs.Kept.{FitsSize}
 use Rattle.domain_routes.specs.Edits.{half_linking, linking}
 use Rattle.domain_routes.specs.PlanView.{HasPlaces, IsPlan, PeerView, PlanView, is_linked, peer}
-use Rattle.domain_routes.proofs.Places.{cases_place, put_each, put_here, put_places, put_same, put_there}
+use Rattle.domain_routes.proofs.Places.{cases_place, put_here, put_places, put_same, put_there}
 
 -- the two nodes of a link, in either order
 abbrev pub AreEnds : ℕ → ℕ → ℕ → ℕ → Type 0

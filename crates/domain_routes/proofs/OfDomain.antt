@@ -1,12 +1,12 @@
 -- A plan's topology and that of a domain with its links and filters are at rest together.
-use Rattle.std.proofs.Common.{◌≡◌, ◌≢◌, ℕ, suc, ◌<◌, List, Bool, Option, Some, None, true, sym, ap, subst, refl, ◌∙◌, arith}
+use Rattle.std.proofs.Common.{◌≡◌, ℕ, suc, ◌<◌, Option, Some, None, sym, ap, refl, ◌∙◌, arith}
 use Rattle.filter_verifier.specs.VerifiedView.{VerifiedView}
 use Rattle.netchange_core.specs.OpeningView.{OpeningView}
 use Rattle.netchange_core.specs.Pass.{pass}
-use Rattle.routing_domain.specs.Domain.{Domain, are_linked, exported, imported, neighbour, topology as domain_topology}
+use Rattle.routing_domain.specs.Domain.{Domain, exported, imported, neighbour, topology as domain_topology}
 use Rattle.routing_domain.specs.Rest.{IsRest, LeadsThrough, Topology}
 use Rattle.domain_routes.specs.OfDomain.{IsPlanOf}
-use Rattle.domain_routes.specs.PlanView.{PlanView, is_linked, opening_of, peer}
+use Rattle.domain_routes.specs.PlanView.{PlanView, opening_of, peer}
 use Rattle.domain_routes.specs.Topology.{toll, topology}
 
 -- two topologies of one size, with the same links and tolls between their nodes

@@ -1,12 +1,12 @@
 -- After a node is done the routes are the best so far again.
-use Rattle.std.proofs.Common.{◌≡◌, ◌≢◌, ⊎_elim, ℕ, suc, ◌<◌, ◌≤◌, Bool, true, false, sym, ap, subst, ◌∙◌, arith, refl}
+use Rattle.std.proofs.Common.{◌≡◌, ◌≢◌, ⊎_elim, ℕ, suc, ◌<◌, ◌≤◌, Bool, true, false, sym, ap, subst, ◌∙◌, arith}
 use Rattle.std.proofs.lemmas.Bool.{cases_Bool, cases_eq, false≢true}
 use Rattle.netchange_core.specs.declared.reply.Via.{Via}
 use Rattle.netchange_core.specs.declared.reply.Via.TheVariants.{Local, Node, Nowhere}
-use Rattle.routing_domain.specs.Rest.{NeverNearer, Topology}
+use Rattle.routing_domain.specs.Rest.{Topology}
 use Rattle.domain_routes.specs.declared.best.Best.{Best}
-use Rattle.domain_routes.specs.Offers.{ComesBefore, IsBetter, StaysBehind, hop_of, way}
-use Rattle.domain_routes.specs.Solving.{AreBestSoFar, AreOffered, IsBestSoFar, IsFound, IsNearest, LeadsOver}
+use Rattle.domain_routes.specs.Offers.{ComesBefore, StaysBehind, hop_of, way}
+use Rattle.domain_routes.specs.Solving.{AreBestSoFar, IsBestSoFar, IsFound}
 use Rattle.domain_routes.proofs.Kept.{IsRound, keeps, keeps_done, no_farther, no_nearer}
 
 -- what led through a node that was done does so still

@@ -1,10 +1,10 @@
 -- There is one list of routes.
-use Rattle.std.proofs.Common.{◌≡◌, ◌≢◌, ◌⊎◌, ⊎_elim, ℕ, suc, ◌<◌, ◌≤◌, List, length, sym, ap, subst, refl, ◌∙◌, arith}
+use Rattle.std.proofs.Common.{◌≡◌, ◌⊎◌, ⊎_elim, ℕ, suc, ◌<◌, List, sym, ap, refl, ◌∙◌, arith}
 use Rattle.std.proofs.lemmas.Bool.{cases_order}
 use Rattle.std.proofs.lemmas.List.{ext_get_or}
 use Rattle.netchange_core.specs.declared.reply.Via.{Via}
 use Rattle.netchange_core.specs.declared.reply.Via.TheVariants.{Local, Node, Nowhere}
-use Rattle.routing_domain.specs.Rest.{IsRest, LeadsThrough, NeverNearer, Topology}
+use Rattle.routing_domain.specs.Rest.{LeadsThrough, NeverNearer, Topology}
 use Rattle.routing_domain.proofs.Alone.{alone}
 use Rattle.domain_routes.specs.declared.best.Best.{Best}
 use Rattle.domain_routes.specs.Routes.{AreRoutes, GoesVia, nowhere, route_at}

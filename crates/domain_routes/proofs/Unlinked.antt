@@ -4,7 +4,7 @@ use Rattle.std.proofs.lemmas.Bool.{cases_lt}
 use Rattle.std.proofs.lemmas.List.{get_or-replicate, get_or_past, length-replicate}
 use Rattle.netchange_core.specs.Kept.{FitsSize}
 use Rattle.domain_routes.specs.Edits.{unlinked}
-use Rattle.domain_routes.specs.PlanView.{IsPlan, IsSize, PeerView, PlanView, peer, stranger}
+use Rattle.domain_routes.specs.PlanView.{IsPlan, IsSize, PeerView, peer, stranger}
 
 -- an element of a list of one thing, or that thing past its end
 of_replicate : {X : Type 0} (n i : ℕ) (x : X) → slice_index_or (replicate n x) i x ≡ x

@@ -1,5 +1,5 @@
 -- Changes of a plan.
-use Rattle.std.specs.Prelude.{ℕ, ◌==◌, ◌&&◌, ◌||◌, if◌then◌else◌, Bool, Some, List, [], length, replicate, slice_index_or, slice_set}
+use Rattle.std.specs.Prelude.{ℕ, Bool, Some, List, [], length, replicate, slice_index_or, slice_set}
 use Rattle.filter_verifier.specs.VerifiedView.{VerifiedView}
 use Rattle.domain_routes.specs.PlanView.{PeerView, PlanView, peer, stranger}
 

@@ -1,7 +1,7 @@
-use Rattle.std.proofs.Common.{◌≡◌, sym, subst, ap, ◌∙◌, arith, List, Bool, length, replicate}
+use Rattle.std.proofs.Common.{◌≡◌, sym, subst, arith, List, Bool}
 use Rattle.std.proofs.lemmas.Grind.{common_steps}
 use Rattle.domain_routes.specs.Edits.{unlinked}
-use Rattle.domain_routes.specs.PlanView.{IsPlan, PeerView, PlanView, stranger}
+use Rattle.domain_routes.specs.PlanView.{IsPlan}
 use Rattle.domain_routes.proofs.Unlinked.{unlinked_plan}
 use Rattle.domain_routes.proofs.plan.make_plan.Goals as goal
 

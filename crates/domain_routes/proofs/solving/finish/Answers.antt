@@ -1,4 +1,4 @@
-use Rattle.std.proofs.Common.{◌≡◌, ◌≢◌, ℕ, ◌∙◌, arith, length-set, slice_index_or, slice_set, subst, true, false, get_or-set_same, get_or-set_other}
+use Rattle.std.proofs.Common.{◌∙◌, arith, length-set, slice_set, subst, true, get_or-set_same, get_or-set_other}
 use Rattle.domain_routes.specs.Routes.{route_at}
 use Rattle.domain_routes.specs.Solving.{IsNearest, is_done}
 use Rattle.domain_routes.specs.Topology.{topology}

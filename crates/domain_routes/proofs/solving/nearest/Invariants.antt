@@ -1,4 +1,4 @@
-use Rattle.std.proofs.Common.{◌≡◌, MatchOption, length, ℕ, ◌+◌, ◌<◌, ◌≤◌}
+use Rattle.std.proofs.Common.{MatchOption, length, ◌<◌}
 use Rattle.domain_routes.specs.Routes.{route_at}
 use Rattle.domain_routes.specs.Solving.{AreAllDone, IsNearest, is_done}
 use Rattle.domain_routes.proofs.solving.nearest.Given as goal

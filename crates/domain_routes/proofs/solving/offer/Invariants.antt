@@ -1,5 +1,5 @@
 use Rattle.std.proofs.Common.{◌≡◌, ℕ, ◌<◌, ◌≤◌}
-use Rattle.domain_routes.specs.Routes.{nowhere, route_at}
+use Rattle.domain_routes.specs.Routes.{route_at}
 use Rattle.domain_routes.specs.Solving.{IsOffered}
 use Rattle.domain_routes.specs.Topology.{topology}
 use Rattle.domain_routes.proofs.solving.offer.Given as goal

@@ -1,4 +1,4 @@
-use Rattle.std.proofs.Common.{◌≡◌, sym, subst, ap, ◌∙◌, arith, List, slice_set}
+use Rattle.std.proofs.Common.{◌≡◌, sym, subst, ap, arith, List, slice_set}
 use Rattle.std.proofs.lemmas.Grind.{common_steps}
 use Rattle.domain_routes.specs.Edits.{half_linking, linking}
 use Rattle.domain_routes.specs.PlanView.{IsPlan, PeerView, PlanView}
