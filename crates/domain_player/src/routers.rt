@@ -1,0 +1,172 @@
+//! The routers of a domain.
+
+ghost use Rattle.std.specs.Prelude.{◌≡◌, ◌≢◌, ℕ, ◌<◌, ◌≤◌, ◌^◌, ◌⊎◌, ◌↔◌, IsTrue, false, true, IfOk, OnErr, OnOk, length};
+ghost use Rattle.filter_code.specs.Limits.{smallest_size, largest_size};
+ghost use Rattle.netchange_core.specs.Best.{best, distance, route_of};
+ghost use Rattle.netchange_core.specs.Next.{last_session};
+ghost use Rattle.netchange_core.specs.declared.event.Event.TheVariants as event;
+ghost use Rattle.routing_domain.specs.Domain.{IsQuiet, IsSame, are_linked, opened_domain, topology};
+ghost use Rattle.routing_domain.specs.Events.{cuts, enters, links};
+ghost use Rattle.routing_domain.specs.Rest.{IsRest};
+ghost use Rattle.routing_domain.specs.Weight.{weight};
+ghost use Rattle.domain_player.specs.Play.{opening_of};
+
+use crate::fault::{LinkFault, SettleFault};
+use crate::filters::enter;
+use crate::links::{cut_both, link_both};
+use crate::opening::open_tables;
+use crate::settling::{Settled, play};
+use filter_verifier::Verified;
+use netchange_core::{Event, Reply, Tables, Via};
+use prefix_patterns::Prefix;
+use std::alloc::{AllocError, Global};
+use std::marker::Model;
+use std::sync::Arc;
+
+/// The routers of a domain, each with what it was told and what it has to tell. A contract sees them as a `Domain` in which
+/// nothing is on its way.
+///
+/// A link is of two routers, and memory may be refused to the second after the first has changed. So where `link`, `cut` or
+/// `settle` fails, the routers are closed: what is left is a domain of no nodes.
+#[derive(Debug, Drop)]
+pub struct Routers {
+    tables: Vec<Tables>,
+}
+
+impl Model for Routers {
+    ghost use Rattle.std.specs.Prelude.{◌≤◌, [], length};
+    ghost use Rattle.filter_code.specs.Limits.{largest_size};
+    ghost use Rattle.routing_domain.specs.Domain.{Domain, IsInOrder};
+    ghost use Rattle.domain_player.specs.Play.{domain_of};
+
+    ghost Value = { Domain };
+
+    ghost view = { λ r. domain_of r.tables.items [] };
+
+    ghost invariant = { λ r. IsInOrder (domain_of r.tables.items []) × (length r.tables.items ≤ largest_size) };
+}
+
+impl Routers {
+    /// The routers of a domain without links, one for each prefix, by number. There are 2 to 250.
+    pub fn open(alloc: Global, prefixes: &[Prefix]) -> Result<Routers, AllocError>
+        requires least { smallest_size ≤ length prefixes.now }
+        requires most { length prefixes.now ≤ largest_size }
+        ensures { IfOk result (λ r. IsSame (opened_domain (length prefixes.now) (opening_of prefixes.now)) r) }
+    {
+        let tables = open_tables(alloc, prefixes)?;
+        Ok(Routers { tables })
+    }
+
+    /// The number of nodes, 2 to 250; 0 once the routers are closed.
+    pub fn size(&self) -> u16
+        ensures { result ≡ self.now.size }
+    {
+        self.tables.len() as u16
+    }
+
+    /// Whether two nodes are neighbours.
+    pub fn is_linked(&self, u: u16, w: u16) -> bool
+        requires { u < self.now.size }
+        ensures { result ≡ are_linked self.now u w }
+    {
+        0 < self.tables[usize::from(u)].session(w)
+    }
+
+    /// Two nodes are neighbours from now on: the first enters that the channel to the second is there, then the second that the
+    /// one to the first is. After a fault the routers are closed.
+    pub fn link(&mut self, u: u16, w: u16) -> Result<(), LinkFault>
+        requires from { u < self.old.size }
+        requires to { w < self.old.size }
+        requires apart { u ≢ w }
+        requires unlinked { are_linked self.old u w ≡ false }
+        ensures linked { OnOk result (self.new ≡ links self.old u w) }
+        ensures closed { OnErr result (self.new.size ≡ 0) }
+    {
+        match link_both(&mut self.tables, u, w) {
+            Ok(()) => Ok(()),
+            Err(fault) => {
+                self.tables.clear();
+                Err(fault)
+            }
+        }
+    }
+
+    /// Two neighbours are so no more: the first enters that the channel to the second failed, then the second that the one to the
+    /// first did. What they had to tell each other is dropped. After a fault the routers are closed.
+    pub fn cut(&mut self, u: u16, w: u16) -> Result<(), AllocError>
+        requires from { u < self.old.size }
+        requires to { w < self.old.size }
+        requires linked { are_linked self.old u w ≡ true }
+        ensures cut { OnOk result (self.new ≡ cuts self.old u w) }
+        ensures closed { OnErr result (self.new.size ≡ 0) }
+    {
+        match cut_both(&mut self.tables, u, w) {
+            Ok(()) => Ok(()),
+            Err(fault) => {
+                self.tables.clear();
+                Err(fault)
+            }
+        }
+    }
+
+    /// What the first node is told by the second passes this filter from now on, also what it was told before. It does not
+    /// matter whether they are linked. After an error nothing is changed.
+    pub fn set_import(&mut self, u: u16, w: u16, filter: Arc<Verified>) -> Result<(), AllocError>
+        requires from { u < self.old.size }
+        requires to { w < self.old.size }
+        requires apart { u ≢ w }
+        requires fits { filter.value.size ≡ self.old.size }
+        ensures set { OnOk result (self.new ≡ enters self.old u (event.SetImport w filter)) }
+        ensures same { OnErr result (self.new ≡ self.old) }
+    {
+        enter(&mut self.tables, u, &Event::SetImport(w, filter))
+    }
+
+    /// What the first node tells the second passes this filter from now on. It does not matter whether they are linked. After an
+    /// error nothing is changed.
+    pub fn set_export(&mut self, u: u16, w: u16, filter: Arc<Verified>) -> Result<(), AllocError>
+        requires from { u < self.old.size }
+        requires to { w < self.old.size }
+        requires apart { u ≢ w }
+        requires fits { filter.value.size ≡ self.old.size }
+        ensures set { OnOk result (self.new ≡ enters self.old u (event.SetExport w filter)) }
+        ensures same { OnErr result (self.new ≡ self.old) }
+    {
+        enter(&mut self.tables, u, &Event::SetExport(w, filter))
+    }
+
+    /// Plays the routers until no message waits, round by round: in a round each node sends all that waits for its neighbours, and
+    /// then what was sent is heard, both in the order of the senders and, of one sender, of the receivers. So links and filters are
+    /// what they were, and each router's distances are those of rest. After a fault the routers are closed.
+    pub fn settle(&mut self) -> Result<Settled, SettleFault>
+        ensures quiet { OnOk result (IsQuiet self.new) }
+        ensures topology { OnOk result ((v : ℕ) → topology self.new v ≡ topology self.old v) }
+        ensures rest { OnOk result ((v : ℕ) → v < self.old.size → IsRest (topology self.old v) v (λ u. distance (self.new.router u) v)) }
+        ensures messages { IfOk result (λ s. (s.rounds ≤ s.messages) × (s.messages ≤ weight self.old)) }
+        ensures many { result ≡ Err SettleFault.TooManyMessages → 2 ^ 64 ≤ weight self.old }
+        ensures closed { OnErr result (self.new.size ≡ 0) }
+    {
+        let alloc = *self.tables.allocator();
+        match play(alloc, &mut self.tables) {
+            Ok(settled) => Ok(settled),
+            Err(fault) => {
+                self.tables.clear();
+                Err(fault)
+            }
+        }
+    }
+
+    /// A node's route to another, as its router answers: the distance, 0 to the size of the domain, which says that there is no
+    /// route, and through whom it goes.
+    pub fn route(&mut self, u: u16, v: u16) -> (u16, Via)
+        requires from { u < self.old.size }
+        requires to { v < self.old.size }
+        ensures route { best (self.old.router u) v ≡ route_of result.0 result.1 }
+        ensures same { self.new ≡ self.old }
+    {
+        match self.tables[usize::from(u)].apply(&Event::Show(v)) {
+            Ok(Reply::Route { dist, via }) => (dist, via),
+            _ => unreachable!(),
+        }
+    }
+}

@@ -1,0 +1,5 @@
+//! Tests of whole domains.
+#![tactic(auto)]
+
+#[cfg(test)]
+mod player_tests;

@@ -1,0 +1,170 @@
+//! Routers that are played until quiet: rows that were worked out by hand, and the same routes in whatever order.
+
+ghost use Rattle.std.specs.Prelude.{◌≢◌, ◌<◌, OnOk};
+
+use domain_player::Routers;
+use filter_source::{compile_text, verify_code};
+use filter_verifier::Verified;
+use netchange_core::Via;
+use prefix_patterns::{Ip, Prefix};
+use std::alloc::Global;
+use std::fmt::Write;
+use std::process::Abort;
+use std::sync::Arc;
+use std::test::Fail;
+use worked_rows::Numbers;
+
+/// A filter that makes a distance two more.
+const UP_TWO: &[u8] = b"filter up2 { rip_metric = rip_metric + 2; accept; }";
+
+/// A filter that lets a route to 10.1.0.0/16 to 10.3.255.255 pass, and no other.
+const NEAR: &[u8] = b"filter near { if net ~ [10.0.0.0/14+] then accept; reject; }";
+
+/// What is done to the routers, and what is asked.
+#[derive(Drop)]
+enum Step {
+    Link(u16, u16),
+    Cut(u16, u16),
+    Import(u16, u16, &'static [u8]),
+    Export(u16, u16, &'static [u8]),
+    /// Plays the routers: so many rounds and messages are wanted.
+    Settle(u64, u64),
+    /// All routes of a node, in text.
+    Table(u16, &'static str),
+}
+
+/// The routers of a domain of so many nodes, whose prefixes are 10.V.0.0/16.
+fn routers(alloc: Global, size: u16) -> Result<Routers, Fail> {
+    let mut prefixes = Vec::new(alloc);
+    for node in 0..size {
+        let ip = Ip(0x0a00_0000 + 0x1_0000 * u32::from(node % 250));
+        prefixes.push(Prefix::new(ip, 16).ok_or("a prefix")?)?;
+    }
+    if prefixes.len() < 2 || prefixes.len() > 250 {
+        return Err(Fail::from("the size of a domain"));
+    }
+    Ok(Routers::open(alloc, &prefixes)?)
+}
+
+/// The filter of a text, verified for a domain of so many nodes.
+fn filter(alloc: Global, text: &[u8], size: u16) -> Result<Arc<Verified>, Fail> {
+    let code = compile_text(alloc, text)?;
+    Ok(Arc::new(alloc, verify_code(alloc, code, u32::from(size))?)?)
+}
+
+/// All routes of a node, as `V:D:W`, or `V:D` where there is no next hop.
+fn table(alloc: Global, routers: &mut Routers, u: u16) -> Result<String, Fail> {
+    let mut text = String::new(alloc);
+    for v in 0..routers.size() {
+        if u >= routers.size() || v >= routers.size() {
+            return Err(Fail::from("a node"));
+        }
+        let (dist, via) = routers.route(u, v);
+        let space = if v == 0 { "" } else { " " };
+        match via {
+            Via::Node(hop) => write!(text, "{space}{v}:{dist}:{hop}")?,
+            _ => write!(text, "{space}{v}:{dist}")?,
+        }
+    }
+    Ok(text)
+}
+
+/// Two nodes of a domain that are not the same.
+fn expect_pair(routers: &Routers, u: u16, w: u16) -> Result<(), Fail>
+    ensures { OnOk result ((u < routers.now.size) × (w < routers.now.size) × (u ≢ w)) }
+{
+    if u < routers.size() && w < routers.size() && u != w {
+        Ok(())
+    } else {
+        Err(Fail::from("two nodes"))
+    }
+}
+
+/// Links two nodes, or cuts their link.
+fn set_link(routers: &mut Routers, u: u16, w: u16, linked: bool) -> Result<(), Fail> {
+    expect_pair(routers, u, w)?;
+    if routers.is_linked(u, w) == linked {
+        return Err(Fail::from("linked already, or not"));
+    }
+    if linked {
+        routers.link(u, w)?;
+    } else {
+        routers.cut(u, w)?;
+    }
+    Ok(())
+}
+
+/// Sets a filter of what a node is told, or of what it tells.
+fn set_filter(
+    alloc: Global,
+    routers: &mut Routers,
+    (u, w): (u16, u16),
+    text: &[u8],
+    import: bool,
+) -> Result<(), Fail> {
+    expect_pair(routers, u, w)?;
+    let filter = filter(alloc, text, routers.size())?;
+    if import {
+        routers.set_import(u, w, filter)?;
+    } else {
+        routers.set_export(u, w, filter)?;
+    }
+    Ok(())
+}
+
+/// Takes a step, and asserts what is wanted.
+fn take_step(
+    rt: &impl Abort,
+    alloc: Global,
+    routers: &mut Routers,
+    step: &Step,
+) -> Result<(), Fail> {
+    match step {
+        Step::Link(u, w) => set_link(routers, *u, *w, true),
+        Step::Cut(u, w) => set_link(routers, *u, *w, false),
+        Step::Import(u, w, text) => set_filter(alloc, routers, (*u, *w), text, true),
+        Step::Export(u, w, text) => set_filter(alloc, routers, (*u, *w), text, false),
+        Step::Settle(rounds, messages) => {
+            let settled = routers.settle()?;
+            assert_eq!(rt; (settled.rounds, settled.messages), (*rounds, *messages));
+            Ok(())
+        }
+        Step::Table(u, wanted) => {
+            let text = table(alloc, routers, *u)?;
+            assert_eq!(rt; text.as_str(), *wanted);
+            Ok(())
+        }
+    }
+}
+
+/// Takes all steps in a domain of so many nodes.
+fn take_steps(rt: &impl Abort, alloc: Global, size: u16, steps: &[Step]) -> Result<(), Fail> {
+    let mut routers = routers(alloc, size)?;
+    for step in steps {
+        take_step(rt, alloc, &mut routers, step)?;
+    }
+    Ok(())
+}
+
+#[test]
+fn a_ring_settles_and_loses_a_link(rt: HostRuntime) -> Result<(), Fail> {
+    let steps = [
+        Step::Settle(0, 0),
+        Step::Link(0, 1),
+        Step::Link(1, 2),
+        Step::Link(2, 3),
+        Step::Link(3, 4),
+        Step::Link(4, 0),
+        Step::Table(0, "0:0 1:5 2:5 3:5 4:5"),
+        Step::Settle(3, 90),
+        Step::Table(0, "0:0 1:1:1 2:2:1 3:2:4 4:1:4"),
+        Step::Settle(0, 0),
+        Step::Import(0, 4, UP_TWO),
+        Step::Table(0, "0:0 1:1:1 2:2:1 3:3:1 4:3:1"),
+        Step::Cut(0, 1),
+        Step::Settle(3, 12),
+        Step::Table(0, "0:0 1:5 2:5 3:4:4 4:3:4"),
+        Step::Table(1, "0:4:2 1:0 2:1:2 3:2:2 4:3:2"),
+    ];
+    take_steps(&rt, rt.alloc(), 5, &steps)
+}
