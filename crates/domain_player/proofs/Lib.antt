@@ -1,0 +1,5 @@
+pub mod Domains
+pub mod Entering
+pub mod Laws
+pub mod Played
+pub mod Ways

@@ -31,8 +31,8 @@ pub enum SettleFault {
     /// Memory was refused.
     #[error("memory was refused")]
     Memory,
-    /// More than 18,446,744,073,709,551,615 messages would have been heard.
-    #[error("more than 18,446,744,073,709,551,615 messages")]
+    /// More than 18,446,744,073,709,551,615 messages were heard.
+    #[error("more than 18,446,744,073,709,551,615 messages were heard")]
     TooManyMessages,
 }
 

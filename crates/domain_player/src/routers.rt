@@ -80,6 +80,8 @@ impl Routers {
         requires apart { u ≢ w }
         requires unlinked { are_linked self.old u w ≡ false }
         ensures linked { OnOk result (self.new ≡ links self.old u w) }
+        ensures spent { result ≡ Err LinkFault.NoSession →
+            ((self.old.router u).sessions ≡ last_session) ⊎ ((self.old.router w).sessions ≡ last_session) }
         ensures closed { OnErr result (self.new.size ≡ 0) }
     {
         match link_both(&mut self.tables, u, w) {

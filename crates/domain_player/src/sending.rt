@@ -1,28 +1,41 @@
 //! Routers send what waits for their neighbours.
 
-ghost use Rattle.std.specs.Prelude.{◌≡◌, ℕ, ◌<◌, ◌≤◌, ◌++◌, All, OnOk, [], length, map, take};
+ghost use Rattle.std.specs.Prelude.{◌≡◌, ℕ, ◌<◌, ◌≤◌, All, OnOk, [], length, true};
 ghost use Rattle.filter_code.specs.Limits.{largest_size};
-ghost use Rattle.netchange_core.specs.Calls.{session_of};
-ghost use Rattle.netchange_core.specs.Next.{relieved};
-ghost use Rattle.netchange_core.specs.World.{changed, neighbour_at};
-ghost use Rattle.routing_domain.specs.Domain.{IsInOrder, neighbour};
-ghost use Rattle.domain_player.specs.Play.{AreSent, IsBetween, domain_of, sent_by};
+ghost use Rattle.netchange_core.specs.World.{neighbour_at};
+ghost use Rattle.routing_domain.specs.Domain.{IsInOrder, IsSound, are_linked, neighbour};
+ghost use Rattle.routing_domain.specs.Steps.{sends};
+ghost use Rattle.domain_player.specs.Play.{AreSent, IsBetween, domain_of, router_at};
 
 use crate::sent::Sent;
 use netchange_core::{Event, Reply, Tables};
 use std::alloc::AllocError;
 
-/// A router sends what waits for a neighbour, at most 65,535 messages.
+/// How many messages wait at a node for another.
+fn waiting(tables: &[Tables], from: u16, to: u16) -> usize
+    requires from { from < length tables.now }
+    requires sound { IsSound (length tables.now) (router_at tables.now from) }
+    ensures { result ≡ length (neighbour_at (router_at tables.now from).neighbours to).queue }
+{
+    let router = &tables[usize::from(from)];
+    router.queued(router.session(to))
+}
+
+/// A node sends what waits for a neighbour, at most 65,535 messages.
 fn send_some(
-    router: &mut Tables,
+    tables: &mut [Tables],
     sents: &mut Vec<Sent>,
     from: u16,
     to: u16,
 ) -> Result<(), AllocError>
-    ensures router { OnOk result (router.new ≡ changed router.old to (relieved 65535)) }
-    ensures sents { OnOk result (sents.new.items
-        ≡ sents.old.items ++ map (sent_by from to) (take 65535 (neighbour_at router.old.neighbours to).queue)) }
+    requires from { from < length tables.old }
+    requires to { to < length tables.old }
+    requires order { IsInOrder (domain_of tables.old sents.old.items) }
+    requires linked { are_linked (domain_of tables.old sents.old.items) from to ≡ true }
+    ensures sent { OnOk result (domain_of tables.new sents.new.items ≡ sends (domain_of tables.old sents.old.items) from to 65535) }
+    ensures between { OnOk result (All (IsBetween (length tables.old)) sents.old.items → All (IsBetween (length tables.old)) sents.new.items) }
 {
+    let router = &mut tables[usize::from(from)];
     let session = router.session(to);
     let Reply::Messages(messages) = router.apply(&Event::Take(session, u16::MAX))? else {
         unreachable!()
@@ -52,14 +65,10 @@ fn send_to(
     ensures between { OnOk result (All (IsBetween (length tables.old)) sents.new.items) }
     ensures all { OnOk result ((neighbour (domain_of tables.new sents.new.items) from to).queue ≡ []) }
 {
-    let session = tables[usize::from(from)].session(to);
-    'sending: loop {
-        let router = &mut tables[usize::from(from)];
-        if router.queued(session) == 0 {
-            return Ok(());
-        }
-        send_some(router, sents, from, to)?;
+    'sending: while 0 < waiting(tables, from, to) {
+        send_some(tables, sents, from, to)?;
     }
+    Ok(())
 }
 
 /// A node sends all that waits for its neighbours, in the order of their numbers.

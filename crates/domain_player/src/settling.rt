@@ -41,10 +41,10 @@ pub(crate) fn play(alloc: Global, tables: &mut [Tables]) -> Result<Settled, Sett
         if sents.is_empty() {
             return Ok(settled);
         }
+        hear_all(tables, &sents)?;
         let Some(messages) = settled.messages.checked_add(sents.len() as u64) else {
             return Err(SettleFault::TooManyMessages);
         };
-        hear_all(tables, &sents)?;
         settled.rounds += 1;
         settled.messages = messages;
         sents.clear();

@@ -1,0 +1,97 @@
+-- What sending and hearing leave, one after another.
+use Rattle.std.proofs.Common.{◌≡◌, ⊎_elim, ℕ, ◌+◌, ◌<◌, zero, suc, nat_eq, List, [], ◌∷◌, length, drop, slice_set, take, refl, sym, ap, subst, ◌∙◌, arith}
+use Rattle.std.proofs.lemmas.Bool.{cases_eq, cond_both, eqb-true}
+use Rattle.netchange_core.specs.declared.message.Message.{Message}
+use Rattle.netchange_core.specs.declared.event.Event.TheVariants as event
+use Rattle.netchange_core.specs.Calls.{session_of}
+use Rattle.netchange_core.specs.Next.{answered, next, relieved}
+use Rattle.netchange_core.specs.World.{World, changed, neighbour_at}
+use Rattle.netchange_core.proofs.Change.{changed_at}
+use Rattle.routing_domain.specs.Domain.{Domain, IsInOrder, neighbour}
+use Rattle.routing_domain.specs.Steps.{IsNext, hears, sends}
+use Rattle.routing_domain.specs.Weight.{weight}
+use Rattle.routing_domain.proofs.Recomputed.{changed_other}
+use Rattle.domain_player.specs.declared.sent.Sent.{Sent}
+use Rattle.domain_player.specs.Play.{AreSent, IsBetween, IsPlayed, domain_of, router_at, under_way}
+use Rattle.domain_player.proofs.Domains.{hears_as}
+use Rattle.domain_player.proofs.Laws.{hears_as_receive, hears_lighter, hears_order, hears_topology, next_heard, sends_lighter, sends_order, sends_topology}
+use Rattle.domain_player.proofs.Ways.{under_way_first}
+
+pub nothing_played : (d : Domain) → IsInOrder d → IsPlayed d d 0
+nothing_played d o = record { in_order = o; topology = λ v. refl; lighter = omega arith }
+
+pub played_on : (d e f : Domain) (j k : ℕ) → IsPlayed d e j → IsPlayed e f k → IsPlayed d f (j + k)
+played_on d e f j k before after = record {
+  in_order = after.in_order;
+  topology = λ v. after.topology v ∙ before.topology v;
+  lighter = omega (arith, before.lighter, after.lighter);
+}
+
+pub hears_played : (d : Domain) (u w : ℕ) (m : Message) (rest : List Message) → IsInOrder d → IsNext d u w m rest → IsPlayed d (hears d u w m rest) 1
+hears_played d u w m rest o n = record {
+  in_order = hears_order d u w m rest o n;
+  topology = hears_topology d u w m rest;
+  lighter = omega (arith, hears_lighter d u w m rest o n);
+}
+
+pub nothing_sent : (d : Domain) → IsInOrder d → AreSent d d
+nothing_sent d o = record { played = nothing_played d o; still_empty = λ u w empty. empty }
+
+pub sent_on : (d e f : Domain) → AreSent d e → AreSent e f → AreSent d f
+sent_on d e f before after = record {
+  played = played_on d e f 0 0 before.played after.played;
+  still_empty = λ u w empty. after.still_empty u w (before.still_empty u w empty);
+}
+
+-- what waits after sending: where nothing waited nothing waits
+drop_nil : (k : ℕ) → drop {X = Message} k [] ≡ []
+drop_nil zero = refl
+drop_nil (suc k) = refl
+
+still_empty_here : (r : World) (w max b : ℕ) → w < length r.neighbours → (neighbour_at r.neighbours b).queue ≡ [] →
+    (neighbour_at (changed r w (relieved max)).neighbours b).queue ≡ []
+still_empty_here r w max b near empty =
+    ⊎_elim
+    (λ here. ap (λ y. (neighbour_at (changed r w (relieved max)).neighbours y).queue) here
+    ∙ ap (λ n. n.queue) (changed_at w (relieved max) r.neighbours near)
+    ∙ ap (drop max) (ap (λ y. (neighbour_at r.neighbours y).queue) (sym here) ∙ empty)
+    ∙ drop_nil max)
+    (λ other. ap (λ n. n.queue) (changed_other w b (relieved max) r.neighbours near other) ∙ empty)
+    (cases_eq b w)
+
+pub sends_sent : (d : Domain) (u w max : ℕ) → IsInOrder d → u < d.size → w < d.size →
+    0 < length (take max (neighbour d u w).queue) → AreSent d (sends d u w max)
+sends_sent d u w max o from to some = record {
+  played = record {
+    in_order = sends_order d u w max o from to;
+    topology = sends_topology d u w max;
+    lighter = omega (arith, sends_lighter d u w max o from to some);
+  };
+  still_empty = λ a b empty.
+      cond_both (nat_eq a u) (changed (d.router u) w (relieved max)) (d.router a) (λ r. (neighbour_at r.neighbours b).queue ≡ [])
+      (λ same. still_empty_here (d.router u) w max b near (ap (λ x. (neighbour d x b).queue) (sym (eqb-true a u same)) ∙ empty))
+      (λ _. empty);
+}
+  where
+    near : w < length (d.router u).neighbours
+    near = omega (arith, to, (o.tables u from).one_a_node)
+
+-- one message more is heard
+pub hear_on : (d : Domain) (i : ℕ) (ws : List World) (s : Sent) (rest : List Sent) (r : World) → IsPlayed d (domain_of ws (s ∷ rest)) i →
+    IsBetween (length ws) s →
+    r ≡ (next (router_at ws s.to) (event.Receive (session_of (router_at ws s.to) s.from) s.message.dest s.message.dist)).world →
+    IsPlayed d (domain_of (slice_set ws s.to r) rest) (i + 1)
+hear_on d i ws s rest r played between router =
+    played_on d e (domain_of (slice_set ws s.to r) rest) i 1 played
+    (subst (λ f. IsPlayed e f 1) (sym (hears_as ws s rest r between.to (router ∙ ap (λ a. a.world) received)))
+    (hears_played e s.from s.to s.message (under_way rest s.from s.to) played.in_order first))
+  where
+    e : Domain
+    e = domain_of ws (s ∷ rest)
+
+    first : IsNext e s.from s.to s.message (under_way rest s.from s.to)
+    first = next_heard e s.from s.to s.message (under_way rest s.from s.to) played.in_order between.from between.to (under_way_first s rest)
+
+    received : next (router_at ws s.to) (event.Receive (session_of (router_at ws s.to) s.from) s.message.dest s.message.dist)
+        ≡ answered ((hears e s.from s.to s.message (under_way rest s.from s.to)).router s.to) _
+    received = (hears_as_receive e s.from s.to s.message (under_way rest s.from s.to) played.in_order first).1
