@@ -1,0 +1,32 @@
+//! Laws of topologies: what there is between the nodes, after a step or an event.
+
+ghost use Rattle.std.specs.Prelude.{◌≡◌, ◌≢◌, ℕ, ◌<◌, Some, List, true};
+ghost use Rattle.std.specs.declared.sync.Arc.{Arc};
+ghost use Rattle.std.proofs.Common.{Global};
+ghost use Rattle.filter_verifier.specs.VerifiedView.{VerifiedView};
+ghost use Rattle.netchange_core.specs.declared.event.Event.TheVariants as event;
+ghost use Rattle.netchange_core.specs.declared.message.Message.{Message};
+ghost use Rattle.netchange_core.specs.Pass.{pass};
+ghost use Rattle.routing_domain.specs.Changes.{with_link, with_toll, without_link};
+ghost use Rattle.routing_domain.specs.Domain.{Domain, IsInOrder, are_linked, exported, imported, topology};
+ghost use Rattle.routing_domain.specs.Events.{CanLink, cuts, enters, links};
+ghost use Rattle.routing_domain.specs.Steps.{hears, sends};
+
+/// Sending and hearing change nothing between nodes: neither links nor filters.
+pub fn steps_keep_topology()
+    ensures hears { (d : Domain) → (u w : ℕ) → (m : Message) → (rest : List Message) → (v : ℕ) → topology (hears d u w m rest) v ≡ topology d v }
+    ensures sends { (d : Domain) → (u w max v : ℕ) → topology (sends d u w max) v ≡ topology d v }
+{}
+
+/// Linking adds a link, cutting takes it away, and a new filter is another toll at one end of it.
+pub fn events_change_topology()
+    ensures link { (d : Domain) → (u w v : ℕ) → IsInOrder d → CanLink d u w → topology (links d u w) v ≡ with_link (topology d v) u w }
+    ensures cut { (d : Domain) → (u w v : ℕ) → IsInOrder d → u < d.size → w < d.size → are_linked d u w ≡ true →
+        topology (cuts d u w) v ≡ without_link (topology d v) u w }
+    ensures import { (d : Domain) → (u w v : ℕ) → (f : Arc VerifiedView Global) → IsInOrder d → u < d.size → w < d.size → u ≢ w → f.value.size ≡ d.size →
+        topology (enters d u (event.SetImport w f)) v
+        ≡ with_toll (topology d v) u w (λ x. pass (d.router u).opening (Some f.value) v (exported d w u v x)) }
+    ensures export { (d : Domain) → (u w v : ℕ) → (f : Arc VerifiedView Global) → IsInOrder d → u < d.size → w < d.size → u ≢ w → f.value.size ≡ d.size →
+        topology (enters d u (event.SetExport w f)) v
+        ≡ with_toll (topology d v) w u (λ x. imported d w u v (pass (d.router u).opening (Some f.value) v x)) }
+{}
