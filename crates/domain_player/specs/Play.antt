@@ -1,13 +1,13 @@
 -- The routers of a domain as a list, and what playing them leaves.
-use Rattle.std.specs.Prelude.{◌≡◌, ℕ, ◌+◌, ◌<◌, ◌≤◌, List, [], filter, length, map, slice_index_or}
+use Rattle.std.specs.Prelude.{◌≡◌, ℕ, ◌+◌, ◌<◌, ◌≤◌, Bool, List, [], filter, length, map, slice_index_or}
 use Rattle.netchange_core.specs.declared.message.Message.{Message}
+use Rattle.netchange_core.specs.Calls.{opened}
 use Rattle.netchange_core.specs.OpeningView.{OpeningView}
 use Rattle.netchange_core.specs.World.{World}
 use Rattle.routing_domain.specs.Changes.{is_pair}
 use Rattle.routing_domain.specs.Domain.{Domain, IsInOrder, neighbour, topology}
 use Rattle.routing_domain.specs.Weight.{weight}
 use Rattle.domain_player.specs.declared.sent.Sent.{Sent}
-use Rattle.std.specs.Prelude.{Bool}
 
 -- what the router of a node is opened with, where these are the nodes' prefixes
 abbrev pub opening_of : List (List Bool) → ℕ → OpeningView
@@ -20,6 +20,11 @@ nowhere = record { opening = record { size = 0; me = 0; prefixes = [] }; session
 -- the router of a number
 abbrev pub router_at : List World → ℕ → World
 router_at ws u = slice_index_or ws u nowhere
+
+-- the first routers of a domain with these prefixes
+pub record AreOpened (prefixes : List (List Bool)) (count : ℕ) (ts : List World) : Type 0 where
+  pub one_a_node : length ts ≡ count
+  pub each : (u : ℕ) → u < count → router_at ts u ≡ opened (opening_of prefixes u)
 
 -- a message that one node sent to another
 abbrev pub sent_by : ℕ → ℕ → Message → Sent

@@ -1,9 +1,8 @@
 //! Routers that are just opened.
 
-ghost use Rattle.std.specs.Prelude.{◌≡◌, ℕ, ◌<◌, ◌≤◌, IfOk, length};
+ghost use Rattle.std.specs.Prelude.{◌≤◌, IfOk, length};
 ghost use Rattle.filter_code.specs.Limits.{smallest_size, largest_size};
-ghost use Rattle.netchange_core.specs.Calls.{opened};
-ghost use Rattle.domain_player.specs.Play.{opening_of, router_at};
+ghost use Rattle.domain_player.specs.Play.{AreOpened};
 
 use netchange_core::{Opening, Tables};
 use prefix_patterns::Prefix;
@@ -13,8 +12,7 @@ use std::alloc::{AllocError, Global};
 pub(crate) fn open_tables(alloc: Global, prefixes: &[Prefix]) -> Result<Vec<Tables>, AllocError>
     requires least { smallest_size ≤ length prefixes.now }
     requires most { length prefixes.now ≤ largest_size }
-    ensures one_a_node { IfOk result (λ ts. length ts.items ≡ length prefixes.now) }
-    ensures opened { IfOk result (λ ts. (u : ℕ) → u < length prefixes.now → router_at ts.items u ≡ opened (opening_of prefixes.now u)) }
+    ensures { IfOk result (λ ts. AreOpened prefixes.now (length prefixes.now) ts.items) }
 {
     let size = prefixes.len() as u16;
     let mut tables = Vec::with_capacity(alloc, prefixes.len())?;
