@@ -1,7 +1,8 @@
 -- The domain of a list of routers, after one of them entered an event.
-use Rattle.std.proofs.Common.{◌≡◌, ⊎_elim, ℕ, ◌<◌, Bool, true, false, cond, nat_eq, List, [], ◌∷◌, ◌++◌, length, map, slice_set, take, refl, sym, ap, subst, ◌∙◌, eq-eqb, ne_eqb, get_or-set_same, get_or-set_other, length-set}
+use Rattle.std.proofs.Common.{◌≡◌, ⊎_elim, ℕ, ◌<◌, Bool, true, false, cond, nat_eq, List, [], ◌∷◌, ◌++◌, length, drop, get_or, map, slice_set, take, refl, sym, ap, subst, ◌∙◌, arith, eq-eqb, ne_eqb, get_or-set_same, get_or-set_other, length-drop, length-set}
 use Rattle.std.specs.Prelude.{Some}
 use Rattle.std.proofs.lemmas.Bool.{cases_eq}
+use Rattle.std.proofs.lemmas.List.{append-nil, get_or_read, nil_from_length}
 use Rattle.netchange_core.specs.declared.event.Event.{Event}
 use Rattle.netchange_core.specs.declared.message.Message.{Message}
 use Rattle.netchange_core.specs.Next.{next, receive, relieved}
@@ -21,10 +22,12 @@ router_set ws u r x here =
     (λ other. get_or-set_other ws u x r nowhere other ∙ sym (ap (λ b. cond b r (router_at ws x)) (ne_eqb x u other)))
     (cases_eq x u)
 
--- a domain that differs from another by one router and by what is on its way
+-- the domain of these routers where one is in another world, and other messages are on their way
+abbrev pub replaced : List World → ℕ → World → (ℕ → ℕ → List Message) → Domain
+replaced ws u r flight = record { size = length ws; router = λ x. cond (nat_eq x u) r (router_at ws x); flight = flight }
+
 pub domain_with : (ws : List World) (ts : List Sent) (u : ℕ) (r : World) (flight : ℕ → ℕ → List Message) → u < length ws →
-    ((a b : ℕ) → under_way ts a b ≡ flight a b) →
-    domain_of (slice_set ws u r) ts ≡ record { size = length ws; router = λ x. cond (nat_eq x u) r (router_at ws x); flight = flight }
+    ((a b : ℕ) → under_way ts a b ≡ flight a b) → domain_of (slice_set ws u r) ts ≡ replaced ws u r flight
 domain_with ws ts u r flight here flights = λ i. record {
   size = length-set ws u r i;
   router = λ x. router_set ws u r x here i;
@@ -57,7 +60,8 @@ sent_flight : (ss : List Sent) (u w : ℕ) (ms : List Message) (a b : ℕ) →
     under_way (ss ++ map (sent_by u w) ms) a b ≡ cond (nat_eq a u) (cond (nat_eq b w) (under_way ss u w ++ ms) (under_way ss a b)) (under_way ss a b)
 sent_flight ss u w ms a b =
     flight_at (under_way ss) u w (under_way ss u w ++ ms) (under_way (ss ++ map (sent_by u w) ms) a b) a b
-    (λ from to. (λ i. under_way (ss ++ map (sent_by u w) ms) (from i) (to i)) ∙ under_way_sent u w ss ms)
+    (λ from to. ap (λ x. under_way (ss ++ map (sent_by u w) ms) x b) from ∙ ap (under_way (ss ++ map (sent_by u w) ms) u) to
+    ∙ under_way_sent u w ss ms)
     (λ other. under_way_unsent a b u w ss ms (other_from u w a b other))
     (λ other. under_way_unsent a b u w ss ms (other_to u w a b other))
 
@@ -65,7 +69,8 @@ pub sends_as : (ws : List World) (ss : List Sent) (u w max : ℕ) (r : World) (m
     r ≡ (sends (domain_of ws ss) u w max).router u → ms ≡ take max (neighbour (domain_of ws ss) u w).queue →
     domain_of (slice_set ws u r) (ss ++ map (sent_by u w) ms) ≡ sends (domain_of ws ss) u w max
 sends_as ws ss u w max r ms here router messages =
-    (λ i. domain_of (slice_set ws u ((router ∙ stands) i)) (ss ++ map (sent_by u w) (messages i)))
+    ap (λ t. domain_of (slice_set ws u t) (ss ++ map (sent_by u w) ms)) (router ∙ stands)
+    ∙ ap (λ q. domain_of (slice_set ws u s) (ss ++ map (sent_by u w) q)) messages
     ∙ domain_with ws (ss ++ map (sent_by u w) taken) u s e.flight here (λ a b. sent_flight ss u w taken a b)
   where
     e : Domain
@@ -84,7 +89,7 @@ heard_flight : (s : Sent) (ss : List Sent) (a b : ℕ) →
     under_way ss a b ≡ cond (nat_eq a s.from) (cond (nat_eq b s.to) (under_way ss s.from s.to) (under_way (s ∷ ss) a b)) (under_way (s ∷ ss) a b)
 heard_flight s ss a b =
     flight_at (under_way (s ∷ ss)) s.from s.to (under_way ss s.from s.to) (under_way ss a b) a b
-    (λ from to. λ i. under_way ss (from i) (to i))
+    (λ from to. ap (λ x. under_way ss x b) from ∙ ap (under_way ss s.from) to)
     (λ other. sym (under_way_other a b s ss (other_from s.from s.to a b other)))
     (λ other. sym (under_way_other a b s ss (other_to s.from s.to a b other)))
 
@@ -115,3 +120,17 @@ nothing_lost e u w none = λ i. record e { flight = λ a b. (each a b ∙ sym (n
   where
     each : (a b : ℕ) → (with_flight (with_flight e u w []) w u []).flight a b ≡ []
     each a b = nil_either (nat_eq a w) (nat_eq b u) ((with_flight e u w []).flight a b) (nil_either (nat_eq a u) (nat_eq b w) (e.flight a b) (none a b))
+
+-- a router that was read, by its number
+pub router_read : (ws : List World) (i u : ℕ) (x : World) → i ≡ u → u < length ws → x ≡ get_or ws i x → x ≡ router_at ws u
+router_read ws i u x at here is = get_or_read ws i x (omega (arith, at, here)) is nowhere ∙ ap (router_at ws) at
+
+-- the whole of a list, written back
+all_taken : (xs : List World) → take (length xs) xs ≡ xs
+all_taken [] = refl
+all_taken (x ∷ xs) = ap (λ ys. x ∷ ys) (all_taken xs)
+
+pub whole : (len : ℕ) (xs ys : List World) → len ≡ length xs → length ys ≡ length xs → take len (xs ++ drop (length xs) ys) ≡ xs
+whole len xs ys e f =
+    ap (λ zs. take len (xs ++ zs)) (nil_from_length (drop (length xs) ys) (omega (arith, length-drop (length xs) ys, f)))
+    ∙ ap (take len) (append-nil xs) ∙ ap (λ k. take k xs) e ∙ all_taken xs

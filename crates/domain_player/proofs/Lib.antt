@@ -4,4 +4,5 @@ pub mod Laws
 pub mod Linking
 pub mod Opened
 pub mod Played
+pub mod Queues
 pub mod Ways

@@ -19,12 +19,12 @@ other_is_neighbour d u w o from to apart =
 pub unlinked_back : (d : Domain) (u w : ℕ) → IsInOrder d → u < d.size → w < d.size → are_linked d u w ≡ false → are_linked d w u ≡ false
 unlinked_back d u w o from to unlinked = elim (cases_Bool (are_linked d w u)) [
   | inl linked ↦ absurd (let h : true ≡ false = sym (o.both_ways w u to from linked) ∙ unlinked in cc)
-  | inr no ↦ no
+  | inr down ↦ down
 ]
 
 pub linked_apart : (d : Domain) (u w : ℕ) → IsInOrder d → u < d.size → are_linked d u w ≡ true → u ≡ w → ⊥
 linked_apart d u w o from linked same =
-    let h : true ≡ false = sym linked ∙ ap (are_linked d u) (sym same) ∙ o.apart u from in absurd cc
+    let h : true ≡ false = sym linked ∙ ap (are_linked d u) (sym same) ∙ o.apart u from in cc
 
 -- the other router, after one entered its event
 pub router_still : (ws : List World) (u w : ℕ) (r : World) → (u ≡ w → ⊥) → router_at (slice_set ws u r) w ≡ router_at ws w

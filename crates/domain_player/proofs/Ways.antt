@@ -12,9 +12,6 @@ use Rattle.domain_player.specs.Play.{sent_by, under_way}
 abbrev goes : ℕ → ℕ → Sent → Bool
 goes u w s = is_pair u w s.from s.to
 
-said : Sent → Message
-said s = s.message
-
 under_way_both : (u w : ℕ) (ss ts : List Sent) → under_way (ss ++ ts) u w ≡ under_way ss u w ++ under_way ts u w
 under_way_both u w ss ts =
     ap (λ xs. map (λ s. s.message) xs) (filter-append (goes u w) ss ts)
@@ -27,7 +24,7 @@ under_way_first s ss =
     (and_from (nat_eq s.from s.from) (nat_eq s.to s.to) (eq-eqb s.from s.from refl) (eq-eqb s.to s.to refl))
 
 pub under_way_other : (u w : ℕ) (s : Sent) (ss : List Sent) → is_pair u w s.from s.to ≡ false → under_way (s ∷ ss) u w ≡ under_way ss u w
-under_way_other u w s ss no = ap (λ b. map (λ s. s.message) (cond b (s ∷ filter (goes u w) ss) (filter (goes u w) ss))) no
+under_way_other u w s ss unlike = ap (λ b. map (λ s. s.message) (cond b (s ∷ filter (goes u w) ss) (filter (goes u w) ss))) unlike
 
 -- two other nodes, or one
 pub other_from : (u w a b : ℕ) → (a ≡ u → ⊥) → is_pair a b u w ≡ false
@@ -45,8 +42,8 @@ all_there u w [] = refl
 all_there u w (m ∷ ms) = under_way_first (sent_by u w m) (map (sent_by u w) ms) ∙ ap (λ xs. m ∷ xs) (all_there u w ms)
 
 none_there : (a b u w : ℕ) (ms : List Message) → is_pair a b u w ≡ false → under_way (map (sent_by u w) ms) a b ≡ []
-none_there a b u w [] no = refl
-none_there a b u w (m ∷ ms) no = under_way_other a b (sent_by u w m) (map (sent_by u w) ms) no ∙ none_there a b u w ms no
+none_there a b u w [] unlike = refl
+none_there a b u w (m ∷ ms) unlike = under_way_other a b (sent_by u w m) (map (sent_by u w) ms) unlike ∙ none_there a b u w ms unlike
 
 -- after one node sent messages to another
 pub under_way_sent : (u w : ℕ) (ss : List Sent) (ms : List Message) → under_way (ss ++ map (sent_by u w) ms) u w ≡ under_way ss u w ++ ms
@@ -54,5 +51,5 @@ under_way_sent u w ss ms = under_way_both u w ss (map (sent_by u w) ms) ∙ ap (
 
 pub under_way_unsent : (a b u w : ℕ) (ss : List Sent) (ms : List Message) → is_pair a b u w ≡ false →
     under_way (ss ++ map (sent_by u w) ms) a b ≡ under_way ss a b
-under_way_unsent a b u w ss ms no =
-    under_way_both a b ss (map (sent_by u w) ms) ∙ ap (λ q. under_way ss a b ++ q) (none_there a b u w ms no) ∙ append-nil (under_way ss a b)
+under_way_unsent a b u w ss ms unlike =
+    under_way_both a b ss (map (sent_by u w) ms) ∙ ap (λ q. under_way ss a b ++ q) (none_there a b u w ms unlike) ∙ append-nil (under_way ss a b)

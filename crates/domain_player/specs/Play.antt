@@ -1,5 +1,6 @@
 -- The routers of a domain as a list, and what playing them leaves.
 use Rattle.std.specs.Prelude.{◌≡◌, ℕ, ◌+◌, ◌<◌, ◌≤◌, Bool, List, [], filter, length, map, slice_index_or}
+use Rattle.filter_code.specs.Limits.{largest_size}
 use Rattle.netchange_core.specs.declared.message.Message.{Message}
 use Rattle.netchange_core.specs.Calls.{opened}
 use Rattle.netchange_core.specs.OpeningView.{OpeningView}
@@ -37,6 +38,15 @@ under_way sents u w = map (λ s. s.message) (filter (λ s. is_pair u w s.from s.
 -- the domain of these routers, by number, and of what is on its way between them
 abbrev pub domain_of : List World → List Sent → Domain
 domain_of ws sents = record { size = length ws; router = router_at ws; flight = under_way sents }
+
+-- the same, with nothing on its way
+abbrev pub domain : List World → Domain
+domain ws = domain_of ws []
+
+-- routers of a domain in order, of at most the greatest size
+pub record AreRouters (ws : List World) : Type 0 where
+  pub in_order : IsInOrder (domain ws)
+  pub most : length ws ≤ largest_size
 
 -- what is on its way goes between nodes of the domain
 pub record IsBetween (size : ℕ) (s : Sent) : Type 0 where

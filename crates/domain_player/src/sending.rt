@@ -14,6 +14,7 @@ use std::alloc::AllocError;
 /// How many messages wait at a node for another.
 fn waiting(tables: &[Tables], from: u16, to: u16) -> usize
     requires from { from < length tables.now }
+    requires to { to < length tables.now }
     requires sound { IsSound (length tables.now) (router_at tables.now from) }
     ensures { result ≡ length (neighbour_at (router_at tables.now from).neighbours to).queue }
 {

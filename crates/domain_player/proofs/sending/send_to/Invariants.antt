@@ -9,5 +9,5 @@ invariant-sending l = record {
   between : All (IsBetween (length l.fn.tables)) l.sents.items;
 }
 
-abbrev pub measure-sending : goal.measure-sending
-measure-sending l = length (neighbour_at (router_at l.tables l.from).neighbours l.to).queue
+abbrev pub decreases-sending : goal.decreases-sending
+decreases-sending l = length (neighbour_at (router_at l.tables l.from).neighbours l.to).queue

@@ -10,5 +10,5 @@ invariant-rounds l = record {
   rounds : l.settled.rounds ≤ l.settled.messages;
 }
 
-abbrev pub measure-rounds : goal.measure-rounds
-measure-rounds l = weight (domain_of l.tables [])
+abbrev pub decreases-rounds : goal.decreases-rounds
+decreases-rounds l = weight (domain_of l.tables [])
