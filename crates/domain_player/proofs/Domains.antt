@@ -1,17 +1,17 @@
 -- The domain of a list of routers, after one of them entered an event.
 use Rattle.std.proofs.Common.{◌≡◌, ⊎_elim, ℕ, ◌<◌, Bool, true, false, cond, nat_eq, List, [], ◌∷◌, ◌++◌, length, drop, get_or, map, slice_set, take, refl, sym, ap, subst, ◌∙◌, arith, eq-eqb, ne_eqb, get_or-set_same, get_or-set_other, length-drop, length-set}
-use Rattle.std.specs.Prelude.{Some}
+use Rattle.std.specs.Prelude.{Err, Ok, OnErr, OnOk, Result, Some}
 use Rattle.std.proofs.lemmas.Bool.{cases_eq}
-use Rattle.std.proofs.lemmas.List.{append-nil, get_or_read, nil_from_length}
+use Rattle.std.proofs.lemmas.List.{append-nil, get_or_default, get_or_read, nil_from_length}
 use Rattle.netchange_core.specs.declared.event.Event.{Event}
 use Rattle.netchange_core.specs.declared.message.Message.{Message}
 use Rattle.netchange_core.specs.Next.{next, receive, relieved}
 use Rattle.netchange_core.specs.World.{World, changed}
-use Rattle.routing_domain.specs.Domain.{Domain, neighbour}
+use Rattle.routing_domain.specs.Domain.{Domain, IsInOrder, neighbour}
 use Rattle.routing_domain.specs.Events.{enters}
 use Rattle.routing_domain.specs.Steps.{hears, sends, with_flight}
 use Rattle.domain_player.specs.declared.sent.Sent.{Sent}
-use Rattle.domain_player.specs.Play.{domain_of, nowhere, router_at, sent_by, under_way}
+use Rattle.domain_player.specs.Play.{AreRouters, domain, domain_of, nowhere, router_at, sent_by, under_way}
 use Rattle.domain_player.proofs.Ways.{other_from, other_to, under_way_first, under_way_other, under_way_sent, under_way_unsent}
 
 pub router_set : (ws : List World) (u : ℕ) (r : World) (x : ℕ) → u < length ws → router_at (slice_set ws u r) x ≡ cond (nat_eq x u) r (router_at ws x)
@@ -125,12 +125,33 @@ nothing_lost e u w none = λ i. record e { flight = λ a b. (each a b ∙ sym (n
 pub router_read : (ws : List World) (i u : ℕ) (x : World) → i ≡ u → u < length ws → x ≡ get_or ws i x → x ≡ router_at ws u
 router_read ws i u x at here is = get_or_read ws i x (omega (arith, at, here)) is nowhere ∙ ap (router_at ws) at
 
+pub router_place : (ws : List World) (i u : ℕ) (x : World) → i ≡ u → u < length ws → get_or ws i x ≡ router_at ws u
+router_place ws i u x at here = get_or_default ws i x nowhere (omega (arith, at, here)) ∙ ap (router_at ws) at
+
 -- the whole of a list, written back
 all_taken : (xs : List World) → take (length xs) xs ≡ xs
 all_taken [] = refl
 all_taken (x ∷ xs) = ap (λ ys. x ∷ ys) (all_taken xs)
 
-pub whole : (len : ℕ) (xs ys : List World) → len ≡ length xs → length ys ≡ length xs → take len (xs ++ drop (length xs) ys) ≡ xs
+whole : (len : ℕ) (xs ys : List World) → len ≡ length xs → length ys ≡ length xs → take len (xs ++ drop (length xs) ys) ≡ xs
 whole len xs ys e f =
     ap (λ zs. take len (xs ++ zs)) (nil_from_length (drop (length xs) ys) (omega (arith, length-drop (length xs) ys, f)))
     ∙ ap (take len) (append-nil xs) ∙ ap (λ k. take k xs) e ∙ all_taken xs
+
+pub whole_of : (len : ℕ) (new was items : List World) → was ≡ items → length was ≡ len → length new ≡ length was →
+    take len (new ++ drop (length new) items) ≡ new
+whole_of len new was items same l a = whole len new items (omega (arith, l, a)) (omega (arith, ap length same, a))
+
+-- and they are routers of a domain in order still
+pub are_routers : (len : ℕ) (new was items : List World) → was ≡ items → length was ≡ len → length new ≡ length was → AreRouters items →
+    (IsInOrder (domain was) → IsInOrder (domain new)) → AreRouters (take len (new ++ drop (length new) items))
+are_routers len new was items same l a r keeps =
+    subst AreRouters (sym (whole_of len new was items same l a)) (record {
+      in_order = keeps (subst (λ ws. IsInOrder (domain ws)) (sym same) r.in_order);
+      most = omega (arith, r.most, ap length same, a);
+    })
+
+-- what holds after both outcomes
+pub either_way : {T E P : Type 0} (r : Result T E) → OnOk r P → OnErr r P → P
+either_way (Ok x) ok err = ok
+either_way (Err e) ok err = err

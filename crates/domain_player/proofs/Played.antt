@@ -1,23 +1,25 @@
 -- What sending and hearing leave, one after another.
 use Rattle.std.proofs.Common.{◌≡◌, ⊎_elim, ℕ, ◌+◌, ◌<◌, zero, suc, true, nat_eq, All, List, [], ◌∷◌, length, drop, get_or, slice_set, take, refl, sym, ap, subst, ◌∙◌, arith}
 use Rattle.std.proofs.lemmas.Bool.{cases_eq, cond_both, eqb-true}
-use Rattle.std.proofs.lemmas.List.{drop_more, get_or_read}
+use Rattle.std.proofs.lemmas.List.{drop_more}
 use Rattle.netchange_core.specs.declared.message.Message.{Message}
 use Rattle.netchange_core.specs.declared.event.Event.TheVariants as event
 use Rattle.netchange_core.specs.declared.reply.Reply.{Reply}
 use Rattle.netchange_core.specs.declared.reply.Reply.TheVariants as reply
+use Rattle.netchange_core.specs.Best.{distance}
 use Rattle.netchange_core.specs.Calls.{carried, session_of}
 use Rattle.netchange_core.specs.Next.{answered, next, relieved}
 use Rattle.netchange_core.specs.World.{World, changed, neighbour_at}
 use Rattle.netchange_core.proofs.Change.{changed_at}
-use Rattle.routing_domain.specs.Domain.{Domain, IsInOrder, are_linked, neighbour}
+use Rattle.routing_domain.specs.Domain.{Domain, IsInOrder, IsQuiet, are_linked, neighbour, topology}
+use Rattle.routing_domain.specs.Rest.{IsRest}
 use Rattle.routing_domain.specs.Steps.{IsNext, hears, sends}
 use Rattle.routing_domain.specs.Weight.{weight}
 use Rattle.routing_domain.proofs.Recomputed.{changed_other}
 use Rattle.domain_player.specs.declared.sent.Sent.{Sent}
-use Rattle.domain_player.specs.Play.{AreSent, IsBetween, IsPlayed, domain_of, nowhere, router_at, under_way}
-use Rattle.domain_player.proofs.Domains.{hears_as}
-use Rattle.domain_player.proofs.Laws.{hears_as_receive, hears_lighter, hears_order, hears_topology, next_heard, sends_as_take, sends_lighter, sends_order, sends_topology}
+use Rattle.domain_player.specs.Play.{AreSent, IsBetween, IsPlayed, domain, domain_of, router_at, under_way}
+use Rattle.domain_player.proofs.Domains.{hears_as, router_place}
+use Rattle.domain_player.proofs.Laws.{hears_as_receive, hears_lighter, hears_order, hears_topology, next_heard, quiet_rests, sends_as_take, sends_lighter, sends_order, sends_topology}
 use Rattle.domain_player.proofs.Ways.{under_way_first}
 
 pub nothing_played : (d : Domain) → IsInOrder d → IsPlayed d d 0
@@ -106,12 +108,23 @@ pub record IsTaken (d : Domain) (u w max : ℕ) (r : World) (ms : List Message) 
   pub router : r ≡ (sends d u w max).router u
   pub messages : ms ≡ take max (neighbour d u w).queue
 
-pub taken : (d : Domain) (u w max : ℕ) (x r : World) (p : Reply) → IsInOrder d → u < d.size → w < d.size → are_linked d u w ≡ true →
-    x ≡ d.router u → next x (event.Take (session_of x w) max) ≡ answered r p → IsTaken d u w max r (carried p)
-taken d u w max x r p o from to linked is done = record { router = ap (λ a. a.world) same; messages = ap (λ a. carried a.reply) same }
-  where
-    same : answered r p ≡ answered ((sends d u w max).router u) (reply.Messages (take max (neighbour d u w).queue))
-    same = sym done ∙ ap (λ y. next y (event.Take (session_of y w) max)) is ∙ sends_as_take d u w max o from to linked
+take_as : (d : Domain) (u w max s : ℕ) (x r : World) (p : Reply) → IsInOrder d → u < d.size → w < d.size → are_linked d u w ≡ true →
+    x ≡ d.router u → s ≡ session_of x w → next x (event.Take s max) ≡ answered r p →
+    answered r p ≡ answered ((sends d u w max).router u) (reply.Messages (take max (neighbour d u w).queue))
+take_as d u w max s x r p o from to linked is session done =
+    sym done ∙ ap (λ t. next x (event.Take t max)) session ∙ ap (λ y. next y (event.Take (session_of y w) max)) is
+    ∙ sends_as_take d u w max o from to linked
+
+pub taken : (d : Domain) (u w max s : ℕ) (x r : World) (p : Reply) → IsInOrder d → u < d.size → w < d.size → are_linked d u w ≡ true →
+    x ≡ d.router u → s ≡ session_of x w → next x (event.Take s max) ≡ answered r p → IsTaken d u w max r (carried p)
+taken d u w max s x r p o from to linked is session done =
+    let same = take_as d u w max s x r p o from to linked is session done in
+    record { router = ap (λ a. a.world) same; messages = ap (λ a. carried a.reply) same }
+
+pub take_answers : (d : Domain) (u w max s : ℕ) (x r : World) (p : Reply) → IsInOrder d → u < d.size → w < d.size → are_linked d u w ≡ true →
+    x ≡ d.router u → s ≡ session_of x w → next x (event.Take s max) ≡ answered r p → p ≡ reply.Messages (take max (neighbour d u w).queue)
+take_answers d u w max s x r p o from to linked is session done =
+    ap (λ a. a.reply) (take_as d u w max s x r p o from to linked is session done)
 
 -- a message that says nothing, for a place where there is none
 abbrev pub no_sent : Sent
@@ -119,10 +132,10 @@ no_sent = record { from = 0; to = 0; message = record { dest = 0; dist = 0 } }
 
 -- the message in a place is heard
 pub heard_more : (d : Domain) (ss : List Sent) (i n : ℕ) (ws : List World) (to : ℕ) (x r : World) → i < length ss → n ≡ length ws →
-    All (IsBetween n) ss → to ≡ (get_or ss i no_sent).to → x ≡ get_or ws to x →
-    r ≡ (next x (event.Receive (session_of x (get_or ss i no_sent).from) (get_or ss i no_sent).message.dest (get_or ss i no_sent).message.dist)).world →
+    All (IsBetween n) ss → to ≡ (get_or ss i no_sent).to →
+    r ≡ (next (get_or ws to x) (event.Receive (session_of (get_or ws to x) (get_or ss i no_sent).from) (get_or ss i no_sent).message.dest (get_or ss i no_sent).message.dist)).world →
     IsPlayed d (domain_of ws (drop i ss)) i → IsPlayed d (domain_of (slice_set ws to r) (drop (i + 1) ss)) (i + 1)
-heard_more d ss i n ws to x r below wide between at is heard played =
+heard_more d ss i n ws to x r below wide between at heard played =
     subst (λ t. IsPlayed d (domain_of (slice_set ws t r) (drop (i + 1) ss)) (i + 1)) (sym at)
     (hear_on d i ws s (drop (i + 1) ss) r (subst (λ l. IsPlayed d (domain_of ws l) i) (drop_more ss i no_sent below) played) here
     (heard ∙ ap (λ y. (next y (event.Receive (session_of y s.from) s.message.dest s.message.dist)).world) there))
@@ -133,8 +146,8 @@ heard_more d ss i n ws to x r below wide between at is heard played =
     here : IsBetween (length ws) s
     here = subst (λ m. IsBetween m s) wide (between i no_sent below)
 
-    there : x ≡ router_at ws s.to
-    there = get_or_read ws to x (omega (arith, at, here.to)) is nowhere ∙ ap (router_at ws) at
+    there : get_or ws to x ≡ router_at ws s.to
+    there = router_place ws to s.to x at here.to
 
 -- one round more
 pub round_more : (d e f g : Domain) (m h n : ℕ) → IsPlayed d e m → AreSent e f → IsPlayed f g h → m + h ≡ n → IsPlayed d g n
@@ -145,3 +158,10 @@ round_more d e f g m h n before sent heard count =
 pub last_sent : (d e f : Domain) (m : ℕ) → IsPlayed d e m → AreSent e f → IsPlayed d f m
 last_sent d e f m before sent =
     subst (IsPlayed d f) (let sum : m + 0 ≡ m = omega arith in sum) (played_on d e f m 0 before sent.played)
+
+-- routers that are quiet after they were played are at rest
+pub settled_rest : (was new : List World) (n : ℕ) → IsPlayed (domain was) (domain new) n → IsQuiet (domain new) → length new ≡ length was →
+    (v : ℕ) → v < length was → IsRest (topology (domain was) v) v (λ u. distance (router_at new u) v)
+settled_rest was new n played quiet same v below =
+    subst (λ m. IsRest m v (λ u. distance (router_at new u) v)) (played.topology v)
+    (quiet_rests (domain new) played.in_order quiet v (omega (arith, below, same)))

@@ -1,7 +1,7 @@
 -- One node after another sends what waits for its neighbours.
 use Rattle.std.proofs.Common.{◌≡◌, ⊎_elim, ℕ, ◌+◌, ◌-◌, ◌<◌, ◌≤◌, zero, suc, true, false, cond, All, List, [], ◌∷◌, ◌++◌, length, drop, get_or, map, slice_set, take, refl, sym, ap, subst, ◌∙◌, arith, inl, inr, eq-eqb, length-drop, length-set}
 use Rattle.std.proofs.lemmas.Bool.{cases_Bool, cases_lt}
-use Rattle.std.proofs.lemmas.List.{get_or_read, nil_from_length}
+use Rattle.std.proofs.lemmas.List.{nil_from_length}
 use Rattle.std.proofs.lemmas.List.Elements.{All-append, All-cons, All-nil}
 use Rattle.netchange_core.specs.declared.message.Message.{Message}
 use Rattle.netchange_core.specs.declared.event.Event.TheVariants as event
@@ -13,8 +13,8 @@ use Rattle.netchange_core.proofs.Change.{changed_at}
 use Rattle.routing_domain.specs.Domain.{Domain, IsInOrder, IsSound, are_linked, neighbour}
 use Rattle.routing_domain.specs.Steps.{sends}
 use Rattle.domain_player.specs.declared.sent.Sent.{Sent}
-use Rattle.domain_player.specs.Play.{AreSent, IsBetween, domain_of, nowhere, router_at, sent_by}
-use Rattle.domain_player.proofs.Domains.{sends_as}
+use Rattle.domain_player.specs.Play.{AreSent, IsBetween, domain_of, router_at, sent_by}
+use Rattle.domain_player.proofs.Domains.{router_place, sends_as}
 use Rattle.domain_player.proofs.Played.{IsTaken, sends_sent, sent_on, taken}
 
 -- where something waits there is a link
@@ -69,15 +69,22 @@ all_from d e n k sent before last u w below short =
     (λ late. let same : u ≡ k = omega (arith, below, late) in ap (λ x. (neighbour e x w).queue) same ∙ last w short) (cases_lt u k)
 
 -- what was taken is on its way
-pub sent_by_both : (ws : List World) (ss : List Sent) (u w : ℕ) (x r : World) (p : Reply) → u < length ws → w < length ws →
-    IsInOrder (domain_of ws ss) → are_linked (domain_of ws ss) u w ≡ true → x ≡ get_or ws u x →
-    next x (event.Take (session_of x w) 65535) ≡ answered r p →
-    domain_of (slice_set ws u r) (ss ++ map (sent_by u w) (carried p)) ≡ sends (domain_of ws ss) u w 65535
-sent_by_both ws ss u w x r p from to o linked is done =
-    sends_as ws ss u w 65535 r (carried p) from given.router given.messages
+pub sent_by_both : (ws : List World) (ss : List Sent) (u w i s : ℕ) (x r : World) (p : Reply) → u < length ws → w < length ws →
+    IsInOrder (domain_of ws ss) → are_linked (domain_of ws ss) u w ≡ true → i ≡ u → s ≡ session_of (get_or ws i x) w →
+    next (get_or ws i x) (event.Take s 65535) ≡ answered r p →
+    domain_of (slice_set ws i r) (ss ++ map (sent_by u w) (carried p)) ≡ sends (domain_of ws ss) u w 65535
+sent_by_both ws ss u w i s x r p from to o linked at session done =
+    ap (λ k. domain_of (slice_set ws k r) (ss ++ map (sent_by u w) (carried p))) at
+    ∙ sends_as ws ss u w 65535 r (carried p) from given.router given.messages
   where
     given : IsTaken (domain_of ws ss) u w 65535 r (carried p)
-    given = taken (domain_of ws ss) u w 65535 x r p o from to linked (get_or_read ws u x from is nowhere) done
+    given = taken (domain_of ws ss) u w 65535 s (get_or ws i x) r p o from to linked (router_place ws i u x at from) session done
+
+pub take_past : (k : ℕ) (xs : List Message) → length xs ≤ k → take k xs ≡ xs
+take_past zero [] few = refl
+take_past zero (x ∷ xs) few = absurd (omega (arith, few))
+take_past (suc k) [] few = refl
+take_past (suc k) (x ∷ xs) few = ap (λ ys. x ∷ ys) (take_past k xs (omega (arith, few)))
 
 pub all_between : (n u w : ℕ) (ss : List Sent) (ms : List Message) → u < n → w < n → All (IsBetween n) ss → All (IsBetween n) (ss ++ map (sent_by u w) ms)
 all_between n u w ss ms from to before = All-append (IsBetween n) ss (map (sent_by u w) ms) before (each ms)

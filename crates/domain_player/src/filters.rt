@@ -11,7 +11,7 @@ use std::alloc::AllocError;
 pub(crate) fn enter(tables: &mut [Tables], node: u16, event: &Event) -> Result<(), AllocError>
     requires { node < length tables.old }
     ensures entered { OnOk result (domain_of tables.new [] ≡ enters (domain_of tables.old []) node event.now) }
-    ensures same { OnErr result (domain_of tables.new [] ≡ domain_of tables.old []) }
+    ensures same { OnErr result (tables.new ≡ tables.old) }
 {
     tables[usize::from(node)].apply(event)?;
     Ok(())

@@ -1,6 +1,5 @@
-use Rattle.std.proofs.Common.{◌≡◌, ◌<◌, length, get_or, subst, sym, arith}
-use Rattle.domain_player.specs.Play.{IsBetween}
-use Rattle.domain_player.proofs.Played.{heard_more, no_sent, nothing_played}
+use Rattle.std.proofs.Common.{length, sym}
+use Rattle.domain_player.proofs.Played.{heard_more, nothing_played}
 use Rattle.domain_player.proofs.hearing.hear_all.Goals as goal
 
 pub loop-sent-init : goal.loop-sent-init
@@ -10,4 +9,4 @@ pub loop-sent-preserved : goal.loop-sent-preserved
 loop-sent-preserved c =
     heard_more _ c.args.sents.now c.loop-sent.sent-index (length c.args.tables.now) c.loop-sent.tables c.from.result
     c.index-tables-from.result c.hear.new.router c.loop-sent-test.true (sym c.loop-sent.auto.tables) c.requires.between c.from.ensures
-    c.index-tables-from.is c.in_ok-hear.ensures c.loop-sent.invariant
+    c.in_ok-hear.ensures c.loop-sent.invariant

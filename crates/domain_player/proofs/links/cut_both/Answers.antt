@@ -4,7 +4,7 @@ use Rattle.netchange_core.specs.declared.event.Event.TheVariants as event
 use Rattle.netchange_core.specs.Calls.{session_of}
 use Rattle.netchange_core.specs.Next.{next}
 use Rattle.domain_player.specs.Play.{domain_of, router_at}
-use Rattle.domain_player.proofs.Domains.{router_read}
+use Rattle.domain_player.proofs.Domains.{router_place}
 use Rattle.domain_player.proofs.Linking.{cuts_as, linked_apart}
 use Rattle.domain_player.proofs.links.cut_both.Goals as goal
 
@@ -12,9 +12,9 @@ pub returns : goal.returns
 returns c =
     let ws = c.args.tables.now in
     let r = c.enter_down.new.router in
-    let first = router_read ws c.from.result c.args.u c.index-tables-from.result c.from.ensures c.requires.from c.index-tables-from.is in
-    let second = router_read (slice_set ws c.from.result r) c.from-2.result c.args.w c.index-tables-from-2.result
-    c.from-2.ensures (omega (arith, c.requires.to, length-set ws c.from.result r)) c.index-tables-from-2.is in
+    let first = router_place ws c.from.result c.args.u c.index-tables-from.result c.from.ensures c.requires.from in
+    let second = router_place (slice_set ws c.from.result r) c.from-2.result c.args.w c.index-tables-from-2.result
+    c.from-2.ensures (omega (arith, c.requires.to, length-set ws c.from.result r)) in
     on_ok_weaker c.enter_down-2.result
     (λ down.
     ap (λ i. domain_of (slice_set (slice_set ws i r) c.from-2.result c.enter_down-2.new.router) []) c.from.ensures
