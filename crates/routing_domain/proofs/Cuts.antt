@@ -1,13 +1,12 @@
 -- A link that goes down at both ends keeps a domain in order.
-use Rattle.std.proofs.Common.{◌≡◌, ⊎_elim, inl, inr, ℕ, ◌<◌, true, false, Option, Some, List, [], length, refl, sym, ap, subst, ◌∙◌, arith}
+use Rattle.std.proofs.Common.{◌≡◌, inr, ℕ, ◌<◌, true, false, Some, [], length, refl, sym, ap, subst, ◌∙◌, arith}
 use Rattle.std.proofs.lemmas.Bool.{ltb-true}
 use Rattle.std.proofs.lemmas.List.Elements.{All-nil}
 use Rattle.netchange_core.specs.declared.event.Event.TheVariants as event
-use Rattle.netchange_core.specs.declared.message.Message.{Message}
 use Rattle.netchange_core.specs.Best.{distance}
 use Rattle.netchange_core.specs.Kept.{IsNeighbour}
 use Rattle.netchange_core.specs.Next.{down, gone, next, recomputed}
-use Rattle.netchange_core.specs.World.{NeighbourView, World, change, changed, holder, is_up, neighbour_at, nobody}
+use Rattle.netchange_core.specs.World.{World, change, changed, holder, is_up, neighbour_at, nobody}
 use Rattle.netchange_core.proofs.Change.{change_good, changed_at}
 use Rattle.netchange_core.proofs.Good.{gone_good}
 use Rattle.netchange_core.proofs.Holders.{holder_found}

@@ -1,16 +1,15 @@
 -- New filters, and looks, keep a domain in order.
-use Rattle.std.proofs.Common.{◌≡◌, ⊎_elim, ℕ, ◌<◌, zero, suc, true, false, cond, nat_eq, nat_le, Option, Some, All, List, [], ◌∷◌, ◌++◌, length, refl, sym, ap, subst, ◌∙◌, arith, eq-eqb, ne_eqb}
+use Rattle.std.proofs.Common.{◌≡◌, ⊎_elim, ℕ, ◌<◌, zero, suc, true, cond, nat_eq, nat_le, Option, Some, All, [], ◌∷◌, ◌++◌, length, refl, sym, ap, subst, ◌∙◌, arith, eq-eqb, ne_eqb}
 use Rattle.std.specs.declared.sync.Arc.{Arc}
 use Rattle.std.proofs.Common.{Global}
-use Rattle.std.proofs.lemmas.Bool.{cases_eq, cond_both, eqb-true, or_parts}
+use Rattle.std.proofs.lemmas.Bool.{cases_eq, cond_both, eqb-true}
 use Rattle.std.proofs.lemmas.List.Elements.{All-append}
 use Rattle.filter_verifier.specs.VerifiedView.{VerifiedView}
 use Rattle.netchange_core.specs.declared.event.Event.TheVariants as event
-use Rattle.netchange_core.specs.declared.message.Message.{Message}
 use Rattle.netchange_core.specs.declared.reply.Refusal.TheVariants as refusal
 use Rattle.netchange_core.specs.declared.reply.Reply.TheVariants as reply
 use Rattle.netchange_core.specs.Best.{best, best_by, distance, neighbour_distance, neighbour_distances}
-use Rattle.netchange_core.specs.Kept.{AreNeighbours, IsNeighbour}
+use Rattle.netchange_core.specs.Kept.{IsNeighbour}
 use Rattle.netchange_core.specs.Next.{Answered, all_messages, answered, exporting, importing, is_no_neighbour, message_of, recomputed, refused}
 use Rattle.netchange_core.specs.OpeningView.{OpeningView}
 use Rattle.netchange_core.specs.Pass.{pass}

@@ -15,11 +15,11 @@ use Rattle.routing_domain.proofs.Places.{router_here, router_other}
 use Rattle.routing_domain.proofs.Told.{last_told_both}
 
 -- a router of a domain of this size, at this place
-pub record IsMember (size u : ℕ) (r : World) : Type 0 where
-  pub size : r.opening.size ≡ size
+pub record IsMember (n u : ℕ) (r : World) : Type 0 where
+  pub size : r.opening.size ≡ n
   pub me : r.opening.me ≡ u
-  pub tables : AreNeighbours size r.neighbours
-  pub sound : IsSound size r
+  pub tables : AreNeighbours n r.neighbours
+  pub sound : IsSound n r
   pub apart : is_up (neighbour_at r.neighbours u) ≡ false
 
 pub member_of : (d : Domain) (u : ℕ) → IsInOrder d → u < d.size → IsMember d.size u (d.router u)
@@ -75,34 +75,34 @@ linked_as d e a b k = ap (λ s. nat_lt 0 s) k.session
 both_ways_after : (d e : Domain) (a b : ℕ) → IsInOrder d → a < d.size → b < d.size → IsAfter d e a b → are_linked e a b ≡ true → are_linked e b a ≡ true
 both_ways_after d e a b o from to after linked =
     ⊎_elim
-    (λ kept. linked_as d e b a kept.there ∙ o.both_ways a b from to (sym (linked_as d e a b kept.here) ∙ linked))
-    (λ rest. ⊎_elim (λ fresh. fresh.up_there) (λ gone. absurd (let h : true ≡ false = sym linked ∙ gone.down in cc)) rest)
+    (λ (kept : IsKept d e a b). linked_as d e b a kept.there ∙ o.both_ways a b from to (sym (linked_as d e a b kept.here) ∙ linked))
+    (λ (rest : (IsFresh d e a b) ⊎ (IsGone e a b)). ⊎_elim (λ (fresh : IsFresh d e a b). fresh.up_there) (λ (gone : IsGone e a b). absurd (let h : true ≡ false = sym linked ∙ gone.down in cc)) rest)
     after
 
 within_after : (d e : Domain) (a b : ℕ) → IsInOrder d → a < d.size → b < d.size → IsAfter d e a b → All (IsWithin d.size) (e.flight a b)
 within_after d e a b o from to after =
     ⊎_elim
-    (λ kept. subst (All (IsWithin d.size)) (sym kept.flight) (o.within a b from to))
-    (λ rest. ⊎_elim (λ fresh. subst (All (IsWithin d.size)) (sym fresh.flight) (All-nil (IsWithin d.size)))
-    (λ gone. subst (All (IsWithin d.size)) (sym gone.flight) (All-nil (IsWithin d.size))) rest)
+    (λ (kept : IsKept d e a b). subst (All (IsWithin d.size)) (sym kept.flight) (o.within a b from to))
+    (λ (rest : (IsFresh d e a b) ⊎ (IsGone e a b)). ⊎_elim (λ (fresh : IsFresh d e a b). subst (All (IsWithin d.size)) (sym fresh.flight) (All-nil (IsWithin d.size)))
+    (λ (gone : IsGone e a b). subst (All (IsWithin d.size)) (sym gone.flight) (All-nil (IsWithin d.size))) rest)
     after
 
 silent_after : (d e : Domain) (a b : ℕ) → IsInOrder d → a < d.size → b < d.size → IsAfter d e a b → are_linked e a b ≡ false → e.flight a b ≡ []
 silent_after d e a b o from to after down =
     ⊎_elim
-    (λ kept. kept.flight ∙ o.silent a b from to (sym (linked_as d e a b kept.here) ∙ down))
-    (λ rest. ⊎_elim (λ fresh. fresh.flight) (λ gone. gone.flight) rest)
+    (λ (kept : IsKept d e a b). kept.flight ∙ o.silent a b from to (sym (linked_as d e a b kept.here) ∙ down))
+    (λ (rest : (IsFresh d e a b) ⊎ (IsGone e a b)). ⊎_elim (λ (fresh : IsFresh d e a b). fresh.flight) (λ (gone : IsGone e a b). gone.flight) rest)
     after
 
 told_after : (d e : Domain) (a b v : ℕ) → IsInOrder d → a < d.size → b < d.size → v < d.size → IsAfter d e a b → are_linked e a b ≡ true →
     ToldBy (e.router a) (e.router b) (e.flight a b) a b v
 told_after d e a b v o from to below after linked =
     ⊎_elim
-    (λ kept.
+    (λ (kept : IsKept d e a b).
     let was : are_linked d a b ≡ true = sym (linked_as d e a b kept.here) ∙ linked in
     subst (λ f. ToldBy (e.router a) (e.router b) f a b v) (sym kept.flight)
     (kept_told d.size (d.router a) (e.router a) (d.router b) (e.router b) (d.flight a b) a b v was below kept.here kept.there (o.told a b v from to below was)))
-    (λ rest. ⊎_elim (λ fresh. fresh.told v below) (λ gone. absurd (let h : true ≡ false = sym linked ∙ gone.down in cc)) rest)
+    (λ (rest : (IsFresh d e a b) ⊎ (IsGone e a b)). ⊎_elim (λ (fresh : IsFresh d e a b). fresh.told v below) (λ (gone : IsGone e a b). absurd (let h : true ≡ false = sym linked ∙ gone.down in cc)) rest)
     after
 
 -- and so the domain stays in order

@@ -1,16 +1,14 @@
 -- A link that comes up at both ends keeps a domain in order.
-use Rattle.std.proofs.Common.{◌≡◌, ⊎_elim, inl, inr, ℕ, ◌+◌, ◌<◌, true, false, cond, nat_eq, nat_le, List, [], ◌++◌, length, slice_index, refl, sym, ap, subst, ◌∙◌, arith, ne_eqb}
-use Rattle.std.specs.Prelude.{nat_lt}
+use Rattle.std.proofs.Common.{◌≡◌, inl, inr, ℕ, ◌+◌, ◌<◌, true, false, nat_eq, nat_le, [], ◌++◌, length, slice_index, refl, sym, ap, subst, ◌∙◌, arith, ne_eqb}
 use Rattle.std.proofs.lemmas.Bool.{cases_eq, lt-leb, lt-ltb, ltb-false, or_from}
 use Rattle.netchange_core.specs.declared.event.Event.TheVariants as event
-use Rattle.netchange_core.specs.declared.message.Message.{Message}
 use Rattle.netchange_core.specs.declared.reply.Reply.TheVariants as reply
 use Rattle.netchange_core.specs.Best.{best_by, distance, neighbour_distance, neighbour_distances}
 use Rattle.netchange_core.specs.Kept.{IsNeighbour}
-use Rattle.netchange_core.specs.Next.{all_messages, answered, is_no_neighbour, joined, last_session, next, up}
+use Rattle.netchange_core.specs.Next.{answered, is_no_neighbour, joined, last_session, next, up}
 use Rattle.netchange_core.specs.OpeningView.{OpeningView}
 use Rattle.netchange_core.specs.Pass.{pass}
-use Rattle.netchange_core.specs.World.{NeighbourView, World, change, changed, is_up, neighbour_at, nobody}
+use Rattle.netchange_core.specs.World.{NeighbourView, World, changed, is_up, neighbour_at, nobody}
 use Rattle.netchange_core.proofs.Change.{change_good, changed_at, map_change_same}
 use Rattle.netchange_core.proofs.Goes.{up_goes}
 use Rattle.netchange_core.proofs.Good.{joined_distance, joined_good}
@@ -19,7 +17,7 @@ use Rattle.routing_domain.specs.Domain.{Domain, IsInOrder, IsQueued, are_linked,
 use Rattle.routing_domain.specs.Events.{CanLink, enters, links}
 use Rattle.routing_domain.proofs.Filters.{told_all}
 use Rattle.routing_domain.proofs.Hears.{ToldBy}
-use Rattle.routing_domain.proofs.Keeping.{IsMember, IsTold, KeepsLink, member_of}
+use Rattle.routing_domain.proofs.Keeping.{IsMember, KeepsLink, member_of}
 use Rattle.routing_domain.proofs.Pairs.{two_routers_keep_order}
 use Rattle.routing_domain.proofs.Places.{router_here, router_other}
 use Rattle.routing_domain.proofs.Recomputed.{changed_other}

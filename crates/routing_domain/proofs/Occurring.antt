@@ -9,9 +9,8 @@ use Rattle.netchange_core.specs.declared.reply.Refusal.{Refusal}
 use Rattle.netchange_core.specs.declared.reply.Refusal.TheVariants as refusal
 use Rattle.netchange_core.specs.declared.reply.Reply.TheVariants as reply
 use Rattle.netchange_core.specs.Best.{best, distance}
-use Rattle.netchange_core.specs.Next.{Answered, answered, count_changes, down, exporting, gone, heard, importing, is_no_neighbour, joined, last_session, next, receive, recomputed, refused, relieved, set_export, set_import, show, take_from, up}
+use Rattle.netchange_core.specs.Next.{Answered, answered, count_changes, down, exporting, gone, heard, importing, is_no_neighbour, joined, last_session, next, receive, recomputed, refused, take_from}
 use Rattle.netchange_core.specs.World.{World, changed, holder, is_up, neighbour_at}
-use Rattle.filter_verifier.specs.VerifiedView.{VerifiedView}
 use Rattle.routing_domain.specs.Domain.{Domain, IsInOrder, IsQuiet, IsWithin, are_linked, neighbour}
 use Rattle.routing_domain.specs.Events.{CanLink, cuts, enters, links}
 use Rattle.routing_domain.specs.Steps.{IsNext, hears, sends, with_router}
@@ -59,11 +58,12 @@ pub receive_hears : (d : Domain) (u w : ℕ) (m : Message) (rest : List Message)
     (changed : ℕ) × (next (d.router w) (event.Receive (neighbour d w u).session m.dest m.dist) ≡ answered ((hears d u w m rest).router w) (reply.Done changed))
 receive_hears d u w m rest o n =
     let r = d.router w in
-    let a = recomputed r (changed r u (heard m.dest m.dist)) in
-    (count_changes (distance r) (distance (changed r u (heard m.dest m.dist))) r.opening.size,
-    ap (λ h. receive r h m.dest m.dist) (holds d w u o n.to n.linked)
-    ∙ heard_by r u m.dest m.dist (omega (arith, n.dest, o.size w n.to)) (omega (arith, n.dist, o.size w n.to))
-    ∙ ap (λ x. answered x a.reply) (sym (at_hearer d u w m rest o n)))
+    let a = recomputed r (changed r u (heard m.dest m.dist)) in (
+      count_changes (distance r) (distance (changed r u (heard m.dest m.dist))) r.opening.size,
+      ap (λ h. receive r h m.dest m.dist) (holds d w u o n.to n.linked)
+          ∙ heard_by r u m.dest m.dist (omega (arith, n.dest, o.size w n.to)) (omega (arith, n.dist, o.size w n.to))
+          ∙ ap (λ x. answered x a.reply) (sym (at_hearer d u w m rest o n)),
+    )
 
 pub up_links : (d : Domain) (u w : ℕ) → IsInOrder d → CanLink d u w →
     next (d.router u) (event.Up w) ≡ answered ((links d u w).router u) (reply.Opened ((d.router u).sessions + 1))
@@ -77,17 +77,19 @@ pub down_cuts : (d : Domain) (u w : ℕ) → IsInOrder d → u < d.size → w < 
     (changed : ℕ) × (next (d.router u) (event.Down (neighbour d u w).session) ≡ answered ((cuts d u w).router u) (reply.Done changed))
 down_cuts d u w o from to linked =
     let r = d.router u in
-    let a = recomputed r (changed r w (gone r.opening)) in
-    (count_changes (distance r) (distance (changed r w (gone r.opening))) r.opening.size,
-    down_leaves d u w o from linked ∙ ap (λ x. answered x a.reply) (sym (cut_one d u w o from to linked)))
+    let a = recomputed r (changed r w (gone r.opening)) in (
+      count_changes (distance r) (distance (changed r w (gone r.opening))) r.opening.size,
+      down_leaves d u w o from linked ∙ ap (λ x. answered x a.reply) (sym (cut_one d u w o from to linked)),
+    )
 
 pub down_cuts_back : (d : Domain) (u w : ℕ) → IsInOrder d → u < d.size → w < d.size → are_linked d u w ≡ true →
     (changed : ℕ) × (next (d.router w) (event.Down (neighbour d w u).session) ≡ answered ((cuts d u w).router w) (reply.Done changed))
 down_cuts_back d u w o from to linked =
     let r = d.router w in
-    let a = recomputed r (changed r u (gone r.opening)) in
-    (count_changes (distance r) (distance (changed r u (gone r.opening))) r.opening.size,
-    down_leaves d w u o to (o.both_ways u w from to linked) ∙ ap (λ x. answered x a.reply) (sym (cut_other d u w o from to linked)))
+    let a = recomputed r (changed r u (gone r.opening)) in (
+      count_changes (distance r) (distance (changed r u (gone r.opening))) r.opening.size,
+      down_leaves d w u o to (o.both_ways u w from to linked) ∙ ap (λ x. answered x a.reply) (sym (cut_other d u w o from to linked)),
+    )
 
 -- an event that is refused leaves the world
 abbrev StaysIfRefused : World → Refusal → Answered → Type 0
@@ -109,16 +111,16 @@ refused_stays w (event.Down s) why = by_holder (holder w s)
     by_holder (Some k) h = absurd (cc)
 refused_stays w (event.Receive s v d) why = by_holder (holder w s)
   where
-    by_holder : (o : Option ℕ) → StaysIfRefused w why (receive w o v d)
-    by_holder None h = refl
-    by_holder (Some k) h = in_range k h
-
     in_range : (k : ℕ) → StaysIfRefused w why (receive w (Some k) v d)
     in_range k =
         let last = recomputed w (changed w k (heard v d)) in
         cond_both (nat_le w.opening.size v) (refused w refusal.BadDest) (cond (nat_lt w.opening.size d) (refused w refusal.BadDist) last)
         (StaysIfRefused w why) (λ _ _. refl)
         (λ _. cond_both (nat_lt w.opening.size d) (refused w refusal.BadDist) last (StaysIfRefused w why) (λ _ _. refl) (λ _ h. absurd (cc)))
+
+    by_holder : (o : Option ℕ) → StaysIfRefused w why (receive w o v d)
+    by_holder None h = refl
+    by_holder (Some k) h = in_range k h
 refused_stays w (event.Take s max) why = by_holder (holder w s)
   where
     by_holder : (o : Option ℕ) → StaysIfRefused w why (take_from w o max)

@@ -1,5 +1,5 @@
 -- Two routers that change their link, and keep all others, keep a domain in order.
-use Rattle.std.proofs.Common.{◌≡◌, ⊎_elim, inl, ℕ, ◌<◌, sym, ap, subst, ◌∙◌}
+use Rattle.std.proofs.Common.{◌≡◌, ⊎_elim, inl, ℕ, ◌<◌, sym, subst, ◌∙◌}
 use Rattle.std.proofs.lemmas.Bool.{cases_eq}
 use Rattle.netchange_core.specs.World.{World}
 use Rattle.routing_domain.specs.Domain.{Domain, IsInOrder}

@@ -1,5 +1,5 @@
 -- What is said of a domain is said of its routers below the size, however it is written.
-use Rattle.std.proofs.Common.{◌≡◌, inl, ℕ, ◌+◌, ◌<◌, sym, ap, subst, ◌∙◌, arith}
+use Rattle.std.proofs.Common.{◌≡◌, inl, ℕ, ◌<◌, sym, ap, subst, ◌∙◌, arith}
 use Rattle.netchange_core.specs.Best.{distance}
 use Rattle.netchange_core.specs.World.{neighbour_at}
 use Rattle.routing_domain.specs.Domain.{Domain, IsInOrder, IsSame}

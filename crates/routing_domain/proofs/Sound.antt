@@ -1,5 +1,5 @@
 -- Sessions and queues stay sound.
-use Rattle.std.proofs.Common.{◌≡◌, ⊎_elim, ℕ, ◌+◌, ◌<◌, ◌≤◌, zero, suc, true, false, cond, nat_eq, All, List, [], ◌∷◌, ◌++◌, length, drop, refl, sym, ap, subst, ◌∙◌, arith}
+use Rattle.std.proofs.Common.{◌≡◌, ⊎_elim, ℕ, ◌+◌, ◌<◌, ◌≤◌, zero, suc, true, false, nat_eq, All, [], ◌∷◌, ◌++◌, length, drop, refl, sym, ap, subst, ◌∙◌, arith}
 use Rattle.std.proofs.lemmas.Bool.{cases_eq, cond_both}
 use Rattle.std.proofs.lemmas.List.Elements.{All-append, All-cons, All-drop, All-nil}
 use Rattle.filter_verifier.specs.VerifiedView.{VerifiedView}
@@ -56,7 +56,7 @@ relieved_queued size max n q = record {
   idle = λ down. ap (drop max) (q.idle down) ∙ nothing max;
 }
   where
-    nothing : (k : ℕ) → drop k [] ≡ []
+    nothing : (k : ℕ) → drop {A = Message} k [] ≡ []
     nothing zero = refl
     nothing (suc k) = refl
 

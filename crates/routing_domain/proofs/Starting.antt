@@ -9,7 +9,7 @@ use Rattle.netchange_core.specs.Kept.{AreNeighbours, IsNeighbour}
 use Rattle.netchange_core.specs.OpeningView.{OpeningView}
 use Rattle.netchange_core.specs.World.{NeighbourView, is_up, neighbour_at, nobody}
 use Rattle.netchange_core.proofs.Lists.{below_repeated}
-use Rattle.routing_domain.specs.Domain.{AreOpenings, Domain, IsInOrder, IsQueued, IsWithin, are_linked, opened_domain}
+use Rattle.routing_domain.specs.Domain.{AreOpenings, IsInOrder, IsQueued, IsWithin, opened_domain}
 
 -- no neighbour has a session, nor does anything wait for one
 abbrev IsIdle : NeighbourView → Type 0

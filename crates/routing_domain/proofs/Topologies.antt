@@ -1,19 +1,17 @@
 -- What there is between the nodes, after a step or an event.
-use Rattle.std.proofs.Common.{◌≡◌, ⊎_elim, ℕ, ◌+◌, ◌<◌, Bool, true, false, cond, nat_eq, nat_le, Option, Some, List, length, refl, sym, ap, subst, ◌∙◌, arith, eq-eqb, ne_eqb}
+use Rattle.std.proofs.Common.{◌≡◌, ⊎_elim, ℕ, ◌+◌, ◌<◌, Bool, true, false, cond, nat_eq, nat_le, Some, List, length, refl, sym, ap, ◌∙◌, arith, eq-eqb}
 use Rattle.std.specs.Prelude.{◌&&◌, ◌||◌, nat_lt}
 use Rattle.std.specs.declared.sync.Arc.{Arc}
 use Rattle.std.proofs.Common.{Global}
 use Rattle.std.proofs.lemmas.Bool.{cases_eq, cond_both, eqb-true, or_from}
 use Rattle.filter_verifier.specs.VerifiedView.{VerifiedView}
-use Rattle.netchange_core.specs.declared.event.Event.{Event}
 use Rattle.netchange_core.specs.declared.event.Event.TheVariants as event
 use Rattle.netchange_core.specs.declared.message.Message.{Message}
 use Rattle.netchange_core.specs.declared.reply.Refusal.TheVariants as refusal
 use Rattle.netchange_core.specs.Best.{distance}
-use Rattle.netchange_core.specs.Next.{Answered, exporting, gone, heard, importing, joined, next, receive, recomputed, refused, relieved}
-use Rattle.netchange_core.specs.OpeningView.{OpeningView}
+use Rattle.netchange_core.specs.Next.{Answered, exporting, gone, heard, importing, joined, receive, recomputed, refused, relieved}
 use Rattle.netchange_core.specs.Pass.{pass}
-use Rattle.netchange_core.specs.World.{NeighbourView, World, changed, is_up, neighbour_at}
+use Rattle.netchange_core.specs.World.{World, changed, is_up, neighbour_at}
 use Rattle.netchange_core.proofs.Change.{changed_at}
 use Rattle.netchange_core.proofs.Goes.{export_goes, import_goes}
 use Rattle.routing_domain.specs.Changes.{is_between, is_pair, with_link, with_toll, without_link}
@@ -239,7 +237,7 @@ pub import_topology : (d : Domain) (u w v : ℕ) (f : Arc VerifiedView Global) �
 import_topology d u w v f o from to apart fits =
     ap (λ a. topology (with_router d u a.world) v)
     (import_goes r.opening r.sessions w r.neighbours f.value (no_neighbour r.opening w (omega (arith, to, o.size u from)) (λ h. apart (sym (h ∙ o.me u from)))) (fits ∙ sym (o.size u from)))
-    ∙ (λ i. record { size = d.size; linked = λ a b. linked a b i; toll = λ a b x. toll a b x i })
+    ∙ after
   where
     r : World
     r = d.router u
@@ -273,13 +271,16 @@ import_topology d u w v f o from to apart fits =
         (one_read (λ y. (neighbour_at y.neighbours b).imports) d u s a (λ h. recomputed_other (λ n. n.imports) r w (importing f.value) b (λ _ _. refl) near (p.other h)))
         (opening b) (exports b a))
 
+    after : topology e v ≡ with_toll (topology d v) u w (λ x. pass (d.router u).opening (Some f.value) v (exported d w u v x))
+    after = λ i. record { size = d.size; linked = λ a b. linked a b i; toll = λ a b x. toll a b x i }
+
 pub export_topology : (d : Domain) (u w v : ℕ) (f : Arc VerifiedView Global) → IsInOrder d → u < d.size → w < d.size → (u ≡ w → ⊥) → f.value.size ≡ d.size →
     topology (enters d u (event.SetExport w f)) v
     ≡ with_toll (topology d v) w u (λ x. imported d w u v (pass (d.router u).opening (Some f.value) v x))
 export_topology d u w v f o from to apart fits =
     ap (λ a. topology (with_router d u a.world) v)
     (export_goes r.opening r.sessions w r.neighbours f.value (no_neighbour r.opening w (omega (arith, to, o.size u from)) (λ h. apart (sym (h ∙ o.me u from)))) (fits ∙ sym (o.size u from)))
-    ∙ (λ i. record { size = d.size; linked = λ a b. linked a b i; toll = λ a b x. toll a b x i })
+    ∙ after
   where
     r : World
     r = d.router u
@@ -311,3 +312,6 @@ export_topology d u w v f o from to apart fits =
         (λ x i. pass (opening w i) (imports w u i) v (pass (opening u i) (here i) v x))
         (λ a b x p. toll_as (d.router a) (e.router a) (d.router b) (e.router b) a b v x (opening a) (imports a b) (opening b)
         (one_read (λ y. (neighbour_at y.neighbours a).exports) d u s b (λ h. ap (λ n. n.exports) (changed_other w a (exporting r.opening (distance r) f.value) r.neighbours near (λ q. p.other q h)))))
+
+    after : topology e v ≡ with_toll (topology d v) w u (λ x. imported d w u v (pass (d.router u).opening (Some f.value) v x))
+    after = λ i. record { size = d.size; linked = λ a b. linked a b i; toll = λ a b x. toll a b x i }

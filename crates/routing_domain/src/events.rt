@@ -14,7 +14,7 @@ ghost use Rattle.routing_domain.specs.Steps.{IsNext, hears, sends};
 /// Sending is Take in the neighbour's present session: it is not refused, the router is as after sending, and the reply has what
 /// is put on its way.
 pub fn sending_is_taking()
-    ensures take { (d : Domain) → (u w max : ℕ) → IsInOrder d → u < d.size → w < d.size → are_linked d u w ≡ true →
+    ensures taken { (d : Domain) → (u w max : ℕ) → IsInOrder d → u < d.size → w < d.size → are_linked d u w ≡ true →
         next (d.router u) (event.Take (neighbour d u w).session max)
         ≡ answered ((sends d u w max).router u) (reply.Messages (take max (neighbour d u w).queue)) }
 {}
@@ -22,9 +22,9 @@ pub fn sending_is_taking()
 /// What is first on its way to a node is heard by it: there is a link, and the message fits the domain. Hearing is Receive in the
 /// neighbour's present session: it is not refused, and the router is as after hearing.
 pub fn hearing_is_receiving()
-    ensures next { (d : Domain) → (u w : ℕ) → (m : Message) → (rest : List Message) → IsInOrder d → u < d.size → w < d.size →
+    ensures is_next { (d : Domain) → (u w : ℕ) → (m : Message) → (rest : List Message) → IsInOrder d → u < d.size → w < d.size →
         d.flight u w ≡ m ∷ rest → IsNext d u w m rest }
-    ensures receive { (d : Domain) → (u w : ℕ) → (m : Message) → (rest : List Message) → IsInOrder d → IsNext d u w m rest →
+    ensures received { (d : Domain) → (u w : ℕ) → (m : Message) → (rest : List Message) → IsInOrder d → IsNext d u w m rest →
         (changed : ℕ) × (next (d.router w) (event.Receive (neighbour d w u).session m.dest m.dist)
         ≡ answered ((hears d u w m rest).router w) (reply.Done changed)) }
 {}

@@ -23,10 +23,10 @@ pub fn events_change_topology()
     ensures link { (d : Domain) → (u w v : ℕ) → IsInOrder d → CanLink d u w → topology (links d u w) v ≡ with_link (topology d v) u w }
     ensures cut { (d : Domain) → (u w v : ℕ) → IsInOrder d → u < d.size → w < d.size → are_linked d u w ≡ true →
         topology (cuts d u w) v ≡ without_link (topology d v) u w }
-    ensures import { (d : Domain) → (u w v : ℕ) → (f : Arc VerifiedView Global) → IsInOrder d → u < d.size → w < d.size → u ≢ w → f.value.size ≡ d.size →
+    ensures set_import { (d : Domain) → (u w v : ℕ) → (f : Arc VerifiedView Global) → IsInOrder d → u < d.size → w < d.size → u ≢ w → f.value.size ≡ d.size →
         topology (enters d u (event.SetImport w f)) v
         ≡ with_toll (topology d v) u w (λ x. pass (d.router u).opening (Some f.value) v (exported d w u v x)) }
-    ensures export { (d : Domain) → (u w v : ℕ) → (f : Arc VerifiedView Global) → IsInOrder d → u < d.size → w < d.size → u ≢ w → f.value.size ≡ d.size →
+    ensures set_export { (d : Domain) → (u w v : ℕ) → (f : Arc VerifiedView Global) → IsInOrder d → u < d.size → w < d.size → u ≢ w → f.value.size ≡ d.size →
         topology (enters d u (event.SetExport w f)) v
         ≡ with_toll (topology d v) w u (λ x. imported d w u v (pass (d.router u).opening (Some f.value) v x)) }
 {}

@@ -39,7 +39,7 @@ pub fn cutting_keeps_order()
 
 /// New filters and looks keep a domain in order, whether they are refused or not.
 pub fn events_keep_order()
-    ensures import { (d : Domain) → (u w : ℕ) → (f : Arc VerifiedView Global) → IsInOrder d → u < d.size → IsInOrder (enters d u (event.SetImport w f)) }
-    ensures export { (d : Domain) → (u w : ℕ) → (f : Arc VerifiedView Global) → IsInOrder d → u < d.size → IsInOrder (enters d u (event.SetExport w f)) }
+    ensures set_import { (d : Domain) → (u w : ℕ) → (f : Arc VerifiedView Global) → IsInOrder d → u < d.size → IsInOrder (enters d u (event.SetImport w f)) }
+    ensures set_export { (d : Domain) → (u w : ℕ) → (f : Arc VerifiedView Global) → IsInOrder d → u < d.size → IsInOrder (enters d u (event.SetExport w f)) }
     ensures show { (d : Domain) → (u v : ℕ) → IsInOrder d → IsInOrder (enters d u (event.Show v)) }
 {}

@@ -1,5 +1,0 @@
-use Rattle.routing_domain.proofs.Topologies.{cuts_topology, export_topology, import_topology, links_topology}
-use Rattle.routing_domain.proofs.topologies.events_change_topology.Goals as goal
-
-pub returns : goal.returns
-returns c = record { link = λ d u w v o c. links_topology d u w v o c; cut = λ d u w v o from to linked. cuts_topology d u w v o from to linked; import = λ d u w v f o from to apart fits. import_topology d u w v f o from to apart fits; export = λ d u w v f o from to apart fits. export_topology d u w v f o from to apart fits }
