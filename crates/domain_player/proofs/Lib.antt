@@ -1,6 +1,5 @@
 pub mod Domains
 pub mod Entering
-pub mod Laws
 pub mod Linking
 pub mod Opened
 pub mod Played

@@ -7,8 +7,9 @@ use Rattle.netchange_core.specs.Calls.{opened}
 use Rattle.netchange_core.specs.OpeningView.{IsOpening}
 use Rattle.netchange_core.specs.World.{World}
 use Rattle.routing_domain.specs.Domain.{AreOpenings, IsInOrder, IsSame, opened_domain}
+use Rattle.routing_domain.proofs.Same.{same_in_order}
+use Rattle.routing_domain.proofs.Starting.{opened_in_order}
 use Rattle.domain_player.specs.Play.{AreOpened, domain_of, nowhere, opening_of, router_at}
-use Rattle.domain_player.proofs.Laws.{opened_order, same_order}
 
 pub opened_more : (prefixes : List (List Bool)) (ts : List World) (t : World) (k : ℕ) → AreOpened prefixes k ts →
     t ≡ opened (opening_of prefixes k) → AreOpened prefixes (k + 1) (ts ++ t ∷ [])
@@ -30,10 +31,10 @@ pub opened_same : (prefixes : List (List Bool)) (ts : List World) → AreOpened 
     IsSame (opened_domain (length prefixes) (opening_of prefixes)) (domain_of ts [])
 opened_same prefixes ts all = record { size = all.one_a_node; routers = all.each; flights = λ u w from to. refl }
 
-pub opened_in_order : (prefixes : List (List Bool)) (ts : List World) → AreOpened prefixes (length prefixes) ts → IsInOrder (domain_of ts [])
-opened_in_order prefixes ts all =
-    same_order (opened_domain (length prefixes) (opening_of prefixes)) (domain_of ts []) (opened_same prefixes ts all)
-    (opened_order (length prefixes) (opening_of prefixes) (record { size = λ u below. refl; me = λ u below. refl }))
+pub opened_routers_in_order : (prefixes : List (List Bool)) (ts : List World) → AreOpened prefixes (length prefixes) ts → IsInOrder (domain_of ts [])
+opened_routers_in_order prefixes ts all =
+    same_in_order (opened_domain (length prefixes) (opening_of prefixes)) (domain_of ts []) (opened_same prefixes ts all)
+    (opened_in_order (length prefixes) (opening_of prefixes) (record { size = λ u below. refl; me = λ u below. refl }))
 
 -- the domain of no nodes
 pub closed_in_order : IsInOrder (domain_of [] [])

@@ -16,10 +16,16 @@ use Rattle.routing_domain.specs.Rest.{IsRest}
 use Rattle.routing_domain.specs.Steps.{IsNext, hears, sends}
 use Rattle.routing_domain.specs.Weight.{weight}
 use Rattle.routing_domain.proofs.Recomputed.{changed_other}
+use Rattle.routing_domain.proofs.Hearing.{hearing_is_lighter}
+use Rattle.routing_domain.proofs.Lighter.{sending_is_lighter}
+use Rattle.routing_domain.proofs.Occurring.{first_is_next, receive_hears, take_sends}
+use Rattle.routing_domain.proofs.Order.{hearing_keeps_order}
+use Rattle.routing_domain.proofs.Quiet.{quiet_rests}
+use Rattle.routing_domain.proofs.Sends.{sending_keeps_order}
+use Rattle.routing_domain.proofs.Topologies.{hears_same_topology, sends_same_topology}
 use Rattle.domain_player.specs.declared.sent.Sent.{Sent}
 use Rattle.domain_player.specs.Play.{AreSent, IsBetween, IsPlayed, domain, domain_of, router_at, under_way}
 use Rattle.domain_player.proofs.Domains.{hears_as, router_place}
-use Rattle.domain_player.proofs.Laws.{hears_as_receive, hears_lighter, hears_order, hears_topology, next_heard, quiet_rests, sends_as_take, sends_lighter, sends_order, sends_topology}
 use Rattle.domain_player.proofs.Ways.{under_way_first}
 
 pub nothing_played : (d : Domain) → IsInOrder d → IsPlayed d d 0
@@ -34,9 +40,9 @@ played_on d e f j k before after = record {
 
 pub hears_played : (d : Domain) (u w : ℕ) (m : Message) (rest : List Message) → IsInOrder d → IsNext d u w m rest → IsPlayed d (hears d u w m rest) 1
 hears_played d u w m rest o n = record {
-  in_order = hears_order d u w m rest o n;
-  topology = hears_topology d u w m rest;
-  lighter = omega (arith, hears_lighter d u w m rest o n);
+  in_order = hearing_keeps_order d u w m rest o n;
+  topology = hears_same_topology d u w m rest;
+  lighter = omega (arith, hearing_is_lighter d u w m rest o n);
 }
 
 pub nothing_sent : (d : Domain) → IsInOrder d → AreSent d d
@@ -71,9 +77,9 @@ pub sends_sent : (d : Domain) (u w max : ℕ) → IsInOrder d → u < d.size →
     0 < length (take max (neighbour d u w).queue) → AreSent d (sends d u w max)
 sends_sent d u w max o from to some = record {
   played = record {
-    in_order = sends_order d u w max o from to;
-    topology = sends_topology d u w max;
-    lighter = omega (arith, sends_lighter d u w max o from to some);
+    in_order = sending_keeps_order d u w max o from to;
+    topology = sends_same_topology d u w max;
+    lighter = omega (arith, sending_is_lighter d u w max o from to some);
   };
   still_empty = λ a b empty.
       cond_both (nat_eq a u) (changed (d.router u) w (relieved max)) (d.router a) (λ r. (neighbour_at r.neighbours b).queue ≡ [])
@@ -98,10 +104,10 @@ hear_on d i ws s rest r played between router =
     e = domain_of ws (s ∷ rest)
 
     first : IsNext e s.from s.to s.message (under_way rest s.from s.to)
-    first = next_heard e s.from s.to s.message (under_way rest s.from s.to) played.in_order between.from between.to (under_way_first s rest)
+    first = first_is_next e s.from s.to s.message (under_way rest s.from s.to) played.in_order between.from between.to (under_way_first s rest)
 
     heard : r ≡ (hears e s.from s.to s.message (under_way rest s.from s.to)).router s.to
-    heard = router ∙ ap (λ a. a.world) (hears_as_receive e s.from s.to s.message (under_way rest s.from s.to) played.in_order first).1
+    heard = router ∙ ap (λ a. a.world) (receive_hears e s.from s.to s.message (under_way rest s.from s.to) played.in_order first).1
 
 -- what Take gave was sent
 pub record IsTaken (d : Domain) (u w max : ℕ) (r : World) (ms : List Message) : Type 0 where
@@ -113,7 +119,7 @@ take_as : (d : Domain) (u w max s : ℕ) (x r : World) (p : Reply) → IsInOrder
     answered r p ≡ answered ((sends d u w max).router u) (reply.Messages (take max (neighbour d u w).queue))
 take_as d u w max s x r p o from to linked is session done =
     sym done ∙ ap (λ t. next x (event.Take t max)) session ∙ ap (λ y. next y (event.Take (session_of y w) max)) is
-    ∙ sends_as_take d u w max o from to linked
+    ∙ take_sends d u w max o from linked
 
 pub taken : (d : Domain) (u w max s : ℕ) (x r : World) (p : Reply) → IsInOrder d → u < d.size → w < d.size → are_linked d u w ≡ true →
     x ≡ d.router u → s ≡ session_of x w → next x (event.Take s max) ≡ answered r p → IsTaken d u w max r (carried p)

@@ -1,9 +1,9 @@
 use Rattle.std.proofs.Common.{◌<◌, Ok, Err, Result, length, subst, sym, ap, ◌∙◌, arith}
 use Rattle.std.proofs.lemmas.Result.{on_err_weaker, on_ok_weaker}
 use Rattle.routing_domain.specs.Domain.{IsInOrder}
+use Rattle.routing_domain.proofs.Filters.{importing_keeps_order}
 use Rattle.domain_player.specs.Play.{domain}
 use Rattle.domain_player.proofs.Domains.{are_routers, either_way, whole_of}
-use Rattle.domain_player.proofs.Laws.{import_order}
 use Rattle.domain_player.proofs.routers.Routers.set_import.Goals as goal
 
 pub invariant_of-self : goal.invariant_of-self
@@ -14,7 +14,7 @@ invariant_of-self c =
     c.deref_mut.ensures.len c.enter.auto.tables c.self.invariant
     (λ o. either_way c.enter.result
     (on_ok_weaker c.enter.result
-    (λ e. subst IsInOrder (sym e) (import_order (domain was) c.args.u c.args.w c.args.filter o (omega (arith, c.requires.from, ap length same))))
+    (λ e. subst IsInOrder (sym e) (importing_keeps_order (domain was) c.args.u c.args.w c.args.filter o (omega (arith, c.requires.from, ap length same))))
     c.enter.ensures.entered)
     (on_err_weaker c.enter.result (λ e. subst (λ ws. IsInOrder (domain ws)) (sym e) o) c.enter.ensures.same))
 
