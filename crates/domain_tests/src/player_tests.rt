@@ -229,7 +229,10 @@ fn send_some(
 fn hear_one(tables: &mut [Tables], sents: &mut Vec<Sent>, pick: usize) -> Result<(), Fail> {
     let Sent(from, to, _) = *sents.get(pick).ok_or("a message")?;
     let first = sents.iter().position(|s| s.0 == from && s.1 == to);
-    let first = first.filter(|i| *i < sents.len()).ok_or("a message")?;
+    let first = first.ok_or("a message")?;
+    if first >= sents.len() {
+        return Err(Fail::from("a message"));
+    }
     let Sent(_, _, message) = sents.remove(first);
     let router = router(tables, to)?;
     let session = router.session(from);

@@ -28,6 +28,11 @@ rounds-preserved c =
           (subst (λ ss. IsPlayed (domain_of c.send_all.new.tables ss) after (length ss)) c.deref.ensures.value c.in_ok-hear_all.ensures)
           (omega (arith, c.in-Some.ensures.1, c.len.ensures, c.deref.ensures.len, long));
       empty = c.clear.ensures.items;
-      rounds = omega (arith, c.rounds.invariant.rounds, c.in-Some.ensures.1, c.len.ensures,
-          eqb-false _ _ (sym c.is_empty.ensures ∙ c.if-is_empty.false));
+      rounds = omega (
+        arith,
+        c.rounds.invariant.rounds,
+        c.in-Some.ensures.1,
+        c.len.ensures,
+        eqb-false _ _ (sym c.is_empty.ensures ∙ c.if-is_empty.false),
+      );
     }
