@@ -23,7 +23,7 @@ returns-clause-sent c =
     ap (domain_of (slice_set ws c.from.result c.apply.new.self))
     (c.loop-message.invariant
     ∙ ap (λ q. c.args.sents.now.items ++ map f q)
-    (take_past c.loop-message.message-index _ c.loop-message-test.false ∙ c.as_slice-message-items.ensures ∙ c.messages.view_is
+    (take_past c.loop-message.message-index _ c.loop-message-test.false ∙ c.as_slice-message-items.ensures
     ∙ sym (ap carried c.in-Messages.is)))
     ∙ sent_by_both ws c.args.sents.now.items c.args.from c.args.to c.from.result c.session-session.result c.index-tables-from.result
     c.apply.new.self c.in_ok-messages.field-0 c.requires.from c.requires.to c.requires.order c.requires.linked c.from.ensures

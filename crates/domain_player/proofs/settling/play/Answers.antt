@@ -1,5 +1,5 @@
-use Rattle.std.proofs.Common.{◌≡◌, ◌+◌, ◌<◌, ◌≤◌, [], length, subst, sym, ap, ◌∙◌, arith, rules}
-use Rattle.std.proofs.lemmas.Bool.{eqb-false}
+use Rattle.std.proofs.Common.{◌≡◌, ◌+◌, ◌<◌, ◌≤◌, [], length, subst, sym, ap, ◌∙◌, arith}
+use Rattle.std.proofs.lemmas.Bool.{eqb-false, eqb-true}
 use Rattle.std.proofs.lemmas.List.{nil_from_length}
 use Rattle.domain_player.specs.Play.{AreSent, IsPlayed, domain_of}
 use Rattle.domain_player.proofs.Played.{last_sent, round_more}
@@ -9,7 +9,8 @@ pub returns-then-is_empty-clause-played : goal.returns-then-is_empty-clause-play
 returns-then-is_empty-clause-played c =
     let before = domain_of c.rounds.tables [] in
     let after = c.send_all.new.tables in
-    let empty : c.send_all.new.sents.items ≡ [] = search rules in
+    let empty : c.send_all.new.sents.items ≡ [] =
+    nil_from_length c.send_all.new.sents.items (omega (arith, c.send_all.new.sents.ok.0, eqb-true _ _ (sym c.if-is_empty.ensures))) in
     last_sent (domain_of c.args.tables.now []) before (domain_of after []) c.rounds.settled.messages c.rounds.invariant.played
     (subst (λ ss. AreSent before (domain_of after ss)) empty
     (subst (λ ss. AreSent (domain_of c.rounds.tables ss) (domain_of after c.send_all.new.sents.items)) c.rounds.invariant.empty

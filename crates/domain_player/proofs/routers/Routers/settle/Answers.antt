@@ -1,4 +1,4 @@
-use Rattle.std.proofs.Common.{◌≡◌, ◌<◌, length, subst, sym, ap, ◌∙◌, arith}
+use Rattle.std.proofs.Common.{◌≡◌, ◌<◌, ◌++◌, drop, length, take, subst, sym, ap, ◌∙◌, arith}
 use Rattle.netchange_core.specs.Best.{distance}
 use Rattle.routing_domain.specs.Domain.{topology}
 use Rattle.routing_domain.specs.Rest.{IsRest}
@@ -18,7 +18,7 @@ returns-in-Ok-clause-topology c = λ v.
 pub returns-in-Ok-clause-rest : goal.returns-in-Ok-clause-rest
 returns-in-Ok-clause-rest c = λ v below.
     let same = c.deref_mut.ensures.value ∙ c.self.view_is in
-    subst (λ ws. IsRest (topology (domain ws) v) v _) same
+    subst (λ ws. IsRest (topology (domain ws) v) v (λ u. distance (router_at (take c.self.inside.tables.len (c.play.new.tables ++ drop (length c.play.new.tables) c.self.inside.tables.items)) u) v)) same
     (subst (λ ws. IsRest (topology (domain c.deref_mut.result.now) v) v (λ u. distance (router_at ws u) v))
     (sym (whole_of c.self.inside.tables.len c.play.new.tables c.deref_mut.result.now c.self.inside.tables.items c.deref_mut.ensures.value
     c.deref_mut.ensures.len c.play.auto.tables))
