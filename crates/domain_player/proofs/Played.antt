@@ -1,0 +1,173 @@
+-- What sending and hearing leave, one after another.
+use Rattle.std.proofs.Common.{◌≡◌, ⊎_elim, ℕ, ◌+◌, ◌<◌, zero, suc, true, nat_eq, All, List, [], ◌∷◌, length, drop, get_or, slice_set, take, refl, sym, ap, subst, ◌∙◌, arith}
+use Rattle.std.proofs.lemmas.Bool.{cases_eq, cond_both, eqb-true}
+use Rattle.std.proofs.lemmas.List.{drop_more}
+use Rattle.netchange_core.specs.declared.message.Message.{Message}
+use Rattle.netchange_core.specs.declared.event.Event.TheVariants as event
+use Rattle.netchange_core.specs.declared.reply.Reply.{Reply}
+use Rattle.netchange_core.specs.declared.reply.Reply.TheVariants as reply
+use Rattle.netchange_core.specs.Best.{distance}
+use Rattle.netchange_core.specs.Calls.{carried, session_of}
+use Rattle.netchange_core.specs.Next.{answered, next, relieved}
+use Rattle.netchange_core.specs.World.{World, changed, neighbour_at}
+use Rattle.netchange_core.proofs.Change.{changed_at}
+use Rattle.routing_domain.specs.Domain.{Domain, IsInOrder, IsQuiet, are_linked, neighbour, topology}
+use Rattle.routing_domain.specs.Rest.{IsRest}
+use Rattle.routing_domain.specs.Steps.{IsNext, hears, sends}
+use Rattle.routing_domain.specs.Weight.{weight}
+use Rattle.routing_domain.proofs.Recomputed.{changed_other}
+use Rattle.routing_domain.proofs.Hearing.{hearing_is_lighter}
+use Rattle.routing_domain.proofs.Lighter.{sending_is_lighter}
+use Rattle.routing_domain.proofs.Occurring.{first_is_next, receive_hears, take_sends}
+use Rattle.routing_domain.proofs.Order.{hearing_keeps_order}
+use Rattle.routing_domain.proofs.Quiet.{quiet_rests}
+use Rattle.routing_domain.proofs.Sends.{sending_keeps_order}
+use Rattle.routing_domain.proofs.Topologies.{hears_same_topology, sends_same_topology}
+use Rattle.domain_player.specs.declared.sent.Sent.{Sent}
+use Rattle.domain_player.specs.Play.{AreSent, IsBetween, IsPlayed, domain, domain_of, router_at, under_way}
+use Rattle.domain_player.proofs.Domains.{hears_as, router_place}
+use Rattle.domain_player.proofs.Ways.{under_way_first}
+
+pub nothing_played : (d : Domain) → IsInOrder d → IsPlayed d d 0
+nothing_played d o = record { in_order = o; topology = λ v. refl; lighter = omega arith }
+
+pub played_on : (d e f : Domain) (j k : ℕ) → IsPlayed d e j → IsPlayed e f k → IsPlayed d f (j + k)
+played_on d e f j k before after = record {
+  in_order = after.in_order;
+  topology = λ v. after.topology v ∙ before.topology v;
+  lighter = omega (arith, before.lighter, after.lighter);
+}
+
+pub hears_played : (d : Domain) (u w : ℕ) (m : Message) (rest : List Message) → IsInOrder d → IsNext d u w m rest → IsPlayed d (hears d u w m rest) 1
+hears_played d u w m rest o n = record {
+  in_order = hearing_keeps_order d u w m rest o n;
+  topology = hears_same_topology d u w m rest;
+  lighter = omega (arith, hearing_is_lighter d u w m rest o n);
+}
+
+pub nothing_sent : (d : Domain) → IsInOrder d → AreSent d d
+nothing_sent d o = record { played = nothing_played d o; still_empty = λ u w empty. empty }
+
+pub sent_on : (d e f : Domain) → AreSent d e → AreSent e f → AreSent d f
+sent_on d e f before after = record {
+  played = played_on d e f 0 0 before.played after.played;
+  still_empty = λ u w empty. after.still_empty u w (before.still_empty u w empty);
+}
+
+-- what waits after sending: where nothing waited nothing waits
+abbrev nothing : List Message
+nothing = []
+
+drop_nil : (k : ℕ) → drop k nothing ≡ nothing
+drop_nil zero = refl
+drop_nil (suc k) = refl
+
+still_empty_here : (r : World) (w max b : ℕ) → w < length r.neighbours → (neighbour_at r.neighbours b).queue ≡ [] →
+    (neighbour_at (changed r w (relieved max)).neighbours b).queue ≡ []
+still_empty_here r w max b near empty =
+    ⊎_elim
+    (λ here. ap (λ y. (neighbour_at (changed r w (relieved max)).neighbours y).queue) here
+    ∙ ap (λ n. n.queue) (changed_at w (relieved max) r.neighbours near)
+    ∙ ap (drop max) (ap (λ y. (neighbour_at r.neighbours y).queue) (sym here) ∙ empty)
+    ∙ drop_nil max)
+    (λ other. ap (λ n. n.queue) (changed_other w b (relieved max) r.neighbours near other) ∙ empty)
+    (cases_eq b w)
+
+pub sends_sent : (d : Domain) (u w max : ℕ) → IsInOrder d → u < d.size → w < d.size →
+    0 < length (take max (neighbour d u w).queue) → AreSent d (sends d u w max)
+sends_sent d u w max o from to some = record {
+  played = record {
+    in_order = sending_keeps_order d u w max o from to;
+    topology = sends_same_topology d u w max;
+    lighter = omega (arith, sending_is_lighter d u w max o from to some);
+  };
+  still_empty = λ a b empty.
+      cond_both (nat_eq a u) (changed (d.router u) w (relieved max)) (d.router a) (λ r. (neighbour_at r.neighbours b).queue ≡ [])
+      (λ same. still_empty_here (d.router u) w max b near (ap (λ x. (neighbour d x b).queue) (sym (eqb-true a u same)) ∙ empty))
+      (λ _. empty);
+}
+  where
+    near : w < length (d.router u).neighbours
+    near = omega (arith, to, (o.tables u from).one_a_node)
+
+-- one message more is heard
+pub hear_on : (d : Domain) (i : ℕ) (ws : List World) (s : Sent) (rest : List Sent) (r : World) → IsPlayed d (domain_of ws (s ∷ rest)) i →
+    IsBetween (length ws) s →
+    r ≡ (next (router_at ws s.to) (event.Receive (session_of (router_at ws s.to) s.from) s.message.dest s.message.dist)).world →
+    IsPlayed d (domain_of (slice_set ws s.to r) rest) (i + 1)
+hear_on d i ws s rest r played between router =
+    played_on d e (domain_of (slice_set ws s.to r) rest) i 1 played
+    (subst (λ f. IsPlayed e f 1) (sym (hears_as ws s rest r between.to heard))
+    (hears_played e s.from s.to s.message (under_way rest s.from s.to) played.in_order first))
+  where
+    e : Domain
+    e = domain_of ws (s ∷ rest)
+
+    first : IsNext e s.from s.to s.message (under_way rest s.from s.to)
+    first = first_is_next e s.from s.to s.message (under_way rest s.from s.to) played.in_order between.from between.to (under_way_first s rest)
+
+    heard : r ≡ (hears e s.from s.to s.message (under_way rest s.from s.to)).router s.to
+    heard = router ∙ ap (λ a. a.world) (receive_hears e s.from s.to s.message (under_way rest s.from s.to) played.in_order first).1
+
+-- what Take gave was sent
+pub record IsTaken (d : Domain) (u w max : ℕ) (r : World) (ms : List Message) : Type 0 where
+  pub router : r ≡ (sends d u w max).router u
+  pub messages : ms ≡ take max (neighbour d u w).queue
+
+take_as : (d : Domain) (u w max s : ℕ) (x r : World) (p : Reply) → IsInOrder d → u < d.size → w < d.size → are_linked d u w ≡ true →
+    x ≡ d.router u → s ≡ session_of x w → next x (event.Take s max) ≡ answered r p →
+    answered r p ≡ answered ((sends d u w max).router u) (reply.Messages (take max (neighbour d u w).queue))
+take_as d u w max s x r p o from to linked is session done =
+    sym done ∙ ap (λ t. next x (event.Take t max)) session ∙ ap (λ y. next y (event.Take (session_of y w) max)) is
+    ∙ take_sends d u w max o from linked
+
+pub taken : (d : Domain) (u w max s : ℕ) (x r : World) (p : Reply) → IsInOrder d → u < d.size → w < d.size → are_linked d u w ≡ true →
+    x ≡ d.router u → s ≡ session_of x w → next x (event.Take s max) ≡ answered r p → IsTaken d u w max r (carried p)
+taken d u w max s x r p o from to linked is session done =
+    let same = take_as d u w max s x r p o from to linked is session done in
+    record { router = ap (λ a. a.world) same; messages = ap (λ a. carried a.reply) same }
+
+pub take_answers : (d : Domain) (u w max s : ℕ) (x r : World) (p : Reply) → IsInOrder d → u < d.size → w < d.size → are_linked d u w ≡ true →
+    x ≡ d.router u → s ≡ session_of x w → next x (event.Take s max) ≡ answered r p → p ≡ reply.Messages (take max (neighbour d u w).queue)
+take_answers d u w max s x r p o from to linked is session done =
+    ap (λ a. a.reply) (take_as d u w max s x r p o from to linked is session done)
+
+-- a message that says nothing, for a place where there is none
+abbrev pub no_sent : Sent
+no_sent = record { from = 0; to = 0; message = record { dest = 0; dist = 0 } }
+
+-- the message in a place is heard
+pub heard_more : (d : Domain) (ss : List Sent) (i n : ℕ) (ws : List World) (to : ℕ) (x r : World) → i < length ss → n ≡ length ws →
+    All (IsBetween n) ss → to ≡ (get_or ss i no_sent).to →
+    r ≡ (next (get_or ws to x) (event.Receive (session_of (get_or ws to x) (get_or ss i no_sent).from) (get_or ss i no_sent).message.dest (get_or ss i no_sent).message.dist)).world →
+    IsPlayed d (domain_of ws (drop i ss)) i → IsPlayed d (domain_of (slice_set ws to r) (drop (i + 1) ss)) (i + 1)
+heard_more d ss i n ws to x r below wide between at heard played =
+    subst (λ t. IsPlayed d (domain_of (slice_set ws t r) (drop (i + 1) ss)) (i + 1)) (sym at)
+    (hear_on d i ws s (drop (i + 1) ss) r (subst (λ l. IsPlayed d (domain_of ws l) i) (drop_more ss i no_sent below) played) here
+    (heard ∙ ap (λ y. (next y (event.Receive (session_of y s.from) s.message.dest s.message.dist)).world) there))
+  where
+    s : Sent
+    s = get_or ss i no_sent
+
+    here : IsBetween (length ws) s
+    here = subst (λ m. IsBetween m s) wide (between i no_sent below)
+
+    there : get_or ws to x ≡ router_at ws s.to
+    there = router_place ws to s.to x at here.to
+
+-- one round more
+pub round_more : (d e f g : Domain) (m h n : ℕ) → IsPlayed d e m → AreSent e f → IsPlayed f g h → m + h ≡ n → IsPlayed d g n
+round_more d e f g m h n before sent heard count =
+    subst (IsPlayed d g) (let sum : m + (0 + h) ≡ n = omega (arith, count) in sum)
+    (played_on d e g m (0 + h) before (played_on e f g 0 h sent.played heard))
+
+pub last_sent : (d e f : Domain) (m : ℕ) → IsPlayed d e m → AreSent e f → IsPlayed d f m
+last_sent d e f m before sent =
+    subst (IsPlayed d f) (let sum : m + 0 ≡ m = omega arith in sum) (played_on d e f m 0 before sent.played)
+
+-- routers that are quiet after they were played are at rest
+pub settled_rest : (was new : List World) (n : ℕ) → IsPlayed (domain was) (domain new) n → IsQuiet (domain new) → length new ≡ length was →
+    (v : ℕ) → v < length was → IsRest (topology (domain was) v) v (λ u. distance (router_at new u) v)
+settled_rest was new n played quiet same v below =
+    subst (λ m. IsRest m v (λ u. distance (router_at new u) v)) (played.topology v)
+    (quiet_rests (domain new) played.in_order quiet v (omega (arith, below, same)))

@@ -1,0 +1,35 @@
+//! Routers hear what is on its way to them.
+
+ghost use Rattle.std.specs.Prelude.{◌≡◌, ◌<◌, All, OnOk, [], length};
+ghost use Rattle.netchange_core.specs.Calls.{session_of};
+ghost use Rattle.netchange_core.specs.Next.{next};
+ghost use Rattle.netchange_core.specs.declared.event.Event.TheVariants as event;
+ghost use Rattle.routing_domain.specs.Domain.{IsInOrder};
+ghost use Rattle.domain_player.specs.Play.{IsBetween, IsPlayed, domain_of};
+
+use crate::sent::Sent;
+use netchange_core::{Event, Tables};
+use std::alloc::AllocError;
+
+/// A router hears a message, in the present session of the node that sent it.
+fn hear(router: &mut Tables, sent: Sent) -> Result<(), AllocError>
+    ensures { OnOk result (router.new
+        ≡ (next router.old (event.Receive (session_of router.old sent.from) sent.message.dest sent.message.dist)).world) }
+{
+    let session = router.session(sent.from);
+    let message = sent.message;
+    router.apply(&Event::Receive(session, message.dest, message.dist))?;
+    Ok(())
+}
+
+/// The nodes hear the messages that are on their way, in this order.
+pub(crate) fn hear_all(tables: &mut [Tables], sents: &[Sent]) -> Result<(), AllocError>
+    requires order { IsInOrder (domain_of tables.old sents.now) }
+    requires between { All (IsBetween (length tables.old)) sents.now }
+    ensures { OnOk result (IsPlayed (domain_of tables.old sents.now) (domain_of tables.new []) (length sents.now)) }
+{
+    for sent in sents {
+        hear(&mut tables[usize::from(sent.to)], *sent)?;
+    }
+    Ok(())
+}

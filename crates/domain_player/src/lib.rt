@@ -1,0 +1,16 @@
+//! The routers of a whole domain, which are played against one another until nothing is left to tell.
+#![tactic(auto)]
+
+mod fault;
+mod filters;
+mod hearing;
+mod links;
+mod opening;
+mod routers;
+mod sending;
+mod sent;
+mod settling;
+
+pub use fault::{LinkFault, SettleFault};
+pub use routers::Routers;
+pub use settling::Settled;

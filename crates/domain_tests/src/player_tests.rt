@@ -1,0 +1,364 @@
+//! Routers that are played until quiet: rows that were worked out by hand, and the same routes in whatever order.
+
+ghost use Rattle.std.specs.Prelude.{◌≢◌, ◌<◌, OnOk};
+
+use domain_player::Routers;
+use filter_source::{compile_text, verify_code};
+use filter_verifier::Verified;
+use netchange_core::{Event, Message, Opening, Reply, Tables, Via};
+use prefix_patterns::{Ip, Prefix};
+use std::alloc::Global;
+use std::fmt::Write;
+use std::process::Abort;
+use std::sync::Arc;
+use std::test::Fail;
+use worked_rows::Numbers;
+
+/// A filter that makes a distance two more.
+const UP_TWO: &[u8] = b"filter up2 { rip_metric = rip_metric + 2; accept; }";
+
+/// A filter that lets the routes to nodes 0 and 1 pass, and no other.
+const NEAR: &[u8] = b"filter near { if net ~ [10.0.0.0/15+] then accept; reject; }";
+
+/// What is done to the routers, and what is asked.
+#[derive(Drop)]
+enum Step {
+    Link(u16, u16),
+    Cut(u16, u16),
+    Import(u16, u16, &'static [u8]),
+    Export(u16, u16, &'static [u8]),
+    /// Plays the routers: so many rounds and messages are wanted.
+    Settle(u64, u64),
+    /// All routes of a node, in text.
+    Table(u16, &'static str),
+}
+
+/// The prefixes 10.V.0.0/16 of so many nodes.
+fn prefixes(alloc: Global, size: u16) -> Result<Vec<Prefix>, Fail> {
+    let mut prefixes = Vec::new(alloc);
+    for node in 0..size {
+        let ip = Ip(0x0a00_0000 + 0x1_0000 * u32::from(node % 250));
+        prefixes.push(Prefix::new(ip, 16).ok_or("a prefix")?)?;
+    }
+    Ok(prefixes)
+}
+
+/// The routers of a domain of so many nodes, whose prefixes are 10.V.0.0/16.
+fn routers(alloc: Global, size: u16) -> Result<Routers, Fail> {
+    let prefixes = prefixes(alloc, size)?;
+    if prefixes.len() < 2 || prefixes.len() > 250 {
+        return Err(Fail::from("the size of a domain"));
+    }
+    Ok(Routers::open(alloc, &prefixes)?)
+}
+
+/// The filter of a text, verified for a domain of so many nodes.
+fn filter(alloc: Global, text: &[u8], size: u16) -> Result<Arc<Verified>, Fail> {
+    let code = compile_text(alloc, text)?;
+    Ok(Arc::new(alloc, verify_code(alloc, code, u32::from(size))?)?)
+}
+
+/// Adds a route to a text, as `V:D:W`, or `V:D` where there is no next hop.
+fn add_route(text: &mut String, v: u16, dist: u16, via: Via) -> Result<(), Fail> {
+    let space = if text.is_empty() { "" } else { " " };
+    match via {
+        Via::Node(hop) => write!(text, "{space}{v}:{dist}:{hop}")?,
+        _ => write!(text, "{space}{v}:{dist}")?,
+    }
+    Ok(())
+}
+
+/// All routes of a node, in text.
+fn table(alloc: Global, routers: &mut Routers, u: u16) -> Result<String, Fail> {
+    let mut text = String::new(alloc);
+    for v in 0..routers.size() {
+        if u >= routers.size() || v >= routers.size() {
+            return Err(Fail::from("a node"));
+        }
+        let (dist, via) = routers.route(u, v);
+        add_route(&mut text, v, dist, via)?;
+    }
+    Ok(text)
+}
+
+/// Two nodes of a domain that are not the same.
+fn expect_pair(routers: &Routers, u: u16, w: u16) -> Result<(), Fail>
+    ensures { OnOk result ((u < routers.now.size) × (w < routers.now.size) × (u ≢ w)) }
+{
+    if u < routers.size() && w < routers.size() && u != w {
+        Ok(())
+    } else {
+        Err(Fail::from("two nodes"))
+    }
+}
+
+/// Links two nodes, or cuts their link.
+fn set_link(routers: &mut Routers, u: u16, w: u16, linked: bool) -> Result<(), Fail> {
+    expect_pair(routers, u, w)?;
+    if routers.is_linked(u, w) == linked {
+        return Err(Fail::from("linked already, or not"));
+    }
+    if linked {
+        routers.link(u, w)?;
+    } else {
+        routers.cut(u, w)?;
+    }
+    Ok(())
+}
+
+/// Sets a filter of what a node is told, or of what it tells.
+fn set_filter(
+    alloc: Global,
+    routers: &mut Routers,
+    (u, w): (u16, u16),
+    text: &[u8],
+    import: bool,
+) -> Result<(), Fail> {
+    expect_pair(routers, u, w)?;
+    let filter = filter(alloc, text, routers.size())?;
+    if import {
+        routers.set_import(u, w, filter)?;
+    } else {
+        routers.set_export(u, w, filter)?;
+    }
+    Ok(())
+}
+
+/// Takes a step, and asserts what is wanted.
+fn take_step(
+    rt: &impl Abort,
+    alloc: Global,
+    routers: &mut Routers,
+    step: &Step,
+) -> Result<(), Fail> {
+    match step {
+        Step::Link(u, w) => set_link(routers, *u, *w, true),
+        Step::Cut(u, w) => set_link(routers, *u, *w, false),
+        Step::Import(u, w, text) => set_filter(alloc, routers, (*u, *w), text, true),
+        Step::Export(u, w, text) => set_filter(alloc, routers, (*u, *w), text, false),
+        Step::Settle(rounds, messages) => {
+            let settled = routers.settle()?;
+            assert_eq!(rt; (settled.rounds, settled.messages), (*rounds, *messages));
+            Ok(())
+        }
+        Step::Table(u, wanted) => {
+            let text = table(alloc, routers, *u)?;
+            assert_eq!(rt; text.as_str(), *wanted);
+            Ok(())
+        }
+    }
+}
+
+/// Takes all steps in a domain of so many nodes.
+fn take_steps(rt: &impl Abort, alloc: Global, size: u16, steps: &[Step]) -> Result<(), Fail> {
+    let mut routers = routers(alloc, size)?;
+    for step in steps {
+        take_step(rt, alloc, &mut routers, step)?;
+    }
+    Ok(())
+}
+
+#[test]
+fn a_ring_settles_and_loses_a_link(rt: HostRuntime) -> Result<(), Fail> {
+    let steps = [
+        Step::Settle(0, 0),
+        Step::Link(0, 1),
+        Step::Link(1, 2),
+        Step::Link(2, 3),
+        Step::Link(3, 4),
+        Step::Link(4, 0),
+        Step::Table(0, "0:0 1:5 2:5 3:5 4:5"),
+        Step::Settle(3, 90),
+        Step::Table(0, "0:0 1:1:1 2:2:1 3:2:4 4:1:4"),
+        Step::Settle(0, 0),
+        Step::Import(0, 4, UP_TWO),
+        Step::Table(0, "0:0 1:1:1 2:2:1 3:3:1 4:3:1"),
+        Step::Cut(0, 1),
+        Step::Settle(3, 12),
+        Step::Table(0, "0:0 1:5 2:5 3:4:4 4:3:4"),
+        Step::Table(1, "0:4:2 1:0 2:1:2 3:2:2 4:3:2"),
+    ];
+    take_steps(&rt, rt.alloc(), 5, &steps)
+}
+
+#[test]
+fn a_triangle_with_filters_settles(rt: HostRuntime) -> Result<(), Fail> {
+    let steps = [
+        Step::Export(0, 1, UP_TWO),
+        Step::Link(0, 1),
+        Step::Link(1, 2),
+        Step::Link(2, 0),
+        Step::Link(2, 3),
+        Step::Import(2, 1, NEAR),
+        Step::Settle(3, 66),
+        Step::Table(0, "0:0 1:1:1 2:1:2 3:2:2 4:5"),
+        Step::Table(1, "0:2:2 1:0 2:1:2 3:2:2 4:5"),
+        Step::Table(2, "0:1:0 1:1:1 2:0 3:1:3 4:5"),
+        Step::Table(4, "0:5 1:5 2:5 3:5 4:0"),
+    ];
+    take_steps(&rt, rt.alloc(), 5, &steps)
+}
+
+/// A message on its way: who sent it, who will hear it, and what it says.
+#[derive(Clone, Copy)]
+struct Sent(u16, u16, Message);
+
+/// A router, by its number.
+fn router(tables: &mut [Tables], node: u16) -> Result<&mut Tables, Fail> {
+    Ok(tables.get_mut(usize::from(node)).ok_or("a node")?)
+}
+
+/// A node sends some of what waits for another.
+fn send_some(
+    tables: &mut [Tables],
+    sents: &mut Vec<Sent>,
+    (from, to): (u16, u16),
+    max: u16,
+) -> Result<(), Fail> {
+    let router = router(tables, from)?;
+    let session = router.session(to);
+    if let Reply::Messages(messages) = router.apply(&Event::Take(session, max))? {
+        for message in messages.as_slice() {
+            sents.push(Sent(from, to, *message))?;
+        }
+    }
+    Ok(())
+}
+
+/// The first message that goes where this one goes is heard.
+fn hear_one(tables: &mut [Tables], sents: &mut Vec<Sent>, pick: usize) -> Result<(), Fail> {
+    let Sent(from, to, _) = *sents.get(pick).ok_or("a message")?;
+    let first = sents.iter().position(|s| s.0 == from && s.1 == to);
+    let first = first.ok_or("a message")?;
+    if first >= sents.len() {
+        return Err(Fail::from("a message"));
+    }
+    let Sent(_, _, message) = sents.remove(first);
+    let router = router(tables, to)?;
+    let session = router.session(from);
+    let _reply = router.apply(&Event::Receive(session, message.dest, message.dist))?;
+    Ok(())
+}
+
+/// Whether nothing waits at any node of so many.
+fn is_idle(tables: &[Tables], size: u16) -> bool {
+    for router in tables {
+        for node in 0..size {
+            if router.queued(router.session(node)) > 0 {
+                return false;
+            }
+        }
+    }
+    true
+}
+
+/// Lets nodes send, and messages be heard, in random order until nothing is left to do.
+fn play_at_random(
+    alloc: Global,
+    numbers: &mut Numbers,
+    tables: &mut [Tables],
+    size: u16,
+) -> Result<(), Fail> {
+    let mut sents = Vec::new(alloc);
+    for _ in 0..100_000 {
+        if sents.is_empty() && is_idle(tables, size) {
+            return Ok(());
+        }
+        if numbers.below(2) == 0 {
+            let pair = (short(numbers, size), short(numbers, size));
+            let max = short(numbers, 3).saturating_add(1);
+            send_some(tables, &mut sents, pair, max)?;
+        } else if !sents.is_empty() {
+            let pick = numbers.place(sents.len());
+            hear_one(tables, &mut sents, pick)?;
+        }
+    }
+    Err(Fail::from("the routers do not come to rest"))
+}
+
+/// A number below a limit.
+fn short(numbers: &mut Numbers, limit: u16) -> u16 {
+    u16::try_from(numbers.below(u32::from(limit))).unwrap_or(0)
+}
+
+/// Links and filters of a domain of so many nodes.
+fn random_steps(alloc: Global, numbers: &mut Numbers, size: u16) -> Result<Vec<Step>, Fail> {
+    let mut steps = Vec::new(alloc);
+    for u in 0..size {
+        for w in 0..size {
+            let text = if numbers.below(2) == 0 { UP_TWO } else { NEAR };
+            if u < w && numbers.below(3) > 0 {
+                steps.push(Step::Link(u, w))?;
+            }
+            if u != w && numbers.below(6) == 0 {
+                steps.push(Step::Import(u, w, text))?;
+            }
+            if u != w && numbers.below(6) == 0 {
+                steps.push(Step::Export(u, w, text))?;
+            }
+        }
+    }
+    Ok(steps)
+}
+
+/// The routers of a domain of so many nodes, after these links and filters.
+fn set_up(alloc: Global, steps: &[Step], size: u16) -> Result<Vec<Tables>, Fail> {
+    let mut tables = Vec::new(alloc);
+    for me in 0..size {
+        let opening = Opening::new(size, me, prefixes(alloc, size)?).ok_or("an opening")?;
+        tables.push(Tables::open(alloc, opening)?)?;
+    }
+    for step in steps {
+        let (u, event) = match step {
+            Step::Link(u, w) => {
+                let _reply = router(&mut tables, *w)?.apply(&Event::Up(*u))?;
+                (*u, Event::Up(*w))
+            }
+            Step::Import(u, w, text) => (*u, Event::SetImport(*w, filter(alloc, text, size)?)),
+            Step::Export(u, w, text) => (*u, Event::SetExport(*w, filter(alloc, text, size)?)),
+            _ => return Err(Fail::from("a link or a filter")),
+        };
+        let _reply = router(&mut tables, u)?.apply(&event)?;
+    }
+    Ok(tables)
+}
+
+/// Asserts that each node has the same routes in both.
+fn expect_same(
+    rt: &impl Abort,
+    alloc: Global,
+    routers: &mut Routers,
+    tables: &mut [Tables],
+) -> Result<(), Fail> {
+    let size = routers.size();
+    for u in 0..size {
+        let mut text = String::new(alloc);
+        for v in 0..size {
+            if let Reply::Route { dist, via } = router(tables, u)?.apply(&Event::Show(v))? {
+                add_route(&mut text, v, dist, via)?;
+            }
+        }
+        let wanted = table(alloc, routers, u)?;
+        assert_eq!(rt; text.as_str(), wanted.as_str());
+    }
+    Ok(())
+}
+
+#[test]
+fn any_order_comes_to_the_same_routes(rt: HostRuntime) -> Result<(), Fail> {
+    let alloc = rt.alloc();
+    for seed in 0..300 {
+        let mut numbers = Numbers::new(seed);
+        let size = short(&mut numbers, 5).saturating_add(2);
+        let steps = random_steps(alloc, &mut numbers, size)?;
+        let mut played = routers(alloc, size)?;
+        for step in &steps {
+            take_step(&rt, alloc, &mut played, step)?;
+        }
+        let _settled = played.settle()?;
+        let mut tables = set_up(alloc, &steps, size)?;
+        play_at_random(alloc, &mut numbers, &mut tables, size)?;
+        expect_same(&rt, alloc, &mut played, &mut tables)?;
+    }
+    Ok(())
+}
