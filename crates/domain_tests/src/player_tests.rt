@@ -1,6 +1,6 @@
 //! Routers that are played until quiet: rows that were worked out by hand, and the same routes in whatever order.
 
-ghost use Rattle.std.specs.Prelude.{◌≢◌, ◌<◌, OnOk};
+ghost use Rattle.std.specs.Prelude.{◌≢◌, ◌<◌, OnOk, length};
 
 use domain_player::Routers;
 use filter_source::{compile_text, verify_code};
@@ -83,7 +83,7 @@ fn table(alloc: Global, routers: &mut Routers, u: u16) -> Result<String, Fail> {
 
 /// Two nodes of a domain that are not the same.
 fn expect_pair(routers: &Routers, u: u16, w: u16) -> Result<(), Fail>
-    ensures { OnOk result ((u < routers.now.size) × (w < routers.now.size) × (u ≢ w)) }
+    ensures { OnOk result ((u < length routers.now) × (w < length routers.now) × (u ≢ w)) }
 {
     if u < routers.size() && w < routers.size() && u != w {
         Ok(())
@@ -116,6 +116,9 @@ fn set_filter(
 ) -> Result<(), Fail> {
     expect_pair(routers, u, w)?;
     let filter = filter(alloc, text, routers.size())?;
+    if filter.size() != u32::from(routers.size()) {
+        return Err(Fail::from("a filter of another size"));
+    }
     if import {
         routers.set_import(u, w, filter)?;
     } else {

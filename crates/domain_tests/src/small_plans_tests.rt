@@ -41,7 +41,9 @@ struct Small {
 impl Small {
     /// A random number of two nodes.
     fn random(self, what: u32, u: u16, w: u16) -> u32 {
-        let place = what * 65 + u32::from(u % 8) * 8 + u32::from(w % 8);
+        let place = what
+            .wrapping_mul(65)
+            .wrapping_add(u32::from(u % 8) * 8 + u32::from(w % 8));
         let mixed = self
             .number
             .wrapping_mul(0x9e37_79b9)
@@ -143,18 +145,27 @@ fn digits(mut number: u32, size: u16) -> [u16; 4] {
     dists
 }
 
+/// How many choices of distances there are: 0 to the size, for each node.
+fn choices(size: u16) -> u32 {
+    match size {
+        2 => 9,
+        3 => 64,
+        _ => 625,
+    }
+}
+
 /// The only distances at which each node's route to this one is at its own, and how many such there are.
 fn rests(small: Small, node: u16) -> (u32, [u16; 4]) {
-    let mut count = 0;
+    let mut count: u32 = 0;
     let mut found = [0; 4];
     let size = small.size.min(4);
-    for number in 0..(u32::from(size) + 1).pow(u32::from(size)) {
+    for number in 0..choices(size) {
         let dists = digits(number, size);
         let at_rest = (0..size)
             .zip(dists.as_slice())
             .all(|(u, dist)| small.route(node, u, &dists).dist == *dist);
         if at_rest {
-            count += 1;
+            count = count.saturating_add(1);
             found = dists;
         }
     }

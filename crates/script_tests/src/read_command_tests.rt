@@ -21,7 +21,8 @@ fn reads_numbers(rt: HostRuntime) -> Result<(), Fail> {
         return Err(Fail::from("another command"));
     };
     assert_eq!(&rt; (size, me, limit), (4, 3, None));
-    let Command::Network { size, me, limit } = read_command(alloc, b"network 250 249 1000000")? else {
+    let Command::Network { size, me, limit } = read_command(alloc, b"network 250 249 1000000")?
+    else {
         return Err(Fail::from("another command"));
     };
     assert_eq!(&rt; (size, me, limit), (250, 249, Some(1_000_000)));
