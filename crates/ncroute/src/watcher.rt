@@ -8,6 +8,8 @@ use std::io::Write;
 /// Tells people on `errors`. Where these take no text, or memory is refused, people are not told: the answer on standard output stays.
 #[derive(Drop)]
 pub struct Teller<'a, E: Write> {
+    /// The name by which people know the script.
+    pub name: &'a [u8],
     /// What people read.
     pub errors: &'a mut E,
 }
@@ -22,7 +24,7 @@ impl<'a, E: Write> Watch for Teller<'a, E> {
         };
         let explained = explain_line(
             alloc,
-            b"<stdin>",
+            self.name,
             number,
             line,
             filter.source,
