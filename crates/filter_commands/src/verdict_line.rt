@@ -1,5 +1,5 @@
 //! The lines of verdicts, and of runs that went wrong.
-ghost use Rattle.std.specs.Prelude.{◌≡◌, ◌++◌, OnErr, OnOk};
+ghost use Rattle.std.specs.Prelude.{◌≡◌, ◌≤◌, ◌++◌, OnErr, OnOk};
 ghost use Rattle.std.specs.Io.{StartsWith};
 ghost use Rattle.filter_commands.specs.Eval.{verdict};
 
@@ -24,7 +24,7 @@ pub fn push_accept(out: &mut Vec<u8>, metric: u32) -> Result<(), AllocError>
     ensures ok { OnOk result (out.new.items ≡ out.old.items ++ verdict (Outcome.Accept metric)) }
     ensures err { OnErr result (StartsWith out.new.items out.old.items) }
 {
-    // Metrics of a route have one or two digits: the line is put there at once.
+    // Metrics of a route have at most three digits: the line is put there at once.
     if metric < 10 {
         let digit = b'0' + metric as u8;
         return out.extend_from_slice(&[b'a', b'c', b'c', b'e', b'p', b't', b' ', digit, b'\n']);
@@ -33,6 +33,24 @@ pub fn push_accept(out: &mut Vec<u8>, metric: u32) -> Result<(), AllocError>
         let ten = b'0' + (metric / 10) as u8;
         let one = b'0' + (metric % 10) as u8;
         return out.extend_from_slice(&[b'a', b'c', b'c', b'e', b'p', b't', b' ', ten, one, b'\n']);
+    }
+    push_long_accept(out, metric)
+}
+
+/// Puts the line `accept METRIC` at the end of `out`, of a metric of three digits or more.
+#[inline(never)]
+fn push_long_accept(out: &mut Vec<u8>, metric: u32) -> Result<(), AllocError>
+    requires { 100 ≤ metric }
+    ensures ok { OnOk result (out.new.items ≡ out.old.items ++ verdict (Outcome.Accept metric)) }
+    ensures err { OnErr result (StartsWith out.new.items out.old.items) }
+{
+    if metric < 1_000 {
+        let tens = metric / 10;
+        let (hundred, ten) = (b'0' + (tens / 10) as u8, b'0' + (tens % 10) as u8);
+        let one = b'0' + (metric % 10) as u8;
+        return out.extend_from_slice(&[
+            b'a', b'c', b'c', b'e', b'p', b't', b' ', hundred, ten, one, b'\n',
+        ]);
     }
     out.extend_from_slice(b"accept ")?;
     push_decimal(out, u64::from(metric))?;
