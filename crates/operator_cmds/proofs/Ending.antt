@@ -1,10 +1,11 @@
 -- A script ends where its input does: no answer ends it before.
 use Rattle.std.proofs.Common.{◌≡◌, ℕ, ◌==◌, Bool, true, false, ◌||◌, List, [], ◌∷◌, length, Option, Some, None, Ok, Err, Global, refl, subst, ap, ◌∙◌, inl, inr, nat_lt}
 use Rattle.std.specs.Prelude.{MatchBool}
-use Rattle.std.specs.HashMap.{HashMap}
+use Rattle.std.specs.BTreeMap.{BTreeMap, is_at}
+use Rattle.std.specs.Cmp.Lexicographic.{slice_cmp}
 use Rattle.std.specs.Map.{lookup}
 use Rattle.std.specs.Option.{option_map}
-use Rattle.std.specs.Str.{bytes_eq}
+use Rattle.std.specs.Ordering.{nat_cmp}
 use Rattle.std.specs.declared.sync.Arc.{Arc}
 use Rattle.filter_code.specs.CodeView.{CodeView}
 use Rattle.filter_source.specs.Sources.{IsRefusedText}
@@ -122,11 +123,11 @@ not_over before (l ∷ ls) (a ∷ more) after h =
     ap (λ (b : Bool). b || is_over more) on ∙ not_over h.0 ls more after rest
 
 -- a script that no filter was named in and no domain set up in is a fresh one
-pub is_fresh : {S : Type 0} (filters : HashMap Key (Arc VerifiedView Global) S) → filters.entries ≡ []
+pub is_fresh : (filters : BTreeMap Key (Arc VerifiedView Global)) → filters.entries ≡ []
     → record { stage = Empty; filters = filter_at filters } ≡ fresh
 is_fresh filters e =
     let script : List (Key × Arc VerifiedView Global) → ScriptView =
-    λ es. record { stage = Empty; filters = λ name. option_map (λ f. f.value) (lookup (λ key. bytes_eq name key.items) es) } in
+    λ es. record { stage = Empty; filters = λ name. option_map (λ f. f.value) (lookup (is_at (λ key. slice_cmp nat_cmp name key.items)) es) } in
     ap script e
 
 pub carried_out : (before after : ScriptView) (input : List ℕ) (left held holds : Option (List ℕ)) (n : ℕ) → before ≡ fresh

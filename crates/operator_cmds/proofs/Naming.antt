@@ -1,11 +1,13 @@
 -- A filter that gets a name.
-use Rattle.std.proofs.Common.{◌≡◌, ℕ, Bool, true, false, List, Option, Some, if◌then◌else◌, Vec, Global, refl, sym, subst, ap, ◌∙◌}
-use Rattle.std.specs.Cmp.Lexicographic.{bytes_decides, nat_list_eq_equiv}
-use Rattle.std.specs.HashMap.{HashMap, Updates, get_by}
+use Rattle.std.proofs.Common.{◌≡◌, ℕ, Bool, true, false, List, Option, Ordering, Some, if◌then◌else◌, Vec, Global, refl, sym, subst, ap, ◌∙◌}
+use Rattle.std.specs.BTreeMap.{BTreeMap, Updates, is_at}
+use Rattle.std.specs.Cmp.Lexicographic.{nat_list_eq_equiv, bytes_decides, slice_cmp}
 use Rattle.std.specs.Map.{AreApart, IsKeyTest, KeepsOthers, lookup}
 use Rattle.std.specs.Option.{option_map}
+use Rattle.std.specs.Ordering.{eq_by_cmp, nat_cmp}
 use Rattle.std.specs.Str.{bytes_eq}
 use Rattle.std.specs.declared.sync.Arc.{Arc}
+use Rattle.std.proofs.lemmas.Map.Text.{is_eq-slice_cmp}
 use Rattle.filter_verifier.specs.VerifiedView.{VerifiedView}
 use Rattle.operator_cmds.specs.Script.{Names}
 use Rattle.operator_cmds.specs.Stages.{StageView}
@@ -14,17 +16,34 @@ use Rattle.operator_cmds.specs.State.{filter_at}
 abbrev pub Key : Type 0
 Key = Vec ℕ Global
 
-abbrev pub key_eq : Key → Key → Bool
-key_eq x y = bytes_eq x.items y.items
+abbrev Filters : Type 0
+Filters = BTreeMap Key (Arc VerifiedView Global)
+
+abbrev pub key_cmp : Key → Key → Ordering
+key_cmp x y = slice_cmp nat_cmp x.items y.items
+
+-- whether a key is this name
+abbrev is_name : List ℕ → Key → Bool
+is_name name = is_at (λ key. slice_cmp nat_cmp name key.items)
 
 -- a query that is not the key's finds what it found
-other_entries : {X : Type 0} (test : Key → Bool) (old new : List (Key × X)) → KeepsOthers key_eq test old new
-    → (other : Key → Bool) → IsKeyTest key_eq other → AreApart test other → lookup other new ≡ lookup other old
+other_entries : {X : Type 0} (test : Key → Bool) (old new : List (Key × X)) → KeepsOthers (eq_by_cmp key_cmp) test old new
+    → (other : Key → Bool) → IsKeyTest (eq_by_cmp key_cmp) other → AreApart test other → lookup other new ≡ lookup other old
 unfolding KeepsOthers
 other_entries test old new h = h
 
-apart : (name other key : List ℕ) → bytes_eq name other ≡ false → bytes_eq name key ≡ true → bytes_eq other key ≡ false
-apart name other key n y = nat_list_eq_equiv.symm other key ∙ sym (nat_list_eq_equiv.congr name key other y) ∙ n
+-- a name passes at equal keys
+tests_keys : (name : List ℕ) → IsKeyTest (eq_by_cmp key_cmp) (is_name name)
+tests_keys name x y h =
+    is_eq-slice_cmp name y.items ∙ nat_list_eq_equiv.congr name x.items y.items (sym (is_eq-slice_cmp name x.items) ∙ h)
+    ∙ sym (is_eq-slice_cmp x.items y.items)
+
+-- different names pass at different keys
+apart : (name other : List ℕ) → bytes_eq name other ≡ false → AreApart (is_name name) (is_name other)
+apart name other n key h =
+    let y = sym (is_eq-slice_cmp name key.items) ∙ h in
+    is_eq-slice_cmp other key.items ∙ nat_list_eq_equiv.symm other key.items
+    ∙ sym (nat_list_eq_equiv.congr name key.items other y) ∙ n
 
 -- a function of texts that is w at one text, and the earlier function elsewhere
 by_bytes : {W : Type 0} (f g : List ℕ → W) (name : List ℕ) (w : W) → g name ≡ w
@@ -42,27 +61,23 @@ mapped true f o = refl
 mapped false f o = refl
 
 -- what each name has after a filter was put under a key
-under : {S : Type 0} (m n : HashMap Key (Arc VerifiedView Global) S) (key : Key) (filter : Arc VerifiedView Global)
-    → Updates key_eq m n key (Some filter) → (other : List ℕ)
+under : (m n : Filters) (key : Key) (filter : Arc VerifiedView Global) → Updates key_cmp m n key (Some filter) → (other : List ℕ)
     → filter_at n other ≡ (if bytes_eq key.items other then Some filter.value else filter_at m other)
-under {S} m n key filter h other =
-    let found : HashMap Key (Arc VerifiedView Global) S → List ℕ → Option (Arc VerifiedView Global) =
-    λ map name. get_by (λ k. bytes_eq name k.items) map in
+under m n key filter h other =
+    let found : Filters → List ℕ → Option (Arc VerifiedView Global) = λ map name. lookup (is_name name) map.entries in
     ap (λ (o : Option (Arc VerifiedView Global)). option_map (λ f. f.value) o)
     (by_bytes (found m) (found n) key.items (Some filter) h.1
-    (λ cs e. other_entries _ _ _ h.3 (λ k. bytes_eq cs k.items) (λ x y. nat_list_eq_equiv.congr cs x.items y.items)
-    (λ k. apart key.items cs k.items e)) other)
+    (λ name e. other_entries (is_name key.items) m.entries n.entries h.3 (is_name name) (tests_keys name) (apart key.items name e)) other)
     ∙ mapped (bytes_eq key.items other) filter (found m other)
 
 -- the name has the filter, and the other names have what they had
-pub names : {S : Type 0} (stage : StageView) (m n : HashMap Key (Arc VerifiedView Global) S) (key : Key)
-    (filter : Arc VerifiedView Global) (name : List ℕ) (view : VerifiedView) → key.items ≡ name → filter.value ≡ view
-    → Updates key_eq m n key (Some filter)
+pub names : (stage : StageView) (m n : Filters) (key : Key) (filter : Arc VerifiedView Global) (name : List ℕ) (view : VerifiedView)
+    → key.items ≡ name → filter.value ≡ view → Updates key_cmp m n key (Some filter)
     → Names name view (record { stage = stage; filters = filter_at m }) (record { stage = stage; filters = filter_at n })
-names stage m n key filter name view is_name is_view h = record {
+names stage m n key filter name view same_name is_view h = record {
   stage = refl;
   filters = λ other.
       under m n key filter h other
-      ∙ ap (λ (text : List ℕ). if bytes_eq text other then Some filter.value else filter_at m other) is_name
+      ∙ ap (λ (text : List ℕ). if bytes_eq text other then Some filter.value else filter_at m other) same_name
       ∙ ap (λ (v : VerifiedView). if bytes_eq name other then Some v else filter_at m other) is_view;
 }

@@ -16,7 +16,7 @@ use line_protocol::{Reply, Service, StreamFault};
 use netchange_core::Event;
 use prefix_patterns::Prefix;
 use std::alloc::{AllocError, Global};
-use std::collections::HashMap;
+use std::collections::BTreeMap;
 use std::io::{Read, Write};
 use std::sync::Arc;
 
@@ -28,8 +28,8 @@ pub type ScriptFault = StreamFault;
 pub(crate) struct Script {
     /// How far it has come.
     stage: Stage,
-    /// The filter of each name.
-    filters: HashMap<Vec<u8>, Arc<Verified>>,
+    /// The filter of each name, in the names' order: no choice of names makes it slow to find one.
+    filters: BTreeMap<Vec<u8>, Arc<Verified>>,
 }
 
 impl Service for Script {
@@ -71,7 +71,7 @@ impl Script {
     {
         Script {
             stage: Stage::Empty,
-            filters: HashMap::new(alloc),
+            filters: BTreeMap::new(alloc),
         }
     }
 

@@ -1,0 +1,414 @@
+#!/usr/bin/env python3
+"""Runs the program at its limits and one beyond, and compares every byte. Prints a line for each run that differs, and at last
+'N passed, M failed'.
+
+usage: NCROUTE=PATH scripts/check_limits.py [WORD..]     (PATH: the program as it is built; WORDs: only the rows whose name has one)
+
+No contract says when memory is refused, so these runs show that it is not, at the sizes that the documents name. What a router answers is
+worked out here once more, in the plainest way, by `Router`. The last row compares times: those of names that collide in a hash table with
+those of other names.
+"""
+import itertools
+import os
+import resource
+import subprocess
+import sys
+import tempfile
+
+sys.dont_write_bytecode = True
+import program  # noqa: E402
+
+LINE = 1_048_576
+INPUT = 16_777_216
+TEXT = 65_536
+ENTRIES = 1_000_000
+MOST_TAKEN = 65_535
+NODES = 250
+
+# The smallest code file: ACCEPT alone.
+CODE = b"4e4346310000000170"
+FILTER = b"filter f { accept; }"
+VERIFIED = b"verified 1 0\n"
+
+# ---- a router, from its rules
+
+
+class Router:
+    """A router's tables, each answer worked out from what its neighbours told. A filter is what it adds to a distance."""
+
+    def __init__(self, size, me):
+        self.size, self.me, self.sessions = size, me, 0
+        self.told, self.queues, self.imports, self.exports = {}, {}, {}, {}
+
+    def distance(self, node):
+        return self.route(node)[0]
+
+    def route(self, node):
+        if node == self.me:
+            return 0, "local"
+        best = self.size, "none"
+        for neighbour in sorted(self.told):
+            told = self.told[neighbour].get(node, self.size)
+            if told + self.imports.get(neighbour, 0) + 1 < best[0]:
+                best = told + self.imports.get(neighbour, 0) + 1, f"via {neighbour}"
+        return best
+
+    def tell(self, neighbour, node):
+        distance = min(self.distance(node) + self.exports.get(neighbour, 0), self.size)
+        self.queues[neighbour].append(f"{node}:{distance}")
+
+    def tell_all(self, neighbour):
+        for node in range(self.size):
+            self.tell(neighbour, node)
+
+    def change(self, nodes, change):
+        """Makes a change, and tells each neighbour what it did to the distances to these nodes, in which all are that it may have changed."""
+        before = {node: self.distance(node) for node in sorted(nodes)}
+        change()
+        changed = [node for node in before if self.distance(node) != before[node]]
+        for node in changed:
+            for neighbour in self.queues:
+                self.tell(neighbour, node)
+        return f"done {len(changed)}"
+
+    def up(self, neighbour):
+        self.sessions += 1
+        self.told[neighbour], self.queues[neighbour] = {}, []
+        self.tell_all(neighbour)
+        return f"opened {self.sessions}"
+
+    def down(self, neighbour):
+        def forget():
+            del self.told[neighbour], self.queues[neighbour]
+
+        return self.change(self.told[neighbour], forget)
+
+    def recv(self, neighbour, node, distance):
+        return self.change([node], lambda: self.told[neighbour].update({node: distance}))
+
+    def take(self, neighbour):
+        taken, self.queues[neighbour] = self.queues[neighbour][:MOST_TAKEN], self.queues[neighbour][MOST_TAKEN:]
+        return " ".join(["messages"] + taken)
+
+    def show(self, node):
+        distance, way = self.route(node)
+        return f"route {distance} {way}"
+
+    def set_import(self, neighbour, added):
+        return self.change(self.told.get(neighbour, {}), lambda: self.imports.update({neighbour: added}))
+
+    def set_export(self, neighbour, added):
+        self.exports[neighbour] = added
+        if neighbour in self.queues:
+            self.tell_all(neighbour)
+        return "done 0"
+
+
+class Script:
+    """The lines of a script, and what is answered to them."""
+
+    def __init__(self, size, me):
+        self.router = Router(size, me)
+        self.lines, self.answers = [f"network {size} {me}"], ["ok"]
+
+    def name(self, added):
+        """Names the filter that adds a number to a distance."""
+        self.lines.append(f"load plus{added} filter f {{ rip_metric = rip_metric + {added}; accept; }}")
+        self.answers.append("verified 7 2")
+
+    def enter(self, command, *numbers):
+        self.lines.append(" ".join([command, *map(str, numbers)]))
+        self.answers.append(getattr(self.router, command)(*numbers))
+
+    def use(self, command, neighbour, added):
+        self.lines.append(f"{command} {neighbour} plus{added}")
+        self.answers.append(getattr(self.router, f"set_{command}")(neighbour, added))
+
+    def row(self):
+        return written(self.lines), written(self.answers), 0
+
+
+def written(lines):
+    return "".join(f"{line}\n" for line in lines).encode()
+
+
+# ---- the rows: each is an input, what is written for it, and the exit status
+
+
+def full_history():
+    """Each kind of session event, over and over, up to the last entry and one beyond: 250,000 sessions."""
+    turns = ENTRIES // 4
+    lines = b"network 4 0\n" + b"up 1\nrecv 1 1 0\ntake 1\ndown 1\n" * turns + b"show 0\n"
+    turn = "opened {}\ndone 1\nmessages 0:0 1:4 2:4 3:4 1:1\ndone 1\n"
+    return lines, b"ok\n" + "".join(map(turn.format, range(1, turns + 1))).encode() + b"refused J1 %d\n" % ENTRIES, 1
+
+
+def shown_routes():
+    """As many entries as the limit, and not one more."""
+    return b"network 250 249 %d\n" % ENTRIES + b"show 249\n" * ENTRIES, b"ok\n" + b"route 0 local\n" * ENTRIES, 0
+
+
+def longest_queue():
+    """A neighbour that has not asked for long takes all that one call may take, and then the rest."""
+    script = Script(4, 0)
+    script.enter("up", 1)
+    for turn in range(MOST_TAKEN - script.router.size + 3):
+        script.enter("recv", 1, 1, turn % 2)
+    for _ in range(3):
+        script.enter("take", 1)
+    return script.row()
+
+
+def greatest_domain():
+    """The greatest domain, with each other node as a neighbour: filters on all of them, routes by all of them, and all of them down."""
+    script = Script(NODES, 100)
+    neighbours = [node for node in range(NODES) if node != 100]
+    script.name(1)
+    script.name(3)
+    for neighbour in neighbours:
+        script.enter("up", neighbour)
+    for neighbour in neighbours:
+        script.enter("recv", neighbour, neighbour, 0)
+    for neighbour in neighbours:
+        script.enter("recv", neighbour, (neighbour * 7 + 3) % NODES, neighbour % 5)
+        script.enter("recv", neighbour, (neighbour * 11 + 1) % NODES, 249 - neighbour % 3)
+    for neighbour in neighbours:
+        script.use("import", neighbour, 1 if neighbour % 2 else 3)
+    for neighbour in neighbours:
+        script.enter("take", neighbour)
+        script.use("export", neighbour, 3 if neighbour % 2 else 1)
+    for node in range(NODES):
+        script.enter("show", node)
+    for neighbour in neighbours[::2] + neighbours[1::2]:
+        script.enter("take", neighbour)
+        script.enter("down", neighbour)
+    for neighbour in neighbours[:3]:
+        script.enter("up", neighbour)
+        script.enter("take", neighbour)
+    return script.row()
+
+
+def thousand_names():
+    """A thousand names, of 1 to 64 bytes, each with a filter of its own, all of them used."""
+    script = Script(NODES, 0)
+    names = [f"n{number}" + "_" * (number % 64 - len(str(number))) for number in range(1000)]
+    for number, name in enumerate(names):
+        script.lines.append(f"load {name} filter f {{ rip_metric = rip_metric + {number % 200}; accept; }}")
+        script.answers.append("verified 7 2")
+    script.enter("up", 1)
+    script.enter("recv", 1, 1, 0)
+    for number, name in enumerate(names):
+        script.lines.append(f"import 1 {name}")
+        script.answers.append(script.router.set_import(1, number % 200))
+        script.enter("show", 1)
+    return script.row()
+
+
+def padded(line, length):
+    """A line with so many bytes, by blanks behind its first word."""
+    first, rest = line.split(b" ", 1)
+    return first + b" " * (length - len(line) + 1) + rest
+
+
+def longest_lines():
+    """Lines with as many bytes as the limit, and with one more; a comment may have any number."""
+    fits, does_not = padded(b"code a " + CODE, LINE), padded(b"code b " + CODE, LINE + 1)
+    lines = [b"#" * (2 * LINE), b"network 4 0", fits, does_not, fits + b"\r", b"import 1 a", b"import 1 b", padded(b"show 0", LINE)]
+    return b"\n".join(lines), b"ok\n" + VERIFIED + b"refused O7 4\n" + VERIFIED + b"done 0\nrefused O6 7\nroute 0 local\n", 1
+
+
+def longest_text():
+    """`load` of a text with as many bytes as the limit, and with one more."""
+    fits = FILTER[:-2] + b" " * (TEXT - len(FILTER)) + b" }"
+    lines = [b"network 4 0", b"load a " + fits, b"load b " + fits + b" ", b"load c " + FILTER[:-2].ljust(TEXT), b"import 1 a", b"import 1 b"]
+    return b"\n".join(lines), b"ok\n" + VERIFIED + b"refused P7 65536\nrefused P9 65536\ndone 0\nrefused O6 6\n", 1
+
+
+def longest_code():
+    """`code` with every number of a code file at its limit: variables, sets, patterns, instructions, and operands on the stack."""
+    patterns = "0400" + "".join(f"{number:04x}{number:04x}20{number % 33:02x}20" for number in range(1024))
+    instructions = ["12", None, "610000"] * 64 + ["0100000000"] * 32 + ["30"] + ["11" + f"{number:02x}" for number in range(16)]
+    for number in range(64):
+        instructions[3 * number + 1] = f"51{number:02x}"
+    instructions += ["0100000000", "11" + "00"] * ((1024 - len(instructions) - 1) // 2)
+    instructions += ["0201"] * (1024 - len(instructions) - 1) + ["70"]
+    file = "4e434631" + "10" + "40" + patterns * 64 + "0400" + "".join(instructions)
+    answers = b"ok\nverified 1024 32\nopened 1\ndone 0\ndone 1\nroute 1 via 1\n"
+    return f"network 250 0\ncode a {file}\nup 1\nimport 1 a\nrecv 1 1 0\nshow 1\n".encode(), answers, 0
+
+
+def longest_script():
+    """An input with as many bytes as the limit."""
+    lines = b"network 4 0\nup 1\n" + b"# a comment of sixty-three bytes, so that the lines are few......\n" * ((INPUT - 100) // 66)
+    return lines + b"show 1".rjust(INPUT - len(lines) - 1) + b"\n", b"ok\nopened 1\nroute 4 none\n", 0
+
+
+def longer_script():
+    """The same and a byte more: all lines that end within the limit are answered, and no other."""
+    lines, answers, _ = longest_script()
+    return lines + b"s", answers, 1, b"ncroute: E4\n"
+
+
+def longest_routes():
+    """An input of `eval` with as many bytes as the limit."""
+    routes = (INPUT - len(CODE) - 1) // 16
+    lines = CODE + b"\n" + b"10.1.0.0/16 3 8\n" * routes
+    return lines + b"#" * (INPUT - len(lines)), b"accept 3\n" * routes, 0
+
+
+def longer_routes():
+    """The same and a byte more."""
+    lines, answers, _ = longest_routes()
+    return lines + b"#", answers, 1, b"ncroute: E4\n"
+
+
+def longest_route_line():
+    """Lines of `eval` with as many bytes as the limit, and with one more."""
+    fits = padded(b"10.1.0.0/16 3 8", LINE)
+    return CODE + b"\n" + fits + b"\n" + padded(b"10.1.0.0/16 3 8", LINE + 1) + b"\n" + fits, b"accept 3\nrefused O7 3\naccept 3\n", 1
+
+
+def longest_source():
+    """`check` of a text that has as many bytes as an input may have, which are too many for a filter."""
+    return FILTER.ljust(LINE), b"refused P7 65536\n", 1
+
+
+def longer_source():
+    """`check` of an input with a byte more than it may have."""
+    return FILTER.ljust(LINE + 1), b"refused O7 1\n", 1
+
+
+def longest_filter():
+    """`check` of a text at the limit of filters."""
+    return FILTER.ljust(TEXT), b"code 4e434631000000027071\n" + VERIFIED, 0
+
+
+ROWS = [
+    ("run, a full history", "run", full_history),
+    ("run, a history to its last entry", "run", shown_routes),
+    ("run, 65,535 messages at once", "run", longest_queue),
+    ("run, the greatest domain", "run", greatest_domain),
+    ("run, a thousand names", "run", thousand_names),
+    ("run, lines at the limit", "run", longest_lines),
+    ("run, a text at the limit", "run", longest_text),
+    ("run, a code file at all limits", "run", longest_code),
+    ("run, an input at the limit", "run", longest_script),
+    ("run, an input over the limit", "run", longer_script),
+    ("eval, an input at the limit", "eval", longest_routes),
+    ("eval, an input over the limit", "eval", longer_routes),
+    ("eval, lines at the limit", "eval", longest_route_line),
+    ("check, an input at the limit", "check --size 250", longest_source),
+    ("check, an input over the limit", "check --size 250", longer_source),
+    ("check, a text at the limit", "check --size 250", longest_filter),
+]
+
+
+def first_difference(wrote, wanted):
+    """Where two outputs differ first: the line's number, and the two lines."""
+    pairs = itertools.zip_longest(wrote.split(b"\n"), wanted.split(b"\n"), fillvalue=b"(nothing)")
+    number, (one, other) = next((number, pair) for number, pair in enumerate(pairs, 1) if pair[0] != pair[1])
+    return f"line {number}: {one[:200]!r}, and not {other[:200]!r}"
+
+
+def run(ncroute, words, given):
+    """What the program writes, and its exit status."""
+    ran = subprocess.run([ncroute, *words.split()], input=given, capture_output=True, cwd=program.TOP)
+    return ran.stdout, ran.stderr, ran.returncode
+
+
+def differs(said, wanted):
+    """How what was said differs from what was wanted, or nothing."""
+    (output, shown, status), (wanted_output, wanted_status, *wanted_shown) = said, wanted
+    if output != wanted_output:
+        return first_difference(output, wanted_output)
+    if (shown, status) != ((wanted_shown or [b""])[0], wanted_status):
+        return f"ended with {status} and {shown[:200]!r}, and not with {wanted_status}"
+    return None
+
+
+def hundred_files(ncroute):
+    """A hundred files are checked, of which the last is refused."""
+    with tempfile.TemporaryDirectory() as folder:
+        names = [os.path.join(folder, f"{number:03}.filter") for number in range(100)]
+        for name in names:
+            with open(name, "wb") as it:
+                it.write(FILTER if name != names[-1] else FILTER[:-1])
+        wanted = (b"code 4e434631000000027071\n" + VERIFIED) * 99 + b"refused P9 19\n", 1, names[-1].encode() + b": refused P9 19\n"
+        return differs(run(ncroute, "check --size 250 " + " ".join(names), b""), wanted)
+
+
+# ---- names that collide
+
+MULTIPLIER, SEED = 0x9E3779B97F4A7C15, 0x243F6A8885A308D3
+LETTERS = b"ABCDEFGHIJKLMNOPQRSTUVWXYZ_abcdefghijklmnopqrstuvwxyz0123456789"
+NAMES, BITS = 9000, 10
+
+
+def folded(number, by):
+    product = number * by
+    return product & 2**64 - 1 ^ product >> 64
+
+
+def colliding_names():
+    """Names of 8 letters that std's `HashMap` would look for at one place: its hash, which has no secret, agrees in ten bits."""
+    step, found = MULTIPLIER ^ 2, []
+    letters = [letter * 0x010101 for letter in LETTERS]
+    for front in itertools.product(letters[:53], *[letters] * 6):
+        state = folded(SEED ^ 8, MULTIPLIER ^ 16)
+        for letter in front:
+            state = folded(state ^ letter, step)
+        for letter in letters:
+            product = (state ^ letter) * step
+            hashed = product & 2**64 - 1 ^ product >> 64
+            if not (hashed ^ hashed >> 32) & 2**BITS - 1:
+                found.append(bytes(it & 255 for it in front + (letter,)))
+        if len(found) >= NAMES:
+            return found[:NAMES]
+
+
+def naming_time(ncroute, names):
+    """The least processor time of three runs of a script that names filters so, the later names over and over; nothing if an answer is wrong."""
+    lines = [b"code " + name + b" " + CODE for name in names + names[-2000:] * 20]
+    times = []
+    for _ in range(3):
+        before = resource.getrusage(resource.RUSAGE_CHILDREN)
+        said = run(ncroute, "run", b"network 4 0\n" + b"\n".join(lines))
+        after = resource.getrusage(resource.RUSAGE_CHILDREN)
+        if said != (b"ok\n" + VERIFIED * len(lines), b"", 0):
+            return None
+        times.append(after.ru_utime - before.ru_utime + after.ru_stime - before.ru_stime)
+    return min(times)
+
+
+def names_that_collide(ncroute):
+    """Names that collide, and names that begin alike, take at most three times as long as others."""
+    usual = naming_time(ncroute, [b"N%07d" % (number * 7919 % 10_000_000) for number in range(NAMES)])
+    for names in (colliding_names(), [b"n" * 56 + b"%08d" % number for number in range(NAMES)]):
+        time = naming_time(ncroute, names)
+        if time is None or usual is None:
+            return "a name was not taken"
+        if time > 3 * usual:
+            return f"{time:.3f} s, and {usual:.3f} s with other names"
+    return None
+
+
+def main(wanted):
+    ncroute = os.environ.get("NCROUTE")
+    if not ncroute:
+        sys.exit("NCROUTE=PATH: the program that is to run")
+    ncroute = os.path.realpath(ncroute)
+    rows = [(name, lambda words=words, row=row: differs(run(ncroute, words, (made := row())[0]), made[1:])) for name, words, row in ROWS]
+    rows += [("check, a hundred files", lambda: hundred_files(ncroute)), ("run, names that collide", lambda: names_that_collide(ncroute))]
+    passed = failed = 0
+    for name, row in rows:
+        if wanted and not any(word in name for word in wanted):
+            continue
+        if said := row():
+            failed += 1
+            print(f"{name}: {said}")
+        else:
+            passed += 1
+    program.finish(passed, failed)
+
+
+main(sys.argv[1:])
