@@ -17,7 +17,7 @@ passed=0
 failed=0
 
 # The calls that the tests of memory_tests make and that answer refused memory. `close` is made too, and asks for none.
-calls="build read_code write_code parse check compile instruction_places verify compile_text read_file read_hexadecimal verify_code Tables::open Tables::apply
+calls="build read_code write_code parse check compile compile_mapped verify compile_text read_file read_hexadecimal verify_code Tables::open Tables::apply
 Journal::open Journal::apply replay Router::open try_call call run_sessions answer_lines run_script"
 
 # How a test ends without its Nth allocation: over (it never asks so often), without, refused, or faulted.

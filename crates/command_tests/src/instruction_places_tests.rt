@@ -1,7 +1,8 @@
 //! Where in the text each instruction comes from.
 
-use filter_compiler::instruction_places;
+use filter_compiler::compile_mapped;
 use filter_parser::parse;
+use filter_types::check;
 use std::alloc::Global;
 use std::process::Abort;
 use std::test::Fail;
@@ -109,11 +110,11 @@ fn wanted_of(alloc: Global, part: &Part) -> Result<Vec<&'static str>, Fail> {
 /// Asserts that each instruction of a filter with one part in it comes from its place.
 fn expect_places(rt: &impl Abort, alloc: Global, part: &Part) -> Result<(), Fail> {
     let text = text_of(alloc, part)?;
-    let filter = parse(alloc, text.as_slice())?;
-    let places = instruction_places(alloc, &filter)?;
+    let typed = check(alloc, parse(alloc, text.as_slice())?)?;
+    let mapped = compile_mapped(alloc, &typed)?;
     let wanted = wanted_of(alloc, part)?;
-    assert_eq!(rt; places.len(), wanted.len(), "{}", part.text);
-    for (place, words) in places.iter().zip(wanted.iter()) {
+    assert_eq!(rt; mapped.places.len(), wanted.len(), "{}", part.text);
+    for (place, words) in mapped.places.iter().zip(wanted.iter()) {
         assert!(rt;
             says(text.as_slice(), *place, words),
             "{} at {place}: {words}",

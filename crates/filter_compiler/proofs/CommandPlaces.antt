@@ -1,17 +1,15 @@
 -- The places of the instructions of commands, part by part.
-use Rattle.std.proofs.Common.{◌≡◌, ℕ, Box, Global, List, Vec, [], ◌∷◌, ◌++◌, length, Option, Some, None, Result, Ok, Err, OnOk, sym, ap, ◌∙◌}
+use Rattle.std.proofs.Common.{◌≡◌, ℕ, Box, Global, List, Vec, ◌∷◌, ◌++◌, Option, Some, None, sym, ap, ◌∙◌}
 use Rattle.std.proofs.Common.{append_assoc}
-use Rattle.std.specs.Prelude.{flat_map, replicate}
+use Rattle.std.specs.Prelude.{flat_map}
 use Rattle.std.proofs.lemmas.List.Folds.{flat_map-map}
-use Rattle.filter_parser.specs.SyntaxCommands.{view_target}
 use Rattle.filter_parser.specs.declared.tree.command.Command.{Command}
 use Rattle.filter_parser.specs.declared.tree.command.Command.TheFolds.{fold-roll-Command}
 use Rattle.filter_parser.specs.declared.tree.command.Command.TheOpen.{Command-F}
 use Rattle.filter_parser.specs.declared.tree.command.Command.TheVariants as command
 use Rattle.filter_parser.specs.declared.tree.command.Target.{Target}
 use Rattle.filter_parser.specs.declared.tree.expr.Expr.{Expr}
-use Rattle.filter_compiler.specs.InstructionPlaces.{command_places, command_places_step, expression_places}
-use Rattle.filter_compiler.specs.Translation.{target_code}
+use Rattle.filter_compiler.specs.InstructionPlaces.{command_places, command_places_step, expression_places, target_places}
 
 pub block_at : (x : Command) (at : ℕ) (body : Vec Command Global) (ys : List Command) → x ≡ command.Block at body → ys ≡ body.items
     → command_places x ≡ flat_map command_places ys
@@ -39,21 +37,8 @@ if_else_at x at test chosen other second y z is some is_chosen is_other =
     ∙ (ap (λ w. expression_places test ++ at ∷ (command_places y ++ at ∷ command_places w)) (sym is_other)
     ∙ sym (append_assoc (expression_places test) (at ∷ command_places y) (at ∷ command_places z)))))
 
-pub assign_at : (x : Command) (at : ℕ) (target : Target) (value : Expr) (n : ℕ) → x ≡ command.Assign at target value
-    → n ≡ length (target_code [] (view_target target)) → command_places x ≡ expression_places value ++ replicate n at
-assign_at x at target value n is count =
+pub assign_at : (x : Command) (at : ℕ) (target : Target) (value : Expr) → x ≡ command.Assign at target value
+    → command_places x ≡ expression_places value ++ target_places at target
+assign_at x at target value is =
     ap command_places (is ∙ sym (command.rolls-Assign at target value))
-    ∙ (fold-roll-Command (List ℕ) command_places_step (Command-F.Assign at target value)
-    ∙ ap (λ m. expression_places value ++ replicate m at) (sym count))
-
--- a place between two parts
-pub around : (start now mid after a b whole : List ℕ) (at : ℕ) → whole ≡ a ++ at ∷ b → now ≡ start ++ a → mid ≡ now ++ at ∷ []
-    → after ≡ mid ++ b → after ≡ start ++ whole
-around start now mid after a b whole at is first second third =
-    third ∙ (ap (λ l. l ++ b) (second ∙ ap (λ l. l ++ at ∷ []) first)
-    ∙ (append_assoc (start ++ a) (at ∷ []) b ∙ (append_assoc start a (at ∷ b) ∙ ap (λ l. start ++ l) (sym is))))
-
--- what follows where a call succeeds
-pub where_ok : {A E P Q : Type 0} (r : Result A E) → (P → Q) → OnOk r P → OnOk r Q
-where_ok (Ok x) f h = f h
-where_ok (Err e) f h = tt
+    ∙ fold-roll-Command (List ℕ) command_places_step (Command-F.Assign at target value)

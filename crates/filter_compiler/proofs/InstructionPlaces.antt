@@ -1,9 +1,6 @@
 -- The places of instructions, part by part.
-use Rattle.std.proofs.Common.{◌≡◌, ℕ, ◌+◌, ◌<◌, Box, Global, List, Vec, [], ◌∷◌, ◌++◌, length, take, get_or, Result, Ok, Err, OnOk, refl, sym, ap, subst, ◌∙◌}
-use Rattle.std.proofs.Common.{add-one, append_assoc}
+use Rattle.std.proofs.Common.{◌≡◌, ℕ, Box, Global, List, Vec, [], ◌∷◌, ◌++◌, length, refl, sym, ap, subst, ◌∙◌}
 use Rattle.std.specs.Prelude.{flat_map, replicate}
-use Rattle.std.proofs.Math.Seq.{take-suc}
-use Rattle.std.proofs.lemmas.List.{flat_map_more, replicate-append-replicate}
 use Rattle.std.proofs.lemmas.List.Folds.{flat_map-map}
 use Rattle.filter_parser.specs.declared.tree.expr.Expr.{Expr}
 use Rattle.filter_parser.specs.declared.tree.expr.Expr.TheFolds.{fold-roll-Expr, ind-Expr, map-Expr}
@@ -11,23 +8,13 @@ use Rattle.filter_parser.specs.declared.tree.expr.Expr.TheOpen.{Expr-F}
 use Rattle.filter_parser.specs.declared.tree.expr.Expr.TheVariants as e
 use Rattle.filter_parser.specs.declared.tree.op.Membership.{Membership}
 use Rattle.filter_parser.specs.declared.tree.op.Op.{Op}
+use Rattle.filter_parser.specs.declared.tree.op.Op.TheVariants as op
 use Rattle.filter_parser.specs.declared.tree.op.Suffix.{Suffix}
 use Rattle.filter_parser.specs.declared.tree.set.Set.{Set}
 use Rattle.filter_parser.specs.Places.{expr_place, expr_place_step}
 use Rattle.filter_compiler.specs.InstructionPlaces.{Origins, all_at, expression_places, origins, origins_step, right_places}
-use Rattle.filter_compiler.specs.Translation.{member_code}
-
--- the same place once more
-pub times_more : (start : List ℕ) (n at : ℕ) → (start ++ replicate n at) ++ at ∷ [] ≡ start ++ replicate (n + 1) at
-times_more start n at = append_assoc start (replicate n at) (at ∷ []) ∙ ap (λ l. start ++ l) (replicate-append-replicate n 1 at)
-
--- what one more element of a list gives
-pub flat_map_next : {X : Type 0} (f : X → List ℕ) (start now after : List ℕ) (xs : List X) (i : ℕ) (x : X) → i < length xs
-    → x ≡ get_or xs i x → now ≡ start ++ flat_map f (take i xs) → after ≡ now ++ f x → after ≡ start ++ flat_map f (take (i + 1) xs)
-flat_map_next f start now after xs i x low is so_far more =
-    let taken : take (i + 1) xs ≡ take i xs ++ x ∷ [] =
-    ap (λ n. take n xs) (add-one i) ∙ (take-suc xs i x low ∙ ap (λ y. take i xs ++ y ∷ []) (sym is)) in
-    more ∙ (ap (λ l. l ++ f x) so_far ∙ (flat_map_more f start (take i xs) x ∙ ap (λ l. start ++ flat_map f l) (sym taken)))
+use Rattle.filter_compiler.specs.InstructionPlaces.{suffixes_places}
+use Rattle.filter_compiler.specs.Translation.{member_code, operator_code}
 
 -- an operator of a chain and its right operand
 abbrev pub one_right : ℕ × Op × Expr → List ℕ
@@ -91,26 +78,29 @@ chain_at x first more y ys is is_first is_more =
     ∙ (ap (λ z. expression_places z ++ flat_map one_right more.items) (sym is_first)
     ∙ ap (λ zs. expression_places y ++ flat_map one_right zs) (sym is_more)))
 
-pub member_at : (x : Expr) (op : Membership) (left : Box Expr Global) (set : Set) (y : Expr) (n : ℕ)
-    → x ≡ e.Member op left set → y ≡ left.value → n ≡ length (member_code op 0)
-    → expression_places x ≡ expression_places y ++ replicate n set.at
-member_at x op left set y n is is_left count =
-    ap expression_places is ∙ (member_places op left set
-    ∙ (ap (λ z. expression_places z ++ all_at set.at (member_code op 0)) (sym is_left)
-    ∙ ap (λ m. expression_places y ++ replicate m set.at) (sym count)))
+pub not_at : (x : Expr) (at : ℕ) (inner : Box Expr Global) (y : Expr) → x ≡ e.Not at inner → y ≡ inner.value
+    → expression_places x ≡ expression_places y ++ at ∷ []
+not_at x at inner y is is_inner =
+    ap expression_places (is ∙ sym (e.rolls-Not at inner))
+    ∙ (ap (λ (o : Origins). o.places) (fold-roll-Expr Origins origins_step (Expr-F.Not at inner))
+    ∙ ap (λ z. expression_places z ++ at ∷ []) (sym is_inner))
 
-pub suffixed_at : (x : Expr) (inner : Box Expr Global) (suffixes : Vec Suffix Global) (y z : Expr) (n at : ℕ)
-    → x ≡ e.Suffixed inner suffixes → y ≡ inner.value → z ≡ inner.value → n ≡ length suffixes.items → at ≡ expr_place z
-    → expression_places x ≡ expression_places y ++ replicate n at
-suffixed_at x inner suffixes y z n at is is_inner same count place =
+pub member_at : (x : Expr) (op : Membership) (left : Box Expr Global) (set : Set) (y : Expr) → x ≡ e.Member op left set
+    → y ≡ left.value → expression_places x ≡ expression_places y ++ all_at set.at (member_code op 0)
+member_at x op left set y is is_left =
+    ap expression_places is ∙ (member_places op left set ∙ ap (λ z. expression_places z ++ all_at set.at (member_code op 0)) (sym is_left))
+
+pub suffixed_at : (x : Expr) (inner : Box Expr Global) (suffixes : Vec Suffix Global) (y : Expr) (ys : List Suffix)
+    → x ≡ e.Suffixed inner suffixes → y ≡ inner.value → ys ≡ suffixes.items
+    → expression_places x ≡ expression_places y ++ suffixes_places (expr_place y) ys
+suffixed_at x inner suffixes y ys is is_inner are =
     ap expression_places is ∙ (suffixed_places inner suffixes
-    ∙ (ap (λ w. expression_places w ++ replicate (length suffixes.items) (expr_place inner.value)) (sym is_inner)
-    ∙ (ap (λ m. expression_places y ++ replicate m (expr_place inner.value)) (sym count)
-    ∙ ap (λ a. expression_places y ++ replicate n a) (sym (place ∙ ap expr_place same)))))
+    ∙ (ap (λ z. expression_places z ++ suffixes_places (expr_place z) suffixes.items) (sym is_inner)
+    ∙ ap (λ zs. expression_places y ++ suffixes_places (expr_place y) zs) (sym are)))
 
--- two parts, one after the other
-pub both_parts : {E : Type 0} (r : Result (Unit {0}) E) (start now after a b whole : List ℕ) → whole ≡ a ++ b → now ≡ start ++ a
-    → OnOk r (after ≡ now ++ b) → OnOk r (after ≡ start ++ whole)
-both_parts (Ok u) start now after a b whole is first second =
-    second ∙ (ap (λ l. l ++ b) first ∙ (append_assoc start a b ∙ ap (λ l. start ++ l) (sym is)))
-both_parts (Err e) start now after a b whole is first second = tt
+-- the instructions of an operator that takes both operands are at the operator
+pub places_of_both : (at : ℕ) (is : Op) (right : List ℕ) → (is ≡ op.And → ⊥) → (is ≡ op.Or → ⊥)
+    → right ++ all_at at (operator_code is) ≡ right_places at is right
+places_of_both at op.And right not_and not_or = absurd (not_and refl)
+places_of_both at op.Or right not_and not_or = absurd (not_or refl)
+places_of_both at _ right not_and not_or = refl

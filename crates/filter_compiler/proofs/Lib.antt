@@ -6,8 +6,6 @@ pub mod Jumps
 pub mod Notes
 pub mod Operators
 pub mod Parts
-pub mod PlaceCounts
-pub mod PlacedParts
 pub mod Puts
 pub mod Reaching
 pub mod Rows

@@ -6,9 +6,7 @@ mod compiler;
 mod expressions;
 mod fault;
 mod output;
-mod places;
 mod sets;
 
 pub use compiler::{MappedCode, compile, compile_mapped};
 pub use fault::CompileFault;
-pub use places::{instruction_places, one_place_each};

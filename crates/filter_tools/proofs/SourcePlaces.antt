@@ -1,25 +1,34 @@
--- The places of a text's instructions, from the tree of the text.
-use Rattle.std.proofs.Common.{◌≡◌, ℕ, Bool, Bor, Global, List, Vec, length, Option, Some, None, Result, Ok, Err, IfOk, inl, refl, sym, subst}
+-- The places of a text's instructions, and explanations that are cut.
+use Rattle.std.proofs.Common.{◌≡◌, ℕ, Bool, Bor, List, [], length, Option, Some, None, inl, inr, refl, sym, ap, subst, ◌∙◌}
 use Rattle.std.specs.Option.{option_copied}
 use Rattle.std.specs.Prelude.{slice_get}
 use Rattle.std.specs.Slice.{IsItemAt}
 use Rattle.std.proofs.lemmas.Option.{slice_get_past, slice_get_read}
-use Rattle.filter_compiler.specs.InstructionPlaces.{places_of}
-use Rattle.filter_parser.specs.Placed.{IsPlaced}
-use Rattle.filter_parser.specs.SyntaxText.{IsText, view_filter}
-use Rattle.filter_parser.specs.declared.tree.filter.Filter.{Filter}
+use Rattle.filter_source.proofs.Translations.{none}
+use Rattle.filter_source.specs.Sources.{IsRefusedText}
+use Rattle.filter_source.specs.TextPlaces.{ArePlacesOf}
 use Rattle.filter_source.specs.declared.refusal.Refusal.{Refusal}
 use Rattle.line_protocol.specs.Runs.{AppendsFront}
 use Rattle.line_protocol.specs.declared.faults.StreamFault.{StreamFault}
 use Rattle.line_protocol.specs.declared.faults.StreamFault.TheVariants.{Write}
 use Rattle.filter_tools.specs.Explanations.{IsExplanation}
-use Rattle.filter_tools.specs.SourcePlaces.{ArePlacesIn}
+use Rattle.filter_tools.specs.SourcePlaces.{ArePlacesIn, IsInstructionAt, place_of}
 use Rattle.filter_tools.specs.Telling.{IsCutExplanation}
 
-pub of_tree : {E : Type 0} (text : List ℕ) (tree : Filter) (r : Result (Vec ℕ Global) E) → IsText text (view_filter tree) → IsPlaced text tree
-    → IfOk r (λ places. places.items ≡ places_of tree) → IfOk r (λ places. ArePlacesIn text places.items)
-of_tree text tree (Ok places) found placed is = inl (tree, found, placed, is)
-of_tree text tree (Err e) found placed is = tt
+-- a text that is refused has no translation, and no places
+pub no_places : (text : List ℕ) (why : Refusal) → IsRefusedText text why → ArePlacesIn text []
+no_places text why refused = inr ((λ filter program translates. none text filter program why translates refused), refl)
+
+-- the byte of an instruction of a text's translation, and of a text that has none
+pub instruction_at : (text places shown : List ℕ) (at asked byte : Option ℕ) → ArePlacesOf text places → shown ≡ places → asked ≡ at
+    → byte ≡ place_of shown asked → IsInstructionAt text at byte
+instruction_at text places shown at asked byte are same is found =
+    (places, inl are, found ∙ (ap (λ l. place_of l asked) same ∙ ap (place_of places) is))
+
+pub no_instruction : (text shown : List ℕ) (why : Refusal) (at asked byte : Option ℕ) → IsRefusedText text why → shown ≡ [] → asked ≡ at
+    → byte ≡ place_of shown asked → IsInstructionAt text at byte
+no_instruction text shown why at asked byte refused same is found =
+    ([], no_places text why refused, found ∙ (ap (λ l. place_of l asked) same ∙ ap (place_of []) is))
 
 -- what is lent of a list at an index
 pub copied_is : (xs : List ℕ) (i : ℕ) (r : Option (Bor ℕ)) → IsItemAt xs i r → option_copied r ≡ slice_get xs i

@@ -8,6 +8,7 @@ use Rattle.filter_code.specs.declared.instruction.Instr.{Instr}
 use Rattle.filter_code.specs.declared.instruction.Instr.TheVariants as instr
 use Rattle.filter_source.specs.declared.refusal.Refusal.{Refusal}
 use Rattle.filter_source.specs.declared.refusal.Refusal.TheVariants.{Verify}
+use Rattle.filter_source.specs.TextPlaces.{ArePlacesOf}
 use Rattle.filter_verifier.specs.FirstFault.{the_fault}
 use Rattle.filter_verifier.specs.InStateView.{InStateView, Unreached, UnlikeDepths, Known}
 use Rattle.filter_verifier.specs.InStates.{in_state}
@@ -20,7 +21,6 @@ use Rattle.line_protocol.specs.declared.faults.StreamFault.TheVariants.{Read, Wr
 use Rattle.filter_commands.specs.Check.{GivesCode, IsRefused, verdict_on}
 use Rattle.filter_tools.specs.Filtering.{refusal_line}
 use Rattle.filter_tools.specs.Places.{column_at, line_at}
-use Rattle.filter_tools.specs.SourcePlaces.{ArePlacesIn}
 
 -- the mark of an int that is at least the metric received
 abbrev pub mark : Bool → List ℕ
@@ -92,7 +92,7 @@ IsListing (Some size) program origin text why = (front : List ℕ)
 -- the bytes of a source that the instructions come from: a code file has none
 abbrev pub AreOrigins : Bool → List ℕ → List ℕ → Type 0
 AreOrigins true source places = places ≡ []
-AreOrigins false source places = ArePlacesIn source places
+AreOrigins false source places = ArePlacesOf source places
 
 -- the listing of a source, or the line that refuses it
 abbrev pub IsListed : Option ℕ → Bool → List ℕ → List ℕ → Option Refusal → Type 0

@@ -1,10 +1,10 @@
 -- Where in a source a refusal stands: at a byte of a filter's text. (This project's own choice.)
 use Rattle.std.specs.Prelude.{◌≡◌, ◌⊎◌, ℕ, Bool, true, false, List, [], Option, Some, None, slice_get}
-use Rattle.filter_compiler.specs.InstructionPlaces.{places_of}
+use Rattle.filter_code.specs.CodeView.{CodeView}
 use Rattle.filter_parser.specs.Codes as parse
-use Rattle.filter_parser.specs.Placed.{IsPlaced}
-use Rattle.filter_parser.specs.SyntaxText.{FilterView, IsText, view_filter}
-use Rattle.filter_parser.specs.declared.tree.filter.Filter.{Filter}
+use Rattle.filter_parser.specs.SyntaxText.{FilterView}
+use Rattle.filter_source.specs.Sources.{Translates}
+use Rattle.filter_source.specs.TextPlaces.{ArePlacesOf}
 use Rattle.filter_source.specs.declared.refusal.Refusal.{Refusal}
 use Rattle.filter_source.specs.declared.refusal.Refusal.TheVariants.{TooLong, Hexadecimal, File, Parse, Typing, Compile, Verify}
 use Rattle.filter_types.specs.Codes as types
@@ -13,12 +13,10 @@ use Rattle.filter_verifier.specs.Faults.{fault_place}
 use Rattle.filter_verifier.specs.declared.fault.VerifyFault.{VerifyFault}
 use Rattle.filter_verifier.specs.declared.fault.VerifyFault.TheVariants as fault
 
--- The places of the instructions of the filter that a text spells: of each, the place of the part that it translates. There are none
--- where the text spells no filter.
+-- The places of the instructions of the translation of a text. There are none where the text has no translation.
 abbrev pub ArePlacesIn : List ℕ → List ℕ → Type 0
-ArePlacesIn text places =
-    ((tree : Filter) × IsText text (view_filter tree) × IsPlaced text tree × (places ≡ places_of tree))
-    ⊎ (((filter : FilterView) → IsText text filter → ⊥) × (places ≡ []))
+ArePlacesIn text places = ArePlacesOf text places
+    ⊎ (((filter : FilterView) (program : CodeView) → Translates text filter program → ⊥) × (places ≡ []))
 
 -- the instruction that the verifier refuses; the size of a domain, and memory, are about none
 abbrev pub refused_instruction : VerifyFault → Option ℕ
@@ -26,10 +24,14 @@ refused_instruction fault.BadSize = None
 refused_instruction fault.Memory = None
 refused_instruction why = Some (fault_place why)
 
+-- the place of the instruction of an index, if there is one
+abbrev pub place_of : List ℕ → Option ℕ → Option ℕ
+place_of places None = None
+place_of places (Some at) = slice_get places at
+
 -- the byte of a text that an instruction comes from
 abbrev pub IsInstructionAt : List ℕ → Option ℕ → Option ℕ → Type 0
-IsInstructionAt text None byte = byte ≡ None
-IsInstructionAt text (Some at) byte = (places : List ℕ) × ArePlacesIn text places × (byte ≡ slice_get places at)
+IsInstructionAt text at byte = (places : List ℕ) × ArePlacesIn text places × (byte ≡ place_of places at)
 
 -- The byte of a source at which a refusal stands: of a filter's text, the byte that it names, or the part that gave the instruction
 -- which is refused. A code file has no such byte.

@@ -3,9 +3,8 @@ ghost use Rattle.std.specs.Prelude.{◌≡◌, ◌++◌, IfOk, OnOk, filter, map
 ghost use Rattle.filter_tools.specs.Places.{begins_character};
 ghost use Rattle.filter_tools.specs.Explanations.{IsExplanation, explanation, excerpt, indent_of, message, position, shown_byte};
 
+use crate::finding::find;
 use crate::place::{begins_character, place_in};
-use crate::reason::words_of;
-use crate::source_place::byte_of;
 use filter_source::Refusal;
 use line_protocol::push_decimal;
 use std::alloc::{AllocError, Global};
@@ -123,7 +122,6 @@ pub fn explain(
 ) -> Result<Vec<u8>, AllocError>
     ensures { IfOk result (λ out. IsExplanation is_code name.now text.now why out.items) }
 {
-    let words = words_of(alloc, text, size, is_code, why)?;
-    let byte = byte_of(alloc, text, is_code, why)?;
-    explain_in(alloc, name, text, words.as_bytes(), why, byte)
+    let found = find(alloc, text, size, is_code, why)?;
+    explain_in(alloc, name, text, found.words.as_bytes(), why, found.byte)
 }

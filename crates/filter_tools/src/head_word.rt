@@ -1,7 +1,6 @@
 //! The word at the head of a command that is none.
 ghost use Rattle.std.specs.Prelude.{◌≡◌, None, IfOk};
-ghost use Rattle.filter_parser.specs.Codes.{fault_place};
-ghost use Rattle.filter_tools.specs.HeadWords.{IsHeadWord, IsShownAt, missing_assign, name_before, named, place_or};
+ghost use Rattle.filter_tools.specs.HeadWords.{IsHeadWord, missing_assign, name_before, named, place_or};
 
 use filter_parser::{Expected, ParseFault};
 use filter_tokens::{Token, TokenKind, lex};
@@ -64,29 +63,11 @@ pub(crate) fn head_word(alloc: Global, text: &[u8], at: usize) -> Result<Option<
 }
 
 /// The place of a word, or another one where there is none.
-fn place_or(word: Option<Word>, at: usize) -> usize
+pub(crate) fn place_or(word: Option<Word>, at: usize) -> usize
     ensures { result ≡ place_or word at }
 {
     match word {
         Some(word) => word.from,
         None => at,
-    }
-}
-
-/// The byte of a text at which a refusal of the parser is shown: that of the word at the head of a command which is none, and otherwise
-/// its own.
-pub(crate) fn byte_of_fault(
-    alloc: Global,
-    text: &[u8],
-    fault: ParseFault,
-) -> Result<Option<usize>, AllocError>
-    ensures { IfOk result (IsShownAt text.now (fault_place fault) (missing_assign fault)) }
-{
-    match missing_assign(fault) {
-        Some(at) => {
-            let word = head_word(alloc, text, at)?;
-            Ok(Some(place_or(word, at)))
-        }
-        None => Ok(Some(fault.at())),
     }
 }

@@ -4,11 +4,11 @@
 mod aloud;
 mod explanation;
 mod filter;
+mod finding;
 mod head_word;
 mod listing;
 mod named;
 mod place;
-mod reason;
 mod route_of_size;
 mod script_line;
 mod source_place;

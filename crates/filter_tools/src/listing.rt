@@ -8,14 +8,15 @@ ghost use Rattle.filter_verifier.specs.FirstFault.{the_fault};
 ghost use Rattle.filter_verifier.specs.InStateView.{Known};
 ghost use Rattle.filter_verifier.specs.Pass.{in_state_view};
 ghost use Rattle.filter_verifier.specs.Surveys.{surveyed};
-ghost use Rattle.filter_tools.specs.Listing.{AreOrigins, IsCutListing, IsListed, IsListing, Lists, fact_text, instruction_line, known_before, mark};
+ghost use Rattle.filter_tools.specs.Listing.{IsCutListing, IsListed, IsListing, Lists, fact_text, instruction_line, known_before, mark};
 ghost use Rattle.filter_tools.specs.Listing.{nothing_known, origin_in, place_text, places_text, state_text, target_text};
 
 use crate::filter::refusal_line;
 use crate::place::place_in;
-use crate::source_place::{place_at, places_in};
+use crate::source_place::{mapped_code_of, place_at};
 use filter_code::{Code, Instr};
-use filter_commands::{ProgramFault, code_of};
+use filter_commands::ProgramFault;
+use filter_compiler::MappedCode;
 use filter_source::{Failure, Refusal, push_verified, verify_code};
 use filter_verifier::{AbstractFrame, Fact, InState, Range, survey_code};
 use line_protocol::{push_decimal, push_refusal, write_text};
@@ -230,17 +231,6 @@ fn list(
     }
 }
 
-/// The bytes of a source that its instructions come from.
-fn origins_in(alloc: Global, source: &[u8], is_code: bool) -> Result<Vec<usize>, AllocError>
-    ensures { IfOk result (λ places. AreOrigins is_code source.now places.items) }
-{
-    if is_code {
-        Ok(Vec::new(alloc))
-    } else {
-        places_in(alloc, source)
-    }
-}
-
 /// The listing of a source.
 fn list_source(
     alloc: Global,
@@ -250,9 +240,8 @@ fn list_source(
 ) -> Result<Listing, AllocError>
     ensures { IfOk result (λ listing. IsListed size is_code source.now listing.text.items listing.refusal) }
 {
-    match code_of(alloc, source, is_code) {
-        Ok(code) => {
-            let places = origins_in(alloc, source, is_code)?;
+    match mapped_code_of(alloc, source, is_code) {
+        Ok(MappedCode { code, places }) => {
             let origins = Origins {
                 source,
                 places: places.as_slice(),

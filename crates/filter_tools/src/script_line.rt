@@ -4,9 +4,8 @@ ghost use Rattle.std.specs.Option.{option_map};
 ghost use Rattle.filter_tools.specs.ScriptLines.{IsLineExplanation, byte_of_line, line_explanation};
 
 use crate::explanation::{push_excerpt, push_message, push_position};
+use crate::finding::find;
 use crate::place::place_in;
-use crate::reason::words_of;
-use crate::source_place::byte_of;
 use filter_source::Refusal;
 use line_protocol::push_decimal;
 use std::alloc::{AllocError, Global};
@@ -66,15 +65,14 @@ pub fn explain_line(
 ) -> Result<Vec<u8>, AllocError>
     ensures { IfOk result (λ out. IsLineExplanation is_code name.now number line.now source.now why out.items) }
 {
-    let words = words_of(alloc, source, size, is_code, why)?;
-    let byte = byte_of(alloc, source, is_code, why)?;
+    let found = find(alloc, source, size, is_code, why)?;
     explain_at(
         alloc,
         name,
         number,
         line,
-        words.as_bytes(),
+        found.words.as_bytes(),
         why,
-        byte_of_line(line, source, byte),
+        byte_of_line(line, source, found.byte),
     )
 }

@@ -1,29 +1,38 @@
 //! Where in a source a refusal stands.
-ghost use Rattle.std.specs.Prelude.{◌≡◌, IfOk, slice_get};
-ghost use Rattle.filter_tools.specs.SourcePlaces.{ArePlacesIn, IsInstructionAt, StandsAt, refused_instruction};
+ghost use Rattle.std.specs.Prelude.{◌≡◌, IfErr, IfOk, slice_get};
+ghost use Rattle.filter_commands.specs.Check.{GivesCode, IsRefused};
+ghost use Rattle.filter_source.specs.Failures.{OnRefusal};
+ghost use Rattle.filter_tools.specs.Listing.{AreOrigins};
+ghost use Rattle.filter_tools.specs.SourcePlaces.{place_of, refused_instruction};
 
-use crate::head_word::byte_of_fault;
-use filter_compiler::instruction_places;
-use filter_parser::{ParseFault, parse};
-use filter_source::Refusal;
+use filter_commands::code_of;
+use filter_compiler::MappedCode;
+use filter_source::{Failure, check_length, compile_text_mapped};
 use filter_verifier::VerifyFault;
-use std::alloc::{AllocError, Global};
+use std::alloc::Global;
 
-/// The places of the instructions of the filter that a text spells; none where it spells no filter.
-pub(crate) fn places_in(alloc: Global, text: &[u8]) -> Result<Vec<usize>, AllocError>
-    ensures { IfOk result (λ places. ArePlacesIn text.now places.items) }
+/// The code of a source, and the places in the text of its instructions. A code file has no such places.
+pub(crate) fn mapped_code_of(
+    alloc: Global,
+    source: &[u8],
+    is_code: bool,
+) -> Result<MappedCode, Failure>
+    ensures code { IfOk result (λ mapped. GivesCode is_code source.now mapped.code) }
+    ensures places { IfOk result (λ mapped. AreOrigins is_code source.now mapped.places.items) }
+    ensures refused { IfErr result (OnRefusal (IsRefused is_code source.now)) }
 {
-    match parse(alloc, text) {
-        Ok(filter) => instruction_places(alloc, &filter),
-        Err(fault) => match fault {
-            ParseFault::Memory => Err(AllocError),
-            _ => Ok(Vec::new(alloc)),
-        },
+    if is_code {
+        return Ok(MappedCode {
+            code: code_of(alloc, source, true)?,
+            places: Vec::new(alloc),
+        });
     }
+    check_length(source)?;
+    compile_text_mapped(alloc, source)
 }
 
 /// The instruction that the verifier refuses, if the fault is about one.
-fn refused_instruction(fault: VerifyFault) -> Option<usize>
+pub(crate) fn refused_instruction(fault: VerifyFault) -> Option<usize>
     ensures { result ≡ refused_instruction fault }
 {
     match fault {
@@ -39,41 +48,12 @@ pub(crate) fn place_at(places: &[usize], at: usize) -> Option<usize>
     places.get(at).copied()
 }
 
-/// The byte of a text that an instruction comes from.
-fn byte_of_instruction(
-    alloc: Global,
-    text: &[u8],
-    at: Option<usize>,
-) -> Result<Option<usize>, AllocError>
-    ensures { IfOk result (IsInstructionAt text.now at) }
+/// The same of an index that may be none.
+pub(crate) fn place_of(places: &[usize], at: Option<usize>) -> Option<usize>
+    ensures { result ≡ place_of places.now at }
 {
     match at {
-        Some(at) => {
-            let places = places_in(alloc, text)?;
-            Ok(place_at(&places, at))
-        }
-        None => Ok(None),
-    }
-}
-
-/// The byte of a source at which a refusal stands, if there is one.
-pub(crate) fn byte_of(
-    alloc: Global,
-    text: &[u8],
-    is_code: bool,
-    why: Refusal,
-) -> Result<Option<usize>, AllocError>
-    ensures { IfOk result (StandsAt is_code text.now why) }
-{
-    match why {
-        Refusal::Parse(fault) => byte_of_fault(alloc, text, fault),
-        Refusal::Typing(_) => Ok(Some(why.at())),
-        Refusal::Verify(fault) => {
-            if is_code {
-                return Ok(None);
-            }
-            byte_of_instruction(alloc, text, refused_instruction(fault))
-        }
-        _ => Ok(None),
+        Some(at) => place_at(places, at),
+        None => None,
     }
 }

@@ -2,7 +2,7 @@
 
 use crate::refusals::answered;
 use filter_code::{Code, Instr};
-use filter_compiler::{CompileFault, compile, instruction_places};
+use filter_compiler::{CompileFault, compile, compile_mapped};
 use filter_parser::{Filter, ParseFault, parse};
 use filter_types::{Typed, check};
 use prefix_patterns::{Ip, Pattern, Prefix};
@@ -152,15 +152,19 @@ fn a_filter_is_compiled_or_g3(rt: HostRuntime) -> Result<(), Fail> {
 }
 
 #[test]
-fn the_places_of_instructions_are_found_or_not(rt: HostRuntime) -> Result<(), Fail> {
-    let filter = parse(rt.alloc(), TEXT.as_bytes())?;
-    match instruction_places(rt.alloc(), &filter) {
-        Ok(places) => assert!(rt; places.as_slice() == PLACES.as_slice()),
-        Err(_) => {
-            let again = instruction_places(rt.alloc(), &filter)?;
-            assert!(rt; again.as_slice() == PLACES.as_slice());
-            return Err(answered("instruction_places", "AllocError"));
+fn a_filter_is_compiled_with_its_places_or_g3(rt: HostRuntime) -> Result<(), Fail> {
+    let typed = check(rt.alloc(), parse(rt.alloc(), TEXT.as_bytes())?)?;
+    match compile_mapped(rt.alloc(), &typed) {
+        Ok(mapped) => {
+            expect_code(&rt, &mapped.code)?;
+            assert_eq!(rt; mapped.places.as_slice(), PLACES.as_slice());
+            Ok(())
+        }
+        Err(fault) => {
+            assert_eq!(rt; fault, CompileFault::Memory);
+            let again = compile_mapped(rt.alloc(), &typed)?;
+            assert_eq!(rt; again.places.as_slice(), PLACES.as_slice());
+            Err(answered("compile_mapped", "G3"))
         }
     }
-    Ok(())
 }

@@ -8,10 +8,9 @@ use Rattle.filter_parser.specs.declared.tree.command.Command.TheVariants as comm
 use Rattle.filter_parser.proofs.Views.{view_if, view_if_else}
 use Rattle.filter_compiler.specs.InstructionPlaces.{command_places}
 use Rattle.filter_compiler.specs.Written.{Puts, command_part}
-use Rattle.filter_compiler.proofs.CommandPlaces.{block_at, if_at, if_else_at}
+use Rattle.filter_compiler.proofs.CommandPlaces.{assign_at, block_at, if_at, if_else_at}
 use Rattle.filter_compiler.proofs.Jumps.{over}
 use Rattle.filter_compiler.proofs.Notes.{as_noted, next_notes, patch_notes, then_notes}
-use Rattle.filter_compiler.proofs.PlacedParts.{assign_at}
 use Rattle.filter_compiler.proofs.Puts.{then, then_code}
 use Rattle.filter_compiler.proofs.Trees.{command_next}
 use Rattle.filter_compiler.proofs.Views.{view_assign}

@@ -7,10 +7,9 @@ use Rattle.filter_types.proofs.Views.{view_chain}
 use Rattle.filter_compiler.specs.InstructionPlaces.{expression_places}
 use Rattle.filter_compiler.specs.Translation.{expression_code, operator_code}
 use Rattle.filter_compiler.specs.Written.{Puts, expression_part, right_part}
-use Rattle.filter_compiler.proofs.InstructionPlaces.{chain_at, one_right}
+use Rattle.filter_compiler.proofs.InstructionPlaces.{chain_at, member_at, not_at, one_right, places_of_both, suffixed_at}
 use Rattle.filter_compiler.proofs.Jumps.{over}
 use Rattle.filter_compiler.proofs.Notes.{as_noted, next_notes, patch_notes, then_notes, times_notes}
-use Rattle.filter_compiler.proofs.PlacedParts.{member_at, not_at, places_of_both, suffixed_at}
 use Rattle.filter_compiler.proofs.Puts.{as_part, code_then, then, then_code, with_code}
 use Rattle.filter_compiler.proofs.Trees.{chain_next, suffix_next, takes_both}
 use Rattle.filter_compiler.proofs.Views.{view_member, view_not}
