@@ -6,8 +6,8 @@
 #   TESTS=PATH   the built tests of the one crate (crates/CRATE/out/CRATE_tests); without it `rt test` proves and builds them
 #
 # A test that meets a refused allocation ends with the error that it was handed (by `?`, or after it compared what a refused call left
-# behind; then it also says what the call answered). Anything else is a fault: a wrong answer (a failed assertion), a bad access, a
-# test that does not end within a minute. A test that passes all the same did without the memory, and tells nothing of the refusal.
+# behind; then it also says what the call answered). Anything else is a fault: a wrong answer (a failed assertion, or an expectation,
+# which is told without `error: `), a bad access, a test that does not end within a minute. A test that passes all the same did without the memory, and tells nothing of the refusal.
 set -eu
 top="$(cd "$(dirname "$0")/.." && pwd)"
 folder="$(mktemp -d)"
@@ -30,7 +30,7 @@ ending() {
         echo over
     elif [ "$status" = 0 ]; then
         echo without
-    elif [ "$status" = 101 ] && grep -q 'its result gives status 1$' "$folder/out"; then
+    elif [ "$status" = 101 ] && grep -q 'its result gives status 1$' "$folder/out" && grep -qE '^error: | answered ' "$folder/out"; then
         grep ' answered ' "$folder/out" >>"$folder/answers" || true
         echo refused
     else

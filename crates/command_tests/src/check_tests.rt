@@ -1,19 +1,18 @@
 //! Runs of `check`: worked rows of filters and of code files, limits, and faults in mid-stream.
 
+use expectations::{expect, expect_bytes};
 use filter_commands::{ProgramFault, check_text};
 use line_protocol::StreamFault;
 use std::alloc::Global;
 use std::io::ErrorKind;
-use std::process::Abort;
 use std::test::Fail;
-use worked_rows::{FILTERS, FailingReader, FailingWriter, UP_TWO};
+use worked_rows::{FILTERS, FailingReader, FailingWriter, UP_TWO, WorkedFilter};
 
 /// The number of bytes that an input may have.
 const LIMIT: usize = 1_048_576;
 
-/// Asserts what `check` answers to an input, of which it reads no more than one byte over the limit.
+/// Expects what `check` answers to an input, of which it reads no more than one byte over the limit.
 fn expect_lines(
-    rt: &impl Abort,
     alloc: Global,
     input: &[u8],
     size: u32,
@@ -23,34 +22,22 @@ fn expect_lines(
     let mut reader = input;
     let mut writer = Vec::new(alloc);
     let refused = check_text(alloc, &mut reader, &mut writer, size, is_code)?;
-    assert_eq!(rt; writer.as_slice(), want.as_bytes());
-    assert_eq!(rt; reader.len(), input.len().saturating_sub(LIMIT + 1));
-    assert_eq!(rt; refused, u32::from(want.contains("refused")));
-    Ok(())
+    expect_bytes(writer.as_slice(), want.as_bytes())?;
+    let is_left = reader.len() == input.len().saturating_sub(LIMIT + 1);
+    expect(is_left && (refused == 1) == want.contains("refused"), want)
+}
+
+/// Expects the code of a filter, and its verdict; and the same of the code that was printed.
+fn expect_code(alloc: Global, row: &WorkedFilter, size: u32, verdict: &str) -> Result<(), Fail> {
+    let want = format!(in alloc; "code {}\n{verdict}\n", row.file)?;
+    expect_lines(alloc, row.text.as_bytes(), size, false, want.as_str())?;
+    expect_lines(alloc, row.file.as_bytes(), size, true, want.as_str())
 }
 
 #[test]
 fn filters_are_compiled_and_verified(rt: HostRuntime) -> Result<(), Fail> {
-    let alloc = rt.alloc();
-    for row in FILTERS {
-        let want = format!(in alloc; "code {}\n{}\n", row.file, row.verdict)?;
-        expect_lines(
-            &rt,
-            alloc,
-            row.text.as_bytes(),
-            row.size,
-            false,
-            want.as_str(),
-        )?;
-        // The code that was printed is checked alike.
-        expect_lines(
-            &rt,
-            alloc,
-            row.file.as_bytes(),
-            row.size,
-            true,
-            want.as_str(),
-        )?;
+    for row in &FILTERS {
+        expect_code(rt.alloc(), row, row.size, row.verdict)?;
     }
     Ok(())
 }
@@ -59,13 +46,11 @@ fn filters_are_compiled_and_verified(rt: HostRuntime) -> Result<(), Fail> {
 fn domains_have_2_to_250_nodes(rt: HostRuntime) -> Result<(), Fail> {
     let want = "code 4e434631000000027071\nrefused V8 0\n";
     for size in [0, 1, 251, 65_536, u32::MAX] {
-        expect_lines(&rt, rt.alloc(), b"filter q { accept; }", size, false, want)?;
-        expect_lines(&rt, rt.alloc(), b"4e434631000000027071", size, true, want)?;
+        expect_lines(rt.alloc(), b"filter q { accept; }", size, false, want)?;
+        expect_lines(rt.alloc(), b"4e434631000000027071", size, true, want)?;
     }
     for (size, verdict) in [(250, "verified 7 2"), (251, "refused V8 0")] {
-        let want = format!(in rt.alloc(); "code {}\n{verdict}\n", UP_TWO.file)?;
-        let text = UP_TWO.text.as_bytes();
-        expect_lines(&rt, rt.alloc(), text, size, false, want.as_str())?;
+        expect_code(rt.alloc(), &UP_TWO, size, verdict)?;
     }
     Ok(())
 }
@@ -109,7 +94,7 @@ const REFUSED_TEXTS: [(&str, &str); 17] = [
 #[test]
 fn texts_are_refused(rt: HostRuntime) -> Result<(), Fail> {
     for (text, want) in REFUSED_TEXTS {
-        expect_lines(&rt, rt.alloc(), text.as_bytes(), 8, false, want)?;
+        expect_lines(rt.alloc(), text.as_bytes(), 8, false, want)?;
     }
     Ok(())
 }
@@ -216,7 +201,7 @@ const CODE_FILES: [(&[u8], u32, &str); 27] = [
 #[test]
 fn code_files_are_verified(rt: HostRuntime) -> Result<(), Fail> {
     for (text, size, want) in CODE_FILES {
-        expect_lines(&rt, rt.alloc(), text, size, true, want)?;
+        expect_lines(rt.alloc(), text, size, true, want)?;
     }
     Ok(())
 }
@@ -231,74 +216,80 @@ fn repeated(alloc: Global, part: &[u8], count: usize) -> Result<Vec<u8>, Fail> {
     Ok(text)
 }
 
-/// The last line that `check` writes for a filter's text, at size 8.
-fn last_line(rt: &impl Abort, alloc: Global, text: &[u8]) -> Result<Vec<u8>, Fail> {
+/// Expects the last line that `check` writes for a filter's text, at size 8.
+fn expect_last_line(alloc: Global, text: &[u8], want: &str) -> Result<(), Fail> {
     let mut reader = text;
     let mut writer = Vec::new(alloc);
     check_text(alloc, &mut reader, &mut writer, 8, false)?;
     let lines = writer.as_slice();
-    assert!(rt; lines.ends_with(b"\n"));
-    let mut last = Vec::new(alloc);
-    for line in lines.split(|byte| *byte == b'\n') {
-        if !line.is_empty() {
-            last.clear();
-            last.extend_from_slice(line)?;
-        }
-    }
-    Ok(last)
+    let lines = lines.strip_suffix(b"\n").unwrap_or(lines);
+    let before = lines.iter().rposition(|byte| *byte == b'\n');
+    let from = before.map_or(0, |at| at.saturating_add(1));
+    expect_bytes(lines.get(from..).unwrap_or(lines), want.as_bytes())?;
+    expect(writer.as_slice().ends_with(b"\n"), "the last line ends")
 }
+
+/// A part of a filter, how often it stands there, and the last line.
+const REPEATED: [(&str, usize, &str); 4] = [
+    ("accept;", 1023, "verified 1 0"),
+    ("accept;", 1024, "refused G1 0"),
+    ("if net ~ [1.0.0.0/8] then ;", 64, "verified 193 1"),
+    ("if net ~ [1.0.0.0/8] then ;", 65, "refused G2 0"),
+];
 
 #[test]
 fn code_has_limits(rt: HostRuntime) -> Result<(), Fail> {
-    let rows: [(&[u8], usize, &[u8]); 4] = [
-        (b"accept;", 1023, b"verified 1 0"),
-        (b"accept;", 1024, b"refused G1 0"),
-        (b"if net ~ [1.0.0.0/8] then ;", 64, b"verified 193 1"),
-        (b"if net ~ [1.0.0.0/8] then ;", 65, b"refused G2 0"),
-    ];
-    for (part, count, want) in rows {
-        let text = repeated(rt.alloc(), part, count)?;
-        let last = last_line(&rt, rt.alloc(), text.as_slice())?;
-        assert_eq!(&rt; last.as_slice(), want);
+    for (part, count, want) in REPEATED {
+        let text = repeated(rt.alloc(), part.as_bytes(), count)?;
+        expect_last_line(rt.alloc(), text.as_slice(), want)?;
     }
     Ok(())
+}
+
+/// Puts a part at the end of a text, so many times.
+fn push_often(text: &mut Vec<u8>, part: &[u8], count: usize) -> Result<(), Fail> {
+    for _ in 0..count {
+        text.extend_from_slice(part)?;
+    }
+    Ok(())
+}
+
+/// A filter that sets the metric to a sum in so many pairs of parentheses.
+fn nested(alloc: Global, pairs: usize) -> Result<Vec<u8>, Fail> {
+    let mut text = Vec::from_slice(alloc, b"filter q { rip_metric = ")?;
+    push_often(&mut text, b"1 + (", pairs)?;
+    text.extend_from_slice(b"1 + 1")?;
+    push_often(&mut text, b")", pairs)?;
+    text.extend_from_slice(b"; accept; }")?;
+    Ok(text)
 }
 
 #[test]
 fn parentheses_use_the_stack(rt: HostRuntime) -> Result<(), Fail> {
-    let alloc = rt.alloc();
-    let rows: [(usize, &[u8]); 2] = [(30, b"verified 67 32"), (31, b"refused V5 32")];
-    for (pairs, want) in rows {
-        let mut text = Vec::from_slice(alloc, b"filter q { rip_metric = ")?;
-        for _ in 0..pairs {
-            text.extend_from_slice(b"1 + (")?;
-        }
-        text.extend_from_slice(b"1 + 1")?;
-        for _ in 0..pairs {
-            text.push(b')')?;
-        }
-        text.extend_from_slice(b"; accept; }")?;
-        let last = last_line(&rt, alloc, text.as_slice())?;
-        assert_eq!(&rt; last.as_slice(), want);
+    for (pairs, want) in [(30, "verified 67 32"), (31, "refused V5 32")] {
+        let text = nested(rt.alloc(), pairs)?;
+        expect_last_line(rt.alloc(), text.as_slice(), want)?;
     }
     Ok(())
 }
 
+/// The bytes of an input, whether it is code, and the lines.
+const LONG_INPUTS: [(usize, bool, &str); 7] = [
+    (65_536, false, "code 4e434631000000027071\nverified 1 0\n"),
+    (65_537, false, "refused P7 65536\n"),
+    (1_048_576, false, "refused P7 65536\n"),
+    (1_048_577, false, "refused O7 1\n"),
+    (1_048_600, false, "refused O7 1\n"),
+    (1_048_576, true, "refused O3 1\n"),
+    (1_048_577, true, "refused O7 1\n"),
+];
+
 #[test]
 fn inputs_have_limits(rt: HostRuntime) -> Result<(), Fail> {
-    let rows = [
-        (65_536, false, "code 4e434631000000027071\nverified 1 0\n"),
-        (65_537, false, "refused P7 65536\n"),
-        (1_048_576, false, "refused P7 65536\n"),
-        (1_048_577, false, "refused O7 1\n"),
-        (1_048_600, false, "refused O7 1\n"),
-        (1_048_576, true, "refused O3 1\n"),
-        (1_048_577, true, "refused O7 1\n"),
-    ];
-    for (len, is_code, want) in rows {
+    for (len, is_code, want) in LONG_INPUTS {
         let mut text = Vec::from_slice(rt.alloc(), b"filter q { accept; }")?;
         text.resize(len, b' ')?;
-        expect_lines(&rt, rt.alloc(), text.as_slice(), 8, is_code, want)?;
+        expect_lines(rt.alloc(), text.as_slice(), 8, is_code, want)?;
     }
     Ok(())
 }
@@ -306,40 +297,41 @@ fn inputs_have_limits(rt: HostRuntime) -> Result<(), Fail> {
 /// A long run of one operator, and a long chain of suffixes, take no more stack than short ones.
 #[test]
 fn long_runs_are_answered(rt: HostRuntime) -> Result<(), Fail> {
-    let alloc = rt.alloc();
-    for (part, want) in [
-        (b"1+".as_slice(), b"refused G1 0".as_slice()),
-        (b"-1".as_slice(), b"refused P2 24".as_slice()),
-    ] {
-        let mut text = Vec::from_slice(alloc, b"filter q { rip_metric = ")?;
-        for _ in 0..32_000u32 {
-            text.extend_from_slice(part)?;
-        }
+    for (part, want) in [("1+", "refused G1 0"), ("-1", "refused P2 24")] {
+        let mut text = Vec::from_slice(rt.alloc(), b"filter q { rip_metric = ")?;
+        push_often(&mut text, part.as_bytes(), 32_000)?;
         text.extend_from_slice(b"1; }")?;
-        let last = last_line(&rt, alloc, text.as_slice())?;
-        assert_eq!(&rt; last.as_slice(), want);
+        expect_last_line(rt.alloc(), text.as_slice(), want)?;
     }
     Ok(())
 }
 
+/// What `check` answers where its input fails after a filter, and how many bytes it has written.
+fn failed_read(alloc: Global, kind: ErrorKind) -> (Result<u32, ProgramFault>, usize) {
+    let mut reader = FailingReader::new(b"filter q { accept; }", kind);
+    let mut written = Vec::new(alloc);
+    let result = check_text(alloc, &mut reader, &mut written, 8, false);
+    (result, written.len())
+}
+
+/// Whether `check` fails as its output does, once that has taken so many bytes, which are the first of its lines.
+fn is_cut_short(alloc: Global, room: usize) -> bool {
+    let mut reader: &[u8] = b"filter q { accept; }";
+    let mut writer = FailingWriter::new(alloc, room);
+    let result = check_text(alloc, &mut reader, &mut writer, 8, false);
+    let lines = b"code 4e434631000000027071\nverified 1 0\n";
+    result == Err(ProgramFault::WRITE) && lines.get(..room) == Some(writer.text())
+}
+
 #[test]
 fn faults_of_streams_are_told(rt: HostRuntime) -> Result<(), Fail> {
-    let alloc = rt.alloc();
+    let told = (Err(ProgramFault::Stream(StreamFault::Read)), 0);
     for kind in [ErrorKind::BrokenPipe, ErrorKind::WouldBlock] {
-        let mut failing = FailingReader::new(b"filter q { accept; }", kind);
-        let mut written = Vec::new(alloc);
-        let result = check_text(alloc, &mut failing, &mut written, 8, false);
-        assert_eq!(&rt; result, Err(ProgramFault::Stream(StreamFault::Read)));
-        assert_eq!(&rt; written.len(), 0);
+        expect(failed_read(rt.alloc(), kind) == told, "an input that fails")?;
     }
     // The last one takes all 39 bytes, and fails when it is flushed.
     for room in [0, 5, 30, 39] {
-        let mut reader: &[u8] = b"filter q { accept; }";
-        let mut writer = FailingWriter::new(alloc, room);
-        let result = check_text(alloc, &mut reader, &mut writer, 8, false);
-        assert_eq!(&rt; result, Err(ProgramFault::WRITE));
-        assert_eq!(&rt; writer.text().len(), room);
-        assert!(&rt; b"code 4e434631000000027071\nverified 1 0\n".starts_with(writer.text()));
+        expect(is_cut_short(rt.alloc(), room), "an output that fails")?;
     }
     Ok(())
 }
