@@ -4,4 +4,5 @@ mod Gathering
 mod Halves
 mod Reading
 mod Told
+mod Turning
 mod Writing

@@ -51,9 +51,30 @@ begins_reading r session p t of = record {
   sound = record { of = of; own = λ x. x; legal = λ x. x };
 }
 
+-- the link told something else than messages
+told_else : (session : ℕ) (old : Part) (t u v : Told) (calls : List Entry) (p : Part) →
+    v.handed ≡ u.handed → v.given ≡ u.given → v.closed ≡ u.closed → Reads session old t calls [] p u → Reads session old t calls [] p v
+told_else session old t u v calls p handed given is_closed i = record {
+  gained = i.gained;
+  messages = i.messages;
+  received = i.received;
+  handed = handed ∙ i.handed;
+  given = given ∙ i.given;
+  is_closed = is_closed ∙ i.is_closed;
+}
+
 pub reads_nothing : (r : RouterView) (session : ℕ) (old : PassView) (t : Told) (n : ℕ) (p : PassView) (u v : Told) →
     IsReading r session old t n p u → Received u (Ok got.Nothing) v → IsReading r session old t n p v
-reads_nothing r session old t n p u v i g = subst (λ (w : Told). IsReading r session old t n p w) (sym g.1) i
+reads_nothing r session old t n p u v i g = record {
+  calls = i.calls;
+  reads = told_else session old.part t u v i.calls p.part
+      (ap (λ (w : Told). w.handed) g.1) (ap (λ (w : Told). w.given) g.1) (ap (λ (w : Told). w.closed) g.1) i.reads;
+  entered = i.entered;
+  fresh = i.fresh;
+  ended = ap (λ (w : Told). w.ended) g.1 ∙ i.ended;
+  failures = ap (λ (w : Told). w.failures) g.1 ∙ i.failures;
+  sound = i.sound;
+}
 
 -- the link handed out a message
 handed_on : (t u v : Told) (ms : List Message) (m : Message) → u.handed ≡ grown t.handed (ms ++ []) →
@@ -106,18 +127,6 @@ ends_by_turns r session old t n p u i = record {
   loses = record { is_told = refl; none = refl };
   in_history = i.fresh;
   at_link = (i.ended, i.failures);
-}
-
--- the link told something else than messages
-told_else : (session : ℕ) (old : Part) (t u v : Told) (calls : List Entry) (p : Part) →
-    v.handed ≡ u.handed → v.given ≡ u.given → v.closed ≡ u.closed → Reads session old t calls [] p u → Reads session old t calls [] p v
-told_else session old t u v calls p handed given is_closed i = record {
-  gained = i.gained;
-  messages = i.messages;
-  received = i.received;
-  handed = handed ∙ i.handed;
-  given = given ∙ i.given;
-  is_closed = is_closed ∙ i.is_closed;
 }
 
 pub ends_with_link : (r : RouterView) (session : ℕ) (old : PassView) (t : Told) (n : ℕ) (p : PassView) (u v : Told) →

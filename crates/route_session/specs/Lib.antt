@@ -6,4 +6,5 @@ pub mod Links
 pub mod Reads
 pub mod Telling
 pub mod Told
+pub mod Turns
 pub mod Writes

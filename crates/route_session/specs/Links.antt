@@ -4,7 +4,7 @@ use Rattle.netchange_core.specs.declared.message.Message.{Message}
 use Rattle.route_session.specs.declared.link.Got.{Got}
 use Rattle.route_session.specs.declared.link.Got.TheVariants as got
 use Rattle.route_session.specs.declared.link.LinkFault.{LinkFault}
-use Rattle.route_session.specs.Told.{Rose, Told, ended_now, grown}
+use Rattle.route_session.specs.Told.{Rose, Told, counted, ended_now, grown}
 
 -- only the count of failures changed, and it rose
 pub record Failed (t u : Told) : Type 0 where
@@ -14,7 +14,7 @@ pub record Failed (t u : Told) : Type 0 where
 -- a link with t was asked for a message, and tells u afterwards; one that is closed answers that it has ended
 abbrev pub Received : Told → Result Got LinkFault → Told → Type 0
 Received t (Ok (got.Message m)) u = (t.closed ≡ false) × (u ≡ record t { handed = grown t.handed (m ∷ []) })
-Received t (Ok got.Nothing) u = (t.closed ≡ false) × (u ≡ t)
+Received t (Ok got.Nothing) u = (t.closed ≡ false) × (u ≡ record t { nothings = counted t.nothings 1 })
 Received t (Ok got.Ended) u = u ≡ record t { ended = ended_now t.ended }
 Received t (Err fault) u = (t.closed ≡ false) × Failed t u
 

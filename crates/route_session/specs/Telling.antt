@@ -10,11 +10,12 @@ use Rattle.route_session.specs.Told.{Told}
 abbrev pub known : ℕ → Option ℕ
 known n = if nat_lt n (2 ^ 64 - 1) then Some n else None
 
--- a link in memory tells everything
+-- a link in memory tells everything; it never answers that no message is there
 abbrev pub memory_told : MemoryLink → Told
 memory_told l = record {
   handed = Some (take l.next l.waiting.items);
   given = Some l.given.items;
+  nothings = Some 0;
   ended = Some l.has_ended;
   failures = known l.failures;
   closed = l.is_closed;
@@ -22,7 +23,7 @@ memory_told l = record {
 
 -- a link over a channel tells only whether it is closed
 abbrev pub untold : Bool → Told
-untold is_closed = record { handed = None; given = None; ended = None; failures = None; closed = is_closed }
+untold is_closed = record { handed = None; given = None; nothings = None; ended = None; failures = None; closed = is_closed }
 
 abbrev pub is_closed : End → Bool
 is_closed end.Closed = true

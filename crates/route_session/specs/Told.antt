@@ -1,12 +1,13 @@
 -- What a link tells of itself. (This project's own choice.)
-use Rattle.std.specs.Prelude.{◌≡◌, ℕ, ◌<◌, Bool, true, Option, Some, None, List, ◌++◌}
+use Rattle.std.specs.Prelude.{◌≡◌, ℕ, ◌+◌, ◌<◌, Bool, true, Option, Some, None, List, ◌++◌}
 use Rattle.netchange_core.specs.declared.message.Message.{Message}
 
--- The messages that it handed out and that it was given, in order; whether it answered that it has ended; how often it failed;
--- and whether it is closed. None where the link does not tell.
+-- The messages that it handed out and that it was given, in order; how often it answered that no message was there; whether it
+-- answered that it has ended; how often it failed; and whether it is closed. None where the link does not tell.
 pub record Told : Type 0 where
   pub handed : Option (List Message)
   pub given : Option (List Message)
+  pub nothings : Option ℕ
   pub ended : Option Bool
   pub failures : Option ℕ
   pub closed : Bool
@@ -15,6 +16,11 @@ pub record Told : Type 0 where
 abbrev pub grown : Option (List Message) → List Message → Option (List Message)
 grown None more = None
 grown (Some messages) more = Some (messages ++ more)
+
+-- a count with so many more; what is untold stays untold
+abbrev pub counted : Option ℕ → ℕ → Option ℕ
+counted None more = None
+counted (Some n) more = Some (n + more)
 
 -- that it has ended, if that is told
 abbrev pub ended_now : Option Bool → Option Bool

@@ -4,8 +4,16 @@ use std::rt::Clock;
 use std::sync::Wait;
 
 /// Says when a session may take a turn.
+///
+/// A contract sees what a gate says of its answers: which of them it may give to a job at a turn. A gate that says nothing may give
+/// any.
 pub trait Gate {
+    ghost use Rattle.std.specs.Prelude.{ℕ, Bool, ⊤};
+
+    ghost may_answer: { Self → ℕ → ℕ → Bool → Type 0 } = { λ _ _ _ _. ⊤ };
+
     /// Whether a job may take this turn, both counted from 0. It is asked before each turn, and may wait before it answers. False
     /// uses up the turn.
-    fn may_go<R: Wait + Clock>(&self, rt: &R, job: u32, turn: u32) -> bool;
+    fn may_go<R: Wait + Clock>(&self, rt: &R, job: u32, turn: u32) -> bool
+        ensures { may_answer self.now job turn result };
 }

@@ -28,7 +28,7 @@ impl MemoryLink {
 
     /// A link that hands out these messages, and fails at the call of this number, counted from 1 over both directions.
     pub fn new(alloc: Global, waiting: Vec<Message>, fails_at: Option<u64>) -> MemoryLink
-        ensures { memory_told result ≡ record { handed = Some []; given = Some []; ended = Some false; failures = Some 0; closed = false } }
+        ensures { memory_told result ≡ record { handed = Some []; given = Some []; nothings = Some 0; ended = Some false; failures = Some 0; closed = false } }
     {
         MemoryLink {
             waiting,

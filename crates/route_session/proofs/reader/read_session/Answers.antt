@@ -4,7 +4,8 @@ use Rattle.route_session.specs.declared.link.Got.TheVariants as got
 use Rattle.route_session.specs.Calls.{receive, stale}
 use Rattle.route_session.specs.Links.{Received}
 use Rattle.route_session.proofs.Gaining.{called}
-use Rattle.route_session.proofs.Reading.{begins_reading, ends_refused, ends_stale, reads_on}
+use Rattle.route_session.proofs.Reading.{begins_reading, ends_refused, ends_stale, reads_on, reads_nothing}
+use Rattle.route_session.proofs.Turning.{no_turn_read, read_held_back, read_message, read_nothing}
 use Rattle.slot_lock.specs.Calls.{Answered, Refused}
 use Rattle.route_session.proofs.reader.read_session.Goals as goal
 
@@ -12,6 +13,7 @@ pub loop-turn-init : goal.loop-turn-init
 loop-turn-init g c = record {
   pass = c.requires;
   reading = begins_reading c.args.router.now c.args.session c.args.pass.now (g.L.Link.told c.args.link.now) c.requires;
+  turned = no_turn_read (g.G.Gate.may_answer c.args.gate.now c.args.job) (g.L.Link.told c.args.link.now);
   room = omega arith;
 }
 
@@ -31,6 +33,31 @@ loop-turn-preserved g c =
           c.loop-turn.invariant.reading handed answered
           (called c.args.router.now c.loop-turn.pass c.call.new.pass c.call.ensures.pass c.call.ensures.own c.call.ensures.missed)
           fresh;
+      turned = read_message (g.G.Gate.may_answer c.args.gate.now c.args.job) c.loop-turn.turn c.loop-turn.entered
+          (g.L.Link.told c.args.link.now) (g.L.Link.told c.loop-turn.link) (g.L.Link.told c.recv.new.self) c.in-Ok-Message.message
+          c.loop-turn.invariant.turned (search rules) handed;
+      room = omega arith;
+    }
+
+pub loop-turn-preserved-then-not-may_go : goal.loop-turn-preserved-then-not-may_go
+loop-turn-preserved-then-not-may_go g c = record {
+  pass = c.loop-turn.invariant.pass;
+  reading = c.loop-turn.invariant.reading;
+  turned = read_held_back (g.G.Gate.may_answer c.args.gate.now c.args.job) c.loop-turn.turn c.loop-turn.entered
+      (g.L.Link.told c.args.link.now) (g.L.Link.told c.loop-turn.link) c.loop-turn.invariant.turned c.if-not-may_go.ensures;
+  room = omega arith;
+}
+
+pub loop-turn-preserved-in-Ok-Nothing : goal.loop-turn-preserved-in-Ok-Nothing
+loop-turn-preserved-in-Ok-Nothing g c =
+    let none : Received (g.L.Link.told c.loop-turn.link) (Ok got.Nothing) (g.L.Link.told c.recv.new.self) = search rules in
+    record {
+      pass = c.loop-turn.invariant.pass;
+      reading = reads_nothing c.args.router.now c.args.session c.args.pass.now (g.L.Link.told c.args.link.now) c.loop-turn.entered
+          c.loop-turn.pass (g.L.Link.told c.loop-turn.link) (g.L.Link.told c.recv.new.self) c.loop-turn.invariant.reading none;
+      turned = read_nothing (g.G.Gate.may_answer c.args.gate.now c.args.job) c.loop-turn.turn c.loop-turn.entered
+          (g.L.Link.told c.args.link.now) (g.L.Link.told c.loop-turn.link) (g.L.Link.told c.recv.new.self)
+          c.loop-turn.invariant.turned (search rules) none;
       room = omega arith;
     }
 

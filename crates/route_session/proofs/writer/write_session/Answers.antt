@@ -6,6 +6,7 @@ use Rattle.route_session.specs.Calls.{stale, take}
 use Rattle.route_session.specs.Writes.{Hands}
 use Rattle.route_session.proofs.Gaining.{called}
 use Rattle.route_session.proofs.Writing.{at_most_16, begins_writing, ends_by_failure, ends_full, ends_stale, none_left, writes_on}
+use Rattle.route_session.proofs.Turning.{no_turn_taken, take_held_back, take_made}
 use Rattle.slot_lock.specs.Calls.{Answered, Refused}
 use Rattle.route_session.proofs.writer.write_session.Goals as goal
 
@@ -13,6 +14,7 @@ pub loop-turn-init : goal.loop-turn-init
 loop-turn-init g c = record {
   pass = c.requires;
   writing = begins_writing c.args.router.now c.args.session c.args.pass.now (g.L.Link.told c.args.link.now) c.requires;
+  turned = no_turn_taken (g.G.Gate.may_answer c.args.gate.now c.args.job) c.args.pass.now.part;
   room = omega arith;
 }
 
@@ -80,5 +82,16 @@ loop-turn-preserved g c =
           c.send_each-unsent.result.items c.loop-turn.invariant.writing answered
           (called c.args.router.now c.loop-turn.pass c.call.new.pass c.call.ensures.pass c.call.ensures.own c.call.ensures.missed) fresh
           handed none);
+      turned = take_made (g.G.Gate.may_answer c.args.gate.now c.args.job) c.loop-turn.turn c.args.pass.now.part c.args.router.now
+          c.loop-turn.pass c.call.new.pass (take c.args.session) c.in-Ok.answer c.loop-turn.invariant.turned (search rules) answered;
       room = omega arith;
     }
+
+pub loop-turn-preserved-then-not-may_go : goal.loop-turn-preserved-then-not-may_go
+loop-turn-preserved-then-not-may_go g c = record {
+  pass = c.loop-turn.invariant.pass;
+  writing = c.loop-turn.invariant.writing;
+  turned = take_held_back (g.G.Gate.may_answer c.args.gate.now c.args.job) c.loop-turn.turn c.args.pass.now.part
+      c.loop-turn.pass.part c.loop-turn.invariant.turned c.if-not-may_go.ensures;
+  room = omega arith;
+}
