@@ -1,14 +1,14 @@
 //! A router to call, and what its journal must be at the end.
 
-ghost use Rattle.std.specs.Prelude.{◌≤◌, IfOk};
-ghost use Rattle.slot_lock.specs.Held.{IsFirst};
+ghost use Rattle.std.specs.Prelude.{◌≡◌, ◌≤◌, IfOk};
+ghost use Rattle.slot_lock.specs.Held.{IsFirst, IsPassOf};
 
-use netchange_core::Opening;
+use expectations::{expect, expect_number, expect_text};
+use netchange_core::{Event, Opening, Tables};
 use prefix_patterns::{Ip, Prefix};
-use route_history::{Journal, LARGEST_LIMIT, replay};
+use route_history::{Entry, Journal, LARGEST_LIMIT, replay};
 use slot_lock::{Answer, Pass, Router};
 use std::alloc::Global;
-use std::process::Abort;
 use std::test::Fail;
 
 /// Node 0 of a domain of 4 nodes, whose prefixes are 10.0.0.0/16 to 10.3.0.0/16.
@@ -32,48 +32,62 @@ pub fn open(alloc: Global, limit: u32) -> Result<(Router, Pass), Fail>
     }
 }
 
-/// Asserts that the entries of a journal read so, and that they replay.
-pub fn expect_entries(
-    rt: &impl Abort,
-    alloc: Global,
-    journal: &Journal,
-    lines: &[&str],
-) -> Result<(), Fail> {
-    assert_eq!(rt; journal.entries().len(), lines.len());
-    for (entry, line) in journal.entries().iter().zip(lines) {
-        let shown = format!(in alloc; "{entry}")?;
-        assert_eq!(rt; shown.as_str(), *line);
+/// Enters an event, by `try_call`.
+pub fn enter_once(router: &Router, pass: &mut Pass, event: Event) -> Result<Answer, Fail>
+    requires { IsPassOf router.now pass.old }
+    ensures { IsPassOf router.now pass.new × (pass.new.part.shares ≡ pass.old.part.shares) }
+{
+    match router.try_call(pass, event) {
+        Ok(answer) => Ok(answer),
+        Err(fault) => Err(Fail::from(fault)),
     }
-    expect_replay(rt, alloc, journal)
 }
 
-/// Asserts that each answer stands at its position, that no two have the same one, and that the journal has no other entry
+/// Expects that the entries of a journal read so, and that they replay.
+pub fn expect_entries(alloc: Global, journal: &Journal, lines: &[&str]) -> Result<(), Fail> {
+    expect_number(journal.entries().len() as u64, lines.len() as u64)?;
+    for (entry, line) in journal.entries().iter().zip(lines) {
+        expect_text(alloc, entry, line)?;
+    }
+    expect_replay(alloc, journal)
+}
+
+/// Expects that each answer stands at its position, that no two have the same one, and that the journal has no other entry
 /// and replays.
-pub fn expect_answers(
-    rt: &impl Abort,
-    alloc: Global,
-    journal: &Journal,
-    answers: &[Answer],
-) -> Result<(), Fail> {
+pub fn expect_answers(alloc: Global, journal: &Journal, answers: &[Answer]) -> Result<(), Fail> {
     let entries = journal.entries();
-    assert_eq!(rt; answers.len(), entries.len());
+    expect_number(answers.len() as u64, entries.len() as u64)?;
     let mut found = Vec::from_elem(alloc, false, entries.len())?;
     for answer in answers {
-        let at = answer.at as usize;
-        let entry = entries.get(at).ok_or("an entry")?;
-        assert!(rt; entry.reply.is_same(&answer.reply), "at {at}");
-        let was_found = found.get_mut(at).ok_or("an entry")?;
-        assert!(rt; !*was_found, "{at} is answered twice");
-        *was_found = true;
+        let is_first = is_first_at(entries, answer, found.as_mut_slice());
+        expect(is_first, "each answer stands at its own position")?;
     }
-    expect_replay(rt, alloc, journal)
+    expect_replay(alloc, journal)
 }
 
-/// Asserts that a journal replays.
-fn expect_replay(rt: &impl Abort, alloc: Global, journal: &Journal) -> Result<(), Fail> {
+/// Whether an answer is that of the entry at its position, and the first found there. Notes that it was found.
+fn is_first_at(entries: &[Entry], answer: &Answer, found: &mut [bool]) -> bool {
+    let at = answer.at as usize;
+    let (Some(entry), Some(was_found)) = (entries.get(at), found.get_mut(at)) else {
+        return false;
+    };
+    let is_first = !*was_found;
+    *was_found = true;
+    is_first && entry.reply.is_same(&answer.reply)
+}
+
+/// Expects that a journal replays.
+fn expect_replay(alloc: Global, journal: &Journal) -> Result<(), Fail> {
     let tables = replay(alloc, journal.opening(), journal.entries())?;
+    expect(has_sessions_of(&tables, journal), "a journal replays")
+}
+
+/// Whether tables have the sessions of a journal.
+fn has_sessions_of(tables: &Tables, journal: &Journal) -> bool {
     for node in 0..4 {
-        assert_eq!(rt; tables.session(node), journal.session(node));
+        if tables.session(node) != journal.session(node) {
+            return false;
+        }
     }
-    Ok(())
+    true
 }

@@ -1,70 +1,56 @@
 //! Callers in threads of their own.
 
-ghost use Rattle.std.specs.Prelude.{IfSome};
+ghost use Rattle.std.specs.Prelude.{◌≡◌, IfOk, IfSome};
 ghost use Rattle.slot_lock.specs.Held.{IsPassOf};
 
-use crate::callers::{Ended, look, tell};
-use crate::fixtures::{expect_answers, open};
+use crate::callers::{Caller, Ended, Work, serve_both};
+use crate::fixtures::{enter_once, expect_answers, open};
+use expectations::{expect, expect_number};
 use netchange_core::Event;
-use route_history::Entry;
-use slot_lock::{Pass, Router};
+use route_history::{Entry, Journal};
+use slot_lock::{Answer, Pass, Router};
 use std::alloc::Global;
-use std::process::Abort;
 use std::sync::Wait;
 use std::test::Fail;
 use std::thread;
 use std::thread::Threads;
 
-/// Two callers that look, each so many times, each in a thread of its own.
-fn look_both<R: Threads + Wait + Sync>(
-    rt: &R,
-    alloc: Global,
-    router: &Router,
-    first: Pass,
-    second: Pass,
-    calls: u32,
-) -> Option<(Ended, Ended)>
-    requires { IsPassOf router.now first × IsPassOf router.now second }
-    ensures { IfSome result (λ r. IsPassOf router.now r.0.pass × IsPassOf router.now r.1.pass) }
-{
-    let (a, b) = thread::join(
-        rt,
-        move || -> Option<Ended>
-            requires { IsPassOf router.now first }
-            ensures { IfSome result (λ e. IsPassOf router.entry.now e.pass) }
-        { look(rt, alloc, router, first, calls) },
-        move || -> Option<Ended>
-            requires { IsPassOf router.now second }
-            ensures { IfSome result (λ e. IsPassOf router.entry.now e.pass) }
-        { look(rt, alloc, router, second, calls) },
-    );
-    Some((a?, b?))
+/// The answers of two callers.
+fn both_answers(mut first: Vec<Answer>, mut second: Vec<Answer>) -> Result<Vec<Answer>, Fail> {
+    first.append(&mut second)?;
+    Ok(first)
 }
 
-/// The same with callers that tell distances, under session 1 and under session 2.
-fn tell_both<R: Threads + Wait + Sync>(
-    rt: &R,
-    alloc: Global,
-    router: &Router,
-    first: Pass,
-    second: Pass,
-    calls: u16,
-) -> Option<(Ended, Ended)>
+/// Whether all events of a history are looks.
+fn are_looks(entries: &[Entry]) -> bool {
+    for entry in entries {
+        let Event::Show(0) = entry.event else {
+            return false;
+        };
+    }
+    true
+}
+
+/// Expects that a history has just 1,000 looks, and these are their answers.
+fn expect_looks(alloc: Global, journal: &Journal, answers: &[Answer]) -> Result<(), Fail> {
+    expect_number(journal.entries().len() as u64, 1_000)?;
+    expect(are_looks(journal.entries()), "each event is a look")?;
+    expect_answers(alloc, journal, answers)
+}
+
+/// The pass of two that have met and are joined. The first had 45,536 shares, the second 20,000.
+fn meet_and_join(router: &Router, mut first: Pass, second: Pass) -> Result<Pass, Fail>
     requires { IsPassOf router.now first × IsPassOf router.now second }
-    ensures { IfSome result (λ r. IsPassOf router.now r.0.pass × IsPassOf router.now r.1.pass) }
+    ensures { IfOk result (λ p. IsPassOf router.now p) }
 {
-    let (a, b) = thread::join(
-        rt,
-        move || -> Option<Ended>
-            requires { IsPassOf router.now first }
-            ensures { IfSome result (λ e. IsPassOf router.entry.now e.pass) }
-        { tell(rt, alloc, router, first, 1, calls) },
-        move || -> Option<Ended>
-            requires { IsPassOf router.now second }
-            ensures { IfSome result (λ e. IsPassOf router.entry.now e.pass) }
-        { tell(rt, alloc, router, second, 2, calls) },
-    );
-    Some((a?, b?))
+    let second = router.meet(&mut first, second);
+    let are_kept = first.shares() == 45_536 && second.shares() == 20_000;
+    router.join(&mut first, second);
+    expect(
+        are_kept && first.shares() == 65_536,
+        "passes keep their shares",
+    )?;
+    Ok(first)
 }
 
 #[test]
@@ -72,80 +58,161 @@ fn two_callers_look_500_times_each(rt: HostRuntime) -> Result<(), Fail> {
     let alloc = rt.alloc();
     let (router, mut first) = open(alloc, 1_000)?;
     let second = router.split(&mut first, 20_000);
-    let Some((a, b)) = look_both(&rt, alloc, &router, first, second, 500) else {
+    let (work, calls) = (Work::Look, 500);
+    let a = Caller {
+        pass: first,
+        work,
+        calls,
+    };
+    let b = Caller {
+        pass: second,
+        work,
+        calls,
+    };
+    let Some((a, b)) = serve_both(&rt, alloc, &router, a, b) else {
         return Err(Fail::from("a caller was refused"));
     };
-    let mut first = a.pass;
-    let second = router.meet(&mut first, b.pass);
-    assert_eq!(rt; (first.shares(), second.shares()), (45_536, 20_000));
-    router.join(&mut first, second);
-    assert_eq!(rt; first.shares(), 65_536);
-    let journal = router.close(first)?;
-    assert_eq!(rt; journal.entries().len(), 1_000);
-    for entry in journal.entries() {
-        let Event::Show(0) = entry.event else {
-            return Err(Fail::from("each event is a look"));
-        };
-    }
-    let (mut answers, mut others) = (a.answers, b.answers);
-    answers.append(&mut others)?;
-    expect_answers(&rt, alloc, &journal, answers.as_slice())
+    let answers = both_answers(a.answers, b.answers)?;
+    let pass = meet_and_join(&router, a.pass, b.pass)?;
+    let journal = router.close(pass)?;
+    expect_looks(alloc, &journal, answers.as_slice())
 }
 
-/// Asserts that what was told under a session, so many times, was entered in the order in which it was told.
-fn expect_told(
-    rt: &impl Abort,
-    alloc: Global,
-    entries: &[Entry],
-    session: u32,
-    calls: u16,
-) -> Result<(), Fail> {
-    let mut told = Vec::new(alloc);
+/// Whether what was told under a session, so many times, was entered in the order in which it was told.
+fn are_told(entries: &[Entry], session: u32, calls: u16) -> bool {
+    let mut told = 0u16;
     for entry in entries {
-        if let Event::Receive(under, _, dist) = entry.event {
-            if under == session {
-                told.push(dist)?;
+        if let Event::Receive(under, _, dist) = entry.event
+            && under == session
+        {
+            if dist != told % 5 {
+                return false;
             }
+            told = told.saturating_add(1);
         }
     }
-    let mut wanted = Vec::new(alloc);
-    for k in 0..calls {
-        wanted.push(k % 5)?;
+    told == calls
+}
+
+/// Expects that a history has two Ups, 200 looks, and 100 distances under each of two sessions, and these are their answers.
+fn expect_all_calls(alloc: Global, journal: &Journal, answers: &[Answer]) -> Result<(), Fail> {
+    let entries = journal.entries();
+    expect_number(entries.len() as u64, 402)?;
+    let are_all_told = are_told(entries, 1, 100) && are_told(entries, 2, 100);
+    expect(
+        are_all_told,
+        "distances stand in the order in which they were told",
+    )?;
+    expect_answers(alloc, journal, answers)
+}
+
+/// Brings neighbours 1 and 2 up: the answers.
+fn bring_up(alloc: Global, router: &Router, pass: &mut Pass) -> Result<Vec<Answer>, Fail>
+    requires { IsPassOf router.now pass.old }
+    ensures { IsPassOf router.now pass.new × (pass.new.part.shares ≡ pass.old.part.shares) }
+{
+    let mut answers = Vec::new(alloc);
+    answers.push(enter_once(router, pass, Event::Up(1))?)?;
+    answers.push(enter_once(router, pass, Event::Up(2))?)?;
+    Ok(answers)
+}
+
+/// What two callers have come to. None where one was refused.
+type Both = Option<(Ended, Ended)>;
+
+/// Four callers at once.
+fn serve_four<R: Threads + Wait + Sync>(
+    rt: &R,
+    alloc: Global,
+    router: &Router,
+    a: Caller,
+    b: Caller,
+    c: Caller,
+    d: Caller,
+) -> (Both, Both)
+    requires one { IsPassOf router.now a.pass × IsPassOf router.now b.pass }
+    requires other { IsPassOf router.now c.pass × IsPassOf router.now d.pass }
+    ensures one { IfSome result.0 (λ r. IsPassOf router.now r.0.pass × IsPassOf router.now r.1.pass) }
+    ensures other { IfSome result.1 (λ r. IsPassOf router.now r.0.pass × IsPassOf router.now r.1.pass) }
+{
+    thread::join(
+        rt,
+        move || -> Both
+            requires { IsPassOf router.now a.pass × IsPassOf router.now b.pass }
+            ensures { IfSome result (λ r. IsPassOf router.entry.now r.0.pass × IsPassOf router.entry.now r.1.pass) }
+        { serve_both(rt, alloc, router, a, b) },
+        move || -> Both
+            requires { IsPassOf router.now c.pass × IsPassOf router.now d.pass }
+            ensures { IfSome result (λ r. IsPassOf router.entry.now r.0.pass × IsPassOf router.entry.now r.1.pass) }
+        { serve_both(rt, alloc, router, c, d) },
+    )
+}
+
+/// The pass of four that are joined. The first and the third have 45,535 shares, the others 20,001.
+fn join_four(
+    router: &Router,
+    first: Pass,
+    second: Pass,
+    mut third: Pass,
+    mut fourth: Pass,
+) -> Result<Pass, Fail>
+    requires one { IsPassOf router.now first × IsPassOf router.now second }
+    requires other { IsPassOf router.now third × IsPassOf router.now fourth }
+    ensures { IfOk result (λ p. IsPassOf router.now p) }
+{
+    router.join(&mut fourth, second);
+    router.join(&mut third, first);
+    let are_kept = third.shares() == 45_535 && fourth.shares() == 20_001;
+    router.join(&mut third, fourth);
+    expect(
+        are_kept && third.shares() == 65_536,
+        "passes keep their shares",
+    )?;
+    Ok(third)
+}
+
+/// Answers, and behind them those of four callers.
+fn all_answers(mut answers: Vec<Answer>, others: [Vec<Answer>; 4]) -> Result<Vec<Answer>, Fail> {
+    for mut more in others {
+        answers.append(&mut more)?;
     }
-    assert_eq!(rt; told.as_slice(), wanted.as_slice());
-    Ok(())
+    Ok(answers)
 }
 
 #[test]
 fn four_callers_with_splits_of_splits(rt: HostRuntime) -> Result<(), Fail> {
     let alloc = rt.alloc();
     let (router, mut first) = open(alloc, 1_000)?;
-    let mut answers = Vec::new(alloc);
-    answers.push(router.try_call(&mut first, Event::Up(1))?)?;
-    answers.push(router.try_call(&mut first, Event::Up(2))?)?;
+    let ups = bring_up(alloc, &router, &mut first)?;
     let mut second = router.split(&mut first, 30_000);
     let third = router.split(&mut second, 10_000);
     let fourth = router.split(&mut first, 1);
-    let (looked, told) = thread::join(
-        &rt,
-        || look_both(&rt, alloc, &router, first, third, 100),
-        || tell_both(&rt, alloc, &router, second, fourth, 100),
-    );
-    let (Some((a, c)), Some((b, d))) = (looked, told) else {
-        return Err(Fail::from("a caller was refused"));
+    let calls = 100;
+    let a = Caller {
+        pass: first,
+        work: Work::Look,
+        calls,
     };
-    let (first, second, mut third, mut fourth) = (a.pass, b.pass, c.pass, d.pass);
-    router.join(&mut fourth, second);
-    router.join(&mut third, first);
-    assert_eq!(rt; (third.shares(), fourth.shares()), (45_535, 20_001));
-    router.join(&mut third, fourth);
-    assert_eq!(rt; third.shares(), 65_536);
-    let journal = router.close(third)?;
-    for mut others in [a.answers, b.answers, c.answers, d.answers] {
-        answers.append(&mut others)?;
-    }
-    assert_eq!(rt; journal.entries().len(), 402);
-    expect_told(&rt, alloc, journal.entries(), 1, 100)?;
-    expect_told(&rt, alloc, journal.entries(), 2, 100)?;
-    expect_answers(&rt, alloc, &journal, answers.as_slice())
+    let b = Caller {
+        pass: second,
+        work: Work::Tell(1),
+        calls,
+    };
+    let c = Caller {
+        pass: third,
+        work: Work::Look,
+        calls,
+    };
+    let d = Caller {
+        pass: fourth,
+        work: Work::Tell(2),
+        calls,
+    };
+    let (looked, told) = serve_four(&rt, alloc, &router, a, c, b, d);
+    let (a, c) = looked.ok_or("a caller was refused")?;
+    let (b, d) = told.ok_or("a caller was refused")?;
+    let answers = all_answers(ups, [a.answers, b.answers, c.answers, d.answers])?;
+    let pass = join_four(&router, a.pass, b.pass, c.pass, d.pass)?;
+    let journal = router.close(pass)?;
+    expect_all_calls(alloc, &journal, answers.as_slice())
 }
