@@ -1,0 +1,8 @@
+pub mod Numbers
+pub mod Plain
+pub mod LinePlain
+pub mod Again
+pub mod Lines
+pub mod Whole
+pub mod Turns
+pub mod Fronts

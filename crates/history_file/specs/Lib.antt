@@ -1,0 +1,8 @@
+-- What callers cite: what a text shows of a history, the text itself, which histories have one, and which one bytes tell.
+pub mod Views
+pub mod Keywords
+pub mod Text
+pub mod Fits
+pub mod Files
+-- What only bodies are proved against.
+pub mod Reading

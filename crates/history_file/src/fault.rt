@@ -1,0 +1,54 @@
+//! What is wrong with a line, and what ends the reading of a file.
+ghost use Rattle.std.specs.Prelude.{◌≡◌};
+ghost use Rattle.history_file.specs.declared.fault.LineFault.TheVariants as line;
+ghost use Rattle.history_file.specs.declared.fault.HistoryFault.TheVariants as history;
+
+use std::alloc::{AllocError, AllocFailed};
+use thiserror::Error;
+
+/// Why a line gives nothing.
+#[derive(Clone, Copy, Debug, PartialEq, Eq)]
+pub(crate) enum LineFault {
+    /// It is not the line that a history has here.
+    Form,
+    /// Memory was refused, and nothing is known of the line.
+    Memory,
+}
+
+impl From<AllocError> for LineFault {
+    ghost from_gives = { λ _ e. e ≡ line.Memory };
+
+    fn from(_error: AllocError) -> LineFault {
+        LineFault::Memory
+    }
+}
+
+impl<T: Drop> From<AllocFailed<T>> for LineFault {
+    ghost from_gives = { λ _ e. e ≡ line.Memory };
+
+    fn from(_error: AllocFailed<T>) -> LineFault {
+        LineFault::Memory
+    }
+}
+
+/// Why bytes tell no history.
+#[derive(Clone, Copy, Debug, PartialEq, Eq, Error)]
+pub enum HistoryFault {
+    /// H1: the line of this number, counted from 1, is the first that is not as a history has it.
+    #[error("line {0} is not as a history has it")]
+    Line(u32),
+    /// The first line is not whole.
+    #[error("the first line is not whole")]
+    Unopened,
+    /// Memory was refused.
+    #[error("out of memory")]
+    Memory,
+}
+
+impl<T: Drop> From<AllocFailed<T>> for HistoryFault {
+    ghost from_gives = { λ _ e. e ≡ history.Memory };
+
+    fn from(_error: AllocFailed<T>) -> HistoryFault {
+        HistoryFault::Memory
+    }
+}

@@ -1,0 +1,139 @@
+//! The text of a whole history is read.
+ghost use Rattle.std.specs.Prelude.{◌≡◌, ◌≤◌, IfOk, IfErr, MatchResult, map};
+ghost use Rattle.history_file.specs.Files as spec;
+ghost use Rattle.history_file.specs.Fits.{FitsEntry, FitsOpening, largest_limit};
+ghost use Rattle.history_file.specs.Text.{entry_line, opening_line};
+ghost use Rattle.history_file.specs.Views.{entry_view};
+
+use crate::fault::{HistoryFault, LineFault};
+use crate::reading::{cut_at, entry_in, opening_parts};
+use crate::writing::{push_entry, push_opening};
+use netchange_core::Opening;
+use route_history::Entry;
+use std::alloc::Global;
+
+/// A history as a file tells it. Whether its replies are right is not known: `replay` tells.
+#[derive(Debug, Drop)]
+pub struct SavedHistory {
+    /// What the router was opened with.
+    pub opening: Opening,
+    /// The most entries that the history takes.
+    pub limit: u32,
+    /// The entries, in order.
+    pub entries: Vec<Entry>,
+    /// How many bytes follow the last whole line: the front of a line that was not written to its end.
+    pub unfinished: usize,
+}
+
+/// The opening and the limit that a line tells.
+fn read_opening(alloc: Global, line: &[u8]) -> Result<(Opening, u32), LineFault>
+    ensures { MatchResult result
+        (λ r. FitsOpening r.0 r.1 × (line.now ≡ opening_line r.0 r.1))
+        (λ fault. fault ≡ LineFault.Form → spec.IsNoOpening line.now) }
+{
+    let parts = match opening_parts(alloc, line) {
+        Ok(parts) => parts,
+        Err(fault) => return Err(fault),
+    };
+    let limit = parts.limit;
+    let Some(opening) = Opening::new(parts.size, parts.me, parts.prefixes) else {
+        return Err(LineFault::Form);
+    };
+    if limit == 0 {
+        return Err(LineFault::Form);
+    }
+    let mut again = Vec::with_capacity(alloc, line.len())?;
+    push_opening(alloc, &mut again, &opening, limit)?;
+    if again.as_slice() != line {
+        return Err(LineFault::Form);
+    }
+    Ok((opening, limit))
+}
+
+/// The entry that a line tells at a position.
+fn read_entry(alloc: Global, at: u32, line: &[u8]) -> Result<Entry, LineFault>
+    ensures { MatchResult result
+        (λ e. FitsEntry (entry_view e) × (line.now ≡ entry_line at (entry_view e)))
+        (λ fault. fault ≡ LineFault.Form → spec.IsNoEntry at line.now) }
+{
+    let entry = match entry_in(alloc, line) {
+        Ok(entry) => entry,
+        Err(fault) => return Err(fault),
+    };
+    let mut again = Vec::with_capacity(alloc, line.len())?;
+    push_entry(alloc, &mut again, at, &entry)?;
+    if again.as_slice() != line {
+        return Err(LineFault::Form);
+    }
+    Ok(entry)
+}
+
+/// Reads the text of a history, up to its last whole line.
+///
+/// Otherwise the first line that is not as a history has it, or that no line is whole, or that memory was refused, which may come
+/// before a fault is found. `one_history` says that bytes tell no other history, and that none of them has a fault.
+pub fn read_history(alloc: Global, bytes: &[u8]) -> Result<SavedHistory, HistoryFault>
+    // What is read is the history that the bytes tell.
+    ensures found { IfOk result (λ s. spec.IsRead bytes.now (spec.history_view s) s.unfinished) }
+    // The line that is named is the first wrong one.
+    ensures refused { IfErr result (spec.IsFaultOf bytes.now) }
+{
+    let Some((first, rest)) = cut_at(bytes, b'\n') else {
+        return Err(HistoryFault::Unopened);
+    };
+    match read_opening(alloc, first) {
+        Ok((opening, limit)) => read_rest(alloc, opening, limit, rest),
+        Err(LineFault::Form) => Err(HistoryFault::Line(1)),
+        Err(LineFault::Memory) => Err(HistoryFault::Memory),
+    }
+}
+
+/// The history with this opening, whose entries the lines after the first tell.
+fn read_rest(
+    alloc: Global,
+    opening: Opening,
+    limit: u32,
+    bytes: &[u8],
+) -> Result<SavedHistory, HistoryFault>
+    requires { limit ≤ largest_limit }
+    ensures { MatchResult result (λ s. spec.IsRest bytes.now opening limit s) (spec.IsEntriesFault bytes.now limit) }
+{
+    match read_entries(alloc, bytes, limit) {
+        Ok((entries, unfinished)) => Ok(SavedHistory {
+            opening,
+            limit,
+            entries,
+            unfinished,
+        }),
+        Err(fault) => Err(fault),
+    }
+}
+
+/// The entries that the lines after the first tell, at most so many, and how many bytes follow the last whole line.
+fn read_entries(
+    alloc: Global,
+    bytes: &[u8],
+    limit: u32,
+) -> Result<(Vec<Entry>, usize), HistoryFault>
+    requires { limit ≤ largest_limit }
+    ensures { MatchResult result (λ r. spec.AreRead bytes.now limit (map entry_view r.0.items) r.1)
+        (spec.IsEntriesFault bytes.now limit) }
+{
+    let mut entries = Vec::new(alloc);
+    let mut rest = bytes;
+    for at in 0..limit {
+        let Some((line, later)) = cut_at(rest, b'\n') else {
+            return Ok((entries, rest.len()));
+        };
+        match read_entry(alloc, at, line) {
+            Ok(entry) => entries.push(entry)?,
+            Err(LineFault::Form) => return Err(HistoryFault::Line(at + 2)),
+            Err(LineFault::Memory) => return Err(HistoryFault::Memory),
+        }
+        rest = later;
+    }
+    match cut_at(rest, b'\n') {
+        Some(_) => Err(HistoryFault::Line(limit + 2)),
+        None => Ok((entries, rest.len())),
+    }
+}

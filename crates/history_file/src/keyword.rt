@@ -1,0 +1,137 @@
+//! The fixed words of a history's text.
+ghost use Rattle.std.specs.Prelude.{◌≡◌, find};
+ghost use Rattle.history_file.specs.Keywords as spec;
+
+use netchange_core::Refusal;
+
+/// A word that says what follows it.
+#[derive(Clone, Copy, Debug, PartialEq, Eq)]
+pub(crate) enum Keyword {
+    /// `up`
+    Up,
+    /// `down`
+    Down,
+    /// `recv`
+    Receive,
+    /// `take`
+    Take,
+    /// `import`
+    Import,
+    /// `export`
+    Export,
+    /// `show`
+    Show,
+    /// `opened`
+    Opened,
+    /// `done`
+    Done,
+    /// `messages`
+    Messages,
+    /// `route`
+    Route,
+    /// `refused`
+    Refused,
+    /// `local`
+    Local,
+    /// `via`
+    Via,
+    /// `none`
+    Nowhere,
+}
+
+/// All of them.
+static KEYWORDS: [Keyword; 15] = [
+    Keyword::Up,
+    Keyword::Down,
+    Keyword::Receive,
+    Keyword::Take,
+    Keyword::Import,
+    Keyword::Export,
+    Keyword::Show,
+    Keyword::Opened,
+    Keyword::Done,
+    Keyword::Messages,
+    Keyword::Route,
+    Keyword::Refused,
+    Keyword::Local,
+    Keyword::Via,
+    Keyword::Nowhere,
+];
+
+/// All reasons of a refusal.
+static REFUSALS: [Refusal; 7] = [
+    Refusal::NoNode,
+    Refusal::AlreadyUp,
+    Refusal::Stale,
+    Refusal::BadDest,
+    Refusal::BadDist,
+    Refusal::OtherSize,
+    Refusal::NoSession,
+];
+
+impl Keyword {
+    ghost use Rattle.history_file.specs.Keywords.{keyword_text};
+
+    /// How it is written.
+    pub(crate) fn text(&self) -> &'static str
+        ensures { result.now ≡ keyword_text self.now }
+    {
+        match self {
+            Keyword::Up => "up",
+            Keyword::Down => "down",
+            Keyword::Receive => "recv",
+            Keyword::Take => "take",
+            Keyword::Import => "import",
+            Keyword::Export => "export",
+            Keyword::Show => "show",
+            Keyword::Opened => "opened",
+            Keyword::Done => "done",
+            Keyword::Messages => "messages",
+            Keyword::Route => "route",
+            Keyword::Refused => "refused",
+            Keyword::Local => "local",
+            Keyword::Via => "via",
+            Keyword::Nowhere => "none",
+        }
+    }
+}
+
+/// The keyword that is written so.
+#[tactic(auto, unfolding(crate::specs::Keywords::keyword_in))]
+pub(crate) fn find_keyword(word: &[u8]) -> Option<Keyword>
+    ensures { spec.keyword_in word.now ≡ result }
+{
+    first_spelled(&KEYWORDS, word)
+}
+
+/// The first of the keywords that is written so.
+fn first_spelled(keywords: &[Keyword], word: &[u8]) -> Option<Keyword>
+    ensures { find (spec.is_spelled word.now) keywords.now ≡ result }
+{
+    for keyword in keywords {
+        if keyword.text().as_bytes() == word {
+            return Some(*keyword);
+        }
+    }
+    None
+}
+
+/// The refusal that has this code.
+#[tactic(auto, unfolding(crate::specs::Keywords::refusal_in))]
+pub(crate) fn find_refusal(word: &[u8]) -> Option<Refusal>
+    ensures { spec.refusal_in word.now ≡ result }
+{
+    first_coded(&REFUSALS, word)
+}
+
+/// The first of the refusals that has this code.
+fn first_coded(refusals: &[Refusal], word: &[u8]) -> Option<Refusal>
+    ensures { find (spec.has_code word.now) refusals.now ≡ result }
+{
+    for why in refusals {
+        if why.code().as_bytes() == word {
+            return Some(*why);
+        }
+    }
+    None
+}

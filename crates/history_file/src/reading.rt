@@ -1,0 +1,348 @@
+//! The lines of a history are read.
+ghost use Rattle.std.specs.Prelude.{◌≡◌, ◌≤◌, MatchResult, ◌<◌, ◌==◌, IfSome, length, position, ⊤};
+ghost use Rattle.std.specs.Option.{option_map};
+ghost use Rattle.filter_source.specs.Sources.{code_in_hexadecimal};
+ghost use Rattle.line_protocol.specs.Words.{words};
+ghost use Rattle.prefix_patterns.specs.Reading.{number_in, parts_at};
+ghost use Rattle.history_file.specs.Fits.{largest_limit, largest_number, largest_session};
+ghost use Rattle.history_file.specs.Reading as spec;
+ghost use Rattle.history_file.specs.Views.{entry_view, event_view};
+
+use crate::fault::LineFault;
+use crate::keyword::{Keyword, find_keyword, find_refusal};
+use filter_source::{Failure, read_hexadecimal, verify_code};
+use filter_verifier::Verified;
+use line_protocol::next_word;
+use netchange_core::{Event, Message, Messages, Reply, Via};
+use prefix_patterns::{Prefix, read_number, read_prefix};
+use route_history::{Entry, LARGEST_LIMIT};
+use std::alloc::Global;
+use std::sync::Arc;
+
+/// The first word of a line, and the bytes after it.
+fn first_word(line: &[u8]) -> Result<(&[u8], &[u8]), LineFault>
+    ensures { spec.IsRead (λ p. (p.0.now, words p.1.now)) (spec.first_word (words line.now)) result }
+{
+    match next_word(line) {
+        Some(cut) => Ok(cut),
+        None => Err(LineFault::Form),
+    }
+}
+
+/// There are no more words.
+fn no_more(line: &[u8]) -> Result<(), LineFault>
+    ensures { spec.IsRead (λ _. tt) (spec.no_more (words line.now)) result }
+{
+    match next_word(line) {
+        Some(_) => Err(LineFault::Form),
+        None => Ok(()),
+    }
+}
+
+/// A number of at most `most`, and the bytes after it.
+#[tactic(auto, unfolding(crate::specs::Reading::first_number))]
+fn first_number(line: &[u8], most: u32) -> Result<(u32, &[u8]), LineFault>
+    ensures value { spec.IsRead (λ p. (p.0, words p.1.now)) (spec.first_number most (words line.now)) result }
+    ensures limit { MatchResult result (λ p. p.0 ≤ most) (λ _. ⊤) }
+{
+    let (word, rest) = first_word(line)?;
+    match read_number(word, most) {
+        Some(number) => Ok((number, rest)),
+        None => Err(LineFault::Form),
+    }
+}
+
+/// The number of a session, and the bytes after it.
+fn first_session(line: &[u8]) -> Result<(u32, &[u8]), LineFault>
+    ensures { spec.IsRead (λ p. (p.0, words p.1.now)) (spec.first_number largest_session (words line.now)) result }
+{
+    first_number(line, u32::MAX)
+}
+
+/// The number of a node, a distance or a count, and the bytes after it.
+fn first_small(line: &[u8]) -> Result<(u16, &[u8]), LineFault>
+    ensures { spec.IsRead (λ p. (p.0, words p.1.now)) (spec.first_number largest_number (words line.now)) result }
+{
+    let (number, rest) = first_number(line, u32::from(u16::MAX))?;
+    Ok((number as u16, rest))
+}
+
+/// A keyword, and the bytes after it.
+#[tactic(auto, unfolding(crate::specs::Reading::first_keyword))]
+fn first_keyword(line: &[u8]) -> Result<(Keyword, &[u8]), LineFault>
+    ensures { spec.IsRead (λ p. (p.0, words p.1.now)) (spec.first_keyword (words line.now)) result }
+{
+    let (word, rest) = first_word(line)?;
+    match find_keyword(word) {
+        Some(keyword) => Ok((keyword, rest)),
+        None => Err(LineFault::Form),
+    }
+}
+
+/// The code of a file in hexadecimal, verified for domains of a size.
+fn read_filter(alloc: Global, size: u16, digits: &[u8]) -> Result<Arc<Verified>, LineFault>
+    ensures { spec.IsRead (λ f. f.value) (spec.verified_code size (code_in_hexadecimal digits.now)) result }
+{
+    let code = match read_hexadecimal(alloc, digits) {
+        Ok(code) => code,
+        Err(Failure::Refused(_)) => return Err(LineFault::Form),
+        Err(Failure::Memory) => return Err(LineFault::Memory),
+    };
+    match verify_code(alloc, code, u32::from(size)) {
+        Ok(filter) => Ok(Arc::new(alloc, filter)?),
+        Err(Failure::Refused(_)) => Err(LineFault::Form),
+        Err(Failure::Memory) => Err(LineFault::Memory),
+    }
+}
+
+/// A filter, and the bytes after it.
+#[tactic(auto, unfolding(crate::specs::Reading::first_filter))]
+fn first_filter(alloc: Global, line: &[u8]) -> Result<(Arc<Verified>, &[u8]), LineFault>
+    ensures { spec.IsRead (λ p. (p.0.value, words p.1.now)) (spec.first_filter (words line.now)) result }
+{
+    let (size, rest) = first_small(line)?;
+    let (digits, rest) = first_word(rest)?;
+    Ok((read_filter(alloc, size, digits)?, rest))
+}
+
+/// An event by its keyword, and the bytes after it.
+#[tactic(auto, unfolding(crate::specs::Reading::event_of))]
+fn event_of(alloc: Global, keyword: Keyword, line: &[u8]) -> Result<(Event, &[u8]), LineFault>
+    ensures { spec.IsRead (λ p. (event_view p.0, words p.1.now)) (spec.event_of keyword (words line.now)) result }
+{
+    match keyword {
+        Keyword::Up => {
+            let (node, rest) = first_small(line)?;
+            Ok((Event::Up(node), rest))
+        }
+        Keyword::Down => {
+            let (session, rest) = first_session(line)?;
+            Ok((Event::Down(session), rest))
+        }
+        Keyword::Receive => {
+            let (session, rest) = first_session(line)?;
+            let (dest, rest) = first_small(rest)?;
+            let (dist, rest) = first_small(rest)?;
+            Ok((Event::Receive(session, dest, dist), rest))
+        }
+        Keyword::Take => {
+            let (session, rest) = first_session(line)?;
+            let (max, rest) = first_small(rest)?;
+            Ok((Event::Take(session, max), rest))
+        }
+        Keyword::Import => {
+            let (node, rest) = first_small(line)?;
+            let (filter, rest) = first_filter(alloc, rest)?;
+            Ok((Event::SetImport(node, filter), rest))
+        }
+        Keyword::Export => {
+            let (node, rest) = first_small(line)?;
+            let (filter, rest) = first_filter(alloc, rest)?;
+            Ok((Event::SetExport(node, filter), rest))
+        }
+        Keyword::Show => {
+            let (node, rest) = first_small(line)?;
+            Ok((Event::Show(node), rest))
+        }
+        _ => Err(LineFault::Form),
+    }
+}
+
+/// An event, and the bytes after it.
+#[tactic(auto, unfolding(crate::specs::Reading::first_event))]
+fn first_event(alloc: Global, line: &[u8]) -> Result<(Event, &[u8]), LineFault>
+    ensures { spec.IsRead (λ p. (event_view p.0, words p.1.now)) (spec.first_event (words line.now)) result }
+{
+    let (keyword, rest) = first_keyword(line)?;
+    event_of(alloc, keyword, rest)
+}
+
+/// Through whom a route goes, by its keyword, where nothing follows.
+#[tactic(auto, unfolding(crate::specs::Reading::via_of))]
+fn via_of(keyword: Keyword, line: &[u8]) -> Result<Via, LineFault>
+    ensures { spec.IsRead (λ v. v) (spec.via_of keyword (words line.now)) result }
+{
+    match keyword {
+        Keyword::Local => {
+            no_more(line)?;
+            Ok(Via::Local)
+        }
+        Keyword::Via => {
+            let (node, rest) = first_small(line)?;
+            no_more(rest)?;
+            Ok(Via::Node(node))
+        }
+        Keyword::Nowhere => {
+            no_more(line)?;
+            Ok(Via::Nowhere)
+        }
+        _ => Err(LineFault::Form),
+    }
+}
+
+/// Through whom a route goes, where nothing follows.
+#[tactic(auto, unfolding(crate::specs::Reading::all_via))]
+fn all_via(line: &[u8]) -> Result<Via, LineFault>
+    ensures { spec.IsRead (λ v. v) (spec.all_via (words line.now)) result }
+{
+    let (keyword, rest) = first_keyword(line)?;
+    via_of(keyword, rest)
+}
+
+/// The index of the first separator.
+fn find(text: &[u8], separator: u8) -> Option<usize>
+    ensures at { result ≡ position (λ byte. byte == separator) text.now }
+    ensures within { IfSome result (λ at. at < length text.now) }
+{
+    text.iter().position(|byte| *byte == separator)
+}
+
+/// The bytes before the first separator, and the bytes after it.
+#[tactic(auto, using(std::proofs::lemmas::List::take_rest), unfolding(prefix_patterns::specs::Reading::parts_at))]
+pub(crate) fn cut_at(text: &[u8], separator: u8) -> Option<(&[u8], &[u8])>
+    ensures { parts_at separator text.now ≡ option_map (λ parts. (parts.0.now, parts.1.now)) result }
+{
+    let at = find(text, separator)?;
+    Some((&text[..at], &text[at + 1..]))
+}
+
+/// A number of at most 65,535.
+fn read_small(text: &[u8]) -> Option<u16>
+    ensures { result ≡ number_in largest_number text.now }
+{
+    let number = read_number(text, u32::from(u16::MAX))?;
+    Some(number as u16)
+}
+
+/// A message.
+#[tactic(auto, unfolding(crate::specs::Reading::message_in))]
+fn read_message(word: &[u8]) -> Option<Message>
+    ensures { result ≡ spec.message_in word.now }
+{
+    let (dest, dist) = cut_at(word, b':')?;
+    let dest = read_small(dest)?;
+    let dist = read_small(dist)?;
+    Some(Message { dest, dist })
+}
+
+/// All words, each a message.
+fn all_messages(alloc: Global, line: &[u8]) -> Result<Vec<Message>, LineFault>
+    ensures { spec.IsRead (λ v. v.items) (spec.all_messages (words line.now)) result }
+{
+    let mut messages = Vec::new(alloc);
+    let mut rest = line;
+    while let Some((word, later)) = next_word(rest) {
+        let Some(message) = read_message(word) else {
+            return Err(LineFault::Form);
+        };
+        messages.push(message)?;
+        rest = later;
+    }
+    Ok(messages)
+}
+
+/// A reply by its keyword, where nothing follows.
+#[tactic(auto, unfolding(crate::specs::Reading::reply_of))]
+fn reply_of(alloc: Global, keyword: Keyword, line: &[u8]) -> Result<Reply, LineFault>
+    ensures { spec.IsRead (λ r. r) (spec.reply_of keyword (words line.now)) result }
+{
+    match keyword {
+        Keyword::Opened => {
+            let (session, rest) = first_session(line)?;
+            no_more(rest)?;
+            Ok(Reply::Opened(session))
+        }
+        Keyword::Done => {
+            let (changed, rest) = first_small(line)?;
+            no_more(rest)?;
+            Ok(Reply::Done { changed })
+        }
+        Keyword::Messages => {
+            let messages = all_messages(alloc, line)?;
+            Ok(Reply::Messages(Messages::from_vec(messages)))
+        }
+        Keyword::Route => {
+            let (dist, rest) = first_small(line)?;
+            let via = all_via(rest)?;
+            Ok(Reply::Route { dist, via })
+        }
+        Keyword::Refused => {
+            let (code, rest) = first_word(line)?;
+            let Some(why) = find_refusal(code) else {
+                return Err(LineFault::Form);
+            };
+            no_more(rest)?;
+            Ok(Reply::Refused(why))
+        }
+        _ => Err(LineFault::Form),
+    }
+}
+
+/// A reply, where nothing follows.
+#[tactic(auto, unfolding(crate::specs::Reading::all_reply))]
+fn all_reply(alloc: Global, line: &[u8]) -> Result<Reply, LineFault>
+    ensures { spec.IsRead (λ r. r) (spec.all_reply (words line.now)) result }
+{
+    let (keyword, rest) = first_keyword(line)?;
+    reply_of(alloc, keyword, rest)
+}
+
+/// An entry, after a word for its position.
+#[tactic(auto, unfolding(crate::specs::Reading::entry_in))]
+pub(crate) fn entry_in(alloc: Global, line: &[u8]) -> Result<Entry, LineFault>
+    ensures { spec.IsRead entry_view (spec.entry_in (words line.now)) result }
+{
+    let (_position, rest) = first_word(line)?;
+    let (event, rest) = first_event(alloc, rest)?;
+    let reply = all_reply(alloc, rest)?;
+    Ok(Entry { event, reply })
+}
+
+/// All words, each a prefix.
+fn all_prefixes(alloc: Global, line: &[u8]) -> Result<Vec<Prefix>, LineFault>
+    ensures { spec.IsRead (λ v. v.items) (spec.all_prefixes (words line.now)) result }
+{
+    let mut prefixes = Vec::new(alloc);
+    let mut rest = line;
+    while let Some((word, later)) = next_word(rest) {
+        let Some(prefix) = read_prefix(word) else {
+            return Err(LineFault::Form);
+        };
+        prefixes.push(prefix)?;
+        rest = later;
+    }
+    Ok(prefixes)
+}
+
+/// What the line of an opening says. Whether there is such an opening is not known yet.
+#[derive(Drop)]
+pub(crate) struct OpeningParts {
+    /// The number of nodes.
+    pub size: u16,
+    /// The node that the router is.
+    pub me: u16,
+    /// The most entries of the history.
+    pub limit: u32,
+    /// The prefix of each node.
+    pub prefixes: Vec<Prefix>,
+}
+
+/// The parts of an opening's line, after a word for its mark.
+#[tactic(auto, unfolding(crate::specs::Reading::opening_parts))]
+pub(crate) fn opening_parts(alloc: Global, line: &[u8]) -> Result<OpeningParts, LineFault>
+    ensures limit { MatchResult result (λ p. p.limit ≤ largest_limit) (λ _. ⊤) }
+    ensures value { spec.IsRead (λ p. record { size = p.size; me = p.me; limit = p.limit; prefixes = p.prefixes.items })
+        (spec.opening_parts (words line.now)) result }
+{
+    let (_mark, rest) = first_word(line)?;
+    let (size, rest) = first_small(rest)?;
+    let (me, rest) = first_small(rest)?;
+    let (limit, rest) = first_number(rest, LARGEST_LIMIT)?;
+    let prefixes = all_prefixes(alloc, rest)?;
+    Ok(OpeningParts {
+        size,
+        me,
+        limit,
+        prefixes,
+    })
+}
