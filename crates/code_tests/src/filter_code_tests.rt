@@ -292,15 +292,12 @@ const TRUTHS_OF_PREFIXES: [(u32, u8, [Option<Instr>; 3], bool); 5] = [
     ),
 ];
 
-/// Instructions with a prefix in the place of None.
-fn with_prefix(instrs: &[Option<Instr>; 3], prefix: Prefix) -> [Instr; 3] {
-    let mut filled = [Instr::Prefix(prefix); 3];
-    for (place, instr) in filled.iter_mut().zip(instrs) {
-        if let Some(instr) = instr {
-            *place = *instr;
-        }
+/// An instruction, or that of a prefix in the place of None.
+fn or_prefix(instr: Option<Instr>, prefix: Prefix) -> Instr {
+    match instr {
+        Some(instr) => instr,
+        None => Instr::Prefix(prefix),
     }
-    filled
 }
 
 #[test]
@@ -310,7 +307,13 @@ fn truth_values_are_computed(rt: HostRuntime) -> Result<(), Fail> {
     }
     for (address, len, instrs, holds) in &TRUTHS_OF_PREFIXES {
         let prefix = Prefix::new(Ip(*address), *len).ok_or("a prefix")?;
-        expect_truth(rt.alloc(), &with_prefix(instrs, prefix), *holds)?;
+        let [first, second, third] = *instrs;
+        let instrs = [
+            or_prefix(first, prefix),
+            or_prefix(second, prefix),
+            or_prefix(third, prefix),
+        ];
+        expect_truth(rt.alloc(), &instrs, *holds)?;
     }
     Ok(())
 }

@@ -45,8 +45,8 @@ const NUMBERS: [(&[u8], u32, Option<u32>); 12] = [
 
 #[test]
 fn numbers_are_digits_up_to_a_limit(rt: HostRuntime) {
-    for (text, most, wanted) in NUMBERS {
-        assert!(rt; read_number(text, most) == wanted);
+    for (text, most, wanted) in &NUMBERS {
+        assert!(rt; read_number(text, *most) == *wanted);
     }
 }
 
@@ -81,8 +81,8 @@ const PREFIXES: [(&[u8], Option<(u32, u8)>); 22] = [
 
 #[test]
 fn prefix_tokens_are_read(rt: HostRuntime) {
-    for (text, wanted) in PREFIXES {
-        assert!(rt; read_prefix(text).map(parts) == wanted);
+    for (text, wanted) in &PREFIXES {
+        assert!(rt; read_prefix(text).map(parts) == *wanted);
     }
 }
 
@@ -99,8 +99,8 @@ const ADDRESSES: [(&[u8], Option<Ip>); 7] = [
 
 #[test]
 fn addresses_are_read(rt: HostRuntime) {
-    for (text, wanted) in ADDRESSES {
-        assert!(rt; read_ip(text) == wanted);
+    for (text, wanted) in &ADDRESSES {
+        assert!(rt; read_ip(text) == *wanted);
     }
 }
 
@@ -197,9 +197,9 @@ fn expect_matches(
 #[test]
 fn sets_match_what_a_pattern_matches(rt: HostRuntime) -> Result<(), Fail> {
     let all = three_patterns().ok_or("no pattern")?;
-    for (from, to, text, first, any) in MATCHED {
-        let patterns = all.get(from..to).ok_or("patterns")?;
-        expect_matches(rt.alloc(), patterns, text, first, any)?;
+    for (from, to, text, first, any) in &MATCHED {
+        let patterns = all.get(*from..*to).ok_or("patterns")?;
+        expect_matches(rt.alloc(), patterns, text, *first, *any)?;
     }
     Ok(())
 }
@@ -274,8 +274,8 @@ fn expect_match(
 
 #[test]
 fn small_and_large_sets_match_by_length_and_bits(rt: HostRuntime) -> Result<(), Fail> {
-    for (parts, text, wanted) in MATCHES {
-        expect_match(rt.alloc(), parts, text, wanted)?;
+    for (parts, text, wanted) in &MATCHES {
+        expect_match(rt.alloc(), parts, text, *wanted)?;
     }
     Ok(())
 }
