@@ -1,7 +1,7 @@
 //! Code files, read and written.
 
-use crate::texts::expect_fault;
 use code_file::{FileFault, read_code, write_code};
+use expectations::{expect, expect_fault, expect_str};
 use filter_code::{Code, Instr};
 use prefix_patterns::{Ip, Pattern, PatternSet, Prefix};
 use std::alloc::Global;
@@ -29,36 +29,23 @@ fn the_smallest_files(rt: HostRuntime) -> Result<(), Fail> {
     Ok(())
 }
 
-/// Whether a code is listed as a filter's is.
-fn is_listed(alloc: Global, code: &Code, row: &WorkedFilter) -> Result<bool, Fail> {
-    Ok(listing(alloc, code)?.as_str() == row.listing)
+/// Expects that a code is listed as a filter's is.
+fn expect_listed(alloc: Global, code: &Code, row: &WorkedFilter) -> Result<(), Fail> {
+    expect_str(listing(alloc, code)?.as_str(), row.listing)
 }
 
-/// The digits of a code's file.
-fn digits(alloc: Global, code: &Code) -> Result<String, Fail> {
+/// Expects that a code has the file of a filter.
+fn expect_written(alloc: Global, code: &Code, row: &WorkedFilter) -> Result<(), Fail> {
     let written = write_code(alloc, code)?;
-    Ok(hex::encode(alloc, &written)?)
-}
-
-/// Whether a code has the file of a filter.
-fn is_written(alloc: Global, code: &Code, row: &WorkedFilter) -> Result<bool, Fail> {
-    Ok(digits(alloc, code)?.as_str() == row.file)
-}
-
-/// Whether the code of a filter's file is listed as that filter is, and written as that file.
-fn is_worked(alloc: Global, row: &WorkedFilter) -> Result<(bool, bool), Fail> {
-    let code = code_of_file(alloc, row.file)?;
-    Ok((
-        is_listed(alloc, &code, row)?,
-        is_written(alloc, &code, row)?,
-    ))
+    expect_str(hex::encode(alloc, &written)?.as_str(), row.file)
 }
 
 #[test]
 fn files_of_worked_filters(rt: HostRuntime) -> Result<(), Fail> {
     for row in &FILTERS {
-        let (is_listed, is_written) = is_worked(rt.alloc(), row)?;
-        assert!(rt; is_listed && is_written, "{}", row.text);
+        let code = code_of_file(rt.alloc(), row.file)?;
+        expect_listed(rt.alloc(), &code, row)?;
+        expect_written(rt.alloc(), &code, row)?;
     }
     Ok(())
 }
@@ -72,38 +59,43 @@ fn pattern() -> Option<Pattern> {
     Pattern::new(Prefix::new(Ip(0x0a00_0000), 8)?, 8, 16)
 }
 
+/// Each instruction once, but for PREFIX, where NET stands.
+const INSTRS: [Instr; 28] = [
+    Instr::Int(258),
+    Instr::Bool(true),
+    Instr::Ip(Ip(0x0a00_0001)),
+    Instr::Net,
+    Instr::Load(9),
+    Instr::Store(9),
+    Instr::Net,
+    Instr::Metric,
+    Instr::Received,
+    Instr::SetMetric,
+    Instr::Add,
+    Instr::Sub,
+    Instr::Mul,
+    Instr::Div,
+    Instr::Max,
+    Instr::Eq,
+    Instr::Lt,
+    Instr::Le,
+    Instr::Not,
+    Instr::Addr,
+    Instr::Len,
+    Instr::Mask(24),
+    Instr::Within,
+    Instr::Member(0),
+    Instr::Jump(256),
+    Instr::JumpIfNot(2),
+    Instr::Accept,
+    Instr::Reject,
+];
+
 /// Each instruction once.
 fn instructions() -> Option<[Instr; 28]> {
-    Some([
-        Instr::Int(258),
-        Instr::Bool(true),
-        Instr::Ip(Ip(0x0a00_0001)),
-        Instr::Prefix(Prefix::new(Ip(0x0a01_0000), 16)?),
-        Instr::Load(9),
-        Instr::Store(9),
-        Instr::Net,
-        Instr::Metric,
-        Instr::Received,
-        Instr::SetMetric,
-        Instr::Add,
-        Instr::Sub,
-        Instr::Mul,
-        Instr::Div,
-        Instr::Max,
-        Instr::Eq,
-        Instr::Lt,
-        Instr::Le,
-        Instr::Not,
-        Instr::Addr,
-        Instr::Len,
-        Instr::Mask(24),
-        Instr::Within,
-        Instr::Member(0),
-        Instr::Jump(256),
-        Instr::JumpIfNot(2),
-        Instr::Accept,
-        Instr::Reject,
-    ])
+    let mut instrs = INSTRS;
+    instrs[3] = Instr::Prefix(Prefix::new(Ip(0x0a01_0000), 16)?);
+    Some(instrs)
 }
 
 #[test]
@@ -180,10 +172,12 @@ const REFUSED: [(&[u8], FileFault); 20] = [
 ];
 
 #[test]
-fn what_is_no_file_is_refused(rt: HostRuntime) {
+fn what_is_no_file_is_refused(rt: HostRuntime) -> Result<(), Fail> {
     for (bytes, fault) in &REFUSED {
-        assert!(rt; fault_of(rt.alloc(), bytes) == Some(*fault), "{fault}");
+        let is_so = fault_of(rt.alloc(), bytes) == Some(*fault);
+        expect(is_so, fault.code())?;
     }
+    Ok(())
 }
 
 #[test]
@@ -216,7 +210,7 @@ fn the_texts(rt: HostRuntime) -> Result<(), Fail> {
         (FileFault::Memory, "C7 0 out of memory"),
     ];
     for (fault, wanted) in rows {
-        expect_fault(&rt, rt.alloc(), fault.code(), fault.at(), &fault, wanted)?;
+        expect_fault(rt.alloc(), fault.code(), fault.at(), &fault, wanted)?;
     }
     Ok(())
 }

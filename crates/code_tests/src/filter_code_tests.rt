@@ -1,12 +1,11 @@
 //! The machine on short codes, and the limits of codes and routes.
 
-use crate::texts::expect_text;
+use expectations::{expect, expect_str, expect_text};
 use filter_code::{
     Code, Counted, FaultKind, Instr, Kind, Outcome, Route, Value, run_checked, run_counted,
 };
 use prefix_patterns::{Ip, Pattern, PatternSet, Prefix};
 use std::alloc::Global;
-use std::process::Abort;
 use std::test::Fail;
 use worked_rows::{FILTERS, WorkedFilter, WorkedRoute, answer, code_of_file, route_in};
 
@@ -46,11 +45,11 @@ fn is_run(alloc: Global, code: &Code, size: u32, line: &WorkedRoute) -> Result<b
 }
 
 /// Compares the outcomes of a filter's routes, and the steps of their runs.
-fn compare(rt: &impl Abort, alloc: Global, row: &WorkedFilter) -> Result<(), Fail> {
+fn compare(alloc: Global, row: &WorkedFilter) -> Result<(), Fail> {
     let code = code_of_file(alloc, row.file)?;
     for line in row.routes {
         let is_run = is_run(alloc, &code, row.size, line)?;
-        assert!(rt; is_run, "{}", row.text);
+        expect(is_run, row.text)?;
     }
     Ok(())
 }
@@ -58,7 +57,7 @@ fn compare(rt: &impl Abort, alloc: Global, row: &WorkedFilter) -> Result<(), Fai
 #[test]
 fn worked_filters(rt: HostRuntime) -> Result<(), Fail> {
     for row in &FILTERS {
-        compare(&rt, rt.alloc(), row)?;
+        compare(rt.alloc(), row)?;
     }
     Ok(())
 }
@@ -72,40 +71,36 @@ const WRAPPING: [Instr; 5] = [
     Instr::Accept,
 ];
 
-/// Whether instructions have this outcome on a metric.
-fn comes_to(alloc: Global, instrs: &[Instr], metric: u32, wanted: Outcome) -> Result<bool, Fail> {
-    Ok(outcome_on(alloc, instrs, metric)? == wanted)
+/// Expects that instructions have this outcome on a metric.
+fn expect_outcome(
+    alloc: Global,
+    instrs: &[Instr],
+    metric: u32,
+    wanted: Outcome,
+) -> Result<(), Fail> {
+    let outcome = outcome_on(alloc, instrs, metric)?;
+    if outcome == wanted {
+        return Ok(());
+    }
+    Err(Fail::new(format_args!("{instrs:?}: {outcome:?}, and not {wanted:?}")))
 }
 
 /// Of a sum that wraps, of a reject, and of faults at their places.
 #[test]
 fn outcomes(rt: HostRuntime) -> Result<(), Fail> {
-    let rows: [(&[Instr], u32, Outcome); 7] = [
-        (&WRAPPING, 3, Outcome::Fault(FaultKind::LowerMetric, 3)),
-        (&WRAPPING, 0, Outcome::Accept(8)),
-        (&[Instr::Reject], 3, Outcome::Reject),
-        (&[], 3, Outcome::Fault(FaultKind::OutsideCode, 0)),
-        (
-            &[Instr::Metric],
-            3,
-            Outcome::Fault(FaultKind::OutsideCode, 1),
-        ),
-        (
-            &[Instr::Metric, Instr::Add],
-            3,
-            Outcome::Fault(FaultKind::MissingOperand, 1),
-        ),
-        (
-            &[Instr::Metric; 33],
-            3,
-            Outcome::Fault(FaultKind::FullStack, 32),
-        ),
-    ];
-    for (instrs, metric, wanted) in &rows {
-        let is_so = comes_to(rt.alloc(), instrs, *metric, *wanted)?;
-        assert!(rt; is_so, "{instrs:?}");
-    }
-    Ok(())
+    let alloc = rt.alloc();
+    let lower = Outcome::Fault(FaultKind::LowerMetric, 3);
+    expect_outcome(alloc, &WRAPPING, 3, lower)?;
+    expect_outcome(alloc, &WRAPPING, 0, Outcome::Accept(8))?;
+    expect_outcome(alloc, &[Instr::Reject], 3, Outcome::Reject)?;
+    let outside = Outcome::Fault(FaultKind::OutsideCode, 0);
+    expect_outcome(alloc, &[], 3, outside)?;
+    let outside = Outcome::Fault(FaultKind::OutsideCode, 1);
+    expect_outcome(alloc, &[Instr::Metric], 3, outside)?;
+    let missing = Outcome::Fault(FaultKind::MissingOperand, 1);
+    expect_outcome(alloc, &[Instr::Metric, Instr::Add], 3, missing)?;
+    let full = Outcome::Fault(FaultKind::FullStack, 32);
+    expect_outcome(alloc, &[Instr::Metric; 33], 3, full)
 }
 
 /// Three instructions, the fault that their run on metric 3 meets first, and its place.
@@ -190,8 +185,7 @@ const FIRST_FAULTS: [([Instr; 3], FaultKind, usize); 15] = [
 #[test]
 fn faults_come_in_their_order(rt: HostRuntime) -> Result<(), Fail> {
     for (instrs, kind, at) in &FIRST_FAULTS {
-        let is_so = comes_to(rt.alloc(), instrs, 3, Outcome::Fault(*kind, *at))?;
-        assert!(rt; is_so, "{instrs:?}");
+        expect_outcome(rt.alloc(), instrs, 3, Outcome::Fault(*kind, *at))?;
     }
     Ok(())
 }
@@ -200,14 +194,8 @@ fn faults_come_in_their_order(rt: HostRuntime) -> Result<(), Fail> {
 fn a_prefix_is_no_address(rt: HostRuntime) -> Result<(), Fail> {
     let net = Prefix::new(Ip(0x0a00_0000), 8).ok_or("a prefix of 8 bits")?;
     let instrs = [Instr::Prefix(net), Instr::Mask(8), Instr::Accept];
-    let is_so = comes_to(
-        rt.alloc(),
-        &instrs,
-        3,
-        Outcome::Fault(FaultKind::WrongKind, 1),
-    )?;
-    assert!(rt; is_so);
-    Ok(())
+    let wanted = Outcome::Fault(FaultKind::WrongKind, 1);
+    expect_outcome(rt.alloc(), &instrs, 3, wanted)
 }
 
 /// Instructions, and others behind them.
@@ -217,14 +205,14 @@ fn joined(alloc: Global, instrs: &[Instr], behind: &[Instr]) -> Result<Vec<Instr
     Ok(all)
 }
 
-/// Whether a code that leaves a number on the stack answers this number as a metric.
-fn is_number(alloc: Global, instrs: &[Instr], metric: u32) -> Result<bool, Fail> {
+/// Expects that a code that leaves a number on the stack answers this number as a metric.
+fn expect_number(alloc: Global, instrs: &[Instr], metric: u32) -> Result<(), Fail> {
     let all = joined(alloc, instrs, &[Instr::SetMetric, Instr::Accept])?;
-    comes_to(alloc, &all, 0, Outcome::Accept(metric))
+    expect_outcome(alloc, &all, 0, Outcome::Accept(metric))
 }
 
-/// Whether a code that leaves a truth value on the stack leaves this one.
-fn is_truth(alloc: Global, instrs: &[Instr], holds: bool) -> Result<bool, Fail> {
+/// Expects that a code that leaves a truth value on the stack leaves this one.
+fn expect_truth(alloc: Global, instrs: &[Instr], holds: bool) -> Result<(), Fail> {
     let ends = [Instr::JumpIfNot(1), Instr::Accept, Instr::Reject];
     let all = joined(alloc, instrs, &ends)?;
     let wanted = if holds {
@@ -232,54 +220,100 @@ fn is_truth(alloc: Global, instrs: &[Instr], holds: bool) -> Result<bool, Fail> 
     } else {
         Outcome::Reject
     };
-    comes_to(alloc, &all, 3, wanted)
+    expect_outcome(alloc, &all, 3, wanted)
 }
+
+/// Three instructions, and the number that they leave.
+const NUMBERS: [([Instr; 3], u32); 6] = [
+    ([Instr::Int(5), Instr::Int(3), Instr::Sub], 2),
+    ([Instr::Int(3), Instr::Int(4_294_967_295), Instr::Sub], 4),
+    ([Instr::Int(2), Instr::Int(3), Instr::Mul], 6),
+    ([Instr::Int(65_536), Instr::Int(65_536), Instr::Mul], 0),
+    ([Instr::Int(7), Instr::Int(2), Instr::Div], 3),
+    ([Instr::Int(4), Instr::Store(1), Instr::Load(1)], 4),
+];
 
 #[test]
 fn numbers_are_computed(rt: HostRuntime) -> Result<(), Fail> {
-    let net = Prefix::new(Ip(0x0a00_0000), 7).ok_or("a prefix of 7 bits")?;
-    let rows = [
-        ([Instr::Int(5), Instr::Int(3), Instr::Sub], 2),
-        ([Instr::Int(3), Instr::Int(4_294_967_295), Instr::Sub], 4),
-        ([Instr::Int(2), Instr::Int(3), Instr::Mul], 6),
-        ([Instr::Int(65_536), Instr::Int(65_536), Instr::Mul], 0),
-        ([Instr::Int(7), Instr::Int(2), Instr::Div], 3),
-        ([Instr::Int(1), Instr::Prefix(net), Instr::Len], 7),
-        ([Instr::Int(4), Instr::Store(1), Instr::Load(1)], 4),
-    ];
-    for (instrs, metric) in &rows {
-        let is_so = is_number(rt.alloc(), instrs, *metric)?;
-        assert!(rt; is_so, "{instrs:?}");
+    for (instrs, metric) in &NUMBERS {
+        expect_number(rt.alloc(), instrs, *metric)?;
     }
-    Ok(())
+    let net = Prefix::new(Ip(0x0a00_0000), 7).ok_or("a prefix of 7 bits")?;
+    let length = [Instr::Int(1), Instr::Prefix(net), Instr::Len];
+    expect_number(rt.alloc(), &length, 7)
+}
+
+/// Three instructions, and the truth value that they leave.
+const TRUTHS: [([Instr; 3], bool); 8] = [
+    ([Instr::Int(2), Instr::Int(2), Instr::Eq], true),
+    ([Instr::Int(2), Instr::Int(2), Instr::Lt], false),
+    ([Instr::Ip(Ip(1)), Instr::Ip(Ip(2)), Instr::Lt], true),
+    ([Instr::Int(2), Instr::Int(2), Instr::Le], true),
+    ([Instr::Int(3), Instr::Int(2), Instr::Le], false),
+    ([Instr::Bool(true), Instr::Bool(false), Instr::Not], true),
+    (
+        [Instr::Ip(Ip(0x0a02_0304)), Instr::Net, Instr::Within],
+        true,
+    ),
+    ([Instr::Int(1), Instr::Net, Instr::Member(0)], false),
+];
+
+/// The same with a prefix, by its address and its length, which stands in the place of None.
+const TRUTHS_OF_PREFIXES: [(u32, u8, [Option<Instr>; 3], bool); 5] = [
+    (
+        0x0a00_0000,
+        8,
+        [Some(Instr::Net), None, Some(Instr::Eq)],
+        true,
+    ),
+    (
+        0x0a01_0000,
+        16,
+        [Some(Instr::Net), None, Some(Instr::Eq)],
+        false,
+    ),
+    (
+        0x0a01_0000,
+        16,
+        [None, Some(Instr::Net), Some(Instr::Within)],
+        true,
+    ),
+    (
+        0x0a01_0000,
+        16,
+        [Some(Instr::Net), None, Some(Instr::Within)],
+        false,
+    ),
+    (
+        0x0102_0000,
+        16,
+        [Some(Instr::Int(1)), None, Some(Instr::Member(0))],
+        true,
+    ),
+];
+
+/// An instruction, or that of a prefix in the place of None.
+fn or_prefix(instr: Option<Instr>, prefix: Prefix) -> Instr {
+    match instr {
+        Some(instr) => instr,
+        None => Instr::Prefix(prefix),
+    }
 }
 
 #[test]
 fn truth_values_are_computed(rt: HostRuntime) -> Result<(), Fail> {
-    let net = Prefix::new(Ip(0x0a00_0000), 8).ok_or("a prefix of 8 bits")?;
-    let inner = Prefix::new(Ip(0x0a01_0000), 16).ok_or("a prefix of 16 bits")?;
-    let set = Prefix::new(Ip(0x0102_0000), 16).ok_or("a prefix of 16 bits")?;
-    let rows = [
-        ([Instr::Int(2), Instr::Int(2), Instr::Eq], true),
-        ([Instr::Net, Instr::Prefix(net), Instr::Eq], true),
-        ([Instr::Net, Instr::Prefix(inner), Instr::Eq], false),
-        ([Instr::Int(2), Instr::Int(2), Instr::Lt], false),
-        ([Instr::Ip(Ip(1)), Instr::Ip(Ip(2)), Instr::Lt], true),
-        ([Instr::Int(2), Instr::Int(2), Instr::Le], true),
-        ([Instr::Int(3), Instr::Int(2), Instr::Le], false),
-        ([Instr::Bool(true), Instr::Bool(false), Instr::Not], true),
-        ([Instr::Prefix(inner), Instr::Net, Instr::Within], true),
-        ([Instr::Net, Instr::Prefix(inner), Instr::Within], false),
-        (
-            [Instr::Ip(Ip(0x0a02_0304)), Instr::Net, Instr::Within],
-            true,
-        ),
-        ([Instr::Int(1), Instr::Prefix(set), Instr::Member(0)], true),
-        ([Instr::Int(1), Instr::Net, Instr::Member(0)], false),
-    ];
-    for (instrs, holds) in &rows {
-        let is_so = is_truth(rt.alloc(), instrs, *holds)?;
-        assert!(rt; is_so, "{instrs:?}");
+    for (instrs, holds) in &TRUTHS {
+        expect_truth(rt.alloc(), instrs, *holds)?;
+    }
+    for (address, len, instrs, holds) in &TRUTHS_OF_PREFIXES {
+        let prefix = Prefix::new(Ip(*address), *len).ok_or("a prefix")?;
+        let [first, second, third] = *instrs;
+        let instrs = [
+            or_prefix(first, prefix),
+            or_prefix(second, prefix),
+            or_prefix(third, prefix),
+        ];
+        expect_truth(rt.alloc(), &instrs, *holds)?;
     }
     Ok(())
 }
@@ -295,9 +329,7 @@ fn masked_addresses_are_equal(rt: HostRuntime) -> Result<(), Fail> {
         Instr::Mask(8),
         Instr::Eq,
     ];
-    let is_so = is_truth(rt.alloc(), &masked, true)?;
-    assert!(rt; is_so);
-    Ok(())
+    expect_truth(rt.alloc(), &masked, true)
 }
 
 #[test]
@@ -318,17 +350,13 @@ fn is_code(alloc: Global, locals: u8, instrs: &[Instr]) -> Result<bool, Fail> {
 
 #[test]
 fn a_code_is_within_the_limits(rt: HostRuntime) -> Result<(), Fail> {
-    let rows: [(u8, &[Instr], bool); 4] = [
-        (0, &[Instr::Accept; 1025], false),
-        (17, &[], false),
-        (16, &[], true),
-        (0, &[Instr::Mask(33)], false),
-    ];
-    for (locals, instrs, wanted) in rows {
-        let is_code = is_code(rt.alloc(), locals, instrs)?;
-        assert!(rt; is_code == wanted, "{locals} local variables");
-    }
-    Ok(())
+    let alloc = rt.alloc();
+    let is_long = is_code(alloc, 0, &[Instr::Accept; 1025])?;
+    expect(!is_long, "1,025 instructions are too many")?;
+    expect(!is_code(alloc, 17, &[])?, "17 local variables are too many")?;
+    expect(is_code(alloc, 16, &[])?, "16 local variables are not")?;
+    let is_masked = is_code(alloc, 0, &[Instr::Mask(33)])?;
+    expect(!is_masked, "33 bits are too many")
 }
 
 #[test]
@@ -374,76 +402,84 @@ fn values_have_kinds(rt: HostRuntime) -> Result<(), Fail> {
     Ok(())
 }
 
-#[test]
-fn instructions_have_texts_and_bytes(rt: HostRuntime) -> Result<(), Fail> {
-    let net = Prefix::new(Ip(0x0100_0000), 8).ok_or("a prefix of 8 bits")?;
-    let rows = [
-        (Instr::Int(4_294_967_295), "INT 4294967295", 0x01),
-        (Instr::Bool(true), "BOOL true", 0x02),
-        (Instr::Ip(Ip(0x0102_0304)), "IP 1.2.3.4", 0x03),
-        (Instr::Prefix(net), "PREFIX 1.0.0.0/8", 0x04),
-        (Instr::Load(1), "LOAD 1", 0x10),
-        (Instr::Store(1), "STORE 1", 0x11),
-        (Instr::Net, "NET", 0x12),
-        (Instr::Metric, "METRIC", 0x13),
-        (Instr::Received, "RECEIVED", 0x14),
-        (Instr::SetMetric, "SETMETRIC", 0x15),
-        (Instr::Add, "ADD", 0x20),
-        (Instr::Sub, "SUB", 0x21),
-        (Instr::Mul, "MUL", 0x22),
-        (Instr::Div, "DIV", 0x23),
-        (Instr::Max, "MAX", 0x24),
-        (Instr::Eq, "EQ", 0x30),
-        (Instr::Lt, "LT", 0x31),
-        (Instr::Le, "LE", 0x32),
-        (Instr::Not, "NOT", 0x33),
-        (Instr::Addr, "ADDR", 0x40),
-        (Instr::Len, "LEN", 0x41),
-        (Instr::Mask(8), "MASK 8", 0x42),
-        (Instr::Within, "WITHIN", 0x50),
-        (Instr::Member(0), "MEMBER 0", 0x51),
-        (Instr::Jump(300), "JUMP 300", 0x60),
-        (Instr::JumpIfNot(2), "JUMPIFNOT 2", 0x61),
-        (Instr::Accept, "ACCEPT", 0x70),
-        (Instr::Reject, "REJECT", 0x71),
-    ];
-    for (instr, text, opcode) in &rows {
-        assert!(rt; instr.opcode() == *opcode, "{text}");
-        expect_text(&rt, rt.alloc(), instr, text)?;
-    }
-    Ok(())
+/// Instructions, their texts and their opcodes.
+const TEXTS: [(Instr, &str, u8); 27] = [
+    (Instr::Int(4_294_967_295), "INT 4294967295", 0x01),
+    (Instr::Bool(true), "BOOL true", 0x02),
+    (Instr::Ip(Ip(0x0102_0304)), "IP 1.2.3.4", 0x03),
+    (Instr::Load(1), "LOAD 1", 0x10),
+    (Instr::Store(1), "STORE 1", 0x11),
+    (Instr::Net, "NET", 0x12),
+    (Instr::Metric, "METRIC", 0x13),
+    (Instr::Received, "RECEIVED", 0x14),
+    (Instr::SetMetric, "SETMETRIC", 0x15),
+    (Instr::Add, "ADD", 0x20),
+    (Instr::Sub, "SUB", 0x21),
+    (Instr::Mul, "MUL", 0x22),
+    (Instr::Div, "DIV", 0x23),
+    (Instr::Max, "MAX", 0x24),
+    (Instr::Eq, "EQ", 0x30),
+    (Instr::Lt, "LT", 0x31),
+    (Instr::Le, "LE", 0x32),
+    (Instr::Not, "NOT", 0x33),
+    (Instr::Addr, "ADDR", 0x40),
+    (Instr::Len, "LEN", 0x41),
+    (Instr::Mask(8), "MASK 8", 0x42),
+    (Instr::Within, "WITHIN", 0x50),
+    (Instr::Member(0), "MEMBER 0", 0x51),
+    (Instr::Jump(300), "JUMP 300", 0x60),
+    (Instr::JumpIfNot(2), "JUMPIFNOT 2", 0x61),
+    (Instr::Accept, "ACCEPT", 0x70),
+    (Instr::Reject, "REJECT", 0x71),
+];
+
+/// Expects the text and the opcode of an instruction.
+fn expect_instr(alloc: Global, instr: &Instr, text: &str, opcode: u8) -> Result<(), Fail> {
+    expect(instr.opcode() == opcode, text)?;
+    expect_text(alloc, instr, text)
 }
 
 #[test]
+fn instructions_have_texts_and_bytes(rt: HostRuntime) -> Result<(), Fail> {
+    for (instr, text, opcode) in &TEXTS {
+        expect_instr(rt.alloc(), instr, text, *opcode)?;
+    }
+    let net = Prefix::new(Ip(0x0100_0000), 8).ok_or("a prefix of 8 bits")?;
+    expect_instr(rt.alloc(), &Instr::Prefix(net), "PREFIX 1.0.0.0/8", 0x04)
+}
+
+/// Faults, their codes and their texts.
+const FAULTS: [(FaultKind, &str, &str); 7] = [
+    (
+        FaultKind::MissingOperand,
+        "K1",
+        "too few operands on the stack",
+    ),
+    (FaultKind::WrongKind, "K2", "an operand of the wrong kind"),
+    (FaultKind::ZeroDivisor, "K3", "a division by zero"),
+    (FaultKind::OutsideCode, "K4", "no instruction at this index"),
+    (
+        FaultKind::FullStack,
+        "K5",
+        "more than 32 values on the stack",
+    ),
+    (
+        FaultKind::LowerMetric,
+        "K6",
+        "a metric below the one received",
+    ),
+    (
+        FaultKind::UnknownName,
+        "K7",
+        "no such local variable or set",
+    ),
+];
+
+#[test]
 fn faults_have_texts_and_codes(rt: HostRuntime) -> Result<(), Fail> {
-    let rows = [
-        (
-            FaultKind::MissingOperand,
-            "K1",
-            "too few operands on the stack",
-        ),
-        (FaultKind::WrongKind, "K2", "an operand of the wrong kind"),
-        (FaultKind::ZeroDivisor, "K3", "a division by zero"),
-        (FaultKind::OutsideCode, "K4", "no instruction at this index"),
-        (
-            FaultKind::FullStack,
-            "K5",
-            "more than 32 values on the stack",
-        ),
-        (
-            FaultKind::LowerMetric,
-            "K6",
-            "a metric below the one received",
-        ),
-        (
-            FaultKind::UnknownName,
-            "K7",
-            "no such local variable or set",
-        ),
-    ];
-    for (kind, code, text) in &rows {
-        assert!(rt; kind.code() == *code, "{text}");
-        expect_text(&rt, rt.alloc(), kind, text)?;
+    for (kind, code, text) in &FAULTS {
+        expect_str(kind.code(), code)?;
+        expect_text(rt.alloc(), kind, text)?;
     }
     Ok(())
 }

@@ -13,5 +13,3 @@ mod leading_tests;
 mod line_protocol_tests;
 #[cfg(test)]
 mod prefix_patterns_tests;
-#[cfg(test)]
-mod texts;

@@ -1,6 +1,6 @@
 //! The engine over readers and writers that give little at a time, and fail.
 
-use crate::texts::expect_text;
+use expectations::expect_fault;
 use line_protocol::{
     INPUT_LIMIT, LINE_LIMIT, Reply, Service, StreamFault, answer_lines, next_word, push_decimal,
     push_refusal, trim_blanks,
@@ -321,21 +321,21 @@ fn hands_on_long_lines(rt: HostRuntime) -> Result<(), Fail> {
     Ok(())
 }
 
+/// The faults of streams, each with its code, its place and its text.
+const FAULTS: [(StreamFault, &str); 4] = [
+    (StreamFault::Read, "E1 0 the input could not be read"),
+    (StreamFault::Write, "E2 0 the output could not be written"),
+    (StreamFault::Memory, "E3 0 out of memory"),
+    (
+        StreamFault::TooLong,
+        "E4 0 the input has more than 16777216 bytes",
+    ),
+];
+
 #[test]
 fn shows_each_fault(rt: HostRuntime) -> Result<(), Fail> {
-    let rows = [
-        (StreamFault::Read, "E1", "the input could not be read"),
-        (StreamFault::Write, "E2", "the output could not be written"),
-        (StreamFault::Memory, "E3", "out of memory"),
-        (
-            StreamFault::TooLong,
-            "E4",
-            "the input has more than 16777216 bytes",
-        ),
-    ];
-    for (fault, code, text) in rows {
-        assert!(rt; fault.code() == code && fault.at() == 0, "{code}");
-        expect_text(&rt, rt.alloc(), &fault, text)?;
+    for (fault, wanted) in &FAULTS {
+        expect_fault(rt.alloc(), fault.code(), fault.at(), fault, wanted)?;
     }
     Ok(())
 }

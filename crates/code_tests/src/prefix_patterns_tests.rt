@@ -1,12 +1,11 @@
 //! Prefixes, patterns and sets, and how they are read and displayed.
 
-use crate::texts::{expect_fault, expect_text};
+use expectations::{expect, expect_fault, expect_text};
 use prefix_patterns::{
     Ip, Pattern, PatternSet, Prefix, SetFault, displayed_text_is_read, read_ip, read_number,
     read_prefix,
 };
 use std::alloc::Global;
-use std::process::Abort;
 use std::test::Fail;
 
 /// A prefix as its first address and its length.
@@ -28,74 +27,80 @@ fn prefixes_are_made_of_an_address_and_a_length(rt: HostRuntime) {
     }
 }
 
+/// A text, a limit, and the number that it is.
+const NUMBERS: [(&[u8], u32, Option<u32>); 12] = [
+    (b"0", 0, Some(0)),
+    (b"007", 7, Some(7)),
+    (b"255", 255, Some(255)),
+    (b"256", 255, None),
+    (b"4294967295", u32::MAX, Some(u32::MAX)),
+    (b"4294967296", u32::MAX, None),
+    (b"99999999999999999999999999", u32::MAX, None),
+    (b"00000000000000000000000000000000000000001", 1, Some(1)),
+    (b"", 9, None),
+    (b"+1", 9, None),
+    (b"1 ", 9, None),
+    (b"0x1", 9, None),
+];
+
 #[test]
 fn numbers_are_digits_up_to_a_limit(rt: HostRuntime) {
-    let rows: [(&[u8], u32, Option<u32>); 12] = [
-        (b"0", 0, Some(0)),
-        (b"007", 7, Some(7)),
-        (b"255", 255, Some(255)),
-        (b"256", 255, None),
-        (b"4294967295", u32::MAX, Some(u32::MAX)),
-        (b"4294967296", u32::MAX, None),
-        (b"99999999999999999999999999", u32::MAX, None),
-        (b"00000000000000000000000000000000000000001", 1, Some(1)),
-        (b"", 9, None),
-        (b"+1", 9, None),
-        (b"1 ", 9, None),
-        (b"0x1", 9, None),
-    ];
-    for (text, most, wanted) in rows {
-        assert!(rt; read_number(text, most) == wanted);
+    for (text, most, wanted) in &NUMBERS {
+        assert!(rt; read_number(text, *most) == *wanted);
     }
 }
+
+/// A text, and the prefix that it is, as its first address and its length.
+const PREFIXES: [(&[u8], Option<(u32, u8)>); 22] = [
+    (b"10.0.0.0/8", Some((0x0a00_0000, 8))),
+    (b"0010.0.0.0/08", Some((0x0a00_0000, 8))),
+    (
+        b"10.0.0.0/00000000000000000000000000000000000000008",
+        Some((0x0a00_0000, 8)),
+    ),
+    (b"10.9.8.7/8", Some((0x0a00_0000, 8))),
+    (b"1.2.3.4/8", Some((0x0100_0000, 8))),
+    (b"1.2.3.4/32", Some((0x0102_0304, 32))),
+    (b"255.255.255.255/0", Some((0, 0))),
+    (b"10.0.0.0/33", None),
+    (b"10.0.0.256/8", None),
+    (b"10.0.0.0/ 8", None),
+    (b" 10.0.0.0/8", None),
+    (b"10.0.0.0/8 ", None),
+    (b"10.0.0.0", None),
+    (b"/8", None),
+    (b"", None),
+    (b"1.2.3/8", None),
+    (b"1.2.3.4.5/8", None),
+    (b"1..3.4/8", None),
+    (b"1.2.3./8", None),
+    (b".1.2.3/8", None),
+    (b"1.2.3.4/", None),
+    (b"1.2.3.4/8/9", None),
+];
 
 #[test]
 fn prefix_tokens_are_read(rt: HostRuntime) {
-    let rows: [(&[u8], Option<(u32, u8)>); 22] = [
-        (b"10.0.0.0/8", Some((0x0a00_0000, 8))),
-        (b"0010.0.0.0/08", Some((0x0a00_0000, 8))),
-        (
-            b"10.0.0.0/00000000000000000000000000000000000000008",
-            Some((0x0a00_0000, 8)),
-        ),
-        (b"10.9.8.7/8", Some((0x0a00_0000, 8))),
-        (b"1.2.3.4/8", Some((0x0100_0000, 8))),
-        (b"1.2.3.4/32", Some((0x0102_0304, 32))),
-        (b"255.255.255.255/0", Some((0, 0))),
-        (b"10.0.0.0/33", None),
-        (b"10.0.0.256/8", None),
-        (b"10.0.0.0/ 8", None),
-        (b" 10.0.0.0/8", None),
-        (b"10.0.0.0/8 ", None),
-        (b"10.0.0.0", None),
-        (b"/8", None),
-        (b"", None),
-        (b"1.2.3/8", None),
-        (b"1.2.3.4.5/8", None),
-        (b"1..3.4/8", None),
-        (b"1.2.3./8", None),
-        (b".1.2.3/8", None),
-        (b"1.2.3.4/", None),
-        (b"1.2.3.4/8/9", None),
-    ];
-    for (text, wanted) in rows {
-        assert!(rt; read_prefix(text).map(parts) == wanted);
+    for (text, wanted) in &PREFIXES {
+        assert!(rt; read_prefix(text).map(parts) == *wanted);
     }
 }
 
+/// A text, and the address that it is.
+const ADDRESSES: [(&[u8], Option<Ip>); 7] = [
+    (b"10.20.30.40", Some(Ip(0x0a14_1e28))),
+    (b"255.255.255.255", Some(Ip(u32::MAX))),
+    (b"000.00.0.01", Some(Ip(1))),
+    (b"10.20.30", None),
+    (b"10.20.30.40.50", None),
+    (b"10.20.30.256", None),
+    (b"10.20.30.40/8", None),
+];
+
 #[test]
 fn addresses_are_read(rt: HostRuntime) {
-    let rows: [(&[u8], Option<Ip>); 7] = [
-        (b"10.20.30.40", Some(Ip(0x0a14_1e28))),
-        (b"255.255.255.255", Some(Ip(u32::MAX))),
-        (b"000.00.0.01", Some(Ip(1))),
-        (b"10.20.30", None),
-        (b"10.20.30.40.50", None),
-        (b"10.20.30.256", None),
-        (b"10.20.30.40/8", None),
-    ];
-    for (text, wanted) in rows {
-        assert!(rt; read_ip(text) == wanted);
+    for (text, wanted) in &ADDRESSES {
+        assert!(rt; read_ip(text) == *wanted);
     }
 }
 
@@ -107,8 +112,8 @@ fn addresses_and_prefixes_are_displayed(rt: HostRuntime) -> Result<(), Fail> {
     ];
     for (address, len, address_text, text) in rows {
         let prefix = Prefix::new(Ip(address), len).ok_or("no prefix")?;
-        expect_text(&rt, rt.alloc(), &Ip(address), address_text)?;
-        expect_text(&rt, rt.alloc(), &prefix, text)?;
+        expect_text(rt.alloc(), &Ip(address), address_text)?;
+        expect_text(rt.alloc(), &prefix, text)?;
     }
     displayed_text_is_read();
     Ok(())
@@ -152,31 +157,49 @@ fn patterns_have_lengths_in_order(rt: HostRuntime) {
     }
 }
 
+/// The patterns from one up to another of three, a prefix, and whether it matches the first of them, and any of them.
+const MATCHED: [(usize, usize, &[u8], bool, bool); 9] = [
+    (0, 1, b"1.0.0.0/16", false, false),
+    (0, 1, b"0.0.0.0/4", true, true),
+    (0, 1, b"1.0.0.0/8", true, true),
+    (1, 2, b"1.2.0.0/15", true, true),
+    (2, 3, b"0.0.0.0/0", false, false),
+    (2, 3, b"9.0.0.0/22", true, true),
+    (1, 3, b"1.2.0.0/15", true, true),
+    (1, 3, b"9.0.0.0/22", false, true),
+    (1, 3, b"9.0.0.0/8", false, false),
+];
+
+/// Three patterns: up to 8 bits, of a host, and long ones.
+fn three_patterns() -> Option<[Pattern; 3]> {
+    Some([
+        pattern(b"1.0.0.0/8", 0, 8)?,
+        pattern(b"1.2.3.4/32", 0, 32)?,
+        pattern(b"0.0.0.0/0", 20, 24)?,
+    ])
+}
+
+/// Expects whether a prefix matches the first of some patterns, and any of them.
+fn expect_matches(
+    alloc: Global,
+    patterns: &[Pattern],
+    text: &[u8],
+    first: bool,
+    any: bool,
+) -> Result<(), Fail> {
+    let prefix = read_prefix(text).ok_or("no prefix")?;
+    let matches_first = patterns.first().map(|pattern| pattern.matches(&prefix));
+    let matches_any = set_matches(alloc, patterns, &prefix)?;
+    let is_so = matches_first == Some(first) && matches_any == any;
+    expect(is_so, "what a pattern matches, and a set")
+}
+
 #[test]
 fn sets_match_what_a_pattern_matches(rt: HostRuntime) -> Result<(), Fail> {
-    let up_to_8 = pattern(b"1.0.0.0/8", 0, 8).ok_or("no pattern")?;
-    let host = pattern(b"1.2.3.4/32", 0, 32).ok_or("no pattern")?;
-    let long = pattern(b"0.0.0.0/0", 20, 24).ok_or("no pattern")?;
-    let all = [up_to_8, host, long];
-    let all = all.as_slice();
-    // The patterns from one up to another, a prefix, and whether it matches the first of them, and any of them.
-    let rows: [(usize, usize, &[u8], bool, bool); 9] = [
-        (0, 1, b"1.0.0.0/16", false, false),
-        (0, 1, b"0.0.0.0/4", true, true),
-        (0, 1, b"1.0.0.0/8", true, true),
-        (1, 2, b"1.2.0.0/15", true, true),
-        (2, 3, b"0.0.0.0/0", false, false),
-        (2, 3, b"9.0.0.0/22", true, true),
-        (1, 3, b"1.2.0.0/15", true, true),
-        (1, 3, b"9.0.0.0/22", false, true),
-        (1, 3, b"9.0.0.0/8", false, false),
-    ];
-    for (from, to, text, first, any) in rows {
-        let prefix = read_prefix(text).ok_or("no prefix")?;
-        let patterns = &all[from..to];
-        let matches_any = set_matches(&rt, rt.alloc(), patterns, &prefix)?;
-        let matches_first = patterns.first().map(|pattern| pattern.matches(&prefix));
-        assert!(rt; matches_first == Some(first) && matches_any == any);
+    let all = three_patterns().ok_or("no pattern")?;
+    for (from, to, text, first, any) in &MATCHED {
+        let patterns = all.get(*from..*to).ok_or("patterns")?;
+        expect_matches(rt.alloc(), patterns, text, *first, *any)?;
     }
     Ok(())
 }
@@ -220,14 +243,9 @@ const UPPER_HALF: &[(&[u8], u8, u8)] = &[(b"128.0.0.0/1", 0, 32)];
 const SHORT_AND_LONG: &[(&[u8], u8, u8)] = &[(b"10.1.2.0/24", 24, 24), (b"10.1.0.0/16", 16, 24)];
 
 /// Whether a set of these patterns matches a prefix. It has the patterns that it was built of.
-fn set_matches(
-    rt: &impl Abort,
-    alloc: Global,
-    patterns: &[Pattern],
-    prefix: &Prefix,
-) -> Result<bool, SetFault> {
+fn set_matches(alloc: Global, patterns: &[Pattern], prefix: &Prefix) -> Result<bool, Fail> {
     let set = PatternSet::build(alloc, patterns)?;
-    assert!(rt; set.patterns() == patterns);
+    expect(set.patterns() == patterns, "the patterns of a set")?;
     Ok(set.matches(prefix))
 }
 
@@ -240,19 +258,24 @@ fn patterns_of(alloc: Global, parts: &[(&[u8], u8, u8)]) -> Result<Vec<Pattern>,
     Ok(patterns)
 }
 
+/// Expects whether a set of these patterns matches a prefix, and a larger set with them.
+fn expect_match(
+    alloc: Global,
+    parts: &[(&[u8], u8, u8)],
+    text: &[u8],
+    wanted: bool,
+) -> Result<(), Fail> {
+    let prefix = read_prefix(text).ok_or("no prefix")?;
+    let patterns = patterns_of(alloc, parts)?;
+    let small = set_matches(alloc, &patterns, &prefix)?;
+    let large = set_matches(alloc, &among_others(patterns)?, &prefix)?;
+    expect(small == wanted && large == wanted, "what sets match")
+}
+
 #[test]
 fn small_and_large_sets_match_by_length_and_bits(rt: HostRuntime) -> Result<(), Fail> {
-    let alloc = rt.alloc();
-    for (parts, text, wanted) in MATCHES {
-        let prefix = read_prefix(text).ok_or("no prefix")?;
-        let small = set_matches(&rt, alloc, &patterns_of(alloc, parts)?, &prefix)?;
-        let large = set_matches(
-            &rt,
-            alloc,
-            &among_others(patterns_of(alloc, parts)?)?,
-            &prefix,
-        )?;
-        assert!(rt; small == wanted && large == wanted);
+    for (parts, text, wanted) in &MATCHES {
+        expect_match(rt.alloc(), parts, text, *wanted)?;
     }
     Ok(())
 }
@@ -290,25 +313,48 @@ impl Random {
     }
 }
 
+/// So many random patterns.
+fn random_patterns(alloc: Global, random: &mut Random, count: u32) -> Result<Vec<Pattern>, Fail> {
+    let mut patterns = Vec::new(alloc);
+    for _pattern in 0..count {
+        patterns.push(random.pattern().ok_or("no pattern")?)?;
+    }
+    Ok(patterns)
+}
+
+/// Expects that a set matches random prefixes as a scan of its patterns does. Says how many it matches.
+fn expect_scan(random: &mut Random, set: &PatternSet, patterns: &[Pattern]) -> Result<u32, Fail> {
+    let mut found = 0u32;
+    for _prefix in 0..1000 {
+        let prefix = random.prefix().ok_or("no prefix")?;
+        let scanned = patterns.iter().any(|pattern| pattern.matches(&prefix));
+        expect(set.matches(&prefix) == scanned, "a set and a scan")?;
+        found = found.wrapping_add(u32::from(scanned));
+    }
+    Ok(found)
+}
+
 #[test]
 fn sets_match_as_a_scan_of_their_patterns(rt: HostRuntime) -> Result<(), Fail> {
     let mut random = Random { state: 1 };
     for count in [0, 1, 12, 13, 40, 200, 1024] {
-        let mut patterns = Vec::new(rt.alloc());
-        for _pattern in 0..count {
-            patterns.push(random.pattern().ok_or("no pattern")?)?;
-        }
+        let patterns = random_patterns(rt.alloc(), &mut random, count)?;
         let set = PatternSet::build(rt.alloc(), &patterns)?;
-        let mut found = 0u32;
-        for _prefix in 0..1000 {
-            let prefix = random.prefix().ok_or("no prefix")?;
-            let scanned = patterns.iter().any(|pattern| pattern.matches(&prefix));
-            assert!(rt; set.matches(&prefix) == scanned);
-            found = found.wrapping_add(u32::from(scanned));
-        }
-        assert!(rt; found > 0 || count < 12);
+        let found = expect_scan(&mut random, &set, &patterns)?;
+        expect(found > 0 || count < 12, "some prefixes are matched")?;
     }
     Ok(())
+}
+
+/// Expects that a set of these equal patterns has them, and matches their prefix if there is one.
+fn expect_set(alloc: Global, patterns: &[Pattern], prefix: &Prefix) -> Result<(), Fail> {
+    let set = PatternSet::build(alloc, patterns)?;
+    let is_matched = set.matches(prefix) != patterns.is_empty();
+    let count = set.patterns().len();
+    expect(
+        count == patterns.len() && is_matched,
+        "a set of equal patterns",
+    )
 }
 
 #[test]
@@ -316,13 +362,10 @@ fn sets_have_at_most_1024_patterns(rt: HostRuntime) -> Result<(), Fail> {
     let pattern = pattern(b"1.0.0.0/8", 8, 8).ok_or("no pattern")?;
     let patterns = vec![in rt.alloc(); pattern; 1025]?;
     for count in 0..1025 {
-        let set = PatternSet::build(rt.alloc(), &patterns[..count])?;
-        let is_matched = set.matches(&pattern.prefix());
-        assert!(rt; set.patterns().len() == count && is_matched == (count > 0));
+        expect_set(rt.alloc(), &patterns[..count], &pattern.prefix())?;
     }
     let fault = PatternSet::build(rt.alloc(), &patterns).err();
-    assert!(rt; fault == Some(SetFault::TooManyPatterns));
-    Ok(())
+    expect(fault == Some(SetFault::TooManyPatterns), "1,025 patterns")
 }
 
 #[test]
@@ -335,7 +378,7 @@ fn faults_have_texts_and_codes(rt: HostRuntime) -> Result<(), Fail> {
         (SetFault::Memory, "S2 0 out of memory"),
     ];
     for (fault, wanted) in rows {
-        expect_fault(&rt, rt.alloc(), fault.code(), fault.at(), &fault, wanted)?;
+        expect_fault(rt.alloc(), fault.code(), fault.at(), &fault, wanted)?;
     }
     Ok(())
 }

@@ -93,7 +93,7 @@ const REFUSED_TEXTS: [(&str, &str); 17] = [
 
 #[test]
 fn texts_are_refused(rt: HostRuntime) -> Result<(), Fail> {
-    for (text, want) in REFUSED_TEXTS {
+    for (text, want) in &REFUSED_TEXTS {
         expect_lines(rt.alloc(), text.as_bytes(), 8, false, want)?;
     }
     Ok(())
@@ -200,8 +200,8 @@ const CODE_FILES: [(&[u8], u32, &str); 27] = [
 
 #[test]
 fn code_files_are_verified(rt: HostRuntime) -> Result<(), Fail> {
-    for (text, size, want) in CODE_FILES {
-        expect_lines(rt.alloc(), text, size, true, want)?;
+    for (text, size, want) in &CODE_FILES {
+        expect_lines(rt.alloc(), text, *size, true, want)?;
     }
     Ok(())
 }
@@ -239,8 +239,8 @@ const REPEATED: [(&str, usize, &str); 4] = [
 
 #[test]
 fn code_has_limits(rt: HostRuntime) -> Result<(), Fail> {
-    for (part, count, want) in REPEATED {
-        let text = repeated(rt.alloc(), part.as_bytes(), count)?;
+    for (part, count, want) in &REPEATED {
+        let text = repeated(rt.alloc(), part.as_bytes(), *count)?;
         expect_last_line(rt.alloc(), text.as_slice(), want)?;
     }
     Ok(())
@@ -286,10 +286,10 @@ const LONG_INPUTS: [(usize, bool, &str); 7] = [
 
 #[test]
 fn inputs_have_limits(rt: HostRuntime) -> Result<(), Fail> {
-    for (len, is_code, want) in LONG_INPUTS {
+    for (len, is_code, want) in &LONG_INPUTS {
         let mut text = Vec::from_slice(rt.alloc(), b"filter q { accept; }")?;
-        text.resize(len, b' ')?;
-        expect_lines(rt.alloc(), text.as_slice(), 8, is_code, want)?;
+        text.resize(*len, b' ')?;
+        expect_lines(rt.alloc(), text.as_slice(), 8, *is_code, want)?;
     }
     Ok(())
 }

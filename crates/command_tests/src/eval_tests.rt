@@ -83,7 +83,7 @@ const ROUTES: [(&str, &str, &str); 16] = [
 
 #[test]
 fn answers_routes(rt: HostRuntime) -> Result<(), Fail> {
-    for (code, route, want) in ROUTES {
+    for (code, route, want) in &ROUTES {
         expect_verdict(rt.alloc(), code, route, want)?;
     }
     Ok(())
@@ -101,7 +101,7 @@ const BAD_OPERANDS: [(&[u8], &[u8]); 6] = [
 
 #[test]
 fn refuses_bad_operands(rt: HostRuntime) -> Result<(), Fail> {
-    for (input, want) in BAD_OPERANDS {
+    for (input, want) in &BAD_OPERANDS {
         expect_answers(rt.alloc(), input, want, 1)?;
     }
     Ok(())
@@ -138,7 +138,7 @@ const JUDGED: [(&str, &str); 13] = [
 
 #[test]
 fn judges_words_from_the_left(rt: HostRuntime) -> Result<(), Fail> {
-    for (route, want) in JUDGED {
+    for (route, want) in &JUDGED {
         expect_verdict(rt.alloc(), ACCEPT, route, want)?;
     }
     let raised = "10.0.0.0/8 249 250";
@@ -166,7 +166,7 @@ const BAD_CODE_LINES: [(&[u8], &[u8]); 14] = [
 
 #[test]
 fn refuses_bad_code_lines(rt: HostRuntime) -> Result<(), Fail> {
-    for (input, want) in BAD_CODE_LINES {
+    for (input, want) in &BAD_CODE_LINES {
         expect_answers(rt.alloc(), input, want, 1)?;
     }
     Ok(())
@@ -204,8 +204,8 @@ const CUT: [(&[u8], &[u8], u32); 6] = [
 
 #[test]
 fn cuts_lines(rt: HostRuntime) -> Result<(), Fail> {
-    for (input, want, refused) in CUT {
-        expect_answers(rt.alloc(), input, want, refused)?;
+    for (input, want, refused) in &CUT {
+        expect_answers(rt.alloc(), input, want, *refused)?;
     }
     Ok(())
 }
@@ -232,9 +232,9 @@ const LONG_LINES: [(u8, usize, &[u8], u32); 3] = [
 #[test]
 fn limits_lines(rt: HostRuntime) -> Result<(), Fail> {
     let alloc = rt.alloc();
-    for (byte, len, want, refused) in LONG_LINES {
-        let input = with_long_line(alloc, byte, len)?;
-        expect_answers(alloc, input.as_slice(), want, refused)?;
+    for (byte, len, want, refused) in &LONG_LINES {
+        let input = with_long_line(alloc, *byte, *len)?;
+        expect_answers(alloc, input.as_slice(), want, *refused)?;
     }
     let mut input = Vec::new(alloc);
     input.resize(1_048_577, b'4')?;

@@ -1,11 +1,11 @@
 //! Runs of verified code, with their steps, beside the checked machine.
 
+use expectations::expect;
 use filter_code::{Code, Instr, Outcome, Route, run_checked};
 use filter_machine::{Ran, Verdict, run};
 use filter_verifier::verify;
 use prefix_patterns::{Ip, Prefix};
 use std::alloc::Global;
-use std::process::Abort;
 use std::test::Fail;
 use worked_rows::{FILTERS, WorkedFilter, WorkedRoute, answer, code_of_file, route_in};
 
@@ -41,10 +41,10 @@ fn is_run(alloc: Global, row: &WorkedFilter, line: &WorkedRoute) -> Result<bool,
 }
 
 /// Compares the runs of a filter's routes.
-fn compare(rt: &impl Abort, alloc: Global, row: &WorkedFilter) -> Result<(), Fail> {
+fn compare(alloc: Global, row: &WorkedFilter) -> Result<(), Fail> {
     for line in row.routes {
         let is_run = is_run(alloc, row, line)?;
-        assert!(rt; is_run, "{}", row.text);
+        expect(is_run, row.text)?;
     }
     Ok(())
 }
@@ -53,7 +53,7 @@ fn compare(rt: &impl Abort, alloc: Global, row: &WorkedFilter) -> Result<(), Fai
 fn worked_filters(rt: HostRuntime) -> Result<(), Fail> {
     for row in &FILTERS {
         if row.verdict.starts_with("verified") {
-            compare(&rt, rt.alloc(), row)?;
+            compare(rt.alloc(), row)?;
         }
     }
     Ok(())
@@ -87,9 +87,8 @@ fn metric_and(number: u32, instr: Instr) -> [Instr; 5] {
     ]
 }
 
-/// Asserts how instructions run on a metric, by both machines: accepted at a metric, or rejected, after so many steps.
+/// Expects how instructions run on a metric, by both machines: accepted at a metric, or rejected, after so many steps.
 fn expect_run(
-    rt: &impl Abort,
     alloc: Global,
     instrs: &[Instr],
     metric: u32,
@@ -105,11 +104,8 @@ fn expect_run(
     let route = Route::new(net, metric, size).ok_or("a route within the limits")?;
     let code = Code::new(0, Vec::new(alloc), instrs.to_vec(alloc)?).ok_or("a code")?;
     let (ran, outcome) = both(alloc, code, &route)?;
-    assert!(rt;
-        ran == Ran { verdict, steps } && outcome == outcome_of(verdict),
-        "{steps} steps"
-    );
-    Ok(())
+    let is_so = ran == Ran { verdict, steps } && outcome == outcome_of(verdict);
+    expect(is_so, "the verdict and the steps")
 }
 
 #[test]
@@ -131,7 +127,7 @@ fn runs_answer_as_the_checked_machine(rt: HostRuntime) -> Result<(), Fail> {
         (full.as_slice(), 3, 8, None, 67),
     ];
     for (instrs, metric, size, accepted, steps) in rows {
-        expect_run(&rt, alloc, instrs, metric, size, accepted, steps)?;
+        expect_run(alloc, instrs, metric, size, accepted, steps)?;
     }
     Ok(())
 }

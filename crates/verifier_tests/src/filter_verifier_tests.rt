@@ -1,11 +1,10 @@
 //! The verifier on short codes: budgets and depths, and each refusal with its place.
 
-use crate::texts::expect_text;
+use expectations::{expect, expect_fault, expect_str};
 use filter_code::{Code, Instr};
 use filter_verifier::{Verified, VerifyFault, verify};
 use prefix_patterns::{Ip, Pattern, PatternSet, Prefix};
 use std::alloc::Global;
-use std::process::Abort;
 use std::test::Fail;
 use worked_rows::{FILTERS, code_of_file};
 
@@ -54,10 +53,10 @@ fn answer(alloc: Global, code: Code, size: u32) -> Result<String, Fail> {
 type Row<'a> = (&'a [Instr], u8, u32, &'a str);
 
 /// Compares each row with what is answered.
-fn compare(rt: &impl Abort, alloc: Global, rows: &[Row<'_>]) -> Result<(), Fail> {
+fn compare(alloc: Global, rows: &[Row<'_>]) -> Result<(), Fail> {
     for (instrs, locals, size, wanted) in rows {
         let answered = answer(alloc, code(alloc, *locals, instrs)?, *size)?;
-        assert!(rt; answered.as_str() == *wanted, "{instrs:?}: {answered}");
+        expect_str(answered.as_str(), wanted)?;
     }
     Ok(())
 }
@@ -67,7 +66,7 @@ fn worked_filters(rt: HostRuntime) -> Result<(), Fail> {
     let alloc = rt.alloc();
     for row in &FILTERS {
         let answered = answer(alloc, code_of_file(alloc, row.file)?, row.size)?;
-        assert!(rt; answered.as_str() == row.verdict, "{}", row.text);
+        expect_str(answered.as_str(), row.verdict)?;
     }
     Ok(())
 }
@@ -77,11 +76,13 @@ fn verified_code_is_what_was_handed_in(rt: HostRuntime) -> Result<(), Fail> {
     match verify(rt.alloc(), code(rt.alloc(), 3, &RAISED)?, 8) {
         Ok(verified) => {
             let code = verified.code();
-            assert!(rt;
-                code.locals() == 3 && code.sets().len() == 1 && code.instrs() == RAISED.as_slice()
-            );
-            assert!(rt; verified.size() == 8 && verified.budget() == 7 && verified.depth() == 2);
-            Ok(())
+            let is_same = code.locals() == 3 && code.sets().len() == 1;
+            expect(
+                is_same && code.instrs() == RAISED.as_slice(),
+                "the same code",
+            )?;
+            let is_bound = verified.budget() == 7 && verified.depth() == 2;
+            expect(is_bound && verified.size() == 8, "its bounds")
         }
         Err((_, fault)) => Err(Fail::from(fault)),
     }
@@ -102,7 +103,6 @@ const RAISED: [Instr; 8] = [
 #[test]
 fn sizes(rt: HostRuntime) -> Result<(), Fail> {
     compare(
-        &rt,
         rt.alloc(),
         &[
             (&RAISED, 0, 0, "refused V8 0"),
@@ -142,7 +142,6 @@ fn long_codes_and_full_stacks(rt: HostRuntime) -> Result<(), Fail> {
     let metrics = many(alloc, Instr::Metric)?;
     let (over, full) = (nested_sum(alloc, 33)?, nested_sum(alloc, 32)?);
     compare(
-        &rt,
         alloc,
         &[
             (&accepts, 0, 8, "verified 1 0"),
@@ -180,7 +179,7 @@ fn ranges_and_marks(rt: HostRuntime) -> Result<(), Fail> {
             Instr::SetMetric,
             Instr::Accept,
         ];
-        compare(&rt, rt.alloc(), &[(&instrs, 0, 8, wanted)])?;
+        compare(rt.alloc(), &[(&instrs, 0, 8, wanted)])?;
     }
     Ok(())
 }
@@ -205,7 +204,6 @@ fn from_the_size_on_each_number_has_the_mark(rt: HostRuntime) -> Result<(), Fail
         Instr::Accept,
     ];
     compare(
-        &rt,
         rt.alloc(),
         &[
             (&set_to, 0, 8, "verified 3 1"),
@@ -260,7 +258,6 @@ fn local_variables(rt: HostRuntime) -> Result<(), Fail> {
         Instr::Accept,
     ];
     compare(
-        &rt,
         rt.alloc(),
         &[
             (&INT_OR_BOOL, 1, 8, "refused V2 7"),
@@ -300,7 +297,6 @@ fn sets_and_prefixes(rt: HostRuntime) -> Result<(), Fail> {
         Instr::Reject,
     ];
     compare(
-        &rt,
         rt.alloc(),
         &[
             (&each_kind, 0, 8, "verified 17 2"),
@@ -315,7 +311,6 @@ fn operands(rt: HostRuntime) -> Result<(), Fail> {
     let no_bool = [Instr::Metric, Instr::JumpIfNot(0), Instr::Accept];
     let one_operand = [Instr::Metric, Instr::Add, Instr::Accept];
     compare(
-        &rt,
         rt.alloc(),
         &[
             (&no_bool, 0, 8, "refused V2 1"),
@@ -380,7 +375,6 @@ fn where_ways_meet(rt: HostRuntime) -> Result<(), Fail> {
         Instr::Accept,
     ];
     compare(
-        &rt,
         rt.alloc(),
         &[
             (&unlike_depths, 0, 8, "refused V9 4"),
@@ -396,7 +390,6 @@ fn where_ways_meet(rt: HostRuntime) -> Result<(), Fail> {
 fn ends_of_the_code(rt: HostRuntime) -> Result<(), Fail> {
     let branch = [Instr::Bool(true), Instr::JumpIfNot(1), Instr::Accept];
     compare(
-        &rt,
         rt.alloc(),
         &[
             (&[Instr::Jump(1), Instr::Accept], 0, 8, "refused V4 0"),
@@ -408,70 +401,51 @@ fn ends_of_the_code(rt: HostRuntime) -> Result<(), Fail> {
     )
 }
 
-/// Each refusal, its code and place, and its text.
-const REFUSALS: [(VerifyFault, &str, usize, &str); 10] = [
+/// Each refusal, and its code, its place and its text.
+const REFUSALS: [(VerifyFault, &str); 10] = [
     (
         VerifyFault::MissingOperand(3),
-        "V1",
-        3,
-        "instruction 3: too few operands on the stack",
+        "V1 3 instruction 3: too few operands on the stack",
     ),
     (
         VerifyFault::WrongKind(3),
-        "V2",
-        3,
-        "instruction 3: an operand has an unknown or wrong kind",
+        "V2 3 instruction 3: an operand has an unknown or wrong kind",
     ),
     (
         VerifyFault::ZeroDivisor(3),
-        "V3",
-        3,
-        "instruction 3: the divisor may be 0",
+        "V3 3 instruction 3: the divisor may be 0",
     ),
     (
         VerifyFault::OutsideCode(3),
-        "V4",
-        3,
-        "instruction 3: execution may continue outside the code",
+        "V4 3 instruction 3: execution may continue outside the code",
     ),
     (
         VerifyFault::FullStack(3),
-        "V5",
-        3,
-        "instruction 3: the stack may overflow",
+        "V5 3 instruction 3: the stack may overflow",
     ),
     (
         VerifyFault::LowerMetric(3),
-        "V6",
-        3,
-        "instruction 3: the new metric may be lower than the one received",
+        "V6 3 instruction 3: the new metric may be lower than the one received",
     ),
     (
         VerifyFault::UnknownName(3),
-        "V7",
-        3,
-        "instruction 3: no such local variable or set",
+        "V7 3 instruction 3: no such local variable or set",
     ),
     (
         VerifyFault::UnlikeDepths(3),
-        "V9",
-        3,
-        "instruction 3: the stack depth differs between the paths that lead here",
+        "V9 3 instruction 3: the stack depth differs between the paths that lead here",
     ),
     (
         VerifyFault::BadSize,
-        "V8",
-        0,
-        "the size of a domain must be 2 to 250",
+        "V8 0 the size of a domain must be 2 to 250",
     ),
-    (VerifyFault::Memory, "V10", 0, "out of memory"),
+    (VerifyFault::Memory, "V10 0 out of memory"),
 ];
 
 #[test]
 fn texts(rt: HostRuntime) -> Result<(), Fail> {
-    for (fault, code, at, text) in &REFUSALS {
-        assert!(rt; fault.code() == *code && fault.at() == *at, "{code}");
-        expect_text(&rt, rt.alloc(), fault, text)?;
+    for (fault, wanted) in &REFUSALS {
+        expect_fault(rt.alloc(), fault.code(), fault.at(), fault, wanted)?;
     }
     Ok(())
 }

@@ -7,5 +7,3 @@ mod filter_machine_tests;
 mod filter_verifier_tests;
 #[cfg(test)]
 mod machine_agreement_tests;
-#[cfg(test)]
-mod texts;

@@ -1,11 +1,11 @@
 //! The machine for verified code beside the checked machine, on random verified code and random routes.
 
+use expectations::expect;
 use filter_code::{Code, Instr, Outcome, Route, run_counted};
 use filter_machine::{Verdict, run};
 use filter_verifier::{Verified, verify};
 use prefix_patterns::{Ip, Pattern, PatternSet, Prefix};
 use std::alloc::{AllocError, Global};
-use std::process::Abort;
 use std::test::Fail;
 use worked_rows::Numbers;
 
@@ -148,7 +148,7 @@ fn outcome_of(verdict: Verdict) -> Outcome {
 }
 
 /// Runs verified code by both machines on some routes, and counts the steps of all runs.
-fn compare(rt: &impl Abort, verified: &Verified, numbers: &mut Numbers) -> Result<u64, Fail> {
+fn compare(verified: &Verified, numbers: &mut Numbers) -> Result<u64, Fail> {
     let mut steps: u64 = 0;
     for _ in 0..12 {
         let net = numbers.prefix().ok_or("a prefix")?;
@@ -157,7 +157,7 @@ fn compare(rt: &impl Abort, verified: &Verified, numbers: &mut Numbers) -> Resul
         let ran = run(verified, &net, metric);
         let counted = run_counted(verified.code(), &route);
         let is_same = outcome_of(ran.verdict) == counted.outcome && ran.steps == counted.steps;
-        assert!(rt; is_same, "{route:?}");
+        expect(is_same, "both machines answer alike")?;
         steps = steps.saturating_add(u64::from(ran.steps));
     }
     Ok(steps)
@@ -171,25 +171,30 @@ fn count(instrs: &[Instr], opcode: u8) -> usize {
         .count()
 }
 
+/// Runs random code by both machines, and adds it to the rest: how many steps its runs had.
+fn run_both(alloc: Global, numbers: &mut Numbers, all: &mut Vec<Instr>) -> Result<u64, Fail> {
+    let instrs = random_code(alloc, numbers)?;
+    all.extend_from_slice(&instrs)?;
+    let code = verified(alloc, &instrs)?.ok_or("code that verifies")?;
+    compare(&code, numbers)
+}
+
+/// All opcodes.
+const OPCODES: [u8; 28] =
+    *b"\x01\x02\x03\x04\x10\x11\x12\x13\x14\x15\x20\x21\x22\x23\x24\x30\x31\x32\x33\x40\x41\x42\x50\x51\x60\x61\x70\x71";
+
 #[test]
 fn random_code_runs_the_same(rt: HostRuntime) -> Result<(), Fail> {
-    let alloc = rt.alloc();
     let mut numbers = Numbers::new(2026);
-    let mut all = Vec::new(alloc);
+    let mut all = Vec::new(rt.alloc());
     let mut steps: u64 = 0;
     for _ in 0..40 {
-        let instrs = random_code(alloc, &mut numbers)?;
-        let code = verified(alloc, &instrs)?.ok_or("code that verifies")?;
-        steps = steps.saturating_add(compare(&rt, &code, &mut numbers)?);
-        all.extend_from_slice(&instrs)?;
+        let ran = run_both(rt.alloc(), &mut numbers, &mut all)?;
+        steps = steps.saturating_add(ran);
     }
     // The code has each instruction, and the runs are long enough to tell the machines apart.
-    for opcode in [
-        0x01, 0x02, 0x03, 0x04, 0x10, 0x11, 0x12, 0x13, 0x14, 0x15, 0x20, 0x21, 0x22, 0x23, 0x24,
-        0x30, 0x31, 0x32, 0x33, 0x40, 0x41, 0x42, 0x50, 0x51, 0x60, 0x61, 0x70, 0x71,
-    ] {
-        assert!(rt; count(&all, opcode) > 0, "opcode {opcode:x}");
+    for opcode in OPCODES {
+        expect(count(&all, opcode) > 0, "each opcode")?;
     }
-    assert!(rt; steps > 10_000, "{steps} steps");
-    Ok(())
+    expect(steps > 10_000, "long runs")
 }
