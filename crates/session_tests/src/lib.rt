@@ -10,10 +10,16 @@ mod gate_tests;
 #[cfg(test)]
 mod link_tests;
 #[cfg(test)]
+mod many_tests;
+#[cfg(test)]
 mod meanwhile_tests;
 #[cfg(test)]
 mod network_tests;
 #[cfg(test)]
+mod ring_tests;
+#[cfg(test)]
 mod run_tests;
 #[cfg(test)]
 mod session_tests;
+#[cfg(test)]
+mod turn_tests;
