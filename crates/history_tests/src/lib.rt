@@ -4,4 +4,6 @@
 #[cfg(test)]
 mod reading_tests;
 #[cfg(test)]
+mod verdict_tests;
+#[cfg(test)]
 mod writing_tests;
