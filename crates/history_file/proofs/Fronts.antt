@@ -11,3 +11,8 @@ longer_front xs old more now is h =
 pub err_weaker : {A E : Type 0} (r : Result A E) (P Q : Type 0) → (P → Q) → OnErr r P → OnErr r Q
 err_weaker (Ok x) P Q weaker h = h
 err_weaker (Err e) P Q weaker h = weaker h
+
+-- a clause that holds after each end
+pub err_always : {A E : Type 0} (r : Result A E) (P : Type 0) → P → OnErr r P
+err_always (Ok x) P holds = tt
+err_always (Err e) P holds = holds

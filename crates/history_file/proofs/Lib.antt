@@ -6,3 +6,4 @@ pub mod Lines
 pub mod Whole
 pub mod Turns
 pub mod Fronts
+pub mod Judged

@@ -4,5 +4,6 @@ pub mod Keywords
 pub mod Text
 pub mod Fits
 pub mod Files
+pub mod Replays
 -- What only bodies are proved against.
 pub mod Reading

@@ -8,9 +8,11 @@ mod history;
 mod keyword;
 mod laws;
 mod reading;
+mod verdict;
 mod writing;
 
 pub use fault::HistoryFault;
 pub use history::{SavedHistory, read_history};
 pub use laws::one_history;
+pub use verdict::{Verdict, judge, push_verdict};
 pub use writing::{write_entry, write_opening};

@@ -156,7 +156,7 @@ fn push_messages(out: &mut Vec<u8>, messages: &[Message]) -> Result<(), AllocErr
 }
 
 /// Adds the words of a reply.
-fn push_reply(out: &mut Vec<u8>, reply: &Reply) -> Result<(), AllocError>
+pub(crate) fn push_reply(out: &mut Vec<u8>, reply: &Reply) -> Result<(), AllocError>
     ensures ok { OnOk result (out.new.items ≡ out.old.items ++ spec.spaced (spec.reply_words reply.now)) }
     ensures fits { OnOk result (fits.FitsReply reply.now) }
     ensures err { OnErr result (StartsWith out.new.items out.old.items) }
