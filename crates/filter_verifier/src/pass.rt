@@ -10,6 +10,7 @@ ghost use Rattle.filter_verifier.specs.InStates.{propagated};
 ghost use Rattle.filter_verifier.specs.OutStateView.{Passed};
 ghost use Rattle.filter_verifier.specs.PairwiseJoin.{join_two_states};
 ghost use Rattle.filter_verifier.specs.Pass.{as_in_state, entry_state, highest, offsets, state_at};
+ghost use Rattle.filter_verifier.specs.Surveys.{IsKnownBefore};
 ghost use Rattle.filter_verifier.specs.Transfer.{leads_below, leads_to, out_state};
 
 use crate::abstract_frame::AbstractFrame;
@@ -112,22 +113,45 @@ pub(crate) fn visit(
     }
 }
 
+/// A fault, and what is known before the instruction at its place, unless the fault is about none.
+#[derive(Drop)]
+pub(crate) struct Finding {
+    pub fault: VerifyFault,
+    pub known: Option<InState>,
+}
+
+impl From<AllocError> for Finding {
+    ghost from_gives = { λ _ e. e ≡ record { fault = refusal.Memory; known = None } };
+
+    fn from(_e: AllocError) -> Finding {
+        Finding {
+            fault: VerifyFault::Memory,
+            known: None,
+        }
+    }
+}
+
 /// Visits each instruction in order. The greatest depth of a stack, or the first fault.
-pub fn analyze(alloc: Global, code: &Code, size: u32) -> Result<u32, VerifyFault>
+pub(crate) fn analyze(alloc: Global, code: &Code, size: u32) -> Result<u32, Finding>
     requires { 0 < length code.now.instrs }
     ensures outcome { MatchResult result
         (λ depth. (first_fault code.now size (length code.now.instrs) ≡ None)
         × (depth ≡ highest code.now size (length code.now.instrs)))
-        (λ e. (e ≡ refusal.Memory) ⊎ (first_fault code.now size (length code.now.instrs) ≡ Some e)) }
+        (λ e. (e.fault ≡ refusal.Memory) ⊎ (first_fault code.now size (length code.now.instrs) ≡ Some e.fault)) }
+    ensures known { IfErr result (λ e. (e.fault ≡ refusal.Memory) ⊎ IsKnownBefore code.now size e.fault e.known) }
     ensures limit { IfOk result (λ depth. depth ≤ stack_limit) }
-    ensures not_the_size { IfErr result (λ e. e ≢ refusal.BadSize) }
+    ensures not_the_size { IfErr result (λ e. e.fault ≢ refusal.BadSize) }
 {
     let mut in_states = entry_states(alloc, code)?;
     let mut depth = 0;
     for at in 0..code.instrs().len() {
         depth = depth.max(in_states[at].height());
         if let Some(fault) = visit(alloc, code, size, at, &mut in_states)? {
-            return Err(fault);
+            let known = in_states[at].copy(alloc)?;
+            return Err(Finding {
+                fault,
+                known: Some(known),
+            });
         }
     }
     Ok(depth)
