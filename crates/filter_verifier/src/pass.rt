@@ -9,14 +9,15 @@ ghost use Rattle.filter_verifier.specs.InStateView.{Known, Unreached};
 ghost use Rattle.filter_verifier.specs.InStates.{propagated};
 ghost use Rattle.filter_verifier.specs.OutStateView.{Passed};
 ghost use Rattle.filter_verifier.specs.PairwiseJoin.{join_two_states};
-ghost use Rattle.filter_verifier.specs.Pass.{as_in_state, entry_state, highest, offsets, state_at};
-ghost use Rattle.filter_verifier.specs.Surveys.{IsKnownBefore};
+ghost use Rattle.filter_verifier.specs.Pass.{as_in_state, entry_state, highest, in_state_view, offsets, state_at};
+ghost use Rattle.filter_verifier.specs.Surveys.{refused_int, refused_range};
 ghost use Rattle.filter_verifier.specs.Transfer.{leads_below, leads_to, out_state};
 
 use crate::abstract_frame::AbstractFrame;
 use crate::fault::VerifyFault;
 use crate::in_state::InState;
 use crate::out_state::{OutState, out_state};
+use crate::range::Range;
 use crate::successors::Successors;
 use filter_code::Code;
 use std::alloc::{AllocError, Global};
@@ -113,21 +114,31 @@ pub(crate) fn visit(
     }
 }
 
-/// A fault, and what is known before the instruction at its place, unless the fault is about none.
-#[derive(Drop)]
+/// A fault, and the range of the int that is refused, if it is one.
+#[derive(Clone, Copy)]
 pub(crate) struct Finding {
     pub fault: VerifyFault,
-    pub known: Option<InState>,
+    pub range: Option<Range>,
 }
 
 impl From<AllocError> for Finding {
-    ghost from_gives = { λ _ e. e ≡ record { fault = refusal.Memory; known = None } };
+    ghost from_gives = { λ _ e. e ≡ record { fault = refusal.Memory; range = None } };
 
     fn from(_e: AllocError) -> Finding {
         Finding {
             fault: VerifyFault::Memory,
-            known: None,
+            range: None,
         }
+    }
+}
+
+/// The range of the int that is refused, by what is known before the instruction.
+fn refused_int(fault: VerifyFault, known: &InState) -> Option<Range>
+    ensures { result ≡ refused_int fault (in_state_view known.now) }
+{
+    match fault {
+        VerifyFault::ZeroDivisor(_) | VerifyFault::LowerMetric(_) => known.top_int(),
+        _ => None,
     }
 }
 
@@ -138,7 +149,7 @@ pub(crate) fn analyze(alloc: Global, code: &Code, size: u32) -> Result<u32, Find
         (λ depth. (first_fault code.now size (length code.now.instrs) ≡ None)
         × (depth ≡ highest code.now size (length code.now.instrs)))
         (λ e. (e.fault ≡ refusal.Memory) ⊎ (first_fault code.now size (length code.now.instrs) ≡ Some e.fault)) }
-    ensures known { IfErr result (λ e. (e.fault ≡ refusal.Memory) ⊎ IsKnownBefore code.now size e.fault e.known) }
+    ensures range { IfErr result (λ e. e.range ≡ refused_range code.now size e.fault) }
     ensures limit { IfOk result (λ depth. depth ≤ stack_limit) }
     ensures not_the_size { IfErr result (λ e. e.fault ≢ refusal.BadSize) }
 {
@@ -147,11 +158,8 @@ pub(crate) fn analyze(alloc: Global, code: &Code, size: u32) -> Result<u32, Find
     for at in 0..code.instrs().len() {
         depth = depth.max(in_states[at].height());
         if let Some(fault) = visit(alloc, code, size, at, &mut in_states)? {
-            let known = in_states[at].copy(alloc)?;
-            return Err(Finding {
-                fault,
-                known: Some(known),
-            });
+            let range = refused_int(fault, &in_states[at]);
+            return Err(Finding { fault, range });
         }
     }
     Ok(depth)
