@@ -61,7 +61,7 @@ pub fn compile_text(alloc: Global, text: &[u8]) -> Result<Code, Failure>
 
 /// The code of a code file.
 pub fn read_file(alloc: Global, bytes: &[u8]) -> Result<Code, Failure>
-    ensures { MatchResult result (λ code. spec.code_in_file bytes.now ≡ Ok code)
+    ensures code { MatchResult result (λ code. spec.code_in_file bytes.now ≡ Ok code)
         (OnRefusal (λ why. spec.code_in_file bytes.now ≡ Err why)) }
     ensures told { IfErr result IsOfSource }
 {
@@ -70,7 +70,7 @@ pub fn read_file(alloc: Global, bytes: &[u8]) -> Result<Code, Failure>
 
 /// The code of a code file in hexadecimal, in letters of either case.
 pub fn read_hexadecimal(alloc: Global, digits: &[u8]) -> Result<Code, Failure>
-    ensures { MatchResult result (λ code. spec.code_in_hexadecimal digits.now ≡ Ok code)
+    ensures code { MatchResult result (λ code. spec.code_in_hexadecimal digits.now ≡ Ok code)
         (OnRefusal (λ why. spec.code_in_hexadecimal digits.now ≡ Err why)) }
     ensures told { IfErr result IsOfSource }
 {
@@ -104,7 +104,7 @@ pub fn verify_mapped(
 {
     match verify_or_tell(alloc, code, size) {
         Ok(verified) => Ok(verified),
-        Err(Unverified { fault, range, .. }) => Err(failure_of(fault, range, places)),
+        Err(Unverified { fault, range }) => Err(failure_of(fault, range, places)),
     }
 }
 

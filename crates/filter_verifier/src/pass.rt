@@ -14,7 +14,7 @@ ghost use Rattle.filter_verifier.specs.Surveys.{refused_int, refused_range};
 ghost use Rattle.filter_verifier.specs.Transfer.{leads_below, leads_to, out_state};
 
 use crate::abstract_frame::AbstractFrame;
-use crate::fault::VerifyFault;
+use crate::fault::{Unverified, VerifyFault};
 use crate::in_state::InState;
 use crate::out_state::{OutState, out_state};
 use crate::range::Range;
@@ -114,24 +114,6 @@ pub(crate) fn visit(
     }
 }
 
-/// A fault, and the range of the int that is refused, if it is one.
-#[derive(Clone, Copy)]
-pub(crate) struct Finding {
-    pub fault: VerifyFault,
-    pub range: Option<Range>,
-}
-
-impl From<AllocError> for Finding {
-    ghost from_gives = { λ _ e. e ≡ record { fault = refusal.Memory; range = None } };
-
-    fn from(_e: AllocError) -> Finding {
-        Finding {
-            fault: VerifyFault::Memory,
-            range: None,
-        }
-    }
-}
-
 /// The range of the int that is refused, by what is known before the instruction.
 fn refused_int(fault: VerifyFault, known: &InState) -> Option<Range>
     ensures { result ≡ refused_int fault (in_state_view known.now) }
@@ -143,7 +125,7 @@ fn refused_int(fault: VerifyFault, known: &InState) -> Option<Range>
 }
 
 /// Visits each instruction in order. The greatest depth of a stack, or the first fault.
-pub(crate) fn analyze(alloc: Global, code: &Code, size: u32) -> Result<u32, Finding>
+pub(crate) fn analyze(alloc: Global, code: &Code, size: u32) -> Result<u32, Unverified>
     requires { 0 < length code.now.instrs }
     ensures outcome { MatchResult result
         (λ depth. (first_fault code.now size (length code.now.instrs) ≡ None)
@@ -159,7 +141,7 @@ pub(crate) fn analyze(alloc: Global, code: &Code, size: u32) -> Result<u32, Find
         depth = depth.max(in_states[at].height());
         if let Some(fault) = visit(alloc, code, size, at, &mut in_states)? {
             let range = refused_int(fault, &in_states[at]);
-            return Err(Finding { fault, range });
+            return Err(Unverified { fault, range });
         }
     }
     Ok(depth)

@@ -7,7 +7,7 @@ use crate::filter::{verify_file, verify_text};
 use crate::read::read_command;
 use crate::script::{Script, ScriptFault};
 use crate::words::three_words;
-use filter_source::{Failure, Refusal};
+use filter_source::{Diagnosis, Failure};
 use filter_verifier::Verified;
 use line_protocol::{Reply, Service, answer_lines};
 use std::alloc::{AllocError, Global};
@@ -18,10 +18,8 @@ use std::io::{Read, Write};
 pub struct RefusedFilter<'a> {
     /// The filter's text, with which the line ends, or the hexadecimal digits of its code file.
     pub source: &'a [u8],
-    /// The source is a code file.
-    pub is_code: bool,
-    /// Why the filter is refused.
-    pub why: Refusal,
+    /// What is told of the refusal.
+    pub told: Diagnosis,
 }
 
 /// Somebody who watches a script.
@@ -39,9 +37,9 @@ impl Watch for Nobody {
 }
 
 /// Why a source gives no verified code. Nothing is known where memory was refused.
-fn refusal_of(verified: Result<Verified, Failure>) -> Option<Refusal> {
+fn diagnosis_of(verified: Result<Verified, Failure>) -> Option<Diagnosis> {
     match verified {
-        Err(Failure::Refused(why)) => Some(why),
+        Err(Failure::Refused(told)) => Some(told),
         Err(Failure::Memory) | Ok(_) => None,
     }
 }
@@ -51,16 +49,14 @@ pub fn refused_filter(alloc: Global, line: &[u8], size: u16) -> Option<RefusedFi
     match read_command(alloc, line) {
         Ok(Command::Load { text, .. }) => Some(RefusedFilter {
             source: text,
-            is_code: false,
-            why: refusal_of(verify_text(alloc, text, size))?,
+            told: diagnosis_of(verify_text(alloc, text, size))?,
         }),
         Ok(Command::Code { bytes, .. }) => {
-            let why = refusal_of(verify_file(alloc, bytes.as_slice(), size))?;
+            let told = diagnosis_of(verify_file(alloc, bytes.as_slice(), size))?;
             let (_, _, digits) = three_words(line)?;
             Some(RefusedFilter {
                 source: digits,
-                is_code: true,
-                why,
+                told,
             })
         }
         _ => None,
