@@ -1,6 +1,6 @@
 //! What people are told of a refusal: the line, the column, the words, and the line with its caret.
 
-use filter_tools::{check_aloud, place_in};
+use filter_tools::{check_named, place_in};
 use std::alloc::Global;
 use std::process::Abort;
 use std::test::Fail;
@@ -14,17 +14,17 @@ fn expect_told(
     answer: &str,
     told: &str,
 ) -> Result<(), Fail> {
-    let mut reader = input;
     let (mut writer, mut errors) = (Vec::new(alloc), Vec::new(alloc));
     let name = b"f".as_slice();
-    let refusal = check_aloud(
+    let refusal = check_named(
         alloc,
-        &mut reader,
+        input,
         &mut writer,
         &mut errors,
         name,
         16,
         is_code,
+        true,
     )?;
     assert_eq!(rt; errors.as_slice(), told.as_bytes());
     assert_eq!(rt; writer.as_slice(), answer.as_bytes());
