@@ -116,9 +116,9 @@ pub fn explain(
     alloc: Global,
     name: &[u8],
     text: &[u8],
-    told: Diagnosis,
+    told: &Diagnosis,
 ) -> Result<Vec<u8>, AllocError>
-    ensures { IfOk result (λ out. IsExplanation name.now text.now told out.items) }
+    ensures { IfOk result (λ out. IsExplanation name.now text.now told.now out.items) }
 {
     let found = find(alloc, text, told)?;
     explain_in(

@@ -45,8 +45,8 @@ fn push_range(out: &mut Vec<u8>, range: Option<Range>) -> Result<(), AllocError>
 }
 
 /// The words of a refusal, with the range of the int that is refused.
-fn words_of(alloc: Global, told: Diagnosis) -> Result<Vec<u8>, AllocError>
-    ensures { IfOk result (λ words. EndsInRange told words.items) }
+fn words_of(alloc: Global, told: &Diagnosis) -> Result<Vec<u8>, AllocError>
+    ensures { IfOk result (λ words. EndsInRange told.now words.items) }
 {
     let plain = format!(in alloc; "{}", told.refusal)?;
     let mut words = Vec::from_slice(alloc, plain.as_bytes())?;
@@ -66,9 +66,9 @@ fn words_on_head(
     alloc: Global,
     text: &[u8],
     word: Option<Word>,
-    told: Diagnosis,
+    told: &Diagnosis,
 ) -> Result<Vec<u8>, AllocError>
-    ensures { IfOk result (λ words. EndsInRange told words.items) }
+    ensures { IfOk result (λ words. EndsInRange told.now words.items) }
 {
     let plain = match name_in(text, word) {
         Some(name) => format!(in alloc; "`{name}` is no command: {}", told.refusal)?,
@@ -80,9 +80,9 @@ fn words_on_head(
 }
 
 /// What is shown of a refusal. Where the word at the head of a command is none, the refusal is shown at that word.
-pub(crate) fn find(alloc: Global, text: &[u8], told: Diagnosis) -> Result<Finding, AllocError>
-    ensures shown { IfOk result (λ found. IsShownAt text.now told found.byte) }
-    ensures words { IfOk result (λ found. EndsInRange told found.words.items) }
+pub(crate) fn find(alloc: Global, text: &[u8], told: &Diagnosis) -> Result<Finding, AllocError>
+    ensures shown { IfOk result (λ found. IsShownAt text.now told.now found.byte) }
+    ensures words { IfOk result (λ found. EndsInRange told.now found.words.items) }
 {
     match missing_assign_of(told.refusal) {
         Some(at) => {

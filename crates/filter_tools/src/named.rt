@@ -3,6 +3,7 @@ ghost use Rattle.std.specs.Prelude.{◌≡◌, Some, IfErr, IfOk, OnOk};
 ghost use Rattle.std.specs.Io.KnownBytes.{Appends};
 ghost use Rattle.filter_commands.specs.Evaluation.{IsCut};
 ghost use Rattle.filter_commands.specs.Faults.{stream_fault};
+ghost use Rattle.filter_source.specs.declared.diagnosis.Diagnosis.{Diagnosis as TheDiagnosis};
 ghost use Rattle.filter_tools.specs.Naming.{ChecksNamed, ChecksNamedOff, IsCutTelling, TellsOf, named_refusal};
 ghost use Rattle.filter_tools.specs.Telling.{Explains, IsCutExplanation};
 
@@ -20,11 +21,11 @@ pub fn tell<E: Write>(
     errors: &mut E,
     name: &[u8],
     text: &[u8],
-    told: Diagnosis,
+    told: &Diagnosis,
 ) -> Result<(), ProgramFault>
-    ensures ok { OnOk result (Explains name.now text.now (Some told) (E.contents errors.old) (E.contents errors.new)) }
+    ensures ok { OnOk result (Explains name.now text.now (Some told.now) (E.contents errors.old) (E.contents errors.new)) }
     ensures err { IfErr result (λ fault.
-        IsCutExplanation (stream_fault fault) name.now text.now told (E.contents errors.old) (E.contents errors.new)) }
+        IsCutExplanation (stream_fault fault) name.now text.now told.now (E.contents errors.old) (E.contents errors.new)) }
 {
     let words = explain(alloc, name, text, told)?;
     write_text(errors, words.as_slice())?;
@@ -66,23 +67,29 @@ fn tell_named<E: Write>(
     write_whole(errors, text.as_slice())
 }
 
-/// Tells why a source of this name is refused: in words where `is_explained` says so, and otherwise by its name and its refusal.
+/// Tells why a source of this name is refused, if it is: in words where `is_explained` says so, and otherwise by its name and its
+/// refusal.
 fn tell_refusal<E: Write>(
     alloc: Global,
     errors: &mut E,
     name: &[u8],
     text: &[u8],
-    told: Diagnosis,
+    told: &Option<Diagnosis>,
     is_explained: bool,
 ) -> Result<(), ProgramFault>
-    ensures ok { OnOk result (TellsOf is_explained name.now text.now (Some told) (E.contents errors.old) (E.contents errors.new)) }
-    ensures err { IfErr result (λ fault.
-        IsCutTelling (stream_fault fault) is_explained name.now text.now told (E.contents errors.old) (E.contents errors.new)) }
+    ensures ok { OnOk result (TellsOf is_explained name.now text.now told.now (E.contents errors.old) (E.contents errors.new)) }
+    ensures err { IfErr result (λ fault. (why : TheDiagnosis) × (told.now ≡ Some why)
+        × IsCutTelling (stream_fault fault) is_explained name.now text.now why (E.contents errors.old) (E.contents errors.new)) }
 {
-    if is_explained {
-        tell(alloc, errors, name, text, told)
-    } else {
-        tell_named(alloc, errors, name, told.refusal)
+    match told {
+        None => Ok(()),
+        Some(why) => {
+            if is_explained {
+                tell(alloc, errors, name, text, why)
+            } else {
+                tell_named(alloc, errors, name, why.refusal)
+            }
+        }
     }
 }
 
@@ -103,11 +110,7 @@ pub fn check_named<W: Write, E: Write>(
     ensures broken_off { IfErr result (λ fault. ChecksNamedOff (stream_fault fault) size is_code is_explained name.now text.now
         (W.contents writer.old) (W.contents writer.new) (E.contents errors.old) (E.contents errors.new)) }
 {
-    match write_report(alloc, text, writer, size, is_code)? {
-        Some(told) => {
-            tell_refusal(alloc, errors, name, text, told, is_explained)?;
-            Ok(Some(told))
-        }
-        None => Ok(None),
-    }
+    let told = write_report(alloc, text, writer, size, is_code)?;
+    tell_refusal(alloc, errors, name, text, &told, is_explained)?;
+    Ok(told)
 }

@@ -58,11 +58,12 @@ pub fn explain_line(
     number: u32,
     line: &[u8],
     source: &[u8],
-    told: Diagnosis,
+    told: &Diagnosis,
 ) -> Result<Vec<u8>, AllocError>
-    ensures { IfOk result (λ out. IsLineExplanation name.now number line.now source.now told out.items) }
+    ensures { IfOk result (λ out. IsLineExplanation name.now number line.now source.now told.now out.items) }
 {
     let found = find(alloc, source, told)?;
+    let byte = byte_of_line(line, source, found.byte);
     explain_at(
         alloc,
         name,
@@ -70,6 +71,6 @@ pub fn explain_line(
         line,
         found.words.as_slice(),
         told.refusal,
-        byte_of_line(line, source, found.byte),
+        byte,
     )
 }

@@ -137,7 +137,7 @@ fn tell_filter<E: Write>(
         Filtered::Answered(_) => Ok(FAILED),
         Filtered::Refused(why) => {
             if is_explained {
-                tell(alloc, errors, name, text, why)?;
+                tell(alloc, errors, name, text, &why)?;
             }
             Ok(FAILED)
         }
