@@ -1,5 +1,5 @@
 -- How a run of `filter` ends, by its text.
-use Rattle.std.proofs.Common.{◌≡◌, ◌≤◌, ℕ, List, length, Option, Some, None, IfSome, IfErr, Result, Ok, Err, inl, inr, refl, subst, ◌∙◌, ap}
+use Rattle.std.proofs.Common.{◌≡◌, ℕ, false, List, Option, Some, None, IfSome, IfErr, IfOk, Result, Ok, Err, inl, inr, refl, sym, subst, ◌∙◌, ap}
 use Rattle.filter_code.specs.CodeView.{CodeView}
 use Rattle.filter_parser.specs.SyntaxText.{FilterView}
 use Rattle.filter_source.specs.Diagnoses.{TellsOfCode}
@@ -8,6 +8,7 @@ use Rattle.filter_source.specs.Sources.{IsUnsafe, Translates}
 use Rattle.filter_source.specs.declared.failure.Failure.{Failure}
 use Rattle.filter_source.specs.declared.failure.Failure.TheVariants.{Refused, Memory}
 use Rattle.filter_source.specs.declared.diagnosis.Diagnosis.{Diagnosis}
+use Rattle.filter_verifier.specs.FirstFault.{the_fault}
 use Rattle.filter_verifier.specs.Safe.{IsSafe}
 use Rattle.filter_verifier.specs.VerifiedView.{VerifiedView}
 use Rattle.line_protocol.specs.declared.faults.StreamFault.{StreamFault}
@@ -40,6 +41,14 @@ pub unsafe_filter : {V : Type 0} (size : ℕ) (text places : List ℕ) (program 
     → IfErr r (OnDiagnosis (IsDiagnosis size false text))
 unsafe_filter size text places program (Ok v) gives are unsafe is = tt
 unsafe_filter size text places program (Err failure) gives are unsafe is = refused_code size text places program failure gives are unsafe is
+
+-- verified code is the translation that was verified
+pub translated : (size : ℕ) (text : List ℕ) (program : CodeView) (r : Result VerifiedView Failure)
+    → (filter : FilterView) × Translates text filter program
+    → IfOk r (λ v. (v ≡ record { program = program; size = size }) × (the_fault program size ≡ None))
+    → IfOk r (λ v. (filter : FilterView) × Translates text filter v.program)
+translated size text program (Ok v) t h = (t.0, subst (λ (w : VerifiedView). Translates text t.0 w.program) (sym h.0) t.1)
+translated size text program (Err failure) t h = tt
 
 -- the verified code of a text answers as the text means
 module _ (text : List ℕ) (size : ℕ) (v : VerifiedView) (same : v.size ≡ size) (safe : IsSafe v.program v.size)

@@ -10,7 +10,7 @@ pub returns-clause-verified : goal.returns-clause-verified
 returns-clause-verified c =
     let gives = GivesText c.args.text.now in
     subst (λ (n : ℕ). IfOk c.verify_mapped.result (λ v. IsVerified gives n v)) c.from.ensures
-    (verified gives c.in_ok.code c.from.result c.verify_mapped.result c.in_ok.ensures.code
+    (verified gives c.in_ok-code.field-0.code c.from.result c.verify_mapped.result c.in_ok-code.ensures.code
     c.verify_mapped.ensures.verified c.verify_mapped.ensures.safe)
 
 pub returns-clause-refused : goal.returns-clause-refused
@@ -18,5 +18,5 @@ returns-clause-refused c =
     let gives = GivesText c.args.text.now in
     let lacks = IsRefusedText c.args.text.now in
     subst (λ (n : ℕ). IfErr c.verify_mapped.result (OnRefusal (IsRefusedBy gives lacks n))) c.from.ensures
-    (refused_by gives lacks c.in_ok.code c.from.result c.verify_mapped.result c.in_ok.ensures.code
+    (refused_by gives lacks c.in_ok-code.field-0.code c.from.result c.verify_mapped.result c.in_ok-code.ensures.code
     c.verify_mapped.ensures.refused)
