@@ -8,7 +8,6 @@ use crate::read::read_command;
 use crate::script::{Script, ScriptFault};
 use crate::words::three_words;
 use filter_source::{Diagnosis, Failure};
-use filter_verifier::Verified;
 use line_protocol::{Reply, Service, answer_lines};
 use std::alloc::{AllocError, Global};
 use std::io::{Read, Write};
@@ -36,29 +35,26 @@ impl Watch for Nobody {
     fn see_refused(&mut self, _alloc: Global, _number: u32, _line: &[u8], _size: Option<u16>) {}
 }
 
-/// Why a source gives no verified code. Nothing is known where memory was refused.
-fn diagnosis_of(verified: Result<Verified, Failure>) -> Option<Diagnosis> {
-    match verified {
-        Err(Failure::Refused(told)) => Some(told),
-        Err(Failure::Memory) | Ok(_) => None,
-    }
+/// The code file that a line gives, where it is refused.
+fn refused_file(line: &[u8], told: Diagnosis) -> Option<RefusedFilter<'_>> {
+    let (_, _, digits) = three_words(line)?;
+    Some(RefusedFilter {
+        source: digits,
+        told,
+    })
 }
 
 /// The filter that a line gives for a domain of a size, if it gives one that is refused. `None` also where memory is refused.
 pub fn refused_filter(alloc: Global, line: &[u8], size: u16) -> Option<RefusedFilter<'_>> {
     match read_command(alloc, line) {
-        Ok(Command::Load { text, .. }) => Some(RefusedFilter {
-            source: text,
-            told: diagnosis_of(verify_text(alloc, text, size))?,
-        }),
-        Ok(Command::Code { bytes, .. }) => {
-            let told = diagnosis_of(verify_file(alloc, bytes.as_slice(), size))?;
-            let (_, _, digits) = three_words(line)?;
-            Some(RefusedFilter {
-                source: digits,
-                told,
-            })
-        }
+        Ok(Command::Load { text, .. }) => match verify_text(alloc, text, size) {
+            Err(Failure::Refused(told)) => Some(RefusedFilter { source: text, told }),
+            _ => None,
+        },
+        Ok(Command::Code { bytes, .. }) => match verify_file(alloc, bytes.as_slice(), size) {
+            Err(Failure::Refused(told)) => refused_file(line, told),
+            _ => None,
+        },
         _ => None,
     }
 }

@@ -151,3 +151,48 @@ fn places_are_those_of_an_editor(rt: HostRuntime) -> Result<(), Fail> {
     }
     Ok(())
 }
+
+/// The range that is told is the one for the size of the domain, of a divisor and of a metric.
+#[test]
+fn ranges_are_those_of_the_size(rt: HostRuntime) -> Result<(), Fail> {
+    let division = "filter d { if 8 / rip_metric = 2 then accept; }";
+    let lower = "filter l { rip_metric = 8 - rip_metric; accept; }";
+    let rows: [(&str, u32, &str); 4] = [
+        (
+            division,
+            8,
+            "f:1:17: instruction 2: the divisor may be 0: it is 0..8 here (V3)\n",
+        ),
+        (
+            division,
+            250,
+            "f:1:17: instruction 2: the divisor may be 0: it is 0..250 here (V3)\n",
+        ),
+        (
+            lower,
+            8,
+            "f:1:12: instruction 3: the new metric may be lower than the one received: it is 0..8 here (V6)\n",
+        ),
+        (
+            "filter l { rip_metric = 3; accept; }",
+            250,
+            "f:1:12: instruction 1: the new metric may be lower than the one received: it is 3..3 here (V6)\n",
+        ),
+    ];
+    for (text, size, told) in rows {
+        let (mut writer, mut errors) = (Vec::new(rt.alloc()), Vec::new(rt.alloc()));
+        let _ = check_named(
+            rt.alloc(),
+            text.as_bytes(),
+            &mut writer,
+            &mut errors,
+            b"f",
+            size,
+            false,
+            true,
+        )?;
+        let line = errors.get(..told.len());
+        assert!(&rt; line == Some(told.as_bytes()), "{text} at {size}");
+    }
+    Ok(())
+}
