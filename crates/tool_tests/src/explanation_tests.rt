@@ -156,43 +156,47 @@ fn places_are_those_of_an_editor(rt: HostRuntime) -> Result<(), Fail> {
 #[test]
 fn ranges_are_those_of_the_size(rt: HostRuntime) -> Result<(), Fail> {
     let division = "filter d { if 8 / rip_metric = 2 then accept; }";
-    let lower = "filter l { rip_metric = 8 - rip_metric; accept; }";
-    let rows: [(&str, u32, &str); 4] = [
+    let rows: [(&str, u32, bool, &str); 4] = [
         (
             division,
             8,
+            false,
             "f:1:17: instruction 2: the divisor may be 0: it is 0..8 here (V3)\n",
         ),
         (
             division,
             250,
+            false,
             "f:1:17: instruction 2: the divisor may be 0: it is 0..250 here (V3)\n",
         ),
         (
-            lower,
-            8,
-            "f:1:12: instruction 3: the new metric may be lower than the one received: it is 0..8 here (V6)\n",
+            "4e4346310000000301000000031570",
+            250,
+            true,
+            "f: instruction 1: the new metric may be lower than the one received: it is 3..3 here (V6)\n",
         ),
         (
-            "filter l { rip_metric = 3; accept; }",
-            250,
-            "f:1:12: instruction 1: the new metric may be lower than the one received: it is 3..3 here (V6)\n",
+            "4e43463100000005130100000001211570",
+            8,
+            true,
+            "f: instruction 3: the new metric may be lower than the one received: it is 0..4294967295 here (V6)\n",
         ),
     ];
-    for (text, size, told) in rows {
+    for (source, size, is_code, told) in rows {
         let (mut writer, mut errors) = (Vec::new(rt.alloc()), Vec::new(rt.alloc()));
+        let name = b"f".as_slice();
         let _ = check_named(
             rt.alloc(),
-            text.as_bytes(),
+            source.as_bytes(),
             &mut writer,
             &mut errors,
-            b"f",
+            name,
             size,
-            false,
+            is_code,
             true,
         )?;
         let line = errors.get(..told.len());
-        assert!(&rt; line == Some(told.as_bytes()), "{text} at {size}");
+        assert!(&rt; line == Some(told.as_bytes()), "{source} at {size}");
     }
     Ok(())
 }
