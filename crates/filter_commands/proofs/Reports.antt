@@ -3,11 +3,12 @@ use Rattle.std.proofs.Common.{◌≡◌, ◌<◌, ◌≤◌, ◌+◌, ℕ, Bool,
 use Rattle.std.proofs.lemmas.Bool.{cases_lt}
 use Rattle.std.proofs.lemmas.List.{append-nil}
 use Rattle.std.specs.Io.KnownBytes.{Appends, Consumes, IsAtEnd}
-use Rattle.line_protocol.specs.Runs.{AppendsFront}
-use Rattle.line_protocol.specs.declared.faults.StreamFault.TheVariants.{Write}
+use Rattle.line_protocol.specs.declared.faults.StreamFault.{StreamFault}
+use Rattle.line_protocol.specs.declared.faults.StreamFault.TheVariants.{Read, Write, Memory, TooLong}
 use Rattle.filter_source.specs.Limits.{source_limit}
+use Rattle.filter_source.specs.declared.diagnosis.Diagnosis.{Diagnosis}
 use Rattle.filter_commands.specs.Check.{IsReport, ReportView}
-use Rattle.filter_commands.specs.Checking.{Checks, ChecksOff}
+use Rattle.filter_commands.specs.Checking.{Checks, ChecksOff, IsCutOff, Reports, refusals_of}
 
 -- of an input that is longer than the limit, more than the limit was read
 beyond : (size : ℕ) (is_code : Bool) (input left read : List ℕ) (report : ReportView) → input ≡ read ++ left
@@ -35,7 +36,7 @@ on_input size is_code input left read report h r =
     ]
 
 -- A report that was written ends the run well.
-pub finished : (size : ℕ) (is_code : Bool) (known left held holds : Option (List ℕ)) (read : List ℕ) (report : ReportView) (n : ℕ)
+finished : (size : ℕ) (is_code : Bool) (known left held holds : Option (List ℕ)) (read : List ℕ) (report : ReportView) (n : ℕ)
     → Consumes known left read → (length read ≤ source_limit → IsAtEnd left) → length read ≤ source_limit + 1
     → IsReport size is_code read report → Appends held holds report.text → n ≡ report.refusals
     → IfSome known (λ input. Checks size is_code input left held holds n)
@@ -55,17 +56,30 @@ finished size is_code (Some input) (Some left) held holds read report n used end
       to_end = λ few. ap (λ (l : List ℕ). Some l) (end (omega (arith, all, few)));
     }
 
--- A writer that fails at a report breaks the run off.
-pub broken_off : (size : ℕ) (is_code : Bool) (known left held holds : Option (List ℕ)) (read : List ℕ) (report : ReportView)
+pub ends_well : (size : ℕ) (is_code : Bool) (known left held holds : Option (List ℕ)) (shown read : List ℕ) (told : Option Diagnosis) (n : ℕ)
+    → Consumes known left read → (length read ≤ source_limit → IsAtEnd left) → length read ≤ source_limit + 1 → shown ≡ read
+    → Reports size is_code shown held holds told → n ≡ refusals_of told → IfSome known (λ input. Checks size is_code input left held holds n)
+ends_well size is_code known left held holds shown read told n used end within same done count =
+    let all : Reports size is_code read held holds told = subst (λ (s : List ℕ). Reports size is_code s held holds told) same done in
+    finished size is_code known left held holds read all.report n used end within all.is_report all.written (count ∙ all.counted)
+
+-- What a fault cut of the report on what was read is what it cut of the report on the input.
+cut_on_input : (fault : StreamFault) (size : ℕ) (is_code : Bool) (input left read : List ℕ) (held holds : Option (List ℕ))
+    → HasRead input left read → IsCutOff fault size is_code read held holds → IsCutOff fault size is_code input held holds
+cut_on_input Read size is_code input left read held holds h cut = cut
+cut_on_input Write size is_code input left read held holds h (report, r, w) = (report, on_input size is_code input left read report h r, w)
+cut_on_input Memory size is_code input left read held holds h cut = cut
+cut_on_input TooLong size is_code input left read held holds h cut = absurd cut
+
+pub broken_off : (fault : StreamFault) (size : ℕ) (is_code : Bool) (known left held holds : Option (List ℕ)) (read : List ℕ)
     → Consumes known left read → (length read ≤ source_limit → IsAtEnd left) → length read ≤ source_limit + 1
-    → IsReport size is_code read report → AppendsFront held holds report.text
-    → IfSome known (λ input. ChecksOff Write size is_code input left held holds)
-broken_off size is_code None left held holds read report used end within r w = tt
-broken_off size is_code (Some input) None held holds read report used end within r w = absurd used
-broken_off size is_code (Some input) (Some left) held holds read report used end within r w =
+    → IsCutOff fault size is_code read held holds → IfSome known (λ input. ChecksOff fault size is_code input left held holds)
+broken_off fault size is_code None left held holds read used end within cut = tt
+broken_off fault size is_code (Some input) None held holds read used end within cut = absurd used
+broken_off fault size is_code (Some input) (Some left) held holds read used end within cut =
     let h : HasRead input left read = record { all = used; to_end = end; within = within } in
     record {
-      written = (report, on_input size is_code input left read report h r, w);
+      written = cut_on_input fault size is_code input left read held holds h cut;
       read = read;
       consumed = used;
       within = within;

@@ -21,4 +21,4 @@ AnswersLine (Some program) number given answer after = (answer ≡ route_answer 
 
 -- what a contract sees of a report
 abbrev pub report_of : Report → ReportView
-report_of r = record { text = r.text.items; refusals = refusals_of r.refusal }
+report_of r = record { text = r.text.items; refusals = refusals_of r.diagnosis }

@@ -44,7 +44,8 @@ impl Service for Evaluator {
                 self.code = Some(code);
                 Ok(Reply::Answered)
             }
-            Err(Failure::Refused(why)) => {
+            Err(Failure::Refused(told)) => {
+                let why = told.refusal;
                 push_refusal(out, why.code(), why.place_in_line(number))?;
                 Ok(Reply::Ended)
             }

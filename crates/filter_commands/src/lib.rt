@@ -10,7 +10,7 @@ mod report;
 mod route_line;
 mod verdict_line;
 
-pub use check::{Checked, check_source, check_text, code_of};
+pub use check::{check_text, code_of, write_report};
 pub use eval::eval_lines;
 pub use fault::ProgramFault;
 pub use laws::{

@@ -1,5 +1,5 @@
 -- What the fault of a step is as a failure: refused memory is one failure, whichever step met it. (This project's own choice.)
-use Rattle.std.specs.Prelude.{⊤}
+use Rattle.std.specs.Prelude.{◌≡◌, ⊤, ℕ, List, Option, Some, None}
 use Rattle.code_file.specs.declared.fault.FileFault.{FileFault}
 use Rattle.code_file.specs.declared.fault.FileFault.TheVariants as file
 use Rattle.filter_compiler.specs.declared.fault.CompileFault.{CompileFault}
@@ -8,40 +8,58 @@ use Rattle.filter_parser.specs.declared.fault.ParseFault.{ParseFault}
 use Rattle.filter_parser.specs.declared.fault.ParseFault.TheVariants as parse
 use Rattle.filter_types.specs.declared.fault.TypeFault.{TypeFault}
 use Rattle.filter_types.specs.declared.fault.TypeFault.TheVariants as types
+use Rattle.filter_verifier.specs.Ranges.{RangeView}
 use Rattle.filter_verifier.specs.declared.fault.VerifyFault.{VerifyFault}
 use Rattle.filter_verifier.specs.declared.fault.VerifyFault.TheVariants as verify
 use Rattle.hex.specs.declared.error.FromHexError.{FromHexError}
 use Rattle.hex.specs.declared.error.FromHexError.TheVariants as digits
+use Rattle.filter_source.specs.Diagnoses.{of_code, of_source}
+use Rattle.filter_source.specs.declared.diagnosis.Diagnosis.{Diagnosis}
 use Rattle.filter_source.specs.declared.failure.Failure.{Failure}
 use Rattle.filter_source.specs.declared.failure.Failure.TheVariants.{Refused, Memory}
 use Rattle.filter_source.specs.declared.refusal.Refusal.{Refusal}
 use Rattle.filter_source.specs.declared.refusal.Refusal.TheVariants.{Hexadecimal, File, Parse, Typing, Compile, Verify}
 
--- this holds of the refusal; of refused memory nothing is said
+-- this holds of the refusal, or of what is told of it; of refused memory nothing is said
 abbrev pub OnRefusal : (Refusal → Type 0) → Failure → Type 0
-OnRefusal P (Refused why) = P why
+OnRefusal P (Refused told) = P told.refusal
 OnRefusal P Memory = ⊤
+
+abbrev pub OnDiagnosis : (Diagnosis → Type 0) → Failure → Type 0
+OnDiagnosis P (Refused told) = P told
+OnDiagnosis P Memory = ⊤
+
+-- what is told of a refusal before there is code follows from it
+abbrev pub IsOfSource : Failure → Type 0
+IsOfSource (Refused told) = told ≡ of_source told.refusal
+IsOfSource Memory = ⊤
+
+-- the refusal, if it is one
+abbrev pub refusal_of : Failure → Option Refusal
+refusal_of (Refused told) = Some told.refusal
+refusal_of Memory = None
 
 abbrev pub of_digits : FromHexError → Failure
 of_digits digits.OutOfMemory = Memory
-of_digits fault = Refused Hexadecimal
+of_digits fault = Refused (of_source Hexadecimal)
 
 abbrev pub of_file : FileFault → Failure
 of_file file.Memory = Memory
-of_file fault = Refused (File fault)
+of_file fault = Refused (of_source (File fault))
 
 abbrev pub of_parse : ParseFault → Failure
 of_parse parse.Memory = Memory
-of_parse fault = Refused (Parse fault)
+of_parse fault = Refused (of_source (Parse fault))
 
 abbrev pub of_type : TypeFault → Failure
 of_type types.Memory = Memory
-of_type fault = Refused (Typing fault)
+of_type fault = Refused (of_source (Typing fault))
 
 abbrev pub of_compile : CompileFault → Failure
 of_compile compile.Memory = Memory
-of_compile fault = Refused (Compile fault)
+of_compile fault = Refused (of_source (Compile fault))
 
-abbrev pub of_verify : VerifyFault → Failure
-of_verify verify.Memory = Memory
-of_verify fault = Refused (Verify fault)
+-- that of code whose instructions come from these places of a text
+abbrev pub of_verify : VerifyFault → Option RangeView → List ℕ → Failure
+of_verify verify.Memory range places = Memory
+of_verify fault range places = Refused (of_code fault range places)

@@ -1,6 +1,7 @@
 -- What callers cite.
 pub mod Limits
 pub mod Refusals
+pub mod Diagnoses
 pub mod Failures
 pub mod Sources
 pub mod TextPlaces

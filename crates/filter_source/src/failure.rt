@@ -1,25 +1,25 @@
 //! What ends the work on a source.
 ghost use Rattle.std.specs.Prelude.{◌≡◌};
+ghost use Rattle.filter_source.specs.Diagnoses.{of_source};
 ghost use Rattle.filter_source.specs.Failures as spec;
 ghost use Rattle.filter_source.specs.declared.failure.Failure.TheVariants as failure;
 
+use crate::diagnosis::Diagnosis;
 use crate::refusal::Refusal;
 use code_file::FileFault;
-use filter_code::Code;
 use filter_compiler::CompileFault;
 use filter_parser::ParseFault;
 use filter_types::TypeFault;
-use filter_verifier::VerifyFault;
 use hex::FromHexError;
 use std::alloc::AllocError;
 use thiserror::Error;
 
 /// Why a source gave nothing: it is refused, or memory was. `?` makes it of the fault of each step.
-#[derive(Clone, Copy, Debug, PartialEq, Eq, Error)]
+#[derive(Clone, Copy, Debug, Error)]
 pub enum Failure {
     /// The source is refused.
-    #[error(transparent)]
-    Refused(Refusal),
+    #[error("{0}")]
+    Refused(Diagnosis),
     /// Memory was refused, and nothing is known of the source.
     #[error("out of memory")]
     Memory,
@@ -34,10 +34,11 @@ impl From<AllocError> for Failure {
 }
 
 impl From<Refusal> for Failure {
-    ghost from_gives = { λ why e. e ≡ failure.Refused why };
+    ghost from_gives = { λ why e. e ≡ failure.Refused (of_source why) };
 
+    /// That of a source which gives no code.
     fn from(why: Refusal) -> Failure {
-        Failure::Refused(why)
+        Failure::Refused(Diagnosis::of_source(why))
     }
 }
 
@@ -47,7 +48,7 @@ impl From<FromHexError> for Failure {
     fn from(fault: FromHexError) -> Failure {
         match fault {
             FromHexError::OutOfMemory => Failure::Memory,
-            _ => Failure::Refused(Refusal::Hexadecimal),
+            _ => Failure::from(Refusal::Hexadecimal),
         }
     }
 }
@@ -58,7 +59,7 @@ impl From<FileFault> for Failure {
     fn from(fault: FileFault) -> Failure {
         match fault {
             FileFault::Memory => Failure::Memory,
-            _ => Failure::Refused(Refusal::File(fault)),
+            _ => Failure::from(Refusal::File(fault)),
         }
     }
 }
@@ -69,7 +70,7 @@ impl From<ParseFault> for Failure {
     fn from(fault: ParseFault) -> Failure {
         match fault {
             ParseFault::Memory => Failure::Memory,
-            _ => Failure::Refused(Refusal::Parse(fault)),
+            _ => Failure::from(Refusal::Parse(fault)),
         }
     }
 }
@@ -80,7 +81,7 @@ impl From<TypeFault> for Failure {
     fn from(fault: TypeFault) -> Failure {
         match fault {
             TypeFault::Memory => Failure::Memory,
-            _ => Failure::Refused(Refusal::Typing(fault)),
+            _ => Failure::from(Refusal::Typing(fault)),
         }
     }
 }
@@ -91,19 +92,7 @@ impl From<CompileFault> for Failure {
     fn from(fault: CompileFault) -> Failure {
         match fault {
             CompileFault::Memory => Failure::Memory,
-            _ => Failure::Refused(Refusal::Compile(fault)),
-        }
-    }
-}
-
-/// The code that `verify` hands back is dropped.
-impl From<(Code, VerifyFault)> for Failure {
-    ghost from_gives = { λ refused e. e ≡ spec.of_verify refused.1 };
-
-    fn from(refused: (Code, VerifyFault)) -> Failure {
-        match refused.1 {
-            VerifyFault::Memory => Failure::Memory,
-            fault => Failure::Refused(Refusal::Verify(fault)),
+            _ => Failure::from(Refusal::Compile(fault)),
         }
     }
 }

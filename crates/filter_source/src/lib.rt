@@ -1,18 +1,20 @@
 //! From a source to code: a filter's text is parsed, checked and compiled, or a code file is read, and the code is verified.
-//! A source that is refused has one `Refusal`, whichever step refused it.
+//! A source that is refused has one `Refusal`, whichever step refused it, and one `Diagnosis`, made by the step that refused it.
 #![tactic(auto)]
 
+mod diagnosis;
 mod failure;
 mod laws;
 mod refusal;
 mod source;
 mod verified_line;
 
+pub use diagnosis::{Diagnosis, place_at};
 pub use failure::Failure;
 pub use laws::one_translation;
 pub use refusal::Refusal;
 pub use source::{
     SOURCE_LIMIT, check_length, compile_text, compile_text_mapped, read_file, read_hexadecimal,
-    verify_code,
+    verify_code, verify_mapped,
 };
 pub use verified_line::push_verified;

@@ -1,16 +1,18 @@
 //! A filter's text, or a code file, becomes code, and code is verified.
-ghost use Rattle.std.specs.Prelude.{◌≡◌, ◌<◌, ◌≤◌, ◌↔◌, Ok, Err, None, false, IfOk, IfErr, MatchResult, OnOk, length};
+ghost use Rattle.std.specs.Prelude.{◌≡◌, ◌<◌, ◌≤◌, ◌↔◌, [], Ok, Err, Some, None, false, IfOk, IfErr, MatchResult, OnOk, length};
 ghost use Rattle.filter_parser.specs.SyntaxText.{FilterView};
 ghost use Rattle.filter_verifier.specs.FirstFault.{is_size, the_fault};
 ghost use Rattle.filter_verifier.specs.Safe.{IsSafe};
 ghost use Rattle.filter_verifier.specs.declared.fault.VerifyFault.TheVariants as fault;
-ghost use Rattle.filter_source.specs.Failures.{OnRefusal};
+ghost use Rattle.filter_source.specs.Diagnoses.{TellsOfCode, of_source};
+ghost use Rattle.filter_source.specs.Failures.{IsOfSource, OnDiagnosis, OnRefusal, of_verify, refusal_of};
 ghost use Rattle.filter_source.specs.Limits.{source_limit};
 ghost use Rattle.filter_source.specs.Sources as spec;
 ghost use Rattle.filter_source.specs.TextPlaces.{ArePlacesOf};
 ghost use Rattle.filter_source.specs.declared.failure.Failure.TheVariants as failure;
 ghost use Rattle.filter_source.specs.declared.refusal.Refusal.TheVariants as refusal;
 
+use crate::diagnosis::Diagnosis;
 use crate::failure::Failure;
 use crate::refusal::Refusal;
 use code_file::read_code;
@@ -18,7 +20,7 @@ use filter_code::Code;
 use filter_compiler::{MappedCode, compile_mapped};
 use filter_parser::parse;
 use filter_types::check;
-use filter_verifier::{Verified, verify};
+use filter_verifier::{Range, Unverified, Verified, VerifyFault, verify_or_tell};
 use std::alloc::Global;
 
 /// A source of more bytes than this is refused.
@@ -27,10 +29,10 @@ pub const SOURCE_LIMIT: usize = 1_048_576;
 /// Refuses a source that is longer than its limit.
 pub fn check_length(source: &[u8]) -> Result<(), Failure>
     ensures ok { OnOk result (length source.now ≤ source_limit) }
-    ensures long { IfErr result (λ e. (e ≡ failure.Refused refusal.TooLong) × (source_limit < length source.now)) }
+    ensures long { IfErr result (λ e. (e ≡ failure.Refused (of_source refusal.TooLong)) × (source_limit < length source.now)) }
 {
     if source.len() > SOURCE_LIMIT {
-        return Err(Failure::Refused(Refusal::TooLong));
+        return Err(Failure::from(Refusal::TooLong));
     }
     Ok(())
 }
@@ -41,6 +43,7 @@ pub fn compile_text_mapped(alloc: Global, text: &[u8]) -> Result<MappedCode, Fai
     ensures code { IfOk result (λ mapped. (filter : FilterView) × spec.Translates text.now filter mapped.code) }
     ensures places { IfOk result (λ mapped. ArePlacesOf text.now mapped.places.items) }
     ensures refused { IfErr result (OnRefusal (spec.IsRefusedText text.now)) }
+    ensures told { IfErr result IsOfSource }
 {
     let filter = parse(alloc, text)?;
     let typed = check(alloc, filter)?;
@@ -58,27 +61,61 @@ pub fn compile_text(alloc: Global, text: &[u8]) -> Result<Code, Failure>
 
 /// The code of a code file.
 pub fn read_file(alloc: Global, bytes: &[u8]) -> Result<Code, Failure>
-    ensures { MatchResult result (λ code. spec.code_in_file bytes.now ≡ Ok code)
+    ensures code { MatchResult result (λ code. spec.code_in_file bytes.now ≡ Ok code)
         (OnRefusal (λ why. spec.code_in_file bytes.now ≡ Err why)) }
+    ensures told { IfErr result IsOfSource }
 {
     Ok(read_code(alloc, bytes)?)
 }
 
 /// The code of a code file in hexadecimal, in letters of either case.
 pub fn read_hexadecimal(alloc: Global, digits: &[u8]) -> Result<Code, Failure>
-    ensures { MatchResult result (λ code. spec.code_in_hexadecimal digits.now ≡ Ok code)
+    ensures code { MatchResult result (λ code. spec.code_in_hexadecimal digits.now ≡ Ok code)
         (OnRefusal (λ why. spec.code_in_hexadecimal digits.now ≡ Err why)) }
+    ensures told { IfErr result IsOfSource }
 {
     let bytes = hex::decode(alloc, digits)?;
     read_file(alloc, bytes.as_slice())
 }
 
-/// Verifies code for domains of a size, 2 to 250 nodes. Code that is refused is dropped; `verify` hands it back.
+/// The failure of code that is refused, or whose verification memory was refused for.
+fn failure_of(fault: VerifyFault, range: Option<Range>, places: &[usize]) -> Failure
+    ensures { result ≡ of_verify fault range places.now }
+{
+    match fault {
+        VerifyFault::Memory => Failure::Memory,
+        _ => Failure::Refused(Diagnosis::of_code(fault, range, places)),
+    }
+}
+
+/// Verifies code whose instructions come from these places of a text, for domains of a size, 2 to 250 nodes. Code that is refused
+/// is dropped.
+pub fn verify_mapped(
+    alloc: Global,
+    code: Code,
+    places: &[usize],
+    size: u32,
+) -> Result<Verified, Failure>
+    ensures verified { IfOk result (λ v. (v ≡ record { program = code; size = size }) × (the_fault code size ≡ None)) }
+    ensures safe { OnOk result (IsSafe code size) }
+    ensures refused { IfErr result (OnRefusal (spec.IsUnsafe code size)) }
+    ensures told { IfErr result (OnDiagnosis (TellsOfCode code places.now size)) }
+    ensures bad_size { IfErr result (λ e. (refusal_of e ≡ Some (refusal.Verify fault.BadSize)) ↔ (is_size size ≡ false)) }
+{
+    match verify_or_tell(alloc, code, size) {
+        Ok(verified) => Ok(verified),
+        Err(Unverified { fault, range }) => Err(failure_of(fault, range, places)),
+    }
+}
+
+/// Verifies code of which no text is known, for domains of a size, 2 to 250 nodes. Code that is refused is dropped; `verify` hands
+/// it back.
 pub fn verify_code(alloc: Global, code: Code, size: u32) -> Result<Verified, Failure>
     ensures verified { IfOk result (λ v. (v ≡ record { program = code; size = size }) × (the_fault code size ≡ None)) }
     ensures safe { OnOk result (IsSafe code size) }
     ensures refused { IfErr result (OnRefusal (spec.IsUnsafe code size)) }
-    ensures bad_size { IfErr result (λ e. (e ≡ failure.Refused (refusal.Verify fault.BadSize)) ↔ (is_size size ≡ false)) }
+    ensures told { IfErr result (OnDiagnosis (TellsOfCode code [] size)) }
+    ensures bad_size { IfErr result (λ e. (refusal_of e ≡ Some (refusal.Verify fault.BadSize)) ↔ (is_size size ≡ false)) }
 {
-    Ok(verify(alloc, code, size)?)
+    verify_mapped(alloc, code, &[], size)
 }

@@ -1,37 +1,54 @@
 -- How a run of `filter` ends, by its text.
-use Rattle.std.proofs.Common.{◌≡◌, ◌≤◌, ℕ, List, length, Option, Some, None, IfSome, IfErr, Result, Ok, Err, inl, inr, refl, subst, ◌∙◌, ap}
+use Rattle.std.proofs.Common.{◌≡◌, ℕ, false, List, Option, Some, None, IfSome, IfErr, IfOk, Result, Ok, Err, inl, inr, refl, sym, subst, ◌∙◌, ap}
 use Rattle.filter_code.specs.CodeView.{CodeView}
 use Rattle.filter_parser.specs.SyntaxText.{FilterView}
-use Rattle.filter_source.specs.Failures.{OnRefusal}
-use Rattle.filter_source.specs.Limits.{source_limit}
+use Rattle.filter_source.specs.Diagnoses.{TellsOfCode}
+use Rattle.filter_source.specs.Failures.{IsOfSource, OnDiagnosis, OnRefusal}
 use Rattle.filter_source.specs.Sources.{IsUnsafe, Translates}
 use Rattle.filter_source.specs.declared.failure.Failure.{Failure}
 use Rattle.filter_source.specs.declared.failure.Failure.TheVariants.{Refused, Memory}
-use Rattle.filter_source.specs.declared.refusal.Refusal.{Refusal}
+use Rattle.filter_source.specs.declared.diagnosis.Diagnosis.{Diagnosis}
+use Rattle.filter_verifier.specs.FirstFault.{the_fault}
 use Rattle.filter_verifier.specs.Safe.{IsSafe}
 use Rattle.filter_verifier.specs.VerifiedView.{VerifiedView}
 use Rattle.line_protocol.specs.declared.faults.StreamFault.{StreamFault}
 use Rattle.line_protocol.specs.declared.faults.StreamFault.TheVariants as stream
 use Rattle.filter_commands.proofs.Endings.{if_known}
+use Rattle.filter_commands.specs.Check.{GivesCode, IsRefused}
+use Rattle.filter_commands.specs.Checking.{ArePlaces, IsDiagnosis}
 use Rattle.filter_commands.specs.Eval.{Line}
 use Rattle.filter_commands.specs.Evaluation.{IsCut}
 use Rattle.filter_tools.proofs.Answered.{answer_by, each_alike, first_alike}
 use Rattle.filter_tools.proofs.Meant.{as_meant}
-use Rattle.filter_tools.specs.Filtering.{AnswersEach, AnswersFirst, Filters, FiltersOff, IsFilterOf, IsRefusedFilter, filter_answer, refusal_line}
+use Rattle.filter_tools.specs.Filtering.{AnswersEach, AnswersFirst, Filters, FiltersOff, IsFilterOf, filter_answer, refusal_line}
 use Rattle.filter_tools.specs.declared.filter.Filtered.TheVariants as filtered
 
--- code that is refused refuses the filter
-refused_code : (size : ℕ) (text : List ℕ) (program : CodeView) → length text ≤ source_limit
-    → (filter : FilterView) × Translates text filter program → (failure : Failure) → OnRefusal (IsUnsafe program size) failure
-    → OnRefusal (IsRefusedFilter size text) failure
-refused_code size text program within code (Refused why) h = inr (program, (within, code), h)
-refused_code size text program within code Memory h = tt
+-- a text without code
+pub no_code : (size : ℕ) (text : List ℕ) (failure : Failure) → OnRefusal (IsRefused false text) failure → IsOfSource failure
+    → OnDiagnosis (IsDiagnosis size false text) failure
+no_code size text (Refused told) refused is = inl (refused, is)
+no_code size text Memory refused is = tt
 
-pub unsafe_filter : {V : Type 0} (size : ℕ) (text : List ℕ) (program : CodeView) → length text ≤ source_limit
-    → (filter : FilterView) × Translates text filter program → (r : Result V Failure) → IfErr r (OnRefusal (IsUnsafe program size))
-    → IfErr r (OnRefusal (IsRefusedFilter size text))
-unsafe_filter size text program within code (Ok v) h = h
-unsafe_filter size text program within code (Err failure) h = refused_code size text program within code failure h
+-- code that is refused
+refused_code : (size : ℕ) (text places : List ℕ) (program : CodeView) (failure : Failure) → GivesCode false text program
+    → ArePlaces false text places → OnRefusal (IsUnsafe program size) failure → OnDiagnosis (TellsOfCode program places size) failure
+    → OnDiagnosis (IsDiagnosis size false text) failure
+refused_code size text places program (Refused told) gives are unsafe is = inr (program, gives, unsafe, (places, are, is))
+refused_code size text places program Memory gives are unsafe is = tt
+
+pub unsafe_filter : {V : Type 0} (size : ℕ) (text places : List ℕ) (program : CodeView) (r : Result V Failure) → GivesCode false text program
+    → ArePlaces false text places → IfErr r (OnRefusal (IsUnsafe program size)) → IfErr r (OnDiagnosis (TellsOfCode program places size))
+    → IfErr r (OnDiagnosis (IsDiagnosis size false text))
+unsafe_filter size text places program (Ok v) gives are unsafe is = tt
+unsafe_filter size text places program (Err failure) gives are unsafe is = refused_code size text places program failure gives are unsafe is
+
+-- verified code is the translation that was verified
+pub translated : (size : ℕ) (text : List ℕ) (program : CodeView) (r : Result VerifiedView Failure)
+    → (filter : FilterView) × Translates text filter program
+    → IfOk r (λ v. (v ≡ record { program = program; size = size }) × (the_fault program size ≡ None))
+    → IfOk r (λ v. (filter : FilterView) × Translates text filter v.program)
+translated size text program (Ok v) t h = (t.0, subst (λ (w : VerifiedView). Translates text t.0 w.program) (sym h.0) t.1)
+translated size text program (Err failure) t h = tt
 
 -- the verified code of a text answers as the text means
 module _ (text : List ℕ) (size : ℕ) (v : VerifiedView) (same : v.size ≡ size) (safe : IsSafe v.program v.size)
@@ -56,15 +73,15 @@ module _ (text : List ℕ) (size : ℕ) (v : VerifiedView) (same : v.size ≡ si
       inr (inr (filter, is_filter, first_alike (answer_by v) (filter_answer filter size) alike fault input left held holds f)))
 
 -- a refusal that is cut
-cut : (fault : StreamFault) (size : ℕ) (text input : List ℕ) (held holds : Option (List ℕ)) (why : Refusal)
-    → IsRefusedFilter size text why → IsCut fault held holds (refusal_line why) → FiltersOff fault size text input (Some input) held holds
-cut stream.Read size text input held holds why r w = absurd w
-cut stream.Write size text input held holds why r w = inr (inl (why, r, refl, refl, w))
-cut stream.Memory size text input held holds why r w = inl (refl, refl, w)
-cut stream.TooLong size text input held holds why r w = absurd w
+cut : (fault : StreamFault) (size : ℕ) (text input : List ℕ) (held holds : Option (List ℕ)) (told : Diagnosis)
+    → IsDiagnosis size false text told → IsCut fault held holds (refusal_line told.refusal) → FiltersOff fault size text input (Some input) held holds
+cut stream.Read size text input held holds told r w = absurd w
+cut stream.Write size text input held holds told r w = inr (inl (told, r, refl, refl, w))
+cut stream.Memory size text input held holds told r w = inl (refl, refl, w)
+cut stream.TooLong size text input held holds told r w = absurd w
 
-pub cut_off : (fault : StreamFault) (size : ℕ) (text : List ℕ) (known held holds : Option (List ℕ)) (why : Refusal)
-    → IsRefusedFilter size text why → IsCut fault held holds (refusal_line why)
+pub cut_off : (fault : StreamFault) (size : ℕ) (text : List ℕ) (known held holds : Option (List ℕ)) (told : Diagnosis)
+    → IsDiagnosis size false text told → IsCut fault held holds (refusal_line told.refusal)
     → IfSome known (λ input. FiltersOff fault size text input known held holds)
-cut_off fault size text None held holds why r w = tt
-cut_off fault size text (Some input) held holds why r w = cut fault size text input held holds why r w
+cut_off fault size text None held holds told r w = tt
+cut_off fault size text (Some input) held holds told r w = cut fault size text input held holds told r w

@@ -1,8 +1,7 @@
 pub mod Meant
 pub mod Answered
 pub mod Endings
-pub mod InWords
 pub mod Listings
-pub mod SourcePlaces
+pub mod Cut
 mod Rows
 pub mod HeadWords

@@ -1,9 +1,11 @@
 -- A refusal for people: where it is, in words, and the line with a caret under the place. (This project's own choice.)
-use Rattle.std.specs.Prelude.{◌≡◌, ℕ, Bool, ◌==◌, ◌&&◌, ◌||◌, not, nat_lt, if◌then◌else◌, List, [], ◌∷◌, ◌++◌, Option, Some, None, codes, decimal, drop, filter, map, take}
+use Rattle.std.specs.Prelude.{◌≡◌, ℕ, ◌==◌, ◌&&◌, ◌||◌, not, nat_lt, if◌then◌else◌, List, [], ◌∷◌, ◌++◌, Option, Some, None, codes, decimal, drop, filter, map, take}
 use Rattle.filter_source.specs.Refusals.{refusal_code}
+use Rattle.filter_source.specs.declared.diagnosis.Diagnosis.{Diagnosis}
 use Rattle.filter_source.specs.declared.refusal.Refusal.{Refusal}
+use Rattle.filter_tools.specs.HeadWords.{IsShownAt}
 use Rattle.filter_tools.specs.Places.{before_first_feed, begins_character, behind_last_feed, column_at, line_at}
-use Rattle.filter_tools.specs.SourcePlaces.{StandsAt}
+use Rattle.filter_tools.specs.Ranges.{EndsInRange}
 
 -- a byte of a line as it is shown: control bytes other than the tab are shown as spaces
 abbrev pub shown_byte : ℕ → ℕ
@@ -32,7 +34,7 @@ explanation name text words why None = name ++ message words (refusal_code why)
 explanation name text words why (Some at) = name ++ position (line_at text at) (column_at text at) ++ message words (refusal_code why)
     ++ excerpt (behind_last_feed (take at text)) (before_first_feed (drop at text))
 
--- what people are told of a refusal of a source: some words, where it stands
-abbrev pub IsExplanation : Bool → List ℕ → List ℕ → Refusal → List ℕ → Type 0
-IsExplanation is_code name text why told =
-    (words : List ℕ) × (byte : Option ℕ) × StandsAt is_code text why byte × (told ≡ explanation name text words why byte)
+-- what people are told of a refusal of a source: words that end with the range which is told, where the refusal is shown
+abbrev pub IsExplanation : List ℕ → List ℕ → Diagnosis → List ℕ → Type 0
+IsExplanation name text told out = (words : List ℕ) × (byte : Option ℕ) × EndsInRange told words × IsShownAt text told byte
+    × (out ≡ explanation name text words told.refusal byte)

@@ -6,7 +6,8 @@ use Rattle.filter_code.specs.RouteView.{RouteView}
 use Rattle.filter_compiler.specs.Verdicts.{Verdict, accepted, rejected, divided, meaning}
 use Rattle.filter_parser.specs.SyntaxText.{FilterView}
 use Rattle.filter_source.specs.Refusals.{place_in_line, refusal_code}
-use Rattle.filter_source.specs.Sources.{IsUnsafe, Translates}
+use Rattle.filter_source.specs.Sources.{Translates}
+use Rattle.filter_source.specs.declared.diagnosis.Diagnosis.{Diagnosis}
 use Rattle.filter_source.specs.declared.refusal.Refusal.{Refusal}
 use Rattle.filter_verifier.specs.Safe.{IsSafe}
 use Rattle.line_protocol.specs.Answers.{Answer, refusal, refusals, text_of}
@@ -16,7 +17,7 @@ use Rattle.line_protocol.specs.Runs.{AppendsFront, IsWritten}
 use Rattle.line_protocol.specs.declared.answers.Reply.TheVariants as reply
 use Rattle.line_protocol.specs.declared.faults.StreamFault.{StreamFault}
 use Rattle.line_protocol.specs.declared.faults.StreamFault.TheVariants.{Read, Write, Memory, TooLong}
-use Rattle.filter_commands.specs.Check.{GivesCode, IsRefused}
+use Rattle.filter_commands.specs.Checking.{IsDiagnosis}
 use Rattle.filter_commands.specs.Eval.{Line, answer_of}
 use Rattle.filter_commands.specs.RouteLine.{line_code}
 use Rattle.filter_commands.specs.declared.line_fault.LineFault.{LineFault}
@@ -68,10 +69,6 @@ pub record AnswersFirst (answer_to : Line → Answer) (fault : StreamFault) (inp
   pub consumed : Consumes (Some input) left read
   pub reach : ReachesTo answer_to fault read given
 
--- why the text gives no verified filter: it is refused, or its code is
-abbrev pub IsRefusedFilter : ℕ → List ℕ → Refusal → Type 0
-IsRefusedFilter size text why = IsRefused false text why ⊎ ((program : CodeView) × GivesCode false text program × IsUnsafe program size why)
-
 -- the line that refuses a filter
 abbrev pub refusal_line : Refusal → List ℕ
 refusal_line why = refusal (refusal_code why) (place_in_line why 1)
@@ -85,8 +82,8 @@ pub record IsFilterOf (text : List ℕ) (size : ℕ) (filter : FilterView) : Typ
 -- A run was answered to its end. A refused filter answers no route, and no line is read; otherwise each line is answered by what
 -- the text means for its route.
 abbrev pub Filters : ℕ → List ℕ → List ℕ → Option (List ℕ) → Option (List ℕ) → Option (List ℕ) → Filtered → Type 0
-Filters size text input left held holds (Refused why) =
-    IsRefusedFilter size text why × (left ≡ Some input) × Appends held holds (refusal_line why)
+Filters size text input left held holds (Refused told) =
+    IsDiagnosis size false text told × (left ≡ Some input) × Appends held holds (refusal_line told.refusal)
 Filters size text input left held holds (Answered refused) =
     (filter : FilterView) × IsFilterOf text size filter × AnswersEach (filter_answer filter size) input left held holds refused
 
@@ -94,5 +91,6 @@ Filters size text input left held holds (Answered refused) =
 abbrev pub FiltersOff : StreamFault → ℕ → List ℕ → List ℕ → Option (List ℕ) → Option (List ℕ) → Option (List ℕ) → Type 0
 FiltersOff fault size text input left held holds =
     ((fault ≡ Memory) × (left ≡ Some input) × Appends held holds [])
-    ⊎ (((why : Refusal) × IsRefusedFilter size text why × (fault ≡ Write) × (left ≡ Some input) × AppendsFront held holds (refusal_line why))
+    ⊎ (((told : Diagnosis) × IsDiagnosis size false text told × (fault ≡ Write) × (left ≡ Some input)
+    × AppendsFront held holds (refusal_line told.refusal))
     ⊎ ((filter : FilterView) × IsFilterOf text size filter × AnswersFirst (filter_answer filter size) fault input left held holds))

@@ -5,6 +5,9 @@ use Rattle.filter_parser.specs.declared.expected.Expected.{Expected}
 use Rattle.filter_parser.specs.declared.expected.Expected.TheVariants as expected
 use Rattle.filter_parser.specs.declared.fault.ParseFault.{ParseFault}
 use Rattle.filter_parser.specs.declared.fault.ParseFault.TheVariants as fault
+use Rattle.filter_source.specs.declared.diagnosis.Diagnosis.{Diagnosis}
+use Rattle.filter_source.specs.declared.refusal.Refusal.{Refusal}
+use Rattle.filter_source.specs.declared.refusal.Refusal.TheVariants.{Parse}
 use Rattle.filter_tokens.specs.Tokenization.{AreInOrder, IsTokenization, StopsAt}
 use Rattle.filter_tokens.specs.declared.token.Token.{Token}
 use Rattle.filter_tokens.specs.declared.token_kind.TokenKind.{TokenKind}
@@ -44,7 +47,15 @@ abbrev pub place_or : Option Word → ℕ → ℕ
 place_or None at = at
 place_or (Some word) at = word.from
 
--- The byte at which a refusal of the parser is shown: that of the word at the head of a command which is none, and otherwise its own.
-abbrev pub IsShownAt : List ℕ → ℕ → Option ℕ → Option ℕ → Type 0
-IsShownAt text place None byte = byte ≡ Some place
-IsShownAt text place (Some at) byte = (word : Option Word) × IsHeadWord text at word × (byte ≡ Some (place_or word at))
+-- the byte at which the `=` of an assignment is missing, if that is the refusal
+abbrev pub missing_assign_of : Refusal → Option ℕ
+missing_assign_of (Parse why) = missing_assign why
+missing_assign_of why = None
+
+-- The byte at which a refusal is shown: the one that is told, or that of the word at the head of a command which is none.
+abbrev pub IsShownBy : List ℕ → Option ℕ → Option ℕ → Option ℕ → Type 0
+IsShownBy text found None byte = byte ≡ found
+IsShownBy text found (Some at) byte = (word : Option Word) × IsHeadWord text at word × (byte ≡ Some (place_or word at))
+
+abbrev pub IsShownAt : List ℕ → Diagnosis → Option ℕ → Type 0
+IsShownAt text told byte = IsShownBy text told.byte (missing_assign_of told.refusal) byte

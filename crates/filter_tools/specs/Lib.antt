@@ -1,6 +1,6 @@
 pub mod Places
 pub mod HeadWords
-pub mod SourcePlaces
+pub mod Ranges
 pub mod Explanations
 pub mod ScriptLines
 pub mod Telling

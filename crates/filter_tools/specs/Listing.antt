@@ -8,7 +8,6 @@ use Rattle.filter_code.specs.declared.instruction.Instr.{Instr}
 use Rattle.filter_code.specs.declared.instruction.Instr.TheVariants as instr
 use Rattle.filter_source.specs.declared.refusal.Refusal.{Refusal}
 use Rattle.filter_source.specs.declared.refusal.Refusal.TheVariants.{Verify}
-use Rattle.filter_source.specs.TextPlaces.{ArePlacesOf}
 use Rattle.filter_verifier.specs.FirstFault.{the_fault}
 use Rattle.filter_verifier.specs.InStateView.{InStateView, Unreached, UnlikeDepths, Known}
 use Rattle.filter_verifier.specs.InStates.{in_state}
@@ -19,6 +18,7 @@ use Rattle.line_protocol.specs.Runs.{AppendsFront}
 use Rattle.line_protocol.specs.declared.faults.StreamFault.{StreamFault}
 use Rattle.line_protocol.specs.declared.faults.StreamFault.TheVariants.{Read, Write, Memory, TooLong}
 use Rattle.filter_commands.specs.Check.{GivesCode, IsRefused, verdict_on}
+use Rattle.filter_commands.specs.Checking.{ArePlaces}
 use Rattle.filter_tools.specs.Filtering.{refusal_line}
 use Rattle.filter_tools.specs.Places.{column_at, line_at}
 
@@ -89,15 +89,10 @@ IsListing (Some size) program origin text why = (front : List ℕ)
     × (text ≡ front ++ (verdict_on program (the_fault program size)).text)
     × (why ≡ option_map (λ fault. Verify fault) (the_fault program size))
 
--- the bytes of a source that the instructions come from: a code file has none
-abbrev pub AreOrigins : Bool → List ℕ → List ℕ → Type 0
-AreOrigins true source places = places ≡ []
-AreOrigins false source places = ArePlacesOf source places
-
 -- the listing of a source, or the line that refuses it
 abbrev pub IsListed : Option ℕ → Bool → List ℕ → List ℕ → Option Refusal → Type 0
 IsListed size is_code source text why =
-    ((program : CodeView) × GivesCode is_code source program × (places : List ℕ) × AreOrigins is_code source places
+    ((program : CodeView) × GivesCode is_code source program × (places : List ℕ) × ArePlaces is_code source places
     × IsListing size program (origin_in source places) text why)
     ⊎ ((refusal : Refusal) × IsRefused is_code source refusal × (why ≡ Some refusal) × (text ≡ refusal_line refusal))
 

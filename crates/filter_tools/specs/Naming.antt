@@ -1,9 +1,10 @@
 -- What is told of a source that has a name and is checked. (This project's own choice.)
-use Rattle.std.specs.Prelude.{ℕ, ◌++◌, Bool, true, false, List, Option, Some, None, codes}
-use Rattle.std.specs.Io.KnownBytes.{Appends, Consumes, Keeps}
+use Rattle.std.specs.Prelude.{◌⊎◌, ℕ, ◌++◌, Bool, true, false, List, Option, Some, None, codes}
+use Rattle.std.specs.Io.KnownBytes.{Appends, Keeps}
+use Rattle.filter_source.specs.declared.diagnosis.Diagnosis.{Diagnosis}
 use Rattle.filter_source.specs.declared.refusal.Refusal.{Refusal}
 use Rattle.line_protocol.specs.declared.faults.StreamFault.{StreamFault}
-use Rattle.filter_commands.specs.Checking.{Checks, refusals_of}
+use Rattle.filter_commands.specs.Checking.{IsCutOff, Reports}
 use Rattle.filter_commands.specs.Evaluation.{IsCut}
 use Rattle.filter_tools.specs.Filtering.{refusal_line}
 use Rattle.filter_tools.specs.Telling.{Explains, IsCutExplanation}
@@ -12,24 +13,27 @@ use Rattle.filter_tools.specs.Telling.{Explains, IsCutExplanation}
 abbrev pub named_refusal : List ℕ → Refusal → List ℕ
 named_refusal name why = name ++ codes ": " ++ refusal_line why
 
--- What standard error got of a source: its refusal in words, or behind its name, and nothing where there is none. Only what was
--- read of the source, to its end or to its limit, is explained.
-abbrev pub TellsOf : Bool → Bool → List ℕ → List ℕ → Option Refusal → Option (List ℕ) → Option (List ℕ) → Type 0
-TellsOf true is_code name text why told tells =
-    (read : List ℕ) × (left : Option (List ℕ)) × Consumes (Some text) left read × Explains is_code name read why told tells
-TellsOf false is_code name text None told tells = Keeps told tells
-TellsOf false is_code name text (Some why) told tells = Appends told tells (named_refusal name why)
+-- What standard error got of a source: its refusal in words, or behind its name, and nothing where there is none.
+abbrev pub TellsOf : Bool → List ℕ → List ℕ → Option Diagnosis → Option (List ℕ) → Option (List ℕ) → Type 0
+TellsOf true name text told held holds = Explains name text told held holds
+TellsOf false name text None held holds = Keeps held holds
+TellsOf false name text (Some told) held holds = Appends held holds (named_refusal name told.refusal)
 
 -- what standard error got where a fault cut it
-abbrev pub IsCutTelling : StreamFault → Bool → Bool → List ℕ → List ℕ → Option (List ℕ) → Option (List ℕ) → Type 0
-IsCutTelling fault true is_code name text told tells = (why : Refusal) × (read : List ℕ) × (left : Option (List ℕ))
-    × Consumes (Some text) left read × IsCutExplanation fault is_code name read why told tells
-IsCutTelling fault false is_code name text told tells = (why : Refusal) × IsCut fault told tells (named_refusal name why)
+abbrev pub IsCutTelling : StreamFault → Bool → List ℕ → List ℕ → Diagnosis → Option (List ℕ) → Option (List ℕ) → Type 0
+IsCutTelling fault true name text told held holds = IsCutExplanation fault name text told held holds
+IsCutTelling fault false name text told held holds = IsCut fault held holds (named_refusal name told.refusal)
 
--- The report on a source was written, and standard error got what is told of it. `held` and `holds` are what the writer held before
--- and holds now, `told` and `tells` the same of standard error.
-pub record ChecksNamed (size : ℕ) (is_code is_explained : Bool) (name text : List ℕ) (held holds told tells : Option (List ℕ))
-    (why : Option Refusal) : Type 0 where
-  pub left : Option (List ℕ)
-  pub checks : Checks size is_code text left held holds (refusals_of why)
-  pub told_of : TellsOf is_explained is_code name text why told tells
+-- The report on a source was written, and standard error got what is told of the refusal in it. `held` and `holds` are what the writer
+-- held before and holds now, `tells` and `told` the same of standard error.
+pub record ChecksNamed (size : ℕ) (is_code is_explained : Bool) (name text : List ℕ) (held holds tells told : Option (List ℕ))
+    (why : Option Diagnosis) : Type 0 where
+  pub reports : Reports size is_code text held holds why
+  pub told_of : TellsOf is_explained name text why tells told
+
+-- A fault cut the report, and nothing was told; or it cut what is told of the refusal in the report.
+abbrev pub ChecksNamedOff : StreamFault → ℕ → Bool → Bool → List ℕ → List ℕ → Option (List ℕ) → Option (List ℕ) → Option (List ℕ)
+    → Option (List ℕ) → Type 0
+ChecksNamedOff fault size is_code is_explained name text held holds tells told =
+    (IsCutOff fault size is_code text held holds × Keeps tells told)
+    ⊎ ((why : Diagnosis) × Reports size is_code text held holds (Some why) × IsCutTelling fault is_explained name text why tells told)

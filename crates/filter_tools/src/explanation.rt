@@ -5,7 +5,7 @@ ghost use Rattle.filter_tools.specs.Explanations.{IsExplanation, explanation, ex
 
 use crate::finding::find;
 use crate::place::{begins_character, place_in};
-use filter_source::Refusal;
+use filter_source::{Diagnosis, Refusal};
 use line_protocol::push_decimal;
 use std::alloc::{AllocError, Global};
 
@@ -110,18 +110,23 @@ fn explain_in(
     Ok(out)
 }
 
-/// Why a source of this name is refused for domains of a size, for people: `NAME: WORDS (CODE)`. Where the refusal has a place in a
-/// filter's text, its line and column stand behind the name, and the line with a caret under the place follows.
+/// Why a source of this name is refused, for people: `NAME: WORDS (CODE)`. Where the refusal has a place in a filter's text, its line
+/// and column stand behind the name, and the line with a caret under the place follows.
 pub fn explain(
     alloc: Global,
     name: &[u8],
     text: &[u8],
-    size: u32,
-    is_code: bool,
-    why: Refusal,
+    told: &Diagnosis,
 ) -> Result<Vec<u8>, AllocError>
-    ensures { IfOk result (λ out. IsExplanation is_code name.now text.now why out.items) }
+    ensures { IfOk result (λ out. IsExplanation name.now text.now told.now out.items) }
 {
-    let found = find(alloc, text, size, is_code, why)?;
-    explain_in(alloc, name, text, found.words.as_bytes(), why, found.byte)
+    let found = find(alloc, text, told)?;
+    explain_in(
+        alloc,
+        name,
+        text,
+        found.words.as_slice(),
+        told.refusal,
+        found.byte,
+    )
 }

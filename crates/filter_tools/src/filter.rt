@@ -1,21 +1,23 @@
 //! `ncroute filter`: routes through a filter that is verified first.
-ghost use Rattle.std.specs.Prelude.{◌≡◌, ◌++◌, ℕ, [], IfErr, IfOk, IfSome, OnErr, OnOk};
+ghost use Rattle.std.specs.Prelude.{◌≡◌, ◌++◌, ℕ, [], false, IfErr, IfOk, IfSome, OnErr, OnOk};
 ghost use Rattle.std.specs.Io.{StartsWith};
 ghost use Rattle.std.specs.Io.KnownBytes.{Appends};
 ghost use Rattle.filter_commands.specs.Eval.{verdict};
+ghost use Rattle.filter_commands.specs.Checking.{IsDiagnosis};
 ghost use Rattle.filter_commands.specs.Evaluation.{IsCut};
 ghost use Rattle.filter_commands.specs.Faults.{stream_fault};
 ghost use Rattle.filter_machine.specs.Verdicts.{outcome_said};
 ghost use Rattle.filter_parser.specs.SyntaxText.{FilterView};
-ghost use Rattle.filter_source.specs.Failures.{OnRefusal};
+ghost use Rattle.filter_source.specs.Failures.{OnDiagnosis};
 ghost use Rattle.filter_source.specs.Sources.{Translates};
 ghost use Rattle.filter_verifier.specs.Safe.{IsSafe};
-ghost use Rattle.filter_tools.specs.Filtering.{AnswersEach, AnswersFirst, Filters, FiltersOff, IsRefusedFilter, code_answer, refusal_line};
+ghost use Rattle.filter_tools.specs.Filtering.{AnswersEach, AnswersFirst, Filters, FiltersOff, code_answer, refusal_line};
 
 use crate::route_of_size::read_route;
-use filter_commands::{ProgramFault, push_accept};
+use filter_commands::{ProgramFault, code_of, push_accept};
+use filter_compiler::MappedCode;
 use filter_machine::{Verdict, run};
-use filter_source::{Failure, Refusal, check_length, compile_text, verify_code};
+use filter_source::{Diagnosis, Failure, Refusal, verify_mapped};
 use filter_verifier::Verified;
 use line_protocol::{Reply, Service, answer_lines, push_refusal, write_text};
 use std::alloc::{AllocError, Global};
@@ -25,10 +27,10 @@ use std::io::{Read, Write};
 const FIRST_LINE: u32 = 1;
 
 /// What became of a filter.
-#[derive(Clone, Copy, Debug, PartialEq, Eq)]
+#[derive(Clone, Copy, Debug)]
 pub enum Filtered {
     /// It is refused, and no route was answered.
-    Refused(Refusal),
+    Refused(Diagnosis),
     /// Each line was answered, and so many of them were refused.
     Answered(u32),
 }
@@ -96,11 +98,10 @@ fn verified_filter(alloc: Global, text: &[u8], size: u32) -> Result<Verified, Fa
     ensures size { IfOk result (λ verified. verified.size ≡ size) }
     ensures translates { IfOk result (λ verified. (filter : FilterView) × Translates text.now filter verified.program) }
     ensures safe { IfOk result (λ verified. IsSafe verified.program verified.size) }
-    ensures refused { IfErr result (OnRefusal (IsRefusedFilter size text.now)) }
+    ensures refused { IfErr result (OnDiagnosis (IsDiagnosis size false text.now)) }
 {
-    check_length(text)?;
-    let code = compile_text(alloc, text)?;
-    verify_code(alloc, code, size)
+    let MappedCode { code, places } = code_of(alloc, text, false)?;
+    verify_mapped(alloc, code, places.as_slice(), size)
 }
 
 /// Answers each line of `reader` on `writer` by verified code.
@@ -160,9 +161,9 @@ pub fn filter_lines<R: Read, W: Write>(
             let refused = answer_routes(alloc, verified, reader, writer)?;
             Ok(Filtered::Answered(refused))
         }
-        Err(Failure::Refused(why)) => {
-            write_refusal(alloc, writer, why)?;
-            Ok(Filtered::Refused(why))
+        Err(Failure::Refused(told)) => {
+            write_refusal(alloc, writer, told.refusal)?;
+            Ok(Filtered::Refused(told))
         }
         Err(Failure::Memory) => Err(ProgramFault::MEMORY),
     }

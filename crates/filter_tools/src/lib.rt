@@ -1,7 +1,6 @@
 //! What helps people with filters: a refusal in words, at its line and column, and a filter that is tried on routes.
 #![tactic(auto)]
 
-mod aloud;
 mod explanation;
 mod filter;
 mod finding;
@@ -11,12 +10,10 @@ mod named;
 mod place;
 mod route_of_size;
 mod script_line;
-mod source_place;
 
-pub use aloud::{check_aloud, tell};
 pub use explanation::explain;
 pub use filter::{Filtered, filter_lines};
 pub use listing::write_listing;
-pub use named::check_named;
+pub use named::{check_named, tell};
 pub use place::{Place, place_in};
 pub use script_line::explain_line;

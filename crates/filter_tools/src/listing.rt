@@ -13,11 +13,10 @@ ghost use Rattle.filter_tools.specs.Listing.{nothing_known, origin_in, place_tex
 
 use crate::filter::refusal_line;
 use crate::place::place_in;
-use crate::source_place::{mapped_code_of, place_at};
 use filter_code::{Code, Instr};
-use filter_commands::ProgramFault;
+use filter_commands::{ProgramFault, code_of};
 use filter_compiler::MappedCode;
-use filter_source::{Failure, Refusal, push_verified, verify_code};
+use filter_source::{Failure, Refusal, place_at, push_verified, verify_code};
 use filter_verifier::{AbstractFrame, Fact, InState, Range, survey_code};
 use line_protocol::{push_decimal, push_refusal, write_text};
 use std::alloc::{AllocError, Global};
@@ -202,7 +201,8 @@ fn list_verified(
                 refusal: None,
             })
         }
-        Err(Failure::Refused(why)) => {
+        Err(Failure::Refused(told)) => {
+            let why = told.refusal;
             push_refusal(&mut text, why.code(), why.at() as u64)?;
             Ok(Listing {
                 text,
@@ -240,7 +240,7 @@ fn list_source(
 ) -> Result<Listing, AllocError>
     ensures { IfOk result (λ listing. IsListed size is_code source.now listing.text.items listing.refusal) }
 {
-    match mapped_code_of(alloc, source, is_code) {
+    match code_of(alloc, source, is_code) {
         Ok(MappedCode { code, places }) => {
             let origins = Origins {
                 source,
@@ -248,9 +248,9 @@ fn list_source(
             };
             list(alloc, code, origins, size)
         }
-        Err(Failure::Refused(why)) => Ok(Listing {
-            text: refusal_line(alloc, why)?,
-            refusal: Some(why),
+        Err(Failure::Refused(told)) => Ok(Listing {
+            text: refusal_line(alloc, told.refusal)?,
+            refusal: Some(told.refusal),
         }),
         Err(Failure::Memory) => Err(AllocError),
     }

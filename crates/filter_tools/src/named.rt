@@ -1,18 +1,36 @@
 //! `ncroute check` of sources that have names: a refusal is told with the name.
-ghost use Rattle.std.specs.Prelude.{◌≡◌, ◌⊎◌, ◌++◌, ℕ, List, Option, IfErr, IfOk, OnOk};
-ghost use Rattle.std.specs.Io.KnownBytes.{Appends, Keeps};
-ghost use Rattle.filter_commands.specs.Checking.{Checks, ChecksOff};
+ghost use Rattle.std.specs.Prelude.{◌≡◌, Some, IfErr, IfOk, OnOk};
+ghost use Rattle.std.specs.Io.KnownBytes.{Appends};
 ghost use Rattle.filter_commands.specs.Evaluation.{IsCut};
 ghost use Rattle.filter_commands.specs.Faults.{stream_fault};
-ghost use Rattle.filter_tools.specs.Naming.{ChecksNamed, IsCutTelling, named_refusal};
+ghost use Rattle.filter_source.specs.declared.diagnosis.Diagnosis.{Diagnosis as TheDiagnosis};
+ghost use Rattle.filter_tools.specs.Naming.{ChecksNamed, ChecksNamedOff, IsCutTelling, TellsOf, named_refusal};
+ghost use Rattle.filter_tools.specs.Telling.{Explains, IsCutExplanation};
 
-use crate::aloud::check_aloud;
+use crate::explanation::explain;
 use crate::filter::refusal_line;
-use filter_commands::{ProgramFault, check_source};
-use filter_source::Refusal;
+use filter_commands::{ProgramFault, write_report};
+use filter_source::{Diagnosis, Refusal};
 use line_protocol::write_text;
 use std::alloc::{AllocError, Global};
 use std::io::Write;
+
+/// Writes why a source of this name is refused, for people.
+pub fn tell<E: Write>(
+    alloc: Global,
+    errors: &mut E,
+    name: &[u8],
+    text: &[u8],
+    told: &Diagnosis,
+) -> Result<(), ProgramFault>
+    ensures ok { OnOk result (Explains name.now text.now (Some told.now) (E.contents errors.old) (E.contents errors.new)) }
+    ensures err { IfErr result (λ fault.
+        IsCutExplanation (stream_fault fault) name.now text.now told.now (E.contents errors.old) (E.contents errors.new)) }
+{
+    let words = explain(alloc, name, text, told)?;
+    write_text(errors, words.as_slice())?;
+    Ok(())
+}
 
 /// The name of a source, and the line that refuses it.
 fn named_refusal(alloc: Global, name: &[u8], why: Refusal) -> Result<Vec<u8>, AllocError>
@@ -49,8 +67,34 @@ fn tell_named<E: Write>(
     write_whole(errors, text.as_slice())
 }
 
+/// Tells why a source of this name is refused, if it is: in words where `is_explained` says so, and otherwise by its name and its
+/// refusal.
+fn tell_refusal<E: Write>(
+    alloc: Global,
+    errors: &mut E,
+    name: &[u8],
+    text: &[u8],
+    told: &Option<Diagnosis>,
+    is_explained: bool,
+) -> Result<(), ProgramFault>
+    ensures ok { OnOk result (TellsOf is_explained name.now text.now told.now (E.contents errors.old) (E.contents errors.new)) }
+    ensures err { IfErr result (λ fault. (why : TheDiagnosis) × (told.now ≡ Some why)
+        × IsCutTelling (stream_fault fault) is_explained name.now text.now why (E.contents errors.old) (E.contents errors.new)) }
+{
+    match told {
+        None => Ok(()),
+        Some(why) => {
+            if is_explained {
+                tell(alloc, errors, name, text, why)
+            } else {
+                tell_named(alloc, errors, name, why.refusal)
+            }
+        }
+    }
+}
+
 /// Writes the report on a source, and tells on `errors` why it is refused, if it is: in words where `is_explained` says so, and
-/// otherwise by its name and its refusal. Returns the refusal.
+/// otherwise by its name and its refusal. Returns what is told of the refusal.
 pub fn check_named<W: Write, E: Write>(
     alloc: Global,
     text: &[u8],
@@ -60,23 +104,13 @@ pub fn check_named<W: Write, E: Write>(
     size: u32,
     is_code: bool,
     is_explained: bool,
-) -> Result<Option<Refusal>, ProgramFault>
-    ensures finished { IfOk result (λ why. ChecksNamed size is_code is_explained name.now text.now
-        (W.contents writer.old) (W.contents writer.new) (E.contents errors.old) (E.contents errors.new) why) }
-    ensures broken_off { IfErr result (λ fault. (left : Option (List ℕ)) ×
-        (ChecksOff (stream_fault fault) size is_code text.now left (W.contents writer.old) (W.contents writer.new)
-        ⊎ Checks size is_code text.now left (W.contents writer.old) (W.contents writer.new) 1)) }
-    ensures cut { IfErr result (λ fault. Keeps (E.contents errors.old) (E.contents errors.new)
-        ⊎ IsCutTelling (stream_fault fault) is_explained is_code name.now text.now (E.contents errors.old) (E.contents errors.new)) }
+) -> Result<Option<Diagnosis>, ProgramFault>
+    ensures finished { IfOk result (ChecksNamed size is_code is_explained name.now text.now
+        (W.contents writer.old) (W.contents writer.new) (E.contents errors.old) (E.contents errors.new)) }
+    ensures broken_off { IfErr result (λ fault. ChecksNamedOff (stream_fault fault) size is_code is_explained name.now text.now
+        (W.contents writer.old) (W.contents writer.new) (E.contents errors.old) (E.contents errors.new)) }
 {
-    let mut reader = text;
-    if is_explained {
-        return check_aloud(alloc, &mut reader, writer, errors, name, size, is_code);
-    }
-    let checked = check_source(alloc, &mut reader, writer, size, is_code)?;
-    let refusal = checked.refusal;
-    if let Some(why) = refusal {
-        tell_named(alloc, errors, name, why)?;
-    }
-    Ok(refusal)
+    let told = write_report(alloc, text, writer, size, is_code)?;
+    tell_refusal(alloc, errors, name, text, &told, is_explained)?;
+    Ok(told)
 }

@@ -6,7 +6,7 @@ ghost use Rattle.filter_tools.specs.ScriptLines.{IsLineExplanation, byte_of_line
 use crate::explanation::{push_excerpt, push_message, push_position};
 use crate::finding::find;
 use crate::place::place_in;
-use filter_source::Refusal;
+use filter_source::{Diagnosis, Refusal};
 use line_protocol::push_decimal;
 use std::alloc::{AllocError, Global};
 
@@ -50,29 +50,27 @@ fn explain_at(
     Ok(out)
 }
 
-/// Why the source with which the line of a number ends is refused for domains of a size, for people: `NAME:NUMBER: WORDS (CODE)`. Where
-/// the refusal has a place in a filter's text, its column in the line stands behind the number, and the line with a caret under the
-/// place follows.
+/// Why the source with which the line of a number ends is refused, for people: `NAME:NUMBER: WORDS (CODE)`. Where the refusal has a
+/// place in a filter's text, its column in the line stands behind the number, and the line with a caret under the place follows.
 pub fn explain_line(
     alloc: Global,
     name: &[u8],
     number: u32,
     line: &[u8],
     source: &[u8],
-    size: u32,
-    is_code: bool,
-    why: Refusal,
+    told: &Diagnosis,
 ) -> Result<Vec<u8>, AllocError>
-    ensures { IfOk result (λ out. IsLineExplanation is_code name.now number line.now source.now why out.items) }
+    ensures { IfOk result (λ out. IsLineExplanation name.now number line.now source.now told.now out.items) }
 {
-    let found = find(alloc, source, size, is_code, why)?;
+    let found = find(alloc, source, told)?;
+    let byte = byte_of_line(line, source, found.byte);
     explain_at(
         alloc,
         name,
         number,
         line,
-        found.words.as_bytes(),
-        why,
-        byte_of_line(line, source, found.byte),
+        found.words.as_slice(),
+        told.refusal,
+        byte,
     )
 }

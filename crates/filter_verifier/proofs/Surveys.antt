@@ -23,7 +23,7 @@ use Rattle.filter_verifier.specs.Pass.{as_in_state, entry_state, frame_of, in_st
 use Rattle.filter_verifier.specs.Surveys.{reach}
 use Rattle.filter_verifier.specs.Transfer.{frame_after, if_inside, judge, leads_below, out_state, out_state_of_frame}
 use Rattle.filter_verifier.specs.Transfer.{out_state_of_known, unless_over, unless_refused}
-use Rattle.filter_verifier.proofs.Passes.{fault_next, first_stays, next_joined}
+use Rattle.filter_verifier.proofs.Passes.{Before, fault_next, first_stays, next_joined}
 use Rattle.filter_verifier.proofs.Propagation.{joined_at_entry}
 
 -- before the visit of an index: what waits, and what was kept
@@ -184,3 +184,26 @@ pub kept_all : (program : CodeView) (size n : ℕ) (waiting in_states : List InS
     (k : ℕ) → k < length (in_states ++ w ∷ []) → state_at (in_states ++ w ∷ []) k ≡ in_state program size k
 kept_all program size n waiting in_states w before is k h =
     kept_more program size n waiting in_states w before is k (omega (arith, h, count_more in_states w, before.counted))
+
+-- a visit that refuses an index hands on nothing
+kept_where_refused : (program : CodeView) (at k : ℕ) (v : OutStateView) (why : VerifyFault) (s : InStateView) → refused_by v ≡ Some why →
+    join_two_states s (as_in_state (propagated program at v k)) ≡ s
+kept_where_refused program at k (Refused w) why Unreached e = refl
+kept_where_refused program at k (Refused w) why UnlikeDepths e = refl
+kept_where_refused program at k (Refused w) why (Known frame) e = refl
+kept_where_refused program at k Skipped why s e = absurd cc
+kept_where_refused program at k (Passed next) why s e = absurd cc
+
+-- what is known before the index that is refused
+pub known_there : (program : CodeView) (size n : ℕ) (in_states next : List InState) (depth : ℕ) (why : VerifyFault) (w : InState) →
+    Before program size n in_states depth →
+    refused_by (out_state program size n (state_at in_states n)) ≡ Some why →
+    ((k : ℕ) → state_at next k
+    ≡ join_two_states (state_at in_states k) (as_in_state (propagated program n (out_state program size n (state_at in_states n)) k))) →
+    in_state_view w ≡ state_at next n →
+    in_state_view w ≡ in_state program size (fault_place why)
+known_there program size n in_states next depth why w before found waits is =
+    let there : in_state_view w ≡ in_state program size n =
+    is ∙ (waits n ∙ (kept_where_refused program n n (out_state program size n (state_at in_states n)) why (state_at in_states n) found
+    ∙ before.waits n)) in
+    subst (λ (m : ℕ). in_state_view w ≡ in_state program size m) (sym (is_at program size n (state_at in_states n) why found)) there

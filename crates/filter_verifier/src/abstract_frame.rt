@@ -4,9 +4,12 @@ ghost use Rattle.std.specs.Prelude.{◌≡◌, ◌≤◌, None, Some, [], IfOk, 
 ghost use Rattle.filter_code.specs.Limits.{stack_limit};
 ghost use Rattle.filter_verifier.specs.Facts.{all_known};
 ghost use Rattle.filter_verifier.specs.PairwiseJoin.{join_two_places};
+ghost use Rattle.filter_verifier.specs.InStateView.{Known};
 ghost use Rattle.filter_verifier.specs.Pass.{fact_at};
+ghost use Rattle.filter_verifier.specs.Surveys.{top_int};
 
 use crate::fact::{Fact, join_two_at};
+use crate::range::Range;
 use filter_code::Stack;
 use std::alloc::{AllocError, Global};
 use std::marker::Model;
@@ -115,6 +118,16 @@ impl AbstractFrame {
         ensures { result.now ≡ self.now.locals }
     {
         &self.locals
+    }
+
+    /// The range of the int on top of the stack, if one is known there.
+    pub fn top_int(&self) -> Option<Range>
+        ensures { result ≡ top_int (Known self.now) }
+    {
+        match fact_at(&self.stack, 0) {
+            Some(fact) => fact.range(),
+            None => None,
+        }
     }
 
     /// The stack. None if and only if one of its places is not known.

@@ -1,7 +1,8 @@
 //! What is known of a value.
 
-ghost use Rattle.std.specs.Prelude.{◌≡◌};
+ghost use Rattle.std.specs.Prelude.{◌≡◌, Some};
 ghost use Rattle.filter_verifier.specs.PairwiseJoin.{join_two_at, join_two_facts};
+ghost use Rattle.filter_verifier.specs.Surveys.{int_at};
 
 use crate::range::Range;
 
@@ -27,6 +28,16 @@ impl Default for Fact {
 }
 
 impl Fact {
+    /// The range of an int.
+    pub fn range(self) -> Option<Range>
+        ensures { result ≡ int_at (Some self) }
+    {
+        match self {
+            Fact::Int(range) => Some(range),
+            Fact::Bool | Fact::Ip | Fact::Prefix => None,
+        }
+    }
+
     /// The join of two facts: what holds of a value if one or the other does. None if their kinds differ.
     pub fn join(&self, other: &Fact) -> Option<Fact>
         ensures { result ≡ join_two_facts self.now other.now }

@@ -1,8 +1,9 @@
 //! Why code is refused.
 
-ghost use Rattle.std.specs.Prelude.{◌≡◌};
+ghost use Rattle.std.specs.Prelude.{◌≡◌, None};
 ghost use Rattle.filter_verifier.specs.declared.fault.VerifyFault.TheVariants.{Memory};
 
+use crate::range::Range;
 use filter_code::{LARGEST_SIZE, SMALLEST_SIZE};
 use std::alloc::{AllocError, AllocFailed};
 use thiserror::Error;
@@ -97,5 +98,26 @@ impl<T: Drop> From<AllocFailed<T>> for VerifyFault {
 
     fn from(_e: AllocFailed<T>) -> VerifyFault {
         VerifyFault::Memory
+    }
+}
+
+/// Why code was refused, and the range of the int that is refused, if it is one: of a divisor that may be 0 (V3), or of a metric that
+/// may be too low (V6).
+#[derive(Clone, Copy, Debug)]
+pub struct Unverified {
+    /// The first test that failed.
+    pub fault: VerifyFault,
+    /// The range that is known of the int.
+    pub range: Option<Range>,
+}
+
+impl From<AllocError> for Unverified {
+    ghost from_gives = { λ _ e. e ≡ record { fault = Memory; range = None } };
+
+    fn from(_e: AllocError) -> Unverified {
+        Unverified {
+            fault: VerifyFault::Memory,
+            range: None,
+        }
     }
 }

@@ -5,8 +5,10 @@ ghost use Rattle.filter_code.specs.Limits.{stack_limit};
 ghost use Rattle.filter_verifier.specs.InStateView.{Known};
 ghost use Rattle.filter_verifier.specs.PairwiseJoin.{join_two_states};
 ghost use Rattle.filter_verifier.specs.Pass.{height_of, in_state_view};
+ghost use Rattle.filter_verifier.specs.Surveys.{top_int};
 
 use crate::abstract_frame::AbstractFrame;
+use crate::range::Range;
 use std::alloc::{AllocError, Global};
 
 /// The join of all that was propagated to an instruction.
@@ -29,6 +31,16 @@ impl InState {
         match self {
             InState::Known(frame) => frame.height(),
             InState::Unreached | InState::UnlikeDepths => 0,
+        }
+    }
+
+    /// The range of the int on top of the stack, if one is known there.
+    pub fn top_int(&self) -> Option<Range>
+        ensures { result ≡ top_int (in_state_view self.now) }
+    {
+        match self {
+            InState::Known(frame) => frame.top_int(),
+            InState::Unreached | InState::UnlikeDepths => None,
         }
     }
 

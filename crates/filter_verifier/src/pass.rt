@@ -9,13 +9,15 @@ ghost use Rattle.filter_verifier.specs.InStateView.{Known, Unreached};
 ghost use Rattle.filter_verifier.specs.InStates.{propagated};
 ghost use Rattle.filter_verifier.specs.OutStateView.{Passed};
 ghost use Rattle.filter_verifier.specs.PairwiseJoin.{join_two_states};
-ghost use Rattle.filter_verifier.specs.Pass.{as_in_state, entry_state, highest, offsets, state_at};
+ghost use Rattle.filter_verifier.specs.Pass.{as_in_state, entry_state, highest, in_state_view, offsets, state_at};
+ghost use Rattle.filter_verifier.specs.Surveys.{refused_int, refused_range};
 ghost use Rattle.filter_verifier.specs.Transfer.{leads_below, leads_to, out_state};
 
 use crate::abstract_frame::AbstractFrame;
-use crate::fault::VerifyFault;
+use crate::fault::{Unverified, VerifyFault};
 use crate::in_state::InState;
 use crate::out_state::{OutState, out_state};
+use crate::range::Range;
 use crate::successors::Successors;
 use filter_code::Code;
 use std::alloc::{AllocError, Global};
@@ -112,22 +114,34 @@ pub(crate) fn visit(
     }
 }
 
+/// The range of the int that is refused, by what is known before the instruction.
+fn refused_int(fault: VerifyFault, known: &InState) -> Option<Range>
+    ensures { result ≡ refused_int fault (in_state_view known.now) }
+{
+    match fault {
+        VerifyFault::ZeroDivisor(_) | VerifyFault::LowerMetric(_) => known.top_int(),
+        _ => None,
+    }
+}
+
 /// Visits each instruction in order. The greatest depth of a stack, or the first fault.
-pub fn analyze(alloc: Global, code: &Code, size: u32) -> Result<u32, VerifyFault>
+pub(crate) fn analyze(alloc: Global, code: &Code, size: u32) -> Result<u32, Unverified>
     requires { 0 < length code.now.instrs }
     ensures outcome { MatchResult result
         (λ depth. (first_fault code.now size (length code.now.instrs) ≡ None)
         × (depth ≡ highest code.now size (length code.now.instrs)))
-        (λ e. (e ≡ refusal.Memory) ⊎ (first_fault code.now size (length code.now.instrs) ≡ Some e)) }
+        (λ e. (e.fault ≡ refusal.Memory) ⊎ (first_fault code.now size (length code.now.instrs) ≡ Some e.fault)) }
+    ensures range { IfErr result (λ e. e.range ≡ refused_range code.now size e.fault) }
     ensures limit { IfOk result (λ depth. depth ≤ stack_limit) }
-    ensures not_the_size { IfErr result (λ e. e ≢ refusal.BadSize) }
+    ensures not_the_size { IfErr result (λ e. e.fault ≢ refusal.BadSize) }
 {
     let mut in_states = entry_states(alloc, code)?;
     let mut depth = 0;
     for at in 0..code.instrs().len() {
         depth = depth.max(in_states[at].height());
         if let Some(fault) = visit(alloc, code, size, at, &mut in_states)? {
-            return Err(fault);
+            let range = refused_int(fault, &in_states[at]);
+            return Err(Unverified { fault, range });
         }
     }
     Ok(depth)

@@ -47,7 +47,7 @@ fn a_text_has_code_or_memory_is_refused(rt: HostRuntime) -> Result<(), Fail> {
     match compile_text(rt.alloc(), TEXT.as_bytes()) {
         Ok(code) => expect_code(&rt, &code),
         Err(failure) => {
-            assert!(rt; failure == Failure::Memory);
+            assert!(rt; matches!(failure, Failure::Memory));
             expect_code(&rt, &compile_text(rt.alloc(), TEXT.as_bytes())?);
             return Err(answered("compile_text", "Memory"));
         }
@@ -60,7 +60,7 @@ fn a_file_has_code_or_memory_is_refused(rt: HostRuntime) -> Result<(), Fail> {
     match read_file(rt.alloc(), FILE) {
         Ok(code) => expect_code(&rt, &code),
         Err(failure) => {
-            assert!(rt; failure == Failure::Memory);
+            assert!(rt; matches!(failure, Failure::Memory));
             expect_code(&rt, &read_file(rt.alloc(), FILE)?);
             return Err(answered("read_file", "Memory"));
         }
@@ -73,7 +73,7 @@ fn digits_have_code_or_memory_is_refused(rt: HostRuntime) -> Result<(), Fail> {
     match read_hexadecimal(rt.alloc(), DIGITS.as_bytes()) {
         Ok(code) => expect_code(&rt, &code),
         Err(failure) => {
-            assert!(rt; failure == Failure::Memory);
+            assert!(rt; matches!(failure, Failure::Memory));
             expect_code(&rt, &read_hexadecimal(rt.alloc(), DIGITS.as_bytes())?);
             return Err(answered("read_hexadecimal", "Memory"));
         }
@@ -86,7 +86,7 @@ fn code_is_verified_or_memory_is_refused(rt: HostRuntime) -> Result<(), Fail> {
     match verify_code(rt.alloc(), read_file(rt.alloc(), FILE)?, SIZE) {
         Ok(verified) => expect_verified(&rt, &verified),
         Err(failure) => {
-            assert!(rt; failure == Failure::Memory);
+            assert!(rt; matches!(failure, Failure::Memory));
             let again = verify_code(rt.alloc(), read_file(rt.alloc(), FILE)?, SIZE)?;
             expect_verified(&rt, &again);
             return Err(answered("verify_code", "Memory"));

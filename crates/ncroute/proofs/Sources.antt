@@ -1,7 +1,7 @@
 -- How checks of sources follow one another.
 use Rattle.std.proofs.Common.{◌≡◌, ℕ, zero, suc, ◌+◌, ◌||◌, Bool, false, List, Option, Some, refl, add-one}
 use Rattle.std.specs.Prelude.{is_some, slice_get}
-use Rattle.filter_source.specs.declared.refusal.Refusal.{Refusal}
+use Rattle.filter_source.specs.declared.diagnosis.Diagnosis.{Diagnosis}
 use Rattle.line_protocol.specs.declared.faults.StreamFault.{StreamFault}
 use Rattle.ncroute.specs.Helping.{ChecksFirst, ChecksOne, ChecksSome, IsCutOne, Streams}
 use Rattle.command_line.specs.declared.aid_words.Checking.{Checking}
@@ -12,7 +12,7 @@ unfolding ChecksFirst
 none_checked how sources before = (refl, refl)
 
 pub one_more : (how : Checking) (sources : List Source) (n : ℕ) (source : Source) (before mid after : Streams) (earlier : Bool)
-    (why : Option Refusal) (now : Bool) → slice_get sources n ≡ Some source → ChecksFirst how sources n before mid earlier
+    (why : Option Diagnosis) (now : Bool) → slice_get sources n ≡ Some source → ChecksFirst how sources n before mid earlier
     → ChecksOne how source mid after why → now ≡ (earlier || is_some why) → ChecksFirst how sources (n + 1) before after now
 unfolding ChecksFirst
 one_more how sources n source before mid after earlier why now is first one any =

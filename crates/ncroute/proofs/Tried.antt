@@ -2,7 +2,7 @@
 use Rattle.std.proofs.Common.{◌≡◌, ◌⊎◌, ℕ, Bool, false, List, Result, Ok, Err, IfOk, IfErr, IfSome, inr, subst}
 use Rattle.filter_commands.specs.Faults.{stream_fault}
 use Rattle.filter_commands.specs.declared.fault.ProgramFault.{ProgramFault}
-use Rattle.filter_source.specs.declared.refusal.Refusal.{Refusal}
+use Rattle.filter_source.specs.declared.diagnosis.Diagnosis.{Diagnosis}
 use Rattle.filter_tools.specs.Filtering.{Filters}
 use Rattle.filter_tools.specs.Telling.{Explains, IsCutExplanation}
 use Rattle.filter_tools.specs.declared.filter.Filtered.{Filtered}
@@ -12,13 +12,13 @@ use Rattle.ncroute.specs.Helping.{StopsFilter, Streams, TriesFilter, status_of_f
 module _ (size : ℕ) (name text : List ℕ) (is_explained : Bool) (before after : Streams) (filtered : Filtered)
     (answered : IfSome before.reads (λ input. Filters size text input after.reads before.holds after.holds filtered)) where
   pub tried : (r : Result ℕ ProgramFault)
-      → IfOk r (λ status. Explains false name text (told_refusal is_explained filtered) before.tells after.tells × (status ≡ status_of_filter filtered))
+      → IfOk r (λ status. Explains name text (told_refusal is_explained filtered) before.tells after.tells × (status ≡ status_of_filter filtered))
       → IfOk r (TriesFilter size name is_explained before after)
   tried (Ok status) told = record { text = text; filtered = filtered; answered = answered; told = told.0; ends = told.1 }
   tried (Err fault) told = tt
 
   pub stopped : (r : Result ℕ ProgramFault)
-      → IfErr r (λ fault. (why : Refusal) × (filtered ≡ Refused why) × IsCutExplanation (stream_fault fault) false name text why before.tells after.tells)
+      → IfErr r (λ fault. (why : Diagnosis) × (filtered ≡ Refused why) × IsCutExplanation (stream_fault fault) name text why before.tells after.tells)
       → IfErr r (λ fault. StopsFilter (stream_fault fault) size name before after)
   stopped (Ok status) cut = tt
   stopped (Err fault) cut =

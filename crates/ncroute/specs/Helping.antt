@@ -1,16 +1,16 @@
 -- What the program does for people, and its exit status. (This project's own choice.)
 use Rattle.std.specs.Prelude.{◌≡◌, ◌⊎◌, ◌≤◌, ◌||◌, ℕ, zero, suc, Bool, true, false, if◌then◌else◌, List, Option, Some, None, IfSome}
 use Rattle.std.specs.Prelude.{codes, is_some, length, slice_get, string_bytes}
-use Rattle.std.specs.Io.KnownBytes.{Appends, Consumes, IsAtEnd, Keeps}
+use Rattle.std.specs.Io.KnownBytes.{Appends, Consumes, IsAtEnd}
 use Rattle.filter_source.specs.Limits.{source_limit}
+use Rattle.filter_source.specs.declared.diagnosis.Diagnosis.{Diagnosis}
 use Rattle.filter_source.specs.declared.refusal.Refusal.{Refusal}
-use Rattle.filter_commands.specs.Checking.{Checks, ChecksOff}
 use Rattle.filter_commands.specs.Evaluation.{IsCut}
 use Rattle.filter_commands.specs.Faults.{stream_fault}
 use Rattle.filter_commands.specs.declared.fault.ProgramFault.{ProgramFault}
 use Rattle.filter_tools.specs.Filtering.{Filters, FiltersOff}
 use Rattle.filter_tools.specs.Listing.{IsCutListing, IsListed}
-use Rattle.filter_tools.specs.Naming.{ChecksNamed, IsCutTelling}
+use Rattle.filter_tools.specs.Naming.{ChecksNamed, ChecksNamedOff}
 use Rattle.filter_tools.specs.Telling.{Explains, IsCutExplanation}
 use Rattle.filter_tools.specs.declared.filter.Filtered.{Filtered}
 use Rattle.filter_tools.specs.declared.filter.Filtered.TheVariants.{Refused, Answered}
@@ -41,7 +41,7 @@ IsRead Input text known left = Consumes known left text × (length text ≤ sour
 IsRead (File name) text known left = left ≡ known
 
 -- A source was read, and the report on its text was written and told.
-pub record ChecksOne (how : Checking) (source : Source) (before after : Streams) (why : Option Refusal) : Type 0 where
+pub record ChecksOne (how : Checking) (source : Source) (before after : Streams) (why : Option Diagnosis) : Type 0 where
   pub text : List ℕ
   pub is_read : IsRead source text before.reads after.reads
   pub checked : ChecksNamed how.size how.is_code how.is_explained (name_of source) text before.holds after.holds before.tells after.tells why
@@ -49,7 +49,7 @@ pub record ChecksOne (how : Checking) (source : Source) (before after : Streams)
 -- The first n of some sources were checked so, in order, and it is said whether one of them is refused.
 unfoldable pub ChecksFirst : Checking → List Source → ℕ → Streams → Streams → Bool → Type 0
 ChecksFirst how sources zero before after refused = (after ≡ before) × (refused ≡ false)
-ChecksFirst how sources (suc n) before after refused = (source : Source) × (mid : Streams) × (earlier : Bool) × (why : Option Refusal)
+ChecksFirst how sources (suc n) before after refused = (source : Source) × (mid : Streams) × (earlier : Bool) × (why : Option Diagnosis)
     × (slice_get sources n ≡ Some source) × ChecksFirst how sources n before mid earlier × ChecksOne how source mid after why
     × (refused ≡ (earlier || is_some why))
 
@@ -57,10 +57,8 @@ ChecksFirst how sources (suc n) before after refused = (source : Source) × (mid
 abbrev pub IsCutOne : StreamFault → Checking → Source → Streams → Streams → Type 0
 IsCutOne fault how source before after =
     ((after.holds ≡ before.holds) × (after.tells ≡ before.tells))
-    ⊎ ((text : List ℕ) × IsRead source text before.reads after.reads × (left : Option (List ℕ))
-    × (ChecksOff fault how.size how.is_code text left before.holds after.holds
-    ⊎ Checks how.size how.is_code text left before.holds after.holds 1)
-    × (Keeps before.tells after.tells ⊎ IsCutTelling fault how.is_explained how.is_code (name_of source) text before.tells after.tells))
+    ⊎ ((text : List ℕ) × IsRead source text before.reads after.reads
+    × ChecksNamedOff fault how.size how.is_code how.is_explained (name_of source) text before.holds after.holds before.tells after.tells)
 
 -- A fault ended the checks behind the first of the sources.
 pub record ChecksSome (fault : StreamFault) (how : Checking) (sources : List Source) (before after : Streams) : Type 0 where
@@ -73,7 +71,7 @@ pub record ChecksSome (fault : StreamFault) (how : Checking) (sources : List Sou
   pub cut : IsCutOne fault how source mid after
 
 -- the refusal of a filter that is told in words
-abbrev pub told_refusal : Bool → Filtered → Option Refusal
+abbrev pub told_refusal : Bool → Filtered → Option Diagnosis
 told_refusal true (Refused why) = Some why
 told_refusal true (Answered refused) = None
 told_refusal false filtered = None
@@ -88,7 +86,7 @@ pub record TriesFilter (size : ℕ) (name : List ℕ) (is_explained : Bool) (bef
   pub text : List ℕ
   pub filtered : Filtered
   pub answered : IfSome before.reads (λ input. Filters size text input after.reads before.holds after.holds filtered)
-  pub told : Explains false name text (told_refusal is_explained filtered) before.tells after.tells
+  pub told : Explains name text (told_refusal is_explained filtered) before.tells after.tells
   pub ends : status ≡ status_of_filter filtered
 
 -- A fault ended that: the file was not read, the answers broke off, or the words of a refusal were cut.
@@ -96,8 +94,8 @@ abbrev pub StopsFilter : StreamFault → ℕ → List ℕ → Streams → Stream
 StopsFilter fault size name before after = (after ≡ before)
     ⊎ ((text : List ℕ) × (((after.tells ≡ before.tells)
     × IfSome before.reads (λ input. FiltersOff fault size text input after.reads before.holds after.holds))
-    ⊎ ((why : Refusal) × IfSome before.reads (λ input. Filters size text input after.reads before.holds after.holds (Refused why))
-    × IsCutExplanation fault false name text why before.tells after.tells)))
+    ⊎ ((why : Diagnosis) × IfSome before.reads (λ input. Filters size text input after.reads before.holds after.holds (Refused why))
+    × IsCutExplanation fault name text why before.tells after.tells)))
 
 -- The listing of a text was written, and the exit status says whether something was refused.
 pub record ListsText (size : Option ℕ) (is_code : Bool) (text : List ℕ) (held holds : Option (List ℕ)) (status : ℕ) : Type 0 where

@@ -4,7 +4,7 @@ ghost use Rattle.std.specs.Io.KnownBytes.{Appends};
 ghost use Rattle.filter_commands.specs.Evaluation.{IsCut};
 ghost use Rattle.filter_commands.specs.Faults.{stream_fault};
 ghost use Rattle.filter_tools.specs.Listing.{IsCutListing};
-ghost use Rattle.filter_source.specs.declared.refusal.Refusal.{Refusal as TheRefusal};
+ghost use Rattle.filter_source.specs.declared.diagnosis.Diagnosis.{Diagnosis as TheDiagnosis};
 ghost use Rattle.filter_tools.specs.Telling.{Explains, IsCutExplanation};
 ghost use Rattle.filter_tools.specs.declared.filter.Filtered.TheVariants.{Refused};
 ghost use Rattle.ncroute.specs.Helping.{ChecksFirst, ChecksOne, ChecksSome, FailsToTell, Helps, IsCutOne, IsRead, ListsText};
@@ -14,7 +14,7 @@ use crate::serve::{FAILED, report_fault, status_of};
 use crate::watcher::Teller;
 use command_line::{Aid, Checking, Source};
 use filter_commands::ProgramFault;
-use filter_source::{Refusal, SOURCE_LIMIT};
+use filter_source::{Diagnosis, SOURCE_LIMIT};
 use filter_tools::{Filtered, check_named, filter_lines, tell, write_listing};
 use line_protocol::{StreamFault, read_input, write_text};
 use operator_cmds::run_watched_script;
@@ -56,7 +56,7 @@ fn name_of(source: &Source) -> &[u8]
     }
 }
 
-/// Checks one source. Returns why it is refused.
+/// Checks one source. Returns what is told of its refusal.
 fn check_one<F: Files, R: Read, W: Write, E: Write>(
     files: &F,
     alloc: Global,
@@ -65,7 +65,7 @@ fn check_one<F: Files, R: Read, W: Write, E: Write>(
     reader: &mut R,
     writer: &mut W,
     errors: &mut E,
-) -> Result<Option<Refusal>, ProgramFault>
+) -> Result<Option<Diagnosis>, ProgramFault>
     ensures finished { IfOk result (λ why. ChecksOne how source.now
         (record { reads = R.remaining reader.old; holds = W.contents writer.old; tells = E.contents errors.old })
         (record { reads = R.remaining reader.new; holds = W.contents writer.new; tells = E.contents errors.new }) why) }
@@ -87,7 +87,7 @@ fn check_one<F: Files, R: Read, W: Write, E: Write>(
 }
 
 /// Whether a source is refused, or one before it was.
-fn is_any_refused(earlier: bool, why: Option<Refusal>) -> bool
+fn is_any_refused(earlier: bool, why: Option<Diagnosis>) -> bool
     ensures { result ≡ (earlier || is_some why) }
 {
     earlier || why.is_some()
@@ -124,21 +124,20 @@ fn tell_filter<E: Write>(
     errors: &mut E,
     name: &[u8],
     text: &[u8],
-    size: u32,
     is_explained: bool,
     filtered: Filtered,
 ) -> Result<u8, ProgramFault>
-    ensures told { IfOk result (λ status. Explains false name.now text.now (told_refusal is_explained filtered)
+    ensures told { IfOk result (λ status. Explains name.now text.now (told_refusal is_explained filtered)
         (E.contents errors.old) (E.contents errors.new) × (status ≡ status_of_filter filtered)) }
-    ensures cut { IfErr result (λ fault. (why : TheRefusal) × (filtered ≡ Refused why)
-        × IsCutExplanation (stream_fault fault) false name.now text.now why (E.contents errors.old) (E.contents errors.new)) }
+    ensures cut { IfErr result (λ fault. (why : TheDiagnosis) × (filtered ≡ Refused why)
+        × IsCutExplanation (stream_fault fault) name.now text.now why (E.contents errors.old) (E.contents errors.new)) }
 {
     match filtered {
         Filtered::Answered(0) => Ok(0),
         Filtered::Answered(_) => Ok(FAILED),
         Filtered::Refused(why) => {
             if is_explained {
-                tell(alloc, errors, name, text, size, false, why)?;
+                tell(alloc, errors, name, text, &why)?;
             }
             Ok(FAILED)
         }
@@ -165,7 +164,7 @@ fn try_filter<R: Read, W: Write, E: Write>(
         (record { reads = R.remaining reader.new; holds = W.contents writer.new; tells = E.contents errors.new })) }
 {
     match filter_lines(alloc, text, size, reader, writer) {
-        Ok(filtered) => tell_filter(alloc, errors, name, text, size, is_explained, filtered),
+        Ok(filtered) => tell_filter(alloc, errors, name, text, is_explained, filtered),
         Err(fault) => Err(fault),
     }
 }

@@ -20,16 +20,7 @@ impl<'a, E: Write> Watch for Teller<'a, E> {
         let Some(filter) = refused_filter(alloc, line, size) else {
             return;
         };
-        let explained = explain_line(
-            alloc,
-            b"<stdin>",
-            number,
-            line,
-            filter.source,
-            u32::from(size),
-            filter.is_code,
-            filter.why,
-        );
+        let explained = explain_line(alloc, b"<stdin>", number, line, filter.source, &filter.told);
         if let Ok(words) = explained {
             let _ = write_text(self.errors, words.as_slice());
         }

@@ -30,7 +30,7 @@ verified Gives code size (Err e) gives h safe = tt
 pub refused_by : (Gives : CodeView → Type 0) (Lacks : Refusal → Type 0) (code : CodeView) (size : ℕ) (r : Result VerifiedView Failure)
     → Gives code → IfErr r (OnRefusal (IsUnsafe code size)) → IfErr r (OnRefusal (IsRefusedBy Gives Lacks size))
 refused_by Gives Lacks code size (Ok v) gives h = tt
-refused_by Gives Lacks code size (Err (failure.Refused why)) gives h = inr (code, gives, h)
+refused_by Gives Lacks code size (Err (failure.Refused told)) gives h = inr (code, gives, h)
 refused_by Gives Lacks code size (Err failure.Memory) gives h = tt
 
 module _ (Gives : CodeView → Type 0) (Lacks : Refusal → Type 0) (number : ℕ) (name : List ℕ) (before : ScriptView) (answer : Answer)
@@ -42,9 +42,9 @@ module _ (Gives : CodeView → Type 0) (Lacks : Refusal → Type 0) (number : �
   by_source size opening (Ok v) e good bad h =
       let same : opening ≡ size = cc in
       inl (v, subst (λ n. IsVerified Gives n v) (sym same) good, h)
-  by_source size opening (Err (failure.Refused why)) e good bad h =
+  by_source size opening (Err (failure.Refused told)) e good bad h =
       let same : opening ≡ size = cc in
-      inr (why, subst (λ n. IsRefusedBy Gives Lacks n why) (sym same) bad, h)
+      inr (told.refusal, subst (λ n. IsRefusedBy Gives Lacks n told.refusal) (sym same) bad, h)
   by_source size opening (Err failure.Memory) e good bad h = absurd h
 
   by_stage : (stage : StageView) (size : ℕ) (r : Result VerifiedView Failure) → size_in stage ≡ Some size

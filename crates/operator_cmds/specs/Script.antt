@@ -132,7 +132,7 @@ IsRefusedFile bytes why = code_in_file bytes ≡ Err why
 -- the answer by what became of a source; where memory was refused there is none
 abbrev pub AnswersVerified : Result VerifiedView Failure → ℕ → List ℕ → ScriptView → Answer → ScriptView → Type 0
 AnswersVerified (Ok filter) number name before answer after = Takes name filter before answer after
-AnswersVerified (Err (failure.Refused why)) number name before answer after = TurnsAway why number before answer after
+AnswersVerified (Err (failure.Refused told)) number name before answer after = TurnsAway told.refusal number before answer after
 AnswersVerified (Err failure.Memory) number name before answer after = ⊥
 
 -- ---- events

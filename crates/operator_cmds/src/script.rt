@@ -239,7 +239,10 @@ impl Script {
                 self.filters.insert(Vec::from_slice(alloc, name)?, filter)?;
                 Ok(Reply::Answered)
             }
-            Err(Failure::Refused(why)) => refuse(out, why.code(), why.place_in_line(number)),
+            Err(Failure::Refused(told)) => {
+                let why = told.refusal;
+                refuse(out, why.code(), why.place_in_line(number))
+            }
             Err(Failure::Memory) => Err(AllocError),
         }
     }

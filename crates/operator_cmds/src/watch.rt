@@ -7,8 +7,7 @@ use crate::filter::{verify_file, verify_text};
 use crate::read::read_command;
 use crate::script::{Script, ScriptFault};
 use crate::words::three_words;
-use filter_source::{Failure, Refusal};
-use filter_verifier::Verified;
+use filter_source::{Diagnosis, Failure};
 use line_protocol::{Reply, Service, answer_lines};
 use std::alloc::{AllocError, Global};
 use std::io::{Read, Write};
@@ -18,10 +17,8 @@ use std::io::{Read, Write};
 pub struct RefusedFilter<'a> {
     /// The filter's text, with which the line ends, or the hexadecimal digits of its code file.
     pub source: &'a [u8],
-    /// The source is a code file.
-    pub is_code: bool,
-    /// Why the filter is refused.
-    pub why: Refusal,
+    /// What is told of the refusal.
+    pub told: Diagnosis,
 }
 
 /// Somebody who watches a script.
@@ -38,31 +35,26 @@ impl Watch for Nobody {
     fn see_refused(&mut self, _alloc: Global, _number: u32, _line: &[u8], _size: Option<u16>) {}
 }
 
-/// Why a source gives no verified code. Nothing is known where memory was refused.
-fn refusal_of(verified: Result<Verified, Failure>) -> Option<Refusal> {
-    match verified {
-        Err(Failure::Refused(why)) => Some(why),
-        Err(Failure::Memory) | Ok(_) => None,
-    }
+/// The code file that a line gives, where it is refused.
+fn refused_file(line: &[u8], told: Diagnosis) -> Option<RefusedFilter<'_>> {
+    let (_, _, digits) = three_words(line)?;
+    Some(RefusedFilter {
+        source: digits,
+        told,
+    })
 }
 
 /// The filter that a line gives for a domain of a size, if it gives one that is refused. `None` also where memory is refused.
 pub fn refused_filter(alloc: Global, line: &[u8], size: u16) -> Option<RefusedFilter<'_>> {
     match read_command(alloc, line) {
-        Ok(Command::Load { text, .. }) => Some(RefusedFilter {
-            source: text,
-            is_code: false,
-            why: refusal_of(verify_text(alloc, text, size))?,
-        }),
-        Ok(Command::Code { bytes, .. }) => {
-            let why = refusal_of(verify_file(alloc, bytes.as_slice(), size))?;
-            let (_, _, digits) = three_words(line)?;
-            Some(RefusedFilter {
-                source: digits,
-                is_code: true,
-                why,
-            })
-        }
+        Ok(Command::Load { text, .. }) => match verify_text(alloc, text, size) {
+            Err(Failure::Refused(told)) => Some(RefusedFilter { source: text, told }),
+            _ => None,
+        },
+        Ok(Command::Code { bytes, .. }) => match verify_file(alloc, bytes.as_slice(), size) {
+            Err(Failure::Refused(told)) => refused_file(line, told),
+            _ => None,
+        },
         _ => None,
     }
 }

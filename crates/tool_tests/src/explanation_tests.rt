@@ -1,6 +1,6 @@
 //! What people are told of a refusal: the line, the column, the words, and the line with its caret.
 
-use filter_tools::{check_aloud, place_in};
+use filter_tools::{check_named, place_in};
 use std::alloc::Global;
 use std::process::Abort;
 use std::test::Fail;
@@ -14,17 +14,17 @@ fn expect_told(
     answer: &str,
     told: &str,
 ) -> Result<(), Fail> {
-    let mut reader = input;
     let (mut writer, mut errors) = (Vec::new(alloc), Vec::new(alloc));
     let name = b"f".as_slice();
-    let refusal = check_aloud(
+    let refusal = check_named(
         alloc,
-        &mut reader,
+        input,
         &mut writer,
         &mut errors,
         name,
         16,
         is_code,
+        true,
     )?;
     assert_eq!(rt; errors.as_slice(), told.as_bytes());
     assert_eq!(rt; writer.as_slice(), answer.as_bytes());
@@ -148,6 +148,55 @@ fn places_are_those_of_an_editor(rt: HostRuntime) -> Result<(), Fail> {
     for (at, line, column) in rows {
         let place = place_in(text, at);
         assert_eq!(&rt; (place.line, place.column), (line, column));
+    }
+    Ok(())
+}
+
+/// The range that is told is the one for the size of the domain, of a divisor and of a metric.
+#[test]
+fn ranges_are_those_of_the_size(rt: HostRuntime) -> Result<(), Fail> {
+    let division = "filter d { if 8 / rip_metric = 2 then accept; }";
+    let rows: [(&str, u32, bool, &str); 4] = [
+        (
+            division,
+            8,
+            false,
+            "f:1:17: instruction 2: the divisor may be 0: it is 0..8 here (V3)\n",
+        ),
+        (
+            division,
+            250,
+            false,
+            "f:1:17: instruction 2: the divisor may be 0: it is 0..250 here (V3)\n",
+        ),
+        (
+            "4e4346310000000301000000031570",
+            250,
+            true,
+            "f: instruction 1: the new metric may be lower than the one received: it is 3..3 here (V6)\n",
+        ),
+        (
+            "4e43463100000005130100000001211570",
+            8,
+            true,
+            "f: instruction 3: the new metric may be lower than the one received: it is 0..4294967295 here (V6)\n",
+        ),
+    ];
+    for (source, size, is_code, told) in rows {
+        let (mut writer, mut errors) = (Vec::new(rt.alloc()), Vec::new(rt.alloc()));
+        let name = b"f".as_slice();
+        let _ = check_named(
+            rt.alloc(),
+            source.as_bytes(),
+            &mut writer,
+            &mut errors,
+            name,
+            size,
+            is_code,
+            true,
+        )?;
+        let line = errors.get(..told.len());
+        assert!(&rt; line == Some(told.as_bytes()), "{source} at {size}");
     }
     Ok(())
 }

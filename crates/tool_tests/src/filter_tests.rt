@@ -17,7 +17,7 @@ fn routes_are_answered(rt: HostRuntime) -> Result<(), Fail> {
     let mut writer = Vec::new(rt.alloc());
     let filtered = filter_lines(rt.alloc(), UP_TWO, 16, &mut reader, &mut writer)?;
     assert_eq!(&rt; writer.as_slice(), want.as_bytes());
-    assert_eq!(&rt; filtered, Filtered::Answered(4));
+    assert!(&rt; matches!(filtered, Filtered::Answered(4)));
     Ok(())
 }
 
@@ -52,6 +52,6 @@ fn faults_end_the_run(rt: HostRuntime) -> Result<(), Fail> {
     let mut short = room.as_mut_slice();
     let mut reader: &[u8] = b"8.8.8.0/24 3\n";
     let filtered = filter_lines(rt.alloc(), UP_TWO, 16, &mut reader, &mut short);
-    assert_eq!(&rt; filtered, Err(ProgramFault::WRITE));
+    assert!(&rt; matches!(filtered, Err(ProgramFault::WRITE)));
     Ok(())
 }

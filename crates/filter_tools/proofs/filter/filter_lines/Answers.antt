@@ -1,9 +1,9 @@
 -- Each exit follows from how the routes were answered, or from how the refusal was written.
-use Rattle.std.proofs.Common.{subst}
+use Rattle.std.proofs.Common.{false, subst}
 use Rattle.filter_source.proofs.Refused.{of_error}
-use Rattle.filter_source.specs.Failures.{OnRefusal}
+use Rattle.filter_source.specs.Failures.{OnDiagnosis}
 use Rattle.filter_commands.specs.Faults.{stream_fault}
-use Rattle.filter_tools.specs.Filtering.{IsRefusedFilter}
+use Rattle.filter_commands.specs.Checking.{IsDiagnosis}
 use Rattle.filter_tools.proofs.Endings.{answered, broken_off, cut_off}
 use Rattle.filter_tools.proofs.filter.filter_lines.Goals as goal
 
@@ -24,8 +24,8 @@ returns-in_err-write_refusal-in-Err-Refused-clause-broken_off g c =
     of_error c.from_residual-in_err-write_refusal-in-Err-Refused.result _ fault
     c.from_residual-in_err-write_refusal-in-Err-Refused.ensures.1
     (cut_off (stream_fault fault) c.args.size c.args.text.now known
-    (g.W.Write.contents c.args.writer.now) (g.W.Write.contents c.write_refusal.new.writer) c.in-Err-Refused.why
-    (subst (OnRefusal (IsRefusedFilter c.args.size c.args.text.now)) c.in-Err-Refused.field-0-is c.in-Err-Refused.ensures.refused)
+    (g.W.Write.contents c.args.writer.now) (g.W.Write.contents c.write_refusal.new.writer) c.in-Err-Refused.told
+    (subst (OnDiagnosis (IsDiagnosis c.args.size false c.args.text.now)) c.in-Err-Refused.field-0-is c.in-Err-Refused.ensures.refused)
     c.in_err-write_refusal-in-Err-Refused.ensures.err)
 
 pub returns-in_ok-refused-in-Ok-clause-finished : goal.returns-in_ok-refused-in-Ok-clause-finished

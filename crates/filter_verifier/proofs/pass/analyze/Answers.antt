@@ -1,9 +1,11 @@
 use Rattle.std.proofs.Common.{rules, ◌≡◌, ◌<◌, max, Some, length, sym, ◌∙◌, ap, inr, arith}
 use Rattle.std.proofs.lemmas.Grind.{common_steps}
 use Rattle.filter_verifier.specs.Pass.{height_of}
+use Rattle.filter_verifier.specs.Surveys.{refused_int}
 use Rattle.filter_verifier.proofs.Passes.{advanced, begun, refused, state_is}
 use Rattle.filter_verifier.specs.declared.fault.VerifyFault.{VerifyFault}
 use Rattle.filter_verifier.proofs.Sizes.{not_the_size}
+use Rattle.filter_verifier.proofs.Surveys.{known_there}
 use Rattle.filter_verifier.proofs.pass.analyze.Goals as goal
 
 pub loop-at-init : goal.loop-at-init
@@ -15,6 +17,16 @@ returns-in-Some-clause-outcome c =
     let inside : c.loop-at.at < length c.args.code.now.instrs = rw (← c.instrs-at-end.ensures.value) c.loop-at-test.true in
     inr (refused c.args.code.now c.args.size c.loop-at.at c.loop-at.in_states.items c.loop-at.depth c.in-Some.fault
     c.loop-at.invariant (sym c.in_ok-fault.ensures.refused ∙ c.in-Some.is) inside)
+
+pub returns-in-Some-clause-range : goal.returns-in-Some-clause-range
+returns-in-Some-clause-range c =
+    let inside : c.loop-at.at < length c.args.code.now.instrs = rw (← c.instrs-at-end.ensures.value) c.loop-at-test.true in
+    let there : c.loop-at.at < length c.visit.new.in_states.items = rw (c.in_ok-fault.ensures.wide, c.loop-at.invariant.wide) inside in
+    c.refused_int-range.ensures
+    ∙ ap (refused_int c.in-Some.fault) (known_there c.args.code.now c.args.size c.loop-at.at c.loop-at.in_states.items
+    c.visit.new.in_states.items c.loop-at.depth c.in-Some.fault c.index-in-Some.result.now c.loop-at.invariant
+    (sym c.in_ok-fault.ensures.refused ∙ c.in-Some.is) c.in_ok-fault.ensures.propagated
+    (state_is c.visit.new.in_states.items c.loop-at.at c.index-in-Some.result.now there c.index-in-Some.ensures))
 
 pub returns-in-Some-clause-not_the_size : goal.returns-in-Some-clause-not_the_size
 returns-in-Some-clause-not_the_size c = λ e.

@@ -9,14 +9,14 @@ use Rattle.operator_cmds.proofs.filter.verify_text.Goals as goal
 pub returns-clause-verified : goal.returns-clause-verified
 returns-clause-verified c =
     let gives = GivesText c.args.text.now in
-    subst (λ (n : ℕ). IfOk c.verify_code.result (λ v. IsVerified gives n v)) c.from.ensures
-    (verified gives c.in_ok-compile_text.field-0 c.from.result c.verify_code.result c.in_ok-compile_text.ensures.code
-    c.verify_code.ensures.verified c.verify_code.ensures.safe)
+    subst (λ (n : ℕ). IfOk c.verify_mapped.result (λ v. IsVerified gives n v)) c.from.ensures
+    (verified gives c.in_ok-code.field-0.code c.from.result c.verify_mapped.result c.in_ok-code.ensures.code
+    c.verify_mapped.ensures.verified c.verify_mapped.ensures.safe)
 
 pub returns-clause-refused : goal.returns-clause-refused
 returns-clause-refused c =
     let gives = GivesText c.args.text.now in
     let lacks = IsRefusedText c.args.text.now in
-    subst (λ (n : ℕ). IfErr c.verify_code.result (OnRefusal (IsRefusedBy gives lacks n))) c.from.ensures
-    (refused_by gives lacks c.in_ok-compile_text.field-0 c.from.result c.verify_code.result c.in_ok-compile_text.ensures.code
-    c.verify_code.ensures.refused)
+    subst (λ (n : ℕ). IfErr c.verify_mapped.result (OnRefusal (IsRefusedBy gives lacks n))) c.from.ensures
+    (refused_by gives lacks c.in_ok-code.field-0.code c.from.result c.verify_mapped.result c.in_ok-code.ensures.code
+    c.verify_mapped.ensures.refused)

@@ -1,0 +1,48 @@
+-- What is told of a refusal: where in a filter's text it stands, and the range of the int that the verifier refuses. (This project's
+-- own choice.)
+use Rattle.std.specs.Prelude.{◌≡◌, ℕ, List, Option, Some, None, slice_get}
+use Rattle.filter_code.specs.CodeView.{CodeView}
+use Rattle.filter_parser.specs.Codes as parse
+use Rattle.filter_types.specs.Codes as types
+use Rattle.filter_verifier.specs.Faults.{fault_place}
+use Rattle.filter_verifier.specs.Ranges.{RangeView}
+use Rattle.filter_verifier.specs.Surveys.{refused_range}
+use Rattle.filter_verifier.specs.declared.fault.VerifyFault.{VerifyFault}
+use Rattle.filter_verifier.specs.declared.fault.VerifyFault.TheVariants as fault
+use Rattle.filter_source.specs.declared.diagnosis.Diagnosis.{Diagnosis}
+use Rattle.filter_source.specs.declared.refusal.Refusal.{Refusal}
+use Rattle.filter_source.specs.declared.refusal.Refusal.TheVariants.{TooLong, Hexadecimal, File, Parse, Typing, Compile, Verify}
+
+-- the byte of a text at which a refusal stands before there is code: the one that the fault names
+abbrev pub named_byte : Refusal → Option ℕ
+named_byte (Parse why) = Some (parse.fault_place why)
+named_byte (Typing why) = Some (types.fault_place why)
+named_byte TooLong = None
+named_byte Hexadecimal = None
+named_byte (File why) = None
+named_byte (Compile why) = None
+named_byte (Verify why) = None
+
+-- what is told of a source that gives no code
+abbrev pub of_source : Refusal → Diagnosis
+of_source why = record { refusal = why; byte = named_byte why; range = None }
+
+-- the instruction that the verifier refuses; the size of a domain, and memory, are about none
+abbrev pub refused_instruction : VerifyFault → Option ℕ
+refused_instruction fault.BadSize = None
+refused_instruction fault.Memory = None
+refused_instruction why = Some (fault_place why)
+
+-- the place of the instruction of an index, if there is one
+abbrev pub place_of : List ℕ → Option ℕ → Option ℕ
+place_of places None = None
+place_of places (Some at) = slice_get places at
+
+-- what is told of code whose instructions come from these places of a text; a code file has no places
+abbrev pub of_code : VerifyFault → Option RangeView → List ℕ → Diagnosis
+of_code why range places = record { refusal = Verify why; byte = place_of places (refused_instruction why); range = range }
+
+-- This is told of code that is refused for domains of a size: the part of the text that gave the instruction, and the range that the
+-- verifier knows there.
+abbrev pub TellsOfCode : CodeView → List ℕ → ℕ → Diagnosis → Type 0
+TellsOfCode program places size told = (why : VerifyFault) × (told ≡ of_code why (refused_range program size why) places)
