@@ -1,9 +1,9 @@
 //! The plan of a domain: its nodes' prefixes, the links between the nodes, and the filters on them.
 
-ghost use Rattle.std.specs.Prelude.{◌≡◌, ◌≢◌, ◌≤◌, ◌<◌, IfOk, false, length, slice_set, true};
+ghost use Rattle.std.specs.Prelude.{◌≡◌, ◌≢◌, ◌≤◌, ◌<◌, ℕ, IfOk, false, length, slice_index_or, slice_set, true};
 ghost use Rattle.std.specs.Option.{SomeIff};
 ghost use Rattle.domain_routes.specs.Edits.{exporting, importing, linking, unlinked, with_prefix};
-ghost use Rattle.domain_routes.specs.PlanView.{IsPlan, IsSize, is_linked, opening_of, peer};
+ghost use Rattle.domain_routes.specs.PlanView.{IsPlan, IsSize, is_linked, opening_of, peer, stranger};
 ghost use Rattle.domain_routes.specs.Topology.{toll};
 
 use crate::peer::Peer;
@@ -86,6 +86,15 @@ impl Plan {
         ensures { self.new ≡ with_prefix node prefix self.old }
     {
         self.opening.set_prefix(node, prefix);
+    }
+
+    /// All nodes as one has them.
+    pub(crate) fn row(&self, u: u16) -> &Row
+        requires { u < self.now.size }
+        ensures one_a_node { length result.now ≡ self.now.size }
+        ensures linked { (w : ℕ) → (slice_index_or result.now w stranger).linked ≡ is_linked self.now w u }
+    {
+        &self.rows[usize::from(u)]
     }
 
     /// A node as another has it.

@@ -1,14 +1,19 @@
 //! The routes of all nodes to one destination.
 
-ghost use Rattle.std.specs.Prelude.{◌≡◌, ◌<◌, ◌≤◌, IfOk, MatchOption, length};
+ghost use Rattle.std.specs.Prelude.{◌≡◌, ◌≢◌, ◌<◌, ◌≤◌, ℕ, IfOk, MatchOption, length, slice_index_or};
+ghost use Rattle.domain_routes.specs.PlanView.{is_linked, stranger};
 ghost use Rattle.domain_routes.specs.Routes.{AreRoutes, route_at};
 ghost use Rattle.domain_routes.specs.Solving.{AreAllDone, AreBestSoFar, AreOffered, IsNearest, IsOffered, is_done};
 ghost use Rattle.domain_routes.specs.Topology.{topology};
 
 use crate::best::{Best, better};
 use crate::plan::Plan;
+use crate::row::Row;
 use netchange_core::Via;
 use std::alloc::{AllocError, Global};
+
+/// More than any distance, which is a `u16`.
+const MORE_THAN_ANY_DISTANCE: u32 = 65_536;
 
 /// Of the nodes that are not done, one that no other is nearer than.
 fn nearest(routes: &[Best], done: &[bool]) -> Option<usize>
@@ -16,30 +21,33 @@ fn nearest(routes: &[Best], done: &[bool]) -> Option<usize>
     ensures { MatchOption result (AreAllDone (length routes.now) (is_done done.now))
         (IsNearest (length routes.now) (route_at (length routes.now) routes.now) (is_done done.now)) }
 {
-    let mut found: Option<usize> = None;
+    let mut found = None;
+    let mut least = MORE_THAN_ANY_DISTANCE;
     for u in 0..routes.len() {
-        if !done[u] {
-            found = match found {
-                Some(w) if routes[w].dist <= routes[u].dist => Some(w),
-                _ => Some(u),
-            };
+        let dist = u32::from(routes[u].dist);
+        if dist < least && !done[u] {
+            found = Some(u);
+            least = dist;
         }
     }
     found
 }
 
-/// A node's route, after the way through another at this distance was offered to it.
-fn offered(plan: &Plan, v: u16, w: u16, dist: u16, u: u16, route: Best) -> Best
+/// A node is offered the way through another at this distance, if they are neighbours. The row is what the other has.
+fn offer_one(plan: &Plan, row: &Row, v: u16, w: u16, dist: u16, u: u16, routes: &mut [Best])
     requires v { v < plan.now.size }
     requires w { w < plan.now.size }
     requires u { u < plan.now.size }
+    requires place { u < length row.now }
+    requires linked { (slice_index_or row.now u stranger).linked ≡ is_linked plan.now u w }
+    requires one_a_node { length routes.old ≡ plan.now.size }
     requires reachable { dist ≤ plan.now.size }
-    ensures { IsOffered (topology plan.now v) w dist u route result }
+    ensures offered { IsOffered (topology plan.now v) w dist u (route_at plan.now.size routes.old u) (route_at plan.now.size routes.new u) }
+    ensures others { (x : ℕ) → x ≢ u → route_at plan.now.size routes.new x ≡ route_at plan.now.size routes.old x }
 {
-    if plan.is_linked(w, u) {
-        better(route, plan.toll(v, u, w, dist), w)
-    } else {
-        route
+    if row.peer(u).is_linked() {
+        let k = usize::from(u);
+        routes[k] = better(routes[k], plan.toll(v, u, w, dist), w);
     }
 }
 
@@ -54,9 +62,9 @@ fn offer(plan: &Plan, v: u16, w: usize, routes: &mut [Best])
     let dist = routes[w].dist;
     let size = plan.size();
     let hop = w as u16;
+    let row = plan.row(hop);
     for u in 0..size {
-        let k = usize::from(u);
-        routes[k] = offered(plan, v, hop, dist, u, routes[k]);
+        offer_one(plan, row, v, hop, dist, u, routes);
     }
 }
 

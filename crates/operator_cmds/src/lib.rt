@@ -16,9 +16,14 @@ mod words;
 
 pub use command::Command;
 pub use fault::CommandFault;
-pub use read::read_command;
+pub use filter::{verify_file, verify_text};
+pub use name::is_name;
+pub use read::{read_command, read_small};
+pub use reply::{confirm, push_via, refuse};
 pub use script::{ScriptFault, run_script};
-pub use watch::{RefusedFilter, Watch, refused_filter, run_watched_script};
+pub use stage::default_prefixes;
+pub use watch::{Nobody, RefusedFilter, Watch, refused_filter, run_watched_script};
+pub use words::{cut_word, one_word, three_words, two_words};
 
 /// A number of a command, the limit of a history excepted, is at most this.
 pub const NUMBER_LIMIT: u32 = 65_535;

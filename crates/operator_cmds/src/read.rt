@@ -21,7 +21,7 @@ use route_history::LARGEST_LIMIT;
 use std::alloc::Global;
 
 /// A number of at most `NUMBER_LIMIT`.
-fn read_small(text: &[u8]) -> Option<u16>
+pub fn read_small(text: &[u8]) -> Option<u16>
     ensures { result ≡ number_in number_limit text.now }
 {
     let n = read_number(text, NUMBER_LIMIT)?;

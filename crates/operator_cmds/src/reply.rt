@@ -26,7 +26,7 @@ pub fn confirm(out: &mut Vec<u8>) -> Result<Reply, AllocError>
 }
 
 /// Adds through whom a route goes.
-fn push_via(out: &mut Vec<u8>, via: Via) -> Result<(), AllocError>
+pub fn push_via(out: &mut Vec<u8>, via: Via) -> Result<(), AllocError>
     ensures ok { OnOk result (out.new.items ≡ out.old.items ++ spec.via_text via) }
     ensures err { OnErr result (StartsWith out.new.items out.old.items) }
 {

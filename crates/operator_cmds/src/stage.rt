@@ -50,7 +50,7 @@ fn default_prefix(node: u16) -> Prefix
 
 /// The prefixes of the nodes of a domain that no command set.
 #[tactic(auto, unfolding(crate::specs::Domain::default_prefixes))]
-fn default_prefixes(alloc: Global, size: u16) -> Result<Vec<Prefix>, AllocError>
+pub fn default_prefixes(alloc: Global, size: u16) -> Result<Vec<Prefix>, AllocError>
     requires { size ≤ 256 }
     ensures { IfOk result (λ all. all.items ≡ spec.default_prefixes size) }
 {

@@ -29,7 +29,7 @@ pub trait Watch {
 
 /// Nobody watches.
 #[derive(Drop)]
-pub(crate) struct Nobody;
+pub struct Nobody;
 
 impl Watch for Nobody {
     fn see_refused(&mut self, _alloc: Global, _number: u32, _line: &[u8], _size: Option<u16>) {}

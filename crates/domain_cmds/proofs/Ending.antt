@@ -1,0 +1,138 @@
+-- A script ends where its input does: no answer ends it before.
+use Rattle.std.proofs.Common.{◌≡◌, ℕ, Bool, true, false, ◌||◌, List, [], ◌∷◌, Option, Some, None, Ok, Err, refl, subst, ap, ◌∙◌, inl, inr, nat_lt, ◌&&◌}
+use Rattle.std.specs.Prelude.{MatchBool}
+use Rattle.filter_code.specs.CodeView.{CodeView}
+use Rattle.filter_source.specs.Sources.{IsRefusedText}
+use Rattle.filter_source.specs.declared.refusal.Refusal.{Refusal}
+use Rattle.filter_verifier.specs.VerifiedView.{VerifiedView}
+use Rattle.line_protocol.specs.Answers.{Answer, is_end, is_over}
+use Rattle.line_protocol.specs.Lines.{numbered}
+use Rattle.line_protocol.specs.Runs.{Finishes, Runs, Stops}
+use Rattle.line_protocol.specs.declared.faults.StreamFault.{StreamFault}
+use Rattle.operator_cmds.specs.Script.{GivesFile, GivesText, IsRefusedFile}
+use Rattle.domain_routes.specs.Edits.{exporting, importing}
+use Rattle.domain_routes.specs.PlanView.{PlanView, is_linked}
+use Rattle.domain_routes.specs.declared.best.Best.{Best}
+use Rattle.domain_cmds.specs.CommandView.{CommandView, Domain, Prefix, Load, Code, Link, Cut, Import, Export, Route, Path, Table, Draw, Mark, Changes, Settle}
+use Rattle.domain_cmds.specs.Commands.{Read, command_in}
+use Rattle.domain_cmds.specs.Running.{IsBrokenOff, IsCarriedOut}
+use Rattle.domain_cmds.specs.Script
+use Rattle.domain_cmds.specs.Script.{AnswersLine}
+use Rattle.domain_cmds.specs.State.{PlanningView, filter_named}
+
+-- the answer is one after which more is answered
+abbrev GoesOn : Answer → Type 0
+GoesOn answer = is_end answer.reply ≡ false
+
+like : (answer other : Answer) → answer ≡ other → GoesOn other → GoesOn answer
+like answer other e h = ap (λ (a : Answer). is_end a.reply) e ∙ h
+
+module _ (answer : Answer) where
+  either : (b : Bool) (P Q : Type 0) → (P → GoesOn answer) → (Q → GoesOn answer) → MatchBool b P Q → GoesOn answer
+  either true P Q f g h = f h
+  either false P Q f g h = g h
+
+  source : (Gives : CodeView → Type 0) (Lacks : Refusal → Type 0) (p : PlanningView) (number : ℕ) (name : List ℕ) (after : PlanningView)
+      → Script.AnswersSource Gives Lacks p number name answer after → GoesOn answer
+  source Gives Lacks p number name after (inl (filter, good, h)) = like answer _ h.0 refl
+  source Gives Lacks p number name after (inr (why, bad, h)) = like answer _ h.0 refl
+
+  by_name : (found : Option VerifiedView) (plan : VerifiedView → PlanView) (p : PlanningView) (number u w : ℕ) (after : PlanningView)
+      → Script.AnswersUse found plan p number u w answer after → GoesOn answer
+  by_name None plan p number u w after h = like answer _ h.0 refl
+  by_name (Some f) plan p number u w after h =
+      either (Script.are_a_pair p.plan.size u w) _ _ (λ q. like answer _ q.0 refl) (λ q. like answer _ q.0 refl) h
+
+  linked : (p : PlanningView) (number u w : ℕ) (after : PlanningView) → Script.AnswersLink p number u w answer after → GoesOn answer
+  linked p number u w after h = either (Script.are_a_pair p.plan.size u w) _ _
+      (λ q. either (is_linked p.plan u w) _ _ (λ r. like answer _ r.0 refl) (λ r. like answer _ r.0 refl) q)
+      (λ q. like answer _ q.0 refl) h
+
+  cut : (p : PlanningView) (number u w : ℕ) (after : PlanningView) → Script.AnswersCut p number u w answer after → GoesOn answer
+  cut p number u w after h = either (Script.are_a_pair p.plan.size u w) _ _
+      (λ q. either (is_linked p.plan u w) _ _ (λ r. like answer _ r.0 refl) (λ r. like answer _ r.0 refl) q)
+      (λ q. like answer _ q.0 refl) h
+
+  prefixed : (p : PlanningView) (number node : ℕ) (bits : List Bool) (after : PlanningView)
+      → Script.AnswersPrefix p number node bits answer after → GoesOn answer
+  prefixed p number node bits after h = either p.begun _ _ (λ q. like answer _ q.0 refl)
+      (λ q. either (nat_lt node p.plan.size) _ _ (λ r. like answer _ r.0 refl) (λ r. like answer _ r.0 refl) q) h
+
+  told_of : (plan : PlanView) (number u v : ℕ) (IsTold : List Best → Answer → Type 0)
+      → ((routes : List Best) → IsTold routes answer → GoesOn answer) → Script.IsToldOfRoutes plan number u v IsTold answer → GoesOn answer
+  told_of plan number u v IsTold f h =
+      either (nat_lt u plan.size && nat_lt v plan.size) _ _ (λ q. f q.0 q.2) (λ q. like answer _ q refl) h
+
+  settled : (number : ℕ) → Script.IsToldSettled number answer → GoesOn answer
+  settled number (inl (rounds, messages, few, h)) = like answer _ h refl
+  settled number (inr h) = like answer _ h refl
+
+  planned : (p : PlanningView) (number : ℕ) (c : CommandView) (after : PlanningView)
+      → Script.AnswersPlanned p number c answer after → GoesOn answer
+  planned p number (Domain size) after h = like answer _ h.0 refl
+  planned p number (Prefix node bits) after h = prefixed p number node bits after h
+  planned p number (Load name text) after h = source (GivesText text) (IsRefusedText text) p number name after h
+  planned p number (Code name bytes) after h = source (GivesFile bytes) (IsRefusedFile bytes) p number name after h
+  planned p number (Link u w) after h = linked p number u w after h
+  planned p number (Cut u w) after h = cut p number u w after h
+  planned p number (Import u w name) after h =
+      by_name (filter_named p.filters name) (λ filter. importing filter u w p.plan) p number u w after h
+  planned p number (Export u w name) after h =
+      by_name (filter_named p.filters name) (λ filter. exporting filter u w p.plan) p number u w after h
+  planned p number (Route u v) after h = told_of p.plan number u v (Script.TellsRoute p.plan.size u) (λ routes q. like answer _ q refl) h.0
+  planned p number (Path u v) after h = told_of p.plan number u v (Script.TellsPath p.plan.size u) (λ routes q. like answer _ q.2 refl) h.0
+  planned p number (Table u) after h =
+      either (nat_lt u p.plan.size) _ _ (λ q. like answer _ q.2 refl) (λ q. like answer _ q refl) h.0
+  planned p number (Draw v) after h =
+      either (nat_lt v p.plan.size) _ _ (λ q. like answer _ q.2 refl) (λ q. like answer _ q refl) h.0
+  planned p number Mark after h = like answer _ h.2.0 refl
+  planned p number Changes after h = like answer _ h.0.4 refl
+  planned p number Settle after h = settled number h.0
+
+  first : (number : ℕ) (c : CommandView) (after : Option PlanningView) → Script.AnswersFirst number c answer after → GoesOn answer
+  first number (Domain size) after h = like answer _ h.0 refl
+  first number (Prefix node bits) after h = like answer _ h.0 refl
+  first number (Load name text) after h = like answer _ h.0 refl
+  first number (Code name bytes) after h = like answer _ h.0 refl
+  first number (Link u w) after h = like answer _ h.0 refl
+  first number (Cut u w) after h = like answer _ h.0 refl
+  first number (Import u w name) after h = like answer _ h.0 refl
+  first number (Export u w name) after h = like answer _ h.0 refl
+  first number (Route u v) after h = like answer _ h.0 refl
+  first number (Path u v) after h = like answer _ h.0 refl
+  first number (Table u) after h = like answer _ h.0 refl
+  first number (Draw v) after h = like answer _ h.0 refl
+  first number Mark after h = like answer _ h.0 refl
+  first number Changes after h = like answer _ h.0 refl
+  first number Settle after h = like answer _ h.0 refl
+
+  command : (before : Option PlanningView) (number : ℕ) (c : CommandView) (after : Option PlanningView)
+      → Script.AnswersCommand before number c answer after → GoesOn answer
+  command None number c after h = first number c after h
+  command (Some p) number c after h = planned p number c h.0 h.1
+
+  read : (before : Option PlanningView) (number : ℕ) (r : Read) (after : Option PlanningView)
+      → Script.AnswersRead before number r answer after → GoesOn answer
+  read before number (Ok c) after h = command before number c after h
+  read before number (Err why) after h = like answer _ h.0 refl
+
+not_over : (before : Option PlanningView) (lines : List (ℕ × List ℕ)) (given : List Answer) (after : Option PlanningView)
+    → Runs AnswersLine before lines given after → is_over given ≡ false
+not_over before [] [] after h = refl
+not_over before [] (a ∷ more) after h = absurd h
+not_over before (l ∷ ls) [] after h = absurd h
+not_over before (l ∷ ls) (a ∷ more) after h =
+    let on : GoesOn a = read a before l.0 (command_in l.1) h.0 h.1 in
+    let rest = subst (λ (b : Bool). MatchBool b ((more ≡ []) × (after ≡ h.0)) (Runs AnswersLine h.0 ls more after)) on h.2 in
+    ap (λ (b : Bool). b || is_over more) on ∙ not_over h.0 ls more after rest
+
+pub carried_out : (before after : Option PlanningView) (input : List ℕ) (left held holds : Option (List ℕ)) (n : ℕ) → before ≡ None
+    → Finishes AnswersLine before after input left held holds n → IsCarriedOut input left held holds n
+carried_out before after input left held holds n e f =
+    let g = subst (λ (s : Option PlanningView). Finishes AnswersLine s after input left held holds n) e f in
+    record { after = after; finishes = g; to_end = g.to_end (not_over None (numbered input) g.given after g.run) }
+
+pub broken_off : (fault : StreamFault) (before now : Option PlanningView) (input : List ℕ) (left held holds : Option (List ℕ))
+    → before ≡ None → Stops AnswersLine fault before now input left held holds → IsBrokenOff fault input left held holds
+broken_off fault before now input left held holds e f =
+    record { after = now; stops = subst (λ (s : Option PlanningView). Stops AnswersLine fault s now input left held holds) e f }

@@ -1,0 +1,34 @@
+-- One more text, and one more column.
+use Rattle.std.proofs.Common.{◌≡◌, ◌≢◌, ⊎_elim, ℕ, ◌+◌, ◌<◌, List, [], ◌∷◌, ◌++◌, length, slice_index_or, sym, subst, ap, ◌∙◌, arith, append_assoc}
+use Rattle.std.proofs.Math.ListN.{get_or-append}
+use Rattle.std.proofs.Math.Numerals.{add-one}
+use Rattle.std.proofs.Math.Seq.{get_or-append_seam}
+use Rattle.std.proofs.lemmas.Bool.{cases_eq}
+use Rattle.domain_routes.specs.PlanView.{PlanView}
+use Rattle.domain_routes.specs.Routes.{AreRoutes}
+use Rattle.domain_routes.specs.Topology.{topology}
+use Rattle.domain_routes.specs.declared.best.Best.{Best}
+use Rattle.domain_cmds.specs.Texts.{texts_below}
+
+pub one_text_more : (text : ℕ → List ℕ) (n : ℕ) (old mid new : List ℕ) → mid ≡ old ++ texts_below n text → new ≡ mid ++ text n
+    → new ≡ old ++ texts_below (n + 1) text
+unfolding texts_below
+one_text_more text n old mid new first next =
+    subst (λ k. new ≡ old ++ texts_below k text) (sym (add-one n))
+    (next ∙ ap (λ (l : List ℕ). l ++ text n) first ∙ append_assoc old (texts_below n text) (text n))
+
+-- the columns so far, and one more
+pub one_column_more : (p : PlanView) (old new : List (List Best)) (column : List Best) (n : ℕ) → length old ≡ n → new ≡ old ++ column ∷ []
+    → ((x : ℕ) → x < n → AreRoutes (topology p x) x (slice_index_or old x [])) → AreRoutes (topology p n) n column
+    → (x : ℕ) → x < n + 1 → AreRoutes (topology p x) x (slice_index_or new x [])
+one_column_more p old new column n long is before here x short =
+    subst (λ (all : List (List Best)). AreRoutes (topology p x) x (slice_index_or all x [])) (sym is)
+    (⊎_elim
+    (λ (same : x ≡ n).
+    subst (AreRoutes (topology p x) x)
+    (sym (ap (λ k. slice_index_or (old ++ column ∷ []) k []) (same ∙ sym long) ∙ get_or-append_seam old column [] []))
+    (subst (λ k. AreRoutes (topology p k) k column) (sym same) here))
+    (λ (other : x ≢ n).
+    let less : x < n = omega (arith, short, other) in
+    subst (AreRoutes (topology p x) x) (sym (get_or-append old (column ∷ []) [] x (omega (arith, less, long)))) (before x less))
+    (cases_eq x n))

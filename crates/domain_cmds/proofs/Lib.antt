@@ -1,0 +1,8 @@
+pub mod Fitting
+pub mod Ending
+pub mod Filling
+pub mod Telling
+pub mod Carrying
+pub mod Setting
+pub mod Growing
+pub mod OnTheWay

@@ -1,0 +1,32 @@
+-- Each end follows from how the lines were answered.
+use Rattle.std.proofs.lemmas.Result.{IfErr-weaker, IfOk-weaker}
+use Rattle.operator_cmds.proofs.Viewed.{finishes, if_known, stops}
+use Rattle.domain_cmds.specs.Script.{AnswersLine}
+use Rattle.domain_cmds.proofs.Ending.{broken_off, carried_out}
+use Rattle.domain_cmds.proofs.engine.run_watched_domain.Goals as goal
+
+pub returns-clause-finished : goal.returns-clause-finished
+returns-clause-finished g c =
+    let known = g.R.Read.remaining c.args.reader.now in
+    let left = g.R.Read.remaining c.answer_lines.new.reader in
+    let held = g.W.Write.contents c.args.writer.now in
+    let holds = g.W.Write.contents c.answer_lines.new.writer in
+    let after = c.answer_lines.new.service in
+    IfOk-weaker c.answer_lines.result _ _
+    (λ n h. if_known known
+    (λ input f. carried_out _ _ input left held holds n c.new.ensures
+    (finishes (λ s. s.engine.planning) AnswersLine (record { engine = c.new.result; watcher = c.args.watcher }) after input left held holds n f)) h)
+    c.answer_lines.ensures.ok
+
+pub returns-clause-broken_off : goal.returns-clause-broken_off
+returns-clause-broken_off g c =
+    let known = g.R.Read.remaining c.args.reader.now in
+    let left = g.R.Read.remaining c.answer_lines.new.reader in
+    let held = g.W.Write.contents c.args.writer.now in
+    let holds = g.W.Write.contents c.answer_lines.new.writer in
+    let after = c.answer_lines.new.service in
+    IfErr-weaker c.answer_lines.result _ _
+    (λ fault h. if_known known
+    (λ input f. broken_off fault _ _ input left held holds c.new.ensures
+    (stops (λ s. s.engine.planning) AnswersLine fault (record { engine = c.new.result; watcher = c.args.watcher }) after input left held holds f)) h)
+    c.answer_lines.ensures.err

@@ -1,0 +1,11 @@
+use Rattle.std.proofs.Common.{◌≡◌, ◌++◌}
+use Rattle.std.specs.Io.{StartsWith}
+use Rattle.domain_cmds.specs.Texts.{arrow_text, route_in, texts_below}
+use Rattle.domain_cmds.proofs.text.push_arrows.Given as goal
+
+-- the texts so far were added
+abbrev pub invariant-loop-u : goal.invariant-loop-u
+invariant-loop-u l = record {
+  added : l.out.items ≡ l.fn.out.items ++ texts_below l.u (λ u. arrow_text u (route_in l.plan.size l.routes u).via);
+  front : StartsWith l.out.items l.fn.out.items;
+}

@@ -1,0 +1,11 @@
+use Rattle.std.proofs.Common.{◌≡◌, ◌++◌}
+use Rattle.std.specs.Io.{StartsWith}
+use Rattle.domain_cmds.specs.Texts.{change_text, texts_below}
+use Rattle.domain_cmds.proofs.text.push_changes_of.Given as goal
+
+-- the texts so far were added
+abbrev pub invariant-loop-v : goal.invariant-loop-v
+invariant-loop-v l = record {
+  added : l.out.items ≡ l.fn.out.items ++ texts_below l.v (change_text l.size l.before l.now l.u);
+  front : StartsWith l.out.items l.fn.out.items;
+}

@@ -1,0 +1,122 @@
+-- What command a line gives, or the first thing that is wrong with it. (This project's own choice.)
+use Rattle.std.specs.Prelude.{◌≡◌, ℕ, Bool, true, ◌&&◌, List, [], ◌∷◌, length, nat_le, nat_lt, Option, Some, None, Result, Ok, Err, if◌then◌else◌}
+use Rattle.filter_code.specs.Limits.{smallest_size, largest_size}
+use Rattle.hex.specs.Hex.{decode_of}
+use Rattle.hex.specs.declared.error.FromHexError.{FromHexError}
+use Rattle.line_protocol.specs.Limits.{line_limit}
+use Rattle.line_protocol.specs.Words.{words}
+use Rattle.prefix_patterns.specs.Reading.{number_in, prefix_in}
+use Rattle.operator_cmds.specs.Commands.{node_in, text_in}
+use Rattle.operator_cmds.specs.Limits.{number_limit}
+use Rattle.operator_cmds.specs.Names.{is_name}
+use Rattle.operator_cmds.specs.WordLists.{one_of, two_of, three_of}
+use Rattle.operator_cmds.specs.declared.fault.CommandFault.{CommandFault}
+use Rattle.operator_cmds.specs.declared.fault.CommandFault.TheVariants as fault
+use Rattle.domain_cmds.specs.CommandView.{CommandView, Domain, Prefix, Load, Code, Link, Cut, Import, Export, Route, Path, Table, Draw, Mark, Changes, Settle}
+use Rattle.domain_cmds.specs.Verbs.{verb_in}
+use Rattle.domain_cmds.specs.declared.verb.Verb.{Verb}
+use Rattle.domain_cmds.specs.declared.verb.Verb.TheVariants as verb
+
+-- a command, or what is wrong with its line
+abbrev pub Read : Type 0
+Read = Result CommandView CommandFault
+
+-- a domain has 2 to 250 nodes
+abbrev pub is_size : ℕ → Bool
+is_size size = nat_le smallest_size size && nat_le size largest_size
+
+abbrev pub domain_parts : Result ℕ CommandFault → Read
+domain_parts (Err why) = Err why
+domain_parts (Ok size) = if is_size size then Ok (Domain size) else Err fault.Numbers
+
+-- `domain N`
+abbrev pub domain_of : Option (List ℕ) → Read
+domain_of word = domain_parts (node_in word)
+
+abbrev pub prefix_parts : Option ℕ → Option (List Bool) → Read
+prefix_parts None prefix = Err fault.Numbers
+prefix_parts (Some node) None = Err fault.Prefix
+prefix_parts (Some node) (Some prefix) = Ok (Prefix node prefix)
+
+-- `prefix V P`
+abbrev pub prefix_of : Option (List ℕ × List ℕ) → Read
+prefix_of None = Err fault.Words
+prefix_of (Some (node, prefix)) = prefix_parts (number_in number_limit node) (prefix_in prefix)
+
+-- `load NAME TEXT`, where the text has at least one word
+abbrev pub load_of : List (List ℕ) → List ℕ → Read
+load_of [] text = Err fault.Words
+load_of (name ∷ []) text = Err fault.Words
+load_of (name ∷ (word ∷ more)) text = if is_name name then Ok (Load name text) else Err fault.Words
+
+abbrev pub code_parts : List ℕ → Result (List ℕ) FromHexError → Read
+code_parts name (Ok bytes) = Ok (Code name bytes)
+code_parts name (Err why) = Err fault.Hexadecimal
+
+-- `code NAME HEX`
+abbrev pub code_of : Option (List ℕ × List ℕ) → Read
+code_of None = Err fault.Words
+code_of (Some (name, digits)) = if is_name name then code_parts name (decode_of digits) else Err fault.Words
+
+-- the numbers of two nodes that two texts write
+abbrev pub both_numbers : Option ℕ → Option ℕ → Result (ℕ × ℕ) CommandFault
+both_numbers None w = Err fault.Numbers
+both_numbers (Some u) None = Err fault.Numbers
+both_numbers (Some u) (Some w) = Ok (u, w)
+
+-- the numbers of two nodes, as the only two words
+abbrev pub nodes_in : Option (List ℕ × List ℕ) → Result (ℕ × ℕ) CommandFault
+nodes_in None = Err fault.Words
+nodes_in (Some (u, w)) = both_numbers (number_in number_limit u) (number_in number_limit w)
+
+abbrev pub named : List ℕ → Result (ℕ × ℕ) CommandFault → Result (ℕ × ℕ × List ℕ) CommandFault
+named name (Err why) = Err why
+named name (Ok nodes) = Ok (nodes.0, nodes.1, name)
+
+-- the numbers of two nodes and the name of a filter, as the only three words: a bad name counts before a bad number
+abbrev pub filter_in : Option (List ℕ × List ℕ × List ℕ) → Result (ℕ × ℕ × List ℕ) CommandFault
+filter_in None = Err fault.Words
+filter_in (Some (u, w, name)) =
+    if is_name name then named name (both_numbers (number_in number_limit u) (number_in number_limit w)) else Err fault.Words
+
+-- the command that is made of what was read
+abbrev pub made : {X : Type 0} → (X → CommandView) → Result X CommandFault → Read
+made make (Ok x) = Ok (make x)
+made make (Err why) = Err why
+
+-- a command of one word
+abbrev pub alone : CommandView → List (List ℕ) → Read
+alone command [] = Ok command
+alone command (word ∷ more) = Err fault.Words
+
+-- a command by its verb and the words after it; `text` is what follows the second word of the line, without blanks at its front
+abbrev pub command_of : Option Verb → List (List ℕ) → List ℕ → Read
+command_of None args text = Err fault.Words
+command_of (Some verb.Domain) args text = domain_of (one_of args)
+command_of (Some verb.Prefix) args text = prefix_of (two_of args)
+command_of (Some verb.Load) args text = load_of args text
+command_of (Some verb.Code) args text = code_of (two_of args)
+command_of (Some verb.Link) args text = made (λ p. Link p.0 p.1) (nodes_in (two_of args))
+command_of (Some verb.Cut) args text = made (λ p. Cut p.0 p.1) (nodes_in (two_of args))
+command_of (Some verb.Import) args text = made (λ p. Import p.0 p.1 p.2) (filter_in (three_of args))
+command_of (Some verb.Export) args text = made (λ p. Export p.0 p.1 p.2) (filter_in (three_of args))
+command_of (Some verb.Route) args text = made (λ p. Route p.0 p.1) (nodes_in (two_of args))
+command_of (Some verb.Path) args text = made (λ p. Path p.0 p.1) (nodes_in (two_of args))
+command_of (Some verb.Table) args text = made Table (node_in (one_of args))
+command_of (Some verb.Draw) args text = made Draw (node_in (one_of args))
+command_of (Some verb.Mark) args text = alone Mark args
+command_of (Some verb.Changes) args text = alone Changes args
+command_of (Some verb.Settle) args text = alone Settle args
+
+abbrev pub command_of_words : List (List ℕ) → List ℕ → Read
+command_of_words [] text = Err fault.Words
+command_of_words (first ∷ args) text = command_of (verb_in first) args text
+
+-- the command that a line gives
+abbrev pub command_in : List ℕ → Read
+command_in line = if nat_lt line_limit (length line) then Err fault.TooLong else command_of_words (words line) (text_in line)
+
+-- the size of the domain that a command sets up is one; whether nodes fit is judged by the script
+abbrev pub HasFitSize : CommandView → Type 0
+HasFitSize (Domain size) = is_size size ≡ true
+HasFitSize command = Unit {0}

@@ -1,0 +1,11 @@
+-- What callers cite.
+pub mod Verbs
+pub mod CommandView
+pub mod Commands
+pub mod Readings
+pub mod Faults
+pub mod Rests
+pub mod Texts
+pub mod State
+pub mod Script
+pub mod Running

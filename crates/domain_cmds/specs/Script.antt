@@ -1,0 +1,218 @@
+-- What the script of a domain answers to each of its lines, and what becomes of it. (This project's own choice.)
+use Rattle.std.specs.Prelude.{◌≡◌, ◌⊎◌, ℕ, ◌≤◌, ◌==◌, nat_lt, Bool, true, false, not, ◌&&◌, MatchBool, List, [], Option, Some, None, Result, Ok, Err, codes, if◌then◌else◌}
+use Rattle.std.specs.Str.{bytes_eq}
+use Rattle.filter_code.specs.CodeView.{CodeView}
+use Rattle.filter_source.specs.Refusals.{place_in_line, refusal_code}
+use Rattle.filter_source.specs.Sources.{IsRefusedText}
+use Rattle.filter_source.specs.VerifiedLine.{verified_line}
+use Rattle.filter_source.specs.declared.failure.Failure.{Failure}
+use Rattle.filter_source.specs.declared.failure.Failure.TheVariants as failure
+use Rattle.filter_source.specs.declared.refusal.Refusal.{Refusal}
+use Rattle.filter_verifier.specs.VerifiedView.{VerifiedView}
+use Rattle.line_protocol.specs.Answers.{Answer}
+use Rattle.line_protocol.specs.declared.answers.Reply.TheVariants.{Answered}
+use Rattle.operator_cmds.specs.Domain.{default_prefixes}
+use Rattle.operator_cmds.specs.Faults.{fault_code}
+use Rattle.operator_cmds.specs.Replies.{answered, refused}
+use Rattle.operator_cmds.specs.Script.{GivesFile, GivesText, IsRefusedBy, IsRefusedFile, IsVerified}
+use Rattle.domain_routes.specs.Edits.{exporting, importing, linking, unlinked, with_prefix}
+use Rattle.domain_routes.specs.PlanView.{PlanView, is_linked}
+use Rattle.domain_routes.specs.Routes.{AreRoutes}
+use Rattle.domain_routes.specs.Topology.{topology}
+use Rattle.domain_routes.specs.declared.best.Best.{Best}
+use Rattle.domain_cmds.specs.CommandView.{CommandView, Domain, Prefix, Load, Code, Link, Cut, Import, Export, Route, Path, Table, Draw, Mark, Changes, Settle}
+use Rattle.domain_cmds.specs.Commands.{Read, command_in}
+use Rattle.domain_cmds.specs.Rests.{AreAllRoutes}
+use Rattle.domain_cmds.specs.State.{PlanningView, filter_named}
+use Rattle.domain_cmds.specs.Texts.{IsPathText, changes_text, draw_text, route_in, route_text, settled_text, table_text}
+
+-- a domain that was just set up
+abbrev pub new_planning : ℕ → PlanningView
+new_planning size = record {
+  plan = unlinked (default_prefixes size);
+  filters = [];
+  begun = false;
+  marked = None;
+}
+
+-- prefixes stay from now on
+abbrev pub begin : PlanningView → PlanningView
+begin p = record p { begun = true }
+
+-- another plan, and prefixes stay
+abbrev pub planned : PlanView → PlanningView → PlanningView
+planned plan p = record p { plan = plan; begun = true }
+
+-- ---- what may be answered, and what becomes of the domain
+
+abbrev pub Refuses : List ℕ → ℕ → PlanningView → Answer → PlanningView → Type 0
+Refuses code at later answer after = (answer ≡ refused code at) × (after ≡ later)
+
+abbrev pub Tells : List ℕ → PlanningView → Answer → PlanningView → Type 0
+Tells words later answer after = (answer ≡ answered words) × (after ≡ later)
+
+abbrev pub Confirms : PlanningView → Answer → PlanningView → Type 0
+Confirms later answer after = Tells (codes "ok") later answer after
+
+-- ---- `prefix`
+
+abbrev pub AnswersPrefix : PlanningView → ℕ → ℕ → List Bool → Answer → PlanningView → Type 0
+AnswersPrefix p number node bits answer after = MatchBool p.begun
+    (Refuses (codes "O5") number p answer after)
+    (MatchBool (nat_lt node p.plan.size)
+    (Confirms (record p { plan = with_prefix node bits p.plan }) answer after)
+    (Refuses (codes "O2") number p answer after))
+
+-- ---- `load` and `code`
+
+-- the filter of one name alone is another: names are compared byte by byte
+pub record Names (name : List ℕ) (filter : VerifiedView) (before after : PlanningView) : Type 0 where
+  pub plan : after.plan ≡ before.plan
+  pub begun : after.begun ≡ before.begun
+  pub marked : after.marked ≡ before.marked
+  pub filters : (other : List ℕ) →
+      filter_named after.filters other ≡ (if bytes_eq name other then Some filter else filter_named before.filters other)
+
+-- a filter gets a name, and is answered with its cost and its peak
+abbrev pub Takes : List ℕ → VerifiedView → PlanningView → Answer → PlanningView → Type 0
+Takes name filter p answer after =
+    (answer ≡ record { text = verified_line filter.program; reply = Answered }) × Names name filter p after
+
+-- a source is refused, and the filter that the name has stays
+abbrev pub TurnsAway : Refusal → ℕ → PlanningView → Answer → PlanningView → Type 0
+TurnsAway why number p answer after = Refuses (refusal_code why) (place_in_line why number) p answer after
+
+abbrev pub AnswersSource : (CodeView → Type 0) → (Refusal → Type 0) → PlanningView → ℕ → List ℕ → Answer → PlanningView → Type 0
+AnswersSource Gives Lacks p number name answer after =
+    ((filter : VerifiedView) × IsVerified Gives p.plan.size filter × Takes name filter p answer after)
+    ⊎ ((why : Refusal) × IsRefusedBy Gives Lacks p.plan.size why × TurnsAway why number p answer after)
+
+-- the answer by what became of a source; where memory was refused there is none
+abbrev pub AnswersVerified : Result VerifiedView Failure → PlanningView → ℕ → List ℕ → Answer → PlanningView → Type 0
+AnswersVerified (Ok filter) p number name answer after = Takes name filter p answer after
+AnswersVerified (Err (failure.Refused why)) p number name answer after = TurnsAway why number p answer after
+AnswersVerified (Err failure.Memory) p number name answer after = ⊥
+
+-- ---- links and filters
+
+-- two nodes of the domain, and not the same
+abbrev pub are_a_pair : ℕ → ℕ → ℕ → Bool
+are_a_pair size u w = nat_lt u size && nat_lt w size && not (u == w)
+
+abbrev pub AnswersLink : PlanningView → ℕ → ℕ → ℕ → Answer → PlanningView → Type 0
+AnswersLink p number u w answer after = MatchBool (are_a_pair p.plan.size u w)
+    (MatchBool (is_linked p.plan u w)
+    (Refuses (codes "D2") number (begin p) answer after)
+    (Confirms (planned (linking true u w p.plan) p) answer after))
+    (Refuses (codes "D1") number (begin p) answer after)
+
+abbrev pub AnswersCut : PlanningView → ℕ → ℕ → ℕ → Answer → PlanningView → Type 0
+AnswersCut p number u w answer after = MatchBool (are_a_pair p.plan.size u w)
+    (MatchBool (is_linked p.plan u w)
+    (Confirms (planned (linking false u w p.plan) p) answer after)
+    (Refuses (codes "D3") number (begin p) answer after))
+    (Refuses (codes "D1") number (begin p) answer after)
+
+-- a command with the filter of a name, which makes another plan of it: an unknown name counts first, and begins nothing
+abbrev pub AnswersUse : Option VerifiedView → (VerifiedView → PlanView) → PlanningView → ℕ → ℕ → ℕ → Answer → PlanningView → Type 0
+AnswersUse None plan p number u w answer after = Refuses (codes "O6") number p answer after
+AnswersUse (Some filter) plan p number u w answer after = MatchBool (are_a_pair p.plan.size u w)
+    (Confirms (planned (plan filter) p) answer after)
+    (Refuses (codes "D1") number (begin p) answer after)
+
+-- ---- questions about rest
+
+-- a question changes nothing but that prefixes stay
+abbrev pub Asks : (Answer → Type 0) → PlanningView → Answer → PlanningView → Type 0
+Asks IsTold p answer after = IsTold answer × (after ≡ begin p)
+
+-- a question about two nodes, of which the second is the destination: what is told of the routes to it at rest
+abbrev pub IsToldOfRoutes : PlanView → ℕ → ℕ → ℕ → (List Best → Answer → Type 0) → Answer → Type 0
+IsToldOfRoutes plan number u v IsTold answer = MatchBool (nat_lt u plan.size && nat_lt v plan.size)
+    ((routes : List Best) × AreRoutes (topology plan v) v routes × IsTold routes answer)
+    (answer ≡ refused (codes "D1") number)
+
+abbrev pub TellsRoute : ℕ → ℕ → List Best → Answer → Type 0
+TellsRoute size u routes answer = answer ≡ answered (route_text (route_in size routes u))
+
+abbrev pub TellsPath : ℕ → ℕ → List Best → Answer → Type 0
+TellsPath size u routes answer = (words : List ℕ) × IsPathText size routes u words × (answer ≡ answered words)
+
+abbrev pub IsToldRoute : PlanView → ℕ → ℕ → ℕ → Answer → Type 0
+IsToldRoute plan number u v answer = IsToldOfRoutes plan number u v (TellsRoute plan.size u) answer
+
+abbrev pub IsToldPath : PlanView → ℕ → ℕ → ℕ → Answer → Type 0
+IsToldPath plan number u v answer = IsToldOfRoutes plan number u v (TellsPath plan.size u) answer
+
+abbrev pub IsToldTable : PlanView → ℕ → ℕ → Answer → Type 0
+IsToldTable plan number u answer = MatchBool (nat_lt u plan.size)
+    ((all : List (List Best)) × AreAllRoutes plan all × (answer ≡ answered (table_text plan.size all u)))
+    (answer ≡ refused (codes "D1") number)
+
+abbrev pub IsToldDrawing : PlanView → ℕ → ℕ → Answer → Type 0
+IsToldDrawing plan number v answer = MatchBool (nat_lt v plan.size)
+    ((routes : List Best) × AreRoutes (topology plan v) v routes × (answer ≡ answered (draw_text plan routes)))
+    (answer ≡ refused (codes "D1") number)
+
+-- ---- `mark`, `changes` and `settle`
+
+abbrev pub AnswersMark : PlanningView → Answer → PlanningView → Type 0
+AnswersMark p answer after =
+    (all : List (List Best)) × AreAllRoutes p.plan all × Confirms (record p { begun = true; marked = Some all }) answer after
+
+-- all routes at the last `mark`; before any, those of the domain without links
+abbrev pub AreMarks : PlanView → Option (List (List Best)) → List (List Best) → Type 0
+AreMarks plan (Some marked) marks = marks ≡ marked
+AreMarks plan None marks = AreAllRoutes (unlinked plan.prefixes) marks
+
+abbrev pub IsToldChanges : PlanView → Option (List (List Best)) → Answer → Type 0
+IsToldChanges plan marked answer =
+    (marks : List (List Best)) × AreMarks plan marked marks × (all : List (List Best)) × AreAllRoutes plan all
+    × (answer ≡ answered (changes_text plan.size marks all))
+
+-- Each round has a message; how many of both it takes is the routers' affair: only tested. They may have no session left.
+abbrev pub IsToldSettled : ℕ → Answer → Type 0
+IsToldSettled number answer =
+    ((rounds : ℕ) × (messages : ℕ) × (rounds ≤ messages) × (answer ≡ answered (settled_text rounds messages)))
+    ⊎ (answer ≡ refused (codes "D4") number)
+
+-- ---- a line
+
+abbrev pub AnswersPlanned : PlanningView → ℕ → CommandView → Answer → PlanningView → Type 0
+AnswersPlanned p number (Domain size) answer after = Refuses (codes "O5") number p answer after
+AnswersPlanned p number (Prefix node bits) answer after = AnswersPrefix p number node bits answer after
+AnswersPlanned p number (Load name text) answer after =
+    AnswersSource (GivesText text) (IsRefusedText text) p number name answer after
+AnswersPlanned p number (Code name bytes) answer after =
+    AnswersSource (GivesFile bytes) (IsRefusedFile bytes) p number name answer after
+AnswersPlanned p number (Link u w) answer after = AnswersLink p number u w answer after
+AnswersPlanned p number (Cut u w) answer after = AnswersCut p number u w answer after
+AnswersPlanned p number (Import u w name) answer after =
+    AnswersUse (filter_named p.filters name) (λ filter. importing filter u w p.plan) p number u w answer after
+AnswersPlanned p number (Export u w name) answer after =
+    AnswersUse (filter_named p.filters name) (λ filter. exporting filter u w p.plan) p number u w answer after
+AnswersPlanned p number (Route u v) answer after = Asks (IsToldRoute p.plan number u v) p answer after
+AnswersPlanned p number (Path u v) answer after = Asks (IsToldPath p.plan number u v) p answer after
+AnswersPlanned p number (Table u) answer after = Asks (IsToldTable p.plan number u) p answer after
+AnswersPlanned p number (Draw v) answer after = Asks (IsToldDrawing p.plan number v) p answer after
+AnswersPlanned p number Mark answer after = AnswersMark p answer after
+AnswersPlanned p number Changes answer after = Asks (IsToldChanges p.plan p.marked) p answer after
+AnswersPlanned p number Settle answer after = Asks (IsToldSettled number) p answer after
+
+-- before there is a domain, only `domain` is carried out
+abbrev pub AnswersFirst : ℕ → CommandView → Answer → Option PlanningView → Type 0
+AnswersFirst number (Domain size) answer after = (answer ≡ answered (codes "ok")) × (after ≡ Some (new_planning size))
+AnswersFirst number command answer after = (answer ≡ refused (codes "O4") number) × (after ≡ None)
+
+abbrev pub AnswersCommand : Option PlanningView → ℕ → CommandView → Answer → Option PlanningView → Type 0
+AnswersCommand None number command answer after = AnswersFirst number command answer after
+AnswersCommand (Some p) number command answer after =
+    (later : PlanningView) × AnswersPlanned p number command answer later × (after ≡ Some later)
+
+abbrev pub AnswersRead : Option PlanningView → ℕ → Read → Answer → Option PlanningView → Type 0
+AnswersRead before number (Ok command) answer after = AnswersCommand before number command answer after
+AnswersRead before number (Err why) answer after = (answer ≡ refused (fault_code why) number) × (after ≡ before)
+
+-- the script may give this answer to the line of this number, and is then the later script
+abbrev pub AnswersLine : Option PlanningView → ℕ → List ℕ → Answer → Option PlanningView → Type 0
+AnswersLine before number line answer after = AnswersRead before number (command_in line) answer after

@@ -1,0 +1,36 @@
+-- The first words of commands. (This project's own choice.)
+use Rattle.std.specs.Prelude.{ℕ, Bool, List, [], ◌∷◌, Option, find, codes}
+use Rattle.std.specs.Str.{bytes_eq}
+use Rattle.domain_cmds.specs.declared.verb.Verb.{Verb}
+use Rattle.domain_cmds.specs.declared.verb.Verb.TheVariants.{Domain, Prefix, Load, Code, Link, Cut, Import, Export, Route, Path, Table, Draw, Mark, Changes, Settle}
+
+-- how each is written
+abbrev pub verb_text : Verb → List ℕ
+verb_text Domain = codes "domain"
+verb_text Prefix = codes "prefix"
+verb_text Load = codes "load"
+verb_text Code = codes "code"
+verb_text Link = codes "link"
+verb_text Cut = codes "cut"
+verb_text Import = codes "import"
+verb_text Export = codes "export"
+verb_text Route = codes "route"
+verb_text Path = codes "path"
+verb_text Table = codes "table"
+verb_text Draw = codes "draw"
+verb_text Mark = codes "mark"
+verb_text Changes = codes "changes"
+verb_text Settle = codes "settle"
+
+-- all of them
+abbrev pub verbs : List Verb
+verbs =
+    Domain ∷ Prefix ∷ Load ∷ Code ∷ Link ∷ Cut ∷ Import ∷ Export ∷ Route ∷ Path ∷ Table ∷ Draw ∷ Mark ∷ Changes ∷ Settle ∷ []
+
+-- whether a verb is written so
+abbrev pub is_spelled : List ℕ → Verb → Bool
+is_spelled word verb = bytes_eq (verb_text verb) word
+
+-- the verb that is written so
+unfoldable pub verb_in : List ℕ → Option Verb
+verb_in word = find (is_spelled word) verbs

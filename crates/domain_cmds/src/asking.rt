@@ -1,0 +1,171 @@
+//! Questions about a domain at rest, and the answers to them.
+ghost use Rattle.std.specs.Prelude.{◌≡◌, ◌<◌, ◌&&◌, ◌++◌, ◌∷◌, [], nat_lt, IfOk, IsTrue, OnErr};
+ghost use Rattle.std.specs.Io.{StartsWith};
+ghost use Rattle.std.specs.Option.{option_map};
+ghost use Rattle.line_protocol.specs.declared.answers.Reply.TheVariants.{Answered};
+ghost use Rattle.operator_cmds.specs.Replies.{Answers};
+ghost use Rattle.domain_cmds.specs.Script as spec;
+
+use crate::fault::StateFault;
+use crate::playing::Playing;
+use crate::resting::RestingPlan;
+use crate::routes::{Column, all_columns, make_column};
+use crate::text::{push_changes, push_drawing, push_path, push_route, push_settled, push_table};
+use domain_routes::Plan;
+use line_protocol::Reply;
+use operator_cmds::refuse;
+use std::alloc::{AllocError, Global};
+use std::sync::Arc;
+
+/// Ends the line of an answer.
+fn end_line(out: &mut Vec<u8>) -> Result<Reply, AllocError>
+    ensures ok { IfOk result (λ reply. (out.new.items ≡ out.old.items ++ 10 ∷ []) × (reply ≡ Answered)) }
+    ensures err { OnErr result (StartsWith out.new.items out.old.items) }
+{
+    out.push(b'\n')?;
+    Ok(Reply::Answered)
+}
+
+/// Whether both are nodes of the domain.
+fn are_nodes(plan: &Plan, u: u16, v: u16) -> bool
+    ensures value { result ≡ (nat_lt u plan.now.size && nat_lt v plan.now.size) }
+    ensures members { IsTrue result → (u < plan.now.size) × (v < plan.now.size) }
+{
+    u < plan.size() && v < plan.size()
+}
+
+/// Answers `route`: a node's route at rest.
+pub(crate) fn answer_route(
+    alloc: Global,
+    plan: &Plan,
+    number: u32,
+    u: u16,
+    v: u16,
+    out: &mut Vec<u8>,
+) -> Result<Reply, AllocError>
+    ensures ok { IfOk result (Answers (spec.IsToldRoute plan.now number u v) out.old.items out.new.items) }
+    ensures err { OnErr result (StartsWith out.new.items out.old.items) }
+{
+    if !are_nodes(plan, u, v) {
+        return refuse(out, StateFault::BadNode.code(), u64::from(number));
+    }
+    let routes = make_column(alloc, plan, v)?;
+    push_route(out, routes.at(plan.size(), u))?;
+    end_line(out)
+}
+
+/// Answers `path`: the nodes on the way at rest.
+pub(crate) fn answer_path(
+    alloc: Global,
+    plan: &Plan,
+    number: u32,
+    u: u16,
+    v: u16,
+    out: &mut Vec<u8>,
+) -> Result<Reply, AllocError>
+    ensures ok { IfOk result (Answers (spec.IsToldPath plan.now number u v) out.old.items out.new.items) }
+    ensures err { OnErr result (StartsWith out.new.items out.old.items) }
+{
+    if !are_nodes(plan, u, v) {
+        return refuse(out, StateFault::BadNode.code(), u64::from(number));
+    }
+    let routes = make_column(alloc, plan, v)?;
+    push_path(out, plan, &routes, u, v)?;
+    end_line(out)
+}
+
+/// Answers `table`: all routes of a node at rest.
+pub(crate) fn answer_table(
+    alloc: Global,
+    domain: &mut RestingPlan,
+    number: u32,
+    u: u16,
+    out: &mut Vec<u8>,
+) -> Result<Reply, AllocError>
+    ensures ok { IfOk result (Answers (spec.IsToldTable domain.old number u) out.old.items out.new.items) }
+    ensures err { OnErr result (StartsWith out.new.items out.old.items) }
+    ensures same { domain.new ≡ domain.old }
+{
+    let size = domain.size();
+    if u >= size {
+        return refuse(out, StateFault::BadNode.code(), u64::from(number));
+    }
+    let all = domain.all_routes(alloc)?;
+    push_table(out, size, all.as_slice(), u)?;
+    end_line(out)
+}
+
+/// Answers `draw`: a picture of the routes to a node at rest.
+pub(crate) fn answer_draw(
+    alloc: Global,
+    plan: &Plan,
+    number: u32,
+    v: u16,
+    out: &mut Vec<u8>,
+) -> Result<Reply, AllocError>
+    ensures ok { IfOk result (Answers (spec.IsToldDrawing plan.now number v) out.old.items out.new.items) }
+    ensures err { OnErr result (StartsWith out.new.items out.old.items) }
+{
+    if v >= plan.size() {
+        return refuse(out, StateFault::BadNode.code(), u64::from(number));
+    }
+    let routes = make_column(alloc, plan, v)?;
+    push_drawing(out, plan, &routes)?;
+    end_line(out)
+}
+
+/// The routes at rest at the last `mark`. Before any, those of the domain without links.
+fn marks(
+    alloc: Global,
+    plan: &Plan,
+    marked: &Option<Arc<Vec<Column>>>,
+) -> Result<Arc<Vec<Column>>, AllocError>
+    ensures { IfOk result (λ all. spec.AreMarks plan.now (option_map (λ m. m.value.items) marked.now) all.value.items) }
+{
+    match marked {
+        Some(marked) => Ok(Arc::try_clone(marked)?),
+        None => {
+            let _nodes = plan.size();
+            let prefixes = Vec::from_slice(alloc, plan.prefixes())?;
+            let unlinked = Plan::new(alloc, prefixes)?.unwrap();
+            Ok(Arc::new(alloc, all_columns(alloc, &unlinked)?)?)
+        }
+    }
+}
+
+/// Answers `changes`: the routes at rest that are not what they were at the last `mark`.
+pub(crate) fn answer_changes(
+    alloc: Global,
+    domain: &mut RestingPlan,
+    marked: &Option<Arc<Vec<Column>>>,
+    out: &mut Vec<u8>,
+) -> Result<Reply, AllocError>
+    ensures ok { IfOk result (Answers (spec.IsToldChanges domain.old (option_map (λ m. m.value.items) marked.now)) out.old.items out.new.items) }
+    ensures err { OnErr result (StartsWith out.new.items out.old.items) }
+    ensures same { domain.new ≡ domain.old }
+{
+    let before = marks(alloc, domain.plan(), marked)?;
+    let now = domain.all_routes(alloc)?;
+    push_changes(out, domain.size(), before.as_slice(), now.as_slice())?;
+    end_line(out)
+}
+
+/// Answers `settle`: the routers are played until quiet.
+pub(crate) fn answer_settle(
+    alloc: Global,
+    plan: &Plan,
+    playing: &mut Playing,
+    number: u32,
+    out: &mut Vec<u8>,
+) -> Result<Reply, AllocError>
+    ensures ok { IfOk result (Answers (spec.IsToldSettled number) out.old.items out.new.items) }
+    ensures err { OnErr result (StartsWith out.new.items out.old.items) }
+{
+    match playing.settle(alloc, plan)? {
+        Some(settled) => {
+            push_settled(out, settled.rounds, settled.messages)?;
+            end_line(out)
+        }
+        None => refuse(out, StateFault::Unplayable.code(), u64::from(number)),
+    }
+}

@@ -1,0 +1,66 @@
+//! A command of the domain's script.
+use prefix_patterns::Prefix;
+
+/// One command with the words after it. Contracts see it as a `CommandView`. Whether there are such nodes is judged by the script.
+#[derive(Debug, Drop)]
+pub enum Command<'a> {
+    /// `domain N`: a domain of N nodes, 2 to 250.
+    Domain(u16),
+    /// `prefix V P`: the prefix of a node.
+    Prefix {
+        /// V.
+        node: u16,
+        /// P.
+        prefix: Prefix,
+    },
+    /// `load NAME TEXT`: a filter by its text.
+    Load {
+        /// NAME.
+        name: &'a [u8],
+        /// TEXT, from its first byte that is no blank to the end of the line.
+        text: &'a [u8],
+    },
+    /// `code NAME HEX`: a filter by its code file.
+    Code {
+        /// NAME.
+        name: &'a [u8],
+        /// The bytes that HEX writes.
+        bytes: Vec<u8>,
+    },
+    /// `link U W`: two nodes are neighbours from now on.
+    Link(u16, u16),
+    /// `cut U W`: two nodes are neighbours no more.
+    Cut(u16, u16),
+    /// `import U W NAME`: a filter of what the first node hears from the second.
+    Import {
+        /// U.
+        node: u16,
+        /// W.
+        from: u16,
+        /// NAME.
+        name: &'a [u8],
+    },
+    /// `export U W NAME`: a filter of what the first node tells the second.
+    Export {
+        /// U.
+        node: u16,
+        /// W.
+        to: u16,
+        /// NAME.
+        name: &'a [u8],
+    },
+    /// `route U V`: the first node's route to the second.
+    Route(u16, u16),
+    /// `path U V`: the nodes on the way from the first node to the second.
+    Path(u16, u16),
+    /// `table U`: all routes of a node.
+    Table(u16),
+    /// `draw V`: a picture of all routes to a node.
+    Draw(u16),
+    /// `mark`: remembers all routes.
+    Mark,
+    /// `changes`: the routes that are not what they were at the last `mark`.
+    Changes,
+    /// `settle`: the routers exchange messages until none is left.
+    Settle,
+}

@@ -1,0 +1,151 @@
+//! The script of a domain: its lines, one after another, change a domain and ask about it.
+ghost use Rattle.std.specs.Prelude.{◌≡◌, IfErr, IfOk, IfSome};
+ghost use Rattle.domain_cmds.specs.Running.{IsBrokenOff, IsCarriedOut};
+
+use crate::command::Command;
+use crate::fault::StateFault;
+use crate::planning::Planning;
+use crate::read::read_command;
+use line_protocol::{Reply, Service, StreamFault, answer_lines};
+use operator_cmds::{CommandFault, Nobody, Watch, confirm, refuse};
+use std::alloc::{AllocError, Global};
+use std::io::{Read, Write};
+
+/// A domain's script between two lines.
+#[derive(Drop)]
+pub(crate) struct Engine {
+    /// The domain, once it is set up.
+    planning: Option<Planning>,
+}
+
+impl Service for Engine {
+    ghost use Rattle.domain_cmds.specs.Script.{AnswersLine};
+
+    ghost answers = { λ before number line answer after. AnswersLine before.planning number line answer after.planning };
+
+    fn answer(
+        &mut self,
+        alloc: Global,
+        number: u32,
+        line: &[u8],
+        out: &mut Vec<u8>,
+    ) -> Result<Reply, AllocError> {
+        match read_command(alloc, line) {
+            Ok(command) => self.carry_out(alloc, number, command, out),
+            Err(CommandFault::Memory) => Err(AllocError),
+            Err(why) => refuse(out, why.code(), u64::from(number)),
+        }
+    }
+}
+
+impl Engine {
+    ghost use Rattle.std.specs.Prelude.{None, OnErr};
+    ghost use Rattle.std.specs.Io.{StartsWith};
+    ghost use Rattle.operator_cmds.specs.Replies.{Answers};
+    ghost use Rattle.domain_cmds.specs.CommandView.{view_of};
+    ghost use Rattle.domain_cmds.specs.Commands.{HasFitSize};
+    ghost use Rattle.domain_cmds.specs.Script.{AnswersCommand};
+
+    /// A script at its first line.
+    pub(crate) fn new() -> Engine
+        ensures { result.planning ≡ None }
+    {
+        Engine { planning: None }
+    }
+
+    /// The number of nodes of the domain, if one is set up.
+    fn size(&self) -> Option<u16> {
+        self.planning.as_ref().map(|planning| planning.size())
+    }
+
+    /// Carries out the command of a line, and answers it.
+    fn carry_out(
+        &mut self,
+        alloc: Global,
+        number: u32,
+        command: Command<'_>,
+        out: &mut Vec<u8>,
+    ) -> Result<Reply, AllocError>
+        requires { HasFitSize (view_of command) }
+        ensures ok { IfOk result (Answers (λ answer. AnswersCommand self.old.planning number (view_of command.entry) answer
+            self.new.planning) out.old.items out.new.items) }
+        ensures err { OnErr result (StartsWith out.new.items out.old.items) }
+    {
+        match &mut self.planning {
+            Some(planning) => planning.carry_out(alloc, number, command, out),
+            None => match command {
+                Command::Domain(size) => {
+                    self.planning = Some(Planning::new(alloc, size)?);
+                    confirm(out)
+                }
+                _ => refuse(out, StateFault::NoDomain.code(), u64::from(number)),
+            },
+        }
+    }
+}
+
+/// A domain's script and who watches it.
+#[derive(Drop)]
+struct Watched<S: Watch + Drop> {
+    /// The script.
+    engine: Engine,
+    /// Who watches it.
+    watcher: S,
+}
+
+impl<S: Watch + Drop> Service for Watched<S> {
+    ghost use Rattle.domain_cmds.specs.Script.{AnswersLine};
+
+    ghost answers = { λ before number line answer after.
+        AnswersLine before.engine.planning number line answer after.engine.planning };
+
+    fn answer(
+        &mut self,
+        alloc: Global,
+        number: u32,
+        line: &[u8],
+        out: &mut Vec<u8>,
+    ) -> Result<Reply, AllocError> {
+        let reply = self.engine.answer(alloc, number, line, out)?;
+        if reply == Reply::Refused {
+            self.watcher
+                .see_refused(alloc, number, line, self.engine.size());
+        }
+        Ok(reply)
+    }
+}
+
+/// Does what `run_domain` does, and shows each line that is refused to who watches. A line that gives a filter is one of the
+/// script of a router, so `operator_cmds::refused_filter` finds what is wrong with it.
+pub fn run_watched_domain<R: Read, W: Write, S: Watch + Drop>(
+    alloc: Global,
+    reader: &mut R,
+    writer: &mut W,
+    watcher: S,
+) -> Result<u32, StreamFault>
+    ensures finished { IfOk result (λ refused. IfSome (R.remaining reader.old) (λ input.
+        IsCarriedOut input (R.remaining reader.new) (W.contents writer.old) (W.contents writer.new) refused)) }
+    ensures broken_off { IfErr result (λ fault. IfSome (R.remaining reader.old) (λ input.
+        IsBrokenOff fault input (R.remaining reader.new) (W.contents writer.old) (W.contents writer.new))) }
+{
+    let mut service = Watched {
+        engine: Engine::new(),
+        watcher,
+    };
+    answer_lines(alloc, reader, writer, &mut service)
+}
+
+/// Answers the lines of `reader` on `writer`: each is a command to the domain of the script. Returns the number of lines that
+/// were refused. What was answered is written before more is read.
+pub fn run_domain<R: Read, W: Write>(
+    alloc: Global,
+    reader: &mut R,
+    writer: &mut W,
+) -> Result<u32, StreamFault>
+    ensures finished { IfOk result (λ refused. IfSome (R.remaining reader.old) (λ input.
+        IsCarriedOut input (R.remaining reader.new) (W.contents writer.old) (W.contents writer.new) refused)) }
+    ensures broken_off { IfErr result (λ fault. IfSome (R.remaining reader.old) (λ input.
+        IsBrokenOff fault input (R.remaining reader.new) (W.contents writer.old) (W.contents writer.new))) }
+{
+    run_watched_domain(alloc, reader, writer, Nobody)
+}

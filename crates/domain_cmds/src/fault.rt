@@ -1,0 +1,43 @@
+//! Why the state of a domain's script refuses a command.
+ghost use Rattle.std.specs.Prelude.{◌≡◌};
+
+/// Why the state of a domain's script refuses a command.
+#[derive(Clone, Copy, Debug, PartialEq, Eq)]
+pub(crate) enum StateFault {
+    /// O2: the node of a `prefix` is not in the domain.
+    NoSuchNode,
+    /// O4: no domain is set up.
+    NoDomain,
+    /// O5: the domain is there already, or its nodes' prefixes are settled.
+    TooLate,
+    /// O6: no filter has the name.
+    UnknownFilter,
+    /// D1: a node is not in the domain, or is to be its own neighbour.
+    BadNode,
+    /// D2: the nodes are neighbours already.
+    Linked,
+    /// D3: the nodes are not neighbours.
+    Apart,
+    /// D4: the routers cannot be played any further.
+    Unplayable,
+}
+
+impl StateFault {
+    ghost use Rattle.domain_cmds.specs.Faults.{state_code};
+
+    /// The code that names the fault.
+    pub(crate) fn code(self) -> &'static str
+        ensures { result.now ≡ state_code self }
+    {
+        match self {
+            StateFault::NoSuchNode => "O2",
+            StateFault::NoDomain => "O4",
+            StateFault::TooLate => "O5",
+            StateFault::UnknownFilter => "O6",
+            StateFault::BadNode => "D1",
+            StateFault::Linked => "D2",
+            StateFault::Apart => "D3",
+            StateFault::Unplayable => "D4",
+        }
+    }
+}

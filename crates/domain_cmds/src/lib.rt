@@ -1,0 +1,19 @@
+//! The script of a whole domain: its commands, and the answers to them.
+#![tactic(auto)]
+
+mod asking;
+mod command;
+mod engine;
+mod fault;
+mod filters;
+mod planning;
+mod playing;
+mod read;
+mod resting;
+mod routes;
+mod text;
+mod verb;
+
+pub use command::Command;
+pub use engine::{run_domain, run_watched_domain};
+pub use read::read_command;

@@ -1,0 +1,187 @@
+//! The routers of a domain, which are there once they are to be played.
+ghost use Rattle.std.specs.Prelude.{◌≡◌, ◌≢◌, ◌<◌, ◌≤◌, IfOk, IfSome, IsTrue, length};
+
+use domain_player::{LinkFault, Routers, SettleFault, Settled};
+use domain_routes::Plan;
+use filter_verifier::Verified;
+use std::alloc::{AllocError, Global};
+use std::mem;
+use std::sync::Arc;
+
+/// A change of the domain that its routers are to enter.
+#[derive(Drop)]
+pub(crate) enum Change {
+    /// Two nodes are neighbours.
+    Link(u16, u16),
+    /// Two nodes are neighbours no more.
+    Cut(u16, u16),
+    /// What the first node hears from the second passes a filter.
+    Import(u16, u16, Arc<Verified>),
+    /// What the first node tells the second passes a filter.
+    Export(u16, u16, Arc<Verified>),
+}
+
+/// The routers, if they were played, and what happened since. Nothing is heard but in `settle`, so changes may be entered then.
+#[derive(Drop)]
+pub(crate) struct Playing {
+    /// The routers, opened when they are first played: their tables take much memory.
+    routers: Option<Routers>,
+    /// The changes since they were last played, the oldest first.
+    changes: Vec<Change>,
+}
+
+/// Why routers were not played.
+enum PlayFault {
+    /// Memory was refused.
+    Memory,
+    /// They are closed: a router has had all its sessions, or more messages were heard than can be counted, now or before.
+    Closed,
+}
+
+impl From<AllocError> for PlayFault {
+    fn from(_: AllocError) -> PlayFault {
+        PlayFault::Memory
+    }
+}
+
+impl From<LinkFault> for PlayFault {
+    fn from(fault: LinkFault) -> PlayFault {
+        match fault {
+            LinkFault::Memory => PlayFault::Memory,
+            LinkFault::NoSession => PlayFault::Closed,
+        }
+    }
+}
+
+impl From<SettleFault> for PlayFault {
+    fn from(fault: SettleFault) -> PlayFault {
+        match fault {
+            SettleFault::Memory => PlayFault::Memory,
+            SettleFault::TooManyMessages => PlayFault::Closed,
+        }
+    }
+}
+
+/// Whether two nodes of these routers could be neighbours. Closed routers have no nodes.
+fn are_a_pair(routers: &Routers, u: u16, w: u16) -> bool
+    ensures { IsTrue result → (u < length routers.now) × (w < length routers.now) × (u ≢ w) }
+{
+    u < routers.size() && w < routers.size() && u != w
+}
+
+/// Whether a filter can stand between two nodes of these routers.
+fn fits(routers: &Routers, u: u16, w: u16, filter: &Arc<Verified>) -> bool
+    ensures pair { IsTrue result → (u < length routers.now) × (w < length routers.now) × (u ≢ w) }
+    ensures size { IsTrue result → filter.now.value.size ≡ length routers.now }
+{
+    are_a_pair(routers, u, w) && filter.size() == u32::from(routers.size())
+}
+
+/// Two nodes are neighbours from now on.
+fn link(routers: &mut Routers, u: u16, w: u16) -> Result<(), PlayFault> {
+    if !are_a_pair(routers, u, w) || routers.is_linked(u, w) {
+        return Err(PlayFault::Closed);
+    }
+    Ok(routers.link(u, w)?)
+}
+
+/// Two nodes are neighbours no more.
+fn cut(routers: &mut Routers, u: u16, w: u16) -> Result<(), PlayFault> {
+    if !are_a_pair(routers, u, w) || !routers.is_linked(u, w) {
+        return Err(PlayFault::Closed);
+    }
+    Ok(routers.cut(u, w)?)
+}
+
+/// What the first node hears from the second passes a filter from now on.
+fn set_import(
+    routers: &mut Routers,
+    u: u16,
+    w: u16,
+    filter: Arc<Verified>,
+) -> Result<(), PlayFault> {
+    if !fits(routers, u, w, &filter) {
+        return Err(PlayFault::Closed);
+    }
+    Ok(routers.set_import(u, w, filter)?)
+}
+
+/// What the first node tells the second passes a filter from now on.
+fn set_export(
+    routers: &mut Routers,
+    u: u16,
+    w: u16,
+    filter: Arc<Verified>,
+) -> Result<(), PlayFault> {
+    if !fits(routers, u, w, &filter) {
+        return Err(PlayFault::Closed);
+    }
+    Ok(routers.set_export(u, w, filter)?)
+}
+
+/// The routers enter a change. Closed ones enter none.
+fn enter(routers: &mut Routers, change: Change) -> Result<(), PlayFault> {
+    match change {
+        Change::Link(u, w) => link(routers, u, w),
+        Change::Cut(u, w) => cut(routers, u, w),
+        Change::Import(u, w, filter) => set_import(routers, u, w, filter),
+        Change::Export(u, w, filter) => set_export(routers, u, w, filter),
+    }
+}
+
+/// The routers of a plan's nodes, without links.
+fn open_routers(alloc: Global, plan: &Plan) -> Result<Routers, AllocError> {
+    let _nodes = plan.size();
+    Routers::open(alloc, plan.prefixes())
+}
+
+/// The routers enter what happened, and are played until quiet.
+fn play(routers: &mut Routers, changes: Vec<Change>) -> Result<Settled, PlayFault>
+    ensures { IfOk result (λ s. s.rounds ≤ s.messages) }
+{
+    for change in changes {
+        enter(routers, change)?;
+    }
+    if routers.size() == 0 {
+        return Err(PlayFault::Closed);
+    }
+    Ok(routers.settle()?)
+}
+
+impl Playing {
+    /// Routers that were never played.
+    pub(crate) fn new(alloc: Global) -> Playing {
+        Playing {
+            routers: None,
+            changes: Vec::new(alloc),
+        }
+    }
+
+    /// Notes a change.
+    pub(crate) fn note(&mut self, change: Change) -> Result<(), AllocError> {
+        self.changes.push(change)?;
+        Ok(())
+    }
+
+    /// The routers enter what happened since they were last played, and are played until quiet. None if they cannot be played.
+    pub(crate) fn settle(
+        &mut self,
+        alloc: Global,
+        plan: &Plan,
+    ) -> Result<Option<Settled>, AllocError>
+        ensures { IfOk result (λ settled. IfSome settled (λ s. s.rounds ≤ s.messages)) }
+    {
+        let changes = mem::replace(&mut self.changes, Vec::new(alloc));
+        let mut routers = match self.routers.take() {
+            Some(routers) => routers,
+            None => open_routers(alloc, plan)?,
+        };
+        let settled = match play(&mut routers, changes) {
+            Ok(settled) => Some(settled),
+            Err(PlayFault::Closed) => None,
+            Err(PlayFault::Memory) => return Err(AllocError),
+        };
+        self.routers = Some(routers);
+        Ok(settled)
+    }
+}

@@ -1,0 +1,202 @@
+//! A line of the domain's script is read as a command.
+ghost use Rattle.std.specs.Prelude.{◌≡◌, Some, Ok, Err, MatchResult};
+ghost use Rattle.line_protocol.specs.Words.{words, without_front_blanks};
+ghost use Rattle.prefix_patterns.specs.Reading.{number_in};
+ghost use Rattle.operator_cmds.specs.Commands.{node_in};
+ghost use Rattle.operator_cmds.specs.Limits.{number_limit};
+ghost use Rattle.operator_cmds.specs.WordLists.{after_word, one_of, two_of, three_of};
+ghost use Rattle.domain_cmds.specs.CommandView.{view_of};
+ghost use Rattle.domain_cmds.specs.Commands as spec;
+ghost use Rattle.domain_cmds.specs.Readings.{IsRead, IsReadIn};
+
+use crate::command::Command;
+use crate::verb::{Verb, read_verb};
+use filter_code::{LARGEST_SIZE, SMALLEST_SIZE};
+use hex::FromHexError;
+use line_protocol::{LINE_LIMIT, next_word, trim_front_blanks};
+use operator_cmds::{
+    CommandFault, cut_word, is_name, one_word, read_small, three_words, two_words,
+};
+use prefix_patterns::read_prefix;
+use std::alloc::Global;
+
+/// The number of a node, where nothing follows it.
+fn read_node(rest: &[u8]) -> Result<u16, CommandFault>
+    ensures { result ≡ node_in (one_of (words rest.now)) }
+{
+    let Some(node) = one_word(rest) else {
+        return Err(CommandFault::Words);
+    };
+    match read_small(node) {
+        Some(node) => Ok(node),
+        None => Err(CommandFault::Numbers),
+    }
+}
+
+/// The numbers of two nodes.
+fn read_both(first: &[u8], second: &[u8]) -> Result<(u16, u16), CommandFault>
+    ensures { result ≡ spec.both_numbers (number_in number_limit first.now) (number_in number_limit second.now) }
+{
+    let Some(first) = read_small(first) else {
+        return Err(CommandFault::Numbers);
+    };
+    match read_small(second) {
+        Some(second) => Ok((first, second)),
+        None => Err(CommandFault::Numbers),
+    }
+}
+
+/// The numbers of two nodes, where nothing follows them.
+fn read_nodes(rest: &[u8]) -> Result<(u16, u16), CommandFault>
+    ensures { result ≡ spec.nodes_in (two_of (words rest.now)) }
+{
+    match two_words(rest) {
+        Some((first, second)) => read_both(first, second),
+        None => Err(CommandFault::Words),
+    }
+}
+
+/// A `domain` command by the bytes after its first word.
+fn read_domain<'a>(rest: &[u8]) -> Result<Command<'a>, CommandFault>
+    ensures { IsRead result (spec.domain_of (one_of (words rest.now))) }
+{
+    let size = read_node(rest)?;
+    let nodes = u32::from(size);
+    if SMALLEST_SIZE <= nodes && nodes <= LARGEST_SIZE {
+        Ok(Command::Domain(size))
+    } else {
+        Err(CommandFault::Numbers)
+    }
+}
+
+/// A `prefix` command by the bytes after its first word.
+fn read_node_prefix<'a>(rest: &[u8]) -> Result<Command<'a>, CommandFault>
+    ensures { IsRead result (spec.prefix_of (two_of (words rest.now))) }
+{
+    let Some((node, prefix)) = two_words(rest) else {
+        return Err(CommandFault::Words);
+    };
+    let Some(node) = read_small(node) else {
+        return Err(CommandFault::Numbers);
+    };
+    match read_prefix(prefix) {
+        Some(prefix) => Ok(Command::Prefix { node, prefix }),
+        None => Err(CommandFault::Prefix),
+    }
+}
+
+/// A `load` command by the bytes after its first word.
+fn read_load(rest: &[u8]) -> Result<Command<'_>, CommandFault>
+    ensures { IsRead result (spec.load_of (words rest.now) (without_front_blanks (after_word rest.now))) }
+{
+    let Some((name, rest)) = cut_word(rest) else {
+        return Err(CommandFault::Words);
+    };
+    if next_word(rest).is_none() || !is_name(name) {
+        return Err(CommandFault::Words);
+    }
+    Ok(Command::Load {
+        name,
+        text: trim_front_blanks(rest),
+    })
+}
+
+/// A `code` command by the bytes after its first word.
+fn read_code(alloc: Global, rest: &[u8]) -> Result<Command<'_>, CommandFault>
+    ensures { IsReadIn result (spec.code_of (two_of (words rest.now))) }
+{
+    let Some((name, digits)) = two_words(rest) else {
+        return Err(CommandFault::Words);
+    };
+    if !is_name(name) {
+        return Err(CommandFault::Words);
+    }
+    match hex::decode(alloc, digits) {
+        Ok(bytes) => Ok(Command::Code { name, bytes }),
+        Err(FromHexError::OutOfMemory) => Err(CommandFault::Memory),
+        Err(_) => Err(CommandFault::Hexadecimal),
+    }
+}
+
+/// The numbers of two nodes and the name of a filter, where nothing follows them.
+fn read_filter(rest: &[u8]) -> Result<(u16, u16, &[u8]), CommandFault>
+    ensures { MatchResult result (λ p. spec.filter_in (three_of (words rest.now)) ≡ Ok (p.0, p.1, p.2.now))
+        (λ why. spec.filter_in (three_of (words rest.now)) ≡ Err why) }
+{
+    let Some((node, neighbour, name)) = three_words(rest) else {
+        return Err(CommandFault::Words);
+    };
+    if !is_name(name) {
+        return Err(CommandFault::Words);
+    }
+    let (node, neighbour) = read_both(node, neighbour)?;
+    Ok((node, neighbour, name))
+}
+
+/// A command after which nothing follows.
+fn read_alone<'a>(command: Command<'a>, rest: &[u8]) -> Result<Command<'a>, CommandFault>
+    ensures { IsRead result (spec.alone (view_of command.entry) (words rest.now)) }
+{
+    match next_word(rest) {
+        None => Ok(command),
+        Some(_) => Err(CommandFault::Words),
+    }
+}
+
+/// A command by its verb and the bytes after it.
+fn read_rest(alloc: Global, verb: Verb, rest: &[u8]) -> Result<Command<'_>, CommandFault>
+    ensures { IsReadIn result (spec.command_of (Some verb) (words rest.now) (without_front_blanks (after_word rest.now))) }
+{
+    match verb {
+        Verb::Domain => read_domain(rest),
+        Verb::Prefix => read_node_prefix(rest),
+        Verb::Load => read_load(rest),
+        Verb::Code => read_code(alloc, rest),
+        Verb::Link => {
+            let (u, w) = read_nodes(rest)?;
+            Ok(Command::Link(u, w))
+        }
+        Verb::Cut => {
+            let (u, w) = read_nodes(rest)?;
+            Ok(Command::Cut(u, w))
+        }
+        Verb::Import => {
+            let (node, from, name) = read_filter(rest)?;
+            Ok(Command::Import { node, from, name })
+        }
+        Verb::Export => {
+            let (node, to, name) = read_filter(rest)?;
+            Ok(Command::Export { node, to, name })
+        }
+        Verb::Route => {
+            let (u, v) = read_nodes(rest)?;
+            Ok(Command::Route(u, v))
+        }
+        Verb::Path => {
+            let (u, v) = read_nodes(rest)?;
+            Ok(Command::Path(u, v))
+        }
+        Verb::Table => Ok(Command::Table(read_node(rest)?)),
+        Verb::Draw => Ok(Command::Draw(read_node(rest)?)),
+        Verb::Mark => read_alone(Command::Mark, rest),
+        Verb::Changes => read_alone(Command::Changes, rest),
+        Verb::Settle => read_alone(Command::Settle, rest),
+    }
+}
+
+/// Reads a line of a domain's script as a command, or finds the first thing that is wrong with it. The tests that need the
+/// script's state are not made here.
+pub fn read_command(alloc: Global, line: &[u8]) -> Result<Command<'_>, CommandFault>
+    ensures { IsReadIn result (spec.command_in line.now) }
+{
+    if line.len() > LINE_LIMIT {
+        return Err(CommandFault::TooLong);
+    }
+    let Some((word, rest)) = cut_word(line) else {
+        return Err(CommandFault::Words);
+    };
+    match read_verb(word) {
+        Some(verb) => read_rest(alloc, verb, rest),
+        None => Err(CommandFault::Words),
+    }
+}

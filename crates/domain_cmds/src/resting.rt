@@ -1,0 +1,122 @@
+//! A plan, and its routes at rest once they are asked for.
+ghost use Rattle.std.specs.Prelude.{◌≡◌, ◌≢◌, ◌<◌, IfOk, false, true};
+ghost use Rattle.domain_routes.specs.Edits.{exporting, importing, linking, with_prefix};
+ghost use Rattle.domain_cmds.specs.Rests.{AreAllRoutes};
+
+use crate::routes::{Column, all_columns};
+use domain_routes::Plan;
+use filter_verifier::Verified;
+use prefix_patterns::Prefix;
+use std::alloc::{AllocError, Global};
+use std::marker::Model;
+use std::sync::Arc;
+
+/// A plan that keeps its routes at rest. A contract sees it as the plan.
+#[derive(Drop)]
+pub(crate) struct RestingPlan {
+    /// The plan.
+    plan: Plan,
+    /// All its routes at rest, where they were computed since it last changed.
+    rest: Option<Arc<Vec<Column>>>,
+}
+
+impl Model for RestingPlan {
+    ghost use Rattle.std.specs.Prelude.{IfSome};
+    ghost use Rattle.domain_routes.specs.PlanView.{PlanView};
+    ghost use Rattle.domain_cmds.specs.Rests.{AreAllRoutes};
+
+    ghost Value = { PlanView };
+
+    ghost view = { λ r. r.plan };
+
+    ghost invariant = { λ r. IfSome r.rest (λ all. AreAllRoutes r.plan all.value.items) };
+}
+
+impl RestingPlan {
+    /// A plan of which no routes are known.
+    pub(crate) fn new(plan: Plan) -> RestingPlan
+        ensures { result ≡ plan }
+    {
+        RestingPlan { plan, rest: None }
+    }
+
+    /// The plan.
+    pub(crate) fn plan(&self) -> &Plan
+        ensures { result.now ≡ self.now }
+    {
+        &self.plan
+    }
+
+    /// The number of nodes.
+    pub(crate) fn size(&self) -> u16
+        ensures { result ≡ self.now.size }
+    {
+        self.plan.size()
+    }
+
+    /// Gives a node another prefix.
+    pub(crate) fn set_prefix(&mut self, node: u16, prefix: Prefix)
+        requires { node < self.old.size }
+        ensures { self.new ≡ with_prefix node prefix self.old }
+    {
+        self.rest = None;
+        self.plan.set_prefix(node, prefix);
+    }
+
+    /// Two nodes are neighbours from now on.
+    pub(crate) fn link(&mut self, u: u16, w: u16)
+        requires u { u < self.old.size }
+        requires w { w < self.old.size }
+        requires apart { u ≢ w }
+        ensures { self.new ≡ linking true u w self.old }
+    {
+        self.rest = None;
+        self.plan.link(u, w);
+    }
+
+    /// Two nodes are neighbours no more.
+    pub(crate) fn cut(&mut self, u: u16, w: u16)
+        requires u { u < self.old.size }
+        requires w { w < self.old.size }
+        requires apart { u ≢ w }
+        ensures { self.new ≡ linking false u w self.old }
+    {
+        self.rest = None;
+        self.plan.cut(u, w);
+    }
+
+    /// What the first node hears from the second passes this filter from now on.
+    pub(crate) fn set_import(&mut self, u: u16, w: u16, filter: Arc<Verified>)
+        requires u { u < self.old.size }
+        requires w { w < self.old.size }
+        requires fits { filter.value.size ≡ self.old.size }
+        ensures { self.new ≡ importing filter.value u w self.old }
+    {
+        self.rest = None;
+        self.plan.set_import(u, w, filter);
+    }
+
+    /// What the first node tells the second passes this filter from now on.
+    pub(crate) fn set_export(&mut self, u: u16, w: u16, filter: Arc<Verified>)
+        requires u { u < self.old.size }
+        requires w { w < self.old.size }
+        requires fits { filter.value.size ≡ self.old.size }
+        ensures { self.new ≡ exporting filter.value u w self.old }
+    {
+        self.rest = None;
+        self.plan.set_export(u, w, filter);
+    }
+
+    /// All routes at rest. They are computed once after each change.
+    pub(crate) fn all_routes(&mut self, alloc: Global) -> Result<Arc<Vec<Column>>, AllocError>
+        ensures all { IfOk result (λ all. AreAllRoutes self.old all.value.items) }
+        ensures same { self.new ≡ self.old }
+    {
+        if let Some(all) = &self.rest {
+            return Ok(Arc::try_clone(all)?);
+        }
+        let all = Arc::new(alloc, all_columns(alloc, &self.plan)?)?;
+        self.rest = Some(Arc::try_clone(&all)?);
+        Ok(all)
+    }
+}

@@ -1,0 +1,104 @@
+//! The first word of a command.
+ghost use Rattle.std.specs.Prelude.{◌≡◌, find};
+ghost use Rattle.domain_cmds.specs.Verbs as spec;
+
+/// What a command does, as its first word says.
+#[derive(Clone, Copy, Debug, PartialEq, Eq)]
+pub enum Verb {
+    /// `domain`
+    Domain,
+    /// `prefix`
+    Prefix,
+    /// `load`
+    Load,
+    /// `code`
+    Code,
+    /// `link`
+    Link,
+    /// `cut`
+    Cut,
+    /// `import`
+    Import,
+    /// `export`
+    Export,
+    /// `route`
+    Route,
+    /// `path`
+    Path,
+    /// `table`
+    Table,
+    /// `draw`
+    Draw,
+    /// `mark`
+    Mark,
+    /// `changes`
+    Changes,
+    /// `settle`
+    Settle,
+}
+
+/// All of them.
+pub static VERBS: [Verb; 15] = [
+    Verb::Domain,
+    Verb::Prefix,
+    Verb::Load,
+    Verb::Code,
+    Verb::Link,
+    Verb::Cut,
+    Verb::Import,
+    Verb::Export,
+    Verb::Route,
+    Verb::Path,
+    Verb::Table,
+    Verb::Draw,
+    Verb::Mark,
+    Verb::Changes,
+    Verb::Settle,
+];
+
+impl Verb {
+    ghost use Rattle.domain_cmds.specs.Verbs.{verb_text};
+
+    /// How it is written.
+    fn text(&self) -> &'static str
+        ensures { result.now ≡ verb_text self.now }
+    {
+        match self {
+            Verb::Domain => "domain",
+            Verb::Prefix => "prefix",
+            Verb::Load => "load",
+            Verb::Code => "code",
+            Verb::Link => "link",
+            Verb::Cut => "cut",
+            Verb::Import => "import",
+            Verb::Export => "export",
+            Verb::Route => "route",
+            Verb::Path => "path",
+            Verb::Table => "table",
+            Verb::Draw => "draw",
+            Verb::Mark => "mark",
+            Verb::Changes => "changes",
+            Verb::Settle => "settle",
+        }
+    }
+}
+
+/// The verb that is written so.
+#[tactic(auto, unfolding(crate::specs::Verbs::verb_in))]
+pub fn read_verb(word: &[u8]) -> Option<Verb>
+    ensures { spec.verb_in word.now ≡ result }
+{
+    first_spelled(&VERBS, word)
+}
+
+/// The first of the verbs that is written so.
+fn first_spelled(verbs: &[Verb], word: &[u8]) -> Option<Verb>
+    ensures { find (spec.is_spelled word.now) verbs.now ≡ result }
+{
+    for verb in verbs {
+        if verb.text().as_bytes() == word {
+            return Some(*verb);
+        }
+    }
+    None
+}
