@@ -1,0 +1,20 @@
+#!/usr/bin/env bash
+# Proves, builds and installs `ncroute` with its man pages, its completions for bash, zsh and fish, and the syntax files of `editors/`.
+#
+# usage: scripts/install.sh [PREFIX]      (PREFIX: /usr/local)
+#   NCROUTE=PATH   a program that is built already: then none is proved and built here
+set -eu
+top="$(cd "$(dirname "$0")/.." && pwd)"
+prefix="${1:-/usr/local}"
+if [ -z "${NCROUTE:-}" ]; then
+    echo "proving and building ncroute, which takes about 20 minutes from nothing" >&2
+    (cd "$top/crates/ncroute" && rt run -- --version >&2)
+    NCROUTE="$top/crates/ncroute/out/ncroute"
+fi
+install -D -m 755 "$NCROUTE" "$prefix/bin/ncroute"
+"$top/scripts/make_manual.py" "$prefix/bin/ncroute" "$prefix"
+for part in syntax ftdetect; do
+    install -D -m 644 "$top/editors/vim/$part/ncroute.vim" "$prefix/share/vim/vimfiles/$part/ncroute.vim"
+done
+(cd "$top/editors/vscode" && find . -type f -exec install -D -m 644 {} "$prefix/share/ncroute/vscode/{}" \;)
+echo "installed in $prefix: bin/ncroute, man pages, completions, and syntax files for vim; those for Visual Studio Code are in share/ncroute/vscode"

@@ -1,0 +1,185 @@
+#!/usr/bin/env python3
+"""Writes the man pages of `ncroute` and its completions for bash, zsh and fish, all from what `ncroute --help` and the help of each command say.
+
+usage: make_manual.py NCROUTE FOLDER     (NCROUTE: the program as it is built; FOLDER gets share/man/man1, share/bash-completion, share/zsh, share/fish)
+"""
+import os
+import re
+import subprocess
+import sys
+import tempfile
+
+NAME = "ncroute"
+
+
+class Option:
+    """An option of a command: its names, the name and the possible values of its value, and what it does."""
+
+    def __init__(self, names, value, text):
+        self.names, self.value = names, value
+        values = re.search(r" \[possible values: (.*)\]", text)
+        self.values = values[1].split(", ") if values else []
+        self.text = text[: values.start()] if values else text
+
+    def long(self):
+        return self.names[-1]
+
+
+class Command:
+    """What the help of a command says; that of the program has an empty name."""
+
+    def __init__(self, name, text):
+        self.name = name
+        head, *self.body = re.split(r"(?m)^(?=Usage: )", text, maxsplit=1)
+        self.about = head.strip()
+        sections = "".join(self.body).split("\n\n")
+        self.usage = sections[0].removeprefix("Usage: ").strip()
+        self.commands, self.arguments, self.options, self.rest = [], [], [], []
+        for section in sections[1:]:
+            title, *lines = section.rstrip("\n").split("\n")
+            if self.rest:
+                self.rest.append(section)
+            elif title == "Commands:":
+                self.commands = [tuple(re.split(r"\s{2,}", line.strip(), maxsplit=1)) for line in lines]
+            elif title == "Arguments:":
+                self.arguments = [tuple(re.split(r"\s{2,}", line.strip(), maxsplit=1)) for line in lines]
+            elif title == "Options:":
+                self.options = [option_of(line) for line in lines]
+            else:
+                self.rest = [section]
+
+    def takes_files(self):
+        return any("FILE" in argument for argument, _ in self.arguments)
+
+
+def option_of(line):
+    names, value, text = re.fullmatch(r"\s*((?:-\w, )?--[\w-]+)(?: <(\w+)>)?\s{2,}(.*)", line).groups()
+    return Option(names.split(", "), value, text)
+
+
+def commands_of(ncroute):
+    """The program itself, and each of its commands."""
+    with tempfile.TemporaryDirectory() as folder:
+        # The usage names the program as it was called.
+        called = os.path.join(folder, NAME)
+        os.symlink(os.path.realpath(ncroute), called)
+
+        def help_of(*words):
+            return Command(" ".join(words), subprocess.run([called, *words, "--help"], capture_output=True, text=True, check=True).stdout)
+
+        program = help_of()
+        return [program] + [help_of(name) for name, _ in program.commands if name != "help"]
+
+
+# ---- man pages
+
+
+def roff(text):
+    """A text as roff has it: no sign means anything else, and no line is a request."""
+    escaped = text.replace("\\", "\\e").replace("-", "\\-").replace("'", "\\(aq").replace("`", "\\(ga").replace("^", "\\(ha").replace("~", "\\(ti")
+    return re.sub(r"(?m)^([.'])", r"\\&\1", escaped)
+
+
+def page(command, others):
+    title = f"{NAME}-{command.name}" if command.name else NAME
+    lines = [f'.TH {title.upper()} 1 "" "Gomthau" "Gomthau"', ".SH NAME", f"{roff(title)} \\- {roff(command.about)}"]
+    lines += [".SH SYNOPSIS", ".nf", roff(command.usage), ".fi"]
+    if command.commands:
+        lines += [".SH COMMANDS"] + [line for name, about in command.commands for line in (".TP", f".B {roff(name)}", roff(about))]
+    if command.arguments:
+        lines += [".SH ARGUMENTS"] + [line for name, about in command.arguments for line in (".TP", f".I {roff(name)}", roff(about))]
+    lines.append(".SH OPTIONS")
+    for option in command.options:
+        value = f" \\fI{option.value}\\fR" if option.value else ""
+        lines += [".TP", f"\\fB{roff(', '.join(option.names))}\\fR{value}", roff(option.text)]
+    if command.rest:
+        lines += [".SH DESCRIPTION", ".nf", roff("\n\n".join(command.rest)), ".fi"]
+    if others:
+        lines += [".SH SEE ALSO", ", ".join(f"\\fB{roff(other)}\\fR(1)" for other in others)]
+    return "\n".join(lines) + "\n"
+
+
+def pages(commands):
+    titles = [f"{NAME}-{command.name}" if command.name else NAME for command in commands]
+    for title, command in zip(titles, commands):
+        yield f"share/man/man1/{title}.1", page(command, [other for other in titles if other != title])
+
+
+# ---- completions
+
+
+def bash(program, commands):
+    lines = ["# Completes ncroute in bash.", "_ncroute() {", "    local word=${COMP_WORDS[COMP_CWORD]} before=${COMP_WORDS[COMP_CWORD - 1]}", "    COMPREPLY=()"]
+    names = " ".join([command.name for command in commands] + ["help"] + [option.long() for option in program.options])
+    lines += ["    if ((COMP_CWORD == 1)); then", f'        COMPREPLY=($(compgen -W "{names}" -- "$word"))', "        return", "    fi"]
+    lines.append('    case "${COMP_WORDS[1]} $before" in')
+    for command in commands:
+        for option in command.options:
+            if option.value:
+                words = f'COMPREPLY=($(compgen -W "{" ".join(option.values)}" -- "$word")); ' if option.values else ""
+                lines.append(f'    "{command.name} {option.long()}") {words}return ;;')
+    lines += ["    esac", '    case "${COMP_WORDS[1]} $word" in']
+    for command in commands:
+        names = " ".join(option.long() for option in command.options)
+        lines.append(f'    "{command.name} -"*) COMPREPLY=($(compgen -W "{names}" -- "$word")) ;;')
+        if command.takes_files():
+            lines.append(f'    "{command.name} "*) COMPREPLY=($(compgen -f -- "$word")) ;;')
+    lines += ["    esac", "}", "complete -o filenames -F _ncroute ncroute"]
+    return "\n".join(lines) + "\n"
+
+
+def in_quotes(text):
+    """A text within single quotes of a shell, without the signs that zsh's descriptions give a meaning to."""
+    return text.replace("'", "'\\''").replace("[", "(").replace("]", ")").replace(":", ",")
+
+
+def zsh(program, commands):
+    lines = ["#compdef ncroute", "_ncroute() {", "    local -a commands", "    commands=("]
+    lines += [f"        '{name}:{in_quotes(about)}'" for name, about in program.commands]
+    lines += ["    )", "    if ((CURRENT == 2)); then", "        _describe command commands", "        return", "    fi"]
+    lines += ["    local command=$words[2]", "    shift words", "    ((CURRENT--))", "    case $command in"]
+    for command in commands:
+        specs = []
+        for option in command.options:
+            values = f":{option.value}:({' '.join(option.values)})" if option.value else ""
+            specs += [f"'{name}{'=' if option.value and name.startswith('--') else ''}[{in_quotes(option.text)}]{values}'" for name in option.names]
+        if command.takes_files():
+            specs.append("'*:file:_files'")
+        lines.append(f"    {command.name}) _arguments {' '.join(specs)} ;;")
+    lines += ["    esac", "}", '_ncroute "$@"']
+    return "\n".join(lines) + "\n"
+
+
+def fish(program, commands):
+    lines = ["# Completes ncroute in fish.", "complete -c ncroute -f"]
+    lines += [f"complete -c ncroute -n __fish_use_subcommand -a {name} -d '{about}'" for name, about in program.commands]
+    for command in commands:
+        when = f"complete -c ncroute -n '__fish_seen_subcommand_from {command.name}'"
+        for option in command.options:
+            value = f" -x -a '{' '.join(option.values)}'" if option.value else ""
+            text = option.text.replace("'", "\\'")
+            lines.append(f"{when} -l {option.long().removeprefix('--')}{value} -d '{text}'")
+        if command.takes_files():
+            lines.append(f"{when} -F")
+    return "\n".join(lines) + "\n"
+
+
+def main(words):
+    if len(words) != 2:
+        sys.exit(__doc__)
+    program, *commands = commands_of(words[0])
+    files = {
+        **dict(pages([program, *commands])),
+        "share/bash-completion/completions/ncroute": bash(program, commands),
+        "share/zsh/site-functions/_ncroute": zsh(program, commands),
+        "share/fish/vendor_completions.d/ncroute.fish": fish(program, commands),
+    }
+    for name, text in files.items():
+        path = os.path.join(words[1], name)
+        os.makedirs(os.path.dirname(path), exist_ok=True)
+        with open(path, "w") as it:
+            it.write(text)
+
+
+if __name__ == "__main__":
+    main(sys.argv[1:])
