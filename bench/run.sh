@@ -68,9 +68,11 @@ fi
 
 if [ "$wanted" = script ]; then
     inputs=()
-    for size in 16 64 250; do
-        "$bench/script.py" "$size" >"$folder/script_of_$size"
-        inputs+=("$folder/script_of_$size")
+    for kind in mixed messages dense imports; do
+        for size in 16 64 250; do
+            "$bench/script.py" "$kind" "$size" >"$folder/${kind}_$size"
+            inputs+=("$folder/${kind}_$size")
+        done
     done
     compare run "${inputs[@]}"
     exit

@@ -61,8 +61,44 @@ fn read_network(line: &[u8]) -> Result<Command<'_>, &'static str> {
     Ok(Command::Network(size, me, limit))
 }
 
+/// `recv`, `show` and `take` in their usual spelling, which most lines have: one blank between the words, and numbers of at most
+/// three digits. None: the line is read word by word.
+fn read_plain(line: &[u8]) -> Option<Command<'_>> {
+    let (verb, rest) = line.split_first_chunk::<4>()?;
+    let (node, rest) = blank_and_number(rest)?;
+    match (verb, rest) {
+        (b"show", []) => Some(Command::Show(node)),
+        (b"take", []) => Some(Command::Take(node)),
+        (b"recv", _) => {
+            let (dest, rest) = blank_and_number(rest)?;
+            let (dist, rest) = blank_and_number(rest)?;
+            rest.is_empty().then_some(Command::Receive(node, dest, dist))
+        }
+        _ => None,
+    }
+}
+
+/// A blank and a number of at most three digits, and what follows them.
+#[inline(always)]
+fn blank_and_number(text: &[u8]) -> Option<(u16, &[u8])> {
+    let [b' ', first @ b'0'..=b'9', rest @ ..] = text else { return None };
+    let mut number = u16::from(first - b'0');
+    let mut rest = rest;
+    for _ in 1..3 {
+        let [digit @ b'0'..=b'9', more @ ..] = rest else { break };
+        number = number * 10 + u16::from(digit - b'0');
+        rest = more;
+    }
+    Some((number, rest))
+}
+
 /// The command of a line, or the code of its refusal: O7 first, then O1, and then the words from the left.
 fn read_command(line: &[u8]) -> Result<Command<'_>, &'static str> {
+    read_plain(line).map_or_else(|| read_words(line), Ok)
+}
+
+/// The same, word by word.
+fn read_words(line: &[u8]) -> Result<Command<'_>, &'static str> {
     if line.len() > LINE_LIMIT {
         return Err("O7");
     }
@@ -282,6 +318,7 @@ fn push_number(out: &mut Vec<u8>, word: &str, number: u32) {
 fn push_reply(out: &mut Vec<u8>, reply: &Reply) -> Result<(), &'static str> {
     match reply {
         Reply::Opened(session) => push_number(out, "opened ", *session),
+        Reply::Done(changed @ 0..=9) => out.extend_from_slice(&[b'd', b'o', b'n', b'e', b' ', b'0' + *changed as u8]),
         Reply::Done(changed) => push_number(out, "done ", (*changed).into()),
         Reply::Messages(messages) => {
             out.extend_from_slice(b"messages");
