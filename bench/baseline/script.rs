@@ -137,10 +137,10 @@ fn read_words(line: &[u8]) -> Result<Command<'_>, &'static str> {
 }
 
 /// The most steps of a run, and the most operands at a time, of code whose jumps stay inside and whose ways meet at equal depths.
-fn cost_and_peak(code: &Code) -> (u32, u32) {
-    let count = code.instructions.len();
+pub fn cost_and_peak(instructions: &[Instruction]) -> (u32, u32) {
+    let count = instructions.len();
     let mut costs = vec![0; count + 1];
-    for (at, instruction) in code.instructions.iter().enumerate().rev() {
+    for (at, instruction) in instructions.iter().enumerate().rev() {
         let cost_at = |skipped: u16| costs.get(at + 1 + usize::from(skipped)).copied().unwrap_or(0);
         costs[at] = 1 + match instruction {
             Instruction::Accept | Instruction::Reject => 0,
@@ -151,7 +151,7 @@ fn cost_and_peak(code: &Code) -> (u32, u32) {
     }
     let mut depths = vec![0_u32; count + 1];
     let mut peak = 0;
-    for (at, instruction) in code.instructions.iter().enumerate() {
+    for (at, instruction) in instructions.iter().enumerate() {
         let (takes, gives, skipped) = match instruction {
             Instruction::Int(_) | Instruction::Bool(_) | Instruction::Address(_) | Instruction::Prefix(_) => {
                 (0, 1, None)
@@ -231,7 +231,7 @@ impl Script {
             return Err(("O4", number));
         }
         let code = read_code(file).map_err(|fault| (fault.code, fault.at as u32))?;
-        let (cost, peak) = cost_and_peak(&code);
+        let (cost, peak) = cost_and_peak(&code.instructions);
         self.filters.insert(name.to_vec(), Arc::new(code));
         out.extend_from_slice(b"verified ");
         push_decimal(out, cost);
