@@ -101,8 +101,9 @@ fn word(name: &[u8]) -> Option<Token<'_>> {
         b"defined" => Token::Defined,
         b"net" => Token::Net,
         b"rip_metric" => Token::Metric,
-        b"case" | b"function" | b"define" | b"print" | b"printn" | b"return" | b"include" | b"string" | b"pair" | b"quad" | b"ec" | b"lc"
-        | b"bgppath" | b"bgpmask" | b"clist" | b"eclist" | b"lclist" | b"set" | b"from" | b"proto" | b"preference" | b"source" => return None,
+        b"case" | b"function" | b"define" | b"print" | b"printn" | b"return" | b"include" | b"string" | b"pair"
+        | b"quad" | b"ec" | b"lc" | b"bgppath" | b"bgpmask" | b"clist" | b"eclist" | b"lclist" | b"set" | b"from"
+        | b"proto" | b"preference" | b"source" => return None,
         _ => Token::Name(name),
     })
 }
@@ -121,7 +122,9 @@ impl<'a> Lexer<'a> {
         loop {
             match self.text[self.at..] {
                 [b' ' | b'\t' | b'\r' | b'\n', ..] => self.at += 1,
-                [b'#', ref rest @ ..] => self.at += 1 + rest.iter().position(|byte| *byte == b'\n').unwrap_or(rest.len()),
+                [b'#', ref rest @ ..] => {
+                    self.at += 1 + rest.iter().position(|byte| *byte == b'\n').unwrap_or(rest.len())
+                }
                 [b'/', b'*', ref rest @ ..] => match rest.windows(2).position(|pair| pair == b"*/") {
                     Some(length) => self.at += length + 4,
                     None => return Self::fault("P9", self.at),
@@ -139,7 +142,9 @@ impl<'a> Lexer<'a> {
         let text = &self.text[at..];
         let Some(&first) = text.first() else { return Ok((Token::End, at)) };
         let (token, length) = match first {
-            b'(' | b')' | b'{' | b'}' | b'[' | b']' | b';' | b',' | b'.' | b'=' | b'~' | b'+' | b'-' | b'*' | b'/' => (Token::Sign(first), 1),
+            b'(' | b')' | b'{' | b'}' | b'[' | b']' | b';' | b',' | b'.' | b'=' | b'~' | b'+' | b'-' | b'*' | b'/' => {
+                (Token::Sign(first), 1)
+            }
             b'0'..=b'9' => self.numeric(text)?,
             b'a'..=b'z' | b'A'..=b'Z' | b'_' => {
                 let length = text.iter().take_while(|byte| is_name_byte(**byte)).count();
@@ -184,7 +189,8 @@ impl<'a> Lexer<'a> {
             return Ok((Token::Address(address), end));
         }
         let end = end + 1 + length;
-        let prefix = value(&text[end - length..end]).and_then(|length| Prefix::new(address, u8::try_from(length).ok()?));
+        let prefix =
+            value(&text[end - length..end]).and_then(|length| Prefix::new(address, u8::try_from(length).ok()?));
         match prefix {
             Some(prefix) => Ok((Token::Prefix(prefix), end)),
             None => Self::fault("P4", self.at),

@@ -194,6 +194,8 @@ fn main() -> ExitCode {
 }
 
 fn usage() -> ExitCode {
-    eprintln!("usage: baseline eval | run | check --size NUMBER | rounds NUMBER | router NUMBER | callers NUMBER NUMBER");
+    eprintln!(
+        "usage: baseline eval | run | check --size NUMBER | rounds NUMBER | router NUMBER | callers NUMBER NUMBER"
+    );
     ExitCode::from(2)
 }

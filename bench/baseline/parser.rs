@@ -139,7 +139,9 @@ impl<'a> Parser<'a> {
     fn land(&mut self, at: usize) {
         let over = self.instructions.len() as u16;
         match self.instructions.get_mut(at) {
-            Some(Instruction::Jump(skipped) | Instruction::JumpIfNot(skipped)) => *skipped = over.wrapping_sub(at as u16 + 1),
+            Some(Instruction::Jump(skipped) | Instruction::JumpIfNot(skipped)) => {
+                *skipped = over.wrapping_sub(at as u16 + 1)
+            }
             _ => {}
         }
     }

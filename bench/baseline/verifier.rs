@@ -80,7 +80,11 @@ impl Frame {
     }
 
     fn need(&self, count: usize) -> Result<(), &'static str> {
-        if self.depth < count { Err("V1") } else { Ok(()) }
+        if self.depth < count {
+            Err("V1")
+        } else {
+            Ok(())
+        }
     }
 
     /// The one operand, if it is of a kind.
@@ -93,7 +97,11 @@ impl Frame {
     fn ints(&self) -> Result<(Fact, Fact), &'static str> {
         self.need(2)?;
         let (a, b) = (self.below(), self.top());
-        if a.kind == Kind::Int && b.kind == Kind::Int { Ok((a, b)) } else { Err("V2") }
+        if a.kind == Kind::Int && b.kind == Kind::Int {
+            Ok((a, b))
+        } else {
+            Err("V2")
+        }
     }
 }
 
@@ -189,7 +197,11 @@ impl Verifier<'_> {
     }
 
     fn local(&self, index: u8) -> Result<usize, &'static str> {
-        if index < self.code.locals { Ok(usize::from(index)) } else { Err("V7") }
+        if index < self.code.locals {
+            Ok(usize::from(index))
+        } else {
+            Err("V7")
+        }
     }
 
     /// The first test that fails.
