@@ -1,6 +1,6 @@
 #!/usr/bin/env bash
 # Builds the proved programs and the plain one, checks that they answer the same, and prints their times and ratios:
-# of `ncroute eval` and `ncroute run` as a whole, of the machines alone, or of the router alone. `ncroute check` is measured by itself.
+# of `ncroute eval`, `run` and `check` as a whole, of the machines alone, or of the router alone.
 #
 # usage: bench/run.sh [eval|check|machines|instructions|bird|router|callers|script]     (without a word: eval and machines)
 #   instructions counts instructions of the machines with valgrind, in place of their time
@@ -42,7 +42,7 @@ need_filter_bench() {
     fi
 }
 
-# Compares `ncroute` and the plain program, started with a word, on inputs.
+# Compares `ncroute` and the plain program, started with the same words, on inputs.
 compare() {
     need_ncroute
     "$bench/compare.py" "$NCROUTE" "$folder/plain" "$1" "${ROUNDS:-7}" "${@:2}"
@@ -58,19 +58,20 @@ if [ "$wanted" = both ] || [ "$wanted" = eval ]; then
 fi
 
 if [ "$wanted" = check ]; then
-    need_ncroute
     for name in text_of_sets text_of_expressions; do
         "$bench/generate.py" "$name" >"$folder/$name"
     done
-    "$bench/check.py" "$NCROUTE" "${ROUNDS:-7}" "$folder/text_of_sets" "$folder/text_of_expressions"
+    compare "check --size 64" "$folder/text_of_sets" "$folder/text_of_expressions" /dev/null
     exit
 fi
 
 if [ "$wanted" = script ]; then
     inputs=()
-    for size in 16 64 250; do
-        "$bench/script.py" "$size" >"$folder/script_of_$size"
-        inputs+=("$folder/script_of_$size")
+    for kind in mixed messages dense imports; do
+        for size in 16 64 250; do
+            "$bench/script.py" "$kind" "$size" >"$folder/${kind}_$size"
+            inputs+=("$folder/${kind}_$size")
+        done
     done
     compare run "${inputs[@]}"
     exit

@@ -43,6 +43,17 @@ pub trait Service {
 }
 
 pub fn push_decimal(out: &mut Vec<u8>, number: u32) {
+    let (ten, one) = (b'0' + (number / 10 % 10) as u8, b'0' + (number % 10) as u8);
+    match number {
+        0..=9 => out.push(one),
+        10..=99 => out.extend_from_slice(&[ten, one]),
+        100..=999 => out.extend_from_slice(&[b'0' + (number / 100) as u8, ten, one]),
+        _ => push_long(out, number),
+    }
+}
+
+/// The same, of any number of digits.
+fn push_long(out: &mut Vec<u8>, number: u32) {
     let mut digits = [0; 10];
     let mut first = digits.len();
     let mut left = number;

@@ -4,17 +4,23 @@
 //! `NET METRIC SIZE`. Each gives one line: `accept D`, `reject`, `fault K AT` or `refused CODE LINE`.
 //!
 //! `run`: standard input is an operator's script; see `script.rs`.
+//!
+//! `check --size N`: standard input is a filter's text; see `check.rs`.
 
 mod callers;
+mod check;
 mod code;
 mod events;
+mod lexer;
 mod lines;
 mod machine;
+mod parser;
 mod patterns;
 mod rounds;
 mod route;
 mod router;
 mod script;
+mod verifier;
 
 use std::io;
 use std::process::ExitCode;
@@ -159,6 +165,10 @@ fn main() -> ExitCode {
     let done = match words[..] {
         ["eval"] => eval(),
         ["run"] => run_script(),
+        ["check", "--size", number] => match number.parse() {
+            Ok(size) => check::check(&mut io::stdin().lock(), &mut io::stdout().lock(), size),
+            Err(_) => return usage(),
+        },
         ["rounds", number] => match number.parse() {
             Ok(rounds) => measure(rounds),
             Err(_) => return usage(),
@@ -184,6 +194,8 @@ fn main() -> ExitCode {
 }
 
 fn usage() -> ExitCode {
-    eprintln!("usage: baseline eval | run | rounds NUMBER | router NUMBER | callers NUMBER NUMBER");
+    eprintln!(
+        "usage: baseline eval | run | check --size NUMBER | rounds NUMBER | router NUMBER | callers NUMBER NUMBER"
+    );
     ExitCode::from(2)
 }

@@ -27,8 +27,8 @@ pub enum Via {
 
 #[derive(Clone, Copy)]
 pub struct Message {
-    pub dest: u16,
-    pub dist: u16,
+    pub dest: u8,
+    pub dist: u8,
 }
 
 /// The answer to an event.
@@ -36,17 +36,15 @@ pub struct Message {
 pub enum Reply {
     Opened(u32),
     Done(u16),
-    Messages(Vec<Message>),
+    Messages(Box<[Message]>),
     Route(u16, Via),
     Refused(&'static str),
 }
 
 #[derive(Default)]
 struct Neighbour {
-    /// 0 where it is down.
-    session: u32,
-    /// What it told last, by node.
-    raw: Vec<u16>,
+    /// What it told last, by node; nothing before it was up first.
+    raw: Vec<u8>,
     imports: Option<Arc<Code>>,
     exports: Option<Arc<Code>>,
     queue: VecDeque<Message>,
@@ -54,33 +52,43 @@ struct Neighbour {
 
 #[derive(Clone, Copy, PartialEq, Eq)]
 struct Best {
-    dist: u16,
+    dist: u8,
     /// The next hop, or the size of the domain where there is none or the node is the router's own.
-    via: u16,
+    via: u8,
 }
 
 /// The distance that a filter makes of another.
-fn pass(memory: &mut Memory, filter: Option<&Code>, size: u16, net: Prefix, dist: u16) -> u16 {
-    let Some(filter) = filter else { return dist };
-    if dist == size {
-        return size;
+#[inline(always)]
+fn pass(memory: &mut Memory, filter: Option<&Code>, size: u8, net: Prefix, dist: u8) -> u8 {
+    match filter {
+        Some(filter) if dist != size => filtered(memory, filter, size, net, dist),
+        _ => dist,
     }
+}
+
+fn filtered(memory: &mut Memory, filter: &Code, size: u8, net: Prefix, dist: u8) -> u8 {
     let route = Route { net, metric: u32::from(dist), size: u32::from(size) };
     match run(memory, filter, &route) {
-        Outcome::Accepted(metric) => metric as u16,
+        Outcome::Accepted(metric) => metric as u8,
         _ => size,
     }
 }
 
+/// A router of a domain of at most 250 nodes, so that a distance is a byte.
 pub struct Router {
-    size: u16,
-    me: u16,
+    size: u8,
+    me: u8,
     prefixes: Vec<Prefix>,
     memory: Memory,
-    sessions: u32,
+    /// By session, less 1: the node that it is with.
+    nodes: Vec<u8>,
+    /// By node: its present session, 0 where it is down.
+    sessions: Vec<u32>,
+    /// The nodes that are up, the least first.
+    up: Vec<u8>,
     neighbours: Vec<Neighbour>,
     /// By node and then by neighbour: how far the node is from it, after the import filter.
-    through: Vec<u16>,
+    through: Vec<u8>,
     best: Vec<Best>,
 }
 
@@ -88,7 +96,7 @@ impl Router {
     /// The router of node `me`, with one prefix a node.
     pub fn new(me: u16, prefixes: Vec<Prefix>) -> Router {
         let count = prefixes.len();
-        let size = count as u16;
+        let (size, me) = (count as u8, me as u8);
         let mut best = vec![Best { dist: size, via: size }; count];
         best[usize::from(me)].dist = 0;
         Router {
@@ -96,41 +104,53 @@ impl Router {
             me,
             prefixes,
             memory: Memory::new(),
-            sessions: 0,
-            neighbours: (0..count).map(|_| Neighbour { raw: vec![size; count], ..Neighbour::default() }).collect(),
+            nodes: Vec::new(),
+            sessions: vec![0; count],
+            up: Vec::new(),
+            neighbours: (0..count).map(|_| Neighbour::default()).collect(),
             through: vec![size; count * count],
             best,
         }
     }
 
-    fn is_neighbour(&self, node: u16) -> bool {
-        node < self.size && node != self.me
+    /// The place of a node that is another one of the domain.
+    fn neighbour(&self, node: u16) -> Result<u8, &'static str> {
+        if node < u16::from(self.size) && node != u16::from(self.me) {
+            Ok(node as u8)
+        } else {
+            Err("N1")
+        }
     }
 
-    fn holder(&self, session: u32) -> Result<u16, &'static str> {
-        let found = self.neighbours.iter().position(|neighbour| session != 0 && neighbour.session == session);
-        found.map(|node| node as u16).ok_or("N3")
+    fn holder(&self, session: u32) -> Result<u8, &'static str> {
+        match self.nodes.get((session as usize).wrapping_sub(1)) {
+            Some(&node) if self.sessions[usize::from(node)] == session => Ok(node),
+            _ => Err("N3"),
+        }
     }
 
     /// The present session of a node, 0 where it is not up.
     pub fn session(&self, node: u16) -> u32 {
-        self.neighbours.get(usize::from(node)).map_or(0, |neighbour| neighbour.session)
+        self.sessions.get(usize::from(node)).map_or(0, |session| *session)
     }
 
-    /// The nearest of all neighbours of a node, the least number first.
-    fn nearest(&self, node: u16) -> Best {
+    /// The nearest of the neighbours of a node that are up, the least number first.
+    fn nearest(&self, node: u8) -> Best {
         let from = usize::from(node) * usize::from(self.size);
+        let row = &self.through[from..from + usize::from(self.size)];
         let mut best = Best { dist: self.size, via: self.size };
-        for (neighbour, &dist) in self.through[from..from + usize::from(self.size)].iter().enumerate() {
+        for &neighbour in &self.up {
+            let dist = row[usize::from(neighbour)];
             if dist + 1 < best.dist {
-                best = Best { dist: dist + 1, via: neighbour as u16 };
+                best = Best { dist: dist + 1, via: neighbour };
             }
         }
         best
     }
 
     /// Takes in how far a node is from a neighbour. Whether the router's own distance changed.
-    fn put(&mut self, node: u16, neighbour: u16, dist: u16) -> bool {
+    #[inline(always)]
+    fn put(&mut self, node: u8, neighbour: u8, dist: u8) -> bool {
         let old = self.best[usize::from(node)];
         self.through[usize::from(node) * usize::from(self.size) + usize::from(neighbour)] = dist;
         if node == self.me {
@@ -142,7 +162,7 @@ impl Router {
         } else if offered < self.size && (offered < old.dist || (offered == old.dist && neighbour < old.via)) {
             Best { dist: offered, via: neighbour }
         } else {
-            old
+            return false;
         };
         self.best[usize::from(node)] = new;
         if new.dist == old.dist {
@@ -153,71 +173,75 @@ impl Router {
     }
 
     /// Queues a distance for every up neighbour.
-    fn tell(&mut self, node: u16, dist: u16) {
-        let Router { neighbours, memory, prefixes, size, .. } = self;
-        for neighbour in neighbours.iter_mut().filter(|neighbour| neighbour.session != 0) {
-            let dist = pass(memory, neighbour.exports.as_deref(), *size, prefixes[usize::from(node)], dist);
-            neighbour.queue.push_back(Message { dest: node, dist });
+    fn tell(&mut self, node: u8, dist: u8) {
+        let Router { neighbours, memory, prefixes, size, up, .. } = self;
+        for &neighbour in &*up {
+            let Neighbour { exports, queue, .. } = &mut neighbours[usize::from(neighbour)];
+            let dist = pass(memory, exports.as_deref(), *size, prefixes[usize::from(node)], dist);
+            queue.push_back(Message { dest: node, dist });
         }
     }
 
     /// Queues all distances for one neighbour.
-    fn tell_all(&mut self, node: u16) {
+    fn tell_all(&mut self, node: u8) {
         let Router { neighbours, memory, prefixes, size, best, .. } = self;
         let Neighbour { exports, queue, .. } = &mut neighbours[usize::from(node)];
+        queue.reserve(prefixes.len());
         for (dest, (best, prefix)) in best.iter().zip(prefixes).enumerate() {
             let dist = pass(memory, exports.as_deref(), *size, *prefix, best.dist);
-            queue.push_back(Message { dest: dest as u16, dist });
+            queue.push_back(Message { dest: dest as u8, dist });
         }
     }
 
-    /// Takes in anew how far all nodes are from a neighbour. How many distances changed.
-    fn put_all(&mut self, neighbour: u16) -> u16 {
+    /// Takes in anew how far all nodes are from an up neighbour. How many distances changed.
+    fn put_all(&mut self, neighbour: u8) -> u16 {
         let mut changed = 0;
         for node in 0..self.size {
-            let Neighbour { session, raw, imports, .. } = &self.neighbours[usize::from(neighbour)];
+            let Neighbour { raw, imports, .. } = &self.neighbours[usize::from(neighbour)];
             let net = self.prefixes[usize::from(node)];
-            let dist = match session {
-                0 => self.size,
-                _ => pass(&mut self.memory, imports.as_deref(), self.size, net, raw[usize::from(node)]),
-            };
+            let dist = pass(&mut self.memory, imports.as_deref(), self.size, net, raw[usize::from(node)]);
             changed += u16::from(self.put(node, neighbour, dist));
         }
         changed
     }
 
     fn up(&mut self, node: u16) -> Result<Reply, &'static str> {
-        if !self.is_neighbour(node) {
-            return Err("N1");
-        }
-        if self.session(node) != 0 {
+        let node = self.neighbour(node)?;
+        if self.sessions[usize::from(node)] != 0 {
             return Err("N2");
         }
-        self.sessions = self.sessions.checked_add(1).ok_or("N7")?;
-        let size = self.size;
-        let neighbour = &mut self.neighbours[usize::from(node)];
-        neighbour.session = self.sessions;
-        neighbour.raw.fill(size);
+        let session = u32::try_from(self.nodes.len() + 1).map_err(|_| "N7")?;
+        self.nodes.push(node);
+        self.sessions[usize::from(node)] = session;
+        self.up.insert(self.up.partition_point(|other| *other < node), node);
+        let raw = &mut self.neighbours[usize::from(node)].raw;
+        raw.clear();
+        raw.resize(usize::from(self.size), self.size);
         self.tell_all(node);
-        Ok(Reply::Opened(self.sessions))
+        Ok(Reply::Opened(session))
     }
 
     fn down(&mut self, session: u32) -> Result<Reply, &'static str> {
         let node = self.holder(session)?;
-        let neighbour = &mut self.neighbours[usize::from(node)];
-        neighbour.session = 0;
-        neighbour.queue.clear();
-        Ok(Reply::Done(self.put_all(node)))
+        self.sessions[usize::from(node)] = 0;
+        self.up.retain(|other| *other != node);
+        self.neighbours[usize::from(node)].queue.clear();
+        let mut changed = 0;
+        for dest in 0..self.size {
+            changed += u16::from(self.put(dest, node, self.size));
+        }
+        Ok(Reply::Done(changed))
     }
 
     fn receive(&mut self, session: u32, dest: u16, dist: u16) -> Result<Reply, &'static str> {
         let node = self.holder(session)?;
-        if dest >= self.size {
+        if dest >= u16::from(self.size) {
             return Err("N4");
         }
-        if dist > self.size {
+        if dist > u16::from(self.size) {
             return Err("N5");
         }
+        let (dest, dist) = (dest as u8, dist as u8);
         let neighbour = &mut self.neighbours[usize::from(node)];
         neighbour.raw[usize::from(dest)] = dist;
         let net = self.prefixes[usize::from(dest)];
@@ -232,19 +256,16 @@ impl Router {
     }
 
     fn import(&mut self, node: u16, filter: &Arc<Code>) -> Result<Reply, &'static str> {
-        if !self.is_neighbour(node) {
-            return Err("N1");
-        }
+        let node = self.neighbour(node)?;
         self.neighbours[usize::from(node)].imports = Some(Arc::clone(filter));
-        Ok(Reply::Done(self.put_all(node)))
+        let is_up = self.sessions[usize::from(node)] != 0;
+        Ok(Reply::Done(if is_up { self.put_all(node) } else { 0 }))
     }
 
     fn export(&mut self, node: u16, filter: &Arc<Code>) -> Result<Reply, &'static str> {
-        if !self.is_neighbour(node) {
-            return Err("N1");
-        }
+        let node = self.neighbour(node)?;
         self.neighbours[usize::from(node)].exports = Some(Arc::clone(filter));
-        if self.session(node) != 0 {
+        if self.sessions[usize::from(node)] != 0 {
             self.tell_all(node);
         }
         Ok(Reply::Done(0))
@@ -252,14 +273,14 @@ impl Router {
 
     fn show(&self, node: u16) -> Result<Reply, &'static str> {
         let best = self.best.get(usize::from(node)).ok_or("N4")?;
-        let via = if node == self.me {
+        let via = if node == u16::from(self.me) {
             Via::Local
         } else if best.via == self.size {
             Via::Nowhere
         } else {
-            Via::Node(best.via)
+            Via::Node(best.via.into())
         };
-        Ok(Reply::Route(best.dist, via))
+        Ok(Reply::Route(best.dist.into(), via))
     }
 
     /// Answers an event. A refused one changes nothing.

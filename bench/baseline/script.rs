@@ -61,8 +61,44 @@ fn read_network(line: &[u8]) -> Result<Command<'_>, &'static str> {
     Ok(Command::Network(size, me, limit))
 }
 
+/// `recv`, `show` and `take` in their usual spelling, which most lines have: one blank between the words, and numbers of at most
+/// three digits. None: the line is read word by word.
+fn read_plain(line: &[u8]) -> Option<Command<'_>> {
+    let (verb, rest) = line.split_first_chunk::<4>()?;
+    let (node, rest) = blank_and_number(rest)?;
+    match (verb, rest) {
+        (b"show", []) => Some(Command::Show(node)),
+        (b"take", []) => Some(Command::Take(node)),
+        (b"recv", _) => {
+            let (dest, rest) = blank_and_number(rest)?;
+            let (dist, rest) = blank_and_number(rest)?;
+            rest.is_empty().then_some(Command::Receive(node, dest, dist))
+        }
+        _ => None,
+    }
+}
+
+/// A blank and a number of at most three digits, and what follows them.
+#[inline(always)]
+fn blank_and_number(text: &[u8]) -> Option<(u16, &[u8])> {
+    let [b' ', first @ b'0'..=b'9', rest @ ..] = text else { return None };
+    let mut number = u16::from(first - b'0');
+    let mut rest = rest;
+    for _ in 1..3 {
+        let [digit @ b'0'..=b'9', more @ ..] = rest else { break };
+        number = number * 10 + u16::from(digit - b'0');
+        rest = more;
+    }
+    Some((number, rest))
+}
+
 /// The command of a line, or the code of its refusal: O7 first, then O1, and then the words from the left.
 fn read_command(line: &[u8]) -> Result<Command<'_>, &'static str> {
+    read_plain(line).map_or_else(|| read_words(line), Ok)
+}
+
+/// The same, word by word.
+fn read_words(line: &[u8]) -> Result<Command<'_>, &'static str> {
     if line.len() > LINE_LIMIT {
         return Err("O7");
     }
@@ -101,10 +137,10 @@ fn read_command(line: &[u8]) -> Result<Command<'_>, &'static str> {
 }
 
 /// The most steps of a run, and the most operands at a time, of code whose jumps stay inside and whose ways meet at equal depths.
-fn cost_and_peak(code: &Code) -> (u32, u32) {
-    let count = code.instructions.len();
+pub fn cost_and_peak(instructions: &[Instruction]) -> (u32, u32) {
+    let count = instructions.len();
     let mut costs = vec![0; count + 1];
-    for (at, instruction) in code.instructions.iter().enumerate().rev() {
+    for (at, instruction) in instructions.iter().enumerate().rev() {
         let cost_at = |skipped: u16| costs.get(at + 1 + usize::from(skipped)).copied().unwrap_or(0);
         costs[at] = 1 + match instruction {
             Instruction::Accept | Instruction::Reject => 0,
@@ -115,7 +151,7 @@ fn cost_and_peak(code: &Code) -> (u32, u32) {
     }
     let mut depths = vec![0_u32; count + 1];
     let mut peak = 0;
-    for (at, instruction) in code.instructions.iter().enumerate() {
+    for (at, instruction) in instructions.iter().enumerate() {
         let (takes, gives, skipped) = match instruction {
             Instruction::Int(_) | Instruction::Bool(_) | Instruction::Address(_) | Instruction::Prefix(_) => {
                 (0, 1, None)
@@ -195,7 +231,7 @@ impl Script {
             return Err(("O4", number));
         }
         let code = read_code(file).map_err(|fault| (fault.code, fault.at as u32))?;
-        let (cost, peak) = cost_and_peak(&code);
+        let (cost, peak) = cost_and_peak(&code.instructions);
         self.filters.insert(name.to_vec(), Arc::new(code));
         out.extend_from_slice(b"verified ");
         push_decimal(out, cost);
@@ -282,6 +318,7 @@ fn push_number(out: &mut Vec<u8>, word: &str, number: u32) {
 fn push_reply(out: &mut Vec<u8>, reply: &Reply) -> Result<(), &'static str> {
     match reply {
         Reply::Opened(session) => push_number(out, "opened ", *session),
+        Reply::Done(changed @ 0..=9) => out.extend_from_slice(&[b'd', b'o', b'n', b'e', b' ', b'0' + *changed as u8]),
         Reply::Done(changed) => push_number(out, "done ", (*changed).into()),
         Reply::Messages(messages) => {
             out.extend_from_slice(b"messages");
