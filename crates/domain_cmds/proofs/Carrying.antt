@@ -32,7 +32,7 @@ module _ (Gives : CodeView → Type 0) (Lacks : Refusal → Type 0) (p : Plannin
       → IfErr r (OnRefusal (IsRefusedBy Gives Lacks p.plan.size)) → AnswersVerified r p number name answer after
       → AnswersSource Gives Lacks p number name answer after
   by_source answer (Ok v) good bad h = inl (v, good, h)
-  by_source answer (Err (failure.Refused why)) good bad h = inr (why, bad, h)
+  by_source answer (Err (failure.Refused told)) good bad h = inr (told.refusal, bad, h)
   by_source answer (Err failure.Memory) good bad h = absurd h
 
   -- the answer by what became of a source is the answer to the source

@@ -90,7 +90,7 @@ AnswersSource Gives Lacks p number name answer after =
 -- the answer by what became of a source; where memory was refused there is none
 abbrev pub AnswersVerified : Result VerifiedView Failure → PlanningView → ℕ → List ℕ → Answer → PlanningView → Type 0
 AnswersVerified (Ok filter) p number name answer after = Takes name filter p answer after
-AnswersVerified (Err (failure.Refused why)) p number name answer after = TurnsAway why number p answer after
+AnswersVerified (Err (failure.Refused told)) p number name answer after = TurnsAway told.refusal number p answer after
 AnswersVerified (Err failure.Memory) p number name answer after = ⊥
 
 -- ---- links and filters

@@ -1,6 +1,6 @@
 -- What contracts see of a domain's script between two lines.
 use Rattle.std.specs.Prelude.{ℕ, Bool, List, Option, Vec, map}
-use Rattle.std.specs.HashMap.{HashMap}
+use Rattle.std.specs.BTreeMap.{BTreeMap}
 use Rattle.std.specs.Map.{lookup}
 use Rattle.std.specs.Str.{bytes_eq}
 use Rattle.std.specs.declared.sync.Arc.{Arc}
@@ -18,7 +18,7 @@ abbrev pub filter_named : Named → List ℕ → Option VerifiedView
 filter_named named name = lookup (λ other. bytes_eq name other) named
 
 -- the names of a map, with their filters
-abbrev pub named_in : {S : Type 0} → HashMap (Vec ℕ Global) (Arc VerifiedView Global) S → Named
+abbrev pub named_in : BTreeMap (Vec ℕ Global) (Arc VerifiedView Global) → Named
 named_in filters = map (λ e. (e.0.items, e.1.value)) filters.entries
 
 -- a domain that is set up: its prefixes, links and filters; the filters that have a name; whether a command came after which

@@ -6,7 +6,7 @@ ghost use Rattle.domain_cmds.specs.State.{filter_named};
 
 use filter_verifier::Verified;
 use std::alloc::{AllocError, Global};
-use std::collections::HashMap;
+use std::collections::BTreeMap;
 use std::marker::Model;
 use std::sync::Arc;
 
@@ -15,8 +15,8 @@ use std::sync::Arc;
 pub(crate) struct Filters {
     /// The number of nodes of the domains.
     size: u16,
-    /// The filter of each name.
-    named: HashMap<Vec<u8>, Arc<Verified>>,
+    /// The filter of each name, in the names' order: no choice of names makes it slow to find one.
+    named: BTreeMap<Vec<u8>, Arc<Verified>>,
 }
 
 impl Model for Filters {
@@ -37,7 +37,7 @@ impl Filters {
     {
         Filters {
             size,
-            named: HashMap::new(alloc),
+            named: BTreeMap::new(alloc),
         }
     }
 

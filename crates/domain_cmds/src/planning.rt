@@ -200,7 +200,10 @@ impl Planning {
                 self.filters.name(alloc, name, filter)?;
                 Ok(Reply::Answered)
             }
-            Err(Failure::Refused(why)) => refuse(out, why.code(), why.place_in_line(number)),
+            Err(Failure::Refused(told)) => {
+                let why = told.refusal;
+                refuse(out, why.code(), why.place_in_line(number))
+            }
             Err(Failure::Memory) => Err(AllocError),
         }
     }
