@@ -152,6 +152,36 @@ fn places_are_those_of_an_editor(rt: HostRuntime) -> Result<(), Fail> {
     Ok(())
 }
 
+/// Asserts with which words people are told why a source is refused in domains of a size.
+fn expect_words(
+    rt: &impl Abort,
+    alloc: Global,
+    source: &str,
+    size: u32,
+    is_code: bool,
+    told: &str,
+) -> Result<(), Fail> {
+    let (mut writer, mut errors) = (Vec::new(alloc), Vec::new(alloc));
+    let name = b"f".as_slice();
+    let input = source.as_bytes();
+    let refusal = check_named(
+        alloc,
+        input,
+        &mut writer,
+        &mut errors,
+        name,
+        size,
+        is_code,
+        true,
+    )?;
+    assert_eq!(rt; refusal.is_none(), false);
+    assert!(rt;
+        errors.as_slice().starts_with(told.as_bytes()),
+        "{source} at {size}"
+    );
+    Ok(())
+}
+
 /// The range that is told is the one for the size of the domain, of a divisor and of a metric.
 #[test]
 fn ranges_are_those_of_the_size(rt: HostRuntime) -> Result<(), Fail> {
@@ -183,20 +213,7 @@ fn ranges_are_those_of_the_size(rt: HostRuntime) -> Result<(), Fail> {
         ),
     ];
     for (source, size, is_code, told) in rows {
-        let (mut writer, mut errors) = (Vec::new(rt.alloc()), Vec::new(rt.alloc()));
-        let name = b"f".as_slice();
-        let _ = check_named(
-            rt.alloc(),
-            source.as_bytes(),
-            &mut writer,
-            &mut errors,
-            name,
-            size,
-            is_code,
-            true,
-        )?;
-        let line = errors.get(..told.len());
-        assert!(&rt; line == Some(told.as_bytes()), "{source} at {size}");
+        expect_words(&rt, rt.alloc(), source, size, is_code, told)?;
     }
     Ok(())
 }
