@@ -15,9 +15,9 @@ fn routes_are_answered(rt: HostRuntime) -> Result<(), Fail> {
     let want =
         "accept 5\nreject\naccept 16\nrefused O2 6\nrefused O8 7\nrefused O1 8\nrefused O2 9\n";
     let mut writer = Vec::new(rt.alloc());
-    let filtered = filter_lines(rt.alloc(), UP_TWO, 16, &mut reader, &mut writer)?;
+    let filtered = filter_lines(rt.alloc(), UP_TWO, 16, &mut reader, &mut writer);
     assert_eq!(&rt; writer.as_slice(), want.as_bytes());
-    assert!(&rt; matches!(filtered, Filtered::Answered(4)));
+    assert!(&rt; matches!(filtered, Ok(Filtered::Answered(4))));
     Ok(())
 }
 
@@ -37,9 +37,9 @@ fn a_refused_filter_answers_no_route(rt: HostRuntime) -> Result<(), Fail> {
     for (text, size, want) in rows {
         let mut reader: &[u8] = b"8.8.8.0/24 3\n";
         let mut writer = Vec::new(rt.alloc());
-        let filtered = filter_lines(rt.alloc(), text, size, &mut reader, &mut writer)?;
+        let filtered = filter_lines(rt.alloc(), text, size, &mut reader, &mut writer);
         assert_eq!(&rt; writer.as_slice(), want.as_bytes());
-        assert!(&rt; matches!(filtered, Filtered::Refused(_)));
+        assert!(&rt; matches!(filtered, Ok(Filtered::Refused(_))));
         assert_eq!(&rt; reader.len(), 13);
     }
     Ok(())

@@ -32,7 +32,7 @@ fn filter_of(alloc: Global, mistake: (&str, &str, usize, &str)) -> Result<Vec<u8
 fn told_of(alloc: Global, text: &[u8], is_explained: bool) -> Result<Vec<u8>, Fail> {
     let (mut writer, mut errors) = (Vec::new(alloc), Vec::new(alloc));
     let name = b"f".as_slice();
-    let _ = check_named(
+    let checked = check_named(
         alloc,
         text,
         &mut writer,
@@ -41,7 +41,10 @@ fn told_of(alloc: Global, text: &[u8], is_explained: bool) -> Result<Vec<u8>, Fa
         16,
         false,
         is_explained,
-    )?;
+    );
+    if !matches!(checked, Ok(Some(_))) {
+        return Err(Fail::from("the text is verified, or a stream failed"));
+    }
     Ok(errors)
 }
 
