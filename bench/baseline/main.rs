@@ -3,10 +3,11 @@
 //! `eval`: standard input is a code file in hexadecimal on the first line that is not skipped, and then lines
 //! `NET METRIC SIZE`. Each gives one line: `accept D`, `reject`, `fault K AT` or `refused CODE LINE`.
 //!
-//! `run`: standard input is an operator's script; see `script.rs`.
+//! `run`: standard input is an operator's script; see `script.rs`. `domain`: it is the script of a domain; see `domain.rs`.
 
 mod callers;
 mod code;
+mod domain;
 mod events;
 mod lines;
 mod machine;
@@ -20,6 +21,7 @@ use std::io;
 use std::process::ExitCode;
 
 use code::{decode_hexadecimal, read_code, Code};
+use domain::Domain;
 use lines::{answer_lines, push_decimal, push_refusal, trim_blanks, words, Reply, Service, StreamFault, LINE_LIMIT};
 use machine::{run, Memory, Outcome};
 use rounds::{measured, Sums};
@@ -127,6 +129,11 @@ fn run_script() -> Result<bool, StreamFault> {
     Ok(answer_lines(&mut io::stdin().lock(), &mut io::stdout().lock(), &mut Script::new())? == 0)
 }
 
+/// Answers the script of a domain on standard input. Whether no line was refused.
+fn run_domain() -> Result<bool, StreamFault> {
+    Ok(answer_lines(&mut io::stdin().lock(), &mut io::stdout().lock(), &mut Domain::new())? == 0)
+}
+
 /// Takes routes through the machine again and again, and prints what it said.
 fn measure(rounds: u32) -> Result<bool, StreamFault> {
     let Sums { accepted, rejected, metrics } = measured(rounds)?;
@@ -159,6 +166,7 @@ fn main() -> ExitCode {
     let done = match words[..] {
         ["eval"] => eval(),
         ["run"] => run_script(),
+        ["domain"] => run_domain(),
         ["rounds", number] => match number.parse() {
             Ok(rounds) => measure(rounds),
             Err(_) => return usage(),
@@ -184,6 +192,6 @@ fn main() -> ExitCode {
 }
 
 fn usage() -> ExitCode {
-    eprintln!("usage: baseline eval | run | rounds NUMBER | router NUMBER | callers NUMBER NUMBER");
+    eprintln!("usage: baseline eval | run | domain | rounds NUMBER | router NUMBER | callers NUMBER NUMBER");
     ExitCode::from(2)
 }

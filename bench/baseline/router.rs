@@ -60,7 +60,7 @@ struct Best {
 }
 
 /// The distance that a filter makes of another.
-fn pass(memory: &mut Memory, filter: Option<&Code>, size: u16, net: Prefix, dist: u16) -> u16 {
+pub fn pass(memory: &mut Memory, filter: Option<&Code>, size: u16, net: Prefix, dist: u16) -> u16 {
     let Some(filter) = filter else { return dist };
     if dist == size {
         return size;
