@@ -8,6 +8,8 @@ mod fixtures;
 #[cfg(test)]
 mod gate_tests;
 #[cfg(test)]
+mod kind_tests;
+#[cfg(test)]
 mod link_tests;
 #[cfg(test)]
 mod many_tests;
