@@ -3,19 +3,19 @@
 use crate::inputs::{damaged, named};
 use crate::runs::expect_safe;
 use code_file::{FileFault, read_code, write_code};
+use expectations::expect;
 use filter_code::Code;
 use std::alloc::Global;
-use std::process::Abort;
 use std::test::Fail;
 use worked_rows::{FILTERS, Numbers};
 
 /// The code of a file; none where it is refused, at a place of the file or its end.
-fn code_of(rt: &impl Abort, alloc: Global, file: &[u8], seed: u64) -> Result<Option<Code>, Fail> {
+fn code_of(alloc: Global, file: &[u8]) -> Result<Option<Code>, Fail> {
     match read_code(alloc, file) {
         Ok(code) => Ok(Some(code)),
         Err(FileFault::Memory) => Err(Fail::from("memory was refused")),
         Err(fault) => {
-            assert!(rt; fault.at() <= file.len(), "seed {seed}");
+            expect(fault.at() <= file.len(), "a fault at a place of the file")?;
             Ok(None)
         }
     }
@@ -41,27 +41,32 @@ fn random_file(alloc: Global, numbers: &mut Numbers) -> Result<Vec<u8>, Fail> {
 const OPCODES: [u8; 21] =
     *b"\x12\x13\x14\x15\x20\x21\x22\x24\x30\x31\x32\x33\x40\x41\x50\x13\x13\x14\x12\x70\x71";
 
+/// Expects that code is written as its file.
+fn expect_written(alloc: Global, code: &Code, file: &[u8]) -> Result<(), Fail> {
+    let written = write_code(alloc, code)?;
+    expect(written.as_slice() == file, "a file as it was read")
+}
+
+/// Expects that a file that is read is written again. Says whether it was read, and whether its code was taken by the verifier.
+fn expect_read(alloc: Global, seed: u64) -> Result<(bool, bool), Fail> {
+    let mut numbers = Numbers::new(seed);
+    let file = random_file(alloc, &mut numbers)?;
+    let Some(code) = code_of(alloc, file.as_slice())? else {
+        return Ok((false, false));
+    };
+    expect_written(alloc, &code, file.as_slice())?;
+    Ok((true, expect_safe(alloc, &mut numbers, code)?))
+}
+
 #[test]
 fn files_are_read_as_they_are_written(rt: HostRuntime) -> Result<(), Fail> {
-    let alloc = rt.alloc();
     let (mut read, mut taken) = (0u32, 0u32);
     for seed in 0..20_000 {
-        let mut numbers = Numbers::new(seed);
-        let file = random_file(alloc, &mut numbers)?;
-        if let Some(code) = code_of(&rt, alloc, file.as_slice(), seed)? {
-            read = read.saturating_add(1);
-            let written = write_code(alloc, &code)?;
-            assert_eq!(rt; written.as_slice(), file.as_slice(), "seed {seed}");
-            let outcome = expect_safe(&rt, alloc, &mut numbers, code, seed);
-            if named(&rt, seed, outcome)? {
-                taken = taken.saturating_add(1);
-            }
-        }
+        let (is_read, is_taken) = named(&rt, seed, expect_read(rt.alloc(), seed))?;
+        read = read.saturating_add(u32::from(is_read));
+        taken = taken.saturating_add(u32::from(is_taken));
     }
     // Neither all files nor none are code, and neither all code nor none is safe.
-    assert!(rt;
-        1_500 < taken && taken.saturating_add(1_500) < read && read < 18_000,
-        "{taken} of {read}"
-    );
-    Ok(())
+    let are_some = 1_500 < taken && taken.saturating_add(1_500) < read && read < 18_000;
+    expect(are_some, "some files of each sort")
 }

@@ -1,13 +1,13 @@
 //! Histories: the tables that a replay gives are those that the history left.
 
 use crate::inputs::named;
+use expectations::expect;
 use filter_code::{Code, Instr};
 use filter_verifier::{Verified, verify};
 use netchange_core::{Event, Opening, Tables};
 use prefix_patterns::{Ip, Prefix};
 use route_history::{CallFault, Journal, replay};
 use std::alloc::Global;
-use std::process::Abort;
 use std::sync::Arc;
 use std::test::Fail;
 use worked_rows::Numbers;
@@ -83,45 +83,50 @@ fn random_event(
     })
 }
 
-/// Asserts that tables are those that a history left: of each node the route, the session, and what waits for it.
-fn expect_same(
-    rt: &impl Abort,
-    journal: &mut Journal,
-    tables: &mut Tables,
-    seed: u64,
-) -> Result<(), Fail> {
+/// Expects that tables are those that a history left: of each node the route, the session, and what waits for it.
+fn expect_same(journal: &mut Journal, tables: &mut Tables) -> Result<(), Fail> {
     for node in 0..SIZE {
         let session = journal.session(node);
-        assert_eq!(rt; tables.session(node), session, "seed {seed}");
-        for event in [Event::Show(node), Event::Take(session, u16::MAX)] {
-            let reply = tables.apply(&event)?;
-            let (_, wanted) = journal.apply(event)?;
-            assert!(rt; reply.is_same(&wanted), "seed {seed}");
-        }
+        expect(tables.session(node) == session, "the same sessions")?;
+        expect_answer(journal, tables, Event::Show(node))?;
+        expect_answer(journal, tables, Event::Take(session, u16::MAX))?;
     }
     Ok(())
 }
 
-/// Asserts that a history replays, and is full at its limit.
-fn expect_replay(
-    rt: &impl Abort,
-    alloc: Global,
+/// Expects that tables answer an event as the router of a history does.
+fn expect_answer(journal: &mut Journal, tables: &mut Tables, event: Event) -> Result<(), Fail> {
+    let reply = tables.apply(&event)?;
+    let (_, wanted) = journal.apply(event)?;
+    expect(reply.is_same(&wanted), "the same answers")
+}
+
+/// Enters so many events.
+fn enter_events(
+    journal: &mut Journal,
+    numbers: &mut Numbers,
     filters: &[Arc<Verified>; 4],
-    seed: u64,
+    count: u32,
 ) -> Result<(), Fail> {
+    for _ in 0..count {
+        let event = random_event(numbers, journal, filters)?;
+        journal.apply(event)?;
+    }
+    Ok(())
+}
+
+/// Expects that a history replays, and is full at its limit.
+fn expect_replay(alloc: Global, filters: &[Arc<Verified>; 4], seed: u64) -> Result<(), Fail> {
     let mut numbers = Numbers::new(seed);
     let limit = numbers.below(250).saturating_add(1);
     let mut journal = open(alloc, limit.saturating_add(12))?;
-    for _ in 0..limit {
-        let event = random_event(&mut numbers, &journal, filters)?;
-        journal.apply(event)?;
-    }
+    enter_events(&mut journal, &mut numbers, filters, limit)?;
     let mut tables = replay(alloc, journal.opening(), journal.entries())?;
-    expect_same(rt, &mut journal, &mut tables, seed)?;
+    expect_same(&mut journal, &mut tables)?;
     let full = journal.apply(Event::Show(0));
-    assert!(rt; matches!(&full, Err(CallFault::Full)), "seed {seed}");
-    assert_eq!(rt; journal.entries().len(), limit as usize + 12, "seed {seed}");
-    Ok(())
+    let is_full = matches!(&full, Err(CallFault::Full));
+    let count = journal.entries().len() as u64;
+    expect(is_full && count == u64::from(limit) + 12, "a full history")
 }
 
 #[test]
@@ -129,7 +134,7 @@ fn histories_replay(rt: HostRuntime) -> Result<(), Fail> {
     let alloc = rt.alloc();
     let filters = filters(alloc)?;
     for seed in 0..1_000 {
-        let replayed = expect_replay(&rt, alloc, &filters, seed);
+        let replayed = expect_replay(alloc, &filters, seed);
         named(&rt, seed, replayed)?;
     }
     Ok(())

@@ -1,9 +1,10 @@
 //! Scripts: they are answered in the same way whatever pieces they are read in, with a line for each line that is not skipped.
 
 use crate::inputs::{Pieces, damaged, joined, named};
+use expectations::expect;
 use operator_cmds::run_script;
 use std::alloc::{AllocError, Global};
-use std::process::Abort;
+use std::io::Read;
 use std::test::Fail;
 use worked_rows::Numbers;
 
@@ -67,28 +68,42 @@ fn answered_lines(script: &[u8]) -> usize {
 }
 
 /// Asserts that a script is answered alike in pieces and whole. Says how many of its lines were refused.
-fn expect_alike(rt: &impl Abort, alloc: Global, seed: u64) -> Result<u32, Fail> {
+fn expect_alike(alloc: Global, seed: u64) -> Result<u32, Fail> {
     let mut numbers = Numbers::new(seed);
     let script = random_script(alloc, &mut numbers)?;
-    let (mut whole, mut pieced) = (Vec::new(alloc), Vec::new(alloc));
     let mut pieces = Pieces {
         rest: script.as_slice(),
         most: numbers.place(9).saturating_add(1),
     };
-    let refused = run_script(alloc, &mut script.as_slice(), &mut whole)?;
-    assert_eq!(rt;
-        run_script(alloc, &mut pieces, &mut pieced)?,
-        refused,
-        "seed {seed}"
-    );
-    assert_eq!(rt; pieced.as_slice(), whole.as_slice(), "seed {seed}");
+    let (refused, whole) = answers_of(alloc, &mut script.as_slice())?;
+    expect_answers(alloc, &mut pieces, refused, whole.as_slice())?;
     let lines = whole
         .as_slice()
         .iter()
         .filter(|byte| **byte == b'\n')
         .count();
-    assert_eq!(rt; lines, answered_lines(script.as_slice()), "seed {seed}");
+    let wanted = answered_lines(script.as_slice());
+    expect(lines == wanted, "a line for each line that is not skipped")?;
     Ok(refused)
+}
+
+/// How many lines of a script are refused, and all answers.
+fn answers_of<R: Read>(alloc: Global, script: &mut R) -> Result<(u32, Vec<u8>), Fail> {
+    let mut answers = Vec::new(alloc);
+    let refused = run_script(alloc, script, &mut answers)?;
+    Ok((refused, answers))
+}
+
+/// Expects that a script in pieces is answered so.
+fn expect_answers(
+    alloc: Global,
+    pieces: &mut Pieces<'_>,
+    refused: u32,
+    whole: &[u8],
+) -> Result<(), Fail> {
+    let (count, answers) = answers_of(alloc, pieces)?;
+    let are_alike = count == refused && answers.as_slice() == whole;
+    expect(are_alike, "the same answers to pieces")
 }
 
 #[test]
@@ -96,9 +111,8 @@ fn scripts_are_answered_alike_in_any_pieces(rt: HostRuntime) -> Result<(), Fail>
     let alloc = rt.alloc();
     let mut refused: u64 = 0;
     for seed in 0..2_000 {
-        let outcome = expect_alike(&rt, alloc, seed);
+        let outcome = expect_alike(alloc, seed);
         refused = refused.saturating_add(u64::from(named(&rt, seed, outcome)?));
     }
-    assert!(rt; refused > 2_000, "{refused} lines refused");
-    Ok(())
+    expect(refused > 2_000, "some lines are refused")
 }

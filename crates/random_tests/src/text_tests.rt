@@ -3,12 +3,12 @@
 use crate::inputs::{damaged, joined, named};
 use crate::runs::expect_safe;
 use code_file::{read_code, write_code};
+use expectations::expect;
 use filter_code::Code;
 use filter_compiler::compile;
 use filter_parser::{Filter, ParseFault, parse};
 use filter_types::{TypeFault, check};
 use std::alloc::{AllocError, Global};
-use std::process::Abort;
 use std::test::Fail;
 use worked_rows::{FILTERS, Numbers};
 
@@ -58,17 +58,12 @@ fn spaced(alloc: Global, text: &[u8], filter: &Filter) -> Result<Vec<u8>, AllocE
 }
 
 /// A filter that parses; none where the text is refused, at a place of it or its end.
-fn filter_of(
-    rt: &impl Abort,
-    alloc: Global,
-    text: &[u8],
-    seed: u64,
-) -> Result<Option<Filter>, Fail> {
+fn filter_of(alloc: Global, text: &[u8]) -> Result<Option<Filter>, Fail> {
     match parse(alloc, text) {
         Ok(filter) => Ok(Some(filter)),
         Err(ParseFault::Memory) => Err(Fail::from("memory was refused")),
         Err(fault) => {
-            assert!(rt; fault.at() <= text.len(), "seed {seed}");
+            expect(fault.at() <= text.len(), "a fault at a place of the text")?;
             Ok(None)
         }
     }
@@ -84,60 +79,50 @@ fn code_of(alloc: Global, filter: Filter) -> Result<Option<Code>, Fail> {
 }
 
 /// The file of the code that a filter has, with its tokens spaced; none where it has none.
-fn spaced_file(alloc: Global, spaced: &[u8]) -> Result<Option<Vec<u8>>, Fail> {
-    match code_of(alloc, parse(alloc, spaced)?)? {
+fn spaced_file(alloc: Global, text: &[u8], filter: &Filter) -> Result<Option<Vec<u8>>, Fail> {
+    let spaced = spaced(alloc, text, filter)?;
+    match code_of(alloc, parse(alloc, spaced.as_slice())?)? {
         Some(code) => Ok(Some(write_code(alloc, &code)?)),
         None => Ok(None),
     }
 }
 
-/// Asserts the laws of a filter. Says whether its code was taken by the verifier.
-fn expect_laws(
-    rt: &impl Abort,
-    alloc: Global,
-    numbers: &mut Numbers,
-    text: &[u8],
-    seed: u64,
-) -> Result<Option<bool>, Fail> {
-    let Some(filter) = filter_of(rt, alloc, text, seed)? else {
+/// Expects the laws of a random text. Says whether its code was taken by the verifier.
+fn expect_laws(alloc: Global, seed: u64) -> Result<Option<bool>, Fail> {
+    let mut numbers = Numbers::new(seed);
+    let text = random_text(alloc, &mut numbers)?;
+    let Some(filter) = filter_of(alloc, text.as_slice())? else {
         return Ok(None);
     };
-    let again = spaced_file(alloc, spaced(alloc, text, &filter)?.as_slice())?;
+    let again = spaced_file(alloc, text.as_slice(), &filter)?;
     let Some(code) = code_of(alloc, filter)? else {
-        assert!(rt; again.is_none(), "seed {seed}");
+        expect(again.is_none(), "no code, however it is laid out")?;
         return Ok(Some(false));
     };
-    let file = write_code(alloc, &code)?;
-    assert_eq!(rt;
-        again.ok_or("spaced code")?.as_slice(),
-        file.as_slice(),
-        "seed {seed}"
-    );
+    expect_file(alloc, &code, again)?;
+    Ok(Some(expect_safe(alloc, &mut numbers, code)?))
+}
+
+/// Expects that a file is that of some code, and is read as that.
+fn expect_file(alloc: Global, code: &Code, file: Option<Vec<u8>>) -> Result<(), Fail> {
+    let file = file.ok_or("spaced code")?;
+    let written = write_code(alloc, code)?;
+    let is_same = file.as_slice() == written.as_slice();
+    expect(is_same, "the same code, however it is laid out")?;
     let read = read_code(alloc, file.as_slice())?;
-    assert_eq!(rt; read.instrs(), code.instrs(), "seed {seed}");
-    Ok(Some(expect_safe(rt, alloc, numbers, code, seed)?))
+    expect(read.instrs() == code.instrs(), "code as it was written")
 }
 
 #[test]
 fn filters_mean_the_same_however_they_are_laid_out(rt: HostRuntime) -> Result<(), Fail> {
-    let alloc = rt.alloc();
     let (mut parsed, mut taken) = (0u32, 0u32);
     for seed in 0..10_000 {
-        let mut numbers = Numbers::new(seed);
-        let text = random_text(alloc, &mut numbers)?;
-        let outcome = expect_laws(&rt, alloc, &mut numbers, text.as_slice(), seed);
-        match named(&rt, seed, outcome)? {
-            None => {}
-            Some(is_taken) => {
-                parsed = parsed.saturating_add(1);
-                taken = taken.saturating_add(u32::from(is_taken));
-            }
+        if let Some(is_taken) = named(&rt, seed, expect_laws(rt.alloc(), seed))? {
+            parsed = parsed.saturating_add(1);
+            taken = taken.saturating_add(u32::from(is_taken));
         }
     }
     // Neither all texts nor none are filters, and neither all filters nor none are safe.
-    assert!(rt;
-        1_000 < taken && taken.saturating_add(500) < parsed && parsed < 9_000,
-        "{taken} of {parsed}"
-    );
-    Ok(())
+    let are_some = 1_000 < taken && taken.saturating_add(500) < parsed && parsed < 9_000;
+    expect(are_some, "some filters of each sort")
 }

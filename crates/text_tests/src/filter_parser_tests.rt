@@ -1,7 +1,7 @@
 //! Texts and what is answered on them: codes and places of faults are shown here, by tables.
 
 use crate::left_out::LEFT_OUT_WORDS;
-use crate::texts::{expect_fault, expect_text};
+use expectations::{expect, expect_fault, expect_str, expect_text};
 use filter_parser::{Expected, Filter, MaskLength, ParseFault, parse};
 use filter_tokens::TokenFault;
 use std::alloc::Global;
@@ -398,8 +398,7 @@ fn each_part_keeps_its_place(rt: HostRuntime) -> Result<(), Fail> {
     let wanted =
         "[Decl { at: 13, kind: Int, name: [118] }] [Empty(18), Block(20, [Accept(22, false)]), \
         If(32, Truth(35, true), Reject(45, true), Some(Assign(62, Name([118]), Number(66, 1))))]";
-    assert!(rt; parts.as_str() == wanted, "{parts}");
-    Ok(())
+    expect_str(parts.as_str(), wanted)
 }
 
 const LEFT_OUT: [Row; 20] = [
@@ -457,7 +456,7 @@ fn each_word_that_is_left_out(rt: HostRuntime) -> Result<(), Fail> {
     for word in LEFT_OUT_WORDS {
         let text = repeated(alloc, "filter q { a = ", word, 1, "; }")?;
         let (found, place) = answer(alloc, &text)?;
-        assert!(rt; found == "P10" && place == 15, "{word}");
+        expect(found == "P10" && place == 15, word)?;
     }
     Ok(())
 }
@@ -549,8 +548,7 @@ fn thirty_two_blocks(rt: HostRuntime) -> Result<(), Fail> {
         text.push(b'}')?;
     }
     let (found, _) = answer(alloc, &text)?;
-    assert!(rt; found == "tree");
-    Ok(())
+    expect_str(found, "tree")
 }
 
 const LONG_NAMES: [Repeated; 7] = [
@@ -583,86 +581,90 @@ fn long_texts(rt: HostRuntime) -> Result<(), Fail> {
     compare_repeated(&rt, rt.alloc(), &LONG_TEXTS)
 }
 
+/// The faults, each with its code, its place and its text.
+const TEXTS: [(ParseFault, &str); 11] = [
+    (
+        ParseFault::Token(TokenFault::BadCharacter(3)),
+        "P1 3 unexpected character at byte 3",
+    ),
+    (
+        ParseFault::Unexpected(18, Expected::TextOrSemicolon),
+        "P2 18 expected a text or `;` at byte 18",
+    ),
+    (
+        ParseFault::MaskOverLimit(22),
+        "P4 22 the mask length at byte 22 exceeds 32",
+    ),
+    (
+        ParseFault::PatternLengths(30),
+        "P4 30 the lengths at byte 30 are not low <= high <= 32",
+    ),
+    (
+        ParseFault::TooDeep(43),
+        "P5 43 nesting deeper than 32 levels at byte 43",
+    ),
+    (
+        ParseFault::MixedOperators(28),
+        "P6 28 `&&` and `||` are mixed at byte 28: add parentheses",
+    ),
+    (
+        ParseFault::TooLong,
+        "P7 65536 the filter is longer than 65536 bytes",
+    ),
+    (
+        ParseFault::EndsEarly(18),
+        "P9 18 unexpected end of the text at byte 18",
+    ),
+    (
+        ParseFault::TextElsewhere(15),
+        "P10 15 unexpected text at byte 15: only `accept` and `reject` take one",
+    ),
+    (
+        ParseFault::NumberSet(19),
+        "P10 19 sets of numbers, as at byte 19, are not supported",
+    ),
+    (ParseFault::Memory, "P11 0 out of memory"),
+];
+
 #[test]
 fn the_texts_of_faults(rt: HostRuntime) -> Result<(), Fail> {
     let alloc = rt.alloc();
-    let rows = [
-        (
-            ParseFault::Token(TokenFault::BadCharacter(3)),
-            "P1 3 unexpected character at byte 3",
-        ),
-        (
-            ParseFault::Unexpected(18, Expected::TextOrSemicolon),
-            "P2 18 expected a text or `;` at byte 18",
-        ),
-        (
-            ParseFault::MaskOverLimit(22),
-            "P4 22 the mask length at byte 22 exceeds 32",
-        ),
-        (
-            ParseFault::PatternLengths(30),
-            "P4 30 the lengths at byte 30 are not low <= high <= 32",
-        ),
-        (
-            ParseFault::TooDeep(43),
-            "P5 43 nesting deeper than 32 levels at byte 43",
-        ),
-        (
-            ParseFault::MixedOperators(28),
-            "P6 28 `&&` and `||` are mixed at byte 28: add parentheses",
-        ),
-        (
-            ParseFault::TooLong,
-            "P7 65536 the filter is longer than 65536 bytes",
-        ),
-        (
-            ParseFault::EndsEarly(18),
-            "P9 18 unexpected end of the text at byte 18",
-        ),
-        (
-            ParseFault::TextElsewhere(15),
-            "P10 15 unexpected text at byte 15: only `accept` and `reject` take one",
-        ),
-        (
-            ParseFault::NumberSet(19),
-            "P10 19 sets of numbers, as at byte 19, are not supported",
-        ),
-        (ParseFault::Memory, "P11 0 out of memory"),
-    ];
-    for (fault, wanted) in rows {
-        expect_fault(&rt, alloc, fault.code(), fault.at(), &fault, wanted)?;
+    for (fault, wanted) in TEXTS {
+        expect_fault(alloc, fault.code(), fault.at(), &fault, wanted)?;
     }
     Ok(())
 }
 
+/// What may be expected, and its words.
+const EXPECTED: [(Expected, &str); 21] = [
+    (Expected::FilterWord, "`filter`"),
+    (Expected::Name, "a name"),
+    (Expected::Body, "a declaration or `{`"),
+    (Expected::CommandOrEnd, "a command or `}`"),
+    (Expected::Command, "a command"),
+    (Expected::Semicolon, "`;`"),
+    (Expected::TextOrSemicolon, "a text or `;`"),
+    (Expected::Assign, "`=`"),
+    (Expected::Then, "`then`"),
+    (Expected::Operand, "a value"),
+    (Expected::OperandOrSet, "a value or a set"),
+    (Expected::LeftParen, "`(`"),
+    (Expected::RightParen, "`)`"),
+    (Expected::Part, "`ip`, `len` or `mask`"),
+    (Expected::Number, "a number"),
+    (Expected::Attribute, "`net` or `rip_metric`"),
+    (Expected::Prefix, "a prefix"),
+    (Expected::Comma, "`,`"),
+    (Expected::RightBrace, "`}`"),
+    (Expected::CommaOrBracket, "`,` or `]`"),
+    (Expected::End, "the end of the text"),
+];
+
 #[test]
 fn what_is_expected(rt: HostRuntime) -> Result<(), Fail> {
     let alloc = rt.alloc();
-    let rows = [
-        (Expected::FilterWord, "`filter`"),
-        (Expected::Name, "a name"),
-        (Expected::Body, "a declaration or `{`"),
-        (Expected::CommandOrEnd, "a command or `}`"),
-        (Expected::Command, "a command"),
-        (Expected::Semicolon, "`;`"),
-        (Expected::TextOrSemicolon, "a text or `;`"),
-        (Expected::Assign, "`=`"),
-        (Expected::Then, "`then`"),
-        (Expected::Operand, "a value"),
-        (Expected::OperandOrSet, "a value or a set"),
-        (Expected::LeftParen, "`(`"),
-        (Expected::RightParen, "`)`"),
-        (Expected::Part, "`ip`, `len` or `mask`"),
-        (Expected::Number, "a number"),
-        (Expected::Attribute, "`net` or `rip_metric`"),
-        (Expected::Prefix, "a prefix"),
-        (Expected::Comma, "`,`"),
-        (Expected::RightBrace, "`}`"),
-        (Expected::CommaOrBracket, "`,` or `]`"),
-        (Expected::End, "the end of the text"),
-    ];
-    for (expected, wanted) in rows {
-        expect_text(&rt, alloc, &expected, wanted)?;
+    for (expected, wanted) in EXPECTED {
+        expect_text(alloc, &expected, wanted)?;
     }
     Ok(())
 }

@@ -1,7 +1,7 @@
 //! Texts with their tokens and faults.
 
 use crate::left_out::LEFT_OUT_WORDS;
-use crate::texts::expect_text;
+use expectations::{expect, expect_text};
 use filter_tokens::{Lexed, Token, TokenFault, lex};
 use std::alloc::{AllocError, Global};
 use std::process::Abort;
@@ -318,10 +318,8 @@ fn names(rt: HostRuntime) -> Result<(), Fail> {
 fn words_left_out(rt: HostRuntime) -> Result<(), Fail> {
     for word in LEFT_OUT_WORDS {
         let Lexed { tokens, fault } = lex(rt.alloc(), word.as_bytes())?;
-        assert!(rt;
-            fault == Some(TokenFault::WordLeftOut(0)) && tokens.is_empty(),
-            "at {word}"
-        );
+        let is_left_out = fault == Some(TokenFault::WordLeftOut(0));
+        expect(is_left_out && tokens.is_empty(), word)?;
     }
     Ok(())
 }
@@ -405,48 +403,50 @@ fn texts(rt: HostRuntime) -> Result<(), Fail> {
 }
 
 /// What each fault says to a person.
+/// The faults, and their texts.
+const TEXTS: [(TokenFault, &str); 9] = [
+    (
+        TokenFault::BadCharacter(1),
+        "unexpected character at byte 1",
+    ),
+    (
+        TokenFault::NoDigit(2),
+        "`0x` without a hexadecimal digit at byte 2",
+    ),
+    (
+        TokenFault::NumberTooLarge(3),
+        "the number at byte 3 exceeds 4294967295",
+    ),
+    (
+        TokenFault::OutOfRange(4),
+        "the address or prefix at byte 4 has a group over 255 or a length over 32",
+    ),
+    (
+        TokenFault::NameTooLong(5),
+        "the name at byte 5 is longer than 64 bytes",
+    ),
+    (
+        TokenFault::UnendedComment(6),
+        "the comment at byte 6 is never closed by `*/`",
+    ),
+    (
+        TokenFault::UnendedText(7),
+        "the text at byte 7 has no closing double quote on its line",
+    ),
+    (
+        TokenFault::WordLeftOut(8),
+        "the word at byte 8 belongs to a part of BIRD's language that is not supported",
+    ),
+    (
+        TokenFault::QuotedName(9),
+        "names in single quotes, as at byte 9, are not supported",
+    ),
+];
+
 #[test]
 fn faults_say(rt: HostRuntime) -> Result<(), Fail> {
-    let rows = [
-        (
-            TokenFault::BadCharacter(1),
-            "unexpected character at byte 1",
-        ),
-        (
-            TokenFault::NoDigit(2),
-            "`0x` without a hexadecimal digit at byte 2",
-        ),
-        (
-            TokenFault::NumberTooLarge(3),
-            "the number at byte 3 exceeds 4294967295",
-        ),
-        (
-            TokenFault::OutOfRange(4),
-            "the address or prefix at byte 4 has a group over 255 or a length over 32",
-        ),
-        (
-            TokenFault::NameTooLong(5),
-            "the name at byte 5 is longer than 64 bytes",
-        ),
-        (
-            TokenFault::UnendedComment(6),
-            "the comment at byte 6 is never closed by `*/`",
-        ),
-        (
-            TokenFault::UnendedText(7),
-            "the text at byte 7 has no closing double quote on its line",
-        ),
-        (
-            TokenFault::WordLeftOut(8),
-            "the word at byte 8 belongs to a part of BIRD's language that is not supported",
-        ),
-        (
-            TokenFault::QuotedName(9),
-            "names in single quotes, as at byte 9, are not supported",
-        ),
-    ];
-    for (fault, wanted) in &rows {
-        expect_text(&rt, rt.alloc(), fault, wanted)?;
+    for (fault, wanted) in &TEXTS {
+        expect_text(rt.alloc(), fault, wanted)?;
     }
     Ok(())
 }

@@ -1,56 +1,57 @@
 //! Names and kinds: the texts that are refused, with codes and places, and those that fit.
 
-use crate::texts::expect_text;
+use expectations::{expect, expect_text};
 use filter_parser::{Kind, parse};
 use filter_types::{ExpectedKind, TypeFault, check};
 use std::alloc::Global;
-use std::process::Abort;
 use std::test::Fail;
+
+/// The faults, and their texts.
+const TEXTS: [(TypeFault, &str); 11] = [
+    (TypeFault::UnknownName(11), "undeclared variable at byte 11"),
+    (
+        TypeFault::DeclaredTwice(22),
+        "the variable at byte 22 is already declared",
+    ),
+    (
+        TypeFault::WrongKind(22, ExpectedKind::Int, Kind::Bool),
+        "expected an int at byte 22, found a bool",
+    ),
+    (
+        TypeFault::WrongKind(14, ExpectedKind::IntOrIp, Kind::Prefix),
+        "expected an int or an ip at byte 14, found a prefix",
+    ),
+    (
+        TypeFault::WrongKind(14, ExpectedKind::IpOrPrefix, Kind::Int),
+        "expected an ip or a prefix at byte 14, found an int",
+    ),
+    (
+        TypeFault::WrongKind(7, ExpectedKind::Prefix, Kind::Ip),
+        "expected a prefix at byte 7, found an ip",
+    ),
+    (
+        TypeFault::WrongKind(7, ExpectedKind::Ip, Kind::Int),
+        "expected an ip at byte 7, found an int",
+    ),
+    (
+        TypeFault::WrongKind(7, ExpectedKind::Bool, Kind::Int),
+        "expected a bool at byte 7, found an int",
+    ),
+    (
+        TypeFault::NetAssigned(11),
+        "`net` cannot be assigned, as at byte 11",
+    ),
+    (
+        TypeFault::TooManyVariables(127),
+        "more than 16 variables: one too many at byte 127",
+    ),
+    (TypeFault::Memory, "out of memory"),
+];
 
 #[test]
 fn the_texts_of_faults(rt: HostRuntime) -> Result<(), Fail> {
-    let rows = [
-        (TypeFault::UnknownName(11), "undeclared variable at byte 11"),
-        (
-            TypeFault::DeclaredTwice(22),
-            "the variable at byte 22 is already declared",
-        ),
-        (
-            TypeFault::WrongKind(22, ExpectedKind::Int, Kind::Bool),
-            "expected an int at byte 22, found a bool",
-        ),
-        (
-            TypeFault::WrongKind(14, ExpectedKind::IntOrIp, Kind::Prefix),
-            "expected an int or an ip at byte 14, found a prefix",
-        ),
-        (
-            TypeFault::WrongKind(14, ExpectedKind::IpOrPrefix, Kind::Int),
-            "expected an ip or a prefix at byte 14, found an int",
-        ),
-        (
-            TypeFault::WrongKind(7, ExpectedKind::Prefix, Kind::Ip),
-            "expected a prefix at byte 7, found an ip",
-        ),
-        (
-            TypeFault::WrongKind(7, ExpectedKind::Ip, Kind::Int),
-            "expected an ip at byte 7, found an int",
-        ),
-        (
-            TypeFault::WrongKind(7, ExpectedKind::Bool, Kind::Int),
-            "expected a bool at byte 7, found an int",
-        ),
-        (
-            TypeFault::NetAssigned(11),
-            "`net` cannot be assigned, as at byte 11",
-        ),
-        (
-            TypeFault::TooManyVariables(127),
-            "more than 16 variables: one too many at byte 127",
-        ),
-        (TypeFault::Memory, "out of memory"),
-    ];
-    for (fault, text) in rows {
-        expect_text(&rt, rt.alloc(), &fault, text)?;
+    for (fault, text) in TEXTS {
+        expect_text(rt.alloc(), &fault, text)?;
     }
     Ok(())
 }
@@ -187,23 +188,16 @@ fn fault_of(alloc: Global, text: &[u8]) -> Result<(&'static str, usize), Fail> {
     }
 }
 
-/// Asserts the code and the place of a text's first fault.
-fn expect_fault(
-    rt: &impl Abort,
-    alloc: Global,
-    text: &str,
-    code: &str,
-    at: usize,
-) -> Result<(), Fail> {
+/// Expects the code and the place of a text's first fault.
+fn expect_fault(alloc: Global, text: &str, code: &str, at: usize) -> Result<(), Fail> {
     let (found, place) = fault_of(alloc, text.as_bytes())?;
-    assert!(rt; found == code && place == at, "{text}: {found} {place}");
-    Ok(())
+    expect(found == code && place == at, text)
 }
 
 #[test]
 fn the_first_fault_is_answered(rt: HostRuntime) -> Result<(), Fail> {
     for (text, code, at) in REFUSED {
-        expect_fault(&rt, rt.alloc(), text, code, *at)?;
+        expect_fault(rt.alloc(), text, code, *at)?;
     }
     Ok(())
 }
@@ -212,7 +206,7 @@ fn the_first_fault_is_answered(rt: HostRuntime) -> Result<(), Fail> {
 fn a_filter_has_at_most_sixteen_variables(rt: HostRuntime) -> Result<(), Fail> {
     for (before, behind, code, at) in AROUND_SIXTEEN {
         let text = format!(in rt.alloc(); "{before}{SIXTEEN}{behind}")?;
-        expect_fault(&rt, rt.alloc(), text.as_str(), code, *at)?;
+        expect_fault(rt.alloc(), text.as_str(), code, *at)?;
     }
     Ok(())
 }
@@ -222,10 +216,7 @@ fn each_name_has_the_number_of_its_variable(rt: HostRuntime) -> Result<(), Fail>
     for (text, numbers) in TAKEN {
         let typed = check(rt.alloc(), parse(rt.alloc(), text.as_bytes())?)?;
         for (name, number) in *numbers {
-            assert!(rt;
-                typed.number_of(name.as_bytes()) == *number,
-                "{text}: {name}"
-            );
+            expect(typed.number_of(name.as_bytes()) == *number, text)?;
         }
     }
     Ok(())

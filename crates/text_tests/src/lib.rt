@@ -13,5 +13,3 @@ mod filter_types_tests;
 mod left_out;
 #[cfg(test)]
 mod refusal_words_tests;
-#[cfg(test)]
-mod texts;

@@ -1,6 +1,6 @@
 //! What the refusal of a text says to a person: the code, the place and the words of the fault that a text earns.
 
-use crate::texts::fault_line;
+use expectations::fault_line;
 use filter_parser::{Filter, parse};
 use filter_types::check;
 use std::alloc::Global;
