@@ -9,3 +9,4 @@ pub mod Checking
 pub mod Saying
 -- What only the bodies of this crate are proved against.
 pub mod Steps
+pub mod Judges
