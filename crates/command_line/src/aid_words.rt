@@ -1,7 +1,7 @@
-//! The words of what helps people: `explain`, `filter`, `list`, and `check` of files; and `check` and `run` with refusals in words.
+//! The words of what helps people: `domain`, `explain`, `filter`, `list`, and `check` of files; and `check` and `run` with refusals in words.
 use crate::options::{
-    code_option, explain_option, explained_code, filter_file, listed_file, size_option,
-    verified_size_option,
+    code_option, explain_option, explained_code, filter_file, listed_file, script_file,
+    size_option, verified_size_option,
 };
 use crate::terminals::Terminals;
 use clap::{ArgMatches, Command};
@@ -64,6 +64,15 @@ pub enum Aid {
     },
 }
 
+/// A domain's script that is carried out.
+#[derive(Debug, PartialEq, Eq, Drop)]
+pub struct DomainScript {
+    /// Where it comes from.
+    pub source: Source,
+    /// Why a filter is refused is told in words too.
+    pub is_explained: bool,
+}
+
 /// The source of a name: standard input for `-`.
 fn source_of(alloc: Global, name: &str) -> Result<Source, AllocError> {
     if name == "-" {
@@ -110,6 +119,18 @@ pub fn filter_in(
     }))
 }
 
+/// What the words of `domain` ask for.
+pub fn domain_in(
+    alloc: Global,
+    matches: &ArgMatches<'_>,
+    terminals: Terminals,
+) -> Result<DomainScript, AllocError> {
+    Ok(DomainScript {
+        source: source_of(alloc, matches.get_str("file").unwrap_or("-"))?,
+        is_explained: is_explained(matches, terminals),
+    })
+}
+
 /// What the words of `list` ask for.
 pub fn list_in(alloc: Global, matches: &ArgMatches<'_>) -> Result<Aid, AllocError> {
     Ok(Aid::List {
@@ -118,6 +139,52 @@ pub fn list_in(alloc: Global, matches: &ArgMatches<'_>) -> Result<Aid, AllocErro
         source: source_of(alloc, matches.get_str("file").unwrap_or("-"))?,
     })
 }
+
+/// The command `domain`.
+pub fn domain_command<'a>(alloc: Global) -> Result<Command<'a>, AllocError> {
+    Command::new(alloc, "domain")
+        .about("Compute the routes of a whole domain, by a script of commands")
+        .after_help(DOMAIN_HELP)
+        .arg(explain_option(alloc))?
+        .arg(script_file(alloc))
+}
+
+const DOMAIN_HELP: &str = "\
+The input is commands, one a line. Empty lines and lines that begin with # are skipped.
+  domain N               a domain of N nodes (2 to 250), without links
+  prefix V P             P is the prefix of node V; otherwise it is 10.V.0.0/16
+  load NAME TEXT         name a filter: the rest of the line is its text
+  code NAME HEX          name a filter by its code file in hexadecimal
+  link U W, cut U W      U and W are neighbours from now on, or no more
+  import U W NAME        the filter of what U hears from W
+  export U W NAME        the filter of what U tells W
+  route U V              U's route to V when the domain is at rest
+  path U V               the nodes on the way
+  table U                all routes of U
+  draw V                 a picture of the routes to V, for Graphviz
+  mark                   remember all routes
+  changes                the routes that are not what they were at the last mark
+  settle                 have the routers exchange messages until none is left
+
+Each command is answered on standard output before more input is read:
+  ok                     domain, prefix, link, cut, import, export, mark
+  verified BUDGET DEPTH  load, code
+  route D local, route D via W, route D none
+  path U .. V, path none
+  table V:D:W V:D ..     to V at distance D through W
+  changes U:V U:V ..     of U to V
+  settled ROUNDS COUNT   COUNT messages were heard
+  digraph { .. }         draw
+  refused CODE AT        the command was refused, and nothing changed:
+    O1 to O8     the command is wrong (AT is the number of its line)
+    D1 to D4     the domain refuses it (AT is the number of its line)
+    P, Y, G, V   the filter is refused, as `ncroute check` refuses it; C: its code file
+
+Example:
+  printf 'domain 3\\nlink 0 1\\nlink 1 2\\nroute 0 2\\n' | ncroute domain
+prints `ok` three times and `route 2 via 1`. The exit status is 0; 1 if a command
+was refused or a fault ended the run; 2 if the command line is wrong.
+";
 
 /// The command `explain`.
 pub fn explain_command<'a>(alloc: Global) -> Result<Command<'a>, AllocError> {

@@ -6,6 +6,6 @@ mod options;
 mod terminals;
 mod words;
 
-pub use aid_words::{Aid, Checking, Source};
+pub use aid_words::{Aid, Checking, DomainScript, Source};
 pub use terminals::{Terminals, tell_that_input_is_read, waits_for_people};
 pub use words::{Request, Words, read, request_of};

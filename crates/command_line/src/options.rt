@@ -62,6 +62,13 @@ pub fn listed_file<'a>(alloc: Global) -> Arg<'a> {
     )
 }
 
+/// The file of a domain's script.
+pub fn script_file<'a>(alloc: Global) -> Arg<'a> {
+    Arg::new(alloc, "file").value_name("FILE").help(
+        "The file of the commands in place of standard input; - is standard input",
+    )
+}
+
 /// The file of a filter that is tried.
 pub fn filter_file<'a>(alloc: Global) -> Arg<'a> {
     Arg::new(alloc, "file")

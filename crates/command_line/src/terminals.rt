@@ -22,6 +22,7 @@ fn reads_input(words: &Words) -> bool {
         Words::Asked(_) => true,
         Words::Aided(Aid::Check { sources, .. }) => has_input(sources.as_slice()),
         Words::Aided(Aid::List { source, .. }) => *source == Source::Input,
+        Words::Domain(script) => script.source == Source::Input,
         Words::Aided(Aid::Filter { .. } | Aid::Run) => true,
         Words::Aided(Aid::Explain { .. }) | Words::Network | Words::Shown(_) => false,
     }

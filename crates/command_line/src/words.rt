@@ -1,7 +1,7 @@
 //! The words of the command line.
 use crate::aid_words::{
-    Aid, Checking, explain_command, filter_command, filter_in, is_explained, list_command, list_in,
-    sources_in,
+    Aid, Checking, DomainScript, domain_command, domain_in, explain_command, filter_command,
+    filter_in, is_explained, list_command, list_in, sources_in,
 };
 use crate::options::{code_option, explain_option, file_option, size_option};
 use crate::terminals::Terminals;
@@ -45,6 +45,8 @@ pub enum Words {
     Network,
     /// They ask for this, which helps people.
     Aided(Aid),
+    /// They ask that this script of a domain be carried out.
+    Domain(DomainScript),
     /// Help, or what is wrong with them, was shown. The program ends with this status.
     Shown(u8),
 }
@@ -91,6 +93,9 @@ fn words_in<R: Eprint>(
     }
     if matches.subcommand_matches("net").is_some() {
         return Ok(Words::Network);
+    }
+    if let Some(domain) = matches.subcommand_matches("domain") {
+        return Ok(Words::Domain(domain_in(alloc, domain, terminals)?));
     }
     if let Some(explain) = matches.subcommand_matches("explain") {
         return Ok(explained_in(rt, explain.get_str("code").unwrap_or("")));
@@ -180,6 +185,7 @@ fn command<'a>(alloc: Global) -> Result<Command<'a>, AllocError> {
         .subcommand_required(true)
         .arg_required_else_help(true)
         .subcommand(check_command(alloc)?)?
+        .subcommand(domain_command(alloc)?)?
         .subcommand(eval)?
         .subcommand(explain_command(alloc)?)?
         .subcommand(filter_command(alloc)?)?

@@ -1,3 +1,4 @@
+pub mod Domains
 pub mod Helping
 pub mod Networking
 pub mod Serving

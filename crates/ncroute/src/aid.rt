@@ -210,7 +210,15 @@ fn run_aloud<R: Read, W: Write, E: Write>(
         (record { reads = R.remaining reader.old; holds = W.contents writer.old; tells = E.contents errors.old })
         (record { reads = R.remaining reader.new; holds = W.contents writer.new; tells = E.contents errors.new })) }
 {
-    let refused = run_watched_script(alloc, reader, writer, Teller { errors })?;
+    let refused = run_watched_script(
+        alloc,
+        reader,
+        writer,
+        Teller {
+            name: b"<stdin>",
+            errors,
+        },
+    )?;
     Ok(status_of(refused))
 }
 

@@ -1,7 +1,9 @@
-//! `ncroute`: checks route filters, takes routes through their code, and runs a router, or a network of routers.
+//! `ncroute`: checks route filters, takes routes through their code, runs a router or a network of routers, and computes the
+//! routes of a whole domain.
 #![tactic(auto)]
 
 mod aid;
+mod domain;
 mod network;
 mod serve;
 #[cfg(test)]
@@ -10,6 +12,7 @@ mod watcher;
 
 use aid::serve_people;
 use command_line::{Terminals, Words, tell_that_input_is_read, waits_for_people};
+use domain::serve_domain;
 use filter_commands::ProgramFault;
 use network::serve_network;
 use serve::{FAILED, report_fault, serve};
@@ -32,6 +35,9 @@ fn main(rt: HostRuntime) -> ExitCode {
     let status = match words {
         Ok(Words::Asked(request)) => serve(rt.alloc(), request, reader, writer, errors),
         Ok(Words::Network) => serve_network(&rt, rt.alloc(), writer, errors),
+        Ok(Words::Domain(script)) => {
+            serve_domain(&rt, rt.alloc(), &script, reader, writer, errors)
+        }
         Ok(Words::Aided(aid)) => serve_people(&rt, rt.alloc(), &aid, reader, writer, errors),
         Ok(Words::Shown(status)) => Ok(status),
         Err(fault) => report_fault(errors, ProgramFault::from(fault)).map(|_| FAILED),

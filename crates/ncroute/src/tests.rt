@@ -1,7 +1,8 @@
 //! Which words of the command line ask for what.
+use crate::domain::serve_domain;
 use crate::serve::serve;
 use command_line::{
-    Aid, Checking, Request, Source, Terminals, Words, request_of, waits_for_people,
+    Aid, Checking, DomainScript, Request, Source, Terminals, Words, request_of, waits_for_people,
 };
 use line_protocol::StreamFault;
 use std::test::Fail;
@@ -84,6 +85,37 @@ fn reads_words_of_aids(rt: HostRuntime) -> Result<(), Fail> {
     Ok(())
 }
 
+/// The script of a domain comes from a file, or from standard input: without a name, and by `-`.
+#[test]
+fn reads_words_of_domains(rt: HostRuntime) -> Result<(), Fail> {
+    let rows: [(&[&str], bool); 3] = [
+        (&["ncroute", "domain"], false),
+        (&["ncroute", "domain", "-"], false),
+        (&["ncroute", "domain", "--explain=always"], true),
+    ];
+    for (words, is_explained) in rows {
+        let source = Source::Input;
+        let want = Words::Domain(DomainScript {
+            source,
+            is_explained,
+        });
+        assert_eq!(&rt; request_of(&rt, rt.alloc(), words, NO_TERMINAL)?, want);
+    }
+    let words: &[&str] = &["ncroute", "domain", "a.domain"];
+    let source = Source::File(String::from_str(rt.alloc(), "a.domain")?);
+    let want = Words::Domain(DomainScript {
+        source,
+        is_explained: false,
+    });
+    assert_eq!(&rt; request_of(&rt, rt.alloc(), words, NO_TERMINAL)?, want);
+    let more: &[&str] = &["ncroute", "domain", "a.domain", "b.domain"];
+    assert_eq!(&rt;
+        request_of(&rt, rt.alloc(), more, NO_TERMINAL)?,
+        Words::Shown(2)
+    );
+    Ok(())
+}
+
 /// Whether these words ask that a refusal is told in words, where standard error is a terminal or is none.
 fn is_told(rt: &HostRuntime, words: &[&str], errors: bool) -> Result<bool, Fail> {
     let terminals = Terminals {
@@ -95,7 +127,8 @@ fn is_told(rt: &HostRuntime, words: &[&str], errors: bool) -> Result<bool, Fail>
         Words::Aided(Aid::Filter { is_explained, .. }) => Ok(is_explained),
         Words::Aided(Aid::Run) => Ok(true),
         Words::Asked(Request::Run) => Ok(false),
-        _ => Err(Fail::from("neither check, filter nor run")),
+        Words::Domain(script) => Ok(script.is_explained),
+        _ => Err(Fail::from("neither check, domain, filter nor run")),
     }
 }
 
@@ -103,7 +136,7 @@ fn is_told(rt: &HostRuntime, words: &[&str], errors: bool) -> Result<bool, Fail>
 #[test]
 fn explanations_are_for_terminals(rt: HostRuntime) -> Result<(), Fail> {
     // The words, and whether a refusal is told on a terminal, and elsewhere.
-    let rows: [(&[&str], bool, bool); 8] = [
+    let rows: [(&[&str], bool, bool); 10] = [
         (&["ncroute", "check", "--size=8", "a"], true, false),
         (
             &["ncroute", "check", "--size=8", "a", "--explain", "auto"],
@@ -126,6 +159,8 @@ fn explanations_are_for_terminals(rt: HostRuntime) -> Result<(), Fail> {
             false,
             false,
         ),
+        (&["ncroute", "domain"], true, false),
+        (&["ncroute", "domain", "--explain=never"], false, false),
         (&["ncroute", "run"], true, false),
         (&["ncroute", "run", "--explain=always"], true, true),
     ];
@@ -139,7 +174,9 @@ fn explanations_are_for_terminals(rt: HostRuntime) -> Result<(), Fail> {
 /// People are told to type where standard input is a terminal and is read.
 #[test]
 fn input_that_people_type_is_waited_for(rt: HostRuntime) -> Result<(), Fail> {
-    let rows: [(&[&str], bool); 9] = [
+    let rows: [(&[&str], bool); 11] = [
+        (&["ncroute", "domain"], true),
+        (&["ncroute", "domain", "a"], false),
         (&["ncroute", "eval"], true),
         (&["ncroute", "run"], true),
         (&["ncroute", "check", "--size", "8"], true),
@@ -201,6 +238,75 @@ fn requests_end_with_their_status(rt: HostRuntime) -> Result<(), Fail> {
         assert_eq!(&rt; served, Ok(status));
         assert_eq!(&rt; writer.as_slice(), output.as_bytes());
         assert!(&rt; errors.is_empty());
+    }
+    Ok(())
+}
+
+/// What the script of a domain answers, what is told where people asked for words, and the exit status.
+#[test]
+fn domain_scripts_end_with_their_status(rt: HostRuntime) -> Result<(), Fail> {
+    let rows: [(&str, &str, bool, u8); 4] = [
+        (
+            "domain 2\nlink 0 1\nroute 0 1\n",
+            "ok\nok\nroute 1 via 1\n",
+            false,
+            0,
+        ),
+        ("link 0 1\n", "refused O4 1\n", true, 1),
+        ("domain 2\nload a x\n", "ok\nrefused P2 0\n", false, 1),
+        ("domain 2\nload a x\n", "ok\nrefused P2 0\n", true, 1),
+    ];
+    for (index, (input, output, is_explained, status)) in rows.into_iter().enumerate() {
+        let mut reader = input.as_bytes();
+        let (mut writer, mut errors) = (Vec::new(rt.alloc()), Vec::new(rt.alloc()));
+        let script = DomainScript {
+            source: Source::Input,
+            is_explained,
+        };
+        let served = serve_domain(
+            &rt,
+            rt.alloc(),
+            &script,
+            &mut reader,
+            &mut writer,
+            &mut errors,
+        );
+        assert_eq!(&rt; served, Ok(status));
+        assert_eq!(&rt; writer.as_slice(), output.as_bytes());
+        assert_eq!(&rt; errors.is_empty(), index != 3);
+    }
+    Ok(())
+}
+
+/// A script that cannot be read is a fault, and so is an output that takes no answer.
+#[test]
+fn faults_of_domain_scripts_are_reported(rt: HostRuntime) -> Result<(), Fail> {
+    let rows = [
+        (
+            Source::File(String::from_str(rt.alloc(), "no/such/script")?),
+            "ncroute: E1\n",
+        ),
+        (Source::Input, "ncroute: E2\n"),
+    ];
+    for (source, told) in rows {
+        let script = DomainScript {
+            source,
+            is_explained: true,
+        };
+        let mut reader: &[u8] = b"domain 2\n";
+        let mut none = [0; 0];
+        let mut writer = none.as_mut_slice();
+        let mut errors = Vec::new(rt.alloc());
+        let served = serve_domain(
+            &rt,
+            rt.alloc(),
+            &script,
+            &mut reader,
+            &mut writer,
+            &mut errors,
+        );
+        assert_eq!(&rt; served, Ok(1));
+        assert_eq!(&rt; errors.as_slice(), told.as_bytes());
     }
     Ok(())
 }
