@@ -1,3 +1,5 @@
 pub mod Helping
 pub mod Networking
+pub mod Reading
+pub mod Replaying
 pub mod Serving
