@@ -283,6 +283,23 @@ def longest_filter():
     return FILTER.ljust(TEXT), b"code 4e434631000000027071\n" + VERIFIED, 0
 
 
+def saved_history():
+    """`replay` of a history with as many entries as it may have, of each kind of session event."""
+    turns = ENTRIES // 4
+    lines = [f"NCH1 4 0 {ENTRIES} 10.0.0.0/16 10.1.0.0/16 10.2.0.0/16 10.3.0.0/16"]
+    for turn in range(turns):
+        at, session = 4 * turn, turn + 1
+        lines.append(f"{at} up 1 opened {session}\n{at + 1} recv {session} 1 0 done 1")
+        lines.append(f"{at + 2} take {session} 65535 messages 0:0 1:4 2:4 3:4 1:1\n{at + 3} down {session} done 1")
+    return written(lines), b"replay ok %d\n" % ENTRIES, 0
+
+
+def longer_history():
+    """The same with an entry more than its limit."""
+    lines, _, _ = saved_history()
+    return lines + b"%d show 1 route 4 none\n" % ENTRIES, b"refused H1 %d\n" % (ENTRIES + 2), 1
+
+
 ROWS = [
     ("run, a full history", "run", full_history),
     ("run, a history to its last entry", "run", shown_routes),
@@ -300,6 +317,8 @@ ROWS = [
     ("check, an input at the limit", "check --size 250", longest_source),
     ("check, an input over the limit", "check --size 250", longer_source),
     ("check, a text at the limit", "check --size 250", longest_filter),
+    ("replay, a full history", "replay", saved_history),
+    ("replay, an entry over the limit", "replay", longer_history),
 ]
 
 
@@ -334,7 +353,7 @@ def hundred_files(ncroute):
             with open(name, "wb") as it:
                 it.write(FILTER if name != names[-1] else FILTER[:-1])
         wanted = (b"code 4e434631000000027071\n" + VERIFIED) * 99 + b"refused P9 19\n", 1, names[-1].encode() + b": refused P9 19\n"
-        return differs(run(ncroute, "check --size 250 " + " ".join(names), b""), wanted)
+        return differs(run(ncroute, "check --size 250 --explain never " + " ".join(names), b""), wanted)
 
 
 # ---- names that collide

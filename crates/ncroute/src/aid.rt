@@ -1,63 +1,65 @@
 //! From what people ask for to an exit status.
-ghost use Rattle.std.specs.Prelude.{◌≡◌, ◌||◌, false, IfErr, IfOk, OnErr, is_some, length};
+ghost use Rattle.std.specs.Prelude.{◌≡◌, ◌||◌, false, IfErr, IfOk, OnErr, length};
 ghost use Rattle.std.specs.Io.KnownBytes.{Appends};
 ghost use Rattle.filter_commands.specs.Evaluation.{IsCut};
 ghost use Rattle.filter_commands.specs.Faults.{stream_fault};
 ghost use Rattle.filter_tools.specs.Listing.{IsCutListing};
+ghost use Rattle.filter_tools.specs.Naming.{ChecksNamedOff};
 ghost use Rattle.filter_source.specs.declared.diagnosis.Diagnosis.{Diagnosis as TheDiagnosis};
 ghost use Rattle.filter_tools.specs.Telling.{Explains, IsCutExplanation};
 ghost use Rattle.filter_tools.specs.declared.filter.Filtered.TheVariants.{Refused};
-ghost use Rattle.ncroute.specs.Helping.{ChecksFirst, ChecksOne, ChecksSome, FailsToTell, Helps, IsCutOne, IsRead, ListsText};
-ghost use Rattle.ncroute.specs.Helping.{RunsScript, ServesPeople, StopsFilter, StopsHelp, StopsScript, TriesFilter, name_of, status_of_filter, told_refusal};
+ghost use Rattle.ncroute.specs.Helping.{ChecksFirst, ChecksOne, ChecksSome, ChecksText, FailsToTell, Helps, IsCutOne, ListsSource, ListsText};
+ghost use Rattle.ncroute.specs.Helping.{ReplaysSource, RunsDomainFile, RunsDomainSource, RunsScript, ServesPeople, StopsDomainFile};
+ghost use Rattle.ncroute.specs.Helping.{StopsDomainSource, StopsFilter, StopsHelp, StopsListing, StopsReplay, StopsScript, StopsTrying};
+ghost use Rattle.ncroute.specs.Helping.{ TriesFilter, TriesText, fault_status, status_of_filter, told_refusal};
+ghost use Rattle.ncroute.specs.Reading.{name_of};
 
+use crate::domain::carry_out_domain;
+use crate::replay::{REPLAY_LIMIT, replay_text};
 use crate::serve::{FAILED, report_fault, status_of};
+use crate::texts::{Folder, name_of, take_source};
 use crate::watcher::Teller;
 use command_line::{Aid, Checking, Source};
 use filter_commands::ProgramFault;
 use filter_source::{Diagnosis, SOURCE_LIMIT};
 use filter_tools::{Filtered, check_named, filter_lines, tell, write_listing};
-use line_protocol::{StreamFault, read_input, write_text};
+use line_protocol::{INPUT_LIMIT, StreamFault, write_text};
 use operator_cmds::run_watched_script;
 use std::alloc::Global;
-use std::fs;
 use std::io::{Read, Write};
-use std::rt::Files;
 
-/// The bytes of a file: all, or one more than a source may have.
-fn read_file<F: Files>(files: &F, alloc: Global, name: &str) -> Result<Vec<u8>, ProgramFault> {
-    let Ok(mut file) = fs::open(files, name) else {
-        return Err(ProgramFault::Stream(StreamFault::Read));
-    };
-    Ok(read_input(alloc, &mut file, SOURCE_LIMIT)?)
-}
+/// The exit status where a fault of the machine ended what a refusal ends with `FAILED`.
+const FAULT: u8 = 3;
 
-/// The bytes of a source: all, or one more than it may have.
-fn read_source<F: Files, R: Read>(
-    files: &F,
+/// Checks the text of a source. Returns whether it is refused.
+fn check_read<W: Write, E: Write>(
     alloc: Global,
-    source: &Source,
-    reader: &mut R,
-) -> Result<Vec<u8>, ProgramFault>
-    ensures { IfOk result (λ text. IsRead source.now text.items (R.remaining reader.old) (R.remaining reader.new)) }
+    how: Checking,
+    name: &[u8],
+    text: &[u8],
+    writer: &mut W,
+    errors: &mut E,
+) -> Result<bool, ProgramFault>
+    ensures finished { IfOk result (ChecksText how name.now text.now
+        (W.contents writer.old) (W.contents writer.new) (E.contents errors.old) (E.contents errors.new)) }
+    ensures cut { IfErr result (λ fault. ChecksNamedOff (stream_fault fault) how.size how.is_code how.is_explained name.now text.now
+        (W.contents writer.old) (W.contents writer.new) (E.contents errors.old) (E.contents errors.new)) }
 {
-    match source {
-        Source::Input => Ok(read_input(alloc, reader, SOURCE_LIMIT)?),
-        Source::File(name) => read_file(files, alloc, name.as_str()),
-    }
+    let why = check_named(
+        alloc,
+        text,
+        writer,
+        errors,
+        name,
+        how.size,
+        how.is_code,
+        how.is_explained,
+    )?;
+    Ok(why.is_some())
 }
 
-/// The name by which people know a source.
-fn name_of(source: &Source) -> &[u8]
-    ensures { result.now ≡ name_of source.now }
-{
-    match source {
-        Source::Input => b"<stdin>",
-        Source::File(name) => name.as_str().as_bytes(),
-    }
-}
-
-/// Checks one source. Returns what is told of its refusal.
-fn check_one<F: Files, R: Read, W: Write, E: Write>(
+/// Checks one source. Returns whether it is refused; a file that cannot be read is.
+fn check_one<F: Folder, R: Read, W: Write, E: Write>(
     files: &F,
     alloc: Global,
     how: Checking,
@@ -65,36 +67,33 @@ fn check_one<F: Files, R: Read, W: Write, E: Write>(
     reader: &mut R,
     writer: &mut W,
     errors: &mut E,
-) -> Result<Option<Diagnosis>, ProgramFault>
-    ensures finished { IfOk result (λ why. ChecksOne how source.now
+) -> Result<bool, ProgramFault>
+    ensures finished { IfOk result (ChecksOne (F.opens files.now) how source.now
         (record { reads = R.remaining reader.old; holds = W.contents writer.old; tells = E.contents errors.old })
-        (record { reads = R.remaining reader.new; holds = W.contents writer.new; tells = E.contents errors.new }) why) }
-    ensures cut { IfErr result (λ fault. IsCutOne (stream_fault fault) how source.now
+        (record { reads = R.remaining reader.new; holds = W.contents writer.new; tells = E.contents errors.new })) }
+    ensures cut { IfErr result (λ fault. IsCutOne (F.opens files.now) (stream_fault fault) how source.now
         (record { reads = R.remaining reader.old; holds = W.contents writer.old; tells = E.contents errors.old })
         (record { reads = R.remaining reader.new; holds = W.contents writer.new; tells = E.contents errors.new })) }
 {
-    let text = read_source(files, alloc, source, reader)?;
-    check_named(
-        alloc,
-        text.as_slice(),
-        writer,
-        errors,
-        name_of(source),
-        how.size,
-        how.is_code,
-        how.is_explained,
-    )
+    match take_source(files, alloc, source, SOURCE_LIMIT, reader, errors) {
+        Ok(Some(text)) => {
+            let name = name_of(source);
+            check_read(alloc, how, name, text.as_slice(), writer, errors)
+        }
+        Ok(None) => Ok(true),
+        Err(fault) => Err(fault),
+    }
 }
 
 /// Whether a source is refused, or one before it was.
-fn is_any_refused(earlier: bool, why: Option<Diagnosis>) -> bool
-    ensures { result ≡ (earlier || is_some why) }
+fn is_any_refused(earlier: bool, one: bool) -> bool
+    ensures { result ≡ (earlier || one) }
 {
-    earlier || why.is_some()
+    earlier || one
 }
 
 /// Checks each of some sources, in order. Returns whether one of them is refused.
-fn check_sources<F: Files, R: Read, W: Write, E: Write>(
+fn check_sources<F: Folder, R: Read, W: Write, E: Write>(
     files: &F,
     alloc: Global,
     how: Checking,
@@ -103,17 +102,17 @@ fn check_sources<F: Files, R: Read, W: Write, E: Write>(
     writer: &mut W,
     errors: &mut E,
 ) -> Result<bool, ProgramFault>
-    ensures finished { IfOk result (λ refused. ChecksFirst how sources.now (length sources.now)
+    ensures finished { IfOk result (λ refused. ChecksFirst (F.opens files.now) how sources.now (length sources.now)
         (record { reads = R.remaining reader.old; holds = W.contents writer.old; tells = E.contents errors.old })
         (record { reads = R.remaining reader.new; holds = W.contents writer.new; tells = E.contents errors.new }) refused) }
-    ensures cut { IfErr result (λ fault. ChecksSome (stream_fault fault) how sources.now
+    ensures cut { IfErr result (λ fault. ChecksSome (F.opens files.now) (stream_fault fault) how sources.now
         (record { reads = R.remaining reader.old; holds = W.contents writer.old; tells = E.contents errors.old })
         (record { reads = R.remaining reader.new; holds = W.contents writer.new; tells = E.contents errors.new })) }
 {
     let mut is_refused = false;
     for source in sources {
-        let why = check_one(files, alloc, how, source, reader, writer, errors)?;
-        is_refused = is_any_refused(is_refused, why);
+        let one = check_one(files, alloc, how, source, reader, writer, errors)?;
+        is_refused = is_any_refused(is_refused, one);
     }
     Ok(is_refused)
 }
@@ -146,7 +145,7 @@ fn tell_filter<E: Write>(
 
 /// Takes routes through the filter of a text, and returns the exit status. A refusal of the filter is told in words where
 /// `is_explained` says so.
-fn try_filter<R: Read, W: Write, E: Write>(
+fn try_text<R: Read, W: Write, E: Write>(
     alloc: Global,
     text: &[u8],
     size: u32,
@@ -156,10 +155,10 @@ fn try_filter<R: Read, W: Write, E: Write>(
     writer: &mut W,
     errors: &mut E,
 ) -> Result<u8, ProgramFault>
-    ensures finished { IfOk result (TriesFilter size name.now is_explained
+    ensures finished { IfOk result (TriesText size name.now is_explained text.now
         (record { reads = R.remaining reader.old; holds = W.contents writer.old; tells = E.contents errors.old })
         (record { reads = R.remaining reader.new; holds = W.contents writer.new; tells = E.contents errors.new })) }
-    ensures stopped { IfErr result (λ fault. StopsFilter (stream_fault fault) size name.now
+    ensures stopped { IfErr result (λ fault. StopsTrying (stream_fault fault) size name.now text.now
         (record { reads = R.remaining reader.old; holds = W.contents writer.old; tells = E.contents errors.old })
         (record { reads = R.remaining reader.new; holds = W.contents writer.new; tells = E.contents errors.new })) }
 {
@@ -196,6 +195,152 @@ fn list<W: Write>(
     }
 }
 
+/// Takes routes through the filter of a source, and returns the exit status.
+fn try_filter<F: Folder, R: Read, W: Write, E: Write>(
+    files: &F,
+    alloc: Global,
+    size: u32,
+    source: &Source,
+    is_explained: bool,
+    reader: &mut R,
+    writer: &mut W,
+    errors: &mut E,
+) -> Result<u8, ProgramFault>
+    ensures finished { IfOk result (TriesFilter (F.opens files.now) size source.now is_explained
+        (record { reads = R.remaining reader.old; holds = W.contents writer.old; tells = E.contents errors.old })
+        (record { reads = R.remaining reader.new; holds = W.contents writer.new; tells = E.contents errors.new })) }
+    ensures stopped { IfErr result (λ fault. StopsFilter (F.opens files.now) (stream_fault fault) size source.now
+        (record { reads = R.remaining reader.old; holds = W.contents writer.old; tells = E.contents errors.old })
+        (record { reads = R.remaining reader.new; holds = W.contents writer.new; tells = E.contents errors.new })) }
+{
+    match take_source(files, alloc, source, SOURCE_LIMIT, reader, errors) {
+        Ok(Some(text)) => {
+            let (text, name) = (text.as_slice(), name_of(source));
+            try_text(
+                alloc,
+                text,
+                size,
+                name,
+                is_explained,
+                reader,
+                writer,
+                errors,
+            )
+        }
+        Ok(None) => Ok(FAULT),
+        Err(fault) => Err(fault),
+    }
+}
+
+/// Lists a source, and returns the exit status.
+fn list_source<F: Folder, R: Read, W: Write, E: Write>(
+    files: &F,
+    alloc: Global,
+    size: Option<u32>,
+    is_code: bool,
+    source: &Source,
+    reader: &mut R,
+    writer: &mut W,
+    errors: &mut E,
+) -> Result<u8, ProgramFault>
+    ensures finished { IfOk result (ListsSource (F.opens files.now) size is_code source.now
+        (record { reads = R.remaining reader.old; holds = W.contents writer.old; tells = E.contents errors.old })
+        (record { reads = R.remaining reader.new; holds = W.contents writer.new; tells = E.contents errors.new })) }
+    ensures stopped { IfErr result (λ fault. StopsListing (F.opens files.now) (stream_fault fault) size is_code source.now
+        (record { reads = R.remaining reader.old; holds = W.contents writer.old; tells = E.contents errors.old })
+        (record { reads = R.remaining reader.new; holds = W.contents writer.new; tells = E.contents errors.new })) }
+{
+    match take_source(files, alloc, source, SOURCE_LIMIT, reader, errors) {
+        Ok(Some(text)) => list(alloc, text.as_slice(), writer, size, is_code),
+        Ok(None) => Ok(FAULT),
+        Err(fault) => Err(fault),
+    }
+}
+
+/// Replays the history that a source is the text of, and returns the exit status.
+fn replay_source<F: Folder, R: Read, W: Write, E: Write>(
+    files: &F,
+    alloc: Global,
+    source: &Source,
+    reader: &mut R,
+    writer: &mut W,
+    errors: &mut E,
+) -> Result<u8, ProgramFault>
+    ensures finished { IfOk result (ReplaysSource (F.opens files.now) source.now
+        (record { reads = R.remaining reader.old; holds = W.contents writer.old; tells = E.contents errors.old })
+        (record { reads = R.remaining reader.new; holds = W.contents writer.new; tells = E.contents errors.new })) }
+    ensures stopped { IfErr result (λ fault. StopsReplay (F.opens files.now) (stream_fault fault) source.now
+        (record { reads = R.remaining reader.old; holds = W.contents writer.old; tells = E.contents errors.old })
+        (record { reads = R.remaining reader.new; holds = W.contents writer.new; tells = E.contents errors.new })) }
+{
+    match take_source(files, alloc, source, REPLAY_LIMIT, reader, errors) {
+        Ok(Some(text)) => replay_text(alloc, text.as_slice(), writer),
+        Ok(None) => Ok(FAULT),
+        Err(fault) => Err(fault),
+    }
+}
+
+/// Carries out the script of a domain that a file has, and returns the exit status.
+fn run_domain_file<F: Folder, R: Read, W: Write, E: Write>(
+    files: &F,
+    alloc: Global,
+    source: &Source,
+    is_explained: bool,
+    reader: &mut R,
+    writer: &mut W,
+    errors: &mut E,
+) -> Result<u8, ProgramFault>
+    ensures finished { IfOk result (RunsDomainFile (F.opens files.now) source.now is_explained
+        (record { reads = R.remaining reader.old; holds = W.contents writer.old; tells = E.contents errors.old })
+        (record { reads = R.remaining reader.new; holds = W.contents writer.new; tells = E.contents errors.new })) }
+    ensures stopped { IfErr result (λ fault. StopsDomainFile (F.opens files.now) (stream_fault fault) source.now is_explained
+        (record { reads = R.remaining reader.old; holds = W.contents writer.old; tells = E.contents errors.old })
+        (record { reads = R.remaining reader.new; holds = W.contents writer.new; tells = E.contents errors.new })) }
+{
+    match take_source(files, alloc, source, INPUT_LIMIT, reader, errors) {
+        Ok(Some(text)) => {
+            let mut script = text.as_slice();
+            let name = name_of(source);
+            carry_out_domain(alloc, name, is_explained, &mut script, writer, errors)
+        }
+        Ok(None) => Ok(FAULT),
+        Err(fault) => Err(fault),
+    }
+}
+
+/// Carries out the script of a domain, and returns the exit status. The lines of standard input are answered as they come.
+fn run_domain_source<F: Folder, R: Read, W: Write, E: Write>(
+    files: &F,
+    alloc: Global,
+    source: &Source,
+    is_explained: bool,
+    reader: &mut R,
+    writer: &mut W,
+    errors: &mut E,
+) -> Result<u8, ProgramFault>
+    ensures finished { IfOk result (RunsDomainSource (F.opens files.now) source.now is_explained
+        (record { reads = R.remaining reader.old; holds = W.contents writer.old; tells = E.contents errors.old })
+        (record { reads = R.remaining reader.new; holds = W.contents writer.new; tells = E.contents errors.new })) }
+    ensures stopped { IfErr result (λ fault. StopsDomainSource (F.opens files.now) (stream_fault fault) source.now is_explained
+        (record { reads = R.remaining reader.old; holds = W.contents writer.old; tells = E.contents errors.old })
+        (record { reads = R.remaining reader.new; holds = W.contents writer.new; tells = E.contents errors.new })) }
+{
+    match source {
+        Source::Input => {
+            carry_out_domain(alloc, name_of(source), is_explained, reader, writer, errors)
+        }
+        Source::File(_) => run_domain_file(
+            files,
+            alloc,
+            source,
+            is_explained,
+            reader,
+            writer,
+            errors,
+        ),
+    }
+}
+
 /// Carries out a script, and tells in words why a filter is refused. Returns the exit status.
 fn run_aloud<R: Read, W: Write, E: Write>(
     alloc: Global,
@@ -223,7 +368,7 @@ fn run_aloud<R: Read, W: Write, E: Write>(
 }
 
 /// Does what people ask for, and returns the exit status: 0, or 1 where something was refused.
-fn help<F: Files, R: Read, W: Write, E: Write>(
+fn help<F: Folder, R: Read, W: Write, E: Write>(
     files: &F,
     alloc: Global,
     aid: &Aid,
@@ -231,60 +376,71 @@ fn help<F: Files, R: Read, W: Write, E: Write>(
     writer: &mut W,
     errors: &mut E,
 ) -> Result<u8, ProgramFault>
-    ensures finished { IfOk result (Helps aid.now
+    ensures finished { IfOk result (Helps (F.opens files.now) aid.now
         (record { reads = R.remaining reader.old; holds = W.contents writer.old; tells = E.contents errors.old })
         (record { reads = R.remaining reader.new; holds = W.contents writer.new; tells = E.contents errors.new })) }
-    ensures stopped { IfErr result (λ fault. StopsHelp (stream_fault fault) aid.now
+    ensures stopped { IfErr result (λ fault. StopsHelp (F.opens files.now) (stream_fault fault) aid.now
         (record { reads = R.remaining reader.old; holds = W.contents writer.old; tells = E.contents errors.old })
         (record { reads = R.remaining reader.new; holds = W.contents writer.new; tells = E.contents errors.new })) }
 {
     match aid {
         Aid::Check { how, sources } => {
-            let is_refused = check_sources(
-                files,
-                alloc,
-                *how,
-                sources.as_slice(),
-                reader,
-                writer,
-                errors,
-            )?;
+            let sources = sources.as_slice();
+            let is_refused = check_sources(files, alloc, *how, sources, reader, writer, errors)?;
             Ok(if is_refused { FAILED } else { 0 })
         }
-        Aid::Explain { page } => show(page, writer),
+        Aid::Explain { page } => show(page.as_str(), writer),
         Aid::List {
             size,
             is_code,
             source,
-        } => {
-            let text = read_source(files, alloc, source, reader)?;
-            list(alloc, text.as_slice(), writer, *size, *is_code)
-        }
+        } => list_source(
+            files, alloc, *size, *is_code, source, reader, writer, errors,
+        ),
         Aid::Run => run_aloud(alloc, reader, writer, errors),
         Aid::Filter {
             size,
-            file,
+            source,
             is_explained,
-        } => {
-            let text = read_file(files, alloc, file.as_str())?;
-            let name = file.as_str().as_bytes();
-            try_filter(
-                alloc,
-                text.as_slice(),
-                *size,
-                name,
-                *is_explained,
-                reader,
-                writer,
-                errors,
-            )
-        }
+        } => try_filter(
+            files,
+            alloc,
+            *size,
+            source,
+            *is_explained,
+            reader,
+            writer,
+            errors,
+        ),
+        Aid::Replay { source } => replay_source(files, alloc, source, reader, writer, errors),
+        Aid::Domain {
+            source,
+            is_explained,
+        } => run_domain_source(
+            files,
+            alloc,
+            source,
+            *is_explained,
+            reader,
+            writer,
+            errors,
+        ),
     }
 }
 
-/// Does what people ask for, and returns the exit status: 0, or 1 where something was refused or a fault ended it. A fault is
+/// The exit status where a fault of the machine ends what people ask for. `check` and `run` have had 1 from the first.
+pub fn fault_status(aid: &Aid) -> u8
+    ensures { result ≡ fault_status aid.now }
+{
+    match aid {
+        Aid::Check { .. } | Aid::Explain { .. } | Aid::Run => FAILED,
+        Aid::List { .. } | Aid::Filter { .. } | Aid::Replay { .. } | Aid::Domain { .. } => FAULT,
+    }
+}
+
+/// Does what people ask for, and returns the exit status: 0, or 1 where something was refused, or that of a fault. A fault is
 /// reported on `errors`; the error is that of `errors`, which did not take the whole report.
-pub fn serve_people<F: Files, R: Read, W: Write, E: Write>(
+pub fn serve_people<F: Folder, R: Read, W: Write, E: Write>(
     files: &F,
     alloc: Global,
     aid: &Aid,
@@ -292,10 +448,10 @@ pub fn serve_people<F: Files, R: Read, W: Write, E: Write>(
     writer: &mut W,
     errors: &mut E,
 ) -> Result<u8, StreamFault>
-    ensures served { IfOk result (ServesPeople aid.now
+    ensures served { IfOk result (ServesPeople (F.opens files.now) aid.now
         (record { reads = R.remaining reader.old; holds = W.contents writer.old; tells = E.contents errors.old })
         (record { reads = R.remaining reader.new; holds = W.contents writer.new; tells = E.contents errors.new })) }
-    ensures not_reported { OnErr result (FailsToTell aid.now
+    ensures not_reported { OnErr result (FailsToTell (F.opens files.now) aid.now
         (record { reads = R.remaining reader.old; holds = W.contents writer.old; tells = E.contents errors.old })
         (record { reads = R.remaining reader.new; holds = W.contents writer.new; tells = E.contents errors.new })) }
 {
@@ -303,7 +459,7 @@ pub fn serve_people<F: Files, R: Read, W: Write, E: Write>(
         Ok(status) => Ok(status),
         Err(fault) => {
             report_fault(errors, fault)?;
-            Ok(FAILED)
+            Ok(fault_status(aid))
         }
     }
 }

@@ -5,14 +5,15 @@
 mod aid;
 mod domain;
 mod network;
+mod replay;
 mod serve;
 #[cfg(test)]
 mod tests;
+mod texts;
 mod watcher;
 
-use aid::serve_people;
+use aid::{fault_status, serve_people};
 use command_line::{Terminals, Words, tell_that_input_is_read, waits_for_people};
-use domain::serve_domain;
 use filter_commands::ProgramFault;
 use network::serve_network;
 use serve::{FAILED, report_fault, serve};
@@ -35,10 +36,10 @@ fn main(rt: HostRuntime) -> ExitCode {
     let status = match words {
         Ok(Words::Asked(request)) => serve(rt.alloc(), request, reader, writer, errors),
         Ok(Words::Network) => serve_network(&rt, rt.alloc(), writer, errors),
-        Ok(Words::Domain(script)) => {
-            serve_domain(&rt, rt.alloc(), &script, reader, writer, errors)
+        Ok(Words::Aided(aid)) => {
+            let served = serve_people(&rt, rt.alloc(), &aid, reader, writer, errors);
+            Ok(served.unwrap_or(fault_status(&aid)))
         }
-        Ok(Words::Aided(aid)) => serve_people(&rt, rt.alloc(), &aid, reader, writer, errors),
         Ok(Words::Shown(status)) => Ok(status),
         Err(fault) => report_fault(errors, ProgramFault::from(fault)).map(|_| FAILED),
     };
