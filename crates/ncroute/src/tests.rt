@@ -9,6 +9,7 @@ use command_line::{
 };
 use line_protocol::StreamFault;
 use std::io;
+use std::process::Abort;
 use std::test::Fail;
 
 /// People neither type the input nor read the errors.
@@ -404,8 +405,8 @@ const SHELF: Shelf = Shelf {
 
 /// What the words of a command line write on standard output and on standard error, and the exit status, where standard input has
 /// this text.
-fn says(
-    rt: &HostRuntime,
+fn says<R: Abort + AllocGlobal + Print + Eprint>(
+    rt: &R,
     words: &[&str],
     input: &str,
     output: &str,
