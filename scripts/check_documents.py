@@ -112,7 +112,7 @@ def copies():
 
 def needs_program(command):
     """`rt try --cases` tells no standard error, and runs in a folder without the files of the repository."""
-    return "2>&1" in command or "ncroute filter" in command or ".filter" in re.sub(r"< *[\w/.]+", "", command)
+    return "2>&1" in command or "ncroute filter" in command or ".history" in command or ".filter" in re.sub(r"< *[\w/.]+", "", command)
 
 
 def explained(ncroute, tell):

@@ -20,10 +20,11 @@ use Rattle.line_protocol.specs.declared.faults.StreamFault.{StreamFault}
 use Rattle.operator_cmds.specs.Running.{IsBrokenOff, IsCarriedOut}
 use Rattle.line_protocol.specs.Limits.{input_limit}
 use Rattle.ncroute.specs.Domains.{RunsDomain, StopsDomain}
-use Rattle.ncroute.specs.Reading.{IsRead, StopsTaking, TellsUnread, name_of}
+use Rattle.ncroute.specs.Reading.{IsRead, IsUnread, StopsTelling, TellsUnread, name_of}
 use Rattle.ncroute.specs.Replaying.{CutsReplay, ReplaysText, replay_limit}
 use Rattle.ncroute.specs.Serving.{fault_line, status_of}
 use Rattle.ncroute.specs.Streaming.{Streams}
+use Rattle.ncroute.specs.declared.texts.Unread.{Unread}
 use Rattle.command_line.specs.declared.aid_words.Aid.{Aid}
 use Rattle.command_line.specs.declared.aid_words.Aid.TheVariants as aid
 use Rattle.command_line.specs.declared.aid_words.Checking.{Checking}
@@ -96,19 +97,14 @@ fault_status (aid.Domain source is_explained) = 3
 module _ (opens : List ℕ → Result (Option (List ℕ)) Error → Type 0) where
   -- A file was not read, which standard error was told, and nothing was written.
   abbrev pub SkipsUnread : ℕ → Source → Streams → Streams → Type 0
-  SkipsUnread limit source before after =
-      TellsUnread opens limit source before.reads after.reads before.tells after.tells × (after.holds ≡ before.holds)
-
-  -- A source was read, and nothing was written or told. `mid` is how that leaves the streams.
-  abbrev pub Reads : ℕ → Source → List ℕ → Streams → Streams → Type 0
-  Reads limit source text before mid =
-      IsRead opens limit source text before.reads mid.reads × (mid.holds ≡ before.holds) × (mid.tells ≡ before.tells)
+  SkipsUnread limit source before after = (why : Unread) × IsUnread opens limit source why before.reads after.reads
+      × TellsUnread source why before.tells after.tells × (after.holds ≡ before.holds)
 
   -- A source was read and checked; or it was not read, and counts as refused.
   abbrev pub ChecksOne : Checking → Source → Streams → Streams → Bool → Type 0
   ChecksOne how source before after is_refused =
-      ((text : List ℕ) × (mid : Streams) × Reads source_limit source text before mid × (after.reads ≡ mid.reads)
-      × ChecksText how (name_of source) text mid.holds after.holds mid.tells after.tells is_refused)
+      ((text : List ℕ) × IsRead opens source_limit source text before.reads after.reads
+      × ChecksText how (name_of source) text before.holds after.holds before.tells after.tells is_refused)
       ⊎ (SkipsUnread source_limit source before after × (is_refused ≡ true))
 
   -- The first n of some sources were checked so, in order, and it is said whether one of them is refused.
@@ -118,16 +114,16 @@ module _ (opens : List ℕ → Result (Option (List ℕ)) Error → Type 0) wher
       × (slice_get sources n ≡ Some source) × ChecksFirst how sources n before mid earlier × ChecksOne how source mid after one
       × (refused ≡ (earlier || one))
 
-  -- A fault kept a source from being read, and nothing was written.
+  -- A fault kept a source from being read or told of, and nothing was written.
   abbrev pub StopsReading : StreamFault → ℕ → Source → Streams → Streams → Type 0
-  StopsReading fault limit source before after =
-      StopsTaking opens fault limit source before.reads after.reads before.tells after.tells × (after.holds ≡ before.holds)
+  StopsReading fault limit source before after = (why : Unread) × IsUnread opens limit source why before.reads after.reads
+      × StopsTelling fault source why before.tells after.tells × (after.holds ≡ before.holds)
 
   -- A fault cut the check of a source: its text was not read, or the report or what is told was cut.
   abbrev pub IsCutOne : StreamFault → Checking → Source → Streams → Streams → Type 0
   IsCutOne fault how source before after = StopsReading fault source_limit source before after
-      ⊎ ((text : List ℕ) × (mid : Streams) × Reads source_limit source text before mid × (after.reads ≡ mid.reads)
-      × ChecksNamedOff fault how.size how.is_code how.is_explained (name_of source) text mid.holds after.holds mid.tells after.tells)
+      ⊎ ((text : List ℕ) × IsRead opens source_limit source text before.reads after.reads
+      × ChecksNamedOff fault how.size how.is_code how.is_explained (name_of source) text before.holds after.holds before.tells after.tells)
 
   -- A fault ended the checks behind the first of the sources.
   pub record ChecksSome (fault : StreamFault) (how : Checking) (sources : List Source) (before after : Streams) : Type 0 where
@@ -139,58 +135,58 @@ module _ (opens : List ℕ → Result (Option (List ℕ)) Error → Type 0) wher
     pub first : ChecksFirst how sources n before mid refused
     pub cut : IsCutOne fault how source mid after
 
-  -- A filter was read and tried on the routes of the input; or it was not read.
+  -- A filter was read, which leaves this of the input, and tried on its routes; or it was not read.
   abbrev pub TriesFilter : ℕ → Source → Bool → Streams → Streams → ℕ → Type 0
   TriesFilter size source is_explained before after status =
-      ((text : List ℕ) × (mid : Streams) × Reads source_limit source text before mid
-      × TriesText size (name_of source) is_explained text mid after status)
+      ((text : List ℕ) × (left : Option (List ℕ)) × IsRead opens source_limit source text before.reads left
+      × TriesText size (name_of source) is_explained text (record before { reads = left }) after status)
       ⊎ (SkipsUnread source_limit source before after × (status ≡ 3))
 
   -- A fault ended it.
   abbrev pub StopsFilter : StreamFault → ℕ → Source → Streams → Streams → Type 0
   StopsFilter fault size source before after = StopsReading fault source_limit source before after
-      ⊎ ((text : List ℕ) × (mid : Streams) × Reads source_limit source text before mid
-      × StopsTrying fault size (name_of source) text mid after)
+      ⊎ ((text : List ℕ) × (left : Option (List ℕ)) × IsRead opens source_limit source text before.reads left
+      × StopsTrying fault size (name_of source) text (record before { reads = left }) after)
 
   -- A source was read and listed; or it was not read.
   abbrev pub ListsSource : Option ℕ → Bool → Source → Streams → Streams → ℕ → Type 0
   ListsSource size is_code source before after status =
-      ((text : List ℕ) × (mid : Streams) × Reads source_limit source text before mid
-      × ListsText size is_code text mid.holds after.holds status × (after.reads ≡ mid.reads) × (after.tells ≡ mid.tells))
+      ((text : List ℕ) × IsRead opens source_limit source text before.reads after.reads
+      × ListsText size is_code text before.holds after.holds status × (after.tells ≡ before.tells))
       ⊎ (SkipsUnread source_limit source before after × (status ≡ 3))
 
   -- A fault ended it.
   abbrev pub StopsListing : StreamFault → Option ℕ → Bool → Source → Streams → Streams → Type 0
   StopsListing fault size is_code source before after = StopsReading fault source_limit source before after
-      ⊎ ((text : List ℕ) × (mid : Streams) × Reads source_limit source text before mid
-      × IsCutListing fault size is_code text mid.holds after.holds × (after.reads ≡ mid.reads) × (after.tells ≡ mid.tells))
+      ⊎ ((text : List ℕ) × IsRead opens source_limit source text before.reads after.reads
+      × IsCutListing fault size is_code text before.holds after.holds × (after.tells ≡ before.tells))
 
   -- A source was read and replayed; or it was not read.
   abbrev pub ReplaysSource : Source → Streams → Streams → ℕ → Type 0
   ReplaysSource source before after status =
-      ((text : List ℕ) × (mid : Streams) × Reads replay_limit source text before mid
-      × ReplaysText text mid.holds after.holds status × (after.reads ≡ mid.reads) × (after.tells ≡ mid.tells))
+      ((text : List ℕ) × IsRead opens replay_limit source text before.reads after.reads
+      × ReplaysText text before.holds after.holds status × (after.tells ≡ before.tells))
       ⊎ (SkipsUnread replay_limit source before after × (status ≡ 3))
 
   -- A fault ended it.
   abbrev pub StopsReplay : StreamFault → Source → Streams → Streams → Type 0
   StopsReplay fault source before after = StopsReading fault replay_limit source before after
-      ⊎ ((text : List ℕ) × (mid : Streams) × Reads replay_limit source text before mid
-      × CutsReplay fault text mid.holds after.holds × (after.reads ≡ mid.reads) × (after.tells ≡ mid.tells))
+      ⊎ ((text : List ℕ) × IsRead opens replay_limit source text before.reads after.reads
+      × CutsReplay fault text before.holds after.holds × (after.tells ≡ before.tells))
 
   -- The script of a domain was read to its end, or to the limit, and carried out; or it was not read.
   abbrev pub RunsDomainFile : Source → Bool → Streams → Streams → ℕ → Type 0
   RunsDomainFile source is_explained before after status =
-      ((script : List ℕ) × (mid : Streams) × (left : Option (List ℕ)) × Reads input_limit source script before mid
-      × (after.reads ≡ mid.reads) × RunsDomain is_explained (record { reads = Some script; holds = mid.holds; tells = mid.tells })
+      ((script : List ℕ) × (left : Option (List ℕ)) × IsRead opens input_limit source script before.reads after.reads
+      × RunsDomain is_explained (record { reads = Some script; holds = before.holds; tells = before.tells })
         (record { reads = left; holds = after.holds; tells = after.tells }) status)
       ⊎ (SkipsUnread input_limit source before after × (status ≡ 3))
 
   -- A fault ended it.
   abbrev pub StopsDomainFile : StreamFault → Source → Bool → Streams → Streams → Type 0
   StopsDomainFile fault source is_explained before after = StopsReading fault input_limit source before after
-      ⊎ ((script : List ℕ) × (mid : Streams) × (left : Option (List ℕ)) × Reads input_limit source script before mid
-      × (after.reads ≡ mid.reads) × StopsDomain fault is_explained (record { reads = Some script; holds = mid.holds; tells = mid.tells })
+      ⊎ ((script : List ℕ) × (left : Option (List ℕ)) × IsRead opens input_limit source script before.reads after.reads
+      × StopsDomain fault is_explained (record { reads = Some script; holds = before.holds; tells = before.tells })
         (record { reads = left; holds = after.holds; tells = after.tells }))
 
   -- The script of a domain was carried out: line by line as standard input has it, or from a file.

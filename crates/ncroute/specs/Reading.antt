@@ -1,10 +1,11 @@
 -- How a source is read: a file that is opened by its name, or standard input. (This project's own choice.)
-use Rattle.std.specs.Prelude.{◌≡◌, ◌⊎◌, ℕ, ◌+◌, ◌≤◌, List, [], ◌∷◌, ◌++◌, Option, Some, None, Result, Ok, Err, codes, length, string_bytes, ⊤}
+use Rattle.std.specs.Prelude.{◌≡◌, ◌⊎◌, ℕ, ◌+◌, ◌≤◌, List, [], ◌∷◌, ◌++◌, Option, Result, Ok, Err, codes, length, string_bytes, ⊤}
 use Rattle.std.specs.Io.KnownBytes.{Appends, Consumes, IsAtEnd}
 use Rattle.std.specs.IoError.{error_kind}
 use Rattle.std.specs.declared.io.Error.{Error}
 use Rattle.std.specs.declared.io.ErrorKind.TheVariants.{OutOfMemory}
-use Rattle.line_protocol.specs.Runs.{AppendsFront, ConsumesAtMost}
+use Rattle.filter_commands.specs.Evaluation.{IsCut}
+use Rattle.line_protocol.specs.Runs.{ConsumesAtMost}
 use Rattle.line_protocol.specs.declared.faults.StreamFault.{StreamFault}
 use Rattle.line_protocol.specs.declared.faults.StreamFault.TheVariants as fault
 use Rattle.command_line.specs.declared.aid_words.Source.{Source}
@@ -47,6 +48,18 @@ LeavesInput limit (unread.Broken reason) known left = ⊥
 LeavesInput limit unread.Input known left = ConsumesAtMost (limit + 1) known left
 LeavesInput limit unread.Memory known left = ConsumesAtMost (limit + 1) known left
 
+-- Standard error was told that a source was not read: of a file with a reason. `told` is what it held, `tells` what it holds now.
+abbrev pub TellsUnread : Source → Unread → Option (List ℕ) → Option (List ℕ) → Type 0
+TellsUnread source (unread.Broken reason) told tells = (words : List ℕ) × Appends told tells (unread_line source words)
+TellsUnread source unread.Input told tells = ⊥
+TellsUnread source unread.Memory told tells = ⊥
+
+-- It was not told, or not whole, and this is the fault that comes of it: standard input that fails is E1, and refused memory is E3.
+abbrev pub StopsTelling : StreamFault → Source → Unread → Option (List ℕ) → Option (List ℕ) → Type 0
+StopsTelling ended source (unread.Broken reason) told tells = (words : List ℕ) × IsCut ended told tells (unread_line source words)
+StopsTelling ended source unread.Input told tells = (ended ≡ fault.Read) × (tells ≡ told)
+StopsTelling ended source unread.Memory told tells = (ended ≡ fault.Memory) × (tells ≡ told)
+
 -- `opens name` says what may come of opening a file of this name: what it has to read, or why there is none.
 module _ (opens : List ℕ → Result (Option (List ℕ)) Error → Type 0) where
   -- A file of this name was opened and read.
@@ -67,26 +80,3 @@ module _ (opens : List ℕ → Result (Option (List ℕ)) Error → Type 0) wher
   abbrev pub IsUnread : ℕ → Source → Unread → Option (List ℕ) → Option (List ℕ) → Type 0
   IsUnread limit Input why known left = LeavesInput limit why known left
   IsUnread limit (File name) why known left = (left ≡ known) × LeavesFile (string_bytes name) why
-
-  -- A file was not read, and standard error was told its name and a reason. `told` is what standard error held, `tells` what it
-  -- holds now.
-  pub record TellsUnread (limit : ℕ) (source : Source) (known left told tells : Option (List ℕ)) : Type 0 where
-    pub reason : Error
-    pub is_unread : IsUnread limit source (unread.Broken reason) known left
-    pub words : List ℕ
-    pub line : Appends told tells (unread_line source words)
-
-  -- A source was read, and nothing was said; or standard error was told that it was not.
-  abbrev pub Takes : ℕ → Source → Option (List ℕ) → Option (List ℕ) → Option (List ℕ) → Option (List ℕ) → Option (List ℕ) → Type 0
-  Takes limit source (Some text) known left told tells = IsRead limit source text known left × (tells ≡ told)
-  Takes limit source None known left told tells = TellsUnread limit source known left told tells
-
-  -- A fault kept a source from being read, or from being told of: standard input failed, standard error took a front of the line, or
-  -- memory was refused.
-  abbrev pub StopsTaking : StreamFault → ℕ → Source → Option (List ℕ) → Option (List ℕ) → Option (List ℕ) → Option (List ℕ) → Type 0
-  StopsTaking fault.Read limit source known left told tells = IsUnread limit source unread.Input known left × (tells ≡ told)
-  StopsTaking fault.Write limit source known left told tells = (reason : Error) × IsUnread limit source (unread.Broken reason) known left
-      × (words : List ℕ) × AppendsFront told tells (unread_line source words)
-  StopsTaking fault.Memory limit source known left told tells =
-      ((why : Unread) × IsUnread limit source why known left) × Appends told tells []
-  StopsTaking fault.TooLong limit source known left told tells = ⊥

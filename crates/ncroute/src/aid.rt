@@ -17,7 +17,7 @@ ghost use Rattle.ncroute.specs.Reading.{name_of};
 use crate::domain::carry_out_domain;
 use crate::replay::{REPLAY_LIMIT, replay_text};
 use crate::serve::{FAILED, report_fault, status_of};
-use crate::texts::{Folder, name_of, take_source};
+use crate::texts::{Folder, name_of, read_source, tell_unread};
 use crate::watcher::Teller;
 use command_line::{Aid, Checking, Source};
 use filter_commands::ProgramFault;
@@ -75,13 +75,15 @@ fn check_one<F: Folder, R: Read, W: Write, E: Write>(
         (record { reads = R.remaining reader.old; holds = W.contents writer.old; tells = E.contents errors.old })
         (record { reads = R.remaining reader.new; holds = W.contents writer.new; tells = E.contents errors.new })) }
 {
-    match take_source(files, alloc, source, SOURCE_LIMIT, reader, errors) {
-        Ok(Some(text)) => {
+    match read_source(files, alloc, source, SOURCE_LIMIT, reader) {
+        Ok(text) => {
             let name = name_of(source);
             check_read(alloc, how, name, text.as_slice(), writer, errors)
         }
-        Ok(None) => Ok(true),
-        Err(fault) => Err(fault),
+        Err(why) => {
+            tell_unread(alloc, errors, source, why)?;
+            Ok(true)
+        }
     }
 }
 
@@ -213,8 +215,8 @@ fn try_filter<F: Folder, R: Read, W: Write, E: Write>(
         (record { reads = R.remaining reader.old; holds = W.contents writer.old; tells = E.contents errors.old })
         (record { reads = R.remaining reader.new; holds = W.contents writer.new; tells = E.contents errors.new })) }
 {
-    match take_source(files, alloc, source, SOURCE_LIMIT, reader, errors) {
-        Ok(Some(text)) => {
+    match read_source(files, alloc, source, SOURCE_LIMIT, reader) {
+        Ok(text) => {
             let (text, name) = (text.as_slice(), name_of(source));
             try_text(
                 alloc,
@@ -227,8 +229,10 @@ fn try_filter<F: Folder, R: Read, W: Write, E: Write>(
                 errors,
             )
         }
-        Ok(None) => Ok(FAULT),
-        Err(fault) => Err(fault),
+        Err(why) => {
+            tell_unread(alloc, errors, source, why)?;
+            Ok(FAULT)
+        }
     }
 }
 
@@ -250,10 +254,12 @@ fn list_source<F: Folder, R: Read, W: Write, E: Write>(
         (record { reads = R.remaining reader.old; holds = W.contents writer.old; tells = E.contents errors.old })
         (record { reads = R.remaining reader.new; holds = W.contents writer.new; tells = E.contents errors.new })) }
 {
-    match take_source(files, alloc, source, SOURCE_LIMIT, reader, errors) {
-        Ok(Some(text)) => list(alloc, text.as_slice(), writer, size, is_code),
-        Ok(None) => Ok(FAULT),
-        Err(fault) => Err(fault),
+    match read_source(files, alloc, source, SOURCE_LIMIT, reader) {
+        Ok(text) => list(alloc, text.as_slice(), writer, size, is_code),
+        Err(why) => {
+            tell_unread(alloc, errors, source, why)?;
+            Ok(FAULT)
+        }
     }
 }
 
@@ -273,10 +279,12 @@ fn replay_source<F: Folder, R: Read, W: Write, E: Write>(
         (record { reads = R.remaining reader.old; holds = W.contents writer.old; tells = E.contents errors.old })
         (record { reads = R.remaining reader.new; holds = W.contents writer.new; tells = E.contents errors.new })) }
 {
-    match take_source(files, alloc, source, REPLAY_LIMIT, reader, errors) {
-        Ok(Some(text)) => replay_text(alloc, text.as_slice(), writer),
-        Ok(None) => Ok(FAULT),
-        Err(fault) => Err(fault),
+    match read_source(files, alloc, source, REPLAY_LIMIT, reader) {
+        Ok(text) => replay_text(alloc, text.as_slice(), writer),
+        Err(why) => {
+            tell_unread(alloc, errors, source, why)?;
+            Ok(FAULT)
+        }
     }
 }
 

@@ -1,11 +1,11 @@
 //! How a source is read: a file, or standard input, to its end or to a limit.
-ghost use Rattle.std.specs.Prelude.{◌≡◌, ◌<◌, ◌+◌, ◌^◌, ℕ, List, Option, Result, Ok, Err, IfOk, IfErr, OnOk, MatchResult, option_map, ⊤};
+ghost use Rattle.std.specs.Prelude.{◌≡◌, ◌<◌, ◌+◌, ◌^◌, ℕ, List, Option, Result, Ok, Err, IfOk, IfErr, OnOk, MatchResult, ⊤};
 ghost use Rattle.std.specs.Io.KnownBytes.{Appends};
 ghost use Rattle.std.specs.declared.io.Error.{Error as TheError};
 ghost use Rattle.filter_commands.specs.Evaluation.{IsCut};
 ghost use Rattle.filter_commands.specs.Faults.{stream_fault};
 ghost use Rattle.ncroute.specs.Reading.{IsCause, IsOfFile, IsRead, IsUnread, LeavesFile, LeavesInput, ReadsFile, ReadsInput, ReadsWhole};
-ghost use Rattle.ncroute.specs.Reading.{StopsTaking, Takes, name_of, unread_line};
+ghost use Rattle.ncroute.specs.Reading.{StopsTelling, TellsUnread, name_of, unread_line};
 
 use command_line::Source;
 use filter_commands::ProgramFault;
@@ -132,7 +132,7 @@ fn read_standard<R: Read>(alloc: Global, reader: &mut R, limit: usize) -> Result
 }
 
 /// Reads a source: all of it, or one byte more than the limit.
-fn read_source<F: Folder, R: Read>(
+pub fn read_source<F: Folder, R: Read>(
     files: &F,
     alloc: Global,
     source: &Source,
@@ -182,8 +182,8 @@ fn unread_line(alloc: Global, source: &Source, error: &Error) -> Result<Vec<u8>,
     Ok(line)
 }
 
-/// Tells that a source was not read.
-fn tell_unread<E: Write>(
+/// Tells that a file was not read.
+fn tell_reason<E: Write>(
     alloc: Global,
     errors: &mut E,
     source: &Source,
@@ -199,28 +199,20 @@ fn tell_unread<E: Write>(
     Ok(())
 }
 
-/// Reads a source: all of it, or one byte more than the limit. None where a file could not be read, which is told on `errors`.
-pub fn take_source<F: Folder, R: Read, E: Write>(
-    files: &F,
+/// Tells on `errors` that a source was not read. Standard input has no name to tell: its fault is handed on.
+pub fn tell_unread<E: Write>(
     alloc: Global,
-    source: &Source,
-    limit: usize,
-    reader: &mut R,
     errors: &mut E,
-) -> Result<Option<Vec<u8>>, ProgramFault>
-    requires { limit < 2 ^ 32 }
-    ensures taken { IfOk result (λ taken. Takes (F.opens files.now) limit source.now (option_map (λ text. text.items) taken)
-        (R.remaining reader.old) (R.remaining reader.new) (E.contents errors.old) (E.contents errors.new)) }
-    ensures stopped { IfErr result (λ fault. StopsTaking (F.opens files.now) (stream_fault fault) limit source.now
-        (R.remaining reader.old) (R.remaining reader.new) (E.contents errors.old) (E.contents errors.new)) }
+    source: &Source,
+    why: Unread,
+) -> Result<(), ProgramFault>
+    ensures told { OnOk result (TellsUnread source.now why (E.contents errors.old) (E.contents errors.new)) }
+    ensures stopped { IfErr result (λ fault. StopsTelling (stream_fault fault) source.now why
+        (E.contents errors.old) (E.contents errors.new)) }
 {
-    match read_source(files, alloc, source, limit, reader) {
-        Ok(text) => Ok(Some(text)),
-        Err(Unread::Broken(reason)) => {
-            tell_unread(alloc, errors, source, &reason)?;
-            Ok(None)
-        }
-        Err(Unread::Input) => Err(ProgramFault::Stream(StreamFault::Read)),
-        Err(Unread::Memory) => Err(ProgramFault::MEMORY),
+    match why {
+        Unread::Broken(reason) => tell_reason(alloc, errors, source, &reason),
+        Unread::Input => Err(ProgramFault::Stream(StreamFault::Read)),
+        Unread::Memory => Err(ProgramFault::MEMORY),
     }
 }
