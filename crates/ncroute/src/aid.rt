@@ -305,14 +305,16 @@ fn run_domain_file<F: Folder, R: Read, W: Write, E: Write>(
         (record { reads = R.remaining reader.old; holds = W.contents writer.old; tells = E.contents errors.old })
         (record { reads = R.remaining reader.new; holds = W.contents writer.new; tells = E.contents errors.new })) }
 {
-    match take_source(files, alloc, source, INPUT_LIMIT, reader, errors) {
-        Ok(Some(text)) => {
+    match read_source(files, alloc, source, INPUT_LIMIT, reader) {
+        Ok(text) => {
             let mut script = text.as_slice();
             let name = name_of(source);
             carry_out_domain(alloc, name, is_explained, &mut script, writer, errors)
         }
-        Ok(None) => Ok(FAULT),
-        Err(fault) => Err(fault),
+        Err(why) => {
+            tell_unread(alloc, errors, source, why)?;
+            Ok(FAULT)
+        }
     }
 }
 
