@@ -101,10 +101,10 @@ FAULTS = [
     ("echo 'filter a { accept }' | ncroute check --size 8 --explain always 2>/dev/full; echo $?", b"refused P2 18\n1\n"),
     ("ncroute check --size 16 --explain never examples/up_two.eval examples/no_bogons.filter 2>&1 >/dev/null; echo $?",
      b"examples/up_two.eval: refused P2 100\n1\n"),
-    ("ncroute check --size 16 examples/up_two.eval 2>&1 >/dev/null | grep -c '^examples/up_two.eval:[0-9]*:[0-9]*: .* (P2)$'", b"1\n"),
+    ("ncroute check --size 16 examples/up_two.eval 2>&1 >/dev/null | grep -c '^examples/up_two.eval:[0-9]*:[0-9]*: .* (P2)$'; echo $?", b"1\n1\n"),
     ("ncroute check --size 16 examples no_such.filter examples/no_bogons.filter 2>&1 >/dev/null; echo $?",
      b"examples: Is a directory (E1)\nno_such.filter: No such file or directory (E1)\n1\n"),
-    ("ncroute check --size 16 no_such.filter examples/no_bogons.filter 2>/dev/null | grep -c verified", b"1\n"),
+    ("ncroute check --size 16 no_such.filter examples/no_bogons.filter 2>/dev/null | grep -c verified; echo $?", b"1\n1\n"),
     ("ncroute explain | head -1", b"A code is a letter and a number. The letters are:\n"),
     ("printf 'network 16 0\\n\\tload  b filter b int c; { c = 100 / rip_metric; accept; }\\ncode d 00\\nload\\n' | ncroute run --explain always 2>&1 >/dev/null; echo $?",
      b"<stdin>:2:36: instruction 4: the divisor may be 0: it is 0..16 here (V3)\n\tload  b filter b int c; { c = 100 / rip_metric; accept; }\n\t"

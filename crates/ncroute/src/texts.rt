@@ -169,20 +169,43 @@ fn reason_in(words: &str) -> &str {
     }
 }
 
-/// The line that tells that a source was not read.
-fn unread_line(alloc: Global, source: &Source, error: &Error) -> Result<Vec<u8>, AllocError>
-    ensures { IfOk result (λ line. (words : List ℕ) × (line.items ≡ unread_line source.now words)) }
+/// The line that tells that a source was not read, with the words of the reason.
+fn unread_line(alloc: Global, source: &Source, words: &str) -> Result<Vec<u8>, AllocError>
+    ensures { IfOk result (λ line. line.items ≡ unread_line source.now words.now) }
 {
-    let words = format!(in alloc; "{error}")?;
     let mut line = Vec::new(alloc);
     line.extend_from_slice(name_of(source))?;
     line.extend_from_slice(b": ")?;
-    line.extend_from_slice(reason_in(words.as_str()).as_bytes())?;
+    line.extend_from_slice(words.as_bytes())?;
     line.extend_from_slice(b" (E1)\n")?;
     Ok(line)
 }
 
-/// Tells that a file was not read.
+/// Writes a line.
+fn write_line<E: Write>(errors: &mut E, line: &[u8]) -> Result<(), ProgramFault>
+    ensures ok { OnOk result (Appends (E.contents errors.old) (E.contents errors.new) line.now) }
+    ensures err { IfErr result (λ fault. IsCut (stream_fault fault) (E.contents errors.old) (E.contents errors.new) line.now) }
+{
+    write_text(errors, line)?;
+    Ok(())
+}
+
+/// Tells that a file was not read, with the words of the reason.
+fn tell_words<E: Write>(
+    alloc: Global,
+    errors: &mut E,
+    source: &Source,
+    words: &str,
+) -> Result<(), ProgramFault>
+    ensures ok { OnOk result (Appends (E.contents errors.old) (E.contents errors.new) (unread_line source.now words.now)) }
+    ensures err { IfErr result (λ fault.
+        IsCut (stream_fault fault) (E.contents errors.old) (E.contents errors.new) (unread_line source.now words.now)) }
+{
+    let line = unread_line(alloc, source, words)?;
+    write_line(errors, line.as_slice())
+}
+
+/// Tells that a file was not read, and the reason in the error.
 fn tell_reason<E: Write>(
     alloc: Global,
     errors: &mut E,
@@ -194,9 +217,8 @@ fn tell_reason<E: Write>(
     ensures err { IfErr result (λ fault. (words : List ℕ)
         × IsCut (stream_fault fault) (E.contents errors.old) (E.contents errors.new) (unread_line source.now words)) }
 {
-    let line = unread_line(alloc, source, error)?;
-    write_text(errors, line.as_slice())?;
-    Ok(())
+    let words = format!(in alloc; "{error}")?;
+    tell_words(alloc, errors, source, reason_in(words.as_str()))
 }
 
 /// Tells on `errors` that a source was not read. Standard input has no name to tell: its fault is handed on.
