@@ -3,7 +3,8 @@ use Rattle.std.proofs.Common.{◌≡◌, ℕ, zero, suc, ◌+◌, ◌||◌, Bool
 use Rattle.std.specs.Prelude.{slice_get}
 use Rattle.std.specs.declared.io.Error.{Error}
 use Rattle.line_protocol.specs.declared.faults.StreamFault.{StreamFault}
-use Rattle.ncroute.specs.Helping.{ChecksFirst, ChecksOne, ChecksSome, IsCutOne, Streams}
+use Rattle.ncroute.specs.Helping.{ChecksFirst, ChecksOne, ChecksSome, IsCutOne}
+use Rattle.ncroute.specs.Streaming.{Streams}
 use Rattle.command_line.specs.declared.aid_words.Checking.{Checking}
 use Rattle.command_line.specs.declared.aid_words.Source.{Source}
 

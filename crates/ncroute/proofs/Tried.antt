@@ -7,7 +7,8 @@ use Rattle.filter_tools.specs.Filtering.{Filters}
 use Rattle.filter_tools.specs.Telling.{Explains, IsCutExplanation}
 use Rattle.filter_tools.specs.declared.filter.Filtered.{Filtered}
 use Rattle.filter_tools.specs.declared.filter.Filtered.TheVariants.{Refused}
-use Rattle.ncroute.specs.Helping.{StopsTrying, Streams, TriesText, status_of_filter, told_refusal}
+use Rattle.ncroute.specs.Helping.{StopsTrying, TriesText, status_of_filter, told_refusal}
+use Rattle.ncroute.specs.Streaming.{Streams}
 
 module _ (size : ℕ) (name text : List ℕ) (is_explained : Bool) (before after : Streams) (filtered : Filtered)
     (answered : IfSome before.reads (λ input. Filters size text input after.reads before.holds after.holds filtered)) where
