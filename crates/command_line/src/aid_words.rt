@@ -242,7 +242,7 @@ Each command is answered on standard output before more input is read:
 Example:
   printf 'domain 3\\nlink 0 1\\nlink 1 2\\nroute 0 2\\n' | ncroute domain
 prints `ok` three times and `route 2 via 1`. The exit status is 0; 1 if a command
-was refused or a fault ended the run; 2 if the command line is wrong.
+was refused; 2 if the command line is wrong; 3 if a fault ended the run.
 ";
 
 /// The command `explain`.

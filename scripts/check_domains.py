@@ -1,7 +1,7 @@
 #!/usr/bin/env python3
-"""Has `ncroute domain` and the slow program answer random scripts of a domain, and compares every answer.
+"""Has `ncroute domain` and the slow program answer random scripts of a domain, and compares every answer. The last line is 'N passed, M failed'.
 
-usage: random_domains.py SCRIPTS [SEED]        (NCROUTE=PATH: the program; without it, the sources as they are, by `rt try`)
+usage: scripts/check_domains.py [SCRIPTS [SEED]]        (100 scripts; NCROUTE=PATH: the program; without it, the sources as they are, by `rt try`)
 
 A script has 2 to 9 nodes and 20 to 80 lines: links, cuts, filters, questions about rest, `settle`, and now and then a node or a name that is none.
 Of `load` only the first word of the answer is compared: the slow program verifies no filter. A script that the two answer differently is written to
@@ -12,10 +12,9 @@ import subprocess
 import sys
 
 sys.dont_write_bytecode = True
-HERE = os.path.dirname(os.path.abspath(__file__))
-SCRIPTS = os.path.join(HERE, "..", "scripts")
-sys.path[:0] = [HERE, SCRIPTS]
 import program  # noqa: E402
+
+sys.path.append(os.path.join(program.TOP, "bench"))
 from generate import Numbers  # noqa: E402
 
 FILTERS = (
@@ -77,16 +76,17 @@ def answers(text):
 
 
 def main(words):
-    if not 1 <= len(words) <= 2:
+    if len(words) > 2:
         sys.exit(__doc__)
-    numbers = Numbers(int(words[1]) if len(words) == 2 else 1)
-    scripts = [("\n".join(Lines(numbers, numbers.within(2, 9)).script()) + "\n").encode() for _ in range(int(words[0]))]
+    count, seed = (int(word) for word in (words + ["100", "1"][len(words):]))
+    numbers = Numbers(seed)
+    scripts = [("\n".join(Lines(numbers, numbers.within(2, 9)).script()) + "\n").encode() for _ in range(count)]
     asked = program.Program()
     said = asked.runs([("ncroute domain", script) for script in scripts])
     asked.close()
     failed = 0
     for number, (script, (output, _)) in enumerate(zip(scripts, said)):
-        slow = subprocess.run([sys.executable, os.path.join(SCRIPTS, "domain_oracle.py")], input=script, capture_output=True, check=True).stdout
+        slow = subprocess.run([sys.executable, os.path.join(program.TOP, "scripts", "domain_oracle.py")], input=script, capture_output=True, check=True).stdout
         if answers(output) != answers(slow):
             failed += 1
             sys.stderr.write(f"script {number}\n{script.decode()}\nanswered\n{output.decode()}\nslowly\n{slow.decode()}\n")
