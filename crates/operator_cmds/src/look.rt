@@ -130,9 +130,9 @@ fn told_entries(entries: &[Entry], from: u32) -> &[Entry]
     ensures value { result.now ≡ spec.told_entries entries.now from }
     ensures within { from + length result.now ≤ 2 ^ 32 }
 {
-    let first = entries.len().min(from as usize);
+    let first = (from as usize).min(entries.len());
     let rest = &entries[first..];
-    &rest[..rest.len().min(HISTORY_COUNT)]
+    &rest[..HISTORY_COUNT.min(rest.len())]
 }
 
 /// Adds what stands before an entry, where so many were told before it.
