@@ -205,22 +205,22 @@ looks_at_the_tie : Runs AnswersLine (script_at (Open (tie_after 6)))
     ∷ []) (script_at (Open (tie_after 6)))
 unfolding verb_in number_in decimal_value digits best_by pass texts_below
 looks_at_the_tie =
-    let open : StageView = Open (tie_after 6) in (
-      script_at open,
+    let tied : StageView = Open (tie_after 6) in (
+      script_at tied,
       (refl, stays _),
       (
-        script_at open,
+        script_at tied,
         (refl, stays _),
         (
-          script_at open,
+          script_at tied,
           (refl, stays _),
           (
-            script_at open,
+            script_at tied,
             (refl, stays _),
             (
-              script_at open,
+              script_at tied,
               (refl, stays _),
-              (script_at open, (refl, stays _), refl),
+              (script_at tied, (refl, stays _), refl),
             ),
           ),
         ),
