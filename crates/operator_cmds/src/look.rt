@@ -1,9 +1,7 @@
 //! What a script answers to a command that looks at its router.
-ghost use Rattle.std.specs.Prelude.{◌≡◌, ◌++◌, ◌<◌, ◌≤◌, ◌+◌, ◌^◌, IfOk, OnOk, OnErr, drop, length, map, take};
+ghost use Rattle.std.specs.Prelude.{◌≡◌, ◌++◌, ◌<◌, ◌≤◌, ◌+◌, ◌^◌, true, IfOk, OnOk, OnErr, length, map};
 ghost use Rattle.std.specs.Io.{StartsWith};
 ghost use Rattle.history_file.specs.Views.{entry_view};
-ghost use Rattle.netchange_core.specs.Calls.{session_of};
-ghost use Rattle.operator_cmds.specs.Limits.{history_count};
 ghost use Rattle.operator_cmds.specs.Looks as spec;
 ghost use Rattle.operator_cmds.specs.Replies.{Adds, answered};
 
