@@ -123,7 +123,6 @@ pub fn answer_look(
 }
 
 /// The entries from a position on, as many as are told at once.
-#[tactic(auto, using(std::proofs::lemmas::List::drop_min, std::proofs::lemmas::List::take_min))]
 fn told_entries(entries: &[Entry], from: u32) -> &[Entry]
     requires { length entries.now < 2 ^ 32 }
     ensures value { result.now ≡ spec.told_entries entries.now from }
