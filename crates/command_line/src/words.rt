@@ -287,6 +287,10 @@ Standard input is commands, one a line. Empty lines and lines that begin with # 
   recv W V D             neighbour W told distance D to node V
   take W                 take the messages that wait for neighbour W
   show V                 the route to node V
+  routes                 the route to each node
+  neighbours             the up neighbours, with their present sessions
+  told W                 what neighbour W told, and what its import filter made of it
+  history FROM           the history from entry FROM on, at most 100 entries
 
 Each command is answered on standard output before more input is read:
   ok                     network, prefix
@@ -295,6 +299,10 @@ Each command is answered on standard output before more input is read:
   done C                 import, export, down, recv: C distances changed
   messages V:D V:D ..    take
   route D local, route D via W, route D none
+  routes V:D:W V:D:W ..  and `V:D` where there is no next hop
+  neighbours W:S W:S ..
+  told V:D V:D>E ..      the filter made E of distance D
+  history ENTRY | ENTRY ..
   refused CODE AT        the command was refused, and nothing changed:
     O1 to O8     the command is wrong (AT is the number of its line)
     N1 to N7     the router refused it (AT is its position in the history)

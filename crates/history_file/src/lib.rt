@@ -15,4 +15,4 @@ pub use fault::HistoryFault;
 pub use history::{SavedHistory, read_history};
 pub use laws::one_history;
 pub use verdict::{Verdict, judge, push_verdict};
-pub use writing::{write_entry, write_opening};
+pub use writing::{push_entry, write_entry, write_opening};

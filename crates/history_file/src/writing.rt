@@ -187,7 +187,7 @@ pub(crate) fn push_reply(out: &mut Vec<u8>, reply: &Reply) -> Result<(), AllocEr
 }
 
 /// Adds the line of an entry at its position, without a line feed.
-pub(crate) fn push_entry(
+pub fn push_entry(
     alloc: Global,
     out: &mut Vec<u8>,
     at: u32,

@@ -12,9 +12,11 @@ use crate::sessions::Present;
 
 /// The distance to a node, and through whom the route goes.
 #[derive(Clone, Copy, Debug)]
-pub(crate) struct BestRoute {
-    pub(crate) dist: u16,
-    pub(crate) via: Via,
+pub struct BestRoute {
+    /// The distance: the size of the domain where there is no route.
+    pub dist: u16,
+    /// Through whom.
+    pub via: Via,
 }
 
 /// How far a neighbour is from the node, where one of them is now at another distance.

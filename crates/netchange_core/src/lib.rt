@@ -23,6 +23,7 @@ mod take;
 mod telling;
 mod up;
 
+pub use best_route::BestRoute;
 pub use event::Event;
 pub use filter::pass;
 pub use laws::best_route_leads;

@@ -1,9 +1,12 @@
 //! The tables of a router.
 
-ghost use Rattle.std.specs.Prelude.{◌≡◌, ◌≤◌, IfOk, OnErr, length};
+ghost use Rattle.std.specs.Prelude.{◌≡◌, ◌<◌, ◌≤◌, IfOk, OnErr, length, slice_index};
+ghost use Rattle.netchange_core.specs.Best.{best, neighbour_distance};
 ghost use Rattle.netchange_core.specs.Calls.{MayNeedMemory, carried, opened, queued_of, room_of, session_of};
 ghost use Rattle.netchange_core.specs.Next.{answered, next};
+ghost use Rattle.netchange_core.specs.World.{neighbour_at};
 
+use crate::best_route::BestRoute;
 use crate::destination::{Destination, make_destinations};
 use crate::event::Event;
 use crate::handle::handle;
@@ -82,12 +85,40 @@ impl Tables {
 
     /// The present session of a node; 0 where it is no up neighbour.
     pub fn session(&self, node: u16) -> u32
-        ensures { result ≡ session_of self.now node }
+        ensures value { result ≡ session_of self.now node }
+        // Only a node of the domain is up.
+        ensures within { 0 < result → node < self.now.opening.size }
     {
         match self.neighbours.get(usize::from(node)) {
             Some(neighbour) => neighbour.session,
             None => 0,
         }
+    }
+
+    /// The best route to a node.
+    pub fn route(&self, dest: u16) -> BestRoute
+        requires { dest < self.now.opening.size }
+        ensures { result ≡ best self.now dest }
+    {
+        self.destinations[usize::from(dest)].route
+    }
+
+    /// The distance to a node that another told last in its present session; the size of the domain where it told none.
+    pub fn told(&self, node: u16, dest: u16) -> u16
+        requires node { node < self.now.opening.size }
+        requires dest { dest < self.now.opening.size }
+        ensures { result ≡ slice_index (neighbour_at self.now.neighbours node).raw dest }
+    {
+        self.neighbours[usize::from(node)].raw[usize::from(dest)]
+    }
+
+    /// How far a node is from another, as that told and after its import filter; the size of the domain where it is not up.
+    pub fn heard(&self, node: u16, dest: u16) -> u16
+        requires node { node < self.now.opening.size }
+        requires dest { dest < self.now.opening.size }
+        ensures { result ≡ neighbour_distance self.now.opening dest (neighbour_at self.now.neighbours node) }
+    {
+        self.destinations[usize::from(dest)].distances[usize::from(node)]
     }
 
     /// What the router was opened with.

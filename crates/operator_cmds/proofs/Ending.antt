@@ -1,6 +1,6 @@
 -- A script ends where its input does: no answer ends it before.
 use Rattle.std.proofs.Common.{◌≡◌, ℕ, ◌==◌, Bool, true, false, ◌||◌, List, [], ◌∷◌, length, Option, Some, None, Ok, Err, Global, refl, subst, ap, ◌∙◌, inl, inr, nat_lt}
-use Rattle.std.specs.Prelude.{MatchBool}
+use Rattle.std.specs.Prelude.{MatchBool, codes, if◌then◌else◌}
 use Rattle.std.specs.BTreeMap.{BTreeMap, is_at}
 use Rattle.std.specs.Cmp.Lexicographic.{slice_cmp}
 use Rattle.std.specs.Map.{lookup}
@@ -20,14 +20,15 @@ use Rattle.netchange_core.specs.declared.event.Event.TheVariants as event
 use Rattle.netchange_core.specs.declared.reply.Reply.{Reply}
 use Rattle.netchange_core.specs.declared.reply.Reply.TheVariants as reply
 use Rattle.route_history.specs.JournalView.{JournalView}
-use Rattle.operator_cmds.specs.CommandView.{CommandView, Network, Prefix, Load, Code, Import, Export, Up, Down, Receive, Take, Show}
+use Rattle.operator_cmds.specs.CommandView.{CommandView, Network, Prefix, Load, Code, Import, Export, Up, Down, Receive, Take, Show, Look, History}
 use Rattle.operator_cmds.specs.Commands.{Read, command_in}
 use Rattle.operator_cmds.specs.Limits.{number_limit}
-use Rattle.operator_cmds.specs.Replies.{reply_answer}
+use Rattle.operator_cmds.specs.Looks.{can_look, look_text}
+use Rattle.operator_cmds.specs.Replies.{answered, refused, reply_answer}
 use Rattle.operator_cmds.specs.Running.{IsBrokenOff, IsCarriedOut}
 use Rattle.operator_cmds.specs.Script
 use Rattle.operator_cmds.specs.Script.{AnswersLine, ScriptView, fresh}
-use Rattle.operator_cmds.specs.Stages.{StageView, Empty, Setting, Open, new_journal, session_in}
+use Rattle.operator_cmds.specs.Stages.{StageView, Empty, Setting, Open, journal_in, new_journal, session_in}
 use Rattle.operator_cmds.specs.State.{filter_at}
 use Rattle.operator_cmds.proofs.Naming.{Key}
 
@@ -37,6 +38,15 @@ GoesOn answer = is_end answer.reply ≡ false
 
 like : (answer other : Answer) → answer ≡ other → GoesOn other → GoesOn answer
 like answer other e h = ap (λ (a : Answer). is_end a.reply) e ∙ h
+
+given : (b : Bool) (text code : List ℕ) (at : ℕ) → GoesOn (if b then answered text else refused code at)
+given true text code at = refl
+given false text code at = refl
+
+looking : (found : Option JournalView) (number : ℕ) (look : JournalView → Answer) → ((journal : JournalView) → GoesOn (look journal))
+    → GoesOn (Script.told_by found number look)
+looking None number look h = refl
+looking (Some journal) number look h = h journal
 
 module _ (before : ScriptView) (answer : Answer) (after : ScriptView) where
   network : (stage : StageView) (number size me : ℕ) (limit : Option ℕ)
@@ -107,6 +117,11 @@ module _ (before : ScriptView) (answer : Answer) (after : ScriptView) where
       happening before.stage number (event.Receive (session_in before.stage node) dest dist) h
   command number (Take node) h = happening before.stage number (event.Take (session_in before.stage node) number_limit) h
   command number (Show node) h = happening before.stage number (event.Show node) h
+  command number (Look look) h =
+      like answer _ h.0
+      (looking (journal_in before.stage) number _ (λ journal.
+      let w = Script.tables_of journal in given (can_look w look) (look_text w look) (codes "O2") number))
+  command number (History from) h = like answer _ h.0 (looking (journal_in before.stage) number _ (λ journal. refl))
 
   read : (number : ℕ) (r : Read) → Script.AnswersRead before number r answer after → GoesOn answer
   read number (Ok c) h = command number c h

@@ -7,7 +7,7 @@ use Rattle.line_protocol.specs.Limits.{line_limit}
 use Rattle.line_protocol.specs.Words.{words}
 use Rattle.prefix_patterns.specs.Number.{decimal_value}
 use Rattle.prefix_patterns.specs.Reading.{is_digits, number_in, prefix_in}
-use Rattle.operator_cmds.specs.CommandView.{CommandView, Network, Load, Import, Export, Up, Down, Take, Show}
+use Rattle.operator_cmds.specs.CommandView.{CommandView, Network, Load, Import, Export, Up, Down, Take, Show, Look, History}
 use Rattle.operator_cmds.specs.Commands
 use Rattle.operator_cmds.specs.Commands.{Read, is_network}
 use Rattle.operator_cmds.specs.Domain.{HasFitNumbers}
@@ -15,6 +15,8 @@ use Rattle.operator_cmds.specs.Limits.{number_limit, largest_limit}
 use Rattle.operator_cmds.specs.Names.{is_name}
 use Rattle.operator_cmds.specs.Verbs.{verb_in}
 use Rattle.operator_cmds.specs.WordLists.{one_of, two_of, three_of}
+use Rattle.operator_cmds.specs.declared.command.Look.{Look as TablesLook}
+use Rattle.operator_cmds.specs.declared.command.Look.TheVariants as look
 use Rattle.operator_cmds.specs.declared.fault.CommandFault.{CommandFault}
 use Rattle.operator_cmds.specs.declared.fault.CommandFault.TheVariants as fault
 use Rattle.operator_cmds.specs.declared.verb.Verb.{Verb}
@@ -116,6 +118,10 @@ receive_fits (Some (node, dest, dist)) =
     parts (Some n) (Some v) None = tt
     parts (Some n) (Some v) (Some d) = tt
 
+alone_fits : (what : TablesLook) (args : List (List ℕ)) → Fits (Commands.alone_of what args)
+alone_fits what [] = tt
+alone_fits what (word ∷ more) = tt
+
 command_fits : (v : Option Verb) (args : List (List ℕ)) (text : List ℕ) → Fits (Commands.command_of v args text)
 command_fits None args text = tt
 command_fits (Some verb.Network) args text = domain_fits args
@@ -129,6 +135,10 @@ command_fits (Some verb.Down) args text = made_fits Down (Commands.node_in (one_
 command_fits (Some verb.Receive) args text = receive_fits (three_of args)
 command_fits (Some verb.Take) args text = made_fits Take (Commands.node_in (one_of args)) (λ n. tt)
 command_fits (Some verb.Show) args text = made_fits Show (Commands.node_in (one_of args)) (λ n. tt)
+command_fits (Some verb.Routes) args text = alone_fits look.Routes args
+command_fits (Some verb.Neighbours) args text = alone_fits look.Neighbours args
+command_fits (Some verb.Told) args text = made_fits (λ n. Look (look.Told n)) (Commands.node_in (one_of args)) (λ n. tt)
+command_fits (Some verb.History) args text = made_fits History (Commands.position_in (one_of args)) (λ n. tt)
 
 words_fit : (all : List (List ℕ)) (text : List ℕ) → Fits (Commands.command_of_words all text)
 words_fit [] text = tt

@@ -3,6 +3,7 @@ pub mod Openings
 pub mod Naming
 pub mod Sourced
 pub mod Entering
+pub mod Growing
 pub mod Viewed
 pub mod Ending
 mod Rows

@@ -1,5 +1,5 @@
 -- Worked rows of the definitions, computed.
-use Rattle.std.proofs.Common.{◌≡◌, ℕ, List, [], ◌∷◌, None, Ok, Err, take, refl}
+use Rattle.std.proofs.Common.{◌≡◌, ℕ, List, [], ◌∷◌, ◌++◌, None, Ok, Err, take, refl}
 use Rattle.std.specs.Fmt.{digits}
 use Rattle.std.specs.Prelude.{codes}
 use Rattle.hex.specs.Hex.{decode_pairs}
@@ -19,10 +19,12 @@ use Rattle.route_history.specs.declared.entry.Entry.{Entry}
 use Rattle.operator_cmds.specs.CommandView.{Load, Receive}
 use Rattle.operator_cmds.specs.Commands.{command_in}
 use Rattle.operator_cmds.specs.Domain.{default_opening}
+use Rattle.operator_cmds.specs.Looks.{looked, texts_below, told_text}
 use Rattle.operator_cmds.specs.Replies.{answered, refused}
-use Rattle.operator_cmds.specs.Script.{AnswersLine, Keeps, MovesTo, ScriptView, fresh}
-use Rattle.operator_cmds.specs.Stages.{StageView, Setting, Open}
+use Rattle.operator_cmds.specs.Script.{AnswersLine, Keeps, MovesTo, ScriptView, fresh, tables_of}
+use Rattle.operator_cmds.specs.Stages.{StageView, Setting, Open, new_journal}
 use Rattle.operator_cmds.specs.Verbs.{verb_in}
+use Rattle.operator_cmds.specs.declared.command.Look.TheVariants.{Routes}
 use Rattle.operator_cmds.specs.declared.fault.CommandFault.TheVariants as fault
 
 -- ---- what a line gives: the first fault in the order of the O codes
@@ -177,6 +179,48 @@ refused_lines =
               script_at setting,
               (refl, stays _),
               (script_at setting, (refl, stays _), refl),
+            ),
+          ),
+        ),
+      ),
+    )
+
+-- ---- looks
+
+-- before the first event a router knows itself alone
+first_look : looked (tables_of (new_journal (default_opening 4 1) 9)) 3 Routes ≡ answered (codes "routes 0:4 1:0 2:4 3:4")
+unfolding digits best_by pass texts_below
+first_look = refl
+
+-- what a filter made of a distance stands behind it, where that is another
+filtered : told_text 1 0 2 ++ told_text 2 3 3 ≡ codes " 1:0>2 2:3"
+unfolding digits
+filtered = refl
+
+-- looks after the tie: two neighbours are up, nodes 0 and 3 are known, and a look is no entry
+looks_at_the_tie : Runs AnswersLine (script_at (Open (tie_after 6)))
+    (numbered (codes "routes\nneighbours\ntold 1\ntold 3\nhistory 4\nhistory 6\n"))
+    (answered (codes "routes 0:0 1:4 2:4 3:2:1") ∷ answered (codes "neighbours 1:1 2:2") ∷ answered (codes "told 0:4 1:4 2:4 3:1")
+    ∷ refused (codes "O2") 4 ∷ answered (codes "history 4 recv 1 3 1 done 0 | 5 show 3 route 2 via 1") ∷ answered (codes "history")
+    ∷ []) (script_at (Open (tie_after 6)))
+unfolding verb_in number_in decimal_value digits best_by pass texts_below
+looks_at_the_tie =
+    let tied : StageView = Open (tie_after 6) in (
+      script_at tied,
+      (refl, stays _),
+      (
+        script_at tied,
+        (refl, stays _),
+        (
+          script_at tied,
+          (refl, stays _),
+          (
+            script_at tied,
+            (refl, stays _),
+            (
+              script_at tied,
+              (refl, stays _),
+              (script_at tied, (refl, stays _), refl),
             ),
           ),
         ),

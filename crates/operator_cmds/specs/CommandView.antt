@@ -2,6 +2,7 @@
 use Rattle.std.specs.Prelude.{ℕ, Bool, List, Option}
 use Rattle.operator_cmds.specs.declared.command.Command.{Command}
 use Rattle.operator_cmds.specs.declared.command.Command.TheVariants as command
+use Rattle.operator_cmds.specs.declared.command.Look.{Look as TablesLook}
 
 -- names, texts and files are lists of bytes, and a prefix is its bits
 pub data CommandView : Type 0 where
@@ -24,6 +25,9 @@ pub data CommandView : Type 0 where
   -- a node
   Take : ℕ → CommandView
   Show : ℕ → CommandView
+  Look : TablesLook → CommandView
+  -- a position
+  History : ℕ → CommandView
 
 abbrev pub view_of : Command → CommandView
 view_of (command.Network size me limit) = Network size me limit
@@ -37,3 +41,5 @@ view_of (command.Down node) = Down node
 view_of (command.Receive node dest dist) = Receive node dest dist
 view_of (command.Take node) = Take node
 view_of (command.Show node) = Show node
+view_of (command.Look look) = Look look
+view_of (command.History from) = History from

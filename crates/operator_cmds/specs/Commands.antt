@@ -6,11 +6,13 @@ use Rattle.hex.specs.declared.error.FromHexError.{FromHexError}
 use Rattle.line_protocol.specs.Limits.{line_limit}
 use Rattle.line_protocol.specs.Words.{words, without_front_blanks}
 use Rattle.prefix_patterns.specs.Reading.{number_in, prefix_in}
-use Rattle.operator_cmds.specs.CommandView.{CommandView, Network, Prefix, Load, Code, Import, Export, Up, Down, Receive, Take, Show}
+use Rattle.operator_cmds.specs.CommandView.{CommandView, Network, Prefix, Load, Code, Import, Export, Up, Down, Receive, Take, Show, Look, History}
 use Rattle.operator_cmds.specs.Limits.{number_limit, largest_limit}
 use Rattle.operator_cmds.specs.Names.{is_name}
 use Rattle.operator_cmds.specs.Verbs.{verb_in}
 use Rattle.operator_cmds.specs.WordLists.{after_word, one_of, two_of, three_of}
+use Rattle.operator_cmds.specs.declared.command.Look.{Look as TablesLook}
+use Rattle.operator_cmds.specs.declared.command.Look.TheVariants as look
 use Rattle.operator_cmds.specs.declared.fault.CommandFault.{CommandFault}
 use Rattle.operator_cmds.specs.declared.fault.CommandFault.TheVariants as fault
 use Rattle.operator_cmds.specs.declared.verb.Verb.{Verb}
@@ -70,7 +72,7 @@ abbrev pub code_of : Option (List ℕ × List ℕ) → Read
 code_of None = Err fault.Words
 code_of (Some (name, digits)) = if is_name name then code_parts name (decode_of digits) else Err fault.Words
 
--- the number of a node that a text writes
+-- the number that a text writes
 abbrev pub number_or : Option ℕ → Result ℕ CommandFault
 number_or None = Err fault.Numbers
 number_or (Some node) = Ok node
@@ -106,6 +108,16 @@ receive_of None = Err fault.Words
 receive_of (Some (node, dest, dist)) =
     receive_parts (number_in number_limit node) (number_in number_limit dest) (number_in number_limit dist)
 
+-- `routes` and `neighbours`: nothing follows them
+abbrev pub alone_of : TablesLook → List (List ℕ) → Read
+alone_of what [] = Ok (Look what)
+alone_of what (word ∷ more) = Err fault.Words
+
+-- a position in the history, as the only word
+abbrev pub position_in : Option (List ℕ) → Result ℕ CommandFault
+position_in None = Err fault.Words
+position_in (Some from) = number_or (number_in largest_limit from)
+
 -- a command by its verb and the words after it; `text` is what follows the second word of the line, without blanks at its front
 abbrev pub command_of : Option Verb → List (List ℕ) → List ℕ → Read
 command_of None args text = Err fault.Words
@@ -120,6 +132,10 @@ command_of (Some verb.Down) args text = made Down (node_in (one_of args))
 command_of (Some verb.Receive) args text = receive_of (three_of args)
 command_of (Some verb.Take) args text = made Take (node_in (one_of args))
 command_of (Some verb.Show) args text = made Show (node_in (one_of args))
+command_of (Some verb.Routes) args text = alone_of look.Routes args
+command_of (Some verb.Neighbours) args text = alone_of look.Neighbours args
+command_of (Some verb.Told) args text = made (λ node. Look (look.Told node)) (node_in (one_of args))
+command_of (Some verb.History) args text = made History (position_in (one_of args))
 
 abbrev pub command_of_words : List (List ℕ) → List ℕ → Read
 command_of_words [] text = Err fault.Words

@@ -10,6 +10,7 @@ pub mod Readings
 pub mod Replies
 pub mod Domain
 pub mod Stages
+pub mod Looks
 pub mod Script
 pub mod Running
 -- What only bodies are proved against.

@@ -9,6 +9,10 @@ number_limit = 65535
 abbrev pub largest_limit : ℕ
 largest_limit = 1000000
 
+-- the most entries that are told at once
+abbrev pub history_count : ℕ
+history_count = 100
+
 -- the most bytes of a filter's name
 abbrev pub name_limit : ℕ
 name_limit = 64

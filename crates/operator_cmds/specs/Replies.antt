@@ -22,8 +22,12 @@ via_text via.Local = codes " local"
 via_text (via.Node w) = codes " via " ++ decimal w
 via_text via.Nowhere = codes " none"
 
+-- a node and a number that is told of it
+abbrev pub pair_text : ℕ → ℕ → List ℕ
+pair_text node number = 32 ∷ decimal node ++ 58 ∷ decimal number
+
 abbrev pub message_text : Message → List ℕ
-message_text m = 32 ∷ decimal m.dest ++ 58 ∷ decimal m.dist
+message_text m = pair_text m.dest m.dist
 
 -- the answer to an event, from the reply to it and its position in the journal
 abbrev pub reply_answer : ℕ → Reply → Answer

@@ -18,19 +18,21 @@ use Rattle.line_protocol.specs.Answers.{Answer}
 use Rattle.line_protocol.specs.declared.answers.Reply.TheVariants.{Answered}
 use Rattle.netchange_core.specs.Next.{next}
 use Rattle.netchange_core.specs.OpeningView.{OpeningView}
+use Rattle.netchange_core.specs.World.{World}
 use Rattle.netchange_core.specs.declared.event.Event.{Event}
 use Rattle.netchange_core.specs.declared.event.Event.TheVariants as event
 use Rattle.netchange_core.specs.declared.reply.Reply.{Reply}
 use Rattle.route_history.specs.Calls.{entry}
 use Rattle.route_history.specs.History.{world_of}
 use Rattle.route_history.specs.JournalView.{JournalView}
-use Rattle.operator_cmds.specs.CommandView.{CommandView, Network, Prefix, Load, Code, Import, Export, Up, Down, Receive, Take, Show}
+use Rattle.operator_cmds.specs.CommandView.{CommandView, Network, Prefix, Load, Code, Import, Export, Up, Down, Receive, Take, Show, Look, History}
 use Rattle.operator_cmds.specs.Commands.{Read, command_in}
 use Rattle.operator_cmds.specs.Domain.{default_opening, limit_or}
 use Rattle.operator_cmds.specs.Faults.{fault_code}
 use Rattle.operator_cmds.specs.Limits.{number_limit}
+use Rattle.operator_cmds.specs.Looks.{history_text, looked}
 use Rattle.operator_cmds.specs.Replies.{answered, refused, reply_answer}
-use Rattle.operator_cmds.specs.Stages.{StageView, Empty, Setting, Open, new_journal, session_in}
+use Rattle.operator_cmds.specs.Stages.{StageView, Empty, Setting, Open, journal_in, new_journal, session_in}
 
 -- how far a script has come, and the filter of each name
 pub record ScriptView : Type 0 where
@@ -175,6 +177,21 @@ AnswersUse None happens number before answer after = RefusesName before.stage nu
 AnswersUse (Some f) happens number before answer after =
     (filter : Arc VerifiedView Global) × (filter.value ≡ f) × AnswersEvent before.stage number (happens filter) before answer after
 
+-- ---- looks
+
+-- a look by the router's journal
+abbrev pub told_by : Option JournalView → ℕ → (JournalView → Answer) → Answer
+told_by None number look = refused (codes "O4") number
+told_by (Some journal) number look = look journal
+
+-- a look changes nothing, and opens no journal
+abbrev pub AnswersLook : ℕ → (JournalView → Answer) → ScriptView → Answer → ScriptView → Type 0
+AnswersLook number look before answer after = (answer ≡ told_by (journal_in before.stage) number look) × Keeps before after
+
+-- a look at the tables as they stand after all entries
+abbrev pub tables_of : JournalView → World
+tables_of journal = world_of journal.opening journal.entries
+
 -- ---- a line
 
 abbrev pub AnswersCommand : ScriptView → ℕ → CommandView → Answer → ScriptView → Type 0
@@ -197,6 +214,10 @@ AnswersCommand before number (Receive node dest dist) answer after =
 AnswersCommand before number (Take node) answer after =
     AnswersEvent before.stage number (event.Take (session_in before.stage node) number_limit) before answer after
 AnswersCommand before number (Show node) answer after = AnswersEvent before.stage number (event.Show node) before answer after
+AnswersCommand before number (Look look) answer after =
+    AnswersLook number (λ journal. looked (tables_of journal) number look) before answer after
+AnswersCommand before number (History from) answer after =
+    AnswersLook number (λ journal. answered (history_text journal.entries from)) before answer after
 
 abbrev pub AnswersRead : ScriptView → ℕ → Read → Answer → ScriptView → Type 0
 AnswersRead before number (Ok command) answer after = AnswersCommand before number command answer after

@@ -28,6 +28,12 @@ opened_stage Empty = Empty
 opened_stage (Setting opening limit) = Open (new_journal opening limit)
 opened_stage (Open journal) = Open journal
 
+-- the journal that the next event finds, if a domain is set up
+abbrev pub journal_in : StageView → Option JournalView
+journal_in Empty = None
+journal_in (Setting opening limit) = Some (new_journal opening limit)
+journal_in (Open journal) = Some journal
+
 -- the number of nodes of the domain
 abbrev pub size_in : StageView → Option ℕ
 size_in Empty = None

@@ -2,7 +2,7 @@
 use Rattle.std.specs.Prelude.{ℕ, Bool, List, [], ◌∷◌, Option, find, codes}
 use Rattle.std.specs.Str.{bytes_eq}
 use Rattle.operator_cmds.specs.declared.verb.Verb.{Verb}
-use Rattle.operator_cmds.specs.declared.verb.Verb.TheVariants.{Network, Prefix, Load, Code, Import, Export, Up, Down, Receive, Take, Show}
+use Rattle.operator_cmds.specs.declared.verb.Verb.TheVariants.{Network, Prefix, Load, Code, Import, Export, Up, Down, Receive, Take, Show, Routes, Neighbours, Told, History}
 
 -- how each is written
 abbrev pub verb_text : Verb → List ℕ
@@ -17,10 +17,15 @@ verb_text Down = codes "down"
 verb_text Receive = codes "recv"
 verb_text Take = codes "take"
 verb_text Show = codes "show"
+verb_text Routes = codes "routes"
+verb_text Neighbours = codes "neighbours"
+verb_text Told = codes "told"
+verb_text History = codes "history"
 
 -- all of them
 abbrev pub verbs : List Verb
-verbs = Network ∷ Prefix ∷ Load ∷ Code ∷ Import ∷ Export ∷ Up ∷ Down ∷ Receive ∷ Take ∷ Show ∷ []
+verbs = Network ∷ Prefix ∷ Load ∷ Code ∷ Import ∷ Export ∷ Up ∷ Down ∷ Receive ∷ Take ∷ Show ∷ Routes
+    ∷ Neighbours ∷ Told ∷ History ∷ []
 
 -- whether a verb is written so
 abbrev pub is_spelled : List ℕ → Verb → Bool

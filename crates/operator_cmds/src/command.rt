@@ -1,6 +1,17 @@
 //! A command of the script.
 use prefix_patterns::Prefix;
 
+/// A look at the tables of a router.
+#[derive(Clone, Copy, Debug, PartialEq, Eq)]
+pub enum Look {
+    /// `routes`: the route to each node.
+    Routes,
+    /// `neighbours`: the present session of each up neighbour.
+    Neighbours,
+    /// `told W`: the distance to each node that a neighbour told, and what its import filter made of it.
+    Told(u16),
+}
+
 /// One command with the words after it. Contracts see it as a `CommandView`.
 #[derive(Debug, Drop)]
 pub enum Command<'a> {
@@ -65,4 +76,8 @@ pub enum Command<'a> {
     Take(u16),
     /// `show V`: the route to a node.
     Show(u16),
+    /// A look that is no event.
+    Look(Look),
+    /// `history FROM`: the entries from a position on.
+    History(u32),
 }

@@ -5,6 +5,7 @@ mod command;
 mod event;
 mod fault;
 mod filter;
+mod look;
 mod name;
 mod read;
 mod reply;
@@ -14,7 +15,7 @@ mod verb;
 mod watch;
 mod words;
 
-pub use command::Command;
+pub use command::{Command, Look};
 pub use fault::CommandFault;
 pub use filter::{verify_file, verify_text};
 pub use name::is_name;
@@ -27,6 +28,9 @@ pub use words::{cut_word, one_word, three_words, two_words};
 
 /// A number of a command, the limit of a history excepted, is at most this.
 pub const NUMBER_LIMIT: u32 = 65_535;
+
+/// The most entries that are told at once.
+pub const HISTORY_COUNT: usize = 100;
 
 /// The most bytes of a filter's name in a script.
 pub const NAME_LIMIT: usize = 64;

@@ -8,7 +8,7 @@ ghost use Rattle.operator_cmds.specs.Readings.{IsRead, IsReadIn};
 ghost use Rattle.operator_cmds.specs.WordLists.{after_word, one_of, two_of, three_of};
 
 use crate::NUMBER_LIMIT;
-use crate::command::Command;
+use crate::command::{Command, Look};
 use crate::fault::CommandFault;
 use crate::name::is_name;
 use crate::verb::{Verb, read_verb};
@@ -172,6 +172,29 @@ fn read_node(rest: &[u8]) -> Result<u16, CommandFault>
     }
 }
 
+/// A position in the history, where nothing follows it.
+fn read_position(rest: &[u8]) -> Result<u32, CommandFault>
+    ensures { result ≡ spec.position_in (one_of (words rest.now)) }
+{
+    let Some(from) = one_word(rest) else {
+        return Err(CommandFault::Words);
+    };
+    match read_number(from, LARGEST_LIMIT) {
+        Some(from) => Ok(from),
+        None => Err(CommandFault::Numbers),
+    }
+}
+
+/// A look, where nothing follows its word.
+fn read_alone<'a>(look: Look, rest: &[u8]) -> Result<Command<'a>, CommandFault>
+    ensures { IsRead result (spec.alone_of look (words rest.now)) }
+{
+    match next_word(rest) {
+        None => Ok(Command::Look(look)),
+        Some(_) => Err(CommandFault::Words),
+    }
+}
+
 /// A `recv` command by the bytes after its first word.
 fn read_receive<'a>(rest: &[u8]) -> Result<Command<'a>, CommandFault>
     ensures { IsRead result (spec.receive_of (three_of (words rest.now))) }
@@ -213,6 +236,10 @@ fn read_rest(alloc: Global, verb: Verb, rest: &[u8]) -> Result<Command<'_>, Comm
         Verb::Receive => read_receive(rest),
         Verb::Take => Ok(Command::Take(read_node(rest)?)),
         Verb::Show => Ok(Command::Show(read_node(rest)?)),
+        Verb::Routes => read_alone(Look::Routes, rest),
+        Verb::Neighbours => read_alone(Look::Neighbours, rest),
+        Verb::Told => Ok(Command::Look(Look::Told(read_node(rest)?))),
+        Verb::History => Ok(Command::History(read_position(rest)?)),
     }
 }
 

@@ -40,15 +40,15 @@ pub fn push_via(out: &mut Vec<u8>, via: Via) -> Result<(), AllocError>
     }
 }
 
-/// Adds a message.
-fn push_message(out: &mut Vec<u8>, message: Message) -> Result<(), AllocError>
-    ensures ok { OnOk result (out.new.items ≡ out.old.items ++ spec.message_text message) }
+/// Adds a node and a number that is told of it.
+pub(crate) fn push_pair(out: &mut Vec<u8>, node: u16, number: u32) -> Result<(), AllocError>
+    ensures ok { OnOk result (out.new.items ≡ out.old.items ++ spec.pair_text node number) }
     ensures err { OnErr result (StartsWith out.new.items out.old.items) }
 {
     out.push(b' ')?;
-    push_decimal(out, u64::from(message.dest))?;
+    push_decimal(out, u64::from(node))?;
     out.push(b':')?;
-    push_decimal(out, u64::from(message.dist))
+    push_decimal(out, u64::from(number))
 }
 
 /// Adds messages, in order.
@@ -57,7 +57,7 @@ fn push_messages(out: &mut Vec<u8>, messages: &[Message]) -> Result<(), AllocErr
     ensures err { OnErr result (StartsWith out.new.items out.old.items) }
 {
     for message in messages {
-        push_message(out, *message)?;
+        push_pair(out, message.dest, u32::from(message.dist))?;
     }
     Ok(())
 }

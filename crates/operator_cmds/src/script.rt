@@ -2,10 +2,11 @@
 ghost use Rattle.std.specs.Prelude.{◌≡◌, IfErr, IfOk, IfSome};
 ghost use Rattle.operator_cmds.specs.Running.{IsBrokenOff, IsCarriedOut};
 
-use crate::command::Command;
+use crate::command::{Command, Look};
 use crate::event::enter;
 use crate::fault::{CommandFault, StateFault};
 use crate::filter::{verify_file, verify_text};
+use crate::look::{answer_history, answer_look};
 use crate::read::read_command;
 use crate::reply::{confirm, refuse};
 use crate::stage::{Setup, Stage};
@@ -60,7 +61,8 @@ impl Script {
     ghost use Rattle.netchange_core.specs.declared.event.Event.TheVariants as event;
     ghost use Rattle.operator_cmds.specs.CommandView.{view_of};
     ghost use Rattle.operator_cmds.specs.Domain.{HasFitNumbers, IsDomain};
-    ghost use Rattle.operator_cmds.specs.Replies.{Answers};
+    ghost use Rattle.operator_cmds.specs.Looks.{history_text, looked};
+    ghost use Rattle.operator_cmds.specs.Replies.{Answers, answered};
     ghost use Rattle.operator_cmds.specs.Script as spec;
     ghost use Rattle.operator_cmds.specs.Stages.{stage_of, session_in};
     ghost use Rattle.operator_cmds.specs.State.{filter_at, script_of};
@@ -118,6 +120,8 @@ impl Script {
                 self.enter(alloc, number, event, out)
             }
             Command::Show(node) => self.enter(alloc, number, Event::Show(node), out),
+            Command::Look(look) => self.look(alloc, number, look, out),
+            Command::History(from) => self.tell_history(alloc, number, from, out),
         }
     }
 
@@ -304,6 +308,50 @@ impl Script {
             Stage::Setting(_) | Stage::Open(_) => {
                 refuse(out, StateFault::UnknownFilter.code(), u64::from(number))
             }
+        }
+    }
+
+    /// Answers a look at the tables. Before the first event they are as that event will find them.
+    fn look(
+        &self,
+        alloc: Global,
+        number: u32,
+        look: Look,
+        out: &mut Vec<u8>,
+    ) -> Result<Reply, AllocError>
+        ensures ok { IfOk result (Answers (λ answer. spec.AnswersLook number (λ j. looked (spec.tables_of j) number look)
+            (script_of self.now) answer (script_of self.now)) out.old.items out.new.items) }
+        ensures err { OnErr result (StartsWith out.new.items out.old.items) }
+    {
+        match &self.stage {
+            Stage::Empty => refuse(out, StateFault::NoNetwork.code(), u64::from(number)),
+            Stage::Setting(setup) => {
+                let journal = setup.open(alloc)?;
+                answer_look(out, journal.tables(), number, look)
+            }
+            Stage::Open(journal) => answer_look(out, journal.tables(), number, look),
+        }
+    }
+
+    /// Answers a look at the history, which is empty before the first event.
+    fn tell_history(
+        &self,
+        alloc: Global,
+        number: u32,
+        from: u32,
+        out: &mut Vec<u8>,
+    ) -> Result<Reply, AllocError>
+        ensures ok { IfOk result (Answers (λ answer. spec.AnswersLook number (λ j. answered (history_text j.entries from))
+            (script_of self.now) answer (script_of self.now)) out.old.items out.new.items) }
+        ensures err { OnErr result (StartsWith out.new.items out.old.items) }
+    {
+        match &self.stage {
+            Stage::Empty => refuse(out, StateFault::NoNetwork.code(), u64::from(number)),
+            Stage::Setting(setup) => {
+                let journal = setup.open(alloc)?;
+                answer_history(alloc, out, &journal, from)
+            }
+            Stage::Open(journal) => answer_history(alloc, out, journal, from),
         }
     }
 

@@ -89,6 +89,18 @@ impl Setup {
     }
 }
 
+impl Setup {
+    ghost use Rattle.operator_cmds.specs.Stages.{new_journal};
+
+    /// The journal that the first event finds.
+    pub fn open(&self, alloc: Global) -> Result<Journal, AllocError>
+        ensures { IfOk result (λ journal. journal ≡ new_journal self.now.opening self.now.limit) }
+    {
+        let opening = self.opening.copy(alloc)?;
+        Journal::open(alloc, opening, self.limit)
+    }
+}
+
 impl Stage {
     ghost use Rattle.operator_cmds.specs.Stages.{opened_stage, stage_of, session_in, size_in};
 
@@ -118,8 +130,7 @@ impl Stage {
         ensures { OnOk result (stage_of self.new ≡ opened_stage (stage_of self.old)) }
     {
         if let Stage::Setting(setup) = self {
-            let opening = setup.opening.copy(alloc)?;
-            *self = Stage::Open(Journal::open(alloc, opening, setup.limit)?);
+            *self = Stage::Open(setup.open(alloc)?);
         }
         Ok(())
     }

@@ -27,10 +27,18 @@ pub enum Verb {
     Take,
     /// `show`
     Show,
+    /// `routes`
+    Routes,
+    /// `neighbours`
+    Neighbours,
+    /// `told`
+    Told,
+    /// `history`
+    History,
 }
 
 /// All of them.
-pub static VERBS: [Verb; 11] = [
+pub static VERBS: [Verb; 15] = [
     Verb::Network,
     Verb::Prefix,
     Verb::Load,
@@ -42,6 +50,10 @@ pub static VERBS: [Verb; 11] = [
     Verb::Receive,
     Verb::Take,
     Verb::Show,
+    Verb::Routes,
+    Verb::Neighbours,
+    Verb::Told,
+    Verb::History,
 ];
 
 impl Verb {
@@ -63,6 +75,10 @@ impl Verb {
             Verb::Receive => "recv",
             Verb::Take => "take",
             Verb::Show => "show",
+            Verb::Routes => "routes",
+            Verb::Neighbours => "neighbours",
+            Verb::Told => "told",
+            Verb::History => "history",
         }
     }
 }

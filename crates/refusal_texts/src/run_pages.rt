@@ -18,13 +18,13 @@ Place: the number of the line
     Page {
         code: "O2",
         text: "\
-O2: a number is not digits, is over its limit, or is out of the command's range: N is not 2 to 250, ME is not below N, LIMIT is 0, or V of `prefix` is not below N
+O2: a number is not digits, is over its limit, or is out of the command's range: N is not 2 to 250, ME is not below N, LIMIT is 0, V of `prefix` is not below N, or W of `told` is not up
 Place: the number of the line
 
     $ printf '%s\\n' 'network 251 0' | ncroute run
     refused O2 1
 
-Correct the number. A metric is at most the domain's size.
+Correct the number. A metric is at most the domain's size. `neighbours` lists the nodes that are up.
 ",
     },
     Page {

@@ -98,6 +98,13 @@ impl Journal {
         self.limit
     }
 
+    /// The tables as they stand after all entries.
+    pub fn tables(&self) -> &Tables
+        ensures { result.now ≡ world_of self.now.opening self.now.entries }
+    {
+        &self.tables
+    }
+
     /// The present session of a node; 0 where it is no up neighbour.
     pub fn session(&self, node: u16) -> u32
         ensures { result ≡ session_of (world_of self.now.opening self.now.entries) node }

@@ -2,6 +2,8 @@
 #![tactic(auto)]
 
 #[cfg(test)]
+mod look_tests;
+#[cfg(test)]
 mod read_command_tests;
 #[cfg(test)]
 mod run_script_tests;

@@ -31,7 +31,7 @@ fn reads_numbers(rt: HostRuntime) -> Result<(), Fail> {
 
 #[test]
 fn refuses_lines(rt: HostRuntime) {
-    let rows: [(&[u8], &str); 40] = [
+    let rows: [(&[u8], &str); 50] = [
         (b" ", "O1"),
         (b"\t \t", "O1"),
         (b"jump", "O1"),
@@ -72,6 +72,16 @@ fn refuses_lines(rt: HostRuntime) {
         (b"recv 1 1", "O1"),
         (b"recv 1 1 65536", "O2"),
         (b"show 000000000000000000000000000000000000000065536", "O2"),
+        (b"routes 1", "O1"),
+        (b"neighbours 1", "O1"),
+        (b"neighbors", "O1"),
+        (b"told", "O1"),
+        (b"told 1 2", "O1"),
+        (b"told x", "O2"),
+        (b"told 65536", "O2"),
+        (b"history", "O1"),
+        (b"history -1", "O2"),
+        (b"history 1000001", "O2"),
     ];
     for (line, want) in rows {
         expect_refusal(&rt, rt.alloc(), line, want);

@@ -1,0 +1,13 @@
+use Rattle.std.proofs.Common.{◌≡◌, ◌++◌, drop, map}
+use Rattle.std.specs.Io.{StartsWith}
+use Rattle.history_file.specs.Views.{entry_view}
+use Rattle.operator_cmds.specs.Looks.{entries_text}
+use Rattle.operator_cmds.proofs.look.push_entries.Given as goal
+
+-- the entries so far were added, and those that are left will be
+abbrev pub invariant-loop-told : goal.invariant-loop-told
+invariant-loop-told l = record {
+  added : l.out.items ++ entries_text l.from l.told (map entry_view (drop l.told l.entries)) ≡
+      l.fn.out.items ++ entries_text l.from 0 (map entry_view l.entries);
+  front : StartsWith l.out.items l.fn.out.items;
+}

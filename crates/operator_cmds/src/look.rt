@@ -1,0 +1,181 @@
+//! What a script answers to a command that looks at its router.
+ghost use Rattle.std.specs.Prelude.{◌≡◌, ◌++◌, ◌<◌, ◌≤◌, ◌+◌, ◌^◌, true, IfOk, OnOk, OnErr, length, map};
+ghost use Rattle.std.specs.Io.{StartsWith};
+ghost use Rattle.history_file.specs.Views.{entry_view};
+ghost use Rattle.operator_cmds.specs.Looks as spec;
+ghost use Rattle.operator_cmds.specs.Replies.{Adds, answered};
+
+use crate::HISTORY_COUNT;
+use crate::command::Look;
+use crate::fault::CommandFault;
+use crate::reply::{push_pair, refuse};
+use history_file::push_entry;
+use line_protocol::{Reply, push_decimal};
+use netchange_core::{BestRoute, Tables, Via};
+use route_history::{Entry, Journal};
+use std::alloc::{AllocError, Global};
+
+/// Adds a route to a node.
+fn push_route(out: &mut Vec<u8>, node: u16, route: BestRoute) -> Result<(), AllocError>
+    ensures ok { OnOk result (out.new.items ≡ out.old.items ++ spec.route_text node route) }
+    ensures err { OnErr result (StartsWith out.new.items out.old.items) }
+{
+    push_pair(out, node, u32::from(route.dist))?;
+    match route.via {
+        Via::Node(hop) => {
+            out.push(b':')?;
+            push_decimal(out, u64::from(hop))
+        }
+        Via::Local | Via::Nowhere => Ok(()),
+    }
+}
+
+/// Adds a node with its present session, if it has one.
+fn push_session(out: &mut Vec<u8>, node: u16, session: u32) -> Result<(), AllocError>
+    ensures ok { OnOk result (out.new.items ≡ out.old.items ++ spec.session_text node session) }
+    ensures err { OnErr result (StartsWith out.new.items out.old.items) }
+{
+    if session == 0 {
+        return Ok(());
+    }
+    push_pair(out, node, session)
+}
+
+/// Adds the distance to a node that a neighbour told, and what its import filter made of it where that is another.
+fn push_told(out: &mut Vec<u8>, node: u16, told: u16, heard: u16) -> Result<(), AllocError>
+    ensures ok { OnOk result (out.new.items ≡ out.old.items ++ spec.told_text node told heard) }
+    ensures err { OnErr result (StartsWith out.new.items out.old.items) }
+{
+    push_pair(out, node, u32::from(told))?;
+    if told == heard {
+        return Ok(());
+    }
+    out.push(b'>')?;
+    push_decimal(out, u64::from(heard))
+}
+
+/// Adds what a look tells of a node.
+fn push_node(out: &mut Vec<u8>, tables: &Tables, look: Look, node: u16) -> Result<(), AllocError>
+    requires node { node < tables.now.opening.size }
+    requires known { spec.IsLook tables.now.opening.size look }
+    ensures ok { OnOk result (out.new.items ≡ out.old.items ++ spec.node_text tables.now look node) }
+    ensures err { OnErr result (StartsWith out.new.items out.old.items) }
+{
+    match look {
+        Look::Routes => push_route(out, node, tables.route(node)),
+        Look::Neighbours => push_session(out, node, tables.session(node)),
+        Look::Told(from) => push_told(out, node, tables.told(from, node), tables.heard(from, node)),
+    }
+}
+
+/// Adds what a look tells of each node, in order.
+#[tactic(auto, unfolding(crate::specs::Looks::texts_below))]
+fn push_nodes(out: &mut Vec<u8>, tables: &Tables, look: Look) -> Result<(), AllocError>
+    requires { spec.IsLook tables.now.opening.size look }
+    ensures ok { OnOk result (out.new.items ≡ out.old.items ++ spec.nodes_text tables.now look) }
+    ensures err { OnErr result (StartsWith out.new.items out.old.items) }
+{
+    for node in 0..tables.opening().size() {
+        push_node(out, tables, look, node)?;
+    }
+    Ok(())
+}
+
+/// The first word of the answer to a look.
+fn look_word(look: Look) -> &'static str
+    ensures { result.now ≡ spec.look_word look }
+{
+    match look {
+        Look::Routes => "routes",
+        Look::Neighbours => "neighbours",
+        Look::Told(_) => "told",
+    }
+}
+
+/// Whether a look can be answered: only an up neighbour has told something.
+fn can_look(tables: &Tables, look: Look) -> bool
+    ensures value { result ≡ spec.can_look tables.now look }
+    ensures known { result ≡ true → spec.IsLook tables.now.opening.size look }
+{
+    match look {
+        Look::Routes | Look::Neighbours => true,
+        Look::Told(from) => tables.session(from) > 0,
+    }
+}
+
+/// Answers the line of this number, which looks at the tables.
+pub fn answer_look(
+    out: &mut Vec<u8>,
+    tables: &Tables,
+    number: u32,
+    look: Look,
+) -> Result<Reply, AllocError>
+    ensures ok { IfOk result (Adds (spec.looked tables.now number look) out.old.items out.new.items) }
+    ensures err { OnErr result (StartsWith out.new.items out.old.items) }
+{
+    if !can_look(tables, look) {
+        return refuse(out, CommandFault::Numbers.code(), u64::from(number));
+    }
+    out.extend_from_slice(look_word(look).as_bytes())?;
+    push_nodes(out, tables, look)?;
+    out.push(b'\n')?;
+    Ok(Reply::Answered)
+}
+
+/// The entries from a position on, as many as are told at once.
+fn told_entries(entries: &[Entry], from: u32) -> &[Entry]
+    requires { length entries.now < 2 ^ 32 }
+    ensures value { result.now ≡ spec.told_entries entries.now from }
+    ensures within { from + length result.now ≤ 2 ^ 32 }
+{
+    let first = (from as usize).min(entries.len());
+    let rest = &entries[first..];
+    &rest[..HISTORY_COUNT.min(rest.len())]
+}
+
+/// Adds what stands before an entry, where so many were told before it.
+fn push_bar(out: &mut Vec<u8>, told: usize) -> Result<(), AllocError>
+    ensures ok { OnOk result (out.new.items ≡ out.old.items ++ spec.bar_before told) }
+    ensures err { OnErr result (StartsWith out.new.items out.old.items) }
+{
+    if told == 0 {
+        Ok(out.push(b' ')?)
+    } else {
+        out.extend_from_slice(b" | ")
+    }
+}
+
+/// Adds entries, the first of which has this position.
+fn push_entries(
+    alloc: Global,
+    out: &mut Vec<u8>,
+    from: u32,
+    entries: &[Entry],
+) -> Result<(), AllocError>
+    requires { from + length entries.now ≤ 2 ^ 32 }
+    ensures ok { OnOk result (out.new.items ≡ out.old.items ++ spec.entries_text from 0 (map entry_view entries.now)) }
+    ensures err { OnErr result (StartsWith out.new.items out.old.items) }
+{
+    for told in 0..entries.len() {
+        push_bar(out, told)?;
+        push_entry(alloc, out, from + told as u32, &entries[told])?;
+    }
+    Ok(())
+}
+
+/// Answers a line that looks at the history from a position on.
+pub fn answer_history(
+    alloc: Global,
+    out: &mut Vec<u8>,
+    journal: &Journal,
+    from: u32,
+) -> Result<Reply, AllocError>
+    ensures ok { IfOk result (Adds (answered (spec.history_text journal.now.entries from)) out.old.items out.new.items) }
+    ensures err { OnErr result (StartsWith out.new.items out.old.items) }
+{
+    let _limit = journal.limit();
+    out.extend_from_slice(b"history")?;
+    push_entries(alloc, out, from, told_entries(journal.entries(), from))?;
+    out.push(b'\n')?;
+    Ok(Reply::Answered)
+}
