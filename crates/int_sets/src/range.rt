@@ -38,15 +38,15 @@ impl IntRange {
 
     /// The first number of the range.
     pub fn low(&self) -> u32
-        ensures { result ≡ self.now.low }
+        ensures low { result ≡ self.now.low }
+        ensures order { result ≤ self.now.high }
     {
         self.low
     }
 
     /// The last number of the range.
     pub fn high(&self) -> u32
-        ensures high { result ≡ self.now.high }
-        ensures order { self.now.low ≤ result }
+        ensures { result ≡ self.now.high }
     {
         self.high
     }
