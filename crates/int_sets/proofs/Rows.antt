@@ -4,16 +4,16 @@ use Rattle.int_sets.specs.Holding.{NumberRange, holds, holds_any, HoldsAny}
 use Rattle.int_sets.proofs.Holding.{holds_any-Decides}
 
 -- the ranges [3..5], [7..7], [5..9] and [4294967295..4294967295]
-three_to_five : NumberRange
+abbrev three_to_five : NumberRange
 three_to_five = record { low = 3; high = 5 }
 
-seven : NumberRange
+abbrev seven : NumberRange
 seven = record { low = 7; high = 7 }
 
-five_to_nine : NumberRange
+abbrev five_to_nine : NumberRange
 five_to_nine = record { low = 5; high = 9 }
 
-greatest : NumberRange
+abbrev greatest : NumberRange
 greatest = record { low = 4294967295; high = 4294967295 }
 
 -- a range holds its first number and its last, and not those beside them
