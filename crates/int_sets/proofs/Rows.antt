@@ -1,5 +1,5 @@
 -- Worked rows, computed by the definitions.
-use Rattle.std.proofs.Common.{◌≡◌, ℕ, true, false, List, [], ◌∷◌, refl}
+use Rattle.std.proofs.Common.{◌≡◌, true, false, [], ◌∷◌, refl}
 use Rattle.int_sets.specs.Holding.{NumberRange, holds, holds_any, HoldsAny}
 use Rattle.int_sets.proofs.Holding.{holds_any-Decides}
 

@@ -25,10 +25,10 @@ returns-clause-rising c =
     let count : c.len-count.result ≡ length ranges = omega (arith, c.args.merged.now.ok.0) in
     let past : (d : NumberRange) → 0 < length ranges → (get_or ranges (length ranges - 1) d).high ≤ c.args.range.high =
     elim c.else-count-gt0.branch [
-      else-count-gt0-via-then-count-gt0+else-low-high w ↦ (λ d some.
-        let seen : w.index.result.now ≡ get_or ranges (length ranges - 1) d =
-        rw count at w.index.ensures ∙ get_or_default ranges (length ranges - 1) w.index.result.now d (omega arith) in
-        omega (arith, w.low.ensures.order, w.if-low-high.false, w.high.ensures, ap (λ r. r.high) seen))
-    | else-count-gt0-via-else-count-gt0 w ↦ (λ d some. absurd (omega (arith, w.if-count-gt0.false)))
+      | else-count-gt0-via-then-count-gt0+else-low-high w ↦ (λ d some.
+          let seen : w.index.result.now ≡ get_or ranges (length ranges - 1) d =
+          rw count at w.index.ensures ∙ get_or_default ranges (length ranges - 1) w.index.result.now d (omega arith) in
+          omega (arith, w.low.ensures.order, w.if-low-high.false, w.high.ensures, ap (λ r. r.high) seen))
+      | else-count-gt0-via-else-count-gt0 w ↦ (λ d some. absurd (omega (arith, w.if-count-gt0.false)))
     ] in
     rw c.in_ok-push.ensures.items (still_rising ranges c.args.range c.requires.rising c.requires.before past)
