@@ -1,5 +1,5 @@
 //! Sets that are scanned and sets that are searched, each beside a plain list of first and last numbers.
-use crate::{IntRange, IntSet, RANGE_LIMIT, SetFault};
+use crate::{IntRange, IntSet, SetFault};
 use std::alloc::Global;
 use std::test::Fail;
 
@@ -71,10 +71,10 @@ fn expect_numbers(set: &IntSet, ends: &[(u32, u32)], numbers: &[u32]) -> Result<
 
 #[test]
 fn sets_hold_what_their_ranges_hold(rt: HostRuntime) -> Result<(), Fail> {
-    let ranges = ranges_of(rt.alloc(), &ENDS)?;
     for count in 0..=ENDS.len() {
-        let set = IntSet::build(rt.alloc(), &ranges[..count])?;
-        expect_numbers(&set, &ENDS[..count], &NUMBERS)?;
+        let ends = &ENDS[..count];
+        let set = IntSet::build(rt.alloc(), &ranges_of(rt.alloc(), ends)?)?;
+        expect_numbers(&set, ends, &NUMBERS)?;
     }
     Ok(())
 }
@@ -90,18 +90,23 @@ fn many(alloc: Global, count: u32) -> Result<Vec<(u32, u32)>, Fail> {
 }
 
 #[test]
-fn a_set_has_at_most_1024_ranges(rt: HostRuntime) -> Result<(), Fail> {
-    let ends = many(rt.alloc(), 1025)?;
+fn a_set_has_1024_ranges(rt: HostRuntime) -> Result<(), Fail> {
+    let ends = many(rt.alloc(), 1024)?;
     let ranges = ranges_of(rt.alloc(), &ends)?;
-    let set = IntSet::build(rt.alloc(), &ranges[..RANGE_LIMIT])?;
-    if set.ranges() != &ranges[..RANGE_LIMIT] {
+    let set = IntSet::build(rt.alloc(), &ranges)?;
+    if set.ranges() != ranges.as_slice() {
         return Err("the ranges that were given".into());
     }
     let mut numbers = Vec::new(rt.alloc());
     for number in 0..4200 {
         numbers.push(number)?;
     }
-    expect_numbers(&set, &ends[..RANGE_LIMIT], &numbers)?;
+    expect_numbers(&set, &ends, &numbers)
+}
+
+#[test]
+fn one_more_range_is_refused(rt: HostRuntime) -> Result<(), Fail> {
+    let ranges = ranges_of(rt.alloc(), &many(rt.alloc(), 1025)?)?;
     match IntSet::build(rt.alloc(), &ranges) {
         Err(SetFault::TooManyRanges) => Ok(()),
         _ => Err("one range too many".into()),
