@@ -9,7 +9,6 @@ use command_line::{
 };
 use line_protocol::StreamFault;
 use std::io;
-use std::process::Abort;
 use std::test::Fail;
 
 /// People neither type the input nor read the errors.
@@ -403,33 +402,44 @@ const SHELF: Shelf = Shelf {
     ],
 };
 
+/// What a command line did.
+#[derive(Debug, PartialEq, Eq, Drop)]
+struct Said {
+    output: Vec<u8>,
+    told: Vec<u8>,
+    status: u8,
+}
+
 /// What the words of a command line write on standard output and on standard error, and the exit status, where standard input has
 /// this text.
-fn says<R: Abort + AllocGlobal + Print + Eprint>(
-    rt: &R,
-    words: &[&str],
-    input: &str,
-    output: &str,
-    told: &str,
-    status: u8,
-) -> Result<(), Fail> {
+fn said_by(rt: &HostRuntime, words: &[&str], input: &str) -> Result<Said, Fail> {
     let Words::Aided(aid) = request_of(rt, rt.alloc(), words, NO_TERMINAL)? else {
         return Err(Fail::from("no aid"));
     };
     let mut reader = input.as_bytes();
-    let (mut writer, mut errors) = (Vec::new(rt.alloc()), Vec::new(rt.alloc()));
-    let served = serve_people(
+    let (mut output, mut told) = (Vec::new(rt.alloc()), Vec::new(rt.alloc()));
+    let status = serve_people(
         &SHELF,
         rt.alloc(),
         &aid,
         &mut reader,
-        &mut writer,
-        &mut errors,
-    );
-    assert_eq!(rt; served, Ok(status));
-    assert_eq!(rt; writer.as_slice(), output.as_bytes());
-    assert_eq!(rt; errors.as_slice(), told.as_bytes());
-    Ok(())
+        &mut output,
+        &mut told,
+    )?;
+    Ok(Said {
+        output,
+        told,
+        status,
+    })
+}
+
+/// The same, as a row has it.
+fn wanted(rt: &HostRuntime, output: &str, told: &str, status: u8) -> Result<Said, Fail> {
+    Ok(Said {
+        output: Vec::from_slice(rt.alloc(), output.as_bytes())?,
+        told: Vec::from_slice(rt.alloc(), told.as_bytes())?,
+        status,
+    })
 }
 
 /// A file that cannot be read is named, and the others are still checked. `list`, `filter` and `replay` end with a status of their own.
@@ -494,7 +504,10 @@ fn files_that_are_missing_are_named(rt: HostRuntime) -> Result<(), Fail> {
         ),
     ];
     for (words, input, output, told, status) in rows {
-        says(&rt, words, input, output, told, status)?;
+        assert_eq!(&rt;
+            said_by(&rt, words, input)?,
+            wanted(&rt, output, told, status)?
+        );
     }
     Ok(())
 }
@@ -515,7 +528,10 @@ fn histories_are_replayed(rt: HostRuntime) -> Result<(), Fail> {
         (&["ncroute", "replay", "-"], "NCH2\n", "refused H1 1\n", 1),
     ];
     for (words, input, output, status) in rows {
-        says(&rt, words, input, output, "", status)?;
+        assert_eq!(&rt;
+            said_by(&rt, words, input)?,
+            wanted(&rt, output, "", status)?
+        );
     }
     Ok(())
 }
