@@ -5,3 +5,4 @@ pub mod Listings
 pub mod Cut
 mod Rows
 pub mod HeadWords
+pub mod Harmless

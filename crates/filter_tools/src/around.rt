@@ -27,26 +27,18 @@ pub(crate) struct Around<'a> {
 }
 
 impl<'a> Piece<'a> {
-    /// The name that it is, if it is one.
-    pub(crate) fn name(self) -> Option<&'a str> {
-        match self.kind {
-            TokenKind::Name => Some(self.text),
-            _ => None,
-        }
-    }
-
     /// Whether it is this keyword or punctuator.
     pub(crate) fn is(self, symbol: Symbol) -> bool {
         self.kind == TokenKind::Symbol(symbol)
     }
+}
 
-    /// Whether it is the name of a kind, with which a declaration begins.
-    pub(crate) fn is_kind(self) -> bool {
-        matches!(
-            self.kind,
-            TokenKind::Symbol(Symbol::Int | Symbol::Bool | Symbol::Ip | Symbol::Prefix)
-        )
-    }
+/// Whether a token is the name of a kind, with which a declaration begins.
+pub(crate) fn is_kind(kind: TokenKind) -> bool {
+    matches!(
+        kind,
+        TokenKind::Symbol(Symbol::Int | Symbol::Bool | Symbol::Ip | Symbol::Prefix)
+    )
 }
 
 /// The bytes of a text from one place to another, if they are a text that is short enough to be quoted.
@@ -93,13 +85,12 @@ pub(crate) fn declared<'a>(
     let mut names = Vec::new(alloc);
     let mut is_declaration = false;
     for token in tokens {
-        let piece = piece_of(text, token);
-        if is_declaration {
-            if let Some(name) = piece.and_then(|piece| piece.name()) {
+        if is_declaration && token.kind == TokenKind::Name {
+            if let Some(name) = quoted(text, token.from, token.to) {
                 names.push(name)?;
             }
         }
-        is_declaration = piece.is_some_and(|piece| piece.is_kind());
+        is_declaration = is_kind(token.kind);
     }
     Ok(names)
 }

@@ -6,6 +6,7 @@ mod explanation;
 mod filter;
 mod finding;
 mod head_word;
+mod laws;
 mod listing;
 mod named;
 mod nearest;
@@ -17,6 +18,7 @@ mod words;
 
 pub use explanation::{explain, explain_line};
 pub use filter::{Filtered, filter_lines};
+pub use laws::shown_is_harmless;
 pub use listing::write_listing;
 pub use named::{check_named, list_named, tell};
 pub use place::{Place, place_in};

@@ -1,6 +1,6 @@
 //! What to write in place of what this language has not.
 
-use crate::around::{Around, Piece};
+use crate::around::{Around, Piece, is_kind};
 use filter_parser::Expected;
 use filter_tokens::{Symbol, TokenKind};
 
@@ -57,16 +57,16 @@ fn is(piece: Option<Piece>, symbol: Symbol) -> bool {
 }
 
 /// Whether a token is the name of a kind.
-fn is_kind(piece: Option<Piece>) -> bool {
+fn begins_declaration(piece: Option<Piece>) -> bool {
     match piece {
-        Some(piece) => piece.is_kind(),
+        Some(piece) => is_kind(piece.kind),
         None => false,
     }
 }
 
 /// What to write where the `;` of a command is missing.
-fn in_place_of_semicolon(around: Around) -> Option<&'static str> {
-    if is(around.found, Symbol::Equal) && is_kind(around.earlier) {
+fn in_place_of_semicolon(around: &Around) -> Option<&'static str> {
+    if is(around.found, Symbol::Equal) && begins_declaration(around.earlier) {
         Some("declare the variable first, and assign to it in a command")
     } else {
         None
@@ -74,7 +74,7 @@ fn in_place_of_semicolon(around: Around) -> Option<&'static str> {
 }
 
 /// What to write where a value is missing.
-fn in_place_of_operand(around: Around) -> Option<&'static str> {
+fn in_place_of_operand(around: &Around) -> Option<&'static str> {
     if is(around.found, Symbol::Equal) && is(around.last, Symbol::Equal) {
         Some("compare by a single `=`")
     } else {
@@ -83,7 +83,7 @@ fn in_place_of_operand(around: Around) -> Option<&'static str> {
 }
 
 /// What to write where the text goes on behind the filter.
-fn in_place_of_end(around: Around) -> Option<&'static str> {
+fn in_place_of_end(around: &Around) -> Option<&'static str> {
     if is(around.found, Symbol::Semicolon) {
         Some("take it out")
     } else if is(around.found, Symbol::Filter) {
@@ -94,7 +94,7 @@ fn in_place_of_end(around: Around) -> Option<&'static str> {
 }
 
 /// What to write where the prefix of a pattern is missing.
-fn in_place_of_prefix(around: Around) -> Option<&'static str> {
+fn in_place_of_prefix(around: &Around) -> Option<&'static str> {
     match around.found {
         Some(
             Piece {
@@ -113,13 +113,13 @@ fn in_place_of_prefix(around: Around) -> Option<&'static str> {
 }
 
 /// What to write where this is expected, if that is no plain slip.
-pub(crate) fn in_place_of_found(expected: Expected, around: Around) -> Option<&'static str> {
+pub(crate) fn in_place_of_found(expected: Expected, around: &Around) -> Option<&'static str> {
     match expected {
         Expected::Semicolon => in_place_of_semicolon(around),
         Expected::Operand | Expected::OperandOrSet => in_place_of_operand(around),
         Expected::End => in_place_of_end(around),
         Expected::Prefix => in_place_of_prefix(around),
-        Expected::CommandOrEnd if is_kind(around.found) => {
+        Expected::CommandOrEnd if begins_declaration(around.found) => {
             Some("declare variables before the first command")
         }
         Expected::FilterWord => Some("a text is one filter, `filter NAME { .. }`"),

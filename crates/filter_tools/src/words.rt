@@ -111,7 +111,7 @@ fn character_words(alloc: Global, text: &[u8], at: usize) -> Result<String, Allo
         return String::from_str(alloc, IPV6);
     }
     let (_, rest) = text.split_at(at.min(text.len()));
-    match (quoted(text, at, at + 1), in_place_of_character(rest)) {
+    match (quoted(text, at, at.saturating_add(1)), in_place_of_character(rest)) {
         (Some(character), Some(remedy)) => {
             format!(in alloc; "unexpected character `{character}`: {remedy}")
         }
@@ -161,12 +161,13 @@ fn piece_words(alloc: Global, kind: TokenKind, text: &str) -> Result<String, All
 }
 
 /// What to write in place of a name that is none of the variables.
-fn foreign(piece: Option<Piece>, variables: &[&str]) -> Option<&'static str> {
-    let name = piece?.name()?;
-    if is_among(name, variables) {
-        return None;
+fn foreign(piece: &Option<Piece>, variables: &[&str]) -> Option<&'static str> {
+    match piece {
+        Some(piece) if piece.kind == TokenKind::Name && !is_among(piece.text, variables) => {
+            in_place_of_name(piece.text)
+        }
+        _ => None,
     }
-    in_place_of_name(name)
 }
 
 /// Whether a name is one of some.
@@ -180,10 +181,10 @@ fn is_among(name: &str, names: &[&str]) -> bool {
 }
 
 /// What to write in place of what stands where something else is expected.
-fn remedy_for(expected: Expected, around: Around, variables: &[&str]) -> Option<&'static str> {
-    match foreign(around.found, variables) {
+fn remedy_for(expected: Expected, around: &Around, variables: &[&str]) -> Option<&'static str> {
+    match foreign(&around.found, variables) {
         Some(remedy) => Some(remedy),
-        None => match foreign(around.last, variables) {
+        None => match foreign(&around.last, variables) {
             Some(remedy) => Some(remedy),
             None => in_place_of_found(expected, around),
         },
@@ -204,7 +205,7 @@ fn unexpected(
     let around = pieces_around(text, tokens, at);
     let found = found_words(alloc, &around.found)?;
     let variables = declared(alloc, text, tokens)?;
-    match remedy_for(expected, around, variables.as_slice()) {
+    match remedy_for(expected, &around, variables.as_slice()) {
         Some(remedy) => format!(in alloc; "expected {expected}{found}: {remedy}"),
         None => format!(in alloc; "expected {expected}{found}"),
     }
