@@ -6,3 +6,4 @@ pub mod Cut
 mod Rows
 pub mod HeadWords
 pub mod Harmless
+pub mod Indents

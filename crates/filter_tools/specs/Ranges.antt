@@ -1,16 +1,20 @@
 -- How the range of an int that is refused is told. (This project's own choice.)
-use Rattle.std.specs.Prelude.{◌≡◌, ℕ, List, [], ◌∷◌, ◌++◌, Option, Some, None, codes, decimal}
+use Rattle.std.specs.Prelude.{◌≡◌, ℕ, List, [], ◌++◌, Option, Some, None, codes, decimal}
 use Rattle.filter_source.specs.Refusals.{refusal_code}
 use Rattle.filter_source.specs.declared.diagnosis.Diagnosis.{Diagnosis}
 use Rattle.filter_source.specs.declared.refusal.Refusal.{Refusal}
 use Rattle.filter_verifier.specs.Ranges.{RangeView}
 use Rattle.filter_tools.specs.Shown.{shown}
 
+-- which page says more of a refusal
+abbrev pub page_text : Refusal → List ℕ
+page_text why = codes "; see `ncroute explain " ++ refusal_code why ++ codes "`"
+
 -- the least and the greatest value, behind what is said of the refusal, and which page says more
 abbrev pub range_text : Refusal → Option RangeView → List ℕ
 range_text why None = []
 range_text why (Some range) = codes ": it is " ++ decimal range.low ++ codes ".." ++ decimal range.high
-    ++ codes " here, whatever the conditions before it; see `ncroute explain " ++ refusal_code why ++ 96 ∷ []
+    ++ codes " here, whatever the conditions before it" ++ page_text why
 
 -- some words as they are shown, and then the range that is told, if there is one
 abbrev pub EndsInRange : Diagnosis → List ℕ → Type 0

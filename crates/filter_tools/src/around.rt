@@ -6,31 +6,15 @@ use std::alloc::{AllocError, Global};
 /// The most bytes of a token that is quoted.
 const QUOTED_LIMIT: usize = 64;
 
-/// A token, and how it is spelled.
-#[derive(Clone, Copy)]
-pub(crate) struct Piece<'a> {
-    /// What it is.
-    pub kind: TokenKind,
-    /// Its bytes.
-    pub text: &'a str,
-}
-
 /// The token at which a text is refused, and the two before it.
 #[derive(Clone, Copy)]
-pub(crate) struct Around<'a> {
+pub(crate) struct Around {
     /// The token at the place.
-    pub found: Option<Piece<'a>>,
+    pub found: Option<Token>,
     /// The one before it.
-    pub last: Option<Piece<'a>>,
+    pub last: Option<Token>,
     /// The one before that.
-    pub earlier: Option<Piece<'a>>,
-}
-
-impl<'a> Piece<'a> {
-    /// Whether it is this keyword or punctuator.
-    pub(crate) fn is(self, symbol: Symbol) -> bool {
-        self.kind == TokenKind::Symbol(symbol)
-    }
+    pub earlier: Option<Token>,
 }
 
 /// Whether a token is the name of a kind, with which a declaration begins.
@@ -50,16 +34,16 @@ pub(crate) fn quoted(text: &[u8], from: usize, to: usize) -> Option<&str> {
     str::from_utf8(bytes).ok()
 }
 
-/// A token with how it is spelled, if it is short enough to be quoted.
-fn piece_of<'a>(text: &'a [u8], token: &Token) -> Option<Piece<'a>> {
-    Some(Piece {
-        kind: token.kind,
-        text: quoted(text, token.from, token.to)?,
-    })
+/// The name that a token of a text is, if it is one.
+pub(crate) fn name_of(text: &[u8], token: Option<Token>) -> Option<&str> {
+    match token {
+        Some(token) if token.kind == TokenKind::Name => quoted(text, token.from, token.to),
+        _ => None,
+    }
 }
 
 /// What stands round a byte of a text that these tokens cut.
-pub(crate) fn pieces_around<'a>(text: &'a [u8], tokens: &[Token], at: usize) -> Around<'a> {
+pub(crate) fn tokens_around(tokens: &[Token], at: usize) -> Around {
     let mut pieces = Around {
         found: None,
         last: None,
@@ -68,9 +52,9 @@ pub(crate) fn pieces_around<'a>(text: &'a [u8], tokens: &[Token], at: usize) -> 
     for token in tokens {
         if token.to <= at {
             pieces.earlier = pieces.last;
-            pieces.last = piece_of(text, token);
+            pieces.last = Some(*token);
         } else if token.from == at {
-            pieces.found = piece_of(text, token);
+            pieces.found = Some(*token);
         }
     }
     pieces

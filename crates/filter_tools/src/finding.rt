@@ -1,7 +1,7 @@
 //! The words of a refusal, and where in the text it is shown.
 ghost use Rattle.std.specs.Prelude.{◌≡◌, ◌++◌, Option, Some, IfOk, OnOk};
 ghost use Rattle.filter_tools.specs.HeadWords.{IsHeadWord, IsShownAt, missing_assign_of, place_or};
-ghost use Rattle.filter_tools.specs.Ranges.{EndsInRange, range_text};
+ghost use Rattle.filter_tools.specs.Ranges.{EndsInRange, page_text, range_text};
 ghost use Rattle.filter_tools.specs.declared.head_word.Word.{Word as TheWord};
 
 use crate::head_word::{missing_assign, name_before, place_or};
@@ -32,6 +32,15 @@ fn missing_assign_of(why: Refusal) -> Option<usize>
     }
 }
 
+/// Puts which page says more of a refusal at the end of `out`.
+fn push_page(out: &mut Vec<u8>, why: Refusal) -> Result<(), AllocError>
+    ensures { OnOk result (out.new.items ≡ out.old.items ++ page_text why) }
+{
+    out.extend_from_slice(b"; see `ncroute explain ")?;
+    out.extend_from_slice(why.code().as_bytes())?;
+    out.extend_from_slice(b"`")
+}
+
 /// Puts the range of an int that is refused at the end of `out`, and which page says more.
 fn push_range(out: &mut Vec<u8>, why: Refusal, range: Option<Range>) -> Result<(), AllocError>
     ensures { OnOk result (out.new.items ≡ out.old.items ++ range_text why range) }
@@ -42,12 +51,8 @@ fn push_range(out: &mut Vec<u8>, why: Refusal, range: Option<Range>) -> Result<(
             push_decimal(out, u64::from(range.low()))?;
             out.extend_from_slice(b"..")?;
             push_decimal(out, u64::from(range.high()))?;
-            out.extend_from_slice(
-                b" here, whatever the conditions before it; see `ncroute explain ",
-            )?;
-            out.extend_from_slice(why.code().as_bytes())?;
-            out.push(b'`')?;
-            Ok(())
+            out.extend_from_slice(b" here, whatever the conditions before it")?;
+            push_page(out, why)
         }
         None => Ok(()),
     }

@@ -1,8 +1,8 @@
 //! What to write in place of what this language has not.
 
-use crate::around::{Around, Piece, is_kind};
+use crate::around::{Around, is_kind};
 use filter_parser::Expected;
-use filter_tokens::{Symbol, TokenKind};
+use filter_tokens::{Symbol, Token, TokenKind};
 
 /// What to write in place of an address of IPv6.
 pub(crate) const IPV6: &str = "IPv6 is not supported: write prefixes of IPv4, as 10.0.0.0/8";
@@ -49,23 +49,23 @@ pub(crate) fn in_place_of_character(rest: &[u8]) -> Option<&'static str> {
 }
 
 /// Whether a token is this keyword or punctuator.
-fn is(piece: Option<Piece>, symbol: Symbol) -> bool {
-    match piece {
-        Some(piece) => piece.is(symbol),
+fn is(token: Option<Token>, symbol: Symbol) -> bool {
+    match token {
+        Some(token) => token.kind == TokenKind::Symbol(symbol),
         None => false,
     }
 }
 
 /// Whether a token is the name of a kind.
-fn begins_declaration(piece: Option<Piece>) -> bool {
-    match piece {
-        Some(piece) => is_kind(piece.kind),
+fn begins_declaration(token: Option<Token>) -> bool {
+    match token {
+        Some(token) => is_kind(token.kind),
         None => false,
     }
 }
 
 /// What to write where the `;` of a command is missing.
-fn in_place_of_semicolon(around: &Around) -> Option<&'static str> {
+fn in_place_of_semicolon(around: Around) -> Option<&'static str> {
     if is(around.found, Symbol::Equal) && begins_declaration(around.earlier) {
         Some("declare the variable first, and assign to it in a command")
     } else {
@@ -74,7 +74,7 @@ fn in_place_of_semicolon(around: &Around) -> Option<&'static str> {
 }
 
 /// What to write where a value is missing.
-fn in_place_of_operand(around: &Around) -> Option<&'static str> {
+fn in_place_of_operand(around: Around) -> Option<&'static str> {
     if is(around.found, Symbol::Equal) && is(around.last, Symbol::Equal) {
         Some("compare by a single `=`")
     } else {
@@ -83,7 +83,7 @@ fn in_place_of_operand(around: &Around) -> Option<&'static str> {
 }
 
 /// What to write where the text goes on behind the filter.
-fn in_place_of_end(around: &Around) -> Option<&'static str> {
+fn in_place_of_end(around: Around) -> Option<&'static str> {
     if is(around.found, Symbol::Semicolon) {
         Some("take it out")
     } else if is(around.found, Symbol::Filter) {
@@ -93,32 +93,22 @@ fn in_place_of_end(around: &Around) -> Option<&'static str> {
     }
 }
 
-/// What to write where the prefix of a pattern is missing.
-fn in_place_of_prefix(around: &Around) -> Option<&'static str> {
-    match around.found {
-        Some(
-            Piece {
-                kind: TokenKind::Address(_),
-                ..
-            },
-        ) => Some("write an address as a prefix of length 32"),
-        Some(
-            Piece {
-                kind: TokenKind::Symbol(Symbol::RightBracket),
-                ..
-            },
-        ) => Some("a set has one prefix at least"),
+/// What to write in place of a token where the prefix of a pattern is missing.
+fn in_place_of_prefix(kind: TokenKind) -> Option<&'static str> {
+    match kind {
+        TokenKind::Address(_) => Some("write an address as a prefix of length 32"),
+        TokenKind::Symbol(Symbol::RightBracket) => Some("a set has one prefix at least"),
         _ => None,
     }
 }
 
 /// What to write where this is expected, if that is no plain slip.
-pub(crate) fn in_place_of_found(expected: Expected, around: &Around) -> Option<&'static str> {
+pub(crate) fn in_place_of_found(expected: Expected, around: Around) -> Option<&'static str> {
     match expected {
         Expected::Semicolon => in_place_of_semicolon(around),
         Expected::Operand | Expected::OperandOrSet => in_place_of_operand(around),
         Expected::End => in_place_of_end(around),
-        Expected::Prefix => in_place_of_prefix(around),
+        Expected::Prefix => in_place_of_prefix(around.found?.kind),
         Expected::CommandOrEnd if begins_declaration(around.found) => {
             Some("declare variables before the first command")
         }

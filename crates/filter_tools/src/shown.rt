@@ -77,8 +77,8 @@ fn push_indent_of(out: &mut Vec<u8>, c: char) -> Result<(), AllocError>
 pub(crate) fn push_indent(out: &mut Vec<u8>, characters: &[char]) -> Result<(), AllocError>
     ensures { OnOk result (out.new.items ≡ out.old.items ++ flat_map indent_of characters.now) }
 {
-    for c in characters {
-        push_indent_of(out, *c)?;
+    for character in characters {
+        push_indent_of(out, *character)?;
     }
     Ok(())
 }

@@ -1,6 +1,6 @@
 //! What is wrong with a refused source, in words.
 
-use crate::around::{Around, Piece, declared, is_ipv6, pieces_around, quoted, word_at};
+use crate::around::{Around, declared, is_ipv6, name_of, quoted, tokens_around, word_at};
 use crate::head_word::Word;
 use crate::nearest::nearest;
 use crate::remedies::{
@@ -111,7 +111,10 @@ fn character_words(alloc: Global, text: &[u8], at: usize) -> Result<String, Allo
         return String::from_str(alloc, IPV6);
     }
     let (_, rest) = text.split_at(at.min(text.len()));
-    match (quoted(text, at, at.saturating_add(1)), in_place_of_character(rest)) {
+    match (
+        quoted(text, at, at.saturating_add(1)),
+        in_place_of_character(rest),
+    ) {
         (Some(character), Some(remedy)) => {
             format!(in alloc; "unexpected character `{character}`: {remedy}")
         }
@@ -145,9 +148,12 @@ fn range_words(text: &[u8], at: usize) -> &'static str {
 }
 
 /// What stands in the place of what was expected.
-fn found_words(alloc: Global, found: &Option<Piece>) -> Result<String, AllocError> {
-    match found {
-        Some(piece) => piece_words(alloc, piece.kind, piece.text),
+fn found_words(alloc: Global, text: &[u8], found: Option<Token>) -> Result<String, AllocError> {
+    let Some(token) = found else {
+        return Ok(String::new(alloc));
+    };
+    match quoted(text, token.from, token.to) {
+        Some(spelled) => piece_words(alloc, token.kind, spelled),
         None => Ok(String::new(alloc)),
     }
 }
@@ -161,13 +167,12 @@ fn piece_words(alloc: Global, kind: TokenKind, text: &str) -> Result<String, All
 }
 
 /// What to write in place of a name that is none of the variables.
-fn foreign(piece: &Option<Piece>, variables: &[&str]) -> Option<&'static str> {
-    match piece {
-        Some(piece) if piece.kind == TokenKind::Name && !is_among(piece.text, variables) => {
-            in_place_of_name(piece.text)
-        }
-        _ => None,
+fn foreign(text: &[u8], token: Option<Token>, variables: &[&str]) -> Option<&'static str> {
+    let name = name_of(text, token)?;
+    if is_among(name, variables) {
+        return None;
     }
+    in_place_of_name(name)
 }
 
 /// Whether a name is one of some.
@@ -181,10 +186,15 @@ fn is_among(name: &str, names: &[&str]) -> bool {
 }
 
 /// What to write in place of what stands where something else is expected.
-fn remedy_for(expected: Expected, around: &Around, variables: &[&str]) -> Option<&'static str> {
-    match foreign(&around.found, variables) {
+fn remedy_for(
+    text: &[u8],
+    expected: Expected,
+    around: Around,
+    variables: &[&str],
+) -> Option<&'static str> {
+    match foreign(text, around.found, variables) {
         Some(remedy) => Some(remedy),
-        None => match foreign(&around.last, variables) {
+        None => match foreign(text, around.last, variables) {
             Some(remedy) => Some(remedy),
             None => in_place_of_found(expected, around),
         },
@@ -202,10 +212,10 @@ fn unexpected(
     if expected == Expected::Prefix && is_ipv6(text, at) {
         return String::from_str(alloc, IPV6);
     }
-    let around = pieces_around(text, tokens, at);
-    let found = found_words(alloc, &around.found)?;
+    let around = tokens_around(tokens, at);
+    let found = found_words(alloc, text, around.found)?;
     let variables = declared(alloc, text, tokens)?;
-    match remedy_for(expected, &around, variables.as_slice()) {
+    match remedy_for(text, expected, around, variables.as_slice()) {
         Some(remedy) => format!(in alloc; "expected {expected}{found}: {remedy}"),
         None => format!(in alloc; "expected {expected}{found}"),
     }

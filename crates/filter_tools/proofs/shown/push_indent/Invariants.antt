@@ -3,5 +3,5 @@ use Rattle.std.specs.Prelude.{flat_map}
 use Rattle.filter_tools.specs.Shown.{indent_of}
 use Rattle.filter_tools.proofs.shown.push_indent.Given as goal
 
-abbrev pub invariant-loop-c : goal.invariant-loop-c
-invariant-loop-c l = l.out.items ≡ l.fn.out.items ++ flat_map indent_of (take l.c-index l.characters)
+abbrev pub invariant-loop-character : goal.invariant-loop-character
+invariant-loop-character l = l.out.items ≡ l.fn.out.items ++ flat_map indent_of (take l.character-index l.characters)
