@@ -1,7 +1,7 @@
 //! The words of a refusal, and where in the text it is shown.
 ghost use Rattle.std.specs.Prelude.{◌≡◌, ◌++◌, Option, Some, IfOk, OnOk};
 ghost use Rattle.filter_tools.specs.HeadWords.{IsHeadWord, IsShownAt, missing_assign_of, place_or};
-ghost use Rattle.filter_tools.specs.Ranges.{EndsInRange, page_text, range_text};
+ghost use Rattle.filter_tools.specs.Ranges.{EndsInRange, page_text, range_text, see_page, whatever_before};
 ghost use Rattle.filter_tools.specs.declared.head_word.Word.{Word as TheWord};
 
 use crate::head_word::{missing_assign, name_before, place_or};
@@ -32,12 +32,28 @@ fn missing_assign_of(why: Refusal) -> Option<usize>
     }
 }
 
-/// Puts which page says more of a refusal at the end of `out`.
-fn push_page(out: &mut Vec<u8>, why: Refusal) -> Result<(), AllocError>
-    ensures { OnOk result (out.new.items ≡ out.old.items ++ page_text why) }
+/// That no condition narrows a range.
+#[tactic(auto, unfolding(crate::specs::Ranges::whatever_before))]
+fn whatever_before() -> &'static [u8]
+    ensures { result.now ≡ whatever_before }
 {
-    out.extend_from_slice(b"; see `ncroute explain ")?;
-    out.extend_from_slice(why.code().as_bytes())?;
+    b" here, whatever the conditions before it"
+}
+
+/// Where more is said of a code.
+#[tactic(auto, unfolding(crate::specs::Ranges::see_page))]
+fn see_page() -> &'static [u8]
+    ensures { result.now ≡ see_page }
+{
+    b"; see `ncroute explain "
+}
+
+/// Puts which page says more of a code at the end of `out`.
+fn push_page(out: &mut Vec<u8>, code: &str) -> Result<(), AllocError>
+    ensures { OnOk result (out.new.items ≡ out.old.items ++ page_text code.now) }
+{
+    out.extend_from_slice(see_page())?;
+    out.extend_from_slice(code.as_bytes())?;
     out.extend_from_slice(b"`")
 }
 
@@ -51,8 +67,8 @@ fn push_range(out: &mut Vec<u8>, why: Refusal, range: Option<Range>) -> Result<(
             push_decimal(out, u64::from(range.low()))?;
             out.extend_from_slice(b"..")?;
             push_decimal(out, u64::from(range.high()))?;
-            out.extend_from_slice(b" here, whatever the conditions before it")?;
-            push_page(out, why)
+            out.extend_from_slice(whatever_before())?;
+            push_page(out, why.code())
         }
         None => Ok(()),
     }

@@ -1,4 +1,4 @@
-use Rattle.std.proofs.Common.{None, List, ◌∙◌, refl, ap}
+use Rattle.std.proofs.Common.{None, Some, List, ◌∙◌, ap}
 use Rattle.filter_tokens.specs.declared.token.Token.{Token}
 use Rattle.filter_tools.specs.HeadWords.{name_before}
 use Rattle.filter_tools.proofs.HeadWords.{cut}
@@ -14,5 +14,5 @@ returns-clause-shown c =
         (spans.spans, cut lexed.fault lexed.tokens.items c.args.text.now spans.found spans.stopped),
         c.name_before-word.ensures ∙ ap (λ (tokens : List Token). name_before c.args.at None tokens) c.as_slice-tokens.ensures.value,
       ),
-      refl,
+      ap Some c.place_or.ensures,
     )
