@@ -42,10 +42,7 @@ fn expect_rows(rt: &impl Abort, alloc: Global, rows: &[(&str, &str)]) -> Result<
 #[test]
 fn tokens_are_told(rt: HostRuntime) -> Result<(), Fail> {
     let rows: [(&str, &str); 13] = [
-        (
-            "filter q { $ }",
-            "f:1:12: unexpected character `$` (P1)\n",
-        ),
+        ("filter q { $ }", "f:1:12: unexpected character `$` (P1)\n"),
         (
             "filter q { a := 1; }",
             "f:1:14: unexpected character `:`: assign by `=` (P1)\n",
@@ -58,10 +55,7 @@ fn tokens_are_told(rt: HostRuntime) -> Result<(), Fail> {
             "filter q { if true | true then ; }",
             "f:1:20: unexpected character `|`: write `||` (P1)\n",
         ),
-        (
-            "filter q { \u{e9} }",
-            "f:1:12: unexpected character (P1)\n",
-        ),
+        ("filter q { \u{e9} }", "f:1:12: unexpected character (P1)\n"),
         (
             "filter q { a = 0x; }",
             "f:1:16: `0x` without a hexadecimal digit (P1)\n",
@@ -131,7 +125,7 @@ fn words_left_out_are_named(rt: HostRuntime) -> Result<(), Fail> {
     ];
     for (word, remedy) in rows {
         let alloc = rt.alloc();
-        let text = format!(in alloc; "filter q { {word} }")?;
+        let text = format!(in alloc; "filter q {{ {word} }}")?;
         let want = format!(in alloc; "f:1:12: `{word}` is not supported: {remedy} (P10)\n")?;
         expect_words(&rt, alloc, text.as_bytes(), false, want.as_str())?;
     }
@@ -280,7 +274,7 @@ fn near_words_are_told(rt: HostRuntime) -> Result<(), Fail> {
             "f:1:12: `acept` is no command; did you mean `accept`? (P2)\n",
         ),
         (
-            "filter q { rejct \"x\"; }",
+            "filter q { rejct; }",
             "f:1:12: `rejct` is no command; did you mean `reject`? (P2)\n",
         ),
         (
@@ -345,7 +339,7 @@ fn kinds_and_code_are_told(rt: HostRuntime) -> Result<(), Fail> {
         ),
         (
             "filter q int a; int b; int c; int d; int e; int g; int h; int i; int j; int k; int l; int m; int n; int o; int p; int q; int r; { }",
-            "f:1:125: a filter has at most 16 variables (Y5)\n",
+            "f:1:126: a filter has at most 16 variables (Y5)\n",
         ),
         (
             "filter q int d; { if rip_metric > 0 then d = 100 / rip_metric; }",
@@ -385,16 +379,7 @@ fn second_line(text: &[u8]) -> &[u8] {
 fn expect_excerpt(rt: &impl Abort, alloc: Global, text: &[u8], want: &[u8]) -> Result<(), Fail> {
     let (mut writer, mut errors) = (Vec::new(alloc), Vec::new(alloc));
     let name = b"f".as_slice();
-    check_named(
-        alloc,
-        text,
-        &mut writer,
-        &mut errors,
-        name,
-        16,
-        false,
-        true,
-    )?;
+    check_named(alloc, text, &mut writer, &mut errors, name, 16, false, true)?;
     assert_eq!(rt; second_line(errors.as_slice()), want);
     Ok(())
 }
@@ -445,8 +430,12 @@ fn repeat(out: &mut Vec<u8>, byte: u8, count: usize) -> Result<(), AllocError> {
 /// Of a long line 97 characters and dots are shown at each side of the place, and a shorter one is shown whole.
 #[test]
 fn long_lines_are_cut(rt: HostRuntime) -> Result<(), Fail> {
-    let rows: [(usize, usize, bool); 4] =
-        [(100, 99, false), (101, 99, true), (100, 98, false), (900, 9, true)];
+    let rows: [(usize, usize, bool); 4] = [
+        (100, 99, false),
+        (101, 99, true),
+        (100, 98, false),
+        (900, 9, true),
+    ];
     for (before, behind, is_cut) in rows {
         let alloc = rt.alloc();
         let (mut text, mut want) = (Vec::new(alloc), Vec::new(alloc));
@@ -479,7 +468,10 @@ fn long_lines_are_cut(rt: HostRuntime) -> Result<(), Fail> {
 fn names_are_shown_safely(rt: HostRuntime) -> Result<(), Fail> {
     let alloc = rt.alloc();
     let rows: [(bool, &str); 2] = [
-        (true, "a [31m b: expected pairs of hexadecimal digits (O3)\n"),
+        (
+            true,
+            "a [31m b: expected pairs of hexadecimal digits (O3)\n",
+        ),
         (false, "a [31m b: refused O3 1\n"),
     ];
     for (is_explained, want) in rows {
