@@ -131,8 +131,8 @@ FAULTS = [
 ]
 
 HINT = b"ncroute: reading standard input, which Ctrl-D ends\n"
-IN_WORDS = b"<stdin>:1:19: expected a text or `;` at byte 18 (P2)\nfilter a { accept }\n                  ^\n"
-LOADED = b"<stdin>:2:26: expected a text or `;` at byte 18 (P2)\nload a filter a { accept }\n                         ^\n"
+IN_WORDS = b"<stdin>:1:19: expected a text or `;`, found `}` (P2)\nfilter a { accept }\n                  ^\n"
+LOADED = b"<stdin>:2:26: expected a text or `;`, found `}` (P2)\nload a filter a { accept }\n                         ^\n"
 
 # Lines of a shell in which standard error is a terminal, and standard input too where something is typed; what they write on standard
 # output and on standard error.
