@@ -55,6 +55,8 @@ pub enum Aid {
         is_code: bool,
         /// The source.
         source: Source,
+        /// A refusal is told in words too.
+        is_explained: bool,
     },
     /// Carry out the script of standard input, and tell in words why a filter is refused.
     Run,
@@ -170,11 +172,18 @@ fn source_in(alloc: Global, matches: &ArgMatches<'_>) -> Result<Source, AllocErr
 }
 
 /// What the words of `list` ask for.
-pub fn list_in(alloc: Global, matches: &ArgMatches<'_>) -> Result<Aid, AllocError> {
+pub fn list_in(
+    alloc: Global,
+    matches: &ArgMatches<'_>,
+    terminals: Terminals,
+) -> Result<Aid, AllocError> {
+    let source = source_in(alloc, matches)?;
+    let is_file = source != Source::Input;
     Ok(Aid::List {
         size: matches.get_one::<u32>("size"),
         is_code: matches.get_flag("code"),
-        source: source_in(alloc, matches)?,
+        source,
+        is_explained: is_explained(Telling::read(matches), terminals.errors, is_file),
     })
 }
 
@@ -259,6 +268,7 @@ pub fn list_command<'a>(alloc: Global) -> Result<Command<'a>, AllocError> {
         .after_help(LIST_HELP)
         .arg(verified_size_option(alloc))?
         .arg(code_option(alloc))?
+        .arg(explain_option(alloc))?
         .arg(listed_file(alloc))
 }
 

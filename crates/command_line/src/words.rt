@@ -100,7 +100,7 @@ fn words_in<R: Eprint>(
         return explained_in(rt, alloc, explain.get_str("code").unwrap_or(""));
     }
     if let Some(list) = matches.subcommand_matches("list") {
-        return Ok(Words::Aided(list_in(alloc, list)?));
+        return Ok(Words::Aided(list_in(alloc, list, terminals)?));
     }
     if let Some(filter) = matches.subcommand_matches("filter") {
         return filter_words(rt, alloc, filter, terminals);

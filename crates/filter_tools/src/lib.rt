@@ -22,3 +22,4 @@ pub use laws::shown_is_harmless;
 pub use listing::write_listing;
 pub use named::{check_named, list_named, tell};
 pub use place::{Place, place_in};
+pub use shown::push_shown;

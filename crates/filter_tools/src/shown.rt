@@ -54,7 +54,7 @@ pub(crate) fn push_characters(
 }
 
 /// Puts bytes as they are shown at the end of `out`.
-pub(crate) fn push_shown(alloc: Global, out: &mut Vec<u8>, bytes: &[u8]) -> Result<(), AllocError>
+pub fn push_shown(alloc: Global, out: &mut Vec<u8>, bytes: &[u8]) -> Result<(), AllocError>
     ensures { OnOk result (out.new.items ≡ out.old.items ++ encode_utf8_all (shown_characters bytes.now)) }
 {
     let shown = shown_characters(alloc, bytes)?;

@@ -5,13 +5,11 @@ use Rattle.std.specs.Io.KnownBytes.{Appends}
 use Rattle.std.specs.declared.io.Error.{Error}
 use Rattle.filter_source.specs.Limits.{source_limit}
 use Rattle.filter_source.specs.declared.diagnosis.Diagnosis.{Diagnosis}
-use Rattle.filter_source.specs.declared.refusal.Refusal.{Refusal}
 use Rattle.filter_commands.specs.Evaluation.{IsCut}
 use Rattle.filter_commands.specs.Faults.{stream_fault}
 use Rattle.filter_commands.specs.declared.fault.ProgramFault.{ProgramFault}
 use Rattle.filter_tools.specs.Filtering.{Filters, FiltersOff}
-use Rattle.filter_tools.specs.Listing.{IsCutListing, IsListed}
-use Rattle.filter_tools.specs.Naming.{ChecksNamed, ChecksNamedOff}
+use Rattle.filter_tools.specs.Naming.{ChecksNamed, ChecksNamedOff, ListsNamed, ListsNamedOff}
 use Rattle.filter_tools.specs.Telling.{Explains, IsCutExplanation}
 use Rattle.filter_tools.specs.declared.filter.Filtered.{Filtered}
 use Rattle.filter_tools.specs.declared.filter.Filtered.TheVariants.{Refused, Answered}
@@ -64,12 +62,12 @@ StopsTrying fault size name text before after =
     ⊎ ((why : Diagnosis) × IfSome before.reads (λ input. Filters size text input after.reads before.holds after.holds (Refused why))
     × IsCutExplanation fault name text why before.tells after.tells)
 
--- The listing of a text was written, and the exit status says whether something was refused.
-pub record ListsText (size : Option ℕ) (is_code : Bool) (text : List ℕ) (held holds : Option (List ℕ)) (status : ℕ) : Type 0 where
-  pub lines : List ℕ
-  pub why : Option Refusal
-  pub is_listed : IsListed size is_code text lines why
-  pub written : Appends held holds lines
+-- The listing of a text was written, and its refusal told under a name, and the exit status says whether there is one. `held` and `holds`
+-- are what the writer held before and holds now, `told` and `tells` the same of standard error.
+pub record ListsText (size : Option ℕ) (is_code is_explained : Bool) (name text : List ℕ) (held holds told tells : Option (List ℕ)) (status : ℕ)
+    : Type 0 where
+  pub why : Option Diagnosis
+  pub listed : ListsNamed size is_code is_explained name text held holds told tells why
   pub ends : status ≡ (if is_some why then 1 else 0)
 
 -- A script was carried out, and the exit status says whether a line was refused. What was told of the filters that it refuses is left
@@ -87,7 +85,7 @@ StopsScript fault before after = IfSome before.reads (λ input. IsBrokenOff faul
 abbrev pub fault_status : Aid → ℕ
 fault_status (aid.Check how sources) = 1
 fault_status (aid.Explain page) = 1
-fault_status (aid.List size is_code source) = 3
+fault_status (aid.List size is_code source is_explained) = 3
 fault_status aid.Run = 1
 fault_status (aid.Filter size source is_explained) = 3
 fault_status (aid.Replay source) = 3
@@ -149,17 +147,17 @@ module _ (opens : List ℕ → Result (Option (List ℕ)) Error → Type 0) wher
       × StopsTrying fault size (name_of source) text (record before { reads = left }) after)
 
   -- A source was read and listed; or it was not read.
-  abbrev pub ListsSource : Option ℕ → Bool → Source → Streams → Streams → ℕ → Type 0
-  ListsSource size is_code source before after status =
+  abbrev pub ListsSource : Option ℕ → Bool → Bool → Source → Streams → Streams → ℕ → Type 0
+  ListsSource size is_code is_explained source before after status =
       ((text : List ℕ) × IsRead opens source_limit source text before.reads after.reads
-      × ListsText size is_code text before.holds after.holds status × (after.tells ≡ before.tells))
+      × ListsText size is_code is_explained (name_of source) text before.holds after.holds before.tells after.tells status)
       ⊎ (SkipsUnread source_limit source before after × (status ≡ 3))
 
   -- A fault ended it.
   abbrev pub StopsListing : StreamFault → Option ℕ → Bool → Source → Streams → Streams → Type 0
   StopsListing fault size is_code source before after = StopsReading fault source_limit source before after
       ⊎ ((text : List ℕ) × IsRead opens source_limit source text before.reads after.reads
-      × IsCutListing fault size is_code text before.holds after.holds × (after.tells ≡ before.tells))
+      × ListsNamedOff fault size is_code (name_of source) text before.holds after.holds before.tells after.tells)
 
   -- A source was read and replayed; or it was not read.
   abbrev pub ReplaysSource : Source → Streams → Streams → ℕ → Type 0
@@ -205,7 +203,7 @@ module _ (opens : List ℕ → Result (Option (List ℕ)) Error → Type 0) wher
       × ChecksFirst how sources.items (length sources.items) before after refused × (status ≡ (if refused then 1 else 0))
   Helps (aid.Explain page) before after status =
       Appends before.holds after.holds (string_bytes page) × (after.reads ≡ before.reads) × (after.tells ≡ before.tells) × (status ≡ 0)
-  Helps (aid.List size is_code source) before after status = ListsSource size is_code source before after status
+  Helps (aid.List size is_code source is_explained) before after status = ListsSource size is_code is_explained source before after status
   Helps aid.Run before after status = RunsScript before after status
   Helps (aid.Filter size source is_explained) before after status = TriesFilter size source is_explained before after status
   Helps (aid.Replay source) before after status = ReplaysSource source before after status
@@ -216,7 +214,7 @@ module _ (opens : List ℕ → Result (Option (List ℕ)) Error → Type 0) wher
   StopsHelp fault (aid.Check how sources) before after = ChecksSome fault how sources.items before after
   StopsHelp fault (aid.Explain page) before after =
       IsCut fault before.holds after.holds (string_bytes page) × (after.reads ≡ before.reads) × (after.tells ≡ before.tells)
-  StopsHelp fault (aid.List size is_code source) before after = StopsListing fault size is_code source before after
+  StopsHelp fault (aid.List size is_code source is_explained) before after = StopsListing fault size is_code source before after
   StopsHelp fault aid.Run before after = StopsScript fault before after
   StopsHelp fault (aid.Filter size source is_explained) before after = StopsFilter fault size source before after
   StopsHelp fault (aid.Replay source) before after = StopsReplay fault source before after

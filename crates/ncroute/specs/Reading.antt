@@ -8,6 +8,7 @@ use Rattle.filter_commands.specs.Evaluation.{IsCut}
 use Rattle.line_protocol.specs.Runs.{ConsumesAtMost}
 use Rattle.line_protocol.specs.declared.faults.StreamFault.{StreamFault}
 use Rattle.line_protocol.specs.declared.faults.StreamFault.TheVariants as fault
+use Rattle.filter_tools.specs.Shown.{shown}
 use Rattle.command_line.specs.declared.aid_words.Source.{Source}
 use Rattle.command_line.specs.declared.aid_words.Source.TheVariants.{Input, File}
 use Rattle.ncroute.specs.declared.texts.Unread.{Unread}
@@ -18,9 +19,9 @@ abbrev pub name_of : Source → List ℕ
 name_of Input = codes "<stdin>"
 name_of (File name) = string_bytes name
 
--- the line that tells that a source was not read, with the words of the reason
+-- the line that tells that a source was not read, with its name as it is shown and the words of the reason
 abbrev pub unread_line : Source → List ℕ → List ℕ
-unread_line source words = name_of source ++ codes ": " ++ words ++ codes " (E1)" ++ 10 ∷ []
+unread_line source words = shown (name_of source) ++ codes ": " ++ words ++ codes " (E1)" ++ 10 ∷ []
 
 -- A text is all that standard input had, or goes one byte beyond a limit. `known` is what it had, `left` what it has now.
 abbrev pub ReadsInput : ℕ → List ℕ → Option (List ℕ) → Option (List ℕ) → Type 0

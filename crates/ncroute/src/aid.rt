@@ -3,8 +3,7 @@ ghost use Rattle.std.specs.Prelude.{◌≡◌, ◌||◌, false, IfErr, IfOk, OnE
 ghost use Rattle.std.specs.Io.KnownBytes.{Appends};
 ghost use Rattle.filter_commands.specs.Evaluation.{IsCut};
 ghost use Rattle.filter_commands.specs.Faults.{stream_fault};
-ghost use Rattle.filter_tools.specs.Listing.{IsCutListing};
-ghost use Rattle.filter_tools.specs.Naming.{ChecksNamedOff};
+ghost use Rattle.filter_tools.specs.Naming.{ChecksNamedOff, ListsNamedOff};
 ghost use Rattle.filter_source.specs.declared.diagnosis.Diagnosis.{Diagnosis as TheDiagnosis};
 ghost use Rattle.filter_tools.specs.Telling.{Explains, IsCutExplanation};
 ghost use Rattle.filter_tools.specs.declared.filter.Filtered.TheVariants.{Refused};
@@ -22,7 +21,7 @@ use crate::watcher::Teller;
 use command_line::{Aid, Checking, Source};
 use filter_commands::ProgramFault;
 use filter_source::{Diagnosis, SOURCE_LIMIT};
-use filter_tools::{Filtered, check_named, filter_lines, tell, write_listing};
+use filter_tools::{Filtered, check_named, filter_lines, list_named, tell};
 use line_protocol::{INPUT_LIMIT, StreamFault, write_text};
 use operator_cmds::run_watched_script;
 use std::alloc::Global;
@@ -179,19 +178,32 @@ fn show<W: Write>(page: &str, writer: &mut W) -> Result<u8, ProgramFault>
     Ok(0)
 }
 
-/// Lists a source, and returns the exit status.
-fn list<W: Write>(
+/// Lists the text of a source, tells why it is refused, and returns the exit status.
+fn list<W: Write, E: Write>(
     alloc: Global,
     text: &[u8],
     writer: &mut W,
+    errors: &mut E,
+    name: &[u8],
     size: Option<u32>,
     is_code: bool,
+    is_explained: bool,
 ) -> Result<u8, ProgramFault>
-    ensures finished { IfOk result (ListsText size is_code text.now (W.contents writer.old) (W.contents writer.new)) }
-    ensures stopped { IfErr result (λ fault. IsCutListing (stream_fault fault) size is_code text.now
-        (W.contents writer.old) (W.contents writer.new)) }
+    ensures finished { IfOk result (ListsText size is_code is_explained name.now text.now
+        (W.contents writer.old) (W.contents writer.new) (E.contents errors.old) (E.contents errors.new)) }
+    ensures stopped { IfErr result (λ fault. ListsNamedOff (stream_fault fault) size is_code name.now text.now
+        (W.contents writer.old) (W.contents writer.new) (E.contents errors.old) (E.contents errors.new)) }
 {
-    match write_listing(alloc, text, writer, size, is_code)? {
+    match list_named(
+        alloc,
+        text,
+        writer,
+        errors,
+        name,
+        size,
+        is_code,
+        is_explained,
+    )? {
         Some(_) => Ok(FAILED),
         None => Ok(0),
     }
@@ -242,12 +254,13 @@ fn list_source<F: Folder, R: Read, W: Write, E: Write>(
     alloc: Global,
     size: Option<u32>,
     is_code: bool,
+    is_explained: bool,
     source: &Source,
     reader: &mut R,
     writer: &mut W,
     errors: &mut E,
 ) -> Result<u8, ProgramFault>
-    ensures finished { IfOk result (ListsSource (F.opens files.now) size is_code source.now
+    ensures finished { IfOk result (ListsSource (F.opens files.now) size is_code is_explained source.now
         (record { reads = R.remaining reader.old; holds = W.contents writer.old; tells = E.contents errors.old })
         (record { reads = R.remaining reader.new; holds = W.contents writer.new; tells = E.contents errors.new })) }
     ensures stopped { IfErr result (λ fault. StopsListing (F.opens files.now) (stream_fault fault) size is_code source.now
@@ -255,7 +268,19 @@ fn list_source<F: Folder, R: Read, W: Write, E: Write>(
         (record { reads = R.remaining reader.new; holds = W.contents writer.new; tells = E.contents errors.new })) }
 {
     match read_source(files, alloc, source, SOURCE_LIMIT, reader) {
-        Ok(text) => list(alloc, text.as_slice(), writer, size, is_code),
+        Ok(text) => {
+            let name = name_of(source);
+            list(
+                alloc,
+                text.as_slice(),
+                writer,
+                errors,
+                name,
+                size,
+                is_code,
+                is_explained,
+            )
+        }
         Err(why) => {
             tell_unread(alloc, errors, source, why)?;
             Ok(FAULT)
@@ -404,8 +429,17 @@ fn help<F: Folder, R: Read, W: Write, E: Write>(
             size,
             is_code,
             source,
+            is_explained,
         } => list_source(
-            files, alloc, *size, *is_code, source, reader, writer, errors,
+            files,
+            alloc,
+            *size,
+            *is_code,
+            *is_explained,
+            source,
+            reader,
+            writer,
+            errors,
         ),
         Aid::Run => run_aloud(alloc, reader, writer, errors),
         Aid::Filter {

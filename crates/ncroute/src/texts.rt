@@ -9,6 +9,7 @@ ghost use Rattle.ncroute.specs.Reading.{StopsTelling, TellsUnread, name_of, unre
 
 use command_line::Source;
 use filter_commands::ProgramFault;
+use filter_tools::push_shown;
 use line_protocol::{StreamFault, read_input, write_text};
 use std::alloc::{AllocError, Global};
 use std::fs;
@@ -174,7 +175,7 @@ fn unread_line(alloc: Global, source: &Source, words: &str) -> Result<Vec<u8>, A
     ensures { IfOk result (λ line. line.items ≡ unread_line source.now words.now) }
 {
     let mut line = Vec::new(alloc);
-    line.extend_from_slice(name_of(source))?;
+    push_shown(alloc, &mut line, name_of(source))?;
     line.extend_from_slice(b": ")?;
     line.extend_from_slice(words.as_bytes())?;
     line.extend_from_slice(b" (E1)\n")?;
