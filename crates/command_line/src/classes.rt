@@ -12,7 +12,7 @@ struct Class {
 }
 
 /// All classes, in the order in which a filter, a script and a run meet them.
-static CLASSES: [Class; 13] = [
+static CLASSES: [Class; 14] = [
     Class {
         letter: "P",
         meaning: "the text is not a filter",
@@ -44,6 +44,10 @@ static CLASSES: [Class; 13] = [
     Class {
         letter: "N",
         meaning: "the router refused an event",
+    },
+    Class {
+        letter: "D",
+        meaning: "a domain refused a command of its script",
     },
     Class {
         letter: "J",

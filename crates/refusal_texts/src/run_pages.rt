@@ -2,7 +2,7 @@
 use crate::page::Page;
 
 /// A page for each code.
-pub static RUN_PAGES: [Page; 30] = [
+pub static RUN_PAGES: [Page; 31] = [
     Page {
         code: "O1",
         text: "\
@@ -338,6 +338,18 @@ D4: the routers cannot be played any further: a count of theirs is full
 Place: the number of the line
 
 A router has at most 4,294,967,295 sessions, and `settle` counts its messages in 64 bits. No script within the limit of the input is known to get there. Questions about rest are answered as before.
+",
+    },
+    Page {
+        code: "H1",
+        text: "\
+H1: the line is not as a history has it here, or there are more entries than the limit
+Place: the number of the line, counted from 1
+
+    $ printf '%s\\n' 'NCH1 2 0 9 10.0.0.0/16 10.1.0.0/16' '0 up 1 opened 1' '2 down 1 done 0' | ncroute replay
+    refused H1 3
+
+Here the entry at position 1 is missing. Each line of a history has its position, its event and its reply, in these words and no others.
 ",
     },
 ];
