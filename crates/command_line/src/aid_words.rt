@@ -21,6 +21,15 @@ pub enum Source {
     File(String),
 }
 
+/// Who carries out a script.
+#[derive(Clone, Copy, Debug, PartialEq, Eq)]
+pub enum Engine {
+    /// A router.
+    Router,
+    /// A whole domain.
+    Domain,
+}
+
 /// How sources are checked.
 #[derive(Clone, Copy, Debug, PartialEq, Eq)]
 pub struct Checking {
@@ -58,8 +67,6 @@ pub enum Aid {
         /// A refusal is told in words too.
         is_explained: bool,
     },
-    /// Carry out the script of standard input, and tell in words why a filter is refused.
-    Run,
     /// Take the routes of standard input through the filter of a file.
     Filter {
         /// The number of nodes of the domain.
@@ -74,11 +81,13 @@ pub enum Aid {
         /// The source.
         source: Source,
     },
-    /// Carry out the script of a domain.
-    Domain {
+    /// Carry out a script.
+    Script {
+        /// Who carries it out.
+        engine: Engine,
         /// Where its commands are.
         source: Source,
-        /// Refusals are told in words too.
+        /// Why a filter is refused is told in words too.
         is_explained: bool,
     },
 }
@@ -194,15 +203,17 @@ pub fn replay_in(alloc: Global, matches: &ArgMatches<'_>) -> Result<Aid, AllocEr
     })
 }
 
-/// What the words of `domain` ask for.
-pub fn domain_in(
+/// What the words of `run` or of `domain` ask for.
+pub fn script_in(
     alloc: Global,
+    engine: Engine,
     matches: &ArgMatches<'_>,
     terminals: Terminals,
 ) -> Result<Aid, AllocError> {
     let source = source_in(alloc, matches)?;
     let is_file = source != Source::Input;
-    Ok(Aid::Domain {
+    Ok(Aid::Script {
+        engine,
         source,
         is_explained: is_explained(Telling::read(matches), terminals.errors, is_file),
     })

@@ -1,11 +1,10 @@
 //! The words of the command line.
 use crate::aid_words::{
-    Aid, checked_in, domain_command, domain_in, explain_command, filter_command,
-    filter_in, has_files, list_command, list_in, replay_command, replay_in,
+    Aid, Engine, Source, checked_in, domain_command, explain_command, filter_command, filter_in,
+    has_files, list_command, list_in, replay_command, replay_in, script_in,
 };
 use crate::classes::page_of;
-use crate::options::{code_option, explain_option, file_option, size_option};
-use crate::telling::{Telling, is_explained};
+use crate::options::{code_option, explain_option, file_option, script_file, size_option};
 use crate::terminals::Terminals;
 use clap::error::ErrorKind;
 use clap::{ArgMatches, Command, Error};
@@ -88,13 +87,13 @@ fn words_in<R: Eprint>(
     terminals: Terminals,
 ) -> Result<Words, AllocError> {
     if let Some(run) = matches.subcommand_matches("run") {
-        return Ok(run_in(run, terminals));
+        return run_in(alloc, run, terminals);
     }
     if matches.subcommand_matches("net").is_some() {
         return Ok(Words::Network);
     }
     if let Some(domain) = matches.subcommand_matches("domain") {
-        return Ok(Words::Aided(domain_in(alloc, domain, terminals)?));
+        return Ok(Words::Aided(script_in(alloc, Engine::Domain, domain, terminals)?));
     }
     if let Some(explain) = matches.subcommand_matches("explain") {
         return explained_in(rt, alloc, explain.get_str("code").unwrap_or(""));
@@ -151,12 +150,18 @@ fn check_in(
 }
 
 /// What the words of `run` ask for.
-fn run_in(run: &ArgMatches<'_>, terminals: Terminals) -> Words {
-    if is_explained(Telling::read(run), terminals.errors, false) {
-        Words::Aided(Aid::Run)
-    } else {
+fn run_in(alloc: Global, run: &ArgMatches<'_>, terminals: Terminals) -> Result<Words, AllocError> {
+    let aid = script_in(alloc, Engine::Router, run, terminals)?;
+    let silent = Aid::Script {
+        engine: Engine::Router,
+        source: Source::Input,
+        is_explained: false,
+    };
+    Ok(if aid == silent {
         Words::Asked(Request::Run)
-    }
+    } else {
+        Words::Aided(aid)
+    })
 }
 
 /// Shows what the parser of words answered in place of matches: help on standard output, or what is wrong with the words on
@@ -219,7 +224,8 @@ fn run_command<'a>(alloc: Global) -> Result<Command<'a>, AllocError> {
     Command::new(alloc, "run")
         .about("Run a router by a script of commands, and answer each of them")
         .after_help(RUN_HELP)
-        .arg(explain_option(alloc))
+        .arg(explain_option(alloc))?
+        .arg(script_file(alloc))
 }
 
 /// The command `check`.
@@ -275,7 +281,7 @@ ended the run; 2 if the command line is wrong.
 ";
 
 const RUN_HELP: &str = "\
-Standard input is commands, one a line. Empty lines and lines that begin with # are skipped.
+The input is commands, one a line. Empty lines and lines that begin with # are skipped.
   network N ME [LIMIT]   a domain of N nodes (2 to 250), of which the router is node ME;
                          its history has at most LIMIT entries (1,000,000)
   prefix V P             P is the prefix of node V; otherwise it is 10.V.0.0/16

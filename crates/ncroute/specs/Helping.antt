@@ -15,17 +15,17 @@ use Rattle.filter_tools.specs.declared.filter.Filtered.{Filtered}
 use Rattle.filter_tools.specs.declared.filter.Filtered.TheVariants.{Refused, Answered}
 use Rattle.line_protocol.specs.Runs.{AppendsFront}
 use Rattle.line_protocol.specs.declared.faults.StreamFault.{StreamFault}
-use Rattle.operator_cmds.specs.Running.{IsBrokenOff, IsCarriedOut}
 use Rattle.line_protocol.specs.Limits.{input_limit}
-use Rattle.ncroute.specs.Domains.{RunsDomain, StopsDomain}
 use Rattle.ncroute.specs.Reading.{IsRead, IsUnread, StopsTelling, TellsUnread, name_of}
 use Rattle.ncroute.specs.Replaying.{CutsReplay, ReplaysText, replay_limit}
+use Rattle.ncroute.specs.Scripts.{RunsScript, StopsScript, script_fault}
 use Rattle.ncroute.specs.Serving.{fault_line, status_of}
 use Rattle.ncroute.specs.Streaming.{Streams}
 use Rattle.ncroute.specs.declared.texts.Unread.{Unread}
 use Rattle.command_line.specs.declared.aid_words.Aid.{Aid}
 use Rattle.command_line.specs.declared.aid_words.Aid.TheVariants as aid
 use Rattle.command_line.specs.declared.aid_words.Checking.{Checking}
+use Rattle.command_line.specs.declared.aid_words.Engine.{Engine}
 use Rattle.command_line.specs.declared.aid_words.Source.{Source}
 use Rattle.command_line.specs.declared.aid_words.Source.TheVariants.{Input, File}
 
@@ -70,26 +70,15 @@ pub record ListsText (size : Option ℕ) (is_code is_explained : Bool) (name tex
   pub listed : ListsNamed size is_code is_explained name text held holds told tells why
   pub ends : status ≡ (if is_some why then 1 else 0)
 
--- A script was carried out, and the exit status says whether a line was refused. What was told of the filters that it refuses is left
--- open.
-abbrev pub RunsScript : Streams → Streams → ℕ → Type 0
-RunsScript before after status = (refused : ℕ)
-    × IfSome before.reads (λ input. IsCarriedOut input after.reads before.holds after.holds refused) × (status ≡ status_of refused)
-
--- A fault broke it off.
-abbrev pub StopsScript : StreamFault → Streams → Streams → Type 0
-StopsScript fault before after = IfSome before.reads (λ input. IsBrokenOff fault input after.reads before.holds after.holds)
-
 -- The exit status where a fault of the machine ended what people asked for: 1 where `check` and `run` always had it, and otherwise
 -- one of its own, so that it differs from a refusal.
 abbrev pub fault_status : Aid → ℕ
 fault_status (aid.Check how sources) = 1
 fault_status (aid.Explain page) = 1
 fault_status (aid.List size is_code source is_explained) = 3
-fault_status aid.Run = 1
 fault_status (aid.Filter size source is_explained) = 3
 fault_status (aid.Replay source) = 3
-fault_status (aid.Domain source is_explained) = 3
+fault_status (aid.Script engine source is_explained) = script_fault engine
 
 -- `opens name` says what may come of opening a file of this name.
 module _ (opens : List ℕ → Result (Option (List ℕ)) Error → Type 0) where
@@ -172,30 +161,30 @@ module _ (opens : List ℕ → Result (Option (List ℕ)) Error → Type 0) wher
       ⊎ ((text : List ℕ) × IsRead opens replay_limit source text before.reads after.reads
       × CutsReplay fault text before.holds after.holds × (after.tells ≡ before.tells))
 
-  -- The script of a domain was read to its end, or to the limit, and carried out; or it was not read.
-  abbrev pub RunsDomainFile : Source → Bool → Streams → Streams → ℕ → Type 0
-  RunsDomainFile source is_explained before after status =
+  -- The script of a file was read to its end, or to the limit, and carried out; or it was not read.
+  abbrev pub RunsFile : Engine → Source → Bool → Streams → Streams → ℕ → Type 0
+  RunsFile engine source is_explained before after status =
       ((script : List ℕ) × (left : Option (List ℕ)) × IsRead opens input_limit source script before.reads after.reads
-      × RunsDomain is_explained (record { reads = Some script; holds = before.holds; tells = before.tells })
-        (record { reads = left; holds = after.holds; tells = after.tells }) status)
-      ⊎ (SkipsUnread input_limit source before after × (status ≡ 3))
+      × RunsScript engine is_explained (record { reads = Some script; holds = before.holds; tells = before.tells })
+      (record { reads = left; holds = after.holds; tells = after.tells }) status)
+      ⊎ (SkipsUnread input_limit source before after × (status ≡ script_fault engine))
 
   -- A fault ended it.
-  abbrev pub StopsDomainFile : StreamFault → Source → Bool → Streams → Streams → Type 0
-  StopsDomainFile fault source is_explained before after = StopsReading fault input_limit source before after
+  abbrev pub StopsFile : StreamFault → Engine → Source → Bool → Streams → Streams → Type 0
+  StopsFile fault engine source is_explained before after = StopsReading fault input_limit source before after
       ⊎ ((script : List ℕ) × (left : Option (List ℕ)) × IsRead opens input_limit source script before.reads after.reads
-      × StopsDomain fault is_explained (record { reads = Some script; holds = before.holds; tells = before.tells })
-        (record { reads = left; holds = after.holds; tells = after.tells }))
+      × StopsScript fault engine is_explained (record { reads = Some script; holds = before.holds; tells = before.tells })
+      (record { reads = left; holds = after.holds; tells = after.tells }))
 
-  -- The script of a domain was carried out: line by line as standard input has it, or from a file.
-  abbrev pub RunsDomainSource : Source → Bool → Streams → Streams → ℕ → Type 0
-  RunsDomainSource Input is_explained before after status = RunsDomain is_explained before after status
-  RunsDomainSource (File name) is_explained before after status = RunsDomainFile (File name) is_explained before after status
+  -- A script was carried out: line by line as standard input has it, or from a file.
+  abbrev pub RunsSource : Engine → Source → Bool → Streams → Streams → ℕ → Type 0
+  RunsSource engine Input is_explained before after status = RunsScript engine is_explained before after status
+  RunsSource engine (File name) is_explained before after status = RunsFile engine (File name) is_explained before after status
 
   -- A fault ended it.
-  abbrev pub StopsDomainSource : StreamFault → Source → Bool → Streams → Streams → Type 0
-  StopsDomainSource fault Input is_explained before after = StopsDomain fault is_explained before after
-  StopsDomainSource fault (File name) is_explained before after = StopsDomainFile fault (File name) is_explained before after
+  abbrev pub StopsSource : StreamFault → Engine → Source → Bool → Streams → Streams → Type 0
+  StopsSource fault engine Input is_explained before after = StopsScript fault engine is_explained before after
+  StopsSource fault engine (File name) is_explained before after = StopsFile fault engine (File name) is_explained before after
 
   -- What people asked for was done to its end, with this exit status.
   abbrev pub Helps : Aid → Streams → Streams → ℕ → Type 0
@@ -204,10 +193,9 @@ module _ (opens : List ℕ → Result (Option (List ℕ)) Error → Type 0) wher
   Helps (aid.Explain page) before after status =
       Appends before.holds after.holds (string_bytes page) × (after.reads ≡ before.reads) × (after.tells ≡ before.tells) × (status ≡ 0)
   Helps (aid.List size is_code source is_explained) before after status = ListsSource size is_code is_explained source before after status
-  Helps aid.Run before after status = RunsScript before after status
   Helps (aid.Filter size source is_explained) before after status = TriesFilter size source is_explained before after status
   Helps (aid.Replay source) before after status = ReplaysSource source before after status
-  Helps (aid.Domain source is_explained) before after status = RunsDomainSource source is_explained before after status
+  Helps (aid.Script engine source is_explained) before after status = RunsSource engine source is_explained before after status
 
   -- A fault ended it.
   abbrev pub StopsHelp : StreamFault → Aid → Streams → Streams → Type 0
@@ -215,10 +203,9 @@ module _ (opens : List ℕ → Result (Option (List ℕ)) Error → Type 0) wher
   StopsHelp fault (aid.Explain page) before after =
       IsCut fault before.holds after.holds (string_bytes page) × (after.reads ≡ before.reads) × (after.tells ≡ before.tells)
   StopsHelp fault (aid.List size is_code source is_explained) before after = StopsListing fault size is_code source before after
-  StopsHelp fault aid.Run before after = StopsScript fault before after
   StopsHelp fault (aid.Filter size source is_explained) before after = StopsFilter fault size source before after
   StopsHelp fault (aid.Replay source) before after = StopsReplay fault source before after
-  StopsHelp fault (aid.Domain source is_explained) before after = StopsDomainSource fault source is_explained before after
+  StopsHelp fault (aid.Script engine source is_explained) before after = StopsSource fault engine source is_explained before after
 
   -- What people asked for ended with this exit status: it was done to its end; or a fault ended it, which standard error was told,
   -- and the status is that of a fault.

@@ -8,27 +8,21 @@ ghost use Rattle.filter_source.specs.declared.diagnosis.Diagnosis.{Diagnosis as 
 ghost use Rattle.filter_tools.specs.Telling.{Explains, IsCutExplanation};
 ghost use Rattle.filter_tools.specs.declared.filter.Filtered.TheVariants.{Refused};
 ghost use Rattle.ncroute.specs.Helping.{ChecksFirst, ChecksOne, ChecksSome, ChecksText, FailsToTell, Helps, IsCutOne, ListsSource, ListsText};
-ghost use Rattle.ncroute.specs.Helping.{ReplaysSource, RunsDomainFile, RunsDomainSource, RunsScript, ServesPeople, StopsDomainFile};
-ghost use Rattle.ncroute.specs.Helping.{StopsDomainSource, StopsFilter, StopsHelp, StopsListing, StopsReplay, StopsScript, StopsTrying};
-ghost use Rattle.ncroute.specs.Helping.{ TriesFilter, TriesText, fault_status, status_of_filter, told_refusal};
+ghost use Rattle.ncroute.specs.Helping.{ReplaysSource, RunsFile, RunsSource, ServesPeople, StopsFile, StopsFilter, StopsHelp, StopsListing};
+ghost use Rattle.ncroute.specs.Helping.{StopsReplay, StopsSource, StopsTrying, TriesFilter, TriesText, fault_status, status_of_filter, told_refusal};
 ghost use Rattle.ncroute.specs.Reading.{name_of};
 
-use crate::domain::carry_out_domain;
 use crate::replay::{REPLAY_LIMIT, replay_text};
-use crate::serve::{FAILED, report_fault, status_of};
+use crate::script::{FAULT, carry_out, script_fault};
+use crate::serve::{FAILED, report_fault};
 use crate::texts::{Folder, name_of, read_source, tell_unread};
-use crate::watcher::Teller;
-use command_line::{Aid, Checking, Source};
+use command_line::{Aid, Checking, Engine, Source};
 use filter_commands::ProgramFault;
 use filter_source::{Diagnosis, SOURCE_LIMIT};
 use filter_tools::{Filtered, check_named, filter_lines, list_named, tell};
 use line_protocol::{INPUT_LIMIT, StreamFault, write_text};
-use operator_cmds::run_watched_script;
 use std::alloc::Global;
 use std::io::{Read, Write};
-
-/// The exit status where a fault of the machine ended what a refusal ends with `FAILED`.
-const FAULT: u8 = 3;
 
 /// Checks the text of a source. Returns whether it is refused.
 fn check_read<W: Write, E: Write>(
@@ -313,20 +307,21 @@ fn replay_source<F: Folder, R: Read, W: Write, E: Write>(
     }
 }
 
-/// Carries out the script of a domain that a file has, and returns the exit status.
-fn run_domain_file<F: Folder, R: Read, W: Write, E: Write>(
+/// Carries out the script of a file, and returns the exit status.
+fn run_file<F: Folder, R: Read, W: Write, E: Write>(
     files: &F,
     alloc: Global,
+    engine: Engine,
     source: &Source,
     is_explained: bool,
     reader: &mut R,
     writer: &mut W,
     errors: &mut E,
 ) -> Result<u8, ProgramFault>
-    ensures finished { IfOk result (RunsDomainFile (F.opens files.now) source.now is_explained
+    ensures finished { IfOk result (RunsFile (F.opens files.now) engine source.now is_explained
         (record { reads = R.remaining reader.old; holds = W.contents writer.old; tells = E.contents errors.old })
         (record { reads = R.remaining reader.new; holds = W.contents writer.new; tells = E.contents errors.new })) }
-    ensures stopped { IfErr result (λ fault. StopsDomainFile (F.opens files.now) (stream_fault fault) source.now is_explained
+    ensures stopped { IfErr result (λ fault. StopsFile (F.opens files.now) (stream_fault fault) engine source.now is_explained
         (record { reads = R.remaining reader.old; holds = W.contents writer.old; tells = E.contents errors.old })
         (record { reads = R.remaining reader.new; holds = W.contents writer.new; tells = E.contents errors.new })) }
 {
@@ -334,39 +329,50 @@ fn run_domain_file<F: Folder, R: Read, W: Write, E: Write>(
         Ok(text) => {
             let mut script = text.as_slice();
             let name = name_of(source);
-            carry_out_domain(alloc, name, is_explained, &mut script, writer, errors)
+            carry_out(
+                alloc,
+                engine,
+                name,
+                is_explained,
+                &mut script,
+                writer,
+                errors,
+            )
         }
         Err(why) => {
             tell_unread(alloc, errors, source, why)?;
-            Ok(FAULT)
+            Ok(script_fault(engine))
         }
     }
 }
 
-/// Carries out the script of a domain, and returns the exit status. The lines of standard input are answered as they come.
-fn run_domain_source<F: Folder, R: Read, W: Write, E: Write>(
+/// Carries out a script, and returns the exit status. The lines of standard input are answered as they come.
+fn run_source<F: Folder, R: Read, W: Write, E: Write>(
     files: &F,
     alloc: Global,
+    engine: Engine,
     source: &Source,
     is_explained: bool,
     reader: &mut R,
     writer: &mut W,
     errors: &mut E,
 ) -> Result<u8, ProgramFault>
-    ensures finished { IfOk result (RunsDomainSource (F.opens files.now) source.now is_explained
+    ensures finished { IfOk result (RunsSource (F.opens files.now) engine source.now is_explained
         (record { reads = R.remaining reader.old; holds = W.contents writer.old; tells = E.contents errors.old })
         (record { reads = R.remaining reader.new; holds = W.contents writer.new; tells = E.contents errors.new })) }
-    ensures stopped { IfErr result (λ fault. StopsDomainSource (F.opens files.now) (stream_fault fault) source.now is_explained
+    ensures stopped { IfErr result (λ fault. StopsSource (F.opens files.now) (stream_fault fault) engine source.now is_explained
         (record { reads = R.remaining reader.old; holds = W.contents writer.old; tells = E.contents errors.old })
         (record { reads = R.remaining reader.new; holds = W.contents writer.new; tells = E.contents errors.new })) }
 {
     match source {
         Source::Input => {
-            carry_out_domain(alloc, name_of(source), is_explained, reader, writer, errors)
+            let name = name_of(source);
+            carry_out(alloc, engine, name, is_explained, reader, writer, errors)
         }
-        Source::File(_) => run_domain_file(
+        Source::File(_) => run_file(
             files,
             alloc,
+            engine,
             source,
             is_explained,
             reader,
@@ -374,32 +380,6 @@ fn run_domain_source<F: Folder, R: Read, W: Write, E: Write>(
             errors,
         ),
     }
-}
-
-/// Carries out a script, and tells in words why a filter is refused. Returns the exit status.
-fn run_aloud<R: Read, W: Write, E: Write>(
-    alloc: Global,
-    reader: &mut R,
-    writer: &mut W,
-    errors: &mut E,
-) -> Result<u8, ProgramFault>
-    ensures finished { IfOk result (RunsScript
-        (record { reads = R.remaining reader.old; holds = W.contents writer.old; tells = E.contents errors.old })
-        (record { reads = R.remaining reader.new; holds = W.contents writer.new; tells = E.contents errors.new })) }
-    ensures stopped { IfErr result (λ fault. StopsScript (stream_fault fault)
-        (record { reads = R.remaining reader.old; holds = W.contents writer.old; tells = E.contents errors.old })
-        (record { reads = R.remaining reader.new; holds = W.contents writer.new; tells = E.contents errors.new })) }
-{
-    let refused = run_watched_script(
-        alloc,
-        reader,
-        writer,
-        Teller {
-            name: b"<stdin>",
-            errors,
-        },
-    )?;
-    Ok(status_of(refused))
 }
 
 /// Does what people ask for, and returns the exit status: 0, or 1 where something was refused.
@@ -441,7 +421,6 @@ fn help<F: Folder, R: Read, W: Write, E: Write>(
             writer,
             errors,
         ),
-        Aid::Run => run_aloud(alloc, reader, writer, errors),
         Aid::Filter {
             size,
             source,
@@ -457,12 +436,14 @@ fn help<F: Folder, R: Read, W: Write, E: Write>(
             errors,
         ),
         Aid::Replay { source } => replay_source(files, alloc, source, reader, writer, errors),
-        Aid::Domain {
+        Aid::Script {
+            engine,
             source,
             is_explained,
-        } => run_domain_source(
+        } => run_source(
             files,
             alloc,
+            *engine,
             source,
             *is_explained,
             reader,
@@ -477,8 +458,9 @@ pub fn fault_status(aid: &Aid) -> u8
     ensures { result ≡ fault_status aid.now }
 {
     match aid {
-        Aid::Check { .. } | Aid::Explain { .. } | Aid::Run => FAILED,
-        Aid::List { .. } | Aid::Filter { .. } | Aid::Replay { .. } | Aid::Domain { .. } => FAULT,
+        Aid::Check { .. } | Aid::Explain { .. } => FAILED,
+        Aid::List { .. } | Aid::Filter { .. } | Aid::Replay { .. } => FAULT,
+        Aid::Script { engine, .. } => script_fault(*engine),
     }
 }
 

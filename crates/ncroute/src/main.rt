@@ -3,9 +3,9 @@
 #![tactic(auto)]
 
 mod aid;
-mod domain;
 mod network;
 mod replay;
+mod script;
 mod serve;
 #[cfg(test)]
 mod tests;

@@ -5,7 +5,7 @@ use crate::aid::{fault_status, serve_people};
 use crate::serve::serve;
 use crate::texts::Folder;
 use command_line::{
-    Aid, Checking, Request, Source, Terminals, Words, request_of, waits_for_people,
+    Aid, Checking, Engine, Request, Source, Terminals, Words, request_of, waits_for_people,
 };
 use line_protocol::StreamFault;
 use std::io;
@@ -48,7 +48,7 @@ fn reads_words(rt: HostRuntime) -> Result<(), Fail> {
         (&["ncroute", "eval", "more"], Words::Shown(2)),
         (&["ncroute", "eval", "--size"], Words::Shown(2)),
         (&["ncroute", "run"], Words::Asked(Request::Run)),
-        (&["ncroute", "run", "script"], Words::Shown(2)),
+        (&["ncroute", "run", "a", "b"], Words::Shown(2)),
         (&["ncroute", "net"], Words::Network),
         (&["ncroute", "net", "more"], Words::Shown(2)),
         (
@@ -98,9 +98,9 @@ fn reads_words_of_aids(rt: HostRuntime) -> Result<(), Fail> {
     Ok(())
 }
 
-/// The script of a domain comes from a file, or from standard input: without a name, and by `-`.
+/// A script comes from a file, or from standard input: without a name, and by `-`.
 #[test]
-fn reads_words_of_domains(rt: HostRuntime) -> Result<(), Fail> {
+fn reads_words_of_scripts(rt: HostRuntime) -> Result<(), Fail> {
     let rows: [(&[&str], bool); 3] = [
         (&["ncroute", "domain"], false),
         (&["ncroute", "domain", "-"], false),
@@ -108,7 +108,8 @@ fn reads_words_of_domains(rt: HostRuntime) -> Result<(), Fail> {
     ];
     for (words, is_explained) in rows {
         let source = Source::Input;
-        let want = Words::Aided(Aid::Domain {
+        let want = Words::Aided(Aid::Script {
+            engine: Engine::Domain,
             source,
             is_explained,
         });
@@ -116,7 +117,16 @@ fn reads_words_of_domains(rt: HostRuntime) -> Result<(), Fail> {
     }
     let words: &[&str] = &["ncroute", "domain", "a.domain"];
     let source = Source::File(String::from_str(rt.alloc(), "a.domain")?);
-    let want = Words::Aided(Aid::Domain {
+    let want = Words::Aided(Aid::Script {
+        engine: Engine::Domain,
+        source,
+        is_explained: true,
+    });
+    assert_eq!(&rt; request_of(&rt, rt.alloc(), words, NO_TERMINAL)?, want);
+    let words: &[&str] = &["ncroute", "run", "a.script"];
+    let source = Source::File(String::from_str(rt.alloc(), "a.script")?);
+    let want = Words::Aided(Aid::Script {
+        engine: Engine::Router,
         source,
         is_explained: true,
     });
@@ -138,8 +148,7 @@ fn is_told(rt: &HostRuntime, words: &[&str], errors: bool) -> Result<bool, Fail>
     match request_of(rt, rt.alloc(), words, terminals)? {
         Words::Aided(Aid::Check { how, .. }) => Ok(how.is_explained),
         Words::Aided(Aid::Filter { is_explained, .. }) => Ok(is_explained),
-        Words::Aided(Aid::Run) => Ok(true),
-        Words::Aided(Aid::Domain { is_explained, .. }) => Ok(is_explained),
+        Words::Aided(Aid::Script { is_explained, .. }) => Ok(is_explained),
         Words::Asked(Request::Run | Request::Check { .. }) => Ok(false),
         _ => Err(Fail::from("neither check, domain, filter nor run")),
     }
@@ -149,7 +158,7 @@ fn is_told(rt: &HostRuntime, words: &[&str], errors: bool) -> Result<bool, Fail>
 #[test]
 fn explanations_are_for_terminals(rt: HostRuntime) -> Result<(), Fail> {
     // The words, and whether a refusal is told on a terminal, and elsewhere.
-    let rows: [(&[&str], bool, bool); 13] = [
+    let rows: [(&[&str], bool, bool); 15] = [
         (&["ncroute", "check", "--size=8"], true, false),
         (&["ncroute", "check", "--size=8", "-", "-"], true, false),
         (&["ncroute", "check", "--size=8", "-", "a"], true, true),
@@ -178,6 +187,8 @@ fn explanations_are_for_terminals(rt: HostRuntime) -> Result<(), Fail> {
         (&["ncroute", "domain", "a"], true, true),
         (&["ncroute", "domain", "--explain=never"], false, false),
         (&["ncroute", "run"], true, false),
+        (&["ncroute", "run", "a"], true, true),
+        (&["ncroute", "run", "a", "--explain=never"], false, false),
         (&["ncroute", "run", "--explain=always"], true, true),
     ];
     for (words, on_terminal, elsewhere) in rows {
@@ -190,13 +201,14 @@ fn explanations_are_for_terminals(rt: HostRuntime) -> Result<(), Fail> {
 /// People are told to type where standard input is a terminal and is read.
 #[test]
 fn input_that_people_type_is_waited_for(rt: HostRuntime) -> Result<(), Fail> {
-    let rows: [(&[&str], bool); 13] = [
+    let rows: [(&[&str], bool); 14] = [
         (&["ncroute", "domain"], true),
         (&["ncroute", "domain", "a"], false),
         (&["ncroute", "replay"], true),
         (&["ncroute", "replay", "a"], false),
         (&["ncroute", "eval"], true),
         (&["ncroute", "run"], true),
+        (&["ncroute", "run", "a"], false),
         (&["ncroute", "check", "--size", "8"], true),
         (&["ncroute", "check", "--size", "8", "a", "-"], true),
         (&["ncroute", "check", "--size", "8", "a"], false),
@@ -277,7 +289,8 @@ fn domain_scripts_end_with_their_status(rt: HostRuntime) -> Result<(), Fail> {
     for (index, (input, output, is_explained, status)) in rows.into_iter().enumerate() {
         let mut reader = input.as_bytes();
         let (mut writer, mut errors) = (Vec::new(rt.alloc()), Vec::new(rt.alloc()));
-        let aid = Aid::Domain {
+        let aid = Aid::Script {
+            engine: Engine::Domain,
             source: Source::Input,
             is_explained,
         };
@@ -307,7 +320,8 @@ fn faults_of_domain_scripts_are_reported(rt: HostRuntime) -> Result<(), Fail> {
         (Source::Input, "ncroute: E2\n"),
     ];
     for (source, told) in rows {
-        let aid = Aid::Domain {
+        let aid = Aid::Script {
+            engine: Engine::Domain,
             source,
             is_explained: true,
         };
@@ -387,6 +401,7 @@ const SHELF: Shelf = Shelf {
     files: &[
         ("good", "filter a { accept; }"),
         ("bad", "filter a { accept }"),
+        ("script", "network 4 0\ndown 1\nshow 0\n"),
         (
             "night",
             "NCH1 4 0 9 10.0.0.0/16 10.1.0.0/16 10.2.0.0/16 10.3.0.0/16\n0 up 1 opened 1\n1 show 1 route 4 none\n",
@@ -445,7 +460,7 @@ fn wanted(rt: &HostRuntime, output: &str, told: &str, status: u8) -> Result<Said
 /// A file that cannot be read is named, and the others are still checked. `list`, `filter` and `replay` end with a status of their own.
 #[test]
 fn files_that_are_missing_are_named(rt: HostRuntime) -> Result<(), Fail> {
-    let rows: [(&[&str], &str, &str, &str, u8); 7] = [
+    let rows: [(&[&str], &str, &str, &str, u8); 9] = [
         (
             &["ncroute", "check", "--size=8", "lost", "good"],
             "",
@@ -501,6 +516,20 @@ fn files_that_are_missing_are_named(rt: HostRuntime) -> Result<(), Fail> {
             "",
             "lost: No such file or directory (E1)\n",
             3,
+        ),
+        (
+            &["ncroute", "run", "lost"],
+            "",
+            "",
+            "lost: No such file or directory (E1)\n",
+            1,
+        ),
+        (
+            &["ncroute", "run", "--explain=never", "script"],
+            "show 0\n",
+            "ok\nrefused N3 0\nroute 0 local\n",
+            "",
+            1,
         ),
     ];
     for (words, input, output, told, status) in rows {

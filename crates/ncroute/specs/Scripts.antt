@@ -1,0 +1,42 @@
+-- What the program does for a script, and its exit status. (This project's own choice.)
+use Rattle.std.specs.Prelude.{◌≡◌, ◌⊎◌, ℕ, Bool, true, List, Option, IfSome}
+use Rattle.line_protocol.specs.declared.faults.StreamFault.{StreamFault}
+use Rattle.operator_cmds.specs.Running as router
+use Rattle.domain_cmds.specs.Running as domain
+use Rattle.command_line.specs.declared.aid_words.Engine.{Engine}
+use Rattle.command_line.specs.declared.aid_words.Engine.TheVariants.{Router, Domain}
+use Rattle.ncroute.specs.Serving.{status_of}
+use Rattle.ncroute.specs.Streaming.{Streams}
+
+-- A script was answered to its end, with so many refused lines. `input` is all that the reader had, `left` what it has now; `held` and
+-- `holds` are what the writer held before and holds now.
+abbrev pub IsAnswered : Engine → List ℕ → Option (List ℕ) → Option (List ℕ) → Option (List ℕ) → ℕ → Type 0
+IsAnswered Router input left held holds refused = router.IsCarriedOut input left held holds refused
+IsAnswered Domain input left held holds refused = domain.IsCarriedOut input left held holds refused
+
+-- A fault ended it.
+abbrev pub IsLeftOff : Engine → StreamFault → List ℕ → Option (List ℕ) → Option (List ℕ) → Option (List ℕ) → Type 0
+IsLeftOff Router fault input left held holds = router.IsBrokenOff fault input left held holds
+IsLeftOff Domain fault input left held holds = domain.IsBrokenOff fault input left held holds
+
+-- Standard error is told nothing, but where people asked for words: what is told of the filters that are refused is left open.
+abbrev pub IsQuiet : Bool → Option (List ℕ) → Option (List ℕ) → Type 0
+IsQuiet is_explained told tells = (is_explained ≡ true) ⊎ (tells ≡ told)
+
+-- the exit status where a fault of the machine ends a script: 1 where `run` always had it, and otherwise one of its own, so that it
+-- differs from a refusal
+abbrev pub script_fault : Engine → ℕ
+script_fault Router = 1
+script_fault Domain = 3
+
+-- A script was carried out, and the exit status says whether a line was refused.
+pub record RunsScript (engine : Engine) (is_explained : Bool) (before after : Streams) (status : ℕ) : Type 0 where
+  pub refused : ℕ
+  pub carried_out : IfSome before.reads (λ input. IsAnswered engine input after.reads before.holds after.holds refused)
+  pub quiet : IsQuiet is_explained before.tells after.tells
+  pub ends : status ≡ status_of refused
+
+-- A fault broke it off.
+pub record StopsScript (fault : StreamFault) (engine : Engine) (is_explained : Bool) (before after : Streams) : Type 0 where
+  pub left_off : IfSome before.reads (λ input. IsLeftOff engine fault input after.reads before.holds after.holds)
+  pub quiet : IsQuiet is_explained before.tells after.tells

@@ -1,0 +1,84 @@
+//! Scripts: a router or a whole domain carries one out, and its refusals are told.
+ghost use Rattle.std.specs.Prelude.{◌≡◌, IfErr, IfOk, IfSome};
+ghost use Rattle.filter_commands.specs.Faults.{stream_fault};
+ghost use Rattle.ncroute.specs.Scripts.{IsAnswered, IsLeftOff, IsQuiet, RunsScript, StopsScript, script_fault};
+
+use crate::serve::{FAILED, status_of};
+use crate::watcher::Teller;
+use command_line::Engine;
+use domain_cmds::{run_domain, run_watched_domain};
+use filter_commands::ProgramFault;
+use line_protocol::StreamFault;
+use operator_cmds::{run_script, run_watched_script};
+use std::alloc::Global;
+use std::io::{Read, Write};
+
+/// The exit status where a fault of the machine ended what a refusal ends with `FAILED`.
+pub const FAULT: u8 = 3;
+
+/// The exit status where a fault of the machine ends a script. That of a router has had 1 from the first.
+pub fn script_fault(engine: Engine) -> u8
+    ensures { result ≡ script_fault engine }
+{
+    match engine {
+        Engine::Router => FAILED,
+        Engine::Domain => FAULT,
+    }
+}
+
+/// Answers the lines of a script that people know by a name. Where `is_explained` says so, it is told in words why a filter is
+/// refused. Returns the number of refused lines.
+fn answer<R: Read, W: Write, E: Write>(
+    alloc: Global,
+    engine: Engine,
+    name: &[u8],
+    is_explained: bool,
+    reader: &mut R,
+    writer: &mut W,
+    errors: &mut E,
+) -> Result<u32, StreamFault>
+    ensures finished { IfOk result (λ refused. IfSome (R.remaining reader.old) (λ input.
+        IsAnswered engine input (R.remaining reader.new) (W.contents writer.old) (W.contents writer.new) refused)) }
+    ensures left_off { IfErr result (λ fault. IfSome (R.remaining reader.old) (λ input.
+        IsLeftOff engine fault input (R.remaining reader.new) (W.contents writer.old) (W.contents writer.new))) }
+    ensures quiet { IsQuiet is_explained (E.contents errors.old) (E.contents errors.new) }
+{
+    match (engine, is_explained) {
+        (Engine::Router, true) => run_watched_script(
+            alloc,
+            reader,
+            writer,
+            Teller { name, errors },
+        ),
+        (Engine::Router, false) => run_script(alloc, reader, writer),
+        (Engine::Domain, true) => run_watched_domain(
+            alloc,
+            reader,
+            writer,
+            Teller { name, errors },
+        ),
+        (Engine::Domain, false) => run_domain(alloc, reader, writer),
+    }
+}
+
+/// Carries out a script that people know by a name, and returns the exit status. Where `is_explained` says so, it is told in words why
+/// a filter is refused.
+pub fn carry_out<R: Read, W: Write, E: Write>(
+    alloc: Global,
+    engine: Engine,
+    name: &[u8],
+    is_explained: bool,
+    reader: &mut R,
+    writer: &mut W,
+    errors: &mut E,
+) -> Result<u8, ProgramFault>
+    ensures finished { IfOk result (RunsScript engine is_explained
+        (record { reads = R.remaining reader.old; holds = W.contents writer.old; tells = E.contents errors.old })
+        (record { reads = R.remaining reader.new; holds = W.contents writer.new; tells = E.contents errors.new })) }
+    ensures stopped { IfErr result (λ fault. StopsScript (stream_fault fault) engine is_explained
+        (record { reads = R.remaining reader.old; holds = W.contents writer.old; tells = E.contents errors.old })
+        (record { reads = R.remaining reader.new; holds = W.contents writer.new; tells = E.contents errors.new })) }
+{
+    let refused = answer(alloc, engine, name, is_explained, reader, writer, errors)?;
+    Ok(status_of(refused))
+}
