@@ -1,12 +1,12 @@
 -- The laws of lines.
 use Rattle.std.proofs.Common.{◌≡◌, ◌≢◌, ℕ, ◌+◌, ◌^◌, ◌<◌, ◌≤◌, Bool, true, false, List, [], ◌∷◌, ◌++◌, length, take, drop, Option, Some, None, All, refl, sym, ◌∙◌, ap, subst}
-use Rattle.std.proofs.Common.{arith, length-append, append_assoc, inr, ◌↔◌, filter_map, take-append-drop}
+use Rattle.std.proofs.Common.{◌&&◌, nat_le, arith, length-append, append_assoc, inr, ◌↔◌, filter_map, take-append-drop}
 use Rattle.std.proofs.lemmas.List.{take_at, drop_at}
 use Rattle.std.specs.List.{slice_split}
 use Rattle.std.specs.Option.{option_map}
 use Rattle.std.specs.Str.{bytes_eq}
-use Rattle.std.proofs.lemmas.Bool.{cond-true, ne_eqb}
-use Rattle.std.proofs.lemmas.List.Elements.{All-head, All-tail, All-append, All-weaker}
+use Rattle.std.proofs.lemmas.Bool.{and_parts, cond-true, leb-true, ne_eqb}
+use Rattle.std.proofs.lemmas.List.Elements.{All-append, All-cons, All-head, All-tail, All-weaker}
 use Rattle.std.proofs.lemmas.List.Splits.{slice_split_at}
 use Rattle.std.proofs.lemmas.Option.{cond_some}
 use Rattle.std.proofs.lemmas.Slice.Eq.{bytes_eq-Decides}
@@ -15,7 +15,7 @@ use Rattle.line_protocol.specs.Lines.{is_line_feed, whole_lines}
 use Rattle.netchange_core.specs.declared.message.Message.{Message}
 use Rattle.prefix_patterns.proofs.Tokens.{parts_at-joined}
 use Rattle.prefix_patterns.specs.Reading.{◌>>=◌, parts_at}
-use Rattle.link_lines.proofs.Pairs.{bind_some, pair_in-found, pair_in-text, pair_text-open, pair_text-short}
+use Rattle.link_lines.proofs.Pairs.{bind_some, pair_in-found, pair_in-text, pair_text-open, pair_text-short, same_pair}
 use Rattle.link_lines.specs.Lines.{FitsGreeting, FitsMessage, greeting_line, greeting_text, mark, message_line, message_text, messages_text, pair_text}
 use Rattle.link_lines.specs.Reading.{after_mark, greeting_in, message_in, messages_in, pair_in}
 use Rattle.link_lines.specs.declared.greeting.Greeting.{Greeting}
@@ -52,9 +52,17 @@ after_mark-joined rest =
     cond-true (bytes_eq (take (length mark) (mark ++ rest)) mark) (Some (drop (length mark) (mark ++ rest))) None same
     ∙ ap (λ l. Some l) (drop_at mark rest (length mark) refl)
 
+-- the greeting after the mark
+greeting_of : ℕ × ℕ → Option Greeting
+greeting_of p = Some (record { size = p.0; node = p.1 })
+
+greeting_from : Option (List ℕ) → Option Greeting
+greeting_from found = found >>= (λ rest. pair_in rest >>= greeting_of)
+
 pub greeting_in-text : (g : Greeting) → FitsGreeting g → greeting_in (greeting_text g) ≡ Some g
 unfolding greeting_in
-greeting_in-text g fits = rw (after_mark-joined (pair_text g.size g.node), pair_in-text g.size g.node fits.size fits.node) refl
+greeting_in-text g fits =
+    ap greeting_from (after_mark-joined (pair_text g.size g.node)) ∙ ap (λ p. p >>= greeting_of) (pair_in-text g.size g.node fits.size fits.node)
 
 pub greeting_in-found : (line : List ℕ) (g : Greeting) → greeting_in line ≡ Some g → FitsGreeting g × (line ≡ greeting_text g)
 unfolding greeting_in
@@ -82,8 +90,7 @@ cut_once : (a b x y : List ℕ) → All (λ byte. byte ≢ 10) a → All (λ byt
     (a ≡ b) × (x ≡ y)
 cut_once a b x y p q e =
     let whole : a ++ 10 ∷ x ≡ b ++ 10 ∷ y = sym (append_assoc a (10 ∷ []) x) ∙ e ∙ append_assoc b (10 ∷ []) y in
-    let parts : Some (a, x) ≡ Some (b, y) = sym (parts_at-joined 10 a x p) ∙ ap (parts_at 10) whole ∙ parts_at-joined 10 b y q in
-    (cc, cc)
+    same_pair a b x y (parts_at 10 (a ++ 10 ∷ x)) (parts_at-joined 10 a x p) (ap (parts_at 10) whole ∙ parts_at-joined 10 b y q)
 
 open_message : (m : Message) → FitsMessage m → All (λ byte. byte ≢ 10) (message_text m)
 open_message m fits = pair_text-open m.dest m.dist fits.dest fits.dist
@@ -95,8 +102,20 @@ message_apart a b x y p q e =
     let same : Some a ≡ Some b = sym (message_in-text a p) ∙ ap message_in cut.0 ∙ message_in-text b q in
     (cc, cut.1)
 
+-- bytes that come after the line feed in the order of ASCII
+are_above : List ℕ → Bool
+are_above [] = true
+are_above (b ∷ bs) = nat_le 11 b && are_above bs
+
+all_above : (bs : List ℕ) → are_above bs ≡ true → All (λ byte. byte ≢ 10) bs
+all_above [] e = λ k d h. absurd (omega (arith, h))
+all_above (b ∷ bs) e =
+    let parts = and_parts (nat_le 11 b) (are_above bs) e in
+    let above = leb-true 11 b parts.0 in
+    All-cons (λ byte. byte ≢ 10) b bs (λ same. omega (arith, above, same)) (all_above bs parts.1)
+
 open_mark : All (λ byte. byte ≢ 10) mark
-open_mark k d short = search rules
+open_mark = all_above mark refl
 
 open_greeting : (g : Greeting) → FitsGreeting g → All (λ byte. byte ≢ 10) (greeting_text g)
 open_greeting g fits = All-append (λ byte. byte ≢ 10) mark (pair_text g.size g.node) open_mark (pair_text-open g.size g.node fits.size fits.node)
@@ -123,8 +142,13 @@ first_part m rest fits =
         (open_message m fits) in
     ap (slice_split is_line_feed) (append_assoc (message_text m) (10 ∷ []) rest) ∙ slice_split_at is_line_feed (message_text m) 10 rest feeds refl
 
+-- an empty line says nothing
+nothing_said : message_in [] ≡ None
+unfolding pair_in parts_at
+nothing_said = refl
+
 said : (ms : List Message) → All FitsMessage ms → filter_map message_in (slice_split is_line_feed (messages_text ms)) ≡ ms
-said [] fits = search rules
+said [] fits = rw nothing_said refl
 said (m ∷ ms) fits =
     rw (first_part m (messages_text ms) (All-head FitsMessage m ms fits), message_in-text m (All-head FitsMessage m ms fits))
     (ap (λ l. m ∷ l) (said ms (All-tail FitsMessage m ms fits)))

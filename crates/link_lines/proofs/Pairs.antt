@@ -22,6 +22,20 @@ pub bind_some : {A B P : Type 0} (r : Option A) (next : A → Option B) (y : B) 
 bind_some None next y e then = absurd cc
 bind_some (Some x) next y e then = then x refl e
 
+-- the parts of a pair that was found
+first_of : {A B : Type 0} → A → Option (A × B) → A
+first_of other None = other
+first_of other (Some p) = p.0
+
+second_of : {A B : Type 0} → B → Option (A × B) → B
+second_of other None = other
+second_of other (Some p) = p.1
+
+-- one pair is found
+pub same_pair : {A B : Type 0} (a b : A) (x y : B) (found : Option (A × B)) → found ≡ Some (a, x) → found ≡ Some (b, y) →
+    (a ≡ b) × (x ≡ y)
+same_pair a b x y found p q = (sym (ap (first_of a) p) ∙ ap (first_of a) q, sym (ap (second_of x) p) ∙ ap (second_of x) q)
+
 weighs : WeighsDigits decimal_value
 unfolding decimal_value
 weighs = record { empty = refl; more = λ c cs digit. refl }
@@ -82,13 +96,12 @@ pair_in-found text a b e =
     bind_some (exact_number parts.1) _ (a, b) e (λ second at_second e.
     let one = exact_number-found parts.0 first at_first in
     let two = exact_number-found parts.1 second at_second in
-    let same_a : first ≡ a = cc in
-    let same_b : second ≡ b = cc in
+    let same = same_pair first a second b (Some (first, second)) refl e in
     record {
-      first = omega (arith, one.0, same_a);
-      second = omega (arith, two.0, same_b);
+      first = omega (arith, one.0, same.0);
+      second = omega (arith, two.0, same.1);
       is = parts_at-found 32 text parts.0 parts.1 at_parts ∙ ap (λ l. l ++ 32 ∷ parts.1) one.1 ∙ ap (λ l. decimal first ++ 32 ∷ l) two.1
-          ∙ ap (λ n. decimal n ++ 32 ∷ decimal second) same_a ∙ ap (λ n. decimal a ++ 32 ∷ decimal n) same_b;
+          ∙ ap (λ n. decimal n ++ 32 ∷ decimal second) same.0 ∙ ap (λ n. decimal a ++ 32 ∷ decimal n) same.1;
     })))
 
 -- no line feed is in such a text

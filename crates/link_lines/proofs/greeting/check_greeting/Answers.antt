@@ -1,4 +1,4 @@
-use Rattle.std.proofs.Common.{◌≡◌, ◌∙◌, ap, sym, arith}
+use Rattle.std.proofs.Common.{◌∙◌, ap, rules, sym}
 use Rattle.link_lines.proofs.Exact.{greeting_in-found, greeting_none}
 use Rattle.link_lines.specs.Lines.{greeting_text}
 use Rattle.link_lines.proofs.greeting.check_greeting.Goals as goal
