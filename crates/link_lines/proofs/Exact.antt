@@ -53,10 +53,10 @@ after_mark-joined rest =
     ∙ ap (λ l. Some l) (drop_at mark rest (length mark) refl)
 
 -- the greeting after the mark
-greeting_of : ℕ × ℕ → Option Greeting
+abbrev greeting_of : ℕ × ℕ → Option Greeting
 greeting_of p = Some (record { size = p.0; node = p.1 })
 
-greeting_from : Option (List ℕ) → Option Greeting
+abbrev greeting_from : Option (List ℕ) → Option Greeting
 greeting_from found = found >>= (λ rest. pair_in rest >>= greeting_of)
 
 pub greeting_in-text : (g : Greeting) → FitsGreeting g → greeting_in (greeting_text g) ≡ Some g
@@ -103,7 +103,7 @@ message_apart a b x y p q e =
     (cc, cut.1)
 
 -- bytes that come after the line feed in the order of ASCII
-are_above : List ℕ → Bool
+abbrev are_above : List ℕ → Bool
 are_above [] = true
 are_above (b ∷ bs) = nat_le 11 b && are_above bs
 

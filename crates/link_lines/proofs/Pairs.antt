@@ -23,11 +23,11 @@ bind_some None next y e then = absurd cc
 bind_some (Some x) next y e then = then x refl e
 
 -- the parts of a pair that was found
-first_of : {A B : Type 0} → A → Option (A × B) → A
+abbrev first_of : {A B : Type 0} → A → Option (A × B) → A
 first_of other None = other
 first_of other (Some p) = p.0
 
-second_of : {A B : Type 0} → B → Option (A × B) → B
+abbrev second_of : {A B : Type 0} → B → Option (A × B) → B
 second_of other None = other
 second_of other (Some p) = p.1
 

@@ -27,7 +27,7 @@ text_more ms m = flat_map-append message_line ms (m ∷ []) ∙ ap (λ l. messag
 pub gave_none : (first : Option (List ℕ)) → GaveLines first first
 gave_none first = record { messages = []; fits = no_messages; moved = Consumes-nil first }
 
-pub gave_more : (first a b : Option (List ℕ)) (m : Message) → GaveLines first a → FitsMessage m → Consumes a b (message_line m) → GaveLines first b
+abbrev pub gave_more : (first a b : Option (List ℕ)) (m : Message) → GaveLines first a → FitsMessage m → Consumes a b (message_line m) → GaveLines first b
 gave_more first a b m gave fits moved = record {
   messages = gave.messages ++ m ∷ [];
   fits = fits_more gave.messages m gave.fits fits;
@@ -61,7 +61,7 @@ lines_read (Some xs) (Some ys) gave =
 pub got_none : (first : Option (List ℕ)) → GotLines first first
 got_none first = record { messages = []; fits = no_messages; moved = Appends-nil first }
 
-pub got_more : (first a b : Option (List ℕ)) (m : Message) → GotLines first a → FitsMessage m → Appends a b (message_line m) → GotLines first b
+abbrev pub got_more : (first a b : Option (List ℕ)) (m : Message) → GotLines first a → FitsMessage m → Appends a b (message_line m) → GotLines first b
 got_more first a b m got fits moved = record {
   messages = got.messages ++ m ∷ [];
   fits = fits_more got.messages m got.fits fits;
