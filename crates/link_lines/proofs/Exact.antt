@@ -1,5 +1,5 @@
 -- The laws of lines.
-use Rattle.std.proofs.Common.{◌≡◌, ◌≢◌, ℕ, ◌+◌, ◌^◌, ◌<◌, ◌≤◌, Bool, true, false, List, [], ◌∷◌, ◌++◌, length, take, drop, Option, Some, None, All, refl, sym, ◌∙◌, ap, subst}
+use Rattle.std.proofs.Common.{◌≡◌, ◌≢◌, ℕ, ◌≤◌, Bool, true, false, List, [], ◌∷◌, ◌++◌, length, take, drop, Option, Some, None, All, refl, sym, ◌∙◌, ap, subst}
 use Rattle.std.proofs.Common.{◌&&◌, nat_le, arith, length-append, append_assoc, inr, ◌↔◌, filter_map, take-append-drop}
 use Rattle.std.proofs.lemmas.List.{take_at, drop_at}
 use Rattle.std.specs.List.{slice_split}
@@ -139,7 +139,7 @@ first_part : (m : Message) (rest : List ℕ) → FitsMessage m →
     slice_split is_line_feed (message_line m ++ rest) ≡ message_text m ∷ slice_split is_line_feed rest
 first_part m rest fits =
     let feeds = All-weaker (λ byte. byte ≢ 10) (λ byte. is_line_feed byte ≡ false) (λ byte other. ne_eqb byte 10 other) (message_text m)
-        (open_message m fits) in
+    (open_message m fits) in
     ap (slice_split is_line_feed) (append_assoc (message_text m) (10 ∷ []) rest) ∙ slice_split_at is_line_feed (message_text m) 10 rest feeds refl
 
 -- an empty line says nothing
@@ -163,5 +163,9 @@ message_short m fits = omega (arith, length-append (message_text m) (10 ∷ []),
 
 pub greeting_short : (g : Greeting) → FitsGreeting g → length (greeting_line g) ≤ 64
 greeting_short g fits =
-    omega (arith, length-append (greeting_text g) (10 ∷ []), length-append mark (pair_text g.size g.node),
-    pair_text-short g.size g.node fits.size fits.node)
+    omega (
+      arith,
+      length-append (greeting_text g) (10 ∷ []),
+      length-append mark (pair_text g.size g.node),
+      pair_text-short g.size g.node fits.size fits.node,
+    )

@@ -1,10 +1,10 @@
 -- Two numbers with a space between them are read as they were written, and nothing else is read so.
-use Rattle.std.proofs.Common.{◌≡◌, ◌≢◌, ℕ, ◌+◌, ◌^◌, ◌<◌, ◌≤◌, Bool, true, List, [], ◌∷◌, ◌++◌, length, Option, Some, None, All, refl, sym, ◌∙◌, ap, subst, arith}
+use Rattle.std.proofs.Common.{◌≡◌, ◌≢◌, ℕ, ◌^◌, ◌<◌, ◌≤◌, true, List, ◌∷◌, ◌++◌, length, Option, Some, None, All, refl, sym, ◌∙◌, ap, arith}
 use Rattle.std.proofs.Common.{decimal, length-append}
 use Rattle.std.specs.Char.{IsAsciiDigit}
 use Rattle.std.specs.Str.{all_ascii_digits, bytes_eq}
 use Rattle.std.proofs.lemmas.Bool.{cond-true}
-use Rattle.std.proofs.lemmas.Fmt.{digits_decimal, digits_value-decimal, decimal_injective, decimal_nonempty, length-decimal-le}
+use Rattle.std.proofs.lemmas.Fmt.{digits_decimal, digits_value-decimal, decimal_nonempty, length-decimal-le}
 use Rattle.std.proofs.lemmas.List.Elements.{All-append, All-cons, All-weaker}
 use Rattle.std.proofs.lemmas.Option.{cond_some}
 use Rattle.std.proofs.lemmas.Slice.Eq.{bytes_eq-Decides}
@@ -113,5 +113,9 @@ pair_text-open a b p q =
 -- such a text has at most 11 bytes
 pub pair_text-short : (a b : ℕ) → a < 2 ^ 16 → b < 2 ^ 16 → length (pair_text a b) ≤ 11
 pair_text-short a b p q =
-    omega (arith, length-append (decimal a) (32 ∷ decimal b), length-decimal-le 5 a (omega arith) (omega (arith, p)) (wide a p),
-    length-decimal-le 5 b (omega arith) (omega (arith, q)) (wide b q))
+    omega (
+      arith,
+      length-append (decimal a) (32 ∷ decimal b),
+      length-decimal-le 5 a (omega arith) (omega (arith, p)) (wide a p),
+      length-decimal-le 5 b (omega arith) (omega (arith, q)) (wide b q),
+    )

@@ -1,5 +1,5 @@
 -- What a line says, or nothing. (This project's own choice.)
-use Rattle.std.specs.Prelude.{ℕ, if◌then◌else◌, List, [], ◌∷◌, length, take, drop, filter_map, Option, Some, None, bytes_eq, decimal}
+use Rattle.std.specs.Prelude.{ℕ, if◌then◌else◌, List, length, take, drop, filter_map, Option, Some, None, bytes_eq, decimal}
 use Rattle.std.specs.List.{slice_split}
 use Rattle.std.specs.Option.{option_map}
 use Rattle.line_protocol.specs.Lines.{is_line_feed, whole_lines}
