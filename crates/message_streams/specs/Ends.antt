@@ -1,5 +1,5 @@
 -- Why a reader hands out no more, and what it has read by then. (This project's own choice.)
-use Rattle.std.specs.Prelude.{◌≡◌, ◌≢◌, ℕ, suc, ◌<◌, ◌≤◌, All, Option, None, List, [], ◌∷◌, ◌++◌, length, ⊤}
+use Rattle.std.specs.Prelude.{◌≡◌, ◌≢◌, ℕ, ◌<◌, ◌≤◌, ◌==◌, if◌then◌else◌, All, Option, None, List, [], ◌∷◌, ◌++◌, length, ⊤}
 use Rattle.std.specs.Io.KnownBytes.{Consumes, IsAtEnd}
 use Rattle.link_lines.specs.Greetings.{IsGreetingFault}
 use Rattle.link_lines.specs.Lines.{line_limit}
@@ -14,8 +14,7 @@ IsOpen bytes = All (λ byte. byte ≢ 10) bytes
 
 -- the end of a stream after so many bytes of a line
 abbrev pub end_within : ℕ → StreamEnd
-end_within 0 = why.Ended
-end_within (suc n) = why.Unfinished
+end_within count = if count == 0 then why.Ended else why.Unfinished
 
 -- Why no line was read, after these bytes of it: the stream ended before a byte of it, or after some; it has as many bytes as a line
 -- may have, and none is a line feed; or the stream failed.
@@ -30,14 +29,14 @@ EndsAfter why.Read read left = ⊤
 -- no line was read; what was taken of the stream is no more than a line may have
 pub record StopsAtLine (end : StreamEnd) (known left : Option (List ℕ)) : Type 0 where
   pub read : List ℕ
-  pub open : IsOpen read
+  pub unended : IsOpen read
   pub within : length read ≤ line_limit
   pub consumed : Consumes known left read
   pub because : EndsAfter end read left
 
 -- a line was read, with its line feed and no more
 pub record ReadsLine (line : List ℕ) (known left : Option (List ℕ)) : Type 0 where
-  pub open : IsOpen line
+  pub unended : IsOpen line
   pub within : length line < line_limit
   pub consumed : Consumes known left (line ++ 10 ∷ [])
 

@@ -6,7 +6,7 @@ use Rattle.message_streams.proofs.line.read_line.Given as goal
 -- these bytes of the line were read, and none is a line feed
 abbrev pub invariant-bytes : goal.invariant-bytes
 invariant-bytes g l = record {
-  open : IsOpen l.line.items;
+  unended : IsOpen l.line.items;
   consumed : Consumes (g.R.Read.remaining l.initial.reader) (g.R.Read.remaining l.reader) l.line.items;
 }
 
