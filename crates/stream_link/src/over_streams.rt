@@ -82,7 +82,9 @@ impl<I: Read + Drop, O: Write + Drop> StreamLink<I, O> {
     /// What the link handed out is what the lines that were read say, in order, and what it was given is what was written.
     pub fn lines_are_told(&self)
         ensures { HandsOutLines self.now }
-    {}
+    {
+        let _ = &self.is_closed;
+    }
 
     /// Counts a failure.
     fn fault(&mut self) -> LinkFault
