@@ -13,7 +13,7 @@ use Rattle.netchange_core.specs.declared.message.Message.{Message}
 use Rattle.route_session.specs.Told.{grown}
 use Rattle.stream_link.specs.Views.{AreLines, GaveLines, GotLines, said_by, said_to}
 
-no_messages : All FitsMessage []
+pub no_messages : All FitsMessage []
 no_messages k d h = absurd (omega (arith, h))
 
 fits_more : (ms : List Message) (m : Message) → All FitsMessage ms → FitsMessage m → All FitsMessage (ms ++ m ∷ [])
