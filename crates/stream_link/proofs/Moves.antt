@@ -16,10 +16,10 @@ use Rattle.stream_link.specs.Views.{AreLines, GaveLines, GotLines, said_by, said
 pub no_messages : All FitsMessage []
 no_messages k d h = absurd (omega (arith, h))
 
-fits_more : (ms : List Message) (m : Message) → All FitsMessage ms → FitsMessage m → All FitsMessage (ms ++ m ∷ [])
+pub fits_more : (ms : List Message) (m : Message) → All FitsMessage ms → FitsMessage m → All FitsMessage (ms ++ m ∷ [])
 fits_more ms m all one = All-append FitsMessage ms (m ∷ []) all (All-cons FitsMessage m [] one no_messages)
 
-text_more : (ms : List Message) (m : Message) → messages_text (ms ++ m ∷ []) ≡ messages_text ms ++ message_line m
+pub text_more : (ms : List Message) (m : Message) → messages_text (ms ++ m ∷ []) ≡ messages_text ms ++ message_line m
 text_more ms m = flat_map-append message_line ms (m ∷ []) ∙ ap (λ l. messages_text ms ++ l) (append-nil (message_line m))
 
 -- ---- reading

@@ -43,8 +43,7 @@ impl<I: Read, O: Write> Model for StreamLink<I, O> {
 }
 
 impl<I: Read + Drop, O: Write + Drop> StreamLink<I, O> {
-    ghost use Rattle.route_session.specs.Told.{Rose};
-    ghost use Rattle.stream_link.specs.Views.{HandsOutLines, IsOnlyFault, new_view};
+    ghost use Rattle.stream_link.specs.Views.{AnswersWithout, HandsOutLines, IsOnlyFault, new_view};
 
     /// A link over a reader and a writer, each of which may be left out.
     pub fn new(input: Option<MessageReader<I>>, output: Option<MessageWriter<O>>) -> StreamLink<I, O>
@@ -96,7 +95,6 @@ impl<I: Read + Drop, O: Write + Drop> StreamLink<I, O> {
 
     /// The answer of a link that has no reader, or none any more.
     fn answer_without_input(&mut self) -> Result<Got, LinkFault>
-        ghost use Rattle.stream_link.specs.Views.{AnswersWithout};
         ensures { AnswersWithout self.old result self.new }
     {
         if self.is_closed || self.end == Some(StreamEnd::Ended) {
