@@ -38,11 +38,36 @@ fn readers_end(rt: HostRuntime) -> Result<(), Fail> {
     let rows: [(&[u8], u64, StreamEnd, &str); 7] = [
         (b"", 0, StreamEnd::Ended, "the stream ended"),
         (b"1 2\n3 4\n", 2, StreamEnd::Ended, "the stream ended"),
-        (b"1 2\n3 4", 1, StreamEnd::Unfinished, "the stream ended within a line"),
-        (b"1 2\n\n3 4\n", 1, StreamEnd::NoMessage, "the line is no message"),
-        (b"1 2\nx\n3 4\n", 1, StreamEnd::NoMessage, "the line is no message"),
-        (&long, 0, StreamEnd::TooLong, "the line has more than 64 bytes"),
-        (b"\xff\x00\n", 0, StreamEnd::NoMessage, "the line is no message"),
+        (
+            b"1 2\n3 4",
+            1,
+            StreamEnd::Unfinished,
+            "the stream ended within a line",
+        ),
+        (
+            b"1 2\n\n3 4\n",
+            1,
+            StreamEnd::NoMessage,
+            "the line is no message",
+        ),
+        (
+            b"1 2\nx\n3 4\n",
+            1,
+            StreamEnd::NoMessage,
+            "the line is no message",
+        ),
+        (
+            &long,
+            0,
+            StreamEnd::TooLong,
+            "the line has more than 64 bytes",
+        ),
+        (
+            b"\xff\x00\n",
+            0,
+            StreamEnd::NoMessage,
+            "the line is no message",
+        ),
     ];
     for (bytes, count, wanted, words) in rows {
         let mut reader = MessageReader::new(bytes);
@@ -63,7 +88,10 @@ fn greetings_are_read(rt: HostRuntime) -> Result<(), Fail> {
     let expected = Greeting { size: 10, node: 3 };
     let mut reader = MessageReader::new(b"netchange 1 10 3\n1 2\n".as_slice());
     expect(reader.read_greeting(expected) == Ok(()), "greeting")?;
-    expect(reader.next_message() == Ok(Message { dest: 1, dist: 2 }), "message")?;
+    expect(
+        reader.next_message() == Ok(Message { dest: 1, dist: 2 }),
+        "message",
+    )?;
     let mut other = MessageReader::new(b"netchange 1 10 4\n1 2\n".as_slice());
     let end = StreamEnd::Greeting(GreetingFault::OtherNode(4));
     expect(other.read_greeting(expected) == Err(end), "other node")?;
@@ -77,14 +105,29 @@ fn links_hand_on(rt: HostRuntime) -> Result<(), Fail> {
     let input = MessageReader::new(b"1 2\n3 4\n".as_slice());
     let output = MessageWriter::new(rt.alloc(), Narrow { room: 6 });
     let mut link = StreamLink::new(Some(input), Some(output));
-    expect(link.recv(&rt) == Ok(Got::Message(Message { dest: 1, dist: 2 })), "first")?;
-    expect(link.recv(&rt) == Ok(Got::Message(Message { dest: 3, dist: 4 })), "second")?;
+    expect(
+        link.recv(&rt) == Ok(Got::Message(Message { dest: 1, dist: 2 })),
+        "first",
+    )?;
+    expect(
+        link.recv(&rt) == Ok(Got::Message(Message { dest: 3, dist: 4 })),
+        "second",
+    )?;
     expect(link.recv(&rt) == Ok(Got::Ended), "end")?;
     expect(link.end() == Some(StreamEnd::Ended), "why")?;
     expect_number(link.line(), 3)?;
-    expect(link.send(&rt, Message { dest: 1, dist: 2 }) == Ok(()), "sent")?;
-    expect(link.send(&rt, Message { dest: 1, dist: 2 }) == Err(LinkFault), "no room")?;
-    expect(link.send(&rt, Message { dest: 1, dist: 2 }) == Err(LinkFault), "after a fault")?;
+    expect(
+        link.send(&rt, Message { dest: 1, dist: 2 }) == Ok(()),
+        "sent",
+    )?;
+    expect(
+        link.send(&rt, Message { dest: 1, dist: 2 }) == Err(LinkFault),
+        "no room",
+    )?;
+    expect(
+        link.send(&rt, Message { dest: 1, dist: 2 }) == Err(LinkFault),
+        "after a fault",
+    )?;
     link.close();
     expect(link.recv(&rt) == Ok(Got::Ended), "closed")
 }
@@ -94,8 +137,14 @@ fn links_hand_on(rt: HostRuntime) -> Result<(), Fail> {
 fn writers_write(rt: HostRuntime) -> Result<(), Fail> {
     let mut bytes = Vec::new(rt.alloc());
     let mut writer = MessageWriter::new(rt.alloc(), &mut bytes);
-    expect(writer.write_greeting(Greeting { size: 4, node: 1 }).is_ok(), "greeting")?;
-    expect(writer.write_message(Message { dest: 2, dist: 1 }).is_ok(), "message")?;
+    expect(
+        writer.write_greeting(Greeting { size: 4, node: 1 }).is_ok(),
+        "greeting",
+    )?;
+    expect(
+        writer.write_message(Message { dest: 2, dist: 1 }).is_ok(),
+        "message",
+    )?;
     drop(writer);
     expect_bytes(&bytes, b"netchange 1 4 1\n2 1\n")
 }

@@ -97,8 +97,7 @@ module _ (input : Option ReaderView) (output : Option WriterView) (fr lr : Optio
   told_read end line ended failures r s m is fits moved =
       let grew : handed_out fr (Some s) ≡ grown (handed_out fr lr) (m ∷ []) =
       said_more (left_of fr) r.left s.left m (gave_so_far r is) fits moved
-      ∙ ap (λ l. grown (handed_out fr l) (m ∷ [])) (sym (reads_last r is)) in
-      (
+      ∙ ap (λ l. grown (handed_out fr l) (m ∷ [])) (sym (reads_last r is)) in (
         reads_open r is,
         ap (λ h. record { handed = h; given = given_to fw lw; nothings = Some 0; ended = Some ended; failures = known failures; closed = closed }) grew,
       )
@@ -120,8 +119,7 @@ module _ (input : Option ReaderView) (output : Option WriterView) (fr lr : Optio
   told_written end line ended failures w v m is fits moved =
       let grew : given_to fw (Some v) ≡ grown (given_to fw lw) (m ∷ []) =
       written_more (held_of fw) w.held v.held m (got_so_far w is) fits moved
-      ∙ ap (λ l. grown (given_to fw l) (m ∷ [])) (sym (writes_last w is)) in
-      (
+      ∙ ap (λ l. grown (given_to fw l) (m ∷ [])) (sym (writes_last w is)) in (
         writes_open w is,
         ap (λ g. record { handed = handed_out fr lr; given = g; nothings = Some 0; ended = Some ended; failures = known failures; closed = closed }) grew,
       )

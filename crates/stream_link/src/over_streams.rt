@@ -46,7 +46,10 @@ impl<I: Read + Drop, O: Write + Drop> StreamLink<I, O> {
     ghost use Rattle.stream_link.specs.Views.{AnswersWithout, HandsOutLines, IsOnlyFault, new_view};
 
     /// A link over a reader and a writer, each of which may be left out.
-    pub fn new(input: Option<MessageReader<I>>, output: Option<MessageWriter<O>>) -> StreamLink<I, O>
+    pub fn new(
+        input: Option<MessageReader<I>>,
+        output: Option<MessageWriter<O>>,
+    ) -> StreamLink<I, O>
         ensures { result ≡ new_view input output }
     {
         StreamLink {
