@@ -1,11 +1,10 @@
 -- A link over streams, as contracts see it. (This project's own choice.)
-use Rattle.std.specs.Prelude.{◌≡◌, ℕ, ◌-◌, Bool, true, false, All, IfSome, List, [], ◌∷◌, length, take, drop, Option, Some, None, Result, Ok, Err}
+use Rattle.std.specs.Prelude.{◌≡◌, ℕ, ◌-◌, Bool, true, false, All, IfSome, List, [], length, take, drop, Option, Some, None, Result, Ok, Err}
 use Rattle.std.specs.Io.KnownBytes.{Appends, Consumes}
 use Rattle.link_lines.specs.Lines.{FitsMessage, messages_text}
 use Rattle.link_lines.specs.Reading.{messages_in}
 use Rattle.message_streams.specs.Views.{ReaderView, WriterView}
 use Rattle.message_streams.specs.declared.ends.StreamEnd.{StreamEnd}
-use Rattle.message_streams.specs.declared.ends.StreamEnd.TheVariants as why
 use Rattle.netchange_core.specs.declared.message.Message.{Message}
 use Rattle.route_session.specs.Links.{Failed}
 use Rattle.route_session.specs.Telling.{known}
