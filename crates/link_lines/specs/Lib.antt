@@ -1,0 +1,4 @@
+-- what callers cite
+pub mod Lines
+pub mod Reading
+pub mod Greetings

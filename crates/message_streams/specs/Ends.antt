@@ -1,0 +1,60 @@
+-- Why a reader hands out no more, and what it has read by then. (This project's own choice.)
+use Rattle.std.specs.Prelude.{◌≡◌, ◌≢◌, ℕ, ◌<◌, ◌≤◌, ◌==◌, if◌then◌else◌, All, Option, None, List, [], ◌∷◌, ◌++◌, length, ⊤}
+use Rattle.std.specs.Io.KnownBytes.{Consumes, IsAtEnd}
+use Rattle.link_lines.specs.Greetings.{IsGreetingFault}
+use Rattle.link_lines.specs.Lines.{line_limit}
+use Rattle.link_lines.specs.Reading.{message_in}
+use Rattle.link_lines.specs.declared.greeting.Greeting.{Greeting}
+use Rattle.message_streams.specs.declared.ends.StreamEnd.{StreamEnd}
+use Rattle.message_streams.specs.declared.ends.StreamEnd.TheVariants as why
+
+-- no line feed is in the bytes
+abbrev pub IsOpen : List ℕ → Type 0
+IsOpen bytes = All (λ byte. byte ≢ 10) bytes
+
+-- the end of a stream after so many bytes of a line
+abbrev pub end_within : ℕ → StreamEnd
+end_within count = if count == 0 then why.Ended else why.Unfinished
+
+-- Why no line was read, after these bytes of it: the stream ended before a byte of it, or after some; it has as many bytes as a line
+-- may have, and none is a line feed; or the stream failed.
+abbrev pub EndsAfter : StreamEnd → List ℕ → Option (List ℕ) → Type 0
+EndsAfter why.Ended read left = (read ≡ []) × IsAtEnd left
+EndsAfter why.Unfinished read left = (0 < length read) × IsAtEnd left
+EndsAfter why.TooLong read left = length read ≡ line_limit
+EndsAfter why.NoMessage read left = ⊥
+EndsAfter (why.Greeting fault) read left = ⊥
+EndsAfter why.Read read left = ⊤
+
+-- no line was read; what was taken of the stream is no more than a line may have
+pub record StopsAtLine (end : StreamEnd) (known left : Option (List ℕ)) : Type 0 where
+  pub read : List ℕ
+  pub unended : IsOpen read
+  pub within : length read ≤ line_limit
+  pub consumed : Consumes known left read
+  pub because : EndsAfter end read left
+
+-- a line was read, with its line feed and no more
+pub record ReadsLine (line : List ℕ) (known left : Option (List ℕ)) : Type 0 where
+  pub unended : IsOpen line
+  pub within : length line < line_limit
+  pub consumed : Consumes known left (line ++ 10 ∷ [])
+
+-- no message was handed out: there was no line, or the line is none
+abbrev pub StopsAtMessage : StreamEnd → Option (List ℕ) → Option (List ℕ) → Type 0
+StopsAtMessage why.NoMessage known left = (line : List ℕ) × ReadsLine line known left × (message_in line ≡ None)
+StopsAtMessage why.Ended known left = StopsAtLine why.Ended known left
+StopsAtMessage why.Unfinished known left = StopsAtLine why.Unfinished known left
+StopsAtMessage why.TooLong known left = StopsAtLine why.TooLong known left
+StopsAtMessage (why.Greeting fault) known left = ⊥
+StopsAtMessage why.Read known left = StopsAtLine why.Read known left
+
+-- no greeting was accepted: there was no line, or the line is not the expected greeting
+abbrev pub StopsAtGreeting : Greeting → StreamEnd → Option (List ℕ) → Option (List ℕ) → Type 0
+StopsAtGreeting expected (why.Greeting fault) known left =
+    (line : List ℕ) × ReadsLine line known left × IsGreetingFault line expected fault
+StopsAtGreeting expected why.Ended known left = StopsAtLine why.Ended known left
+StopsAtGreeting expected why.Unfinished known left = StopsAtLine why.Unfinished known left
+StopsAtGreeting expected why.TooLong known left = StopsAtLine why.TooLong known left
+StopsAtGreeting expected why.NoMessage known left = ⊥
+StopsAtGreeting expected why.Read known left = StopsAtLine why.Read known left

@@ -1,0 +1,2 @@
+-- what callers cite
+pub mod Views
