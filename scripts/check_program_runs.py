@@ -116,18 +116,19 @@ FAULTS = [
     ("ncroute check --size 16 no_such.filter examples/no_bogons.filter 2>/dev/null | grep -c verified; echo $?", b"1\n1\n"),
     ("ncroute explain | head -1", b"A code is a letter and a number. The letters are:\n"),
     ("printf 'network 16 0\\n\\tload  b filter b int c; { c = 100 / rip_metric; accept; }\\ncode d 00\\nload\\n' | ncroute run --explain always 2>&1 >/dev/null; echo $?",
-     b"<stdin>:2:36: instruction 4: the divisor may be 0: it is 0..16 here (V3)\n\tload  b filter b int c; { c = 100 / rip_metric; accept; }\n\t"
+     b"<stdin>:2:36: the divisor may be 0: it is 0..16 here, whatever the conditions before it; see `ncroute explain V3` (V3)\n\tload  b filter b int c; { c = 100 / rip_metric; accept; }\n\t"
      + b" " * 34 + b"^\n<stdin>:3: byte 0 does not match the mark NCF1, which begins a code file (C1)\n1\n"),
     ("printf 'network 4 0\\nload a filter a { accept }\\nup 1\\n' | ncroute run --explain always 2>/dev/full; echo $?",
      b"ok\nrefused P2 18\nopened 1\n1\n"),
-    ("ncroute domain < examples 2>&1; echo $?", b"ncroute: E1\n1\n"),
-    ("ncroute domain examples 2>&1; echo $?", b"ncroute: E1\n1\n"),
-    ("ncroute domain no_such.domain 2>&1; echo $?", b"ncroute: E1\n1\n"),
-    ("ncroute domain examples/office.domain 2>&1 >/dev/full; echo $?", b"ncroute: E2\n1\n"),
-    ("ncroute domain <(head -c 16777217 /dev/zero | tr '\\0' '\\n') 2>&1; echo $?", b"ncroute: E4\n1\n"),
+    ("ncroute domain < examples 2>&1; echo $?", b"ncroute: E1\n3\n"),
+    ("ncroute domain examples 2>&1; echo $?", b"examples: Is a directory (E1)\n3\n"),
+    ("ncroute domain no_such.domain 2>&1; echo $?", b"no_such.domain: No such file or directory (E1)\n3\n"),
+    ("ncroute run no_such.script 2>&1; echo $?", b"no_such.script: No such file or directory (E1)\n1\n"),
+    ("ncroute domain examples/office.domain 2>&1 >/dev/full; echo $?", b"ncroute: E2\n3\n"),
+    ("ncroute domain <(head -c 16777217 /dev/zero | tr '\\0' '\\n') 2>&1; echo $?", b"ncroute: E4\n3\n"),
     ("ncroute domain examples/office.domain | cmp - <(ncroute domain < examples/office.domain); echo $?", b"0\n"),
     ("printf 'domain 16\\nload b filter b int c; { c = 100 / rip_metric; accept; }\\n' | ncroute domain --explain always 2>&1 >/dev/null; echo $?",
-     b"<stdin>:2:34: instruction 4: the divisor may be 0: it is 0..16 here (V3)\nload b filter b int c; { c = 100 / rip_metric; accept; }\n"
+     b"<stdin>:2:34: the divisor may be 0: it is 0..16 here, whatever the conditions before it; see `ncroute explain V3` (V3)\nload b filter b int c; { c = 100 / rip_metric; accept; }\n"
      + b" " * 33 + b"^\n1\n"),
     ("ncroute explain P2 2>&1 >/dev/full; echo $?", b"ncroute: E2\n1\n"),
     ("ncroute list examples/no_bogons.filter 2>&1 >/dev/full; echo $?", b"ncroute: E2\n3\n"),
