@@ -1,7 +1,7 @@
 //! The known word that somebody may have meant.
 
 use std::alloc::{AllocError, Global};
-use strsim::levenshtein;
+use strsim::osa_distance;
 
 /// A known word, and the number of edits that lead to it.
 #[derive(Clone, Copy)]
@@ -10,7 +10,8 @@ struct Near<'a> {
     distance: usize,
 }
 
-/// The known word to which the fewest edits lead, if at most a third of a word's letters are edited.
+/// The known word to which the fewest edits lead, if they are at most a third of the word's letters. Two letters that changed places are
+/// one edit.
 pub(crate) fn nearest<'a>(
     alloc: Global,
     word: &str,
@@ -20,9 +21,9 @@ pub(crate) fn nearest<'a>(
     for candidate in known {
         let near = Near {
             word: *candidate,
-            distance: levenshtein(alloc, word, *candidate)?,
+            distance: osa_distance(alloc, word, *candidate)?,
         };
-        if near.distance <= word.len().div_ceil(3) && is_nearer(near, best) {
+        if near.distance <= word.len() / 3 && is_nearer(near, best) {
             best = Some(near);
         }
     }
