@@ -3,7 +3,7 @@
 
 usage: compare.py PROVED PLAIN COMMAND ROUNDS INPUT..
 
-Each program is started with the words of COMMAND (`eval`, `run` or `check --size N`) and an input file as its standard input. Where the two differ in output or
+Each program is started with the words of COMMAND (`eval`, `run`, `domain` or `check --size N`) and an input file as its standard input. Where the two differ in output or
 exit status, that is said and the status is 1; nothing is timed then. Otherwise they are run ROUNDS times each, by
 turns, and the least and the median time of each are printed with the ratio PROVED / PLAIN. A time is the processor time
 of the whole process, with its output to the null device. Where valgrind stands, their instructions are printed too.

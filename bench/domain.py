@@ -1,5 +1,5 @@
 #!/usr/bin/env python3
-"""Writes an input of `ncroute domain`: a domain with random links and filters at both ends of each, for
+"""Writes an input of `ncroute domain`, as the plain program answers it too: a domain with random links and filters at both ends of each, for
 what is heard and for what is told; then `table U` for each node.
 
 usage: domain.py [NODES [LINKS [SEED]]]
@@ -16,10 +16,12 @@ NODES = 250
 LINKS = 1_000
 SEED = 1
 
-# Two filters, whose runs take at most 11 and 10 instructions: one adds to the metric where it is small, one refuses a few prefixes' routes that are long.
+# The code files of two filters, whose runs take at most 11 and 10 instructions. One adds to the metric where it is small:
+# `if rip_metric < 9 then rip_metric = rip_metric + 1; accept;`. One refuses a few prefixes' routes that are long:
+# `if net ~ [ 10.7.0.0/16, 10.9.0.0/16 ] && rip_metric > 99 then reject; accept;`.
 FILTERS = {
-    "near": "filter near { if rip_metric < 9 then rip_metric = rip_metric + 1; accept; }",
-    "far": "filter far { if net ~ [ 10.7.0.0/16, 10.9.0.0/16 ] && rip_metric > 99 then reject; accept; }",
+    "near": "4e4346310000000c13010000000931610006130100000001201424157071",
+    "far": "4e434631000100020a0700001010100a090000101010000d12510061000513010000006332336000010200610001717071",
 }
 
 
@@ -40,7 +42,7 @@ def lines_of(nodes, count, seed):
     numbers = Numbers(seed)
     yield f"domain {nodes}"
     for name, text in FILTERS.items():
-        yield f"load {name} {text}"
+        yield f"code {name} {text}"
     names = list(FILTERS)
     for u, w in links_of(nodes, count, numbers):
         yield f"link {u} {w}"

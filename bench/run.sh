@@ -1,8 +1,8 @@
 #!/usr/bin/env bash
 # Builds the proved programs and the plain one, checks that they answer the same, and prints their times and ratios:
-# of `ncroute eval`, `run` and `check` as a whole, of the machines alone, or of the router alone.
+# of `ncroute eval`, `run`, `domain` and `check` as a whole, of the machines alone, or of the router alone.
 #
-# usage: bench/run.sh [eval|check|machines|instructions|bird|router|callers|script]     (without a word: eval and machines)
+# usage: bench/run.sh [eval|check|machines|instructions|bird|router|callers|script|domain]     (without a word: eval and machines)
 #   instructions counts instructions of the machines with valgrind, in place of their time
 #   bird compares the machine for verified code with BIRD 2.0, where that is installed
 #   NCROUTE=PATH       a proved `ncroute` that is built already: then none is built here
@@ -74,6 +74,16 @@ if [ "$wanted" = script ]; then
         done
     done
     compare run "${inputs[@]}"
+    exit
+fi
+
+if [ "$wanted" = domain ]; then
+    inputs=()
+    for nodes_links in 64=250 250=1000; do
+        "$bench/domain.py" "${nodes_links%=*}" "${nodes_links#*=}" >"$folder/domain_of_${nodes_links%=*}"
+        inputs+=("$folder/domain_of_${nodes_links%=*}")
+    done
+    compare domain "${inputs[@]}"
     exit
 fi
 

@@ -5,6 +5,7 @@ usage: scripts/check_documents.py        (NCROUTE=PATH: the program; without it,
 
 - Each example: a line `    $ COMMAND` of README.md or docs/*.md, run at the top of the repository, writes the indented lines below it. One that
   looks at standard error (`2>&1`) or names a file of a filter (`ncroute filter`) needs the program, and is left out without NCROUTE=PATH.
+- Each example that hands a filter from `ncroute check` on to another `ncroute` does nothing, and fails, with a filter that is refused.
 - The table of the examples in docs/LANGUAGE.md: each filter of examples/ answers the route so.
 - Each row of a table of codes says what `ncroute explain CODE` says, and each example of `ncroute explain` writes what it shows.
 - Each listing of docs/VERIFIER.md (`    0 METRIC`, `    1 INT 2`, ..), as a code file with as many variables and sets as it names: `check --code`
@@ -21,8 +22,10 @@ import program  # noqa: E402
 
 # The document whose table has the codes of a letter, and the column of their meaning.
 TABLES = {"P": ("LANGUAGE", 1), "Y": ("KINDS", 1), "V": ("VERIFIER", 1), "C": ("CODE_FILE", 1), "K": ("MACHINE", 1), "E": ("EVAL", 1), "O": ("SCRIPT", 1),
-          "N": ("ROUTER", 1), "J": ("ROUTER", 1), "L": ("LOCK", 2), "X": ("SESSIONS", 1)}
+          "N": ("ROUTER", 1), "D": ("DOMAIN", 1), "J": ("ROUTER", 1), "H": ("HISTORY", 1), "L": ("LOCK", 2), "X": ("SESSIONS", 1)}
 OTHER_CODES = ["G1", "G2", "G3"]
+# A filter that is refused.
+MISTAKE = "filter mistake { acept; }"
 SIZE = 8
 SET = "0001" + "01000000" + "080f11"
 
@@ -43,6 +46,13 @@ def examples(text):
         elif found and not line.startswith("    "):
             found.append(("", None))
     return [(command, "".join(wanted)) for command, wanted in found if wanted is not None]
+
+
+def with_mistake(command):
+    """A command that checks a filter and hands it on to another `ncroute`, with a filter that is refused; none of any other command."""
+    if not re.search(r"ncroute check .*ncroute (run|eval)", command):
+        return None
+    return re.sub(r"< *examples/\w+\.filter", f"<<< '{MISTAKE}'", re.sub(r"echo 'filter [^']*'", f"echo '{MISTAKE}'", command))
 
 
 def answers(text):
@@ -102,7 +112,7 @@ def copies():
 
 def needs_program(command):
     """`rt try --cases` tells no standard error, and runs in a folder without the files of the repository."""
-    return "2>&1" in command or "ncroute filter" in command or ".filter" in re.sub(r"< *[\w/.]+", "", command)
+    return "2>&1" in command or "ncroute filter" in command or ".history" in command or ".filter" in re.sub(r"< *[\w/.]+", "", command)
 
 
 def explained(ncroute, tell):
@@ -138,8 +148,9 @@ def main():
         left_out = sum(needs_program(command) for _, rows in documents for command, _ in rows)
         documents = [(name, [row for row in rows if not needs_program(row[0])]) for name, rows in documents]
         print(f"{left_out} examples are left out: they need the program, NCROUTE=PATH")
+    closed = [(name, command) for name, rows in documents for command in (with_mistake(row[0]) for row in rows) if command]
     table, codes = list(answers(read("docs/LANGUAGE.md"))), list(listed(read("docs/VERIFIER.md")))
-    lines = [command for _, rows in documents for command, _ in rows] + [row[0] for row in table] + [row[0] for row in codes]
+    lines = [command for _, rows in documents for command, _ in rows] + [row[0] for row in table] + [row[0] for row in codes] + [row[1] for row in closed]
     said = iter(ncroute.runs([(line, b"") for line in lines]))
 
     def compare(command, wanted):
@@ -156,6 +167,10 @@ def main():
         well = wrote == wanted if wanted else wrote.startswith("verified ")
         judged.append((command, not is_shown and "the hexadecimal is not the listing's" or not well and f"wrote {wrote!r}, and not {wanted or 'verified ..'!r}"))
     tell("docs/VERIFIER.md", "listings", judged)
+    shut = [(command, next(said)) for _, command in closed]
+    tell("docs", "pipelines closed on a refused filter", [
+        (command, (MISTAKE not in command and "has no filter of its own" or wrote and f"wrote {wrote.decode()!r}" or not status and "ends with status 0"))
+        for command, (wrote, status) in shut])
     same = [(name, without_comments(read(name)) != without_comments(text) and "differs from its copy in the tests") for name, text in copies()]
     found = {name for name, _ in same}
     same += [(name, "has no copy in the tests") for name in sorted(glob.glob("examples/*.filter", root_dir=program.TOP)) if name not in found]

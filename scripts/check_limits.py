@@ -283,6 +283,47 @@ def longest_filter():
     return FILTER.ljust(TEXT), b"code 4e434631000000027071\n" + VERIFIED, 0
 
 
+def saved_history():
+    """`replay` of a history with as many entries as it may have, of each kind of session event."""
+    turns = ENTRIES // 4
+    lines = [f"NCH1 4 0 {ENTRIES} 10.0.0.0/16 10.1.0.0/16 10.2.0.0/16 10.3.0.0/16"]
+    for turn in range(turns):
+        at, session = 4 * turn, turn + 1
+        lines.append(f"{at} up 1 opened {session}\n{at + 1} recv {session} 1 0 done 1")
+        lines.append(f"{at + 2} take {session} 65535 messages 0:0 1:4 2:4 3:4 1:1\n{at + 3} down {session} done 1")
+    return written(lines), b"replay ok %d\n" % ENTRIES, 0
+
+
+def longer_history():
+    """The same with an entry more than its limit."""
+    lines, _, _ = saved_history()
+    return lines + b"%d show 1 route 4 none\n" % ENTRIES, b"refused H1 %d\n" % (ENTRIES + 2), 1
+
+
+def greatest_plan():
+    """`domain` of as many nodes as there can be, each linked to each other one; then node 0 to node 1 alone, and the end of a row of all of them."""
+    pairs = [(u, w) for u in range(NODES) for w in range(u + 1, NODES)]
+    lines = [f"domain {NODES}", *(f"link {u} {w}" for u, w in pairs), "table 0", "mark"]
+    answers = ["ok"] * (1 + len(pairs)) + ["table 0:0" + "".join(f" {v}:1:{v}" for v in range(1, NODES)), "ok"]
+    cuts = [(u, w) for u, w in pairs if w != u + 1]
+    lines += [f"cut {u} {w}" for u, w in cuts] + ["table 0", "changes", "path 0 249"]
+    answers += ["ok"] * len(cuts) + ["table 0:0" + "".join(f" {v}:{v}:1" for v in range(1, NODES))]
+    answers += ["changes" + "".join(f" {u}:{v}" for u in range(NODES) for v in range(NODES) if abs(u - v) > 1), "path " + " ".join(map(str, range(NODES)))]
+    return "".join(line + "\n" for line in lines).encode(), "".join(line + "\n" for line in answers).encode(), 0
+
+
+def longest_plan():
+    """An input of `domain` with as many bytes as the limit."""
+    lines = b"domain 2\nlink 0 1\n" + b"# a comment of sixty-three bytes, so that the lines are few......\n" * ((INPUT - 100) // 66)
+    return lines + b"route 0 1".rjust(INPUT - len(lines) - 1) + b"\n", b"ok\nok\nroute 1 via 1\n", 0
+
+
+def longer_plan():
+    """The same and a byte more: all lines that end within the limit are answered, and no other."""
+    lines, answers, _ = longest_plan()
+    return lines + b"m", answers, 3, b"ncroute: E4\n"
+
+
 ROWS = [
     ("run, a full history", "run", full_history),
     ("run, a history to its last entry", "run", shown_routes),
@@ -294,12 +335,17 @@ ROWS = [
     ("run, a code file at all limits", "run", longest_code),
     ("run, an input at the limit", "run", longest_script),
     ("run, an input over the limit", "run", longer_script),
+    ("domain, the greatest", "domain", greatest_plan),
+    ("domain, an input at the limit", "domain", longest_plan),
+    ("domain, an input over the limit", "domain", longer_plan),
     ("eval, an input at the limit", "eval", longest_routes),
     ("eval, an input over the limit", "eval", longer_routes),
     ("eval, lines at the limit", "eval", longest_route_line),
     ("check, an input at the limit", "check --size 250", longest_source),
     ("check, an input over the limit", "check --size 250", longer_source),
     ("check, a text at the limit", "check --size 250", longest_filter),
+    ("replay, a full history", "replay", saved_history),
+    ("replay, an entry over the limit", "replay", longer_history),
 ]
 
 
@@ -334,7 +380,7 @@ def hundred_files(ncroute):
             with open(name, "wb") as it:
                 it.write(FILTER if name != names[-1] else FILTER[:-1])
         wanted = (b"code 4e434631000000027071\n" + VERIFIED) * 99 + b"refused P9 19\n", 1, names[-1].encode() + b": refused P9 19\n"
-        return differs(run(ncroute, "check --size 250 " + " ".join(names), b""), wanted)
+        return differs(run(ncroute, "check --size 250 --explain never " + " ".join(names), b""), wanted)
 
 
 # ---- names that collide

@@ -15,6 +15,7 @@ import program  # noqa: E402
 
 FILTER = b"filter up2 { rip_metric = rip_metric + 2; accept; }\n"
 CODE = b"4e43463100000008130100000002201424157071"
+HISTORY = b"NCH1 4 0 9 10.0.0.0/16 10.1.0.0/16 10.2.0.0/16 10.3.0.0/16\n0 up 1 opened 1\n1 show 1 route 4 none\n"
 LINES = b"code " + CODE + b"\nverified 7 2\n"
 
 # The words, the input, the output and the exit status.
@@ -42,16 +43,24 @@ RUNS = [
     ("check --size 8 -", FILTER, LINES, 0),
     ("check --size 8 --explain always - -", FILTER, LINES + b"refused P9 0\n", 1),
     ("check --size 8 no_such.filter", FILTER, b"", 1),
-    ("explain", b"", b"", 2),
     ("explain P99", b"", b"", 2),
     ("list", b"filter a { accept; }", b"0 ACCEPT ; 1:12\n1 REJECT ; 1:20\n", 0),
     ("list --size 251", b"filter a { accept; }", b"refused V8 0\n", 1),
     ("list --size 8 --code", b"4e4346310000000170", b"  stack:; variables:\n0 ACCEPT\nverified 1 0\n", 0),
-    ("list --code no_such.code", b"", b"", 1),
+    ("list --code no_such.code", b"", b"", 3),
     ("list", b"filter a { accept }", b"refused P2 18\n", 1),
     ("list --size x", b"", b"", 2),
-    ("--version", b"", b"ncroute (rattle-kit-13b logic dac8208d650f15bf)\n", 0),
-    ("filter --size 8 no_such.filter", b"10.0.0.0/8 3\n", b"", 1),
+    ("--version", b"", b"ncroute 0.1.0 (rattle-kit-13b logic dac8208d650f15bf)\n", 0),
+    ("filter --size 8 no_such.filter", b"10.0.0.0/8 3\n", b"", 3),
+    ("filter --size 8 -", FILTER, b"", 2),
+    ("replay", HISTORY, b"replay ok 2\n", 0),
+    ("replay -", HISTORY.replace(b"opened 1", b"opened 2"), b"differs 0 saved opened 2 right opened 1\n", 1),
+    ("replay", HISTORY[:-1], b"cut 3\n", 1),
+    ("replay", HISTORY.replace(b"0 up", b"1 up"), b"refused H1 2\n", 1),
+    ("replay", b"", b"cut 1\n", 1),
+    ("replay no_such.history", b"", b"", 3),
+    ("replay one two", b"", b"", 2),
+    ("check --size -16", b"", b"", 2),
     ("filter --size 8", b"", b"", 2),
     ("filter examples/no_bogons.filter", b"", b"", 2),
     ("", b"", b"", 2),
@@ -60,6 +69,12 @@ RUNS = [
     ("check --size 4294967296", FILTER, b"", 2),
     ("eval --size 8", b"", b"", 2),
     ("eval more", b"", b"", 2),
+    ("domain", b"domain 3\nlink 0 1\nlink 1 2\nroute 0 2\n", b"ok\nok\nok\nroute 2 via 1\n", 0),
+    ("domain -", b"domain 3\nroute 0 2\nroute 0 3\n", b"ok\nroute 3 none\nrefused D1 3\n", 1),
+    ("domain", b"", b"", 0),
+    ("domain --explain always", b"domain 8\nload a filter a { accept }\n", b"ok\nrefused P2 18\n", 1),
+    ("domain no_such.domain", b"domain 3\n", b"", 3),
+    ("domain a b", b"", b"", 2),
     ("net", b"", b"node 0 replay ok\nnode 1 replay ok\nnode 2 replay ok\n", 0),
     ("net more", b"", b"", 2),
     ("load", b"", b"", 2),
@@ -80,25 +95,44 @@ FAULTS = [
     ("ncroute --help 2>&1 >/dev/full; echo $?", b"ncroute: E2\n1\n"),
     ("ncroute eval --help 2>&1 >/dev/full; echo $?", b"ncroute: E2\n1\n"),
     ("printf '8.8.8.0/24 9\\n8.8.8.0/24 17\\n' | ncroute filter --size 16 examples/backup_link.filter; echo $?", b"accept 12\nrefused O2 2\n1\n"),
-    ("ncroute filter --size 16 examples/backup_link.filter < examples 2>&1; echo $?", b"ncroute: E1\n1\n"),
-    ("ncroute filter --size 16 examples </dev/null 2>&1; echo $?", b"ncroute: E1\n1\n"),
+    ("ncroute filter --size 16 examples/backup_link.filter < examples 2>&1; echo $?", b"ncroute: E1\n3\n"),
+    ("ncroute filter --size 16 examples </dev/null 2>&1; echo $?", b"examples: Is a directory (E1)\n3\n"),
+    ("ncroute replay examples/one_neighbour.history; echo $?", b"replay ok 8\n0\n"),
+    ("ncroute replay < examples 2>&1; echo $?", b"ncroute: E1\n3\n"),
+    ("ncroute replay no_such.history 2>&1; echo $?", b"no_such.history: No such file or directory (E1)\n3\n"),
+    ("ncroute replay examples/one_neighbour.history 2>&1 >/dev/full; echo $?", b"ncroute: E2\n3\n"),
+    ("ncroute list no_such.filter 2>/dev/full; echo $?", b"3\n"),
     ("echo 1 | ncroute filter --size 1 --explain always examples/backup_link.filter 2>&1; echo $?",
      b"refused V8 0\nexamples/backup_link.filter: the size of a domain must be 2 to 250 (V8)\n1\n"),
     ("echo 'filter a { accept }' | ncroute check --size 8 --explain always 2>/dev/full; echo $?", b"refused P2 18\n1\n"),
-    ("ncroute check --size 16 examples/up_two.eval examples/no_bogons.filter 2>&1 >/dev/null; echo $?", b"examples/up_two.eval: refused P2 100\n1\n"),
-    ("ncroute check --size 16 examples examples/no_bogons.filter 2>&1; echo $?", b"ncroute: E1\n1\n"),
+    ("ncroute check --size 16 --explain never examples/up_two.eval examples/no_bogons.filter 2>&1 >/dev/null; echo $?",
+     b"examples/up_two.eval: refused P2 100\n1\n"),
+    ("ncroute check --size 16 examples/up_two.eval 2>&1 >/dev/null | grep -c '^examples/up_two.eval:[0-9]*:[0-9]*: .* (P2)$'; echo $?", b"1\n1\n"),
+    ("ncroute check --size 16 examples no_such.filter examples/no_bogons.filter 2>&1 >/dev/null; echo $?",
+     b"examples: Is a directory (E1)\nno_such.filter: No such file or directory (E1)\n1\n"),
+    ("ncroute check --size 16 no_such.filter examples/no_bogons.filter 2>/dev/null | grep -c verified; echo $?", b"1\n1\n"),
+    ("ncroute explain | head -1", b"A code is a letter and a number. The letters are:\n"),
     ("printf 'network 16 0\\n\\tload  b filter b int c; { c = 100 / rip_metric; accept; }\\ncode d 00\\nload\\n' | ncroute run --explain always 2>&1 >/dev/null; echo $?",
      b"<stdin>:2:36: instruction 4: the divisor may be 0: it is 0..16 here (V3)\n\tload  b filter b int c; { c = 100 / rip_metric; accept; }\n\t"
      + b" " * 34 + b"^\n<stdin>:3: byte 0 does not match the mark NCF1, which begins a code file (C1)\n1\n"),
     ("printf 'network 4 0\\nload a filter a { accept }\\nup 1\\n' | ncroute run --explain always 2>/dev/full; echo $?",
      b"ok\nrefused P2 18\nopened 1\n1\n"),
+    ("ncroute domain < examples 2>&1; echo $?", b"ncroute: E1\n1\n"),
+    ("ncroute domain examples 2>&1; echo $?", b"ncroute: E1\n1\n"),
+    ("ncroute domain no_such.domain 2>&1; echo $?", b"ncroute: E1\n1\n"),
+    ("ncroute domain examples/office.domain 2>&1 >/dev/full; echo $?", b"ncroute: E2\n1\n"),
+    ("ncroute domain <(head -c 16777217 /dev/zero | tr '\\0' '\\n') 2>&1; echo $?", b"ncroute: E4\n1\n"),
+    ("ncroute domain examples/office.domain | cmp - <(ncroute domain < examples/office.domain); echo $?", b"0\n"),
+    ("printf 'domain 16\\nload b filter b int c; { c = 100 / rip_metric; accept; }\\n' | ncroute domain --explain always 2>&1 >/dev/null; echo $?",
+     b"<stdin>:2:34: instruction 4: the divisor may be 0: it is 0..16 here (V3)\nload b filter b int c; { c = 100 / rip_metric; accept; }\n"
+     + b" " * 33 + b"^\n1\n"),
     ("ncroute explain P2 2>&1 >/dev/full; echo $?", b"ncroute: E2\n1\n"),
-    ("ncroute list examples/no_bogons.filter 2>&1 >/dev/full; echo $?", b"ncroute: E2\n1\n"),
+    ("ncroute list examples/no_bogons.filter 2>&1 >/dev/full; echo $?", b"ncroute: E2\n3\n"),
 ]
 
 HINT = b"ncroute: reading standard input, which Ctrl-D ends\n"
-IN_WORDS = b"<stdin>:1:19: expected a text or `;` at byte 18 (P2)\nfilter a { accept }\n                  ^\n"
-LOADED = b"<stdin>:2:26: expected a text or `;` at byte 18 (P2)\nload a filter a { accept }\n                         ^\n"
+IN_WORDS = b"<stdin>:1:19: expected a text or `;`, found `}` (P2)\nfilter a { accept }\n                  ^\n"
+LOADED = b"<stdin>:2:26: expected a text or `;`, found `}` (P2)\nload a filter a { accept }\n                         ^\n"
 
 # Lines of a shell in which standard error is a terminal, and standard input too where something is typed; what they write on standard
 # output and on standard error.
@@ -112,6 +146,9 @@ TERMINALS = [
     ("ncroute run", b"network 4 0\n\4", b"ok\n", HINT),
     ("printf 'network 4 0\\nload a filter a { accept }\\nup 1\\n' | ncroute run", b"", b"ok\nrefused P2 18\nopened 1\n", LOADED),
     ("printf 'network 4 0\\nload a filter a { accept }\\nup 1\\n' | ncroute run --explain never", b"", b"ok\nrefused P2 18\nopened 1\n", b""),
+    ("printf 'domain 4\\nload a filter a { accept }\\n' | ncroute domain", b"", b"ok\nrefused P2 18\n", LOADED),
+    ("ncroute domain", b"domain 4\n\4", b"ok\n", HINT),
+    ("ncroute domain examples/office.domain > /dev/null", b"\4", b"", b""),
     ("ncroute eval", CODE + b"\n10.0.0.0/8 3 8\n\4", b"accept 5\n", HINT),
     ("ncroute filter --size 16 examples/backup_link.filter", b"8.8.8.0/24 9\n\4", b"accept 12\n", HINT),
     ("ncroute check --size 16 examples/no_bogons.filter >/dev/null", b"\4", b"", b""),

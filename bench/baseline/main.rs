@@ -6,10 +6,13 @@
 //! `run`: standard input is an operator's script; see `script.rs`.
 //!
 //! `check --size N`: standard input is a filter's text; see `check.rs`.
+//!
+//! `domain`: it is the script of a domain; see `domain.rs`.
 
 mod callers;
 mod check;
 mod code;
+mod domain;
 mod events;
 mod lexer;
 mod lines;
@@ -26,6 +29,7 @@ use std::io;
 use std::process::ExitCode;
 
 use code::{decode_hexadecimal, read_code, Code};
+use domain::Domain;
 use lines::{answer_lines, push_decimal, push_refusal, trim_blanks, words, Reply, Service, StreamFault, LINE_LIMIT};
 use machine::{run, Memory, Outcome};
 use rounds::{measured, Sums};
@@ -133,6 +137,11 @@ fn run_script() -> Result<bool, StreamFault> {
     Ok(answer_lines(&mut io::stdin().lock(), &mut io::stdout().lock(), &mut Script::new())? == 0)
 }
 
+/// Answers the script of a domain on standard input. Whether no line was refused.
+fn run_domain() -> Result<bool, StreamFault> {
+    Ok(answer_lines(&mut io::stdin().lock(), &mut io::stdout().lock(), &mut Domain::new())? == 0)
+}
+
 /// Takes routes through the machine again and again, and prints what it said.
 fn measure(rounds: u32) -> Result<bool, StreamFault> {
     let Sums { accepted, rejected, metrics } = measured(rounds)?;
@@ -169,6 +178,7 @@ fn main() -> ExitCode {
             Ok(size) => check::check(&mut io::stdin().lock(), &mut io::stdout().lock(), size),
             Err(_) => return usage(),
         },
+        ["domain"] => run_domain(),
         ["rounds", number] => match number.parse() {
             Ok(rounds) => measure(rounds),
             Err(_) => return usage(),
@@ -195,7 +205,7 @@ fn main() -> ExitCode {
 
 fn usage() -> ExitCode {
     eprintln!(
-        "usage: baseline eval | run | check --size NUMBER | rounds NUMBER | router NUMBER | callers NUMBER NUMBER"
+        "usage: baseline eval | run | domain | check --size NUMBER | rounds NUMBER | router NUMBER | callers NUMBER NUMBER"
     );
     ExitCode::from(2)
 }

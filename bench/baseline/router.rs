@@ -59,7 +59,7 @@ struct Best {
 
 /// The distance that a filter makes of another.
 #[inline(always)]
-fn pass(memory: &mut Memory, filter: Option<&Code>, size: u8, net: Prefix, dist: u8) -> u8 {
+pub fn pass(memory: &mut Memory, filter: Option<&Code>, size: u8, net: Prefix, dist: u8) -> u8 {
     match filter {
         Some(filter) if dist != size => filtered(memory, filter, size, net, dist),
         _ => dist,

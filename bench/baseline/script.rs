@@ -26,7 +26,7 @@ enum Command<'a> {
 }
 
 /// A number up to 65,535.
-fn number(word: &[u8]) -> Result<u16, &'static str> {
+pub fn number(word: &[u8]) -> Result<u16, &'static str> {
     read_number(word).and_then(|number| u16::try_from(number).ok()).ok_or("O2")
 }
 
@@ -36,7 +36,7 @@ fn is_name(word: &[u8]) -> bool {
         && word.iter().all(|byte| byte.is_ascii_alphanumeric() || *byte == b'_')
 }
 
-fn name(word: &[u8]) -> Result<&[u8], &'static str> {
+pub fn name(word: &[u8]) -> Result<&[u8], &'static str> {
     if is_name(word) {
         Ok(word)
     } else {

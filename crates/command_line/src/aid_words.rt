@@ -1,8 +1,13 @@
-//! The words of what helps people: `explain`, `filter`, `list`, and `check` of files; and `check` and `run` with refusals in words.
+//! The words of what helps people: `domain`, `explain`, `filter`, `list`, `replay`, and `check` of files; and `check` and `run` with refusals in
+//! words.
+ghost use Rattle.std.specs.Prelude.{◌≡◌, [], ◌∷◌, IfOk, map};
+ghost use Rattle.command_line.specs.Sources.{AreNamed, AreSources, IsNamed};
+
 use crate::options::{
-    code_option, explain_option, explained_code, filter_file, listed_file, size_option,
-    verified_size_option,
+    code_option, explain_option, explained_code, filter_file, listed_file, replayed_file,
+    script_file, size_option, verified_size_option,
 };
+use crate::telling::{Telling, is_explained};
 use crate::terminals::Terminals;
 use clap::{ArgMatches, Command};
 use std::alloc::{AllocError, Global};
@@ -40,7 +45,7 @@ pub enum Aid {
     /// Say what a code means.
     Explain {
         /// What is said of it.
-        page: &'static str,
+        page: String,
     },
     /// List the code of a source.
     List {
@@ -50,6 +55,8 @@ pub enum Aid {
         is_code: bool,
         /// The source.
         source: Source,
+        /// A refusal is told in words too.
+        is_explained: bool,
     },
     /// Carry out the script of standard input, and tell in words why a filter is refused.
     Run,
@@ -57,15 +64,29 @@ pub enum Aid {
     Filter {
         /// The number of nodes of the domain.
         size: u32,
-        /// The file's name.
-        file: String,
+        /// Where its text is.
+        source: Source,
         /// A refusal of the filter is told in words too.
+        is_explained: bool,
+    },
+    /// Replay the history that a source is the text of.
+    Replay {
+        /// The source.
+        source: Source,
+    },
+    /// Carry out the script of a domain.
+    Domain {
+        /// Where its commands are.
+        source: Source,
+        /// Refusals are told in words too.
         is_explained: bool,
     },
 }
 
 /// The source of a name: standard input for `-`.
-fn source_of(alloc: Global, name: &str) -> Result<Source, AllocError> {
+fn source_of(alloc: Global, name: &str) -> Result<Source, AllocError>
+    ensures { IfOk result (IsNamed name.now) }
+{
     if name == "-" {
         Ok(Source::Input)
     } else {
@@ -73,28 +94,60 @@ fn source_of(alloc: Global, name: &str) -> Result<Source, AllocError> {
     }
 }
 
-/// The sources of these names: standard input where there are none, and for `-`.
-pub fn sources_in(alloc: Global, names: &[&str]) -> Result<Vec<Source>, AllocError> {
-    let mut sources = Vec::with_capacity(alloc, names.len().max(1))?;
+/// The source of each of these names.
+fn named_in(alloc: Global, names: &[&str]) -> Result<Vec<Source>, AllocError>
+    ensures { IfOk result (λ sources. AreNamed (map (λ name. name.now) names.now) sources.items) }
+{
+    let mut sources = Vec::with_capacity(alloc, names.len())?;
     for name in names {
         sources.push(source_of(alloc, name)?)?;
-    }
-    if sources.is_empty() {
-        sources.push(Source::Input)?;
     }
     Ok(sources)
 }
 
-/// Whether a refusal is to be told in words: as the option says, and otherwise where standard error is a terminal.
-pub fn is_explained(matches: &ArgMatches<'_>, terminals: Terminals) -> bool {
-    match matches.get_str("explain") {
-        Some("always") => true,
-        Some("never") => false,
-        _ => terminals.errors,
+/// Standard input alone.
+fn input_alone(alloc: Global) -> Result<Vec<Source>, AllocError>
+    ensures { IfOk result (λ sources. sources.items ≡ Source.Input ∷ []) }
+{
+    let mut sources = Vec::new(alloc);
+    sources.push(Source::Input)?;
+    Ok(sources)
+}
+
+/// The sources of these names: standard input where there are none, and for `-`.
+pub fn sources_in(alloc: Global, names: &[&str]) -> Result<Vec<Source>, AllocError>
+    ensures { IfOk result (λ sources. AreSources (map (λ name. name.now) names.now) sources.items) }
+{
+    if names.is_empty() {
+        input_alone(alloc)
+    } else {
+        named_in(alloc, names)
     }
 }
 
-/// What the words of `filter` ask for.
+/// Whether one of these sources is a file.
+pub fn has_files(sources: &[Source]) -> bool {
+    sources.iter().any(|source| *source != Source::Input)
+}
+
+/// The sources that the words of `check` name, and how they are checked.
+pub fn checked_in(
+    alloc: Global,
+    matches: &ArgMatches<'_>,
+    size: u32,
+    terminals: Terminals,
+) -> Result<(Checking, Vec<Source>), AllocError> {
+    let sources = sources_in(alloc, matches.get_strs("file").unwrap_or(&[]))?;
+    let has_files = has_files(sources.as_slice());
+    let how = Checking {
+        size,
+        is_code: matches.get_flag("code"),
+        is_explained: is_explained(Telling::read(matches), terminals.errors, has_files),
+    };
+    Ok((how, sources))
+}
+
+/// What the words of `filter` ask for. None where they name no file.
 pub fn filter_in(
     alloc: Global,
     matches: &ArgMatches<'_>,
@@ -103,21 +156,103 @@ pub fn filter_in(
     let (Some(size), Some(file)) = (matches.get_one::<u32>("size"), matches.get_str("file")) else {
         return Ok(None);
     };
+    if file == "-" {
+        return Ok(None);
+    }
     Ok(Some(Aid::Filter {
         size,
-        file: String::from_str(alloc, file)?,
-        is_explained: is_explained(matches, terminals),
+        source: source_of(alloc, file)?,
+        is_explained: is_explained(Telling::read(matches), terminals.errors, true),
     }))
 }
 
+/// The source that the words of a command name, which takes one.
+fn source_in(alloc: Global, matches: &ArgMatches<'_>) -> Result<Source, AllocError> {
+    source_of(alloc, matches.get_str("file").unwrap_or("-"))
+}
+
 /// What the words of `list` ask for.
-pub fn list_in(alloc: Global, matches: &ArgMatches<'_>) -> Result<Aid, AllocError> {
+pub fn list_in(
+    alloc: Global,
+    matches: &ArgMatches<'_>,
+    terminals: Terminals,
+) -> Result<Aid, AllocError> {
+    let source = source_in(alloc, matches)?;
+    let is_file = source != Source::Input;
     Ok(Aid::List {
         size: matches.get_one::<u32>("size"),
         is_code: matches.get_flag("code"),
-        source: source_of(alloc, matches.get_str("file").unwrap_or("-"))?,
+        source,
+        is_explained: is_explained(Telling::read(matches), terminals.errors, is_file),
     })
 }
+
+/// What the words of `replay` ask for.
+pub fn replay_in(alloc: Global, matches: &ArgMatches<'_>) -> Result<Aid, AllocError> {
+    Ok(Aid::Replay {
+        source: source_in(alloc, matches)?,
+    })
+}
+
+/// What the words of `domain` ask for.
+pub fn domain_in(
+    alloc: Global,
+    matches: &ArgMatches<'_>,
+    terminals: Terminals,
+) -> Result<Aid, AllocError> {
+    let source = source_in(alloc, matches)?;
+    let is_file = source != Source::Input;
+    Ok(Aid::Domain {
+        source,
+        is_explained: is_explained(Telling::read(matches), terminals.errors, is_file),
+    })
+}
+
+/// The command `domain`.
+pub fn domain_command<'a>(alloc: Global) -> Result<Command<'a>, AllocError> {
+    Command::new(alloc, "domain")
+        .about("Compute the routes of a whole domain, by a script of commands")
+        .after_help(DOMAIN_HELP)
+        .arg(explain_option(alloc))?
+        .arg(script_file(alloc))
+}
+
+const DOMAIN_HELP: &str = "\
+The input is commands, one a line. Empty lines and lines that begin with # are skipped.
+  domain N               a domain of N nodes (2 to 250), without links
+  prefix V P             P is the prefix of node V; otherwise it is 10.V.0.0/16
+  load NAME TEXT         name a filter: the rest of the line is its text
+  code NAME HEX          name a filter by its code file in hexadecimal
+  link U W, cut U W      U and W are neighbours from now on, or no more
+  import U W NAME        the filter of what U hears from W
+  export U W NAME        the filter of what U tells W
+  route U V              U's route to V when the domain is at rest
+  path U V               the nodes on the way
+  table U                all routes of U
+  draw V                 a picture of the routes to V, for Graphviz
+  mark                   remember all routes
+  changes                the routes that are not what they were at the last mark
+  settle                 have the routers exchange messages until none is left
+
+Each command is answered on standard output before more input is read:
+  ok                     domain, prefix, link, cut, import, export, mark
+  verified BUDGET DEPTH  load, code
+  route D local, route D via W, route D none
+  path U .. V, path none
+  table V:D:W V:D ..     to V at distance D through W
+  changes U:V U:V ..     of U to V
+  settled ROUNDS COUNT   COUNT messages were heard
+  digraph { .. }         draw
+  refused CODE AT        the command was refused, and nothing changed:
+    O1 to O8     the command is wrong (AT is the number of its line)
+    D1 to D4     the domain refuses it (AT is the number of its line)
+    P, Y, G, V   the filter is refused, as `ncroute check` refuses it; C: its code file
+
+Example:
+  printf 'domain 3\\nlink 0 1\\nlink 1 2\\nroute 0 2\\n' | ncroute domain
+prints `ok` three times and `route 2 via 1`. The exit status is 0; 1 if a command
+was refused; 2 if the command line is wrong; 3 if a fault ended the run.
+";
 
 /// The command `explain`.
 pub fn explain_command<'a>(alloc: Global) -> Result<Command<'a>, AllocError> {
@@ -133,6 +268,7 @@ pub fn list_command<'a>(alloc: Global) -> Result<Command<'a>, AllocError> {
         .after_help(LIST_HELP)
         .arg(verified_size_option(alloc))?
         .arg(code_option(alloc))?
+        .arg(explain_option(alloc))?
         .arg(listed_file(alloc))
 }
 
@@ -149,8 +285,8 @@ is refused, with `refused CODE AT`.
 
 Example:
   echo 'filter up { rip_metric = rip_metric + 2; accept; }' | ncroute list --size 16
-The exit status is 0; 1 if something was refused or a fault ended the run; 2 if
-the command line is wrong.
+The exit status is 0; 1 if something was refused; 2 if the command line is wrong;
+3 if a fault ended the run, as a file that cannot be read.
 ";
 
 /// The command `filter`.
@@ -176,6 +312,30 @@ output by what the filter means for it:
 
 Example:
   echo '8.8.8.0/24 9' | ncroute filter --size 16 examples/backup_link.filter
-prints `accept 12`. The exit status is 0; 1 if something was refused or a fault ended
-the run; 2 if the command line is wrong.
+prints `accept 12`. The exit status is 0; 1 if something was refused; 2 if the command
+line is wrong; 3 if a fault ended the run, as a file that cannot be read.
+";
+
+/// The command `replay`.
+pub fn replay_command<'a>(alloc: Global) -> Result<Command<'a>, AllocError> {
+    Command::new(alloc, "replay")
+        .about("Replay the history of a router, and say whether each reply in it is right")
+        .after_help(REPLAY_HELP)
+        .arg(replayed_file(alloc))
+}
+
+const REPLAY_HELP: &str = "\
+FILE is the text of a history, of at most 1,073,741,824 bytes: a line for the router's
+opening, and a line for each entry with the reply that was given. The entries are carried
+out again, in order, and one line is printed:
+  replay ok ENTRIES                   each reply is right, of so many
+  differs AT saved REPLY right REPLY  the reply at position AT is the first that is wrong
+  cut LINE                            line LINE was not written to its end; all before it
+                                      is right
+  refused H1 LINE                     line LINE is not as a history has it
+
+Example:
+  ncroute replay examples/one_neighbour.history
+prints `replay ok 8`. The exit status is 0 for `replay ok`; 1 for the other lines; 2 if the
+command line is wrong; 3 if a fault ended the run, as a file that cannot be read.
 ";

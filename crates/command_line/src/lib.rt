@@ -2,10 +2,13 @@
 #![tactic(auto)]
 
 mod aid_words;
+mod classes;
 mod options;
+mod telling;
 mod terminals;
 mod words;
 
 pub use aid_words::{Aid, Checking, Source};
+pub use telling::{Telling, is_explained};
 pub use terminals::{Terminals, tell_that_input_is_read, waits_for_people};
 pub use words::{Request, Words, read, request_of};

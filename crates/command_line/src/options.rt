@@ -12,6 +12,7 @@ pub fn size_option<'a>(alloc: Global) -> Arg<'a> {
         .long("size")
         .value_name("N")
         .required(true)
+        .allow_negative_numbers(true)
         .value_parser(clap::value_parser!(u32))
         .help("The number of nodes of the routing domain (2 to 250)")
 }
@@ -21,6 +22,7 @@ pub fn verified_size_option<'a>(alloc: Global) -> Arg<'a> {
     Arg::new(alloc, "size")
         .long("size")
         .value_name("N")
+        .allow_negative_numbers(true)
         .value_parser(clap::value_parser!(u32))
         .help(
             "Verify the code for a routing domain of N nodes (2 to 250), and say what is known before each instruction",
@@ -42,7 +44,7 @@ pub fn explain_option<'a>(alloc: Global) -> Arg<'a> {
         .value_name("WHEN")
         .value_parser(ValueParser::Names(&["auto", "always", "never"]))
         .help(
-            "Say in words on standard error why something is refused, with its line and column: always, never, or auto (the default), which is where standard error is a terminal",
+            "Say in words on standard error why something is refused, with its line and column: always, never, or auto (the default), which is where standard error is a terminal, and of files that are named",
         )
 }
 
@@ -62,6 +64,20 @@ pub fn listed_file<'a>(alloc: Global) -> Arg<'a> {
     )
 }
 
+/// The file of a domain's script.
+pub fn script_file<'a>(alloc: Global) -> Arg<'a> {
+    Arg::new(alloc, "file").value_name("FILE").help(
+        "The file of the commands in place of standard input; - is standard input",
+    )
+}
+
+/// The file to replay.
+pub fn replayed_file<'a>(alloc: Global) -> Arg<'a> {
+    Arg::new(alloc, "file").value_name("FILE").help(
+        "The text of a history, in place of standard input; - is standard input",
+    )
+}
+
 /// The file of a filter that is tried.
 pub fn filter_file<'a>(alloc: Global) -> Arg<'a> {
     Arg::new(alloc, "file")
@@ -72,8 +88,7 @@ pub fn filter_file<'a>(alloc: Global) -> Arg<'a> {
 
 /// The code that is explained.
 pub fn explained_code<'a>(alloc: Global) -> Arg<'a> {
-    Arg::new(alloc, "code")
-        .value_name("CODE")
-        .required(true)
-        .help("A code by which something was refused, as P2")
+    Arg::new(alloc, "code").value_name("CODE").help(
+        "A code by which something was refused, as P2, or a letter, whose codes are listed; without it the letters are",
+    )
 }

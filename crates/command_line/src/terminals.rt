@@ -21,7 +21,9 @@ fn reads_input(words: &Words) -> bool {
     match words {
         Words::Asked(_) => true,
         Words::Aided(Aid::Check { sources, .. }) => has_input(sources.as_slice()),
-        Words::Aided(Aid::List { source, .. }) => *source == Source::Input,
+        Words::Aided(
+            Aid::List { source, .. } | Aid::Replay { source } | Aid::Domain { source, .. },
+        ) => *source == Source::Input,
         Words::Aided(Aid::Filter { .. } | Aid::Run) => true,
         Words::Aided(Aid::Explain { .. }) | Words::Network | Words::Shown(_) => false,
     }

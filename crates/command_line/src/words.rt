@@ -1,21 +1,22 @@
 //! The words of the command line.
 use crate::aid_words::{
-    Aid, Checking, explain_command, filter_command, filter_in, is_explained, list_command, list_in,
-    sources_in,
+    Aid, checked_in, domain_command, domain_in, explain_command, filter_command,
+    filter_in, has_files, list_command, list_in, replay_command, replay_in,
 };
+use crate::classes::page_of;
 use crate::options::{code_option, explain_option, file_option, size_option};
+use crate::telling::{Telling, is_explained};
 use crate::terminals::Terminals;
 use clap::error::ErrorKind;
 use clap::{ArgMatches, Command, Error};
 use line_protocol::StreamFault;
-use refusal_texts::explanation_of;
 use std::alloc::{AllocError, Global};
 use std::convert::AsStr;
 use std::rt::Env;
 use std::{env, io};
 
-/// The kit that this program is written for, as `rt version` says.
-const KIT: &str = "(rattle-kit-13b logic dac8208d650f15bf)";
+/// The version of the project, and the kit that it is written for, as `rt version` says.
+const VERSION: &str = "0.1.0 (rattle-kit-13b logic dac8208d650f15bf)";
 
 /// The exit status of a run whose words were wrong.
 const WRONG_WORDS: u8 = 2;
@@ -92,43 +93,66 @@ fn words_in<R: Eprint>(
     if matches.subcommand_matches("net").is_some() {
         return Ok(Words::Network);
     }
+    if let Some(domain) = matches.subcommand_matches("domain") {
+        return Ok(Words::Aided(domain_in(alloc, domain, terminals)?));
+    }
     if let Some(explain) = matches.subcommand_matches("explain") {
-        return Ok(explained_in(rt, explain.get_str("code").unwrap_or("")));
+        return explained_in(rt, alloc, explain.get_str("code").unwrap_or(""));
     }
     if let Some(list) = matches.subcommand_matches("list") {
-        return Ok(Words::Aided(list_in(alloc, list)?));
+        return Ok(Words::Aided(list_in(alloc, list, terminals)?));
     }
-    // The parser accepts no words without a size.
     if let Some(filter) = matches.subcommand_matches("filter") {
-        return Ok(match filter_in(alloc, filter, terminals)? {
-            Some(aid) => Words::Aided(aid),
-            None => Words::Shown(WRONG_WORDS),
-        });
+        return filter_words(rt, alloc, filter, terminals);
+    }
+    if let Some(replay) = matches.subcommand_matches("replay") {
+        return Ok(Words::Aided(replay_in(alloc, replay)?));
     }
     let Some(check) = matches.subcommand_matches("check") else {
         return Ok(Words::Asked(Request::Eval));
     };
+    check_in(alloc, check, terminals)
+}
+
+/// What the words of `filter` ask for. Standard input has the routes, so the filter is in a file.
+fn filter_words<R: Eprint>(
+    rt: &R,
+    alloc: Global,
+    filter: &ArgMatches<'_>,
+    terminals: Terminals,
+) -> Result<Words, AllocError> {
+    if let Some(aid) = filter_in(alloc, filter, terminals)? {
+        return Ok(Words::Aided(aid));
+    }
+    let _ = eprintln!(rt;
+        "error: the routes come from standard input, so the filter has to be in a file"
+    );
+    Ok(Words::Shown(WRONG_WORDS))
+}
+
+/// What the words of `check` ask for.
+fn check_in(
+    alloc: Global,
+    check: &ArgMatches<'_>,
+    terminals: Terminals,
+) -> Result<Words, AllocError> {
+    // The parser accepts no words without a size.
     let Some(size) = check.get_one::<u32>("size") else {
         return Ok(Words::Shown(WRONG_WORDS));
     };
-    let is_code = check.get_flag("code");
-    let is_explained = is_explained(check, terminals);
-    let files = check.get_strs("file").unwrap_or(&[]);
-    if files.is_empty() && !is_explained {
-        return Ok(Words::Asked(Request::Check { size, is_code }));
+    let (how, sources) = checked_in(alloc, check, size, terminals)?;
+    if how.is_explained || has_files(sources.as_slice()) || sources.len() > 1 {
+        return Ok(Words::Aided(Aid::Check { how, sources }));
     }
-    let how = Checking {
+    Ok(Words::Asked(Request::Check {
         size,
-        is_code,
-        is_explained,
-    };
-    let sources = sources_in(alloc, files)?;
-    Ok(Words::Aided(Aid::Check { how, sources }))
+        is_code: how.is_code,
+    }))
 }
 
 /// What the words of `run` ask for.
 fn run_in(run: &ArgMatches<'_>, terminals: Terminals) -> Words {
-    if is_explained(run, terminals) {
+    if is_explained(Telling::read(run), terminals.errors, false) {
         Words::Aided(Aid::Run)
     } else {
         Words::Asked(Request::Run)
@@ -149,15 +173,15 @@ fn show<R: Print + Eprint>(rt: &R, error: &Error) -> Result<Words, StreamFault> 
     Ok(Words::Shown(0))
 }
 
-/// What `explain` asks for.
-fn explained_in<R: Eprint>(rt: &R, code: &str) -> Words {
-    let Some(page) = explanation_of(code) else {
-        let _ = eprintln!(rt;
-            "error: there is no code '{code}': a code is a letter and a number, as P2"
-        );
-        return Words::Shown(WRONG_WORDS);
-    };
-    Words::Aided(Aid::Explain { page })
+/// What `explain` asks for: the page of a code, the codes of a class, or the classes.
+fn explained_in<R: Eprint>(rt: &R, alloc: Global, code: &str) -> Result<Words, AllocError> {
+    if let Some(page) = page_of(alloc, code)? {
+        return Ok(Words::Aided(Aid::Explain { page }));
+    }
+    let _ = eprintln!(rt;
+        "error: there is no code '{code}': a code is a letter and a number, as P2; `ncroute explain` lists the letters"
+    );
+    Ok(Words::Shown(WRONG_WORDS))
 }
 
 /// Says that a word is not text.
@@ -176,14 +200,16 @@ fn command<'a>(alloc: Global) -> Result<Command<'a>, AllocError> {
         .after_help(NET_HELP);
     Command::new(alloc, "ncroute")
         .about("Check route filters, take routes through their code, and run a router with them")
-        .version(KIT)
+        .version(VERSION)
         .subcommand_required(true)
         .arg_required_else_help(true)
         .subcommand(check_command(alloc)?)?
+        .subcommand(domain_command(alloc)?)?
         .subcommand(eval)?
         .subcommand(explain_command(alloc)?)?
         .subcommand(filter_command(alloc)?)?
         .subcommand(list_command(alloc)?)?
+        .subcommand(replay_command(alloc)?)?
         .subcommand(run_command(alloc)?)?
         .subcommand(net)
 }

@@ -1,6 +1,10 @@
-//! Tests of whole domains.
+//! Tests of whole domains: their routes, their routers, and their script.
 #![tactic(auto)]
 
+#[cfg(test)]
+mod domain_command_tests;
+#[cfg(test)]
+mod domain_script_tests;
 #[cfg(test)]
 mod plans;
 #[cfg(test)]

@@ -5,3 +5,5 @@ pub mod Listings
 pub mod Cut
 mod Rows
 pub mod HeadWords
+pub mod Harmless
+pub mod Indents

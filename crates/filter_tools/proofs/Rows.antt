@@ -1,7 +1,9 @@
 -- Worked rows of places: a text of two lines, `ab` and a sign of three bytes, a tab and `c`.
-use Rattle.std.proofs.Common.{◌≡◌, ℕ, List, [], ◌∷◌, refl}
-use Rattle.filter_tools.specs.Explanations.{excerpt}
+use Rattle.std.proofs.Common.{◌≡◌, ℕ, List, [], ◌∷◌, map, refl}
+use Rattle.unicode_width.proofs.Computing.{unicode_width}
+use Rattle.filter_tools.specs.Explanations.{excerpt_of}
 use Rattle.filter_tools.specs.Places.{column_at, line_at}
+use Rattle.filter_tools.specs.Shown.{shown_character}
 
 abbrev text : List ℕ
 text = 97 ∷ (98 ∷ (10 ∷ (226 ∷ (130 ∷ (172 ∷ (9 ∷ (99 ∷ (10 ∷ []))))))))
@@ -34,6 +36,16 @@ end_column : column_at text 9 ≡ 1
 end_column = refl
 
 -- the caret is behind a space for the sign and a tab for the tab
-shown : excerpt (226 ∷ (130 ∷ (172 ∷ (9 ∷ [])))) (99 ∷ [])
+shown : excerpt_of (0x20ac ∷ (9 ∷ [])) (99 ∷ [])
     ≡ 226 ∷ (130 ∷ (172 ∷ (9 ∷ (99 ∷ (10 ∷ (32 ∷ (9 ∷ (94 ∷ (10 ∷ [])))))))))
+unfolding unicode_width
 shown = refl
+
+-- under a wide character there are two spaces
+wide : excerpt_of (0x65e5 ∷ []) (99 ∷ []) ≡ 230 ∷ (151 ∷ (165 ∷ (99 ∷ (10 ∷ (32 ∷ (32 ∷ (94 ∷ (10 ∷ []))))))))
+unfolding unicode_width
+wide = refl
+
+-- ESC is shown as a space, CSI and an override of the direction as U+FFFD, and a tab as it is
+hidden : map shown_character (27 ∷ (0x9b ∷ (0x202e ∷ (9 ∷ (97 ∷ []))))) ≡ 32 ∷ (0xfffd ∷ (0xfffd ∷ (9 ∷ (97 ∷ []))))
+hidden = refl

@@ -1,19 +1,13 @@
 -- A refusal for people: where it is, in words, and the line with a caret under the place. (This project's own choice.)
-use Rattle.std.specs.Prelude.{◌≡◌, ℕ, ◌==◌, ◌&&◌, ◌||◌, not, nat_lt, if◌then◌else◌, List, [], ◌∷◌, ◌++◌, Option, Some, None, codes, decimal, drop, filter, map, take}
+use Rattle.std.specs.Prelude.{◌≡◌, ℕ, ◌+◌, ◌-◌, nat_lt, min, unwrap_or, if◌then◌else◌, List, [], ◌∷◌, ◌++◌, Option, Some, None, codes, decimal, drop, encode_utf8_all, flat_map, length, take}
+use Rattle.std.specs.Option.{option_map}
 use Rattle.filter_source.specs.Refusals.{refusal_code}
 use Rattle.filter_source.specs.declared.diagnosis.Diagnosis.{Diagnosis}
 use Rattle.filter_source.specs.declared.refusal.Refusal.{Refusal}
 use Rattle.filter_tools.specs.HeadWords.{IsShownAt}
-use Rattle.filter_tools.specs.Places.{before_first_feed, begins_character, behind_last_feed, column_at, line_at}
+use Rattle.filter_tools.specs.Places.{before_first_feed, behind_last_feed, column_at, line_at}
 use Rattle.filter_tools.specs.Ranges.{EndsInRange}
-
--- a byte of a line as it is shown: control bytes other than the tab are shown as spaces
-abbrev pub shown_byte : ℕ → ℕ
-shown_byte byte = if (nat_lt byte 32 && not (byte == 9)) || byte == 127 then 32 else byte
-
--- what stands under a character before the caret: a tab under a tab, and otherwise a space
-abbrev pub indent_of : ℕ → ℕ
-indent_of byte = if byte == 9 then 9 else 32
+use Rattle.filter_tools.specs.Shown.{indent_of, shown, shown_characters}
 
 -- a line and a column, each behind a colon
 abbrev pub position : ℕ → ℕ → List ℕ
@@ -23,18 +17,55 @@ position line column = 58 ∷ [] ++ decimal line ++ 58 ∷ [] ++ decimal column
 abbrev pub message : List ℕ → List ℕ → List ℕ
 message words code = codes ": " ++ words ++ codes " (" ++ code ++ 41 ∷ (10 ∷ [])
 
+-- of a long line at most so many characters are shown at each side of the place, three of which are then dots
+abbrev pub side : ℕ
+side = 100
+
+-- what stands in place of the characters of one side that are not shown, and what stands below
+abbrev pub dots_for : List ℕ → List ℕ
+dots_for characters = if nat_lt side (length characters) then codes "..." else []
+
+abbrev pub blanks_for : List ℕ → List ℕ
+blanks_for characters = if nat_lt side (length characters) then codes "   " else []
+
+-- the last characters before the place, and the first ones from it on
+abbrev pub last_of : List ℕ → List ℕ
+last_of characters = if nat_lt side (length characters) then drop (length characters - 97) characters else characters
+
+abbrev pub first_of : List ℕ → List ℕ
+first_of characters = if nat_lt side (length characters) then take 97 characters else characters
+
 -- a line of two parts, and a caret under the first character of the second
+abbrev pub excerpt_of : List ℕ → List ℕ → List ℕ
+excerpt_of before behind = dots_for before ++ encode_utf8_all (last_of before) ++ encode_utf8_all (first_of behind) ++ dots_for behind ++ 10 ∷ []
+    ++ blanks_for before ++ flat_map indent_of (last_of before) ++ 94 ∷ (10 ∷ [])
+
 abbrev pub excerpt : List ℕ → List ℕ → List ℕ
-excerpt before behind = map shown_byte before ++ map shown_byte behind ++ 10 ∷ []
-    ++ map indent_of (filter begins_character before) ++ 94 ∷ (10 ∷ [])
+excerpt before behind = excerpt_of (shown_characters before) (shown_characters behind)
+
+-- the number of a line of a script, which is known
+abbrev pub number_text : Option ℕ → List ℕ
+number_text None = []
+number_text (Some number) = 58 ∷ decimal number
 
 -- what is said of a refusal in some words, by the byte of the text at which it stands
-abbrev pub explanation : List ℕ → List ℕ → List ℕ → Refusal → Option ℕ → List ℕ
-explanation name text words why None = name ++ message words (refusal_code why)
-explanation name text words why (Some at) = name ++ position (line_at text at) (column_at text at) ++ message words (refusal_code why)
+abbrev pub explanation : List ℕ → Option ℕ → List ℕ → List ℕ → Refusal → Option ℕ → List ℕ
+explanation name number text words why None = shown name ++ number_text number ++ message words (refusal_code why)
+explanation name number text words why (Some at) =
+    shown name ++ position (unwrap_or number (line_at text at)) (column_at text at) ++ message words (refusal_code why)
     ++ excerpt (behind_last_feed (take at text)) (before_first_feed (drop at text))
 
 -- what people are told of a refusal of a source: words that end with the range which is told, where the refusal is shown
 abbrev pub IsExplanation : List ℕ → List ℕ → Diagnosis → List ℕ → Type 0
 IsExplanation name text told out = (words : List ℕ) × (byte : Option ℕ) × EndsInRange told words × IsShownAt text told byte
-    × (out ≡ explanation name text words told.refusal byte)
+    × (out ≡ explanation name None text words told.refusal byte)
+
+-- the byte of a line that is this byte of the source with which the line ends; a byte behind the end is taken for the end
+abbrev pub byte_of_line : List ℕ → List ℕ → ℕ → ℕ
+byte_of_line line source at = length line - length source + min at (length source)
+
+-- what people are told of a refusal of the source with which the line of a number ends
+abbrev pub IsLineExplanation : List ℕ → ℕ → List ℕ → List ℕ → Diagnosis → List ℕ → Type 0
+IsLineExplanation name number line source told out = (words : List ℕ) × (byte : Option ℕ) × EndsInRange told words
+    × IsShownAt source told byte
+    × (out ≡ explanation name (Some number) line words told.refusal (option_map (byte_of_line line source) byte))

@@ -1,8 +1,8 @@
 pub mod Places
+pub mod Shown
 pub mod HeadWords
 pub mod Ranges
 pub mod Explanations
-pub mod ScriptLines
 pub mod Telling
 pub mod RouteOfSize
 pub mod Filtering

@@ -1,11 +1,14 @@
 -- The listing of a code: a line for each instruction, with the place in the text that it comes from, and, for domains of a size, a
 -- line before it that says what the verifier knows there. (This project's own choice.)
-use Rattle.std.specs.Prelude.{◌≡◌, ℕ, zero, suc, ◌+◌, ◌⊎◌, Bool, true, false, if◌then◌else◌, List, [], ◌∷◌, ◌++◌, Option, Some, None, codes, decimal, length, slice_get}
+use Rattle.std.specs.Prelude.{◌≡◌, ℕ, zero, suc, ◌+◌, ◌⊎◌, Bool, true, false, if◌then◌else◌, List, [], ◌∷◌, ◌++◌, Option, Some, None, IfSome, codes, decimal, length, slice_get}
 use Rattle.std.specs.Option.{option_map}
 use Rattle.std.specs.Io.KnownBytes.{Appends}
 use Rattle.filter_code.specs.CodeView.{CodeView}
 use Rattle.filter_code.specs.declared.instruction.Instr.{Instr}
 use Rattle.filter_code.specs.declared.instruction.Instr.TheVariants as instr
+use Rattle.filter_source.specs.Diagnoses.{TellsOfCode, of_source}
+use Rattle.filter_source.specs.Sources.{IsUnsafe}
+use Rattle.filter_source.specs.declared.diagnosis.Diagnosis.{Diagnosis}
 use Rattle.filter_source.specs.declared.refusal.Refusal.{Refusal}
 use Rattle.filter_source.specs.declared.refusal.Refusal.TheVariants.{Verify}
 use Rattle.filter_verifier.specs.FirstFault.{the_fault}
@@ -95,6 +98,31 @@ IsListed size is_code source text why =
     ((program : CodeView) × GivesCode is_code source program × (places : List ℕ) × ArePlaces is_code source places
     × IsListing size program (origin_in source places) text why)
     ⊎ ((refusal : Refusal) × IsRefused is_code source refusal × (why ≡ Some refusal) × (text ≡ refusal_line refusal))
+
+-- the refusal of what is told
+abbrev pub refusal_in : Option Diagnosis → Option Refusal
+refusal_in told = option_map (λ why. why.refusal) told
+
+-- This is told of code that is listed and refused: the part of the text that gave the instruction, and the range that the verifier
+-- knows there.
+abbrev pub IsToldOfCode : Option ℕ → CodeView → List ℕ → Diagnosis → Type 0
+IsToldOfCode None program places told = ⊥
+IsToldOfCode (Some size) program places told = IsUnsafe program size told.refusal × TellsOfCode program places size told
+
+-- This is told of a source that is listed and refused.
+abbrev pub IsToldOfListing : Option ℕ → Bool → List ℕ → Diagnosis → Type 0
+IsToldOfListing size is_code source told =
+    (IsRefused is_code source told.refusal × (told ≡ of_source told.refusal))
+    ⊎ ((program : CodeView) × GivesCode is_code source program
+    × ((places : List ℕ) × ArePlaces is_code source places × IsToldOfCode size program places told))
+
+-- A listing was written to its end, and this is told of the refusal with which it ends, if there is one. `held` and `holds` are what
+-- the writer held before and holds now.
+pub record WritesListing (size : Option ℕ) (is_code : Bool) (source : List ℕ) (held holds : Option (List ℕ)) (told : Option Diagnosis) : Type 0 where
+  pub text : List ℕ
+  pub is_listed : IsListed size is_code source text (refusal_in told)
+  pub written : Appends held holds text
+  pub diagnosed : IfSome told (IsToldOfListing size is_code source)
 
 -- what was written where a fault cut a listing
 abbrev pub IsCutListing : StreamFault → Option ℕ → Bool → List ℕ → Option (List ℕ) → Option (List ℕ) → Type 0

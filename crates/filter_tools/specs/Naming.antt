@@ -7,11 +7,13 @@ use Rattle.line_protocol.specs.declared.faults.StreamFault.{StreamFault}
 use Rattle.filter_commands.specs.Checking.{IsCutOff, Reports}
 use Rattle.filter_commands.specs.Evaluation.{IsCut}
 use Rattle.filter_tools.specs.Filtering.{refusal_line}
+use Rattle.filter_tools.specs.Listing.{IsCutListing, WritesListing}
+use Rattle.filter_tools.specs.Shown.{shown}
 use Rattle.filter_tools.specs.Telling.{Explains, IsCutExplanation}
 
--- the name of a source, and the line that refuses it
+-- the name of a source as it is shown, and the line that refuses it
 abbrev pub named_refusal : List ℕ → Refusal → List ℕ
-named_refusal name why = name ++ codes ": " ++ refusal_line why
+named_refusal name why = shown name ++ codes ": " ++ refusal_line why
 
 -- What standard error got of a source: its refusal in words, or behind its name, and nothing where there is none.
 abbrev pub TellsOf : Bool → List ℕ → List ℕ → Option Diagnosis → Option (List ℕ) → Option (List ℕ) → Type 0
@@ -37,3 +39,21 @@ abbrev pub ChecksNamedOff : StreamFault → ℕ → Bool → Bool → List ℕ �
 ChecksNamedOff fault size is_code is_explained name text held holds tells told =
     (IsCutOff fault size is_code text held holds × Keeps tells told)
     ⊎ ((why : Diagnosis) × Reports size is_code text held holds (Some why) × IsCutTelling fault is_explained name text why tells told)
+
+-- what standard error got of a listing: its refusal in words where these are wanted
+abbrev pub TellsInWords : Bool → List ℕ → List ℕ → Option Diagnosis → Option (List ℕ) → Option (List ℕ) → Type 0
+TellsInWords true name text told held holds = Explains name text told held holds
+TellsInWords false name text told held holds = Keeps held holds
+
+-- The listing of a source was written, and standard error got what is told of the refusal in it. The names are those of `ChecksNamed`.
+pub record ListsNamed (size : Option ℕ) (is_code is_explained : Bool) (name text : List ℕ) (held holds tells told : Option (List ℕ))
+    (why : Option Diagnosis) : Type 0 where
+  pub lists : WritesListing size is_code text held holds why
+  pub told_of : TellsInWords is_explained name text why tells told
+
+-- A fault cut the listing, and nothing was told; or it cut what is told of the refusal in the listing.
+abbrev pub ListsNamedOff : StreamFault → Option ℕ → Bool → List ℕ → List ℕ → Option (List ℕ) → Option (List ℕ) → Option (List ℕ)
+    → Option (List ℕ) → Type 0
+ListsNamedOff fault size is_code name text held holds tells told =
+    (IsCutListing fault size is_code text held holds × Keeps tells told)
+    ⊎ ((why : Diagnosis) × WritesListing size is_code text held holds (Some why) × IsCutExplanation fault name text why tells told)

@@ -1,34 +1,24 @@
 //! A refusal in words for people, at its line and column where it has one.
-ghost use Rattle.std.specs.Prelude.{◌≡◌, ◌++◌, IfOk, OnOk, filter, map};
-ghost use Rattle.filter_tools.specs.Places.{begins_character};
-ghost use Rattle.filter_tools.specs.Explanations.{IsExplanation, explanation, excerpt, indent_of, message, position, shown_byte};
+ghost use Rattle.std.specs.Prelude.{◌≡◌, ◌++◌, None, Some, IfOk, OnOk, unwrap_or};
+ghost use Rattle.std.specs.Option.{option_map};
+ghost use Rattle.filter_tools.specs.Explanations.{IsExplanation, IsLineExplanation, blanks_for, byte_of_line, dots_for, excerpt, excerpt_of};
+ghost use Rattle.filter_tools.specs.Explanations.{explanation, first_of, last_of, message, number_text, position};
 
 use crate::finding::find;
-use crate::place::{begins_character, place_in};
+use crate::place::place_in;
+use crate::shown::{push_characters, push_indent, push_shown, shown_characters};
 use filter_source::{Diagnosis, Refusal};
 use line_protocol::push_decimal;
 use std::alloc::{AllocError, Global};
 
-/// A byte of a line as it is shown: a control byte other than a tab is shown as a space.
-fn shown_byte(byte: u8) -> u8
-    ensures { result ≡ shown_byte byte }
-{
-    if (byte < b' ' && byte != b'\t') || byte == 0x7f {
-        b' '
-    } else {
-        byte
-    }
-}
+/// Of a long line at most so many characters are shown at each side of the place.
+const SIDE: usize = 100;
 
-/// What stands under a character so that a caret behind it is in its column: a tab under a tab, and otherwise a space.
-fn indent_of(byte: u8) -> u8
-    ensures { result ≡ indent_of byte }
-{
-    if byte == b'\t' { b'\t' } else { b' ' }
-}
+/// So many of them where dots stand for the others.
+const KEPT: usize = 97;
 
 /// Puts a line and a column at the end of `out`, each behind a colon.
-pub(crate) fn push_position(out: &mut Vec<u8>, line: usize, column: usize) -> Result<(), AllocError>
+fn push_position(out: &mut Vec<u8>, line: usize, column: usize) -> Result<(), AllocError>
     ensures { OnOk result (out.new.items ≡ out.old.items ++ position line column) }
 {
     out.push(b':')?;
@@ -37,26 +27,64 @@ pub(crate) fn push_position(out: &mut Vec<u8>, line: usize, column: usize) -> Re
     push_decimal(out, column as u64)
 }
 
-/// A part of a line as it is shown.
-fn shown_line(alloc: Global, line: &[u8]) -> Result<Vec<u8>, AllocError>
-    ensures { IfOk result (λ shown. shown.items ≡ map shown_byte line.now) }
+/// What stands in place of the characters of one side that are not shown.
+fn dots_for(characters: &[char]) -> &'static [u8]
+    ensures { result.now ≡ dots_for characters.now }
 {
-    line.iter().map(|byte| shown_byte(*byte)).collect(alloc)
+    if characters.len() > SIDE { b"..." } else { b"" }
 }
 
-/// What stands before a caret that is behind this part of a line.
-fn indent_under(alloc: Global, before: &[u8]) -> Result<Vec<u8>, AllocError>
-    ensures { IfOk result (λ indent. indent.items ≡ map indent_of (filter begins_character before.now)) }
+/// What stands below the dots.
+fn blanks_for(characters: &[char]) -> &'static [u8]
+    ensures { result.now ≡ blanks_for characters.now }
 {
-    before
-        .iter()
-        .filter(|byte| begins_character(**byte))
-        .map(|byte| indent_of(*byte))
-        .collect(alloc)
+    if characters.len() > SIDE { b"   " } else { b"" }
+}
+
+/// The last characters before the place.
+fn last_of(characters: &[char]) -> &[char]
+    ensures { result.now ≡ last_of characters.now }
+{
+    if characters.len() > SIDE {
+        &characters[characters.len() - KEPT..]
+    } else {
+        characters
+    }
+}
+
+/// The first characters from the place on.
+fn first_of(characters: &[char]) -> &[char]
+    ensures { result.now ≡ first_of characters.now }
+{
+    if characters.len() > SIDE {
+        &characters[..KEPT]
+    } else {
+        characters
+    }
 }
 
 /// Puts a line of two parts, and a caret under the first character of the second, at the end of `out`.
-pub(crate) fn push_excerpt(
+fn push_excerpt_of(
+    alloc: Global,
+    out: &mut Vec<u8>,
+    before: &[char],
+    behind: &[char],
+) -> Result<(), AllocError>
+    ensures { OnOk result (out.new.items ≡ out.old.items ++ excerpt_of before.now behind.now) }
+{
+    let last = last_of(before);
+    out.extend_from_slice(dots_for(before))?;
+    push_characters(alloc, out, last)?;
+    push_characters(alloc, out, first_of(behind))?;
+    out.extend_from_slice(dots_for(behind))?;
+    out.push(b'\n')?;
+    out.extend_from_slice(blanks_for(before))?;
+    push_indent(out, last)?;
+    out.extend_from_slice(b"^\n")
+}
+
+/// Puts a line of two parts, as they are shown, and a caret under the first character of the second, at the end of `out`.
+fn push_excerpt(
     alloc: Global,
     out: &mut Vec<u8>,
     before: &[u8],
@@ -64,18 +92,13 @@ pub(crate) fn push_excerpt(
 ) -> Result<(), AllocError>
     ensures { OnOk result (out.new.items ≡ out.old.items ++ excerpt before.now behind.now) }
 {
-    let shown_before = shown_line(alloc, before)?;
-    let shown_behind = shown_line(alloc, behind)?;
-    let indent = indent_under(alloc, before)?;
-    out.extend_from_slice(shown_before.as_slice())?;
-    out.extend_from_slice(shown_behind.as_slice())?;
-    out.push(b'\n')?;
-    out.extend_from_slice(indent.as_slice())?;
-    out.extend_from_slice(b"^\n")
+    let before = shown_characters(alloc, before)?;
+    let behind = shown_characters(alloc, behind)?;
+    push_excerpt_of(alloc, out, before.as_slice(), behind.as_slice())
 }
 
 /// Puts words and a code at the end of `out`, to the end of the line.
-pub(crate) fn push_message(out: &mut Vec<u8>, words: &[u8], code: &str) -> Result<(), AllocError>
+fn push_message(out: &mut Vec<u8>, words: &[u8], code: &str) -> Result<(), AllocError>
     ensures { OnOk result (out.new.items ≡ out.old.items ++ message words.now code.now) }
 {
     out.extend_from_slice(b": ")?;
@@ -85,29 +108,57 @@ pub(crate) fn push_message(out: &mut Vec<u8>, words: &[u8], code: &str) -> Resul
     out.extend_from_slice(b")\n")
 }
 
-/// What is said of a refusal in these words, where it stands at this byte.
+/// Puts the number of a line at the end of `out`, if it is known.
+fn push_number(out: &mut Vec<u8>, number: Option<u32>) -> Result<(), AllocError>
+    ensures { OnOk result (out.new.items ≡ out.old.items ++ number_text number) }
+{
+    match number {
+        Some(number) => {
+            out.push(b':')?;
+            push_decimal(out, u64::from(number))
+        }
+        None => Ok(()),
+    }
+}
+
+/// What is said of a refusal in these words, where it stands at this byte. The number of its line is that of a script's line if it is
+/// known.
 fn explain_in(
     alloc: Global,
     name: &[u8],
+    number: Option<u32>,
     text: &[u8],
     words: &[u8],
     why: Refusal,
     byte: Option<usize>,
 ) -> Result<Vec<u8>, AllocError>
-    ensures { IfOk result (λ out. out.items ≡ explanation name.now text.now words.now why byte) }
+    ensures { IfOk result (λ out. out.items ≡ explanation name.now number text.now words.now why byte) }
 {
     let mut out = Vec::new(alloc);
-    out.extend_from_slice(name)?;
+    push_shown(alloc, &mut out, name)?;
     match byte {
-        None => push_message(&mut out, words, why.code())?,
+        None => {
+            push_number(&mut out, number)?;
+            push_message(&mut out, words, why.code())?;
+        }
         Some(at) => {
             let place = place_in(text, at);
-            push_position(&mut out, place.line, place.column)?;
+            push_position(&mut out, line_in(number, place.line), place.column)?;
             push_message(&mut out, words, why.code())?;
             push_excerpt(alloc, &mut out, place.before, place.behind)?;
         }
     }
     Ok(out)
+}
+
+/// The number of a line, where it is known, or another one.
+fn line_in(number: Option<u32>, line: usize) -> usize
+    ensures { result ≡ unwrap_or number line }
+{
+    match number {
+        Some(number) => number as usize,
+        None => line,
+    }
 }
 
 /// Why a source of this name is refused, for people: `NAME: WORDS (CODE)`. Where the refusal has a place in a filter's text, its line
@@ -124,9 +175,45 @@ pub fn explain(
     explain_in(
         alloc,
         name,
+        None,
         text,
         found.words.as_slice(),
         told.refusal,
         found.byte,
+    )
+}
+
+/// The byte of a line that is this byte of the source with which the line ends.
+fn byte_of_line(line: &[u8], source: &[u8], byte: Option<usize>) -> Option<usize>
+    ensures { result ≡ option_map (byte_of_line line.now source.now) byte }
+{
+    match byte {
+        Some(at) => Some(line.len().saturating_sub(source.len()) + at.min(source.len())),
+        None => None,
+    }
+}
+
+/// Why the source with which the line of a number ends is refused, for people: `NAME:NUMBER: WORDS (CODE)`. Where the refusal has a
+/// place in a filter's text, its column in the line stands behind the number, and the line with a caret under the place follows.
+pub fn explain_line(
+    alloc: Global,
+    name: &[u8],
+    number: u32,
+    line: &[u8],
+    source: &[u8],
+    told: &Diagnosis,
+) -> Result<Vec<u8>, AllocError>
+    ensures { IfOk result (λ out. IsLineExplanation name.now number line.now source.now told.now out.items) }
+{
+    let found = find(alloc, source, told)?;
+    let byte = byte_of_line(line, source, found.byte);
+    explain_in(
+        alloc,
+        name,
+        Some(number),
+        line,
+        found.words.as_slice(),
+        told.refusal,
+        byte,
     )
 }

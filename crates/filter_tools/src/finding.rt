@@ -1,10 +1,14 @@
 //! The words of a refusal, and where in the text it is shown.
-ghost use Rattle.std.specs.Prelude.{◌≡◌, ◌++◌, ℕ, List, IfOk, OnOk};
+ghost use Rattle.std.specs.Prelude.{◌≡◌, ◌++◌, Option, Some, IfOk, OnOk};
 ghost use Rattle.filter_tools.specs.HeadWords.{IsHeadWord, IsShownAt, missing_assign_of, place_or};
-ghost use Rattle.filter_tools.specs.Ranges.{EndsInRange, range_text};
+ghost use Rattle.filter_tools.specs.Ranges.{EndsInRange, page_text, range_text, see_page, whatever_before};
+ghost use Rattle.filter_tools.specs.declared.head_word.Word.{Word as TheWord};
 
-use crate::head_word::{Word, head_word, missing_assign, place_or};
+use crate::head_word::{missing_assign, name_before, place_or};
+use crate::shown::push_shown;
+use crate::words::{head_words, words_of};
 use filter_source::{Diagnosis, Refusal};
+use filter_tokens::lex;
 use filter_verifier::Range;
 use line_protocol::push_decimal;
 use std::alloc::{AllocError, Global};
@@ -28,9 +32,34 @@ fn missing_assign_of(why: Refusal) -> Option<usize>
     }
 }
 
-/// Puts the range of an int that is refused at the end of `out`.
-fn push_range(out: &mut Vec<u8>, range: Option<Range>) -> Result<(), AllocError>
-    ensures { OnOk result (out.new.items ≡ out.old.items ++ range_text range) }
+/// That no condition narrows a range.
+#[tactic(auto, unfolding(crate::specs::Ranges::whatever_before))]
+fn whatever_before() -> &'static [u8]
+    ensures { result.now ≡ whatever_before }
+{
+    b" here, whatever the conditions before it"
+}
+
+/// Where more is said of a code.
+#[tactic(auto, unfolding(crate::specs::Ranges::see_page))]
+fn see_page() -> &'static [u8]
+    ensures { result.now ≡ see_page }
+{
+    b"; see `ncroute explain "
+}
+
+/// Puts which page says more of a code at the end of `out`.
+fn push_page(out: &mut Vec<u8>, code: &str) -> Result<(), AllocError>
+    ensures { OnOk result (out.new.items ≡ out.old.items ++ page_text code.now) }
+{
+    out.extend_from_slice(see_page())?;
+    out.extend_from_slice(code.as_bytes())?;
+    out.extend_from_slice(b"`")
+}
+
+/// Puts the range of an int that is refused at the end of `out`, and which page says more.
+fn push_range(out: &mut Vec<u8>, why: Refusal, range: Option<Range>) -> Result<(), AllocError>
+    ensures { OnOk result (out.new.items ≡ out.old.items ++ range_text why range) }
 {
     match range {
         Some(range) => {
@@ -38,45 +67,36 @@ fn push_range(out: &mut Vec<u8>, range: Option<Range>) -> Result<(), AllocError>
             push_decimal(out, u64::from(range.low()))?;
             out.extend_from_slice(b"..")?;
             push_decimal(out, u64::from(range.high()))?;
-            out.extend_from_slice(b" here")
+            out.extend_from_slice(whatever_before())?;
+            push_page(out, why.code())
         }
         None => Ok(()),
     }
 }
 
-/// The words of a refusal, with the range of the int that is refused.
-fn words_of(alloc: Global, told: &Diagnosis) -> Result<Vec<u8>, AllocError>
+/// Words as they are shown, and the range of the int that is refused.
+fn with_range(alloc: Global, plain: &str, told: &Diagnosis) -> Result<Vec<u8>, AllocError>
     ensures { IfOk result (λ words. EndsInRange told.now words.items) }
 {
-    let plain = format!(in alloc; "{}", told.refusal)?;
-    let mut words = Vec::from_slice(alloc, plain.as_bytes())?;
-    push_range(&mut words, told.range)?;
+    let mut words = Vec::new(alloc);
+    push_shown(alloc, &mut words, plain.as_bytes())?;
+    push_range(&mut words, told.refusal, told.range)?;
     Ok(words)
 }
 
-/// The word of a text at the head of a command that is none, for people.
-fn name_in(text: &[u8], word: Option<Word>) -> Option<&str> {
-    let word = word?;
-    let bytes = text.get(word.from..word.to)?;
-    str::from_utf8(bytes).ok()
-}
-
-/// The words of a refusal behind the word at the head of a command that is none.
-fn words_on_head(
-    alloc: Global,
-    text: &[u8],
-    word: Option<Word>,
-    told: &Diagnosis,
-) -> Result<Vec<u8>, AllocError>
-    ensures { IfOk result (λ words. EndsInRange told.now words.items) }
+/// What is shown where the `=` of an assignment is missing at a byte: the word at the head of the command.
+fn find_head(alloc: Global, text: &[u8], at: usize, told: &Diagnosis) -> Result<Finding, AllocError>
+    ensures shown { IfOk result (λ found. (word : Option TheWord) × IsHeadWord text.now at word × (found.byte ≡ Some (place_or word at))) }
+    ensures words { IfOk result (λ found. EndsInRange told.now found.words.items) }
 {
-    let plain = match name_in(text, word) {
-        Some(name) => format!(in alloc; "`{name}` is no command: {}", told.refusal)?,
-        None => format!(in alloc; "{}", told.refusal)?,
-    };
-    let mut words = Vec::from_slice(alloc, plain.as_bytes())?;
-    push_range(&mut words, told.range)?;
-    Ok(words)
+    let lexed = lex(alloc, text)?;
+    let tokens = lexed.tokens.as_slice();
+    let word = name_before(tokens, at);
+    let plain = head_words(alloc, text, tokens, word, at)?;
+    Ok(Finding {
+        words: with_range(alloc, plain.as_str(), told)?,
+        byte: Some(place_or(word, at)),
+    })
 }
 
 /// What is shown of a refusal. Where the word at the head of a command is none, the refusal is shown at that word.
@@ -85,16 +105,13 @@ pub(crate) fn find(alloc: Global, text: &[u8], told: &Diagnosis) -> Result<Findi
     ensures words { IfOk result (λ found. EndsInRange told.now found.words.items) }
 {
     match missing_assign_of(told.refusal) {
-        Some(at) => {
-            let word = head_word(alloc, text, at)?;
+        Some(at) => find_head(alloc, text, at, told),
+        None => {
+            let plain = words_of(alloc, text, told)?;
             Ok(Finding {
-                words: words_on_head(alloc, text, word, told)?,
-                byte: Some(place_or(word, at)),
+                words: with_range(alloc, plain.as_str(), told)?,
+                byte: told.byte,
             })
         }
-        None => Ok(Finding {
-            words: words_of(alloc, told)?,
-            byte: told.byte,
-        }),
     }
 }

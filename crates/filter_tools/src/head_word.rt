@@ -1,10 +1,9 @@
 //! The word at the head of a command that is none.
-ghost use Rattle.std.specs.Prelude.{◌≡◌, None, IfOk};
-ghost use Rattle.filter_tools.specs.HeadWords.{IsHeadWord, missing_assign, name_before, named, place_or};
+ghost use Rattle.std.specs.Prelude.{◌≡◌, None};
+ghost use Rattle.filter_tools.specs.HeadWords.{missing_assign, name_before, named, place_or};
 
 use filter_parser::{Expected, ParseFault};
-use filter_tokens::{Token, TokenKind, lex};
-use std::alloc::{AllocError, Global};
+use filter_tokens::{Token, TokenKind};
 
 /// The byte at which the `=` of an assignment is missing, if that is the fault.
 pub(crate) fn missing_assign(fault: ParseFault) -> Option<usize>
@@ -42,7 +41,7 @@ fn named(token: &Token) -> Option<Word>
 }
 
 /// Where the last of the tokens is that end at a byte or before it, if it is a name.
-fn name_before(tokens: &[Token], at: usize) -> Option<Word>
+pub(crate) fn name_before(tokens: &[Token], at: usize) -> Option<Word>
     ensures { result ≡ name_before at None tokens.now }
 {
     let mut found = None;
@@ -52,14 +51,6 @@ fn name_before(tokens: &[Token], at: usize) -> Option<Word>
         }
     }
     found
-}
-
-/// The word at the head of the command whose `=` is missing at a byte, if it is a name.
-pub(crate) fn head_word(alloc: Global, text: &[u8], at: usize) -> Result<Option<Word>, AllocError>
-    ensures { IfOk result (IsHeadWord text.now at) }
-{
-    let lexed = lex(alloc, text)?;
-    Ok(name_before(lexed.tokens.as_slice(), at))
 }
 
 /// The place of a word, or another one where there is none.

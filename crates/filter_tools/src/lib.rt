@@ -1,19 +1,25 @@
 //! What helps people with filters: a refusal in words, at its line and column, and a filter that is tried on routes.
 #![tactic(auto)]
 
+mod around;
 mod explanation;
 mod filter;
 mod finding;
 mod head_word;
+mod laws;
 mod listing;
 mod named;
+mod nearest;
 mod place;
+mod remedies;
 mod route_of_size;
-mod script_line;
+mod shown;
+mod words;
 
-pub use explanation::explain;
+pub use explanation::{explain, explain_line};
 pub use filter::{Filtered, filter_lines};
+pub use laws::shown_is_harmless;
 pub use listing::write_listing;
-pub use named::{check_named, tell};
+pub use named::{check_named, list_named, tell};
 pub use place::{Place, place_in};
-pub use script_line::explain_line;
+pub use shown::push_shown;

@@ -1,14 +1,17 @@
 //! `ncroute list`: code as a listing, with what the verifier knows before each instruction.
-ghost use Rattle.std.specs.Prelude.{◌≡◌, ◌≤◌, ◌<◌, ◌++◌, ℕ, List, [], Some, IfOk, IfErr, OnOk, length, slice_get};
+ghost use Rattle.std.specs.Prelude.{◌≡◌, ◌≤◌, ◌<◌, ◌++◌, ℕ, List, [], Some, IfOk, IfErr, IfSome, OnOk, length, slice_get};
 ghost use Rattle.std.specs.Io.KnownBytes.{Appends};
 ghost use Rattle.filter_code.specs.Limits.{instruction_limit};
 ghost use Rattle.filter_commands.specs.Check.{verdict_on};
 ghost use Rattle.filter_commands.specs.Faults.{stream_fault};
+ghost use Rattle.filter_source.specs.Diagnoses.{TellsOfCode};
+ghost use Rattle.filter_source.specs.Sources.{IsUnsafe};
 ghost use Rattle.filter_verifier.specs.FirstFault.{the_fault};
 ghost use Rattle.filter_verifier.specs.InStateView.{Known};
 ghost use Rattle.filter_verifier.specs.Pass.{in_state_view};
 ghost use Rattle.filter_verifier.specs.Surveys.{surveyed};
 ghost use Rattle.filter_tools.specs.Listing.{IsCutListing, IsListed, IsListing, Lists, fact_text, instruction_line, known_before, mark};
+ghost use Rattle.filter_tools.specs.Listing.{IsToldOfCode, IsToldOfListing, WritesListing, refusal_in};
 ghost use Rattle.filter_tools.specs.Listing.{nothing_known, origin_in, place_text, places_text, state_text, target_text};
 
 use crate::filter::refusal_line;
@@ -16,7 +19,7 @@ use crate::place::place_in;
 use filter_code::{Code, Instr};
 use filter_commands::{ProgramFault, code_of};
 use filter_compiler::MappedCode;
-use filter_source::{Failure, Refusal, place_at, push_verified, verify_code};
+use filter_source::{Diagnosis, Failure, Refusal, place_at, push_verified, verify_mapped};
 use filter_verifier::{AbstractFrame, Fact, InState, Range, survey_code};
 use line_protocol::{push_decimal, push_refusal, write_text};
 use std::alloc::{AllocError, Global};
@@ -34,8 +37,8 @@ struct Origins<'a> {
 struct Listing {
     /// The lines.
     text: Vec<u8>,
-    /// Why the source or its code is refused.
-    refusal: Option<Refusal>,
+    /// What is told of it where the source or its code is refused.
+    told: Option<Diagnosis>,
 }
 
 /// Puts the range of an int, and its mark, at the end of `out`.
@@ -190,23 +193,21 @@ fn list_verified(
     origins: Origins,
     size: u32,
 ) -> Result<Listing, AllocError>
-    ensures { IfOk result (λ listing. IsListing (Some size) code (origin_in origins.entry.source.now origins.entry.places.now) listing.text.items listing.refusal) }
+    ensures listing { IfOk result (λ listing. IsListing (Some size) code (origin_in origins.entry.source.now origins.entry.places.now) listing.text.items (refusal_in listing.told)) }
+    ensures told { IfOk result (λ listing. IfSome listing.told (λ told. IsUnsafe code size told.refusal × TellsOfCode code origins.entry.places.now size told)) }
 {
     let mut text = list_visited(alloc, &code, origins, size)?;
-    match verify_code(alloc, code, size) {
+    match verify_mapped(alloc, code, origins.places, size) {
         Ok(verified) => {
             push_verified(&mut text, &verified)?;
-            Ok(Listing {
-                text,
-                refusal: None,
-            })
+            Ok(Listing { text, told: None })
         }
         Err(Failure::Refused(told)) => {
             let why = told.refusal;
             push_refusal(&mut text, why.code(), why.at() as u64)?;
             Ok(Listing {
                 text,
-                refusal: Some(why),
+                told: Some(told),
             })
         }
         Err(Failure::Memory) => Err(AllocError),
@@ -220,13 +221,14 @@ fn list(
     origins: Origins,
     size: Option<u32>,
 ) -> Result<Listing, AllocError>
-    ensures { IfOk result (λ listing. IsListing size code (origin_in origins.entry.source.now origins.entry.places.now) listing.text.items listing.refusal) }
+    ensures listing { IfOk result (λ listing. IsListing size code (origin_in origins.entry.source.now origins.entry.places.now) listing.text.items (refusal_in listing.told)) }
+    ensures told { IfOk result (λ listing. IfSome listing.told (IsToldOfCode size code origins.entry.places.now)) }
 {
     match size {
         Some(size) => list_verified(alloc, code, origins, size),
         None => Ok(Listing {
             text: list_instructions(alloc, &code, origins)?,
-            refusal: None,
+            told: None,
         }),
     }
 }
@@ -238,7 +240,8 @@ fn list_source(
     size: Option<u32>,
     is_code: bool,
 ) -> Result<Listing, AllocError>
-    ensures { IfOk result (λ listing. IsListed size is_code source.now listing.text.items listing.refusal) }
+    ensures listing { IfOk result (λ listing. IsListed size is_code source.now listing.text.items (refusal_in listing.told)) }
+    ensures told { IfOk result (λ listing. IfSome listing.told (IsToldOfListing size is_code source.now)) }
 {
     match code_of(alloc, source, is_code) {
         Ok(MappedCode { code, places }) => {
@@ -250,10 +253,27 @@ fn list_source(
         }
         Err(Failure::Refused(told)) => Ok(Listing {
             text: refusal_line(alloc, told.refusal)?,
-            refusal: Some(told.refusal),
+            told: Some(told),
         }),
         Err(Failure::Memory) => Err(AllocError),
     }
+}
+
+/// Writes the listing of a source, as `write_listing` does. Returns what is told of a source or a code that is refused.
+pub(crate) fn write_told_listing<W: Write>(
+    alloc: Global,
+    source: &[u8],
+    writer: &mut W,
+    size: Option<u32>,
+    is_code: bool,
+) -> Result<Option<Diagnosis>, ProgramFault>
+    ensures finished { IfOk result (WritesListing size is_code source.now (W.contents writer.old) (W.contents writer.new)) }
+    ensures broken_off { IfErr result (λ fault. IsCutListing (stream_fault fault) size is_code source.now
+        (W.contents writer.old) (W.contents writer.new)) }
+{
+    let listing = list_source(alloc, source, size, is_code)?;
+    write_text(writer, listing.text.as_slice())?;
+    Ok(listing.told)
 }
 
 /// Writes the listing of a filter's code, with the line and the column that each instruction comes from, or of a code file in
@@ -272,7 +292,8 @@ pub fn write_listing<W: Write>(
     ensures broken_off { IfErr result (λ fault. IsCutListing (stream_fault fault) size is_code source.now
         (W.contents writer.old) (W.contents writer.new)) }
 {
-    let listing = list_source(alloc, source, size, is_code)?;
-    write_text(writer, listing.text.as_slice())?;
-    Ok(listing.refusal)
+    match write_told_listing(alloc, source, writer, size, is_code)? {
+        Some(told) => Ok(Some(told.refusal)),
+        None => Ok(None),
+    }
 }

@@ -1,14 +1,16 @@
-//! `ncroute check` of sources that have names: a refusal is told with the name.
+//! `ncroute check` and `ncroute list` of sources that have names: a refusal is told with the name.
 ghost use Rattle.std.specs.Prelude.{◌≡◌, Some, IfErr, IfOk, OnOk};
 ghost use Rattle.std.specs.Io.KnownBytes.{Appends};
 ghost use Rattle.filter_commands.specs.Evaluation.{IsCut};
 ghost use Rattle.filter_commands.specs.Faults.{stream_fault};
 ghost use Rattle.filter_source.specs.declared.diagnosis.Diagnosis.{Diagnosis as TheDiagnosis};
-ghost use Rattle.filter_tools.specs.Naming.{ChecksNamed, ChecksNamedOff, IsCutTelling, TellsOf, named_refusal};
+ghost use Rattle.filter_tools.specs.Naming.{ChecksNamed, ChecksNamedOff, IsCutTelling, ListsNamed, ListsNamedOff, TellsInWords, TellsOf, named_refusal};
 ghost use Rattle.filter_tools.specs.Telling.{Explains, IsCutExplanation};
 
 use crate::explanation::explain;
 use crate::filter::refusal_line;
+use crate::listing::write_told_listing;
+use crate::shown::push_shown;
 use filter_commands::{ProgramFault, write_report};
 use filter_source::{Diagnosis, Refusal};
 use line_protocol::write_text;
@@ -32,13 +34,13 @@ pub fn tell<E: Write>(
     Ok(())
 }
 
-/// The name of a source, and the line that refuses it.
+/// The name of a source as it is shown, and the line that refuses it.
 fn named_refusal(alloc: Global, name: &[u8], why: Refusal) -> Result<Vec<u8>, AllocError>
     ensures { IfOk result (λ text. text.items ≡ named_refusal name.now why) }
 {
     let line = refusal_line(alloc, why)?;
     let mut text = Vec::new(alloc);
-    text.extend_from_slice(name)?;
+    push_shown(alloc, &mut text, name)?;
     text.extend_from_slice(b": ")?;
     text.extend_from_slice(line.as_slice())?;
     Ok(text)
@@ -112,5 +114,46 @@ pub fn check_named<W: Write, E: Write>(
 {
     let told = write_report(alloc, text, writer, size, is_code)?;
     tell_refusal(alloc, errors, name, text, &told, is_explained)?;
+    Ok(told)
+}
+
+/// Tells in words why a source of this name is refused, if it is and `is_explained` says so.
+fn tell_in_words<E: Write>(
+    alloc: Global,
+    errors: &mut E,
+    name: &[u8],
+    text: &[u8],
+    told: &Option<Diagnosis>,
+    is_explained: bool,
+) -> Result<(), ProgramFault>
+    ensures ok { OnOk result (TellsInWords is_explained name.now text.now told.now (E.contents errors.old) (E.contents errors.new)) }
+    ensures err { IfErr result (λ fault. (why : TheDiagnosis) × (told.now ≡ Some why)
+        × IsCutExplanation (stream_fault fault) name.now text.now why (E.contents errors.old) (E.contents errors.new)) }
+{
+    match told {
+        Some(why) if is_explained => tell(alloc, errors, name, text, why),
+        _ => Ok(()),
+    }
+}
+
+/// Writes the listing of a source, as `write_listing` does, and tells on `errors` in words why it is refused, if it is and
+/// `is_explained` says so. Returns what is told of the refusal.
+pub fn list_named<W: Write, E: Write>(
+    alloc: Global,
+    text: &[u8],
+    writer: &mut W,
+    errors: &mut E,
+    name: &[u8],
+    size: Option<u32>,
+    is_code: bool,
+    is_explained: bool,
+) -> Result<Option<Diagnosis>, ProgramFault>
+    ensures finished { IfOk result (ListsNamed size is_code is_explained name.now text.now
+        (W.contents writer.old) (W.contents writer.new) (E.contents errors.old) (E.contents errors.new)) }
+    ensures broken_off { IfErr result (λ fault. ListsNamedOff (stream_fault fault) size is_code name.now text.now
+        (W.contents writer.old) (W.contents writer.new) (E.contents errors.old) (E.contents errors.new)) }
+{
+    let told = write_told_listing(alloc, text, writer, size, is_code)?;
+    tell_in_words(alloc, errors, name, text, &told, is_explained)?;
     Ok(told)
 }

@@ -1,2 +1,3 @@
 pub mod Sources
 pub mod Tried
+pub mod Untold

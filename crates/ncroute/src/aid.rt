@@ -1,63 +1,64 @@
 //! From what people ask for to an exit status.
-ghost use Rattle.std.specs.Prelude.{◌≡◌, ◌||◌, false, IfErr, IfOk, OnErr, is_some, length};
+ghost use Rattle.std.specs.Prelude.{◌≡◌, ◌||◌, false, IfErr, IfOk, OnErr, length};
 ghost use Rattle.std.specs.Io.KnownBytes.{Appends};
 ghost use Rattle.filter_commands.specs.Evaluation.{IsCut};
 ghost use Rattle.filter_commands.specs.Faults.{stream_fault};
-ghost use Rattle.filter_tools.specs.Listing.{IsCutListing};
+ghost use Rattle.filter_tools.specs.Naming.{ChecksNamedOff, ListsNamedOff};
 ghost use Rattle.filter_source.specs.declared.diagnosis.Diagnosis.{Diagnosis as TheDiagnosis};
 ghost use Rattle.filter_tools.specs.Telling.{Explains, IsCutExplanation};
 ghost use Rattle.filter_tools.specs.declared.filter.Filtered.TheVariants.{Refused};
-ghost use Rattle.ncroute.specs.Helping.{ChecksFirst, ChecksOne, ChecksSome, FailsToTell, Helps, IsCutOne, IsRead, ListsText};
-ghost use Rattle.ncroute.specs.Helping.{RunsScript, ServesPeople, StopsFilter, StopsHelp, StopsScript, TriesFilter, name_of, status_of_filter, told_refusal};
+ghost use Rattle.ncroute.specs.Helping.{ChecksFirst, ChecksOne, ChecksSome, ChecksText, FailsToTell, Helps, IsCutOne, ListsSource, ListsText};
+ghost use Rattle.ncroute.specs.Helping.{ReplaysSource, RunsDomainFile, RunsDomainSource, RunsScript, ServesPeople, StopsDomainFile};
+ghost use Rattle.ncroute.specs.Helping.{StopsDomainSource, StopsFilter, StopsHelp, StopsListing, StopsReplay, StopsScript, StopsTrying};
+ghost use Rattle.ncroute.specs.Helping.{ TriesFilter, TriesText, fault_status, status_of_filter, told_refusal};
+ghost use Rattle.ncroute.specs.Reading.{name_of};
 
+use crate::domain::carry_out_domain;
+use crate::replay::{REPLAY_LIMIT, replay_text};
 use crate::serve::{FAILED, report_fault, status_of};
+use crate::texts::{Folder, name_of, read_source, tell_unread};
 use crate::watcher::Teller;
 use command_line::{Aid, Checking, Source};
 use filter_commands::ProgramFault;
 use filter_source::{Diagnosis, SOURCE_LIMIT};
-use filter_tools::{Filtered, check_named, filter_lines, tell, write_listing};
-use line_protocol::{StreamFault, read_input, write_text};
+use filter_tools::{Filtered, check_named, filter_lines, list_named, tell};
+use line_protocol::{INPUT_LIMIT, StreamFault, write_text};
 use operator_cmds::run_watched_script;
 use std::alloc::Global;
-use std::fs;
 use std::io::{Read, Write};
-use std::rt::Files;
 
-/// The bytes of a file: all, or one more than a source may have.
-fn read_file<F: Files>(files: &F, alloc: Global, name: &str) -> Result<Vec<u8>, ProgramFault> {
-    let Ok(mut file) = fs::open(files, name) else {
-        return Err(ProgramFault::Stream(StreamFault::Read));
-    };
-    Ok(read_input(alloc, &mut file, SOURCE_LIMIT)?)
-}
+/// The exit status where a fault of the machine ended what a refusal ends with `FAILED`.
+const FAULT: u8 = 3;
 
-/// The bytes of a source: all, or one more than it may have.
-fn read_source<F: Files, R: Read>(
-    files: &F,
+/// Checks the text of a source. Returns whether it is refused.
+fn check_read<W: Write, E: Write>(
     alloc: Global,
-    source: &Source,
-    reader: &mut R,
-) -> Result<Vec<u8>, ProgramFault>
-    ensures { IfOk result (λ text. IsRead source.now text.items (R.remaining reader.old) (R.remaining reader.new)) }
+    how: Checking,
+    name: &[u8],
+    text: &[u8],
+    writer: &mut W,
+    errors: &mut E,
+) -> Result<bool, ProgramFault>
+    ensures finished { IfOk result (ChecksText how name.now text.now
+        (W.contents writer.old) (W.contents writer.new) (E.contents errors.old) (E.contents errors.new)) }
+    ensures cut { IfErr result (λ fault. ChecksNamedOff (stream_fault fault) how.size how.is_code how.is_explained name.now text.now
+        (W.contents writer.old) (W.contents writer.new) (E.contents errors.old) (E.contents errors.new)) }
 {
-    match source {
-        Source::Input => Ok(read_input(alloc, reader, SOURCE_LIMIT)?),
-        Source::File(name) => read_file(files, alloc, name.as_str()),
-    }
+    let why = check_named(
+        alloc,
+        text,
+        writer,
+        errors,
+        name,
+        how.size,
+        how.is_code,
+        how.is_explained,
+    )?;
+    Ok(why.is_some())
 }
 
-/// The name by which people know a source.
-fn name_of(source: &Source) -> &[u8]
-    ensures { result.now ≡ name_of source.now }
-{
-    match source {
-        Source::Input => b"<stdin>",
-        Source::File(name) => name.as_str().as_bytes(),
-    }
-}
-
-/// Checks one source. Returns what is told of its refusal.
-fn check_one<F: Files, R: Read, W: Write, E: Write>(
+/// Checks one source. Returns whether it is refused; a file that cannot be read is.
+fn check_one<F: Folder, R: Read, W: Write, E: Write>(
     files: &F,
     alloc: Global,
     how: Checking,
@@ -65,36 +66,35 @@ fn check_one<F: Files, R: Read, W: Write, E: Write>(
     reader: &mut R,
     writer: &mut W,
     errors: &mut E,
-) -> Result<Option<Diagnosis>, ProgramFault>
-    ensures finished { IfOk result (λ why. ChecksOne how source.now
+) -> Result<bool, ProgramFault>
+    ensures finished { IfOk result (ChecksOne (F.opens files.now) how source.now
         (record { reads = R.remaining reader.old; holds = W.contents writer.old; tells = E.contents errors.old })
-        (record { reads = R.remaining reader.new; holds = W.contents writer.new; tells = E.contents errors.new }) why) }
-    ensures cut { IfErr result (λ fault. IsCutOne (stream_fault fault) how source.now
+        (record { reads = R.remaining reader.new; holds = W.contents writer.new; tells = E.contents errors.new })) }
+    ensures cut { IfErr result (λ fault. IsCutOne (F.opens files.now) (stream_fault fault) how source.now
         (record { reads = R.remaining reader.old; holds = W.contents writer.old; tells = E.contents errors.old })
         (record { reads = R.remaining reader.new; holds = W.contents writer.new; tells = E.contents errors.new })) }
 {
-    let text = read_source(files, alloc, source, reader)?;
-    check_named(
-        alloc,
-        text.as_slice(),
-        writer,
-        errors,
-        name_of(source),
-        how.size,
-        how.is_code,
-        how.is_explained,
-    )
+    match read_source(files, alloc, source, SOURCE_LIMIT, reader) {
+        Ok(text) => {
+            let name = name_of(source);
+            check_read(alloc, how, name, text.as_slice(), writer, errors)
+        }
+        Err(why) => {
+            tell_unread(alloc, errors, source, why)?;
+            Ok(true)
+        }
+    }
 }
 
 /// Whether a source is refused, or one before it was.
-fn is_any_refused(earlier: bool, why: Option<Diagnosis>) -> bool
-    ensures { result ≡ (earlier || is_some why) }
+fn is_any_refused(earlier: bool, one: bool) -> bool
+    ensures { result ≡ (earlier || one) }
 {
-    earlier || why.is_some()
+    earlier || one
 }
 
 /// Checks each of some sources, in order. Returns whether one of them is refused.
-fn check_sources<F: Files, R: Read, W: Write, E: Write>(
+fn check_sources<F: Folder, R: Read, W: Write, E: Write>(
     files: &F,
     alloc: Global,
     how: Checking,
@@ -103,17 +103,17 @@ fn check_sources<F: Files, R: Read, W: Write, E: Write>(
     writer: &mut W,
     errors: &mut E,
 ) -> Result<bool, ProgramFault>
-    ensures finished { IfOk result (λ refused. ChecksFirst how sources.now (length sources.now)
+    ensures finished { IfOk result (λ refused. ChecksFirst (F.opens files.now) how sources.now (length sources.now)
         (record { reads = R.remaining reader.old; holds = W.contents writer.old; tells = E.contents errors.old })
         (record { reads = R.remaining reader.new; holds = W.contents writer.new; tells = E.contents errors.new }) refused) }
-    ensures cut { IfErr result (λ fault. ChecksSome (stream_fault fault) how sources.now
+    ensures cut { IfErr result (λ fault. ChecksSome (F.opens files.now) (stream_fault fault) how sources.now
         (record { reads = R.remaining reader.old; holds = W.contents writer.old; tells = E.contents errors.old })
         (record { reads = R.remaining reader.new; holds = W.contents writer.new; tells = E.contents errors.new })) }
 {
     let mut is_refused = false;
     for source in sources {
-        let why = check_one(files, alloc, how, source, reader, writer, errors)?;
-        is_refused = is_any_refused(is_refused, why);
+        let one = check_one(files, alloc, how, source, reader, writer, errors)?;
+        is_refused = is_any_refused(is_refused, one);
     }
     Ok(is_refused)
 }
@@ -146,7 +146,7 @@ fn tell_filter<E: Write>(
 
 /// Takes routes through the filter of a text, and returns the exit status. A refusal of the filter is told in words where
 /// `is_explained` says so.
-fn try_filter<R: Read, W: Write, E: Write>(
+fn try_text<R: Read, W: Write, E: Write>(
     alloc: Global,
     text: &[u8],
     size: u32,
@@ -156,10 +156,10 @@ fn try_filter<R: Read, W: Write, E: Write>(
     writer: &mut W,
     errors: &mut E,
 ) -> Result<u8, ProgramFault>
-    ensures finished { IfOk result (TriesFilter size name.now is_explained
+    ensures finished { IfOk result (TriesText size name.now is_explained text.now
         (record { reads = R.remaining reader.old; holds = W.contents writer.old; tells = E.contents errors.old })
         (record { reads = R.remaining reader.new; holds = W.contents writer.new; tells = E.contents errors.new })) }
-    ensures stopped { IfErr result (λ fault. StopsFilter (stream_fault fault) size name.now
+    ensures stopped { IfErr result (λ fault. StopsTrying (stream_fault fault) size name.now text.now
         (record { reads = R.remaining reader.old; holds = W.contents writer.old; tells = E.contents errors.old })
         (record { reads = R.remaining reader.new; holds = W.contents writer.new; tells = E.contents errors.new })) }
 {
@@ -178,21 +178,201 @@ fn show<W: Write>(page: &str, writer: &mut W) -> Result<u8, ProgramFault>
     Ok(0)
 }
 
-/// Lists a source, and returns the exit status.
-fn list<W: Write>(
+/// Lists the text of a source, tells why it is refused, and returns the exit status.
+fn list<W: Write, E: Write>(
     alloc: Global,
     text: &[u8],
     writer: &mut W,
+    errors: &mut E,
+    name: &[u8],
     size: Option<u32>,
     is_code: bool,
+    is_explained: bool,
 ) -> Result<u8, ProgramFault>
-    ensures finished { IfOk result (ListsText size is_code text.now (W.contents writer.old) (W.contents writer.new)) }
-    ensures stopped { IfErr result (λ fault. IsCutListing (stream_fault fault) size is_code text.now
-        (W.contents writer.old) (W.contents writer.new)) }
+    ensures finished { IfOk result (ListsText size is_code is_explained name.now text.now
+        (W.contents writer.old) (W.contents writer.new) (E.contents errors.old) (E.contents errors.new)) }
+    ensures stopped { IfErr result (λ fault. ListsNamedOff (stream_fault fault) size is_code name.now text.now
+        (W.contents writer.old) (W.contents writer.new) (E.contents errors.old) (E.contents errors.new)) }
 {
-    match write_listing(alloc, text, writer, size, is_code)? {
+    match list_named(
+        alloc,
+        text,
+        writer,
+        errors,
+        name,
+        size,
+        is_code,
+        is_explained,
+    )? {
         Some(_) => Ok(FAILED),
         None => Ok(0),
+    }
+}
+
+/// Takes routes through the filter of a source, and returns the exit status.
+fn try_filter<F: Folder, R: Read, W: Write, E: Write>(
+    files: &F,
+    alloc: Global,
+    size: u32,
+    source: &Source,
+    is_explained: bool,
+    reader: &mut R,
+    writer: &mut W,
+    errors: &mut E,
+) -> Result<u8, ProgramFault>
+    ensures finished { IfOk result (TriesFilter (F.opens files.now) size source.now is_explained
+        (record { reads = R.remaining reader.old; holds = W.contents writer.old; tells = E.contents errors.old })
+        (record { reads = R.remaining reader.new; holds = W.contents writer.new; tells = E.contents errors.new })) }
+    ensures stopped { IfErr result (λ fault. StopsFilter (F.opens files.now) (stream_fault fault) size source.now
+        (record { reads = R.remaining reader.old; holds = W.contents writer.old; tells = E.contents errors.old })
+        (record { reads = R.remaining reader.new; holds = W.contents writer.new; tells = E.contents errors.new })) }
+{
+    match read_source(files, alloc, source, SOURCE_LIMIT, reader) {
+        Ok(text) => {
+            let (text, name) = (text.as_slice(), name_of(source));
+            try_text(
+                alloc,
+                text,
+                size,
+                name,
+                is_explained,
+                reader,
+                writer,
+                errors,
+            )
+        }
+        Err(why) => {
+            tell_unread(alloc, errors, source, why)?;
+            Ok(FAULT)
+        }
+    }
+}
+
+/// Lists a source, and returns the exit status.
+fn list_source<F: Folder, R: Read, W: Write, E: Write>(
+    files: &F,
+    alloc: Global,
+    size: Option<u32>,
+    is_code: bool,
+    is_explained: bool,
+    source: &Source,
+    reader: &mut R,
+    writer: &mut W,
+    errors: &mut E,
+) -> Result<u8, ProgramFault>
+    ensures finished { IfOk result (ListsSource (F.opens files.now) size is_code is_explained source.now
+        (record { reads = R.remaining reader.old; holds = W.contents writer.old; tells = E.contents errors.old })
+        (record { reads = R.remaining reader.new; holds = W.contents writer.new; tells = E.contents errors.new })) }
+    ensures stopped { IfErr result (λ fault. StopsListing (F.opens files.now) (stream_fault fault) size is_code source.now
+        (record { reads = R.remaining reader.old; holds = W.contents writer.old; tells = E.contents errors.old })
+        (record { reads = R.remaining reader.new; holds = W.contents writer.new; tells = E.contents errors.new })) }
+{
+    match read_source(files, alloc, source, SOURCE_LIMIT, reader) {
+        Ok(text) => {
+            let name = name_of(source);
+            list(
+                alloc,
+                text.as_slice(),
+                writer,
+                errors,
+                name,
+                size,
+                is_code,
+                is_explained,
+            )
+        }
+        Err(why) => {
+            tell_unread(alloc, errors, source, why)?;
+            Ok(FAULT)
+        }
+    }
+}
+
+/// Replays the history that a source is the text of, and returns the exit status.
+fn replay_source<F: Folder, R: Read, W: Write, E: Write>(
+    files: &F,
+    alloc: Global,
+    source: &Source,
+    reader: &mut R,
+    writer: &mut W,
+    errors: &mut E,
+) -> Result<u8, ProgramFault>
+    ensures finished { IfOk result (ReplaysSource (F.opens files.now) source.now
+        (record { reads = R.remaining reader.old; holds = W.contents writer.old; tells = E.contents errors.old })
+        (record { reads = R.remaining reader.new; holds = W.contents writer.new; tells = E.contents errors.new })) }
+    ensures stopped { IfErr result (λ fault. StopsReplay (F.opens files.now) (stream_fault fault) source.now
+        (record { reads = R.remaining reader.old; holds = W.contents writer.old; tells = E.contents errors.old })
+        (record { reads = R.remaining reader.new; holds = W.contents writer.new; tells = E.contents errors.new })) }
+{
+    match read_source(files, alloc, source, REPLAY_LIMIT, reader) {
+        Ok(text) => replay_text(alloc, text.as_slice(), writer),
+        Err(why) => {
+            tell_unread(alloc, errors, source, why)?;
+            Ok(FAULT)
+        }
+    }
+}
+
+/// Carries out the script of a domain that a file has, and returns the exit status.
+fn run_domain_file<F: Folder, R: Read, W: Write, E: Write>(
+    files: &F,
+    alloc: Global,
+    source: &Source,
+    is_explained: bool,
+    reader: &mut R,
+    writer: &mut W,
+    errors: &mut E,
+) -> Result<u8, ProgramFault>
+    ensures finished { IfOk result (RunsDomainFile (F.opens files.now) source.now is_explained
+        (record { reads = R.remaining reader.old; holds = W.contents writer.old; tells = E.contents errors.old })
+        (record { reads = R.remaining reader.new; holds = W.contents writer.new; tells = E.contents errors.new })) }
+    ensures stopped { IfErr result (λ fault. StopsDomainFile (F.opens files.now) (stream_fault fault) source.now is_explained
+        (record { reads = R.remaining reader.old; holds = W.contents writer.old; tells = E.contents errors.old })
+        (record { reads = R.remaining reader.new; holds = W.contents writer.new; tells = E.contents errors.new })) }
+{
+    match read_source(files, alloc, source, INPUT_LIMIT, reader) {
+        Ok(text) => {
+            let mut script = text.as_slice();
+            let name = name_of(source);
+            carry_out_domain(alloc, name, is_explained, &mut script, writer, errors)
+        }
+        Err(why) => {
+            tell_unread(alloc, errors, source, why)?;
+            Ok(FAULT)
+        }
+    }
+}
+
+/// Carries out the script of a domain, and returns the exit status. The lines of standard input are answered as they come.
+fn run_domain_source<F: Folder, R: Read, W: Write, E: Write>(
+    files: &F,
+    alloc: Global,
+    source: &Source,
+    is_explained: bool,
+    reader: &mut R,
+    writer: &mut W,
+    errors: &mut E,
+) -> Result<u8, ProgramFault>
+    ensures finished { IfOk result (RunsDomainSource (F.opens files.now) source.now is_explained
+        (record { reads = R.remaining reader.old; holds = W.contents writer.old; tells = E.contents errors.old })
+        (record { reads = R.remaining reader.new; holds = W.contents writer.new; tells = E.contents errors.new })) }
+    ensures stopped { IfErr result (λ fault. StopsDomainSource (F.opens files.now) (stream_fault fault) source.now is_explained
+        (record { reads = R.remaining reader.old; holds = W.contents writer.old; tells = E.contents errors.old })
+        (record { reads = R.remaining reader.new; holds = W.contents writer.new; tells = E.contents errors.new })) }
+{
+    match source {
+        Source::Input => {
+            carry_out_domain(alloc, name_of(source), is_explained, reader, writer, errors)
+        }
+        Source::File(_) => run_domain_file(
+            files,
+            alloc,
+            source,
+            is_explained,
+            reader,
+            writer,
+            errors,
+        ),
     }
 }
 
@@ -210,12 +390,20 @@ fn run_aloud<R: Read, W: Write, E: Write>(
         (record { reads = R.remaining reader.old; holds = W.contents writer.old; tells = E.contents errors.old })
         (record { reads = R.remaining reader.new; holds = W.contents writer.new; tells = E.contents errors.new })) }
 {
-    let refused = run_watched_script(alloc, reader, writer, Teller { errors })?;
+    let refused = run_watched_script(
+        alloc,
+        reader,
+        writer,
+        Teller {
+            name: b"<stdin>",
+            errors,
+        },
+    )?;
     Ok(status_of(refused))
 }
 
 /// Does what people ask for, and returns the exit status: 0, or 1 where something was refused.
-fn help<F: Files, R: Read, W: Write, E: Write>(
+fn help<F: Folder, R: Read, W: Write, E: Write>(
     files: &F,
     alloc: Global,
     aid: &Aid,
@@ -223,60 +411,80 @@ fn help<F: Files, R: Read, W: Write, E: Write>(
     writer: &mut W,
     errors: &mut E,
 ) -> Result<u8, ProgramFault>
-    ensures finished { IfOk result (Helps aid.now
+    ensures finished { IfOk result (Helps (F.opens files.now) aid.now
         (record { reads = R.remaining reader.old; holds = W.contents writer.old; tells = E.contents errors.old })
         (record { reads = R.remaining reader.new; holds = W.contents writer.new; tells = E.contents errors.new })) }
-    ensures stopped { IfErr result (λ fault. StopsHelp (stream_fault fault) aid.now
+    ensures stopped { IfErr result (λ fault. StopsHelp (F.opens files.now) (stream_fault fault) aid.now
         (record { reads = R.remaining reader.old; holds = W.contents writer.old; tells = E.contents errors.old })
         (record { reads = R.remaining reader.new; holds = W.contents writer.new; tells = E.contents errors.new })) }
 {
     match aid {
         Aid::Check { how, sources } => {
-            let is_refused = check_sources(
-                files,
-                alloc,
-                *how,
-                sources.as_slice(),
-                reader,
-                writer,
-                errors,
-            )?;
+            let sources = sources.as_slice();
+            let is_refused = check_sources(files, alloc, *how, sources, reader, writer, errors)?;
             Ok(if is_refused { FAILED } else { 0 })
         }
-        Aid::Explain { page } => show(page, writer),
+        Aid::Explain { page } => show(page.as_str(), writer),
         Aid::List {
             size,
             is_code,
             source,
-        } => {
-            let text = read_source(files, alloc, source, reader)?;
-            list(alloc, text.as_slice(), writer, *size, *is_code)
-        }
+            is_explained,
+        } => list_source(
+            files,
+            alloc,
+            *size,
+            *is_code,
+            *is_explained,
+            source,
+            reader,
+            writer,
+            errors,
+        ),
         Aid::Run => run_aloud(alloc, reader, writer, errors),
         Aid::Filter {
             size,
-            file,
+            source,
             is_explained,
-        } => {
-            let text = read_file(files, alloc, file.as_str())?;
-            let name = file.as_str().as_bytes();
-            try_filter(
-                alloc,
-                text.as_slice(),
-                *size,
-                name,
-                *is_explained,
-                reader,
-                writer,
-                errors,
-            )
-        }
+        } => try_filter(
+            files,
+            alloc,
+            *size,
+            source,
+            *is_explained,
+            reader,
+            writer,
+            errors,
+        ),
+        Aid::Replay { source } => replay_source(files, alloc, source, reader, writer, errors),
+        Aid::Domain {
+            source,
+            is_explained,
+        } => run_domain_source(
+            files,
+            alloc,
+            source,
+            *is_explained,
+            reader,
+            writer,
+            errors,
+        ),
     }
 }
 
-/// Does what people ask for, and returns the exit status: 0, or 1 where something was refused or a fault ended it. A fault is
+/// The exit status where a fault of the machine ends what people ask for. `check` and `run` have had 1 from the first.
+pub fn fault_status(aid: &Aid) -> u8
+    ensures { result ≡ fault_status aid.now }
+{
+    match aid {
+        Aid::Check { .. } | Aid::Explain { .. } | Aid::Run => FAILED,
+        Aid::List { .. } | Aid::Filter { .. } | Aid::Replay { .. } | Aid::Domain { .. } => FAULT,
+    }
+}
+
+/// Does what people ask for, and returns the exit status: 0, or 1 where something was refused, or that of a fault. A fault is
 /// reported on `errors`; the error is that of `errors`, which did not take the whole report.
-pub fn serve_people<F: Files, R: Read, W: Write, E: Write>(
+pub fn serve_people<F: Folder, R: Read, W: Write, E: Write>(
     files: &F,
     alloc: Global,
     aid: &Aid,
@@ -284,10 +492,10 @@ pub fn serve_people<F: Files, R: Read, W: Write, E: Write>(
     writer: &mut W,
     errors: &mut E,
 ) -> Result<u8, StreamFault>
-    ensures served { IfOk result (ServesPeople aid.now
+    ensures served { IfOk result (ServesPeople (F.opens files.now) aid.now
         (record { reads = R.remaining reader.old; holds = W.contents writer.old; tells = E.contents errors.old })
         (record { reads = R.remaining reader.new; holds = W.contents writer.new; tells = E.contents errors.new })) }
-    ensures not_reported { OnErr result (FailsToTell aid.now
+    ensures not_reported { OnErr result (FailsToTell (F.opens files.now) aid.now
         (record { reads = R.remaining reader.old; holds = W.contents writer.old; tells = E.contents errors.old })
         (record { reads = R.remaining reader.new; holds = W.contents writer.new; tells = E.contents errors.new })) }
 {
@@ -295,7 +503,7 @@ pub fn serve_people<F: Files, R: Read, W: Write, E: Write>(
         Ok(status) => Ok(status),
         Err(fault) => {
             report_fault(errors, fault)?;
-            Ok(FAILED)
+            Ok(fault_status(aid))
         }
     }
 }

@@ -1,14 +1,18 @@
-//! `ncroute`: checks route filters, takes routes through their code, and runs a router, or a network of routers.
+//! `ncroute`: checks route filters, takes routes through their code, runs a router or a network of routers, and computes the
+//! routes of a whole domain.
 #![tactic(auto)]
 
 mod aid;
+mod domain;
 mod network;
+mod replay;
 mod serve;
 #[cfg(test)]
 mod tests;
+mod texts;
 mod watcher;
 
-use aid::serve_people;
+use aid::{fault_status, serve_people};
 use command_line::{Terminals, Words, tell_that_input_is_read, waits_for_people};
 use filter_commands::ProgramFault;
 use network::serve_network;
@@ -32,7 +36,10 @@ fn main(rt: HostRuntime) -> ExitCode {
     let status = match words {
         Ok(Words::Asked(request)) => serve(rt.alloc(), request, reader, writer, errors),
         Ok(Words::Network) => serve_network(&rt, rt.alloc(), writer, errors),
-        Ok(Words::Aided(aid)) => serve_people(&rt, rt.alloc(), &aid, reader, writer, errors),
+        Ok(Words::Aided(aid)) => {
+            let served = serve_people(&rt, rt.alloc(), &aid, reader, writer, errors);
+            Ok(served.unwrap_or(fault_status(&aid)))
+        }
         Ok(Words::Shown(status)) => Ok(status),
         Err(fault) => report_fault(errors, ProgramFault::from(fault)).map(|_| FAILED),
     };

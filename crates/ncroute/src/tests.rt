@@ -1,9 +1,14 @@
-//! Which words of the command line ask for what.
+//! Which words of the command line ask for what, and what the program does for them.
+ghost use Rattle.std.specs.Prelude.{⊤};
+
+use crate::aid::{fault_status, serve_people};
 use crate::serve::serve;
+use crate::texts::Folder;
 use command_line::{
     Aid, Checking, Request, Source, Terminals, Words, request_of, waits_for_people,
 };
 use line_protocol::StreamFault;
+use std::io;
 use std::test::Fail;
 
 /// People neither type the input nor read the errors.
@@ -14,7 +19,7 @@ const NO_TERMINAL: Terminals = Terminals {
 
 #[test]
 fn reads_words(rt: HostRuntime) -> Result<(), Fail> {
-    let rows: [(&[&str], Words); 15] = [
+    let rows: [(&[&str], Words); 19] = [
         (&["ncroute", "eval"], Words::Asked(Request::Eval)),
         (&["ncroute"], Words::Shown(2)),
         (&["ncroute", "check"], Words::Shown(2)),
@@ -37,12 +42,21 @@ fn reads_words(rt: HostRuntime) -> Result<(), Fail> {
             Words::Shown(2),
         ),
         (&["ncroute", "check", "--size", "x"], Words::Shown(2)),
+        (&["ncroute", "check", "--size", "-16"], Words::Shown(2)),
+        (&["ncroute", "filter", "--size", "16", "-"], Words::Shown(2)),
+        (&["ncroute", "explain", "p99"], Words::Shown(2)),
         (&["ncroute", "eval", "more"], Words::Shown(2)),
         (&["ncroute", "eval", "--size"], Words::Shown(2)),
         (&["ncroute", "run"], Words::Asked(Request::Run)),
         (&["ncroute", "run", "script"], Words::Shown(2)),
         (&["ncroute", "net"], Words::Network),
         (&["ncroute", "net", "more"], Words::Shown(2)),
+        (
+            &["ncroute", "replay"],
+            Words::Aided(Aid::Replay {
+                source: Source::Input,
+            }),
+        ),
         (&["ncroute", "--help"], Words::Shown(0)),
         (&["ncroute", "eval", "--help"], Words::Shown(0)),
     ];
@@ -68,7 +82,7 @@ fn reads_words_of_aids(rt: HostRuntime) -> Result<(), Fail> {
     let how = Checking {
         size: 16,
         is_code: true,
-        is_explained: false,
+        is_explained: true,
     };
     let first = Source::File(String::from_str(rt.alloc(), "a")?);
     let sources = vec![in rt.alloc(); first, Source::Input]?;
@@ -77,10 +91,41 @@ fn reads_words_of_aids(rt: HostRuntime) -> Result<(), Fail> {
     let filter: &[&str] = &["ncroute", "filter", "a.filter", "--size=8"];
     let want = Words::Aided(Aid::Filter {
         size: 8,
-        file: String::from_str(rt.alloc(), "a.filter")?,
-        is_explained: false,
+        source: Source::File(String::from_str(rt.alloc(), "a.filter")?),
+        is_explained: true,
     });
     assert_eq!(&rt; request_of(&rt, rt.alloc(), filter, NO_TERMINAL)?, want);
+    Ok(())
+}
+
+/// The script of a domain comes from a file, or from standard input: without a name, and by `-`.
+#[test]
+fn reads_words_of_domains(rt: HostRuntime) -> Result<(), Fail> {
+    let rows: [(&[&str], bool); 3] = [
+        (&["ncroute", "domain"], false),
+        (&["ncroute", "domain", "-"], false),
+        (&["ncroute", "domain", "--explain=always"], true),
+    ];
+    for (words, is_explained) in rows {
+        let source = Source::Input;
+        let want = Words::Aided(Aid::Domain {
+            source,
+            is_explained,
+        });
+        assert_eq!(&rt; request_of(&rt, rt.alloc(), words, NO_TERMINAL)?, want);
+    }
+    let words: &[&str] = &["ncroute", "domain", "a.domain"];
+    let source = Source::File(String::from_str(rt.alloc(), "a.domain")?);
+    let want = Words::Aided(Aid::Domain {
+        source,
+        is_explained: true,
+    });
+    assert_eq!(&rt; request_of(&rt, rt.alloc(), words, NO_TERMINAL)?, want);
+    let more: &[&str] = &["ncroute", "domain", "a.domain", "b.domain"];
+    assert_eq!(&rt;
+        request_of(&rt, rt.alloc(), more, NO_TERMINAL)?,
+        Words::Shown(2)
+    );
     Ok(())
 }
 
@@ -94,24 +139,27 @@ fn is_told(rt: &HostRuntime, words: &[&str], errors: bool) -> Result<bool, Fail>
         Words::Aided(Aid::Check { how, .. }) => Ok(how.is_explained),
         Words::Aided(Aid::Filter { is_explained, .. }) => Ok(is_explained),
         Words::Aided(Aid::Run) => Ok(true),
-        Words::Asked(Request::Run) => Ok(false),
-        _ => Err(Fail::from("neither check, filter nor run")),
+        Words::Aided(Aid::Domain { is_explained, .. }) => Ok(is_explained),
+        Words::Asked(Request::Run | Request::Check { .. }) => Ok(false),
+        _ => Err(Fail::from("neither check, domain, filter nor run")),
     }
 }
 
-/// A refusal is told in words where standard error is a terminal, unless the words say when it is.
+/// A refusal is told in words where standard error is a terminal, and where a file is named, unless the words say when it is.
 #[test]
 fn explanations_are_for_terminals(rt: HostRuntime) -> Result<(), Fail> {
     // The words, and whether a refusal is told on a terminal, and elsewhere.
-    let rows: [(&[&str], bool, bool); 8] = [
-        (&["ncroute", "check", "--size=8", "a"], true, false),
+    let rows: [(&[&str], bool, bool); 13] = [
+        (&["ncroute", "check", "--size=8"], true, false),
+        (&["ncroute", "check", "--size=8", "-", "-"], true, false),
+        (&["ncroute", "check", "--size=8", "-", "a"], true, true),
         (
-            &["ncroute", "check", "--size=8", "a", "--explain", "auto"],
+            &["ncroute", "check", "--size=8", "--explain", "auto"],
             true,
             false,
         ),
         (
-            &["ncroute", "check", "--size=8", "a", "--explain=always"],
+            &["ncroute", "check", "--size=8", "--explain=always"],
             true,
             true,
         ),
@@ -120,12 +168,15 @@ fn explanations_are_for_terminals(rt: HostRuntime) -> Result<(), Fail> {
             false,
             false,
         ),
-        (&["ncroute", "filter", "--size=8", "a"], true, false),
+        (&["ncroute", "filter", "--size=8", "a"], true, true),
         (
             &["ncroute", "filter", "--size=8", "a", "--explain=never"],
             false,
             false,
         ),
+        (&["ncroute", "domain"], true, false),
+        (&["ncroute", "domain", "a"], true, true),
+        (&["ncroute", "domain", "--explain=never"], false, false),
         (&["ncroute", "run"], true, false),
         (&["ncroute", "run", "--explain=always"], true, true),
     ];
@@ -139,7 +190,11 @@ fn explanations_are_for_terminals(rt: HostRuntime) -> Result<(), Fail> {
 /// People are told to type where standard input is a terminal and is read.
 #[test]
 fn input_that_people_type_is_waited_for(rt: HostRuntime) -> Result<(), Fail> {
-    let rows: [(&[&str], bool); 9] = [
+    let rows: [(&[&str], bool); 13] = [
+        (&["ncroute", "domain"], true),
+        (&["ncroute", "domain", "a"], false),
+        (&["ncroute", "replay"], true),
+        (&["ncroute", "replay", "a"], false),
         (&["ncroute", "eval"], true),
         (&["ncroute", "run"], true),
         (&["ncroute", "check", "--size", "8"], true),
@@ -205,6 +260,75 @@ fn requests_end_with_their_status(rt: HostRuntime) -> Result<(), Fail> {
     Ok(())
 }
 
+/// What the script of a domain answers, what is told where people asked for words, and the exit status.
+#[test]
+fn domain_scripts_end_with_their_status(rt: HostRuntime) -> Result<(), Fail> {
+    let rows: [(&str, &str, bool, u8); 4] = [
+        (
+            "domain 2\nlink 0 1\nroute 0 1\n",
+            "ok\nok\nroute 1 via 1\n",
+            false,
+            0,
+        ),
+        ("link 0 1\n", "refused O4 1\n", true, 1),
+        ("domain 2\nload a x\n", "ok\nrefused P2 0\n", false, 1),
+        ("domain 2\nload a x\n", "ok\nrefused P2 0\n", true, 1),
+    ];
+    for (index, (input, output, is_explained, status)) in rows.into_iter().enumerate() {
+        let mut reader = input.as_bytes();
+        let (mut writer, mut errors) = (Vec::new(rt.alloc()), Vec::new(rt.alloc()));
+        let aid = Aid::Domain {
+            source: Source::Input,
+            is_explained,
+        };
+        let served = serve_people(
+            &SHELF,
+            rt.alloc(),
+            &aid,
+            &mut reader,
+            &mut writer,
+            &mut errors,
+        );
+        assert_eq!(&rt; served, Ok(status));
+        assert_eq!(&rt; writer.as_slice(), output.as_bytes());
+        assert_eq!(&rt; errors.is_empty(), index != 3);
+    }
+    Ok(())
+}
+
+/// A script that cannot be read is a fault, and so is an output that takes no answer.
+#[test]
+fn faults_of_domain_scripts_are_reported(rt: HostRuntime) -> Result<(), Fail> {
+    let rows = [
+        (
+            Source::File(String::from_str(rt.alloc(), "no/such/script")?),
+            "no/such/script: No such file or directory (E1)\n",
+        ),
+        (Source::Input, "ncroute: E2\n"),
+    ];
+    for (source, told) in rows {
+        let aid = Aid::Domain {
+            source,
+            is_explained: true,
+        };
+        let mut reader: &[u8] = b"domain 2\n";
+        let mut none = [0; 0];
+        let mut writer = none.as_mut_slice();
+        let mut errors = Vec::new(rt.alloc());
+        let served = serve_people(
+            &SHELF,
+            rt.alloc(),
+            &aid,
+            &mut reader,
+            &mut writer,
+            &mut errors,
+        );
+        assert_eq!(&rt; served, Ok(3));
+        assert_eq!(&rt; errors.as_slice(), told.as_bytes());
+    }
+    Ok(())
+}
+
 /// A fault ends with status 1, and is told on standard error.
 #[test]
 fn faults_are_reported(rt: HostRuntime) -> Result<(), Fail> {
@@ -234,5 +358,213 @@ fn a_closed_standard_error_is_told(rt: HostRuntime) -> Result<(), Fail> {
     };
     let served = serve(rt.alloc(), check, &mut reader, &mut writer, &mut errors);
     assert_eq!(&rt; served, Err(StreamFault::Write));
+    Ok(())
+}
+
+/// Files of a test, by their names.
+struct Shelf {
+    files: &'static [(&'static str, &'static str)],
+}
+
+impl Folder for Shelf {
+    type File = &'static [u8];
+
+    ghost opens = { λ _ _ _. ⊤ };
+
+    fn open(&self, name: &str) -> io::Result<&'static [u8]> {
+        for (known, text) in self.files {
+            if *known == name {
+                return Ok(text.as_bytes());
+            }
+        }
+        // What a system says of a file that is not there.
+        Err(io::Error::from_raw_os_error(2))
+    }
+}
+
+/// The files of the tests below.
+const SHELF: Shelf = Shelf {
+    files: &[
+        ("good", "filter a { accept; }"),
+        ("bad", "filter a { accept }"),
+        (
+            "night",
+            "NCH1 4 0 9 10.0.0.0/16 10.1.0.0/16 10.2.0.0/16 10.3.0.0/16\n0 up 1 opened 1\n1 show 1 route 4 none\n",
+        ),
+        (
+            "other",
+            "NCH1 4 0 9 10.0.0.0/16 10.1.0.0/16 10.2.0.0/16 10.3.0.0/16\n0 up 1 opened 2\n",
+        ),
+        (
+            "begun",
+            "NCH1 4 0 9 10.0.0.0/16 10.1.0.0/16 10.2.0.0/16 10.3.0.0/16\n0 up 1 opened 1\n1 sh",
+        ),
+    ],
+};
+
+/// What a command line did.
+#[derive(Debug, PartialEq, Eq, Drop)]
+struct Said {
+    output: Vec<u8>,
+    told: Vec<u8>,
+    status: u8,
+}
+
+/// What the words of a command line write on standard output and on standard error, and the exit status, where standard input has
+/// this text.
+fn said_by(rt: &HostRuntime, words: &[&str], input: &str) -> Result<Said, Fail> {
+    let Words::Aided(aid) = request_of(rt, rt.alloc(), words, NO_TERMINAL)? else {
+        return Err(Fail::from("no aid"));
+    };
+    let mut reader = input.as_bytes();
+    let (mut output, mut told) = (Vec::new(rt.alloc()), Vec::new(rt.alloc()));
+    let status = serve_people(
+        &SHELF,
+        rt.alloc(),
+        &aid,
+        &mut reader,
+        &mut output,
+        &mut told,
+    )?;
+    Ok(Said {
+        output,
+        told,
+        status,
+    })
+}
+
+/// The same, as a row has it.
+fn wanted(rt: &HostRuntime, output: &str, told: &str, status: u8) -> Result<Said, Fail> {
+    Ok(Said {
+        output: Vec::from_slice(rt.alloc(), output.as_bytes())?,
+        told: Vec::from_slice(rt.alloc(), told.as_bytes())?,
+        status,
+    })
+}
+
+/// A file that cannot be read is named, and the others are still checked. `list`, `filter` and `replay` end with a status of their own.
+#[test]
+fn files_that_are_missing_are_named(rt: HostRuntime) -> Result<(), Fail> {
+    let rows: [(&[&str], &str, &str, &str, u8); 7] = [
+        (
+            &["ncroute", "check", "--size=8", "lost", "good"],
+            "",
+            "code 4e434631000000027071\nverified 1 0\n",
+            "lost: No such file or directory (E1)\n",
+            1,
+        ),
+        (
+            &[
+                "ncroute",
+                "check",
+                "--size=8",
+                "--explain=never",
+                "bad",
+                "lost",
+            ],
+            "",
+            "refused P2 18\n",
+            "bad: refused P2 18\nlost: No such file or directory (E1)\n",
+            1,
+        ),
+        (
+            &["ncroute", "check", "--size=8", "good", "-"],
+            "filter a { accept; }",
+            "code 4e434631000000027071\nverified 1 0\ncode 4e434631000000027071\nverified 1 0\n",
+            "",
+            0,
+        ),
+        (
+            &["ncroute", "list", "lost"],
+            "",
+            "",
+            "lost: No such file or directory (E1)\n",
+            3,
+        ),
+        (
+            &["ncroute", "filter", "--size=8", "lost"],
+            "8.8.8.0/24 3\n",
+            "",
+            "lost: No such file or directory (E1)\n",
+            3,
+        ),
+        (
+            &["ncroute", "filter", "--size=8", "good"],
+            "8.8.8.0/24 3\n",
+            "accept 3\n",
+            "",
+            0,
+        ),
+        (
+            &["ncroute", "replay", "lost"],
+            "",
+            "",
+            "lost: No such file or directory (E1)\n",
+            3,
+        ),
+    ];
+    for (words, input, output, told, status) in rows {
+        assert_eq!(&rt;
+            said_by(&rt, words, input)?,
+            wanted(&rt, output, told, status)?
+        );
+    }
+    Ok(())
+}
+
+/// `replay` writes the verdict of the text, and the status is 0 only for a right history, to its end.
+#[test]
+fn histories_are_replayed(rt: HostRuntime) -> Result<(), Fail> {
+    let rows: [(&[&str], &str, &str, u8); 5] = [
+        (&["ncroute", "replay", "night"], "", "replay ok 2\n", 0),
+        (
+            &["ncroute", "replay", "other"],
+            "",
+            "differs 0 saved opened 2 right opened 1\n",
+            1,
+        ),
+        (&["ncroute", "replay", "begun"], "", "cut 3\n", 1),
+        (&["ncroute", "replay", "good"], "", "cut 1\n", 1),
+        (&["ncroute", "replay", "-"], "NCH2\n", "refused H1 1\n", 1),
+    ];
+    for (words, input, output, status) in rows {
+        assert_eq!(&rt;
+            said_by(&rt, words, input)?,
+            wanted(&rt, output, "", status)?
+        );
+    }
+    Ok(())
+}
+
+/// A fault has a status of its own where it is not that of `check` and `run`.
+#[test]
+fn faults_have_their_status(rt: HostRuntime) -> Result<(), Fail> {
+    let rows: [(&[&str], u8); 5] = [
+        (&["ncroute", "list", "good"], 3),
+        (&["ncroute", "filter", "--size=8", "good"], 3),
+        (&["ncroute", "replay", "night"], 3),
+        (&["ncroute", "check", "--size=8", "good"], 1),
+        (&["ncroute", "explain", "p2"], 1),
+    ];
+    for (words, want) in rows {
+        let Words::Aided(aid) = request_of(&rt, rt.alloc(), words, NO_TERMINAL)? else {
+            return Err(Fail::from("no aid"));
+        };
+        let mut reader: &[u8] = b"8.8.8.0/24 3\n";
+        let mut room = [0; 4];
+        let mut writer = room.as_mut_slice();
+        let mut errors = Vec::new(rt.alloc());
+        let served = serve_people(
+            &SHELF,
+            rt.alloc(),
+            &aid,
+            &mut reader,
+            &mut writer,
+            &mut errors,
+        );
+        assert_eq!(&rt; served, Ok(want));
+        assert_eq!(&rt; fault_status(&aid), want);
+        assert_eq!(&rt; errors.as_slice(), b"ncroute: E2\n".as_slice());
+    }
     Ok(())
 }

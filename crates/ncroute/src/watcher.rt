@@ -8,6 +8,8 @@ use std::io::Write;
 /// Tells people on `errors`. Where these take no text, or memory is refused, people are not told: the answer on standard output stays.
 #[derive(Drop)]
 pub struct Teller<'a, E: Write> {
+    /// The name by which people know the script.
+    pub name: &'a [u8],
     /// What people read.
     pub errors: &'a mut E,
 }
@@ -20,7 +22,7 @@ impl<'a, E: Write> Watch for Teller<'a, E> {
         let Some(filter) = refused_filter(alloc, line, size) else {
             return;
         };
-        let explained = explain_line(alloc, b"<stdin>", number, line, filter.source, &filter.told);
+        let explained = explain_line(alloc, self.name, number, line, filter.source, &filter.told);
         if let Ok(words) = explained {
             let _ = write_text(self.errors, words.as_slice());
         }

@@ -2,7 +2,7 @@
 use crate::page::Page;
 
 /// A page for each code.
-pub static RUN_PAGES: [Page; 26] = [
+pub static RUN_PAGES: [Page; 31] = [
     Page {
         code: "O1",
         text: "\
@@ -289,6 +289,67 @@ Give the process more memory.
 X2: A thread was not started.
 
 Allow the process more threads, or run fewer sessions.
+",
+    },
+    Page {
+        code: "D1",
+        text: "\
+D1: a node is not in the domain, or a node is to be its own neighbour
+Place: the number of the line
+
+    $ printf '%s\\n' 'domain 3' 'link 0 3' | ncroute domain
+    ok
+    refused D1 2
+
+Nodes are numbered from 0: those of `domain 3` are 0, 1 and 2.
+",
+    },
+    Page {
+        code: "D2",
+        text: "\
+D2: the two nodes are linked already
+Place: the number of the line
+
+    $ printf '%s\\n' 'domain 3' 'link 0 1' 'link 1 0' | ncroute domain
+    ok
+    ok
+    refused D2 3
+
+A link is of both nodes, so `link 1 0` is `link 0 1` again. Two links between the same nodes route as one.
+",
+    },
+    Page {
+        code: "D3",
+        text: "\
+D3: the two nodes are not linked
+Place: the number of the line
+
+    $ printf '%s\\n' 'domain 3' 'cut 0 1' | ncroute domain
+    ok
+    refused D3 2
+
+Only a link that is there can be cut.
+",
+    },
+    Page {
+        code: "D4",
+        text: "\
+D4: the routers cannot be played any further: a count of theirs is full
+Place: the number of the line
+
+A router has at most 4,294,967,295 sessions, and `settle` counts its messages in 64 bits. No script within the limit of the input is known to get there. Questions about rest are answered as before.
+",
+    },
+    Page {
+        code: "H1",
+        text: "\
+H1: the line is not as a history has it here, or there are more entries than the limit
+Place: the number of the line, counted from 1
+
+    $ printf '%s\\n' 'NCH1 2 0 9 10.0.0.0/16 10.1.0.0/16' '0 up 1 opened 1' '2 down 1 done 0' | ncroute replay
+    refused H1 3
+
+Here the entry at position 1 is missing. Each line of a history has its position, its event and its reply, in these words and no others.
 ",
     },
 ];

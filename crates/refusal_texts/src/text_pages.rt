@@ -124,7 +124,10 @@ Place: its first byte
     $ echo 'filter q { print \"x\"; }' | ncroute check --size 16
     refused P10 11
 
-The word belongs to a part of BIRD's language that is not read here. Write the filter without it.
+The word belongs to a part of BIRD's language that is not read here. In place of `define` or `set` write the
+value or the set where it is used; of `case`, `if .. then .. else ..`; of `function`, its commands where it is
+called; of `print`, nothing. A variable is an int, a bool, an ip or a prefix, and a route has only `net` and
+`rip_metric`. A set of numbers is two comparisons, and there is no IPv6. `--explain always` names the word.
 ",
     },
     Page {

@@ -39,57 +39,57 @@ fn texts_are_explained(rt: HostRuntime) -> Result<(), Fail> {
         (
             "filter q { accept }",
             "refused P2 18\n",
-            "f:1:19: expected a text or `;` at byte 18 (P2)\nfilter q { accept }\n                  ^\n",
+            "f:1:19: expected a text or `;`, found `}` (P2)\nfilter q { accept }\n                  ^\n",
         ),
         (
             "filter q {\n\tacept;\n}\n",
             "refused P2 17\n",
-            "f:2:2: `acept` is no command: expected `=` at byte 17 (P2)\n\tacept;\n\t^\n",
+            "f:2:2: `acept` is no command; did you mean `accept`? (P2)\n\tacept;\n\t^\n",
         ),
         (
             "filter q { share /* is\nnone */ # at\n; }",
             "refused P2 36\n",
-            "f:1:12: `share` is no command: expected `=` at byte 36 (P2)\nfilter q { share /* is\n           ^\n",
+            "f:1:12: `share` is no command: expected `=`, found `;` (P2)\nfilter q { share /* is\n           ^\n",
         ),
         (
             "filter q { rip_metric; }",
             "refused P2 21\n",
-            "f:1:22: expected `=` at byte 21 (P2)\nfilter q { rip_metric; }\n                     ^\n",
+            "f:1:22: expected `=`, found `;` (P2)\nfilter q { rip_metric; }\n                     ^\n",
         ),
         (
             "filter q { # caf\u{e9}\n /* \u{20ac}\u{20ac} */ $ }",
             "refused P1 33\n",
-            "f:2:11: unexpected character at byte 33 (P1)\n /* \u{20ac}\u{20ac} */ $ }\n          ^\n",
+            "f:2:11: unexpected character `$` (P1)\n /* \u{20ac}\u{20ac} */ $ }\n          ^\n",
         ),
         (
             "filter q {\n",
             "refused P9 11\n",
-            "f:2:1: unexpected end of the text at byte 11 (P9)\n\n^\n",
+            "f:2:1: unexpected end of the text (P9)\n\n^\n",
         ),
         (
             "filter q {\r\n  print;\r\n}",
             "refused P10 14\n",
-            "f:2:3: the word at byte 14 belongs to a part of BIRD's language that is not supported (P10)\n  print; \n  ^\n",
+            "f:2:3: `print` is not supported: leave it out, or write the text after `accept` or `reject` (P10)\n  print; \n  ^\n",
         ),
         (
             "filter q { rip_metric = true; }",
             "refused Y3 24\n",
-            "f:1:25: expected an int at byte 24, found a bool (Y3)\nfilter q { rip_metric = true; }\n                        ^\n",
+            "f:1:25: expected an int, found a bool (Y3)\nfilter q { rip_metric = true; }\n                        ^\n",
         ),
         (
             "filter q {\n x = 1; }",
             "refused Y1 12\n",
-            "f:2:2: undeclared variable at byte 12 (Y1)\n x = 1; }\n ^\n",
+            "f:2:2: `x` is no variable, and a route has only `net` and `rip_metric` (Y1)\n x = 1; }\n ^\n",
         ),
         (
             "filter d { if 8 / rip_metric = 2 then accept; }",
             "code 4e43463100000008010000000813230100000002306100017071\nrefused V3 2\n",
-            "f:1:17: instruction 2: the divisor may be 0: it is 0..16 here (V3)\nfilter d { if 8 / rip_metric = 2 then accept; }\n                ^\n",
+            "f:1:17: the divisor may be 0: it is 0..16 here, whatever the conditions before it; see `ncroute explain V3` (V3)\nfilter d { if 8 / rip_metric = 2 then accept; }\n                ^\n",
         ),
         (
             "filter d { if\t/* \u{e9} */ 8 / rip_metric = 2 then accept; }",
             "code 4e43463100000008010000000813230100000002306100017071\nrefused V3 2\n",
-            "f:1:25: instruction 2: the divisor may be 0: it is 0..16 here (V3)\nfilter d { if\t/* \u{e9} */ 8 / rip_metric = 2 then accept; }\n             \t          ^\n",
+            "f:1:25: the divisor may be 0: it is 0..16 here, whatever the conditions before it; see `ncroute explain V3` (V3)\nfilter d { if\t/* \u{e9} */ 8 / rip_metric = 2 then accept; }\n             \t          ^\n",
         ),
     ];
     for (text, answer, told) in rows {
@@ -112,7 +112,7 @@ fn code_files_are_explained(rt: HostRuntime) -> Result<(), Fail> {
         (
             "4e43463100000008010000000813230100000002306100017071",
             "code 4e43463100000008010000000813230100000002306100017071\nrefused V3 2\n",
-            "f: instruction 2: the divisor may be 0: it is 0..16 here (V3)\n",
+            "f: instruction 2: the divisor may be 0: it is 0..16 here, whatever the conditions before it; see `ncroute explain V3` (V3)\n",
         ),
         (
             "4e434631000000017000",
@@ -122,7 +122,7 @@ fn code_files_are_explained(rt: HostRuntime) -> Result<(), Fail> {
         (
             "4e4",
             "refused O3 1\n",
-            "f: not an even number of hexadecimal digits (O3)\n",
+            "f: expected pairs of hexadecimal digits (O3)\n",
         ),
     ];
     for (digits, answer, told) in rows {
@@ -191,25 +191,25 @@ fn ranges_are_those_of_the_size(rt: HostRuntime) -> Result<(), Fail> {
             division,
             8,
             false,
-            "f:1:17: instruction 2: the divisor may be 0: it is 0..8 here (V3)\n",
+            "f:1:17: the divisor may be 0: it is 0..8 here, whatever the conditions before it; see `ncroute explain V3` (V3)\n",
         ),
         (
             division,
             250,
             false,
-            "f:1:17: instruction 2: the divisor may be 0: it is 0..250 here (V3)\n",
+            "f:1:17: the divisor may be 0: it is 0..250 here, whatever the conditions before it; see `ncroute explain V3` (V3)\n",
         ),
         (
             "4e4346310000000301000000031570",
             250,
             true,
-            "f: instruction 1: the new metric may be lower than the one received: it is 3..3 here (V6)\n",
+            "f: instruction 1: the new metric may be lower than the one received: it is 3..3 here, whatever the conditions before it; see `ncroute explain V6` (V6)\n",
         ),
         (
             "4e43463100000005130100000001211570",
             8,
             true,
-            "f: instruction 3: the new metric may be lower than the one received: it is 0..4294967295 here (V6)\n",
+            "f: instruction 3: the new metric may be lower than the one received: it is 0..4294967295 here, whatever the conditions before it; see `ncroute explain V6` (V6)\n",
         ),
     ];
     for (source, size, is_code, told) in rows {

@@ -9,3 +9,5 @@ mod filter_tests;
 mod listing_tests;
 #[cfg(test)]
 mod mistake_tests;
+#[cfg(test)]
+mod words_tests;

@@ -143,11 +143,11 @@ fn refusals_of_the_verifier_are_placed(rt: HostRuntime) -> Result<(), Fail> {
     let rows: [((&str, &str, usize, &str), &str); 3] = [
         (
             ("\ta = 100 / rip_metric;", "", 0, ""),
-            "f:22:10: instruction 4: the divisor may be 0: it is 0..16 here (V3)",
+            "f:22:10: the divisor may be 0: it is 0..16 here, whatever the conditions before it; see `ncroute explain V3` (V3)",
         ),
         (
             ("\ta =\t/* caf\u{e9} */ 7 / (rip_metric * 2);", "", 0, ""),
-            "f:22:19: instruction 6: the divisor may be 0: it is 0..32 here (V3)",
+            "f:22:19: the divisor may be 0: it is 0..32 here, whatever the conditions before it; see `ncroute explain V3` (V3)",
         ),
         (
             (
@@ -156,7 +156,7 @@ fn refusals_of_the_verifier_are_placed(rt: HostRuntime) -> Result<(), Fail> {
                 32,
                 "rip_metric))))))))))))))))))))))))))))))));",
             ),
-            "f:22:102: instruction 34: the stack may overflow (V5)",
+            "f:22:102: the expression needs more than 32 operands at a time (V5)",
         ),
     ];
     for (mistake, want) in rows {
@@ -173,7 +173,5 @@ fn refusals_are_told_by_name(rt: HostRuntime) -> Result<(), Fail> {
     let text = filter_of(rt.alloc(), ("\tacept;", "", 0, ""))?;
     let told = told_of(rt.alloc(), text.as_slice(), false)?;
     assert_eq!(&rt; told.as_slice(), b"f: refused P2 258\n".as_slice());
-    let good = told_of(rt.alloc(), b"filter a { accept; }", false)?;
-    assert!(&rt; good.is_empty());
     Ok(())
 }

@@ -14,7 +14,7 @@ unreachable-requires c =
     (take_answers d c.args.from c.args.to 65535 c.session-session.result _ c.apply.new.self c.in_ok-messages.field-0 c.requires.order
     c.requires.from c.requires.to c.requires.linked
     (router_place c.args.tables.now c.from.result c.args.from c.index-tables-from.result c.from.ensures c.requires.from)
-    c.session-session.ensures c.in_ok-messages.ensures.done)
+    c.session-session.ensures.value c.in_ok-messages.ensures.done)
 
 pub returns-clause-sent : goal.returns-clause-sent
 returns-clause-sent c =
@@ -27,7 +27,7 @@ returns-clause-sent c =
     ∙ sym (ap carried c.in-Messages.is)))
     ∙ sent_by_both ws c.args.sents.now.items c.args.from c.args.to c.from.result c.session-session.result c.index-tables-from.result
     c.apply.new.self c.in_ok-messages.field-0 c.requires.from c.requires.to c.requires.order c.requires.linked c.from.ensures
-    c.session-session.ensures c.in_ok-messages.ensures.done
+    c.session-session.ensures.value c.in_ok-messages.ensures.done
 
 pub returns-clause-between : goal.returns-clause-between
 returns-clause-between c = λ before.

@@ -11,6 +11,6 @@ returns c =
     let x = c.index-tables-from.result in
     let is = router_read ws c.from.result c.args.from x c.from.ensures c.requires.from c.index-tables-from.is in
     c.queued.ensures
-    ∙ ap (queued_of x) c.session.ensures
+    ∙ ap (queued_of x) c.session.ensures.value
     ∙ ap (λ y. queued_of y (session_of y c.args.to)) is
     ∙ queued_all (length ws) (router_at ws c.args.from) c.args.to c.requires.sound c.requires.to

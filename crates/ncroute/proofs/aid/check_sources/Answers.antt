@@ -6,21 +6,21 @@ use Rattle.ncroute.proofs.Sources.{none_checked, one_more, some_checked}
 use Rattle.ncroute.proofs.aid.check_sources.Goals as goal
 
 pub loop-source-init : goal.loop-source-init
-loop-source-init g c = none_checked c.args.how c.args.sources.now _
+loop-source-init g c = none_checked _ c.args.how c.args.sources.now _
 
-pub returns-in_err-why-clause-cut : goal.returns-in_err-why-clause-cut
-returns-in_err-why-clause-cut g c =
+pub returns-in_err-one-clause-cut : goal.returns-in_err-one-clause-cut
+returns-in_err-one-clause-cut g c =
     let is = slice_get_read c.args.sources.now (length c.args.sources.now) c.loop-source.source-index c.source-item.result refl
     c.loop-source-test.true c.source-item.is in
-    let fault = c.in_err-why.field-0.0 in
+    let fault = c.in_err-one.field-0.0 in
     of_error c.from_residual.result _ fault c.from_residual.ensures.1
-    (some_checked (stream_fault fault) c.args.how c.args.sources.now c.loop-source.source-index c.source-item.result _ _ _
-    c.loop-source.is_refused is c.loop-source.invariant c.in_err-why.ensures.cut)
+    (some_checked _ (stream_fault fault) c.args.how c.args.sources.now c.loop-source.source-index c.source-item.result _ _ _
+    c.loop-source.is_refused is c.loop-source.invariant c.in_err-one.ensures.cut)
 
 pub loop-source-preserved : goal.loop-source-preserved
 loop-source-preserved g c =
     let is = slice_get_read c.args.sources.now (length c.args.sources.now) c.loop-source.source-index c.source-item.result refl
     c.loop-source-test.true c.source-item.is in
-    one_more c.args.how c.args.sources.now c.loop-source.source-index c.source-item.result _ _ _ c.loop-source.is_refused
-    c.in_ok-why.why c.is_any_refused-is_refused.result is c.loop-source.invariant c.in_ok-why.ensures.finished
+    one_more _ c.args.how c.args.sources.now c.loop-source.source-index c.source-item.result _ _ _ c.loop-source.is_refused
+    c.in_ok-one.one c.is_any_refused-is_refused.result is c.loop-source.invariant c.in_ok-one.ensures.finished
     c.is_any_refused-is_refused.ensures

@@ -1,6 +1,6 @@
-use Rattle.std.proofs.Common.{inl, inr, refl}
+use Rattle.std.proofs.Common.{inl, refl}
 use Rattle.ncroute.proofs.Tried.{stopped, tried}
-use Rattle.ncroute.proofs.aid.try_filter.Goals as goal
+use Rattle.ncroute.proofs.aid.try_text.Goals as goal
 
 pub returns-in-Ok-clause-finished : goal.returns-in-Ok-clause-finished
 returns-in-Ok-clause-finished g c =
@@ -13,4 +13,4 @@ returns-in-Ok-clause-stopped g c =
     c.tell_filter.result c.tell_filter.ensures.cut
 
 pub returns-in-Err-clause-stopped : goal.returns-in-Err-clause-stopped
-returns-in-Err-clause-stopped g c = inr (c.args.text.now, inl (refl, c.in-Err.ensures.broken_off))
+returns-in-Err-clause-stopped g c = inl (refl, c.in-Err.ensures.broken_off)

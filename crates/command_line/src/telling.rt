@@ -1,0 +1,38 @@
+//! Whether a refusal is told in words.
+ghost use Rattle.std.specs.Prelude.{◌≡◌};
+ghost use Rattle.command_line.specs.Telling.{is_explained};
+
+use clap::ArgMatches;
+
+/// What the option `--explain` says.
+#[derive(Clone, Copy, Debug, PartialEq, Eq)]
+pub enum Telling {
+    /// Where people read: on a terminal, and of files that are named.
+    Auto,
+    /// Always.
+    Always,
+    /// Never.
+    Never,
+}
+
+impl Telling {
+    /// What the words of a command say.
+    pub fn read(matches: &ArgMatches<'_>) -> Telling {
+        match matches.get_str("explain") {
+            Some("always") => Telling::Always,
+            Some("never") => Telling::Never,
+            _ => Telling::Auto,
+        }
+    }
+}
+
+/// Whether a refusal is told in words, where standard error is a terminal or not, and sources are files that were named or not.
+pub fn is_explained(how: Telling, is_terminal: bool, has_files: bool) -> bool
+    ensures { result ≡ is_explained how is_terminal has_files }
+{
+    match how {
+        Telling::Auto => is_terminal || has_files,
+        Telling::Always => true,
+        Telling::Never => false,
+    }
+}

@@ -1,0 +1,110 @@
+//! What stands in a text at the place where it is refused.
+
+use filter_tokens::{Symbol, Token, TokenKind};
+use std::alloc::{AllocError, Global};
+
+/// The most bytes of a token that is quoted.
+const QUOTED_LIMIT: usize = 64;
+
+/// The token at which a text is refused, and the two before it.
+#[derive(Clone, Copy)]
+pub(crate) struct Around {
+    /// The token at the place.
+    pub found: Option<Token>,
+    /// The one before it.
+    pub last: Option<Token>,
+    /// The one before that.
+    pub earlier: Option<Token>,
+}
+
+/// Whether a token is the name of a kind, with which a declaration begins.
+pub(crate) fn is_kind(kind: TokenKind) -> bool {
+    matches!(
+        kind,
+        TokenKind::Symbol(Symbol::Int | Symbol::Bool | Symbol::Ip | Symbol::Prefix)
+    )
+}
+
+/// The bytes of a text from one place to another, if they are a text that is short enough to be quoted.
+pub(crate) fn quoted(text: &[u8], from: usize, to: usize) -> Option<&str> {
+    let bytes = text.get(from..to)?;
+    if bytes.len() > QUOTED_LIMIT {
+        return None;
+    }
+    str::from_utf8(bytes).ok()
+}
+
+/// The name that a token of a text is, if it is one.
+pub(crate) fn name_of(text: &[u8], token: Option<Token>) -> Option<&str> {
+    match token {
+        Some(token) if token.kind == TokenKind::Name => quoted(text, token.from, token.to),
+        _ => None,
+    }
+}
+
+/// What stands round a byte of a text that these tokens cut.
+pub(crate) fn tokens_around(tokens: &[Token], at: usize) -> Around {
+    let mut pieces = Around {
+        found: None,
+        last: None,
+        earlier: None,
+    };
+    for token in tokens {
+        if token.to <= at {
+            pieces.earlier = pieces.last;
+            pieces.last = Some(*token);
+        } else if token.from == at {
+            pieces.found = Some(*token);
+        }
+    }
+    pieces
+}
+
+/// The names of a text's variables.
+pub(crate) fn declared<'a>(
+    alloc: Global,
+    text: &'a [u8],
+    tokens: &[Token],
+) -> Result<Vec<&'a str>, AllocError> {
+    let mut names = Vec::new(alloc);
+    let mut is_declaration = false;
+    for token in tokens {
+        if is_declaration && token.kind == TokenKind::Name {
+            if let Some(name) = quoted(text, token.from, token.to) {
+                names.push(name)?;
+            }
+        }
+        is_declaration = is_kind(token.kind);
+    }
+    Ok(names)
+}
+
+/// Whether a byte may stand in a name.
+fn is_name_byte(byte: u8) -> bool {
+    byte.is_ascii_alphanumeric() || byte == b'_'
+}
+
+/// The word that begins at a byte of a text.
+pub(crate) fn word_at(text: &[u8], at: usize) -> Option<&str> {
+    let rest = text.get(at..)?;
+    let len = rest.iter().take_while(|byte| is_name_byte(**byte)).count();
+    quoted(rest, 0, len)
+}
+
+/// Whether a byte may stand in an address of IPv6.
+fn is_address_byte(byte: u8) -> bool {
+    byte.is_ascii_hexdigit() || byte == b':'
+}
+
+/// Whether an address of IPv6 seems to stand round a byte of a text: digits with two colons at least.
+pub(crate) fn is_ipv6(text: &[u8], at: usize) -> bool {
+    let (before, rest) = text.split_at(at.min(text.len()));
+    let front = before
+        .iter()
+        .rev()
+        .take_while(|byte| is_address_byte(**byte));
+    let back = rest.iter().take_while(|byte| is_address_byte(**byte));
+    let colons_before = front.filter(|byte| **byte == b':').count();
+    let colons = back.filter(|byte| **byte == b':').count();
+    colons_before >= 2 || colons >= 2 || (colons_before == 1 && colons == 1)
+}

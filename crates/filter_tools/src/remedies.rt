@@ -1,0 +1,119 @@
+//! What to write in place of what this language has not.
+
+use crate::around::{Around, is_kind};
+use filter_parser::Expected;
+use filter_tokens::{Symbol, Token, TokenKind};
+
+/// What to write in place of an address of IPv6.
+pub(crate) const IPV6: &str = "IPv6 is not supported: write prefixes of IPv4, as 10.0.0.0/8";
+
+/// What to write in place of a word of BIRD's that is left out by name.
+pub(crate) fn in_place_of(word: &str) -> &'static str {
+    match word {
+        "define" => "write the value or the set where it is used",
+        "case" => "write `if .. then .. else ..`",
+        "function" | "return" => "write the commands where the function is called",
+        "print" | "printn" => "leave it out, or write the text after `accept` or `reject`",
+        "include" => "write the text of the file in its place",
+        "set" => "write the set where it is used",
+        "from" | "proto" | "preference" | "source" => "a route has only `net` and `rip_metric`",
+        _ => "a variable is an int, a bool, an ip or a prefix",
+    }
+}
+
+/// What to write in place of a word of other languages.
+pub(crate) fn in_place_of_name(name: &str) -> Option<&'static str> {
+    match name {
+        "not" => Some("write `!`"),
+        "and" => Some("write `&&`"),
+        "or" => Some("write `||`"),
+        "elsif" | "elseif" | "elif" => Some("write `else if`"),
+        "permit" => Some("write `accept`"),
+        "deny" | "drop" => Some("write `reject`"),
+        "for" | "while" => Some("there are no loops"),
+        _ => None,
+    }
+}
+
+/// What to write in place of a character that begins no token.
+pub(crate) fn in_place_of_character(rest: &[u8]) -> Option<&'static str> {
+    if rest.starts_with(b":=") {
+        Some("assign by `=`")
+    } else if rest.starts_with(b"&") {
+        Some("write `&&`")
+    } else if rest.starts_with(b"|") {
+        Some("write `||`")
+    } else {
+        None
+    }
+}
+
+/// Whether a token is this keyword or punctuator.
+fn is(token: Option<Token>, symbol: Symbol) -> bool {
+    match token {
+        Some(token) => token.kind == TokenKind::Symbol(symbol),
+        None => false,
+    }
+}
+
+/// Whether a token is the name of a kind.
+fn begins_declaration(token: Option<Token>) -> bool {
+    match token {
+        Some(token) => is_kind(token.kind),
+        None => false,
+    }
+}
+
+/// What to write where the `;` of a command is missing.
+fn in_place_of_semicolon(around: Around) -> Option<&'static str> {
+    if is(around.found, Symbol::Equal) && begins_declaration(around.earlier) {
+        Some("declare the variable first, and assign to it in a command")
+    } else {
+        None
+    }
+}
+
+/// What to write where a value is missing.
+fn in_place_of_operand(around: Around) -> Option<&'static str> {
+    if is(around.found, Symbol::Equal) && is(around.last, Symbol::Equal) {
+        Some("compare by a single `=`")
+    } else {
+        None
+    }
+}
+
+/// What to write where the text goes on behind the filter.
+fn in_place_of_end(around: Around) -> Option<&'static str> {
+    if is(around.found, Symbol::Semicolon) {
+        Some("take it out")
+    } else if is(around.found, Symbol::Filter) {
+        Some("a text is one filter")
+    } else {
+        None
+    }
+}
+
+/// What to write in place of a token where the prefix of a pattern is missing.
+fn in_place_of_prefix(kind: TokenKind) -> Option<&'static str> {
+    match kind {
+        TokenKind::Address(_) => Some("write an address as a prefix of length 32"),
+        TokenKind::Symbol(Symbol::RightBracket) => Some("a set has one prefix at least"),
+        _ => None,
+    }
+}
+
+/// What to write where this is expected, if that is no plain slip.
+pub(crate) fn in_place_of_found(expected: Expected, around: Around) -> Option<&'static str> {
+    match expected {
+        Expected::Semicolon => in_place_of_semicolon(around),
+        Expected::Operand | Expected::OperandOrSet => in_place_of_operand(around),
+        Expected::End => in_place_of_end(around),
+        Expected::Prefix => in_place_of_prefix(around.found?.kind),
+        Expected::CommandOrEnd if begins_declaration(around.found) => {
+            Some("declare variables before the first command")
+        }
+        Expected::FilterWord => Some("a text is one filter, `filter NAME { .. }`"),
+        Expected::Name if is(around.found, Symbol::LeftBrace) => Some("give the filter a name"),
+        _ => None,
+    }
+}

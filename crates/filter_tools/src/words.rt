@@ -1,0 +1,312 @@
+//! What is wrong with a refused source, in words.
+
+use crate::around::{Around, declared, is_ipv6, name_of, quoted, tokens_around, word_at};
+use crate::head_word::Word;
+use crate::nearest::nearest;
+use crate::remedies::{
+    IPV6, in_place_of, in_place_of_character, in_place_of_found, in_place_of_name,
+};
+use filter_compiler::CompileFault;
+use filter_parser::{Expected, ParseFault};
+use filter_source::{Diagnosis, Refusal};
+use filter_tokens::{Token, TokenFault, TokenKind, lex};
+use filter_types::{ExpectedKind, TypeFault};
+use filter_verifier::VerifyFault;
+use prefix_patterns::read_ip;
+use std::alloc::{AllocError, Global};
+
+/// The words with which a command begins.
+const HEADS: [&str; 7] = ["accept", "reject", "if", "else", "int", "bool", "prefix"];
+
+/// What a name may mean that is no variable's.
+const VALUES: [&str; 4] = ["net", "rip_metric", "true", "false"];
+
+/// What is wrong with a source, but for a missing `=`.
+pub(crate) fn words_of(alloc: Global, text: &[u8], told: &Diagnosis) -> Result<String, AllocError> {
+    match told.refusal {
+        Refusal::Parse(fault) => parse_words(alloc, text, fault),
+        Refusal::Typing(fault) => kind_words(alloc, text, fault),
+        Refusal::Compile(fault) => String::from_str(alloc, compile_words(fault)),
+        Refusal::Verify(fault) => code_words(alloc, fault, told.byte.is_some()),
+        Refusal::Hexadecimal => String::from_str(alloc, "expected pairs of hexadecimal digits"),
+        _ => format!(in alloc; "{}", told.refusal),
+    }
+}
+
+/// What is wrong with a text that is no filter.
+fn parse_words(alloc: Global, text: &[u8], fault: ParseFault) -> Result<String, AllocError> {
+    match fault {
+        ParseFault::Token(fault) => token_words(alloc, text, fault),
+        ParseFault::Unexpected(at, expected) => {
+            let lexed = lex(alloc, text)?;
+            unexpected(alloc, text, lexed.tokens.as_slice(), at, expected)
+        }
+        ParseFault::NumberSet(at) => String::from_str(alloc, number_words(text, at)),
+        _ => String::from_str(alloc, plain_words(fault)),
+    }
+}
+
+/// The words of a fault of a text that says nothing of its place.
+fn plain_words(fault: ParseFault) -> &'static str {
+    match fault {
+        ParseFault::MaskOverLimit(_) => "the argument of `mask` exceeds 32",
+        ParseFault::PatternLengths(_) =>
+            "the lengths of a pattern must be in order, and at most 32",
+        ParseFault::TooDeep(_) => "nesting deeper than 32 levels",
+        ParseFault::MixedOperators(_) => "`&&` and `||` are mixed: add parentheses",
+        ParseFault::TooLong => "the filter is longer than 65536 bytes",
+        ParseFault::EndsEarly(_) => "unexpected end of the text",
+        ParseFault::TextElsewhere(_) => "unexpected text: only `accept` and `reject` take one",
+        _ => "the text is no filter",
+    }
+}
+
+/// The words of a set that begins with a number.
+fn number_words(text: &[u8], at: usize) -> &'static str {
+    if is_ipv6(text, at) {
+        IPV6
+    } else if is_short_prefix(text, at) {
+        "a prefix has four numbers before its `/`, as 10.0.0.0/8"
+    } else {
+        "sets of numbers are not supported: write comparisons, as `net.len >= 8 && net.len <= 24`"
+    }
+}
+
+/// Whether numbers with dots and a `/` stand at a byte of a text.
+fn is_short_prefix(text: &[u8], at: usize) -> bool {
+    let (_, rest) = text.split_at(at.min(text.len()));
+    let len = rest
+        .iter()
+        .take_while(|byte| byte.is_ascii_digit() || **byte == b'.')
+        .count();
+    matches!(rest.get(len), Some(b'/'))
+}
+
+/// What is wrong with a byte of which no token is made.
+fn token_words(alloc: Global, text: &[u8], fault: TokenFault) -> Result<String, AllocError> {
+    match fault {
+        TokenFault::BadCharacter(at) => character_words(alloc, text, at),
+        TokenFault::WordLeftOut(at) => left_out_words(alloc, word_at(text, at)),
+        TokenFault::OutOfRange(at) => String::from_str(alloc, range_words(text, at)),
+        TokenFault::NoDigit(_) => String::from_str(alloc, "`0x` without a hexadecimal digit"),
+        TokenFault::NumberTooLarge(_) => String::from_str(alloc, "the number exceeds 4294967295"),
+        TokenFault::NameTooLong(_) => String::from_str(alloc, "the name is longer than 64 bytes"),
+        TokenFault::UnendedComment(_) => {
+            String::from_str(alloc, "the comment is never closed by `*/`")
+        }
+        TokenFault::UnendedText(_) => String::from_str(
+            alloc,
+            "the text has no closing double quote on its line",
+        ),
+        TokenFault::QuotedName(_) => String::from_str(
+            alloc,
+            "names in single quotes are not supported: write the name without quotes",
+        ),
+    }
+}
+
+/// What is wrong with a character that begins no token.
+fn character_words(alloc: Global, text: &[u8], at: usize) -> Result<String, AllocError> {
+    if is_ipv6(text, at) {
+        return String::from_str(alloc, IPV6);
+    }
+    let (_, rest) = text.split_at(at.min(text.len()));
+    match (
+        quoted(text, at, at.saturating_add(1)),
+        in_place_of_character(rest),
+    ) {
+        (Some(character), Some(remedy)) => {
+            format!(in alloc; "unexpected character `{character}`: {remedy}")
+        }
+        (Some(character), None) => format!(in alloc; "unexpected character `{character}`"),
+        _ => String::from_str(alloc, "unexpected character"),
+    }
+}
+
+/// What is wrong with a word that is left out by name.
+fn left_out_words(alloc: Global, word: Option<&str>) -> Result<String, AllocError> {
+    match word {
+        Some(word) => {
+            let remedy = in_place_of(word);
+            format!(in alloc; "`{word}` is not supported: {remedy}")
+        }
+        None => String::from_str(alloc, "the word is not supported"),
+    }
+}
+
+/// Which number of an address or of a prefix is too large.
+fn range_words(text: &[u8], at: usize) -> &'static str {
+    let (_, rest) = text.split_at(at.min(text.len()));
+    let len = rest
+        .iter()
+        .take_while(|byte| byte.is_ascii_digit() || **byte == b'.')
+        .count();
+    match rest.get(..len) {
+        Some(address) if read_ip(address).is_some() => "the length of the prefix exceeds 32",
+        _ => "a number of the address exceeds 255",
+    }
+}
+
+/// What stands in the place of what was expected.
+fn found_words(alloc: Global, text: &[u8], found: Option<Token>) -> Result<String, AllocError> {
+    let Some(token) = found else {
+        return Ok(String::new(alloc));
+    };
+    match quoted(text, token.from, token.to) {
+        Some(spelled) => piece_words(alloc, token.kind, spelled),
+        None => Ok(String::new(alloc)),
+    }
+}
+
+/// A token as people read it.
+fn piece_words(alloc: Global, kind: TokenKind, text: &str) -> Result<String, AllocError> {
+    match kind {
+        TokenKind::Text => String::from_str(alloc, ", found a quoted text"),
+        _ => format!(in alloc; ", found `{text}`"),
+    }
+}
+
+/// What to write in place of a name that is none of the variables.
+fn foreign(text: &[u8], token: Option<Token>, variables: &[&str]) -> Option<&'static str> {
+    let name = name_of(text, token)?;
+    if is_among(name, variables) {
+        return None;
+    }
+    in_place_of_name(name)
+}
+
+/// Whether a name is one of some.
+fn is_among(name: &str, names: &[&str]) -> bool {
+    for known in names {
+        if *known == name {
+            return true;
+        }
+    }
+    false
+}
+
+/// What to write in place of what stands where something else is expected.
+fn remedy_for(
+    text: &[u8],
+    expected: Expected,
+    around: Around,
+    variables: &[&str],
+) -> Option<&'static str> {
+    match foreign(text, around.found, variables) {
+        Some(remedy) => Some(remedy),
+        None => match foreign(text, around.last, variables) {
+            Some(remedy) => Some(remedy),
+            None => in_place_of_found(expected, around),
+        },
+    }
+}
+
+/// What was expected in place of the token at a byte.
+fn unexpected(
+    alloc: Global,
+    text: &[u8],
+    tokens: &[Token],
+    at: usize,
+    expected: Expected,
+) -> Result<String, AllocError> {
+    if expected == Expected::Prefix && is_ipv6(text, at) {
+        return String::from_str(alloc, IPV6);
+    }
+    let around = tokens_around(tokens, at);
+    let found = found_words(alloc, text, around.found)?;
+    let variables = declared(alloc, text, tokens)?;
+    match remedy_for(text, expected, around, variables.as_slice()) {
+        Some(remedy) => format!(in alloc; "expected {expected}{found}: {remedy}"),
+        None => format!(in alloc; "expected {expected}{found}"),
+    }
+}
+
+/// What is wrong with a command whose `=` is missing at a byte, and which begins with this word.
+pub(crate) fn head_words(
+    alloc: Global,
+    text: &[u8],
+    tokens: &[Token],
+    word: Option<Word>,
+    at: usize,
+) -> Result<String, AllocError> {
+    let variables = declared(alloc, text, tokens)?;
+    match word.and_then(|word| quoted(text, word.from, word.to)) {
+        Some(name) if !is_among(name, variables.as_slice()) => {
+            let plain = unexpected(alloc, text, tokens, at, Expected::Assign)?;
+            no_command(alloc, name, plain.as_str())
+        }
+        _ => unexpected(alloc, text, tokens, at, Expected::Assign),
+    }
+}
+
+/// What is wrong with a command that begins with a name which is no variable's.
+fn no_command(alloc: Global, name: &str, plain: &str) -> Result<String, AllocError> {
+    if let Some(remedy) = in_place_of_name(name) {
+        return format!(in alloc; "`{name}` is no command: {remedy}");
+    }
+    match nearest(alloc, name, HEADS.as_slice())? {
+        Some(near) => format!(in alloc; "`{name}` is no command; did you mean `{near}`?"),
+        None => format!(in alloc; "`{name}` is no command: {plain}"),
+    }
+}
+
+/// What is wrong with the names and kinds of a filter.
+fn kind_words(alloc: Global, text: &[u8], fault: TypeFault) -> Result<String, AllocError> {
+    match fault {
+        TypeFault::UnknownName(at) => match word_at(text, at) {
+            Some(name) => name_words(alloc, text, name),
+            None => String::from_str(alloc, "undeclared variable"),
+        },
+        TypeFault::DeclaredTwice(at) => match word_at(text, at) {
+            Some(name) => format!(in alloc; "`{name}` is already declared"),
+            None => String::from_str(alloc, "the variable is already declared"),
+        },
+        TypeFault::WrongKind(_, expected, kind) => {
+            let found = ExpectedKind::from(kind);
+            format!(in alloc; "expected {expected}, found {found}")
+        }
+        TypeFault::NetAssigned(_) => String::from_str(alloc, "`net` cannot be assigned"),
+        TypeFault::TooManyVariables(_) => {
+            String::from_str(alloc, "a filter has at most 16 variables")
+        }
+        TypeFault::Memory => String::from_str(alloc, "out of memory"),
+    }
+}
+
+/// What is wrong with a name that is no variable's.
+fn name_words(alloc: Global, text: &[u8], name: &str) -> Result<String, AllocError> {
+    let lexed = lex(alloc, text)?;
+    let mut known = declared(alloc, text, lexed.tokens.as_slice())?;
+    known.extend_from_slice(VALUES.as_slice())?;
+    match nearest(alloc, name, known.as_slice())? {
+        Some(near) => {
+            format!(in alloc; "`{name}` is no variable and no attribute; did you mean `{near}`?")
+        }
+        None => format!(in alloc;
+            "`{name}` is no variable, and a route has only `net` and `rip_metric`"
+        ),
+    }
+}
+
+/// Which limit a filter's code is over.
+fn compile_words(fault: CompileFault) -> &'static str {
+    match fault {
+        CompileFault::TooManyInstructions => "the compiled filter exceeds 1024 instructions",
+        CompileFault::TooManySets => "more than 64 sets, or more than 1024 patterns in one set",
+        CompileFault::Memory => "out of memory",
+    }
+}
+
+/// What is wrong with code. Where the place in the text is shown, the instruction is not named.
+fn code_words(alloc: Global, fault: VerifyFault, is_placed: bool) -> Result<String, AllocError> {
+    match fault {
+        VerifyFault::ZeroDivisor(_) if is_placed => {
+            String::from_str(alloc, "the divisor may be 0")
+        }
+        VerifyFault::FullStack(_) if is_placed => String::from_str(
+            alloc,
+            "the expression needs more than 32 operands at a time",
+        ),
+        _ => format!(in alloc; "{fault}"),
+    }
+}

@@ -1,0 +1,14 @@
+//! Sets of ints: ranges of numbers, and whether one of them holds a number.
+#![tactic(auto)]
+
+mod fault;
+mod merge;
+mod range;
+mod search;
+mod set;
+#[cfg(test)]
+mod tests;
+
+pub use fault::SetFault;
+pub use range::IntRange;
+pub use set::{IntSet, RANGE_LIMIT};

@@ -1,0 +1,83 @@
+-- How a source is read: a file that is opened by its name, or standard input. (This project's own choice.)
+use Rattle.std.specs.Prelude.{◌≡◌, ◌⊎◌, ℕ, ◌+◌, ◌≤◌, List, [], ◌∷◌, ◌++◌, Option, Result, Ok, Err, codes, length, string_bytes, ⊤}
+use Rattle.std.specs.Io.KnownBytes.{Appends, Consumes, IsAtEnd}
+use Rattle.std.specs.IoError.{error_kind}
+use Rattle.std.specs.declared.io.Error.{Error}
+use Rattle.std.specs.declared.io.ErrorKind.TheVariants.{OutOfMemory}
+use Rattle.filter_commands.specs.Evaluation.{IsCut}
+use Rattle.line_protocol.specs.Runs.{ConsumesAtMost}
+use Rattle.line_protocol.specs.declared.faults.StreamFault.{StreamFault}
+use Rattle.line_protocol.specs.declared.faults.StreamFault.TheVariants as fault
+use Rattle.filter_tools.specs.Shown.{shown}
+use Rattle.command_line.specs.declared.aid_words.Source.{Source}
+use Rattle.command_line.specs.declared.aid_words.Source.TheVariants.{Input, File}
+use Rattle.ncroute.specs.declared.texts.Unread.{Unread}
+use Rattle.ncroute.specs.declared.texts.Unread.TheVariants as unread
+
+-- the name of a source
+abbrev pub name_of : Source → List ℕ
+name_of Input = codes "<stdin>"
+name_of (File name) = string_bytes name
+
+-- the line that tells that a source was not read, with its name as it is shown and the words of the reason
+abbrev pub unread_line : Source → List ℕ → List ℕ
+unread_line source words = shown (name_of source) ++ codes ": " ++ words ++ codes " (E1)" ++ 10 ∷ []
+
+-- A text is all that standard input had, or goes one byte beyond a limit. `known` is what it had, `left` what it has now.
+abbrev pub ReadsInput : ℕ → List ℕ → Option (List ℕ) → Option (List ℕ) → Type 0
+ReadsInput limit text known left = Consumes known left text × (length text ≤ limit → IsAtEnd left) × (length text ≤ limit + 1)
+
+-- A text is all that a file had, or goes one byte beyond a limit.
+abbrev pub ReadsWhole : ℕ → List ℕ → Option (List ℕ) → Type 0
+ReadsWhole limit text held = (left : Option (List ℕ)) × ReadsInput limit text held left
+
+-- why a file with this error was not read: E3 for want of memory, and otherwise E1, with the reason that the system gave
+abbrev pub IsCause : Error → Unread → Type 0
+IsCause error (unread.Broken reason) = (reason ≡ error) × (error_kind error ≡ OutOfMemory → ⊥)
+IsCause error unread.Input = ⊥
+IsCause error unread.Memory = error_kind error ≡ OutOfMemory
+
+-- a fault of a file: it has a reason, or it is want of memory
+abbrev pub IsOfFile : Unread → Type 0
+IsOfFile (unread.Broken reason) = ⊤
+IsOfFile unread.Input = ⊥
+IsOfFile unread.Memory = ⊤
+
+-- Standard input was not read to its end: a read failed, or memory was refused.
+abbrev pub LeavesInput : ℕ → Unread → Option (List ℕ) → Option (List ℕ) → Type 0
+LeavesInput limit (unread.Broken reason) known left = ⊥
+LeavesInput limit unread.Input known left = ConsumesAtMost (limit + 1) known left
+LeavesInput limit unread.Memory known left = ConsumesAtMost (limit + 1) known left
+
+-- Standard error was told that a source was not read: of a file with a reason. `told` is what it held, `tells` what it holds now.
+abbrev pub TellsUnread : Source → Unread → Option (List ℕ) → Option (List ℕ) → Type 0
+TellsUnread source (unread.Broken reason) told tells = (words : List ℕ) × Appends told tells (unread_line source words)
+TellsUnread source unread.Input told tells = ⊥
+TellsUnread source unread.Memory told tells = ⊥
+
+-- It was not told, or not whole, and this is the fault that comes of it: standard input that fails is E1, and refused memory is E3.
+abbrev pub StopsTelling : StreamFault → Source → Unread → Option (List ℕ) → Option (List ℕ) → Type 0
+StopsTelling ended source (unread.Broken reason) told tells = (words : List ℕ) × IsCut ended told tells (unread_line source words)
+StopsTelling ended source unread.Input told tells = (ended ≡ fault.Read) × (tells ≡ told)
+StopsTelling ended source unread.Memory told tells = (ended ≡ fault.Memory) × (tells ≡ told)
+
+-- `opens name` says what may come of opening a file of this name: what it has to read, or why there is none.
+module _ (opens : List ℕ → Result (Option (List ℕ)) Error → Type 0) where
+  -- A file of this name was opened and read.
+  abbrev pub ReadsFile : ℕ → List ℕ → List ℕ → Type 0
+  ReadsFile limit name text = (held : Option (List ℕ)) × opens name (Ok held) × ReadsWhole limit text held
+
+  -- A file of this name was not opened, or it was opened and could not be read.
+  abbrev pub LeavesFile : List ℕ → Unread → Type 0
+  LeavesFile name why = ((error : Error) × opens name (Err error) × IsCause error why)
+      ⊎ ((held : Option (List ℕ)) × opens name (Ok held) × IsOfFile why)
+
+  -- This text was read of a source.
+  abbrev pub IsRead : ℕ → Source → List ℕ → Option (List ℕ) → Option (List ℕ) → Type 0
+  IsRead limit Input text known left = ReadsInput limit text known left
+  IsRead limit (File name) text known left = (left ≡ known) × ReadsFile limit (string_bytes name) text
+
+  -- A source was not read, for this cause.
+  abbrev pub IsUnread : ℕ → Source → Unread → Option (List ℕ) → Option (List ℕ) → Type 0
+  IsUnread limit Input why known left = LeavesInput limit why known left
+  IsUnread limit (File name) why known left = (left ≡ known) × LeavesFile (string_bytes name) why

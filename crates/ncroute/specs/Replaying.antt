@@ -1,0 +1,28 @@
+-- What the program does for `replay`. (This project's own choice.)
+use Rattle.std.specs.Prelude.{◌≡◌, ℕ, ◌+◌, ◌≤◌, List, [], Option, length, if◌then◌else◌}
+use Rattle.std.specs.Io.KnownBytes.{Appends}
+use Rattle.history_file.specs.Replays.{IsVerdict, is_right, verdict_line}
+use Rattle.history_file.specs.declared.verdict.Verdict.{Verdict}
+use Rattle.line_protocol.specs.Runs.{AppendsFront}
+use Rattle.line_protocol.specs.declared.faults.StreamFault.{StreamFault}
+use Rattle.line_protocol.specs.declared.faults.StreamFault.TheVariants.{Read, Write, Memory, TooLong}
+
+-- the text of a history of more bytes than this is not replayed
+abbrev pub replay_limit : ℕ
+replay_limit = 1073741824
+
+-- The line of the verdict on a text was written, and the exit status says whether it is the text of a right history, to its end.
+-- `held` and `holds` are what the writer held before and holds now.
+pub record ReplaysText (text : List ℕ) (held holds : Option (List ℕ)) (status : ℕ) : Type 0 where
+  pub within : length text ≤ replay_limit
+  pub verdict : Verdict
+  pub is_verdict : IsVerdict text verdict
+  pub written : Appends held holds (verdict_line verdict)
+  pub ends : status ≡ (if is_right verdict then 0 else 1)
+
+-- What was written where a fault cut that: a text over the limit has no verdict.
+abbrev pub CutsReplay : StreamFault → List ℕ → Option (List ℕ) → Option (List ℕ) → Type 0
+CutsReplay Read text held holds = ⊥
+CutsReplay Write text held holds = (verdict : Verdict) × IsVerdict text verdict × AppendsFront held holds (verdict_line verdict)
+CutsReplay Memory text held holds = Appends held holds []
+CutsReplay TooLong text held holds = (length text ≡ replay_limit + 1) × (holds ≡ held)

@@ -1,0 +1,241 @@
+//! How a source is read: a file, or standard input, to its end or to a limit.
+ghost use Rattle.std.specs.Prelude.{◌≡◌, ◌<◌, ◌+◌, ◌^◌, ℕ, List, Option, Result, Ok, Err, IfOk, IfErr, OnOk, MatchResult, ⊤};
+ghost use Rattle.std.specs.Io.KnownBytes.{Appends};
+ghost use Rattle.std.specs.declared.io.Error.{Error as TheError};
+ghost use Rattle.filter_commands.specs.Evaluation.{IsCut};
+ghost use Rattle.filter_commands.specs.Faults.{stream_fault};
+ghost use Rattle.ncroute.specs.Reading.{IsCause, IsOfFile, IsRead, IsUnread, LeavesFile, LeavesInput, ReadsFile, ReadsInput, ReadsWhole};
+ghost use Rattle.ncroute.specs.Reading.{StopsTelling, TellsUnread, name_of, unread_line};
+
+use command_line::Source;
+use filter_commands::ProgramFault;
+use filter_tools::push_shown;
+use line_protocol::{StreamFault, read_input, write_text};
+use std::alloc::{AllocError, Global};
+use std::fs;
+use std::io::{self, Error, ErrorKind, Read, Write};
+use std::rt::Files;
+
+/// Where files are opened by their names.
+pub trait Folder {
+    /// An open file.
+    type File: Read + Drop;
+
+    // Opening a name may give this: a file that has so much to read, or the reason why there is none.
+    ghost opens: { Self → List ℕ → Result (Option (List ℕ)) TheError → Type 0 };
+
+    /// Opens the file of this name.
+    fn open(&self, name: &str) -> io::Result<Self::File>
+        ensures { MatchResult result (λ file. opens self.now name.now (Ok (Self.File.remaining file)))
+            (λ error. opens self.now name.now (Err error)) };
+}
+
+impl<F: Files> Folder for F {
+    type File = F::File;
+
+    // Of the files of a system nothing is known.
+    ghost opens = { λ _ _ _. ⊤ };
+
+    fn open(&self, name: &str) -> io::Result<F::File> {
+        fs::open(self, name)
+    }
+}
+
+/// Why a source was not read.
+#[derive(Debug, Drop)]
+pub enum Unread {
+    /// E1: a file could not be opened or read, for this reason.
+    Broken(Error),
+    /// E1: standard input could not be read.
+    Input,
+    /// E3: memory was refused.
+    Memory,
+}
+
+/// Why a file with this error was not read.
+fn cause_of(error: Error) -> Unread
+    ensures { IsCause error result }
+{
+    if matches!(error.kind(), ErrorKind::OutOfMemory) {
+        Unread::Memory
+    } else {
+        Unread::Broken(error)
+    }
+}
+
+/// A file that remembers why a read failed.
+#[derive(Drop)]
+struct Remembering<R> {
+    /// The file.
+    file: R,
+    /// Why the last read that failed did so.
+    error: Option<Error>,
+}
+
+impl<R: Read> Read for Remembering<R> {
+    ghost remaining = { λ r. R.remaining r.file };
+
+    fn read(&mut self, room: &mut [u8]) -> io::Result<usize> {
+        match self.file.read(room) {
+            Ok(n) => Ok(n),
+            Err(error) => {
+                let kind = error.kind();
+                self.error = Some(error);
+                Err(Error::from(kind))
+            }
+        }
+    }
+}
+
+/// Reads all that a file has, or one byte more than the limit.
+fn read_open<R: Read + Drop>(alloc: Global, file: R, limit: usize) -> Result<Vec<u8>, Unread>
+    requires { limit < 2 ^ 32 }
+    ensures read { IfOk result (λ text. ReadsWhole limit text.items (R.remaining file)) }
+    ensures unread { IfErr result (λ why. IsOfFile why) }
+{
+    let mut file = Remembering { file, error: None };
+    match read_input(alloc, &mut file, limit) {
+        Ok(text) => Ok(text),
+        Err(StreamFault::Memory) => Err(Unread::Memory),
+        // A file that gives no reason does not come here.
+        Err(_) => Err(Unread::Broken(file.error.unwrap_or(Error::from(ErrorKind::Other)))),
+    }
+}
+
+/// Reads the file of a name.
+fn read_file<F: Folder>(
+    files: &F,
+    alloc: Global,
+    name: &str,
+    limit: usize,
+) -> Result<Vec<u8>, Unread>
+    requires { limit < 2 ^ 32 }
+    ensures read { IfOk result (λ text. ReadsFile (F.opens files.now) limit name.now text.items) }
+    ensures unread { IfErr result (LeavesFile (F.opens files.now) name.now) }
+{
+    match files.open(name) {
+        Ok(file) => read_open(alloc, file, limit),
+        Err(error) => Err(cause_of(error)),
+    }
+}
+
+/// Reads standard input.
+fn read_standard<R: Read>(alloc: Global, reader: &mut R, limit: usize) -> Result<Vec<u8>, Unread>
+    requires { limit < 2 ^ 32 }
+    ensures read { IfOk result (λ text. ReadsInput limit text.items (R.remaining reader.old) (R.remaining reader.new)) }
+    ensures unread { IfErr result (λ why. LeavesInput limit why (R.remaining reader.old) (R.remaining reader.new)) }
+{
+    match read_input(alloc, reader, limit) {
+        Ok(text) => Ok(text),
+        Err(StreamFault::Memory) => Err(Unread::Memory),
+        Err(_) => Err(Unread::Input),
+    }
+}
+
+/// Reads a source: all of it, or one byte more than the limit.
+pub fn read_source<F: Folder, R: Read>(
+    files: &F,
+    alloc: Global,
+    source: &Source,
+    limit: usize,
+    reader: &mut R,
+) -> Result<Vec<u8>, Unread>
+    requires { limit < 2 ^ 32 }
+    ensures read { IfOk result (λ text. IsRead (F.opens files.now) limit source.now text.items
+        (R.remaining reader.old) (R.remaining reader.new)) }
+    ensures unread { IfErr result (λ why. IsUnread (F.opens files.now) limit source.now why
+        (R.remaining reader.old) (R.remaining reader.new)) }
+{
+    match source {
+        Source::Input => read_standard(alloc, reader, limit),
+        Source::File(name) => read_file(files, alloc, name.as_str(), limit),
+    }
+}
+
+/// The name by which people know a source.
+pub fn name_of(source: &Source) -> &[u8]
+    ensures { result.now ≡ name_of source.now }
+{
+    match source {
+        Source::Input => b"<stdin>",
+        Source::File(name) => name.as_str().as_bytes(),
+    }
+}
+
+/// The reason in what an error of the system says, without the error's number.
+fn reason_in(words: &str) -> &str {
+    match words.split_once(" (os error ") {
+        Some((reason, _)) => reason,
+        None => words,
+    }
+}
+
+/// The line that tells that a source was not read, with the words of the reason.
+fn unread_line(alloc: Global, source: &Source, words: &str) -> Result<Vec<u8>, AllocError>
+    ensures { IfOk result (λ line. line.items ≡ unread_line source.now words.now) }
+{
+    let mut line = Vec::new(alloc);
+    push_shown(alloc, &mut line, name_of(source))?;
+    line.extend_from_slice(b": ")?;
+    line.extend_from_slice(words.as_bytes())?;
+    line.extend_from_slice(b" (E1)\n")?;
+    Ok(line)
+}
+
+/// Writes a line.
+fn write_line<E: Write>(errors: &mut E, line: &[u8]) -> Result<(), ProgramFault>
+    ensures ok { OnOk result (Appends (E.contents errors.old) (E.contents errors.new) line.now) }
+    ensures err { IfErr result (λ fault. IsCut (stream_fault fault) (E.contents errors.old) (E.contents errors.new) line.now) }
+{
+    write_text(errors, line)?;
+    Ok(())
+}
+
+/// Tells that a file was not read, with the words of the reason.
+fn tell_words<E: Write>(
+    alloc: Global,
+    errors: &mut E,
+    source: &Source,
+    words: &str,
+) -> Result<(), ProgramFault>
+    ensures ok { OnOk result (Appends (E.contents errors.old) (E.contents errors.new) (unread_line source.now words.now)) }
+    ensures err { IfErr result (λ fault.
+        IsCut (stream_fault fault) (E.contents errors.old) (E.contents errors.new) (unread_line source.now words.now)) }
+{
+    let line = unread_line(alloc, source, words)?;
+    write_line(errors, line.as_slice())
+}
+
+/// Tells that a file was not read, and the reason in the error.
+fn tell_reason<E: Write>(
+    alloc: Global,
+    errors: &mut E,
+    source: &Source,
+    error: &Error,
+) -> Result<(), ProgramFault>
+    ensures ok { OnOk result ((words : List ℕ)
+        × Appends (E.contents errors.old) (E.contents errors.new) (unread_line source.now words)) }
+    ensures err { IfErr result (λ fault. (words : List ℕ)
+        × IsCut (stream_fault fault) (E.contents errors.old) (E.contents errors.new) (unread_line source.now words)) }
+{
+    let words = format!(in alloc; "{error}")?;
+    tell_words(alloc, errors, source, reason_in(words.as_str()))
+}
+
+/// Tells on `errors` that a source was not read. Standard input has no name to tell: its fault is handed on.
+pub fn tell_unread<E: Write>(
+    alloc: Global,
+    errors: &mut E,
+    source: &Source,
+    why: Unread,
+) -> Result<(), ProgramFault>
+    ensures told { OnOk result (TellsUnread source.now why (E.contents errors.old) (E.contents errors.new)) }
+    ensures stopped { IfErr result (λ fault. StopsTelling (stream_fault fault) source.now why
+        (E.contents errors.old) (E.contents errors.new)) }
+{
+    match why {
+        Unread::Broken(reason) => tell_reason(alloc, errors, source, &reason),
+        Unread::Input => Err(ProgramFault::Stream(StreamFault::Read)),
+        Unread::Memory => Err(ProgramFault::MEMORY),
+    }
+}

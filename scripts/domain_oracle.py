@@ -1,0 +1,275 @@
+#!/usr/bin/env python3
+"""Answers the script of a domain slowly and plainly, from the definitions alone, to compare `ncroute domain` with.
+
+usage: domain_oracle.py [FILE]        (without FILE, standard input)
+
+Distances at rest are found by iteration: every node but the destination starts out of reach, and each takes one more than the least of what its
+neighbours' distances come to, until no distance changes. `settle` plays Netchange, message by message. Filters are limited to
+`filter NAME { STATEMENTS }` of `accept;`, `reject;`, `rip_metric = rip_metric + N;` and `if TEST then STATEMENT`, where a test compares `net.len` or
+`rip_metric` with a number by `=`, `<` or `>`, or is `net ~ [ADDRESS/LENGTH+]`. Of `load` only the first word of the answer is written, `verified`;
+there is no `code`. Scripts are taken to have no mistakes of words (O1, O2, O3, O7, O8), and no filter that is refused.
+"""
+import re
+import sys
+
+
+def address(text):
+    a, b, c, d = map(int, text.split("."))
+    return (a << 24) + (b << 16) + (c << 8) + d
+
+
+def prefix(text):
+    ip, length = text.split("/")
+    return address(ip), int(length)
+
+
+def is_within(inner, outer):
+    shift = 32 - outer[1]
+    return inner[1] >= outer[1] and inner[0] >> shift == outer[0] >> shift
+
+
+class Filter:
+    """A filter of a few shapes, taken word by word."""
+
+    def __init__(self, text):
+        body = re.fullmatch(r"\s*filter\s+\w+\s*\{(.*)\}\s*", text).group(1)
+        self.words = re.findall(r"\[[^]]*\]|[\w.]+|[^\s\w]", body)
+
+    def apply(self, net, metric, size):
+        """The metric that a route is accepted with, or the size of the domain."""
+        if metric == size:
+            return size
+        at = 0
+        while True:
+            at, metric, verdict = self.statement(at, net, metric, size, True)
+            if verdict is not None:
+                return metric if verdict == "accept" else size
+
+    def statement(self, at, net, metric, size, is_taken):
+        word = self.words[at]
+        if word in ("accept", "reject"):
+            return at + 2, metric, word if is_taken else None
+        if word == "if":
+            left, compares, right = self.words[at + 1:at + 4]
+            holds = self.holds(left, compares, right, net, metric)
+            return self.statement(at + 5, net, metric, size, is_taken and holds)
+        added = int(self.words[at + 4])
+        return at + 6, min(size, metric + added) if is_taken else metric, None
+
+    @staticmethod
+    def holds(left, compares, right, net, metric):
+        if compares == "~":
+            return is_within(net, prefix(right.strip("[] +")))
+        value = net[1] if left == "net.len" else metric
+        return {"=": value == int(right), "<": value < int(right), ">": value > int(right)}[compares]
+
+
+class Router:
+    """A node that runs Netchange."""
+
+    def __init__(self, domain, me):
+        self.domain, self.me, self.size = domain, me, domain.size
+        self.raw, self.queues = {}, {}
+        self.dist = [0 if v == me else self.size for v in range(self.size)]
+
+    def tell(self, w, v):
+        self.queues[w].append((v, self.domain.exported(self.me, w, v, self.dist[v])))
+
+    def tell_all(self, w):
+        for v in range(self.size):
+            self.tell(w, v)
+
+    def up(self, w):
+        self.raw[w], self.queues[w] = [self.size] * self.size, []
+        self.tell_all(w)
+
+    def down(self, w):
+        del self.raw[w], self.queues[w]
+        self.recompute()
+
+    def hear(self, w, v, d):
+        self.raw[w][v] = d
+        self.recompute()
+
+    def recompute(self):
+        for v in range(self.size):
+            near = [self.domain.imported(self.me, w, v, told[v]) + 1 for w, told in self.raw.items()]
+            dist = 0 if v == self.me else min(near + [self.size])
+            if dist != self.dist[v]:
+                self.dist[v] = dist
+                for w in sorted(self.queues):
+                    self.tell(w, v)
+
+
+class Domain:
+    """Nodes, links and filters, and the routers that are played."""
+
+    def __init__(self, size):
+        self.size, self.links, self.imports, self.exports = size, set(), {}, {}
+        self.prefixes = [((10 << 24) + (v << 16), 16) for v in range(size)]
+        self.routers = [Router(self, u) for u in range(size)]
+
+    def passed(self, named, v, d):
+        return named.apply(self.prefixes[v], d, self.size) if named and d < self.size else d
+
+    def exported(self, u, w, v, d):
+        return self.passed(self.exports.get((u, w)), v, d)
+
+    def imported(self, u, w, v, d):
+        return self.passed(self.imports.get((u, w)), v, d)
+
+    def neighbours(self, u):
+        return [w for w in range(self.size) if (u, w) in self.links]
+
+    def toll(self, u, w, v, d):
+        return self.imported(u, w, v, self.exported(w, u, v, d))
+
+    def routes_to(self, v):
+        """Of each node its distance and next hop; the node itself where it is the destination, and None where there is no way."""
+        dist = [0 if u == v else self.size for u in range(self.size)]
+        near = [self.neighbours(u) for u in range(self.size)]
+        while True:
+            now = [0 if u == v else min([self.toll(u, w, v, dist[w]) + 1 for w in near[u]] + [self.size]) for u in range(self.size)]
+            if now == dist:
+                break
+            dist = now
+        via = [u if u == v else next((w for w in near[u] if dist[u] < self.size and self.toll(u, w, v, dist[w]) + 1 == dist[u]), None)
+               for u in range(self.size)]
+        return list(zip(dist, via))
+
+    def all_routes(self):
+        return [self.routes_to(v) for v in range(self.size)]
+
+    def settle(self):
+        rounds = heard = 0
+        while True:
+            flights = []
+            for u, router in enumerate(self.routers):
+                for w in sorted(router.queues):
+                    flights.append((u, w, router.queues[w]))
+                    router.queues[w] = []
+            count = sum(len(messages) for _, _, messages in flights)
+            if count == 0:
+                return rounds, heard
+            rounds, heard = rounds + 1, heard + count
+            for u, w, messages in flights:
+                for v, d in messages:
+                    self.routers[w].hear(u, v, d)
+
+
+class Script:
+    """What is answered to each line."""
+
+    def __init__(self):
+        self.domain, self.filters, self.marked, self.begun = None, {}, None, False
+
+    def answer(self, number, line):
+        verb, *words = line.split()
+        domain = self.domain
+        if verb == "domain":
+            if domain:
+                return f"refused O5 {number}"
+            self.domain = Domain(int(words[0]))
+            self.marked = self.domain.all_routes()
+            return "ok"
+        if domain is None:
+            return f"refused O4 {number}"
+        if verb == "prefix":
+            if self.begun:
+                return f"refused O5 {number}"
+            if int(words[0]) >= domain.size:
+                return f"refused O2 {number}"
+            domain.prefixes[int(words[0])] = prefix(words[1])
+            return "ok"
+        if verb == "load":
+            self.filters[words[0]] = Filter(line.split(None, 2)[2])
+            return "verified"
+        if verb in ("import", "export") and words[2] not in self.filters:
+            return f"refused O6 {number}"
+        self.begun = True
+        nodes = [int(word) for word in words[:2]]
+        pair = verb in ("link", "cut", "import", "export")
+        if any(node >= domain.size for node in nodes) or pair and nodes[0] == nodes[1]:
+            return f"refused D1 {number}"
+        if verb == "link" and tuple(nodes) in domain.links:
+            return f"refused D2 {number}"
+        if verb == "cut" and tuple(nodes) not in domain.links:
+            return f"refused D3 {number}"
+        return getattr(self, verb)(*nodes, *words[2:])
+
+    def link(self, u, w):
+        self.domain.links |= {(u, w), (w, u)}
+        self.domain.routers[u].up(w)
+        self.domain.routers[w].up(u)
+        return "ok"
+
+    def cut(self, u, w):
+        self.domain.links -= {(u, w), (w, u)}
+        self.domain.routers[u].down(w)
+        self.domain.routers[w].down(u)
+        return "ok"
+
+    def export(self, u, w, name):
+        router = self.domain.routers[u]
+        self.domain.exports[u, w] = self.filters[name]
+        if w in router.queues:
+            router.tell_all(w)
+        return "ok"
+
+    def route(self, u, v):
+        dist, via = self.domain.routes_to(v)[u]
+        return f"route {dist} " + ("none" if via is None else "local" if u == v else f"via {via}")
+
+    def path(self, u, v):
+        routes, on = self.domain.routes_to(v), [u]
+        while on[-1] != v:
+            if routes[on[-1]][1] is None:
+                return "path none"
+            on.append(routes[on[-1]][1])
+        return "path " + " ".join(map(str, on))
+
+    def table(self, u):
+        rows = [routes[u] for routes in self.domain.all_routes()]
+        return "table " + " ".join(f"{v}:{d}" + (f":{via}" if via not in (None, u) else "") for v, (d, via) in enumerate(rows))
+
+    def draw(self, v):
+        routes = self.domain.routes_to(v)
+        nodes = [f'{u} [style=dotted];' if via is None else f'{u} [label="{u} at {d}"];' for u, (d, via) in enumerate(routes)]
+        hops = [(u, via) for u, (d, via) in enumerate(routes) if via not in (None, u)]
+        idle = [(u, w) for u, w in sorted(self.domain.links) if u < w and (u, w) not in hops and (w, u) not in hops]
+        arrows = [f"{u} -> {w};" for u, w in hops] + [f"{u} -> {w} [dir=none, style=dotted];" for u, w in idle]
+        return "digraph { " + " ".join(nodes + arrows) + " }"
+
+    def mark(self):
+        self.marked = self.domain.all_routes()
+        return "ok"
+
+    def changes(self):
+        now, size = self.domain.all_routes(), self.domain.size
+        return "changes" + "".join(f" {u}:{v}" for u in range(size) for v in range(size) if now[v][u] != self.marked[v][u])
+
+    def settle(self):
+        return "settled {} {}".format(*self.domain.settle())
+
+
+def importing(script, u, w, name):
+    script.domain.imports[u, w] = script.filters[name]
+    script.domain.routers[u].recompute()
+    return "ok"
+
+
+# `import` is a word of Python's.
+setattr(Script, "import", importing)
+
+
+def main(words):
+    text = open(words[0], encoding="utf-8") if words else sys.stdin
+    script = Script()
+    for number, line in enumerate(text, 1):
+        line = line.rstrip("\r\n")
+        if line and not line.startswith("#"):
+            print(script.answer(number, line), flush=True)
+
+
+if __name__ == "__main__":
+    main(sys.argv[1:])
