@@ -1,6 +1,6 @@
 -- A script ends where its input does: no answer ends it before.
-use Rattle.std.proofs.Common.{◌≡◌, ℕ, Bool, true, false, ◌||◌, List, [], ◌∷◌, Option, Some, None, Ok, Err, refl, subst, ap, ◌∙◌, inl, inr, nat_lt, ◌&&◌, ⊤}
-use Rattle.std.specs.Prelude.{MatchBool}
+use Rattle.std.proofs.Common.{◌≡◌, ℕ, Bool, true, false, ◌||◌, List, [], ◌∷◌, Option, Some, None, Ok, Err, refl, subst, ap, ◌∙◌, inl, inr, nat_lt, ◌&&◌}
+use Rattle.std.specs.Prelude.{MatchBool, ⊤}
 use Rattle.filter_code.specs.CodeView.{CodeView}
 use Rattle.filter_source.specs.Sources.{IsRefusedText}
 use Rattle.filter_source.specs.declared.refusal.Refusal.{Refusal}

@@ -1,6 +1,6 @@
 -- A script ends where its input does: no answer ends it before.
-use Rattle.std.proofs.Common.{◌≡◌, ℕ, ◌==◌, Bool, true, false, ◌||◌, List, [], ◌∷◌, length, Option, Some, None, Ok, Err, Global, refl, subst, ap, ◌∙◌, inl, inr, nat_lt, ⊤}
-use Rattle.std.specs.Prelude.{MatchBool, codes, if◌then◌else◌}
+use Rattle.std.proofs.Common.{◌≡◌, ℕ, ◌==◌, Bool, true, false, ◌||◌, List, [], ◌∷◌, length, Option, Some, None, Ok, Err, Global, refl, subst, ap, ◌∙◌, inl, inr, nat_lt}
+use Rattle.std.specs.Prelude.{MatchBool, codes, if◌then◌else◌, ⊤}
 use Rattle.std.specs.BTreeMap.{BTreeMap, is_at}
 use Rattle.std.specs.Cmp.Lexicographic.{slice_cmp}
 use Rattle.std.specs.Map.{lookup}

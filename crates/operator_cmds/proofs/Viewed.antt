@@ -1,6 +1,6 @@
 -- A run of a service is a run of what contracts see of it.
-use Rattle.std.proofs.Common.{ℕ, Bool, true, false, List, [], ◌∷◌, Option, Some, None, IfSome, ap, ⊤, inr}
-use Rattle.std.specs.Prelude.{MatchBool}
+use Rattle.std.proofs.Common.{ℕ, Bool, true, false, List, [], ◌∷◌, Option, Some, None, IfSome, ap, inr}
+use Rattle.std.specs.Prelude.{MatchBool, ⊤}
 use Rattle.line_protocol.specs.Answers.{Answer, is_end}
 use Rattle.line_protocol.specs.Lines.{numbered}
 use Rattle.line_protocol.specs.Runs.{Finishes, Reaches, Runs, RunsFront, Stops}
