@@ -383,6 +383,36 @@ def hundred_files(ncroute):
         return differs(run(ncroute, "check --size 250 --explain never " + " ".join(names), b""), wanted)
 
 
+# ---- routes without end
+
+ROUTES = 1_300_000
+
+
+def filtered(ncroute, folder, count):
+    """What `filter` makes of so many routes, and the most memory that it has had meanwhile, in units of 1,024 bytes."""
+    name, routes, answers = (os.path.join(folder, name) for name in ("it.filter", "routes", "answers"))
+    with open(name, "wb") as it:
+        it.write(FILTER)
+    with open(routes, "wb") as it:
+        it.write(b"".join(b"10.%d.%d.0/24 %d\n" % (at >> 8 & 255, at & 255, at % 16) for at in range(count)))
+    with open(routes, "rb") as given, open(answers, "wb") as taken:
+        ran = subprocess.Popen([ncroute, "filter", "--size", "16", name], stdin=given, stdout=taken, cwd=program.TOP)
+        _, status, used = os.wait4(ran.pid, 0)
+        ran.returncode = os.waitstatus_to_exitcode(status)
+    with open(answers, "rb") as it:
+        wrote = it.read()
+    wanted = b"".join(b"accept %d\n" % (at % 16) for at in range(count))
+    return differs((wrote, b"", ran.returncode), (wanted, 0)), used.ru_maxrss
+
+
+def million_routes(ncroute):
+    """More routes than the Internet has, more bytes than an input of other commands may have: they take no more memory than a few."""
+    with tempfile.TemporaryDirectory() as folder:
+        said, few = filtered(ncroute, folder, 5_000)
+        said, many = (said, few) if said else filtered(ncroute, folder, ROUTES)
+    return said or (f"{many} KiB of memory, and {few} with few routes" if many > few + 1024 else None)
+
+
 # ---- names that collide
 
 MULTIPLIER, SEED = 0x9E3779B97F4A7C15, 0x243F6A8885A308D3
@@ -444,7 +474,8 @@ def main(wanted):
         sys.exit("NCROUTE=PATH: the program that is to run")
     ncroute = os.path.realpath(ncroute)
     rows = [(name, lambda words=words, row=row: differs(run(ncroute, words, (made := row())[0]), made[1:])) for name, words, row in ROWS]
-    rows += [("check, a hundred files", lambda: hundred_files(ncroute)), ("run, names that collide", lambda: names_that_collide(ncroute))]
+    rows += [("check, a hundred files", lambda: hundred_files(ncroute)), ("filter, a million routes", lambda: million_routes(ncroute))]
+    rows += [("run, names that collide", lambda: names_that_collide(ncroute))]
     passed = failed = 0
     for name, row in rows:
         if wanted and not any(word in name for word in wanted):
