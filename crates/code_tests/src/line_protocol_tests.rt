@@ -2,8 +2,8 @@
 
 use expectations::expect_fault;
 use line_protocol::{
-    INPUT_LIMIT, LINE_LIMIT, Reply, Service, StreamFault, answer_lines, answer_lines_within, next_word, push_decimal,
-    push_refusal, trim_blanks,
+    INPUT_LIMIT, LINE_LIMIT, Reply, Service, StreamFault, answer_lines, answer_lines_within,
+    next_word, push_decimal, push_refusal, trim_blanks,
 };
 use std::alloc::{AllocError, Global};
 use std::io;

@@ -47,6 +47,7 @@ struct RouteFilter {
 
 impl Service for RouteFilter {
     ghost use Rattle.std.specs.Prelude.{⊤};
+
     ghost answers = { λ before number line answer after. (after.verified ≡ before.verified)
         × (answer ≡ code_answer before.verified.program before.verified.size (number, line)) };
 
@@ -125,13 +126,7 @@ fn answer_routes<R: Read, W: Write>(
         (W.contents writer.old) (W.contents writer.new))) }
 {
     let mut service = RouteFilter { verified };
-    Ok(answer_lines_within(
-        alloc,
-        ROUTES_LIMIT,
-        reader,
-        writer,
-        &mut service,
-    )?)
+    Ok(answer_lines_within(alloc, ROUTES_LIMIT, reader, writer, &mut service)?)
 }
 
 /// The line that refuses a filter.
