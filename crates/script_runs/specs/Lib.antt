@@ -1,0 +1,5 @@
+-- What callers cite.
+pub mod Saved
+pub mod Running
+-- What only bodies are proved against.
+pub mod News

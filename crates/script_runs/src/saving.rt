@@ -1,0 +1,166 @@
+//! A script whose history is saved as it is made.
+ghost use Rattle.std.specs.Prelude.{◌≡◌, ◌++◌, IfErr, IfOk, IfSome, OnErr, OnOk};
+ghost use Rattle.std.specs.Io.{StartsWith};
+ghost use Rattle.std.specs.Io.KnownBytes.{Appends};
+ghost use Rattle.operator_cmds.specs.Entries.{open_journal};
+ghost use Rattle.script_runs.specs.News as spec;
+ghost use Rattle.script_runs.specs.Running.{IsSaved, IsSavedInPart};
+
+use history_file::{write_entry, write_opening};
+use line_protocol::{Reply, Service, StreamFault, answer_lines, write_text};
+use operator_cmds::{Script, ScriptFault};
+use route_history::{Journal, LARGEST_LIMIT};
+use std::alloc::{AllocError, Global};
+use std::io::{Read, Write};
+
+/// Adds the line of the entry at a position, if there is one.
+fn push_entry_at(
+    alloc: Global,
+    out: &mut Vec<u8>,
+    journal: &Journal,
+    at: usize,
+) -> Result<(), AllocError>
+    ensures { OnOk result (out.new.items ≡ out.old.items ++ spec.next_lines (Some at) journal.now) }
+{
+    match journal.entries().get(at) {
+        Some(entry) => write_entry(alloc, out, at as u32, entry),
+        None => Ok(()),
+    }
+}
+
+/// Adds the next line of a journal of which so many entries are saved, and the opening's line before it where nothing is.
+fn push_next(
+    alloc: Global,
+    out: &mut Vec<u8>,
+    journal: &Journal,
+    saved: Option<usize>,
+) -> Result<(), AllocError>
+    ensures { OnOk result (out.new.items ≡ out.old.items ++ spec.next_lines saved journal.now) }
+{
+    match saved {
+        Some(count) => push_entry_at(alloc, out, journal, count),
+        None => {
+            let limit = journal.limit();
+            // No script opens a journal with another limit.
+            if limit == 0 || limit > LARGEST_LIMIT {
+                return Err(AllocError);
+            }
+            write_opening(alloc, out, journal.opening(), limit)?;
+            push_entry_at(alloc, out, journal, 0)
+        }
+    }
+}
+
+/// How many entries a script has, if its journal is open.
+fn count_entries(script: &Script) -> Option<usize>
+    ensures { result ≡ spec.count_in (script_of script.now).stage }
+{
+    match script.journal() {
+        Some(journal) => Some(journal.entries().len()),
+        None => None,
+    }
+}
+
+/// The lines that are not saved of a script's history, of which so many entries are.
+fn unsaved(alloc: Global, script: &Script, saved: Option<usize>) -> Result<Vec<u8>, AllocError>
+    ensures { IfOk result (λ text. text.items ≡ spec.news saved (script_of script.now).stage) }
+{
+    let mut text = Vec::new(alloc);
+    if let Some(journal) = script.journal() {
+        push_next(alloc, &mut text, journal, saved)?;
+    }
+    Ok(text)
+}
+
+/// A script and where its history is saved.
+#[derive(Drop)]
+struct Saving<V: Write + Drop> {
+    /// The script.
+    script: Script,
+    /// Where its history is saved.
+    saver: V,
+    /// The saver failed.
+    is_broken: bool,
+}
+
+impl<V: Write + Drop> Service for Saving<V> {
+    ghost use Rattle.operator_cmds.specs.State.{script_of};
+    ghost use Rattle.script_runs.specs.Saved.{AnswersSaved};
+
+    ghost answers = { λ before number line answer after. AnswersSaved
+        (record { script = script_of before.script; holds = V.contents before.saver }) number line answer
+        (record { script = script_of after.script; holds = V.contents after.saver }) };
+
+    fn answer(
+        &mut self,
+        alloc: Global,
+        number: u32,
+        line: &[u8],
+        out: &mut Vec<u8>,
+    ) -> Result<Reply, AllocError> {
+        let saved = count_entries(&self.script);
+        let reply = self.script.answer(alloc, number, line, out)?;
+        self.save(alloc, saved)?;
+        Ok(reply)
+    }
+}
+
+impl<V: Write + Drop> Saving<V> {
+    ghost use Rattle.operator_cmds.specs.State.{script_of};
+
+    /// Saves what is not saved of the history, of which so many entries are.
+    fn save(&mut self, alloc: Global, saved: Option<usize>) -> Result<(), AllocError>
+        ensures script { script_of self.new.script ≡ script_of self.old.script }
+        ensures ok { OnOk result (Appends (V.contents self.old.saver) (V.contents self.new.saver)
+            (spec.news saved (script_of self.old.script).stage)) }
+    {
+        let text = unsaved(alloc, &self.script, saved)?;
+        match write_text(&mut self.saver, text.as_slice()) {
+            Ok(()) => Ok(()),
+            Err(_) => {
+                self.is_broken = true;
+                Err(AllocError)
+            }
+        }
+    }
+}
+
+/// What is told of the end of a run: where the saver failed, that a write failed.
+fn told_end(ended: Result<u32, ScriptFault>, is_broken: bool) -> Result<u32, ScriptFault>
+    ensures { spec.IsToldOf ended result }
+{
+    match ended {
+        Err(StreamFault::Memory) if is_broken => Err(StreamFault::Write),
+        _ => ended,
+    }
+}
+
+/// Does what `run_script` does, and saves the script's history as it is made: the opening's line when the first event opens the
+/// journal, then the line of each entry, written and flushed before the answer to its line is written. Gives the saver back.
+///
+/// A write to the saver that fails is E2, and the line whose entry it was is not answered.
+pub fn run_saved_script<R: Read, W: Write, V: Write + Drop>(
+    alloc: Global,
+    reader: &mut R,
+    writer: &mut W,
+    saver: V,
+) -> (Result<u32, ScriptFault>, V)
+    // The answers are those of `run_script`, and what was saved is the text of the whole history.
+    ensures finished { IfOk result.0 (λ refused. IfSome (R.remaining reader.old) (λ input.
+        IsSaved input (R.remaining reader.new) (W.contents writer.old) (W.contents writer.new) refused
+        (V.contents saver) (V.contents result.1))) }
+    ensures broken_off { IfErr result.0 (λ fault. IfSome (R.remaining reader.old) (λ input.
+        IsSavedInPart fault input (R.remaining reader.new) (W.contents writer.old) (W.contents writer.new)
+        (V.contents saver) (V.contents result.1))) }
+{
+    let mut service = Saving {
+        script: Script::new(alloc),
+        saver,
+        is_broken: false,
+    };
+    let ended = answer_lines(alloc, reader, writer, &mut service);
+    let Saving {
+        saver, is_broken, ..
+    } = service;
+    (told_end(ended, is_broken), saver)
+}
