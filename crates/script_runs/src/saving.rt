@@ -2,7 +2,7 @@
 ghost use Rattle.std.specs.Prelude.{◌≡◌, ◌++◌, IfErr, IfOk, IfSome, OnErr, OnOk};
 ghost use Rattle.std.specs.Io.{StartsWith};
 ghost use Rattle.std.specs.Io.KnownBytes.{Appends};
-ghost use Rattle.operator_cmds.specs.Entries.{open_journal};
+ghost use Rattle.operator_cmds.specs.State.{script_of};
 ghost use Rattle.script_runs.specs.News as spec;
 ghost use Rattle.script_runs.specs.Running.{IsSaved, IsSavedInPart};
 
@@ -22,6 +22,8 @@ fn push_entry_at(
 ) -> Result<(), AllocError>
     ensures { OnOk result (out.new.items ≡ out.old.items ++ spec.next_lines (Some at) journal.now) }
 {
+    // A position is less than the limit.
+    let _limit = journal.limit();
     match journal.entries().get(at) {
         Some(entry) => write_entry(alloc, out, at as u32, entry),
         None => Ok(()),
@@ -84,7 +86,6 @@ struct Saving<V: Write + Drop> {
 }
 
 impl<V: Write + Drop> Service for Saving<V> {
-    ghost use Rattle.operator_cmds.specs.State.{script_of};
     ghost use Rattle.script_runs.specs.Saved.{AnswersSaved};
 
     ghost answers = { λ before number line answer after. AnswersSaved
@@ -106,8 +107,6 @@ impl<V: Write + Drop> Service for Saving<V> {
 }
 
 impl<V: Write + Drop> Saving<V> {
-    ghost use Rattle.operator_cmds.specs.State.{script_of};
-
     /// Saves what is not saved of the history, of which so many entries are.
     fn save(&mut self, alloc: Global, saved: Option<usize>) -> Result<(), AllocError>
         ensures script { script_of self.new.script ≡ script_of self.old.script }
@@ -122,6 +121,19 @@ impl<V: Write + Drop> Saving<V> {
                 Err(AllocError)
             }
         }
+    }
+
+    /// What is told of the end of the run, and the saver.
+    fn finish(self, ended: Result<u32, ScriptFault>) -> (Result<u32, ScriptFault>, V)
+        ensures told { spec.IsToldOf ended result.0 }
+        ensures saver { result.1 ≡ self.saver }
+    {
+        let Saving {
+            script: _script,
+            saver,
+            is_broken,
+        } = self;
+        (told_end(ended, is_broken), saver)
     }
 }
 
@@ -159,8 +171,5 @@ pub fn run_saved_script<R: Read, W: Write, V: Write + Drop>(
         is_broken: false,
     };
     let ended = answer_lines(alloc, reader, writer, &mut service);
-    let Saving {
-        saver, is_broken, ..
-    } = service;
-    (told_end(ended, is_broken), saver)
+    service.finish(ended)
 }
