@@ -97,7 +97,9 @@ answered before told after held holds saved number line answer count h same p =
     ∙ ap (λ (s : Option ℕ). text ++ news s told.stage) (sym count) in
     (
       subst (λ (v : ScriptView). AnswersLine before number line answer v) (sym same) h,
-      news saved told.stage,
-      subst (λ (v : ScriptView). saved_text v.stage ≡ text ++ news saved told.stage) (sym same) grows,
-      p,
+      (
+        news saved told.stage,
+        subst (λ (v : ScriptView). saved_text v.stage ≡ text ++ news saved told.stage) (sym same) grows,
+        p,
+      ),
     )
