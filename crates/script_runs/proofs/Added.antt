@@ -72,9 +72,9 @@ reopened b later same_opening same_limit more =
     (ap (λ o. text_with o later.limit b.entries) same_opening ∙ ap (λ l. text_with b.opening l b.entries) same_limit)
 
 by_open : (b : JournalView) (after : StageView) → StaysOpen (Open b) after → GrowsByOne b.entries (entries_in after) → Adds (Open b) after
-by_open b after (later, open, same_opening, same_limit) more =
-    subst (Adds (Open b)) (sym open)
-    (reopened b later same_opening same_limit (subst (λ (s : StageView). GrowsByOne b.entries (entries_in s)) open more))
+by_open b after (later, moved, same_opening, same_limit) more =
+    subst (Adds (Open b)) (sym moved)
+    (reopened b later same_opening same_limit (subst (λ (s : StageView). GrowsByOne b.entries (entries_in s)) moved more))
 
 -- a line that goes on from one stage to the next adds its news to the text
 adds : (before after : StageView) → GoesOn before after → Adds before after
