@@ -1,5 +1,5 @@
 -- What a line adds to the history is what its text grows by.
-use Rattle.std.proofs.Common.{◌≡◌, ℕ, ◌+◌, List, [], ◌∷◌, ◌++◌, map, length, Option, Some, None, slice_get, refl, sym, ap, subst, ◌∙◌, append_assoc, append-nil, inl, inr, arith}
+use Rattle.std.proofs.Common.{◌≡◌, ℕ, ◌+◌, Bool, List, [], ◌∷◌, ◌++◌, map, length, Option, Some, None, slice_get, refl, sym, ap, subst, ◌∙◌, append_assoc, append-nil, inl, inr, arith}
 use Rattle.std.proofs.lemmas.List.{length-map, map-append}
 use Rattle.std.specs.Io.KnownBytes.{Appends}
 use Rattle.history_file.specs.Text.{entries_text, entry_line, opening_line}
@@ -15,6 +15,7 @@ use Rattle.route_history.specs.JournalView.{JournalView}
 use Rattle.route_history.specs.declared.entry.Entry.{Entry}
 use Rattle.script_runs.specs.News.{count_in, line_of, news}
 use Rattle.script_runs.specs.Saved.{AnswersSaved, saved_text}
+use Rattle.script_runs.specs.Stopping.{answer_where}
 
 get_end : {X : Type 0} (xs : List X) → slice_get xs (length xs) ≡ None
 get_end [] = refl
@@ -87,19 +88,22 @@ adds (Setting p l) (Open j) h = opened j.opening j.limit j.entries h.entries
 adds (Open b) after h = by_open b after h.opening h.entries
 
 -- a line is answered, and its news is written
-pub answered : (before told after : ScriptView) (held holds : Option (List ℕ)) (saved : Option ℕ) (number : ℕ) (line : List ℕ)
-    (answer : Answer) → saved ≡ count_in before.stage → AnswersLine before number line answer told → after ≡ told
-    → Appends held holds (news saved told.stage)
-    → AnswersSaved (record { script = before; holds = held }) number line answer (record { script = after; holds = holds })
-answered before told after held holds saved number line answer count h same p =
+pub answered : (before told mid after : ScriptView) (held holds : Option (List ℕ)) (stops still : Bool) (saved : Option ℕ) (number : ℕ)
+    (line : List ℕ) (first answer : Answer) → saved ≡ count_in before.stage → AnswersLine before number line first told → mid ≡ told
+    → after ≡ mid → Appends held holds (news saved told.stage) → answer ≡ answer_where stops first → still ≡ stops
+    → AnswersSaved (record { script = before; holds = held; stops = stops }) number line answer
+    (record { script = after; holds = holds; stops = still })
+answered before told mid after held holds stops still saved number line first answer count h same then_same p is_answer on =
     let text = saved_text before.stage in
-    let grows = adds before.stage told.stage (goes_on before told number line answer h)
+    let grows = adds before.stage told.stage (goes_on before told number line first h)
     ∙ ap (λ (s : Option ℕ). text ++ news s told.stage) (sym count) in
+    let all_same = then_same ∙ same in
     (
-      subst (λ (v : ScriptView). AnswersLine before number line answer v) (sym same) h,
+      (first, subst (λ (v : ScriptView). AnswersLine before number line first v) (sym all_same) h, is_answer),
       (
         news saved told.stage,
-        subst (λ (v : ScriptView). saved_text v.stage ≡ text ++ news saved told.stage) (sym same) grows,
+        subst (λ (v : ScriptView). saved_text v.stage ≡ text ++ news saved told.stage) (sym all_same) grows,
         p,
       ),
+      on,
     )

@@ -5,10 +5,11 @@ ghost use Rattle.std.specs.Io.KnownBytes.{Appends};
 ghost use Rattle.operator_cmds.specs.State.{script_of};
 ghost use Rattle.script_runs.specs.News as spec;
 ghost use Rattle.script_runs.specs.Running.{IsSaved, IsSavedInPart};
+ghost use Rattle.script_runs.specs.Stopping as stopping;
 
 use history_file::{write_entry, write_opening};
 use line_protocol::{Reply, Service, StreamFault, answer_lines, write_text};
-use operator_cmds::{Script, ScriptFault};
+use operator_cmds::{Script, ScriptFault, Watch};
 use route_history::{Journal, LARGEST_LIMIT};
 use std::alloc::{AllocError, Global};
 use std::io::{Read, Write};
@@ -74,23 +75,27 @@ fn unsaved(alloc: Global, script: &Script, saved: Option<usize>) -> Result<Vec<u
     Ok(text)
 }
 
-/// A script and where its history is saved.
+/// A script, where its history is saved, and who watches it.
 #[derive(Drop)]
-struct Saving<V: Write + Drop> {
+struct Saving<V: Write + Drop, S: Watch + Drop> {
     /// The script.
     script: Script,
     /// Where its history is saved.
     saver: V,
     /// The saver failed.
     is_broken: bool,
+    /// Who is shown each line that is refused.
+    watcher: S,
+    /// The script ends at its first refused line.
+    stops: bool,
 }
 
-impl<V: Write + Drop> Service for Saving<V> {
+impl<V: Write + Drop, S: Watch + Drop> Service for Saving<V, S> {
     ghost use Rattle.script_runs.specs.Saved.{AnswersSaved};
 
     ghost answers = { λ before number line answer after. AnswersSaved
-        (record { script = script_of before.script; holds = V.contents before.saver }) number line answer
-        (record { script = script_of after.script; holds = V.contents after.saver }) };
+        (record { script = script_of before.script; holds = V.contents before.saver; stops = before.stops }) number line answer
+        (record { script = script_of after.script; holds = V.contents after.saver; stops = after.stops }) };
 
     fn answer(
         &mut self,
@@ -102,14 +107,30 @@ impl<V: Write + Drop> Service for Saving<V> {
         let saved = count_entries(&self.script);
         let reply = self.script.answer(alloc, number, line, out)?;
         self.save(alloc, saved)?;
-        Ok(reply)
+        Ok(self.end(alloc, number, line, reply))
     }
 }
 
-impl<V: Write + Drop> Saving<V> {
+impl<V: Write + Drop, S: Watch + Drop> Saving<V, S> {
+    /// Shows a line that is refused to who watches, and makes it the last one where the script ends there.
+    fn end(&mut self, alloc: Global, number: u32, line: &[u8], reply: Reply) -> Reply
+        ensures script { script_of self.new.script ≡ script_of self.old.script }
+        ensures saver { self.new.saver ≡ self.old.saver }
+        ensures stops { self.new.stops ≡ self.old.stops }
+        ensures reply { result ≡ stopping.reply_where self.old.stops reply }
+    {
+        if reply != Reply::Refused {
+            return reply;
+        }
+        self.watcher
+            .see_refused(alloc, number, line, self.script.size());
+        if self.stops { Reply::Ended } else { reply }
+    }
+
     /// Saves what is not saved of the history, of which so many entries are.
     fn save(&mut self, alloc: Global, saved: Option<usize>) -> Result<(), AllocError>
         ensures script { script_of self.new.script ≡ script_of self.old.script }
+        ensures stops { self.new.stops ≡ self.old.stops }
         ensures ok { OnOk result (Appends (V.contents self.old.saver) (V.contents self.new.saver)
             (spec.news saved (script_of self.old.script).stage)) }
     {
@@ -132,6 +153,8 @@ impl<V: Write + Drop> Saving<V> {
             script: _script,
             saver,
             is_broken,
+            watcher: _watcher,
+            stops: _stops,
         } = self;
         (told_end(ended, is_broken), saver)
     }
@@ -147,28 +170,34 @@ fn told_end(ended: Result<u32, ScriptFault>, is_broken: bool) -> Result<u32, Scr
     }
 }
 
-/// Does what `run_script` does, and saves the script's history as it is made: the opening's line when the first event opens the
-/// journal, then the line of each entry, written and flushed before the answer to its line is written. Gives the saver back.
+/// Does what `run_script` does, shows each line that is refused to who watches, and saves the script's history as it is made: the
+/// opening's line when the first event opens the journal, then the line of each entry, written and flushed before the answer to its line
+/// is written. Where `stops` says so, the script ends at its first refused line: that line is answered, and none that follows. Gives
+/// the saver back.
 ///
 /// A write to the saver that fails is E2, and the line whose entry it was is not answered.
-pub fn run_saved_script<R: Read, W: Write, V: Write + Drop>(
+pub fn run_saved_script<R: Read, W: Write, V: Write + Drop, S: Watch + Drop>(
     alloc: Global,
     reader: &mut R,
     writer: &mut W,
     saver: V,
+    watcher: S,
+    stops: bool,
 ) -> (Result<u32, ScriptFault>, V)
-    // The answers are those of `run_script`, and what was saved is the text of the whole history.
+    // The answers are those of `run_script`, up to the one that ends it, and what was saved is the text of the whole history.
     ensures finished { IfOk result.0 (λ refused. IfSome (R.remaining reader.old) (λ input.
-        IsSaved input (R.remaining reader.new) (W.contents writer.old) (W.contents writer.new) refused
+        IsSaved stops input (R.remaining reader.new) (W.contents writer.old) (W.contents writer.new) refused
         (V.contents saver) (V.contents result.1))) }
     ensures broken_off { IfErr result.0 (λ fault. IfSome (R.remaining reader.old) (λ input.
-        IsSavedInPart fault input (R.remaining reader.new) (W.contents writer.old) (W.contents writer.new)
+        IsSavedInPart fault stops input (R.remaining reader.new) (W.contents writer.old) (W.contents writer.new)
         (V.contents saver) (V.contents result.1))) }
 {
     let mut service = Saving {
         script: Script::new(alloc),
         saver,
         is_broken: false,
+        watcher,
+        stops,
     };
     let ended = answer_lines(alloc, reader, writer, &mut service);
     service.finish(ended)

@@ -18,10 +18,10 @@ returns-clause-finished g c =
     let keeps = g.V.Write.contents after.saver in
     let ended = IfOk-weaker c.answer_lines-ended.result _ _
     (λ n h. if_known known
-    (λ input f. ends (record { script = script_of c.new.result; holds = kept }) (record { script = script_of after.script; holds = keeps })
+    (λ input f. ends (record { script = script_of c.new.result; holds = kept; stops = c.args.stops }) (record { script = script_of after.script; holds = keeps; stops = after.stops })
     input left held holds n c.new.ensures
-    (finishes (λ s. record { script = script_of s.script; holds = g.V.Write.contents s.saver }) AnswersSaved
-    (record { script = c.new.result; saver = c.args.saver; is_broken = false }) after input left held holds n f)) h)
+    (finishes (λ s. record { script = script_of s.script; holds = g.V.Write.contents s.saver; stops = s.stops }) AnswersSaved
+    (record { script = c.new.result; saver = c.args.saver; is_broken = false; watcher = c.args.watcher; stops = c.args.stops }) after input left held holds n f)) h)
     c.answer_lines-ended.ensures.ok in
     rw c.finish.ensures.saver (told_ok _ c.answer_lines-ended.result c.finish.result.0 c.finish.ensures.told ended)
 
@@ -36,10 +36,10 @@ returns-clause-broken_off g c =
     let keeps = g.V.Write.contents after.saver in
     let ended = IfErr-weaker c.answer_lines-ended.result _ _
     (λ fault h. if_known known
-    (λ input f. breaks fault (record { script = script_of c.new.result; holds = kept }) (record { script = script_of after.script; holds = keeps })
+    (λ input f. breaks fault (record { script = script_of c.new.result; holds = kept; stops = c.args.stops }) (record { script = script_of after.script; holds = keeps; stops = after.stops })
     input left held holds c.new.ensures
-    (stops (λ s. record { script = script_of s.script; holds = g.V.Write.contents s.saver }) AnswersSaved fault
-    (record { script = c.new.result; saver = c.args.saver; is_broken = false }) after input left held holds f)) h)
+    (stops (λ s. record { script = script_of s.script; holds = g.V.Write.contents s.saver; stops = s.stops }) AnswersSaved fault
+    (record { script = c.new.result; saver = c.args.saver; is_broken = false; watcher = c.args.watcher; stops = c.args.stops }) after input left held holds f)) h)
     c.answer_lines-ended.ensures.err in
     rw c.finish.ensures.saver
-    (told_err known left held holds kept keeps c.answer_lines-ended.result c.finish.result.0 c.finish.ensures.told ended)
+    (told_err c.args.stops known left held holds kept keeps c.answer_lines-ended.result c.finish.result.0 c.finish.ensures.told ended)
