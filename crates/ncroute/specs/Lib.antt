@@ -1,3 +1,4 @@
+pub mod Guiding
 pub mod Helping
 pub mod Networking
 pub mod Reading

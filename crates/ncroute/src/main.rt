@@ -3,6 +3,7 @@
 #![tactic(auto)]
 
 mod aid;
+mod guided;
 mod network;
 mod replay;
 mod respond;
