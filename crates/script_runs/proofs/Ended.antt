@@ -1,10 +1,11 @@
 -- How a run ends, and what is saved by then, follows from how each line was answered.
 use Rattle.std.proofs.Common.{◌≡◌, ℕ, Bool, true, false, List, [], ◌∷◌, ◌++◌, Option, Some, None, Result, Ok, Err, IfOk, IfErr, IfSome, refl, sym, ap, subst, ◌∙◌, append_assoc, append-nil, inl, inr}
-use Rattle.std.specs.Prelude.{MatchBool}
+use Rattle.std.specs.Prelude.{MatchBool, ⊤}
 use Rattle.std.proofs.KnownBytes.{Appends-nil, Appends-trans}
 use Rattle.std.specs.Io.KnownBytes.{Appends}
 use Rattle.line_protocol.specs.Answers.{Answer, is_end, text_of}
 use Rattle.line_protocol.specs.Lines.{numbered}
+use Rattle.line_protocol.specs.Limits.{input_limit}
 use Rattle.line_protocol.specs.Runs.{Finishes, Reaches, Runs, RunsFront, Stops}
 use Rattle.line_protocol.specs.declared.faults.StreamFault.{StreamFault}
 use Rattle.line_protocol.specs.declared.faults.StreamFault.TheVariants.{Read, Write, Memory, TooLong}
@@ -63,9 +64,9 @@ all_saved s after e (more, text, p) =
     subst (Appends s.holds after.holds) (sym (text ∙ ap (λ (v : ScriptView). saved_text v.stage ++ more) e)) p
 
 pub ends : (s after : SavedView) (input : List ℕ) (left held holds : Option (List ℕ)) (n : ℕ) → s.script ≡ fresh
-    → Finishes AnswersSaved s after input left held holds n → IsSaved s.stops input left held holds n s.holds after.holds
+    → Finishes AnswersSaved input_limit s after input left held holds n → IsSaved s.stops input left held holds n s.holds after.holds
 ends s after input left held holds n e f =
-    let seen : Finishes (AnswersStopping s.stops) s.script after.script input left held holds n =
+    let seen : Finishes (AnswersStopping s.stops) input_limit s.script after.script input left held holds n =
     record {
       given = f.given;
       run = whole s (numbered input) f.given after f.run;
@@ -78,20 +79,20 @@ ends s after input left held holds n e f =
     } in
     record {
       after = after.script;
-      finishes = subst (λ (v : ScriptView). Finishes (AnswersStopping s.stops) v after.script input left held holds n) e seen;
+      finishes = subst (λ (v : ScriptView). Finishes (AnswersStopping s.stops) input_limit v after.script input left held holds n) e seen;
       saved = all_saved s after e (saves s (numbered input) f.given after f.run);
     }
 
 reaches : (fault : StreamFault) (s now : SavedView) (read : List ℕ) (given : List Answer) (after : SavedView)
-    → Reaches AnswersSaved fault s now read given after
-    → Reaches (AnswersStopping s.stops) fault s.script now.script read given after.script
+    → Reaches AnswersSaved (λ _ _. ⊤) input_limit fault s now read given after
+    → Reaches (AnswersStopping s.stops) (λ _ _. ⊤) input_limit fault s.script now.script read given after.script
 reaches Read s now read given after h = (ap (λ (v : SavedView). v.script) h.0, whole s _ given after h.1)
-reaches Write s now read given after h = tt
-reaches Memory s now read given after h = tt
+reaches Write s now read given after h = inr tt
+reaches Memory s now read given after h = inr tt
 reaches TooLong s now read given after h = (h.0, ap (λ (v : SavedView). v.script) h.1, whole s _ given after h.2)
 
 until : (fault : StreamFault) (s now : SavedView) (read : List ℕ) (given : List Answer) (after : SavedView) → s.script ≡ fresh
-    → Reaches AnswersSaved fault s now read given after → IsSavedUntil fault s.holds now.holds (saved_text now.script.stage)
+    → Reaches AnswersSaved (λ _ _. ⊤) input_limit fault s now read given after → IsSavedUntil fault s.holds now.holds (saved_text now.script.stage)
 until Read s now read given after e h =
     all_saved s now e (subst (SavesMore s) (sym h.0) (saves s _ given after h.1))
 until Write s now read given after e h = tt
@@ -100,9 +101,9 @@ until TooLong s now read given after e h =
     all_saved s now e (subst (SavesMore s) (sym h.1) (saves s _ given after h.2))
 
 pub breaks : (fault : StreamFault) (s now : SavedView) (input : List ℕ) (left held holds : Option (List ℕ)) → s.script ≡ fresh
-    → Stops AnswersSaved fault s now input left held holds → IsSavedInPart fault s.stops input left held holds s.holds now.holds
+    → Stops AnswersSaved (λ _ _. ⊤) input_limit fault s now input left held holds → IsSavedInPart fault s.stops input left held holds s.holds now.holds
 breaks fault s now input left held holds e f =
-    let seen : Stops (AnswersStopping s.stops) fault s.script now.script input left held holds =
+    let seen : Stops (AnswersStopping s.stops) (λ _ _. ⊤) input_limit fault s.script now.script input left held holds =
     record {
       given = f.given;
       after = f.after.script;
@@ -114,7 +115,7 @@ breaks fault s now input left held holds e f =
     } in
     record {
       after = now.script;
-      broken_off = subst (λ (v : ScriptView). Stops (AnswersStopping s.stops) fault v now.script input left held holds) e seen;
+      broken_off = subst (λ (v : ScriptView). Stops (AnswersStopping s.stops) (λ _ _. ⊤) input_limit fault v now.script input left held holds) e seen;
       saved = until fault s now f.read f.given f.after e f.reach;
     }
 
@@ -133,7 +134,7 @@ failed_write stops input left held holds kept keeps h =
         written = (text, [], sym (append-nil text), f.written);
         read = f.read;
         consumed = f.consumed;
-        reach = tt;
+        reach = inr tt;
       };
       saved = tt;
     }

@@ -1,6 +1,7 @@
 -- How a script whose history is saved goes and ends. (This project's own choice.)
 use Rattle.std.specs.Prelude.{ℕ, Bool, List, Option, ⊤}
 use Rattle.std.specs.Io.KnownBytes.{Appends}
+use Rattle.line_protocol.specs.Limits.{input_limit}
 use Rattle.line_protocol.specs.Runs.{Finishes, Stops}
 use Rattle.line_protocol.specs.declared.faults.StreamFault.{StreamFault}
 use Rattle.line_protocol.specs.declared.faults.StreamFault.TheVariants.{Read, Write, Memory, TooLong}
@@ -14,7 +15,7 @@ use Rattle.script_runs.specs.Stopping.{AnswersStopping}
 pub record IsSaved (stops : Bool) (input : List ℕ) (left held holds : Option (List ℕ)) (refused : ℕ) (kept keeps : Option (List ℕ))
     : Type 0 where
   pub after : ScriptView
-  pub finishes : Finishes (AnswersStopping stops) fresh after input left held holds refused
+  pub finishes : Finishes (AnswersStopping stops) input_limit fresh after input left held holds refused
   pub saved : Appends kept keeps (saved_text after.stage)
 
 -- What a saver got of a text where a fault ended the script: all of it where the input could not be read or is too long. Of what it
@@ -29,5 +30,5 @@ IsSavedUntil Memory kept keeps text = ⊤
 pub record IsSavedInPart (fault : StreamFault) (stops : Bool) (input : List ℕ) (left held holds kept keeps : Option (List ℕ))
     : Type 0 where
   pub after : ScriptView
-  pub broken_off : Stops (AnswersStopping stops) fault fresh after input left held holds
+  pub broken_off : Stops (AnswersStopping stops) (λ _ _. ⊤) input_limit fault fresh after input left held holds
   pub saved : IsSavedUntil fault kept keeps (saved_text after.stage)

@@ -91,11 +91,14 @@ struct Saving<V: Write + Drop, S: Watch + Drop> {
 }
 
 impl<V: Write + Drop, S: Watch + Drop> Service for Saving<V, S> {
+    ghost use Rattle.std.specs.Prelude.{⊤};
     ghost use Rattle.script_runs.specs.Saved.{AnswersSaved};
 
     ghost answers = { λ before number line answer after. AnswersSaved
         (record { script = script_of before.script; holds = V.contents before.saver; stops = before.stops }) number line answer
         (record { script = script_of after.script; holds = V.contents after.saver; stops = after.stops }) };
+
+    ghost refuses = { λ _ _. ⊤ };
 
     fn answer(
         &mut self,
