@@ -30,8 +30,16 @@ fn filter_words(
     line: &[u8],
     size: Option<u16>,
 ) -> Option<Vec<u8>> {
-    let filter = refused_filter(alloc, line, size?)?;
-    explain_line(alloc, name, number, line, filter.source, &filter.told).ok()
+    let Some(size) = size else {
+        return None;
+    };
+    let Some(filter) = refused_filter(alloc, line, size) else {
+        return None;
+    };
+    match explain_line(alloc, name, number, line, filter.source, &filter.told) {
+        Ok(words) => Some(words),
+        Err(_) => None,
+    }
 }
 
 /// Tells people on `errors` why a filter is refused, and where the script ends.
