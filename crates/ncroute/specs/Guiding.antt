@@ -3,6 +3,7 @@ use Rattle.std.specs.Prelude.{◌≡◌, ◌⊎◌, ◌||◌, ℕ, List, Option,
 use Rattle.std.specs.Io.KnownBytes.{Appends}
 use Rattle.std.specs.declared.io.Error.{Error}
 use Rattle.std.specs.declared.string.String.{String}
+use Rattle.std.specs.declared.alloc.Global.{Global}
 use Rattle.filter_commands.specs.Evaluation.{IsCut}
 use Rattle.line_protocol.specs.Limits.{input_limit}
 use Rattle.line_protocol.specs.declared.faults.StreamFault.{StreamFault}
@@ -32,12 +33,12 @@ pub record StopsSaved (fault : StreamFault) (how : Running) (kept keeps : Option
 -- `creates name` says what may come of making a file of this name: what it holds at first, or why there is none.
 module _ (creates : List ℕ → Result (Option (List ℕ)) Error → Type 0) where
   -- a saver holds this at first: the file of this name, where there is one
-  abbrev pub IsSaver : Option String → Option (List ℕ) → Type 0
+  abbrev pub IsSaver : Option (String Global) → Option (List ℕ) → Type 0
   IsSaver None kept = ⊤
   IsSaver (Some name) kept = creates (string_bytes name) (Ok kept)
 
   -- there is no file of this name to save to, for which the reason has these words
-  abbrev pub IsUnmade : Option String → List ℕ → List ℕ → Type 0
+  abbrev pub IsUnmade : Option (String Global) → List ℕ → List ℕ → Type 0
   IsUnmade None name words = ⊥
   IsUnmade (Some saved) name words = (name ≡ string_bytes saved) × ((error : Error) × creates name (Err error))
 

@@ -124,7 +124,15 @@ pub fn guide_source<F: Folder, R: Read, W: Write, E: Write>(
         Source::File(_) => match read_source(files, alloc, source, INPUT_LIMIT, reader) {
             Ok(text) => {
                 let mut script = text.as_slice();
-                guide_script(files, alloc, how, name_of(source), &mut script, writer, errors)
+                guide_script(
+                    files,
+                    alloc,
+                    how,
+                    name_of(source),
+                    &mut script,
+                    writer,
+                    errors,
+                )
             }
             Err(why) => {
                 tell_unread(alloc, errors, source, why)?;

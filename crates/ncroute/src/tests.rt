@@ -163,7 +163,10 @@ fn reads_words_of_histories(rt: HostRuntime) -> Result<(), Fail> {
     });
     assert_eq!(&rt; request_of(&rt, rt.alloc(), words, NO_TERMINAL)?, want);
     let words: &[&str] = &["ncroute", "run", "--save"];
-    assert_eq!(&rt; request_of(&rt, rt.alloc(), words, NO_TERMINAL)?, Words::Shown(2));
+    assert_eq!(&rt;
+        request_of(&rt, rt.alloc(), words, NO_TERMINAL)?,
+        Words::Shown(2)
+    );
     Ok(())
 }
 
@@ -616,11 +619,41 @@ fn scripts_end_where_they_are_to(rt: HostRuntime) -> Result<(), Fail> {
     let told = format!(in rt.alloc(); "script:2: {stop}")?;
     let typed = format!(in rt.alloc(); "<stdin>:1: {stop}")?;
     let rows: [(&[&str], &str, &str, &str, u8); 6] = [
-        (&["ncroute", "run", "--stop", "script"], "", "ok\nrefused N3 0\n", told.as_str(), 1),
-        (&["ncroute", "run", "--stop"], "up 1\nup 1\n", "refused O4 1\n", typed.as_str(), 1),
-        (&["ncroute", "run", "--stop"], "network 4 0\n", "ok\n", "", 0),
-        (&["ncroute", "run", "--save", "new", "script"], "", "ok\nrefused N3 0\nroute 0 local\n", "", 1),
-        (&["ncroute", "run", "--save", "night", "script"], "", "", "night: File exists (E2)\n", 1),
+        (
+            &["ncroute", "run", "--stop", "script"],
+            "",
+            "ok\nrefused N3 0\n",
+            told.as_str(),
+            1,
+        ),
+        (
+            &["ncroute", "run", "--stop"],
+            "up 1\nup 1\n",
+            "refused O4 1\n",
+            typed.as_str(),
+            1,
+        ),
+        (
+            &["ncroute", "run", "--stop"],
+            "network 4 0\n",
+            "ok\n",
+            "",
+            0,
+        ),
+        (
+            &["ncroute", "run", "--save", "new", "script"],
+            "",
+            "ok\nrefused N3 0\nroute 0 local\n",
+            "",
+            1,
+        ),
+        (
+            &["ncroute", "run", "--save", "night", "script"],
+            "",
+            "",
+            "night: File exists (E2)\n",
+            1,
+        ),
         (
             &["ncroute", "run", "--save", "new", "no"],
             "",
@@ -630,7 +663,10 @@ fn scripts_end_where_they_are_to(rt: HostRuntime) -> Result<(), Fail> {
         ),
     ];
     for (words, input, output, told, status) in rows {
-        assert_eq!(&rt; said_by(&rt, words, input)?, wanted(&rt, output, told, status)?);
+        assert_eq!(&rt;
+            said_by(&rt, words, input)?,
+            wanted(&rt, output, told, status)?
+        );
     }
     Ok(())
 }

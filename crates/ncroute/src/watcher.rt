@@ -16,16 +16,29 @@ pub struct Teller<'a, E: Write> {
 
 impl<'a, E: Write> Watch for Teller<'a, E> {
     fn see_refused(&mut self, alloc: Global, number: u32, line: &[u8], size: Option<u16>) {
-        let Some(size) = size else {
-            return;
-        };
-        let Some(filter) = refused_filter(alloc, line, size) else {
-            return;
-        };
-        let explained = explain_line(alloc, self.name, number, line, filter.source, &filter.told);
-        if let Ok(words) = explained {
+        if let Some(words) = filter_words(alloc, self.name, number, line, size) {
             let _ = write_text(self.errors, words.as_slice());
         }
+    }
+}
+
+/// Why the filter that a line gives is refused, if it gives one that is. `None` also where memory is refused.
+fn filter_words(
+    alloc: Global,
+    name: &[u8],
+    number: u32,
+    line: &[u8],
+    size: Option<u16>,
+) -> Option<Vec<u8>> {
+    let Some(size) = size else {
+        return None;
+    };
+    let Some(filter) = refused_filter(alloc, line, size) else {
+        return None;
+    };
+    match explain_line(alloc, name, number, line, filter.source, &filter.told) {
+        Ok(words) => Some(words),
+        Err(_) => None,
     }
 }
 
@@ -45,11 +58,9 @@ pub struct Guide<'a, E: Write> {
 impl<'a, E: Write> Watch for Guide<'a, E> {
     fn see_refused(&mut self, alloc: Global, number: u32, line: &[u8], size: Option<u16>) {
         if self.is_explained {
-            let mut teller = Teller {
-                name: self.name,
-                errors: &mut *self.errors,
-            };
-            teller.see_refused(alloc, number, line, size);
+            if let Some(words) = filter_words(alloc, self.name, number, line, size) {
+                let _ = write_text(self.errors, words.as_slice());
+            }
         }
         if self.stops {
             if let Ok(words) = stopped_line(alloc, self.name, number) {

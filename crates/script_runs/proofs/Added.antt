@@ -97,8 +97,7 @@ answered before told mid after held holds stops still saved number line first an
     let text = saved_text before.stage in
     let grows = adds before.stage told.stage (goes_on before told number line first h)
     ∙ ap (λ (s : Option ℕ). text ++ news s told.stage) (sym count) in
-    let all_same = then_same ∙ same in
-    (
+    let all_same = then_same ∙ same in (
       (first, subst (λ (v : ScriptView). AnswersLine before number line first v) (sym all_same) h, is_answer),
       (
         news saved told.stage,

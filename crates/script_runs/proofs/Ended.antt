@@ -29,17 +29,23 @@ whole : (s : SavedView) (lines : List (ℕ × List ℕ)) (given : List Answer) (
 whole s [] [] after h = ap (λ (v : SavedView). v.script) h
 whole s [] (a ∷ more) after h = absurd h
 whole s (l ∷ ls) [] after h = absurd h
-whole s (l ∷ ls) (a ∷ more) after (mid, (told, saved, same), rest) =
-    (mid.script, told, both (is_end a.reply) _ _ _ _ (λ p. (p.0, ap (λ (v : SavedView). v.script) p.1)) 
-    (λ q. subst (λ (b : Bool). Runs (AnswersStopping b) mid.script ls more after.script) same (whole mid ls more after q)) rest)
+whole s (l ∷ ls) (a ∷ more) after (mid, (told, saved, same), rest) = (
+  mid.script,
+  told,
+  both (is_end a.reply) _ _ _ _ (λ p. (p.0, ap (λ (v : SavedView). v.script) p.1))
+      (λ q. subst (λ (b : Bool). Runs (AnswersStopping b) mid.script ls more after.script) same (whole mid ls more after q)) rest,
+)
 
 front : (s : SavedView) (lines : List (ℕ × List ℕ)) (given : List Answer) (after : SavedView)
     → RunsFront AnswersSaved s lines given after → RunsFront (AnswersStopping s.stops) s.script lines given after.script
 front s lines [] after h = ap (λ (v : SavedView). v.script) h
 front s [] (a ∷ more) after h = absurd h
-front s (l ∷ ls) (a ∷ more) after (mid, (told, saved, same), rest) =
-    (mid.script, told, both (is_end a.reply) _ _ _ _ (λ p. (p.0, ap (λ (v : SavedView). v.script) p.1)) 
-    (λ q. subst (λ (b : Bool). RunsFront (AnswersStopping b) mid.script ls more after.script) same (front mid ls more after q)) rest)
+front s (l ∷ ls) (a ∷ more) after (mid, (told, saved, same), rest) = (
+  mid.script,
+  told,
+  both (is_end a.reply) _ _ _ _ (λ p. (p.0, ap (λ (v : SavedView). v.script) p.1))
+      (λ q. subst (λ (b : Bool). RunsFront (AnswersStopping b) mid.script ls more after.script) same (front mid ls more after q)) rest,
+)
 
 nothing : (s : SavedView) → SavesMore s s
 nothing s = ([], sym (append-nil (saved_text s.script.stage)), Appends-nil s.holds)

@@ -26,7 +26,14 @@ fn saves_the_whole_history(rt: HostRuntime) {
     let alloc = rt.alloc();
     let mut reader = LINES;
     let mut writer = Vec::new(alloc);
-    let (result, saved) = run_saved_script(alloc, &mut reader, &mut writer, Vec::new(alloc), Nobody, false);
+    let (result, saved) = run_saved_script(
+        alloc,
+        &mut reader,
+        &mut writer,
+        Vec::new(alloc),
+        Nobody,
+        false,
+    );
     assert_eq!(&rt; result, Ok(4));
     assert_eq!(&rt; writer.as_slice(), ANSWERS);
     assert_eq!(&rt; saved.as_slice(), SAVED.as_bytes());
@@ -37,7 +44,14 @@ fn saves_nothing_before_the_first_event(rt: HostRuntime) {
     let alloc = rt.alloc();
     let mut reader: &[u8] = b"network 4 0\nroutes\nhistory 0\n";
     let mut writer = Vec::new(alloc);
-    let (result, saved) = run_saved_script(alloc, &mut reader, &mut writer, Vec::new(alloc), Nobody, false);
+    let (result, saved) = run_saved_script(
+        alloc,
+        &mut reader,
+        &mut writer,
+        Vec::new(alloc),
+        Nobody,
+        false,
+    );
     assert_eq!(&rt; result, Ok(0));
     assert!(&rt; saved.is_empty());
 }
@@ -50,7 +64,14 @@ fn answers_no_line_whose_entry_is_not_saved(rt: HostRuntime) {
         let mut reader = LINES;
         let mut writer = Vec::new(alloc);
         let saver = FailingWriter::new(alloc, room);
-        let (result, saved) = run_saved_script(alloc, &mut reader, &mut writer, saver, Nobody, false);
+        let (result, saved) = run_saved_script(
+            alloc,
+            &mut reader,
+            &mut writer,
+            saver,
+            Nobody,
+            false,
+        );
         assert_eq!(&rt; result, Err(ScriptFault::Write));
         assert!(&rt; ANSWERS.starts_with(writer.as_slice()));
         assert!(&rt; SAVED.as_bytes().starts_with(saved.text()));
@@ -63,7 +84,14 @@ fn saves_what_was_answered_before_a_read_fault(rt: HostRuntime) {
     let alloc = rt.alloc();
     let mut reader = FailingReader::new(b"network 4 0 4\nup 1\nrec", ErrorKind::BrokenPipe);
     let mut writer = Vec::new(alloc);
-    let (result, saved) = run_saved_script(alloc, &mut reader, &mut writer, Vec::new(alloc), Nobody, false);
+    let (result, saved) = run_saved_script(
+        alloc,
+        &mut reader,
+        &mut writer,
+        Vec::new(alloc),
+        Nobody,
+        false,
+    );
     assert_eq!(&rt; result, Err(ScriptFault::Read));
     assert_eq!(&rt; writer.as_slice(), b"ok\nopened 1\n".as_slice());
     assert_eq!(&rt; saved.as_slice(), &SAVED.as_bytes()[..75]);
@@ -75,8 +103,14 @@ fn stops_at_the_first_refused_line(rt: HostRuntime) {
     let alloc = rt.alloc();
     let mut reader = LINES;
     let mut writer = Vec::new(alloc);
-    let (result, saved) =
-        run_saved_script(alloc, &mut reader, &mut writer, Vec::new(alloc), Nobody, true);
+    let (result, saved) = run_saved_script(
+        alloc,
+        &mut reader,
+        &mut writer,
+        Vec::new(alloc),
+        Nobody,
+        true,
+    );
     assert_eq!(&rt; result, Ok(1));
     assert_eq!(&rt; writer.as_slice(), &ANSWERS[..55]);
     assert!(&rt; writer.as_slice().ends_with(b"\nrefused N1 2\n"));

@@ -12,8 +12,7 @@ returns-clause-ok g c =
     let (text, grown, told) = c.in_ok-reply.ensures.ok in
     let before = c.args.self.now in
     let saved = c.save.new.self in
-    let after = c.end.new.self in
-    (
+    let after = c.end.new.self in (
       text,
       grown,
       answered (script_of before.script) (script_of c.answer.new.self) (script_of saved.script) (script_of after.script)
@@ -22,6 +21,6 @@ returns-clause-ok g c =
           c.count_entries-saved.ensures told c.save.ensures.script c.end.ensures.script
           (rw c.end.ensures.saver c.in_ok-save.ensures.ok)
           (ap (λ (r : Reply). record { text = text; reply = r })
-              (c.end.ensures.reply ∙ ap (λ (b : Bool). reply_where b c.in_ok-reply.reply) c.save.ensures.stops))
+          (c.end.ensures.reply ∙ ap (λ (b : Bool). reply_where b c.in_ok-reply.reply) c.save.ensures.stops))
           (c.end.ensures.stops ∙ c.save.ensures.stops),
     )
