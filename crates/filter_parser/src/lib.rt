@@ -20,6 +20,6 @@ pub use expected::Expected;
 pub use fault::{ParseFault, TEXT_LIMIT};
 pub use text::parse;
 pub use tree::{
-    Attribute, Command, Decl, Expr, Filter, Kind, MaskLength, Membership, Op, Set, SetPattern,
-    Suffix, Target,
+    Attribute, Command, Decl, Expr, Filter, Kind, Label, MaskLength, Members, Membership, Op, Set,
+    SetPattern, SetRange, Suffix, Target,
 };
