@@ -41,6 +41,8 @@ pub enum Expected {
     LeftBrace,
     /// A command, a number or `else`, with which a part of `case` begins, or the `}` that ends the parts.
     CommandOrPart,
+    /// A command, a number, or the `}` that ends the parts of a `case`, where its `else` part was.
+    CommandOrRange,
     /// A `,` or a `:` after a range of a label.
     CommaOrColon,
     /// The `:` after `else`.
@@ -78,7 +80,8 @@ impl fmt::Display for Expected {
             Expected::Attribute => "`net` or `rip_metric`",
             Expected::Member => "a number or a prefix",
             Expected::LeftBrace => "`{`",
-            Expected::CommandOrPart => "a command, a part or `}`",
+            Expected::CommandOrPart => "a command, a number, `else` or `}`",
+            Expected::CommandOrRange => "a command, a number or `}`",
             Expected::CommaOrColon => "`,` or `:`",
             Expected::Colon => "`:`",
             Expected::Prefix => "a prefix",
