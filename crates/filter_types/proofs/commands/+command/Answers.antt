@@ -1,4 +1,4 @@
-use Rattle.std.proofs.Common.{◌≡◌, ℕ, map, sym, ap, subst, ◌∙◌, arith}
+use Rattle.std.proofs.Common.{◌≡◌, map, sym, ap, subst, ◌∙◌, arith}
 use Rattle.std.proofs.lemmas.List.{take_all}
 use Rattle.std.proofs.lemmas.Result.{err_from_is_err_and}
 use Rattle.filter_parser.specs.Syntax.{view}
@@ -33,14 +33,6 @@ check_parts-returns-then-number-shared t c _ fit =
     let same : c.loop-number.number ≡ c.in_ok-shared.shared = c.if-number-shared.true in
     c.in_ok-shared.ensures.most (omega (arith, same, c.loop-number-test.true))
     (some_apart c.args.parts.now _ (omega (arith, same, c.loop-number-test.true)) fit.0)
-
-pub check_parts-check_commands-requires : goal.check_parts-check_commands-requires
-check_parts-check_commands-requires t c =
-    let one : ℕ = c.decreases in
-    let two : ℕ = goal.the-decreases-check_commands in
-    let three : ℕ = goal.the-decreases-check_parts in
-    let four : ℕ = goal.size-check_commands in
-    let five : ℕ = c.deref.ensures.value in ?
 
 pub check_parts-returns-in_err-check_commands : goal.check_parts-returns-in_err-check_commands
 check_parts-returns-in_err-check_commands t c =
