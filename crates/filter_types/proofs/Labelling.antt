@@ -5,7 +5,7 @@ use Rattle.std.proofs.Math.ListN.{get_or-map}
 use Rattle.std.proofs.lemmas.Bool.{cases_order}
 use Rattle.std.proofs.lemmas.List as lists
 use Rattle.std.proofs.lemmas.List.Elements.{All-contains, Contains-append_cases, Contains-append_left, Contains-append_right, Contains-get_or}
-use Rattle.std.specs.List.{All, AllPairs, Any, Contains}
+use Rattle.std.specs.List.{All, Contains}
 use Rattle.int_sets.specs.Holding.{NumberRange, Holds, HoldsAny}
 use Rattle.filter_parser.specs.Syntax.{range_of, view_range}
 use Rattle.filter_parser.specs.SyntaxCommands.{view_label}
@@ -166,10 +166,10 @@ ranges_apart count labels within all k d inside i e bound low below differ numbe
     let of_x = found 0 labels x (Contains-get_or xs k d inside) in
     let of_y = found 0 labels y (Contains-get_or xs i e bound) in
     by_case x y of_x of_y low below differ holds_x holds_y (cases_order x.label y.label) where
-  by_case : (x y : Labelled) → IsOf 0 labels x → IsOf 0 labels y → x.label < count → y.label < count → (x.label ≡ y.label → ⊥)
-      → Holds number x.range → Holds number y.range → (x.label ≡ y.label) ⊎ ((x.label < y.label) ⊎ (y.label < x.label)) → ⊥
-  by_case x y of_x of_y low below differ holds_x holds_y (inl same) = differ same
-  by_case x y of_x of_y low below differ holds_x holds_y (inr (inl before)) =
-      in_order_apart count labels x y within all of_x of_y before below number holds_x holds_y
-  by_case x y of_x of_y low below differ holds_x holds_y (inr (inr after)) =
-      in_order_apart count labels y x within all of_y of_x after low number holds_y holds_x
+      by_case : (x y : Labelled) → IsOf 0 labels x → IsOf 0 labels y → x.label < count → y.label < count → (x.label ≡ y.label → ⊥)
+          → Holds number x.range → Holds number y.range → (x.label ≡ y.label) ⊎ ((x.label < y.label) ⊎ (y.label < x.label)) → ⊥
+      by_case x y of_x of_y low below differ holds_x holds_y (inl same) = differ same
+      by_case x y of_x of_y low below differ holds_x holds_y (inr (inl before)) =
+          in_order_apart count labels x y within all of_x of_y before below number holds_x holds_y
+      by_case x y of_x of_y low below differ holds_x holds_y (inr (inr after)) =
+          in_order_apart count labels y x within all of_y of_x after low number holds_y holds_x

@@ -1,4 +1,4 @@
-use Rattle.std.proofs.Common.{◌≡◌, map, sym, ap, subst, ◌∙◌, arith}
+use Rattle.std.proofs.Common.{◌≡◌, map, subst, arith}
 use Rattle.std.proofs.lemmas.List.{take_all}
 use Rattle.std.proofs.lemmas.Result.{err_from_is_err_and}
 use Rattle.filter_parser.specs.Syntax.{view}
@@ -50,8 +50,7 @@ check_parts-loop-number-preserved t c = (
 
 pub check_parts-returns : goal.check_parts-returns
 check_parts-returns t c =
-    let parts = c.args.parts.now in
-    (
+    let parts = c.args.parts.now in (
       all_apart parts c.in_ok-shared.shared (omega (arith, c.loop-number-test.false, c.loop-number.invariant.1)) c.in_ok-shared.ensures.apart,
       subst (λ xs. KindsFitParts (map view_decl c.args.variables.now) (parts_of (map view_part xs)))
           (take_all c.loop-number.number parts (omega (arith, c.loop-number-test.false))) c.loop-number.invariant.0,
