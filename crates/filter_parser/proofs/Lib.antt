@@ -11,7 +11,9 @@ pub mod Decls
 pub mod FilterLaws
 pub mod Joined
 pub mod Operators
+pub mod Parts
 pub mod Placing
+pub mod Ranges
 pub mod Rows
 pub mod Sound
 pub mod SoundSets
