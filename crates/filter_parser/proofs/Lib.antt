@@ -1,4 +1,5 @@
 pub mod Bodies
+pub mod CaseParts
 pub mod Chains
 pub mod CommandsComplete
 pub mod CommandsSound
@@ -11,7 +12,6 @@ pub mod Decls
 pub mod FilterLaws
 pub mod Joined
 pub mod Operators
-pub mod Parts
 pub mod Placing
 pub mod Ranges
 pub mod Rows
