@@ -29,7 +29,7 @@ fn sets(alloc: Global) -> Result<Vec<PatternSet>, Fail> {
 /// The code of these instructions, with two local variables and that set.
 fn code(alloc: Global, instrs: &[Instr]) -> Result<Code, Fail> {
     let instrs = instrs.to_vec(alloc)?;
-    Ok(Code::new(2, sets(alloc)?, instrs).ok_or("a code within the limits")?)
+    Ok(Code::new(2, sets(alloc)?, Vec::new(alloc), instrs).ok_or("a code within the limits")?)
 }
 
 fn outcome_on(alloc: Global, instrs: &[Instr], metric: u32) -> Result<Outcome, Fail> {
@@ -345,7 +345,7 @@ fn a_code_is_read_back(rt: HostRuntime) -> Result<(), Fail> {
 /// Whether there is a code of these instructions, with so many local variables and no sets.
 fn is_code(alloc: Global, locals: u8, instrs: &[Instr]) -> Result<bool, Fail> {
     let instrs = instrs.to_vec(alloc)?;
-    Ok(Code::new(locals, Vec::new(alloc), instrs).is_some())
+    Ok(Code::new(locals, Vec::new(alloc), Vec::new(alloc), instrs).is_some())
 }
 
 #[test]
@@ -365,7 +365,7 @@ fn a_code_has_at_most_64_sets(rt: HostRuntime) -> Result<(), Fail> {
     for _ in 0..65 {
         sets.push(PatternSet::build(rt.alloc(), &[])?)?;
     }
-    assert!(rt; Code::new(0, sets, Vec::new(rt.alloc())).is_none());
+    assert!(rt; Code::new(0, sets, Vec::new(rt.alloc()), Vec::new(rt.alloc())).is_none());
     Ok(())
 }
 

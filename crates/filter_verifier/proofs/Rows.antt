@@ -12,7 +12,7 @@ use Rattle.filter_verifier.specs.Bounds.{cost, peak}
 -- the fault of instructions with some local variables and without sets, in a domain of a size
 abbrev fault_of : ℕ → List Instr → ℕ → Option VerifyFault
 fault_of locals instrs size =
-    let program : CodeView = record { locals = locals; sets = []; instrs = instrs } in
+    let program : CodeView = record { locals = locals; sets = []; int_sets = []; instrs = instrs } in
     the_fault program size
 
 -- the metric raised by 2 is known to be at least the one received

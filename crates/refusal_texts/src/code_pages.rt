@@ -2,7 +2,7 @@
 use crate::page::Page;
 
 /// A page for each code.
-pub static CODE_PAGES: [Page; 24] = [
+pub static CODE_PAGES: [Page; 25] = [
     Page {
         code: "V1",
         text: "\
@@ -80,7 +80,7 @@ Take MAX of RECEIVED and the number before SETMETRIC. The code of a filter does.
     Page {
         code: "V7",
         text: "\
-V7: a local variable or a set that the code does not have
+V7: a local variable, a set of patterns or a set of ints that the code does not have
 Place: the instruction
 
     $ echo 4e43463100000002100070 | ncroute check --size 16 --code | tail -n 1
@@ -198,7 +198,7 @@ Run verified code only: `ncroute check --size N --code` refuses this one.
     Page {
         code: "K7",
         text: "\
-K7: the instruction names a local variable or a set that the code does not have
+K7: the instruction names a local variable, a set of patterns or a set of ints that the code does not have
 Place: the instruction
 
     $ printf '%s\\n' 4e43463100000002100070 '10.0.0.0/8 3 8' | ncroute eval
@@ -213,10 +213,10 @@ Run verified code only: `ncroute check --size N --code` refuses this one.
 C1: a byte of the mark is wrong
 Place: that byte
 
-    $ echo 4e434632 | ncroute check --size 16 --code
+    $ echo 4e434633 | ncroute check --size 16 --code
     refused C1 3
 
-A code file begins with 4e434631. Give the whole line that `ncroute check` wrote, without the word `code`.
+A code file begins with 4e434632, or with 4e434631 if it is of the older form. Give the whole line that `ncroute check` wrote, without the word `code`.
 ",
     },
     Page {
@@ -234,7 +234,7 @@ The line was cut. Give the whole line that `ncroute check` wrote, without the wo
     Page {
         code: "C3",
         text: "\
-C3: unknown opcode
+C3: unknown opcode; in a file of the older form, INSET
 Place: the opcode
 
     $ echo 4e4346310000000172 | ncroute check --size 16 --code
@@ -246,7 +246,7 @@ docs/MACHINE.md has the opcodes. Give the whole line that `ncroute check` wrote,
     Page {
         code: "C4",
         text: "\
-C4: invalid operand or pattern
+C4: invalid operand, pattern or range
 Place: its first byte
 
     $ echo 4e43463100000002020270 | ncroute check --size 16 --code
@@ -264,7 +264,8 @@ Place: the number's first byte
     $ echo 4e4346311100000170 | ncroute check --size 16 --code
     refused C5 4
 
-There are at most 16 local variables, 64 sets, 1,024 patterns in one and 1,024 instructions.
+There are at most 16 local variables, 64 sets of patterns, 1,024 patterns in one, 64 sets of ints, 1,024 ranges in
+one, and 1,024 instructions.
 ",
     },
     Page {
@@ -286,6 +287,18 @@ C7: memory was refused (`ncroute` answers E3 instead)
 Place: none, shown as 0
 
 Give the process more memory. `ncroute` answers E3 in its place.
+",
+    },
+    Page {
+        code: "C8",
+        text: "\
+C8: the code has a set of ints or an INSET, which the older form of code files has not
+Place: none, shown as 0
+
+    $ echo 4e4346320000010001000000020000000200051352006100017071 | ncroute rewrite --old
+    refused C8 0
+
+Keep the file as it is: only programs that read NCF1 alone need the older form.
 ",
     },
 ];

@@ -22,7 +22,7 @@ fn sets(alloc: Global) -> Result<Vec<PatternSet>, Fail> {
 /// The code of these instructions, with so many local variables and that set.
 fn code(alloc: Global, locals: u8, instrs: &[Instr]) -> Result<Code, Fail> {
     let instrs = instrs.to_vec(alloc)?;
-    Ok(Code::new(locals, sets(alloc)?, instrs).ok_or("a code within the limits")?)
+    Ok(Code::new(locals, sets(alloc)?, Vec::new(alloc), instrs).ok_or("a code within the limits")?)
 }
 
 /// What is said of verified code.
