@@ -11,14 +11,16 @@ use Rattle.prefix_patterns.specs.Matching.{PrefixPattern}
 use Rattle.filter_code.specs.declared.instruction.Instr.{Instr}
 use Rattle.filter_code.specs.declared.instruction.Instr.TheVariants as instr
 use Rattle.filter_code.specs.Limits.{local_limit, set_limit, instruction_limit}
-use Rattle.filter_code.specs.Table.{opcode}
+use Rattle.filter_code.specs.Table.{opcode, literal_of}
 use Rattle.filter_code.specs.CodeView.{CodeView}
-use Rattle.code_file.specs.Fields.{FieldKind, width, number, mark_bytes, is_good, is_prefix, form_of, forms}
-use Rattle.code_file.specs.Fields.FieldKind.{Mark, Locals, Sets, Patterns, Pattern, Instructions, Opcode, WordOperand}
+use Rattle.code_file.specs.declared.version.Version.{Version}
+use Rattle.code_file.specs.declared.version.Version.TheVariants as version
+use Rattle.code_file.specs.Fields.{FieldKind, width, number, mark_bytes, version_byte, versions, version_of, is_good, is_prefix, form_of, forms}
+use Rattle.code_file.specs.Fields.FieldKind.{Mark, VersionMark, Locals, Sets, Patterns, Pattern, Instructions, Opcode, WordOperand}
 use Rattle.code_file.specs.Fields.FieldKind.{TruthOperand, PrefixOperand, NameOperand, BitsOperand, SkipOperand}
-use Rattle.code_file.specs.Spelling.{Field, field, mark_byte, prefix_bytes, pattern, counted, set, operand, instruction, fields}
-use Rattle.code_file.specs.Spelling.{IsPattern, IsSet, IsInstruction, IsCode}
-use Rattle.code_file.specs.Reading.{Format, ◌>>=◌, a_number, prefix_of, a_pattern, a_count_of, a_set, an_operand, an_instruction, a_file}
+use Rattle.code_file.specs.Spelling.{Field, field, mark_byte, version_mark, prefix_bytes, pattern, counted, set, operand, instruction, fields}
+use Rattle.code_file.specs.Spelling.{IsPattern, IsSet, FitsField, IsInstruction, IsCodeIn}
+use Rattle.code_file.specs.Reading.{Format, ◌>>=◌, a_number, prefix_of, a_pattern, a_count_of, a_set, an_operand, an_instruction, a_version, a_code, a_file}
 use Rattle.code_file.specs.Reading.Format.{Done}
 use Rattle.code_file.proofs.Bytes.{GivesBytesBack, bytes_again_1, bytes_again_2, bytes_again_4}
 use Rattle.code_file.proofs.Formats.{Follows, AreBytes, follows_then, follows_both}
@@ -98,26 +100,26 @@ found_passes p [] form e = absurd cc
 found_passes p (i ∷ is) form e = found_here p i is form (p i) refl (found_passes p is form) e
 
 -- the form of a byte has that byte as its opcode
-opcode_of_form : (byte : ℕ) (form : Instr) → form_of byte ≡ Some form → opcode form ≡ byte
+opcode_of_form : (v : Version) (byte : ℕ) (form : Instr) → form_of v byte ≡ Some form → opcode form ≡ byte
 unfolding form_of
-opcode_of_form byte form e = eqb-true _ _ (found_passes (λ i. eqb (opcode i) byte) forms form e)
+opcode_of_form v byte form e = eqb-true _ _ (found_passes (λ i. eqb (opcode i) byte) (forms v) form e)
 
 -- a byte that is good for an opcode has a form
-record HasForm (byte : ℕ) : Type 0 where
+record HasForm (v : Version) (byte : ℕ) : Type 0 where
   form : Instr
-  is_form : form_of byte ≡ Some form
+  is_form : form_of v byte ≡ Some form
 
-has_form : (byte : ℕ) (o : Option Instr) → form_of byte ≡ o → is_some o ≡ true → HasForm byte
-has_form byte None e good = absurd cc
-has_form byte (Some form) e good = record { form = form; is_form = e }
+has_form : (v : Version) (byte : ℕ) (o : Option Instr) → form_of v byte ≡ o → is_some o ≡ true → HasForm v byte
+has_form v byte None e good = absurd cc
+has_form v byte (Some form) e good = record { form = form; is_form = e }
 
-put_instruction : (i : Instr) → IsInstruction i → Follows an_instruction (instruction i) i
+put_instruction : (v : Version) (i : Instr) → IsInstruction v i → Follows (an_instruction v) (instruction v i) i
 unfolding form_of
-put_instruction (instr.Int n) h =
+put_instruction v (instr.Int n) h =
     (refl, refl, refl, (refl, refl, refl, (refl, ap (λ (k : ℕ). instr.Int k) (number_of_field WordOperand n h))))
-put_instruction (instr.Bool true) h = (refl, refl, refl, (refl, refl, refl, (refl, refl)))
-put_instruction (instr.Bool false) h = (refl, refl, refl, (refl, refl, refl, (refl, refl)))
-put_instruction (instr.Ip a) h = (
+put_instruction v (instr.Bool true) h = (refl, refl, refl, (refl, refl, refl, (refl, refl)))
+put_instruction v (instr.Bool false) h = (refl, refl, refl, (refl, refl, refl, (refl, refl)))
+put_instruction v (instr.Ip a) h = (
   refl,
   refl,
   refl,
@@ -128,7 +130,7 @@ put_instruction (instr.Ip a) h = (
     (refl, ap (λ (k : ℕ). instr.Ip (record { 0 = k })) (number_of_field WordOperand a.0 h)),
   ),
 )
-put_instruction (instr.Prefix bits) h = (
+put_instruction v (instr.Prefix bits) h = (
   refl,
   refl,
   refl,
@@ -139,27 +141,27 @@ put_instruction (instr.Prefix bits) h = (
     (refl, ap (λ (p : List Bool). instr.Prefix p) (prefix_again bits [] h)),
   ),
 )
-put_instruction (instr.Load i) h =
+put_instruction v (instr.Load i) h =
     (refl, refl, refl, (refl, refl, refl, (refl, ap (λ (k : ℕ). instr.Load k) (number_of_field NameOperand i h))))
-put_instruction (instr.Store i) h =
+put_instruction v (instr.Store i) h =
     (refl, refl, refl, (refl, refl, refl, (refl, ap (λ (k : ℕ). instr.Store k) (number_of_field NameOperand i h))))
-put_instruction (instr.Mask n) h =
+put_instruction v (instr.Mask n) h =
     let fits : n < 256 = omega arith in
     let good : leb (number BitsOperand (big_bytes 1 n)) 32 ≡ true = le-leb _ _ (omega (arith, h, number_of_field BitsOperand n fits)) in
     (refl, refl, refl, (refl, refl, good, (refl, ap (λ (k : ℕ). instr.Mask k) (number_of_field BitsOperand n fits))))
-put_instruction (instr.Member i) h =
+put_instruction v (instr.Member i) h =
     (refl, refl, refl, (refl, refl, refl, (refl, ap (λ (k : ℕ). instr.Member k) (number_of_field NameOperand i h))))
-put_instruction (instr.Jump k) h =
+put_instruction v (instr.Jump k) h =
     (refl, refl, refl, (refl, refl, refl, (refl, ap (λ (n : ℕ). instr.Jump n) (number_of_field SkipOperand k h))))
-put_instruction (instr.JumpIfNot k) h =
+put_instruction v (instr.JumpIfNot k) h =
     (refl, refl, refl, (refl, refl, refl, (refl, ap (λ (n : ℕ). instr.JumpIfNot n) (number_of_field SkipOperand k h))))
-put_instruction i h = (refl, refl, refl, (refl, refl))
+put_instruction v i h = (refl, refl, refl, (refl, refl))
 
 -- an operand that was read is in the spelling of what it made
 record IsOperandOf (form i : Instr) (fs : List Field) : Type 0 where
   parts : fs ≡ operand i
   same : opcode i ≡ opcode form
-  fits : IsInstruction i
+  fits : FitsField (literal_of i)
 
 -- an operand that is a number
 number_operand : (kind : FieldKind) (form : Instr) (make : ℕ → Instr) → GivesBytesBack (width kind) →
@@ -223,16 +225,17 @@ take_operand (instr.JumpIfNot any) fs i b h =
     (λ n fits good. record { parts = refl; same = refl; fits = fits }) fs i b h
 take_operand form fs i b h = subst (λ (j : Instr). IsOperandOf form j fs) h.1 (record { parts = h.0; same = refl; fits = tt })
 
-take_instruction : (fs : List Field) (i : Instr) → AreBytes fs → Follows an_instruction fs i → (fs ≡ instruction i) × IsInstruction i
-take_instruction fs i b h =
-    let n = take_number Opcode (λ byte. an_operand (unwrap_or (form_of byte) instr.Reject)) fs i bytes_again_1 b h in
-    let good : is_some (form_of n.value) ≡ true =
-    subst (λ (k : ℕ). is_some (form_of k) ≡ true) (number_of_field Opcode n.value n.fits) n.good in
-    let known = has_form n.value (form_of n.value) refl good in
+take_instruction : (v : Version) (fs : List Field) (i : Instr) → AreBytes fs → Follows (an_instruction v) fs i →
+    (fs ≡ instruction v i) × IsInstruction v i
+take_instruction v fs i b h =
+    let n = take_number (Opcode v) (λ byte. an_operand (unwrap_or (form_of v byte) instr.Reject)) fs i bytes_again_1 b h in
+    let good : is_some (form_of v n.value) ≡ true =
+    subst (λ (k : ℕ). is_some (form_of v k) ≡ true) (number_of_field (Opcode v) n.value n.fits) n.good in
+    let known = has_form v n.value (form_of v n.value) refl good in
     let follows : Follows (an_operand known.form) n.others i = rw known.is_form at n.follows in
     let o = take_operand known.form n.others i n.are_bytes follows in
-    let byte : n.value ≡ opcode i = sym (o.same ∙ opcode_of_form n.value known.form known.is_form) in
-    (n.parts ∙ ap (λ (k : ℕ). field Opcode k ∷ n.others) byte ∙ ap (λ (gs : List Field). field Opcode (opcode i) ∷ gs) o.parts, o.fits)
+    let byte : n.value ≡ opcode i = sym (o.same ∙ opcode_of_form v n.value known.form known.is_form) in
+    (n.parts ∙ ap (λ (k : ℕ). field (Opcode v) k ∷ n.others) byte ∙ ap (λ (gs : List Field). field (Opcode v) (opcode i) ∷ gs) o.parts, o.fits)
 
 -- ---- a whole file
 
@@ -260,33 +263,43 @@ program_of locals sets instrs = record { locals = locals; sets = sets; instrs = 
 abbrev made : ℕ → List (List PrefixPattern) → List Instr → Format CodeView
 made locals sets instrs = Done (program_of locals sets instrs)
 
-abbrev from_instructions : ℕ → List (List PrefixPattern) → Format CodeView
-from_instructions locals sets = a_count_of Instructions an_instruction >>= made locals sets
+abbrev from_instructions : Version → ℕ → List (List PrefixPattern) → Format CodeView
+from_instructions v locals sets = a_count_of Instructions (an_instruction v) >>= made locals sets
 
-abbrev from_sets : ℕ → Format CodeView
-from_sets locals = a_count_of Sets a_set >>= from_instructions locals
+abbrev from_sets : Version → ℕ → Format CodeView
+from_sets v locals = a_count_of Sets a_set >>= from_instructions v locals
 
--- the fields of a code follow the format
-pub put_file : (code : CodeView) → IsCode code → Follows a_file (fields code) code
-unfolding a_file
-put_file code h =
+-- what a code has after the mark
+abbrev code_fields : Version → CodeView → List Field
+code_fields v c = field Locals c.locals ∷ counted Sets set c.sets ++ counted Instructions (instruction v) c.instrs
+
+put_code : (v : Version) (code : CodeView) → IsCodeIn v code → Follows (a_code v) (code_fields v code) code
+put_code v code h =
     let fits : code.locals < 256 = let limit = h.locals in omega arith in
     let good : leb (number Locals (big_bytes 1 code.locals)) local_limit ≡ true =
     le-leb _ _ (let limit = h.locals in omega (arith, number_of_field Locals code.locals fits)) in
     let end : Follows (Done code) [] code = (refl, refl) in
-    let instrs = put_counted Instructions instruction_limit instructions_limit an_instruction instruction IsInstruction
-    put_instruction code.instrs h.instrs h.each_instr in
-    let with_end = follows_then (a_count_of Instructions an_instruction) (made code.locals code.sets)
-    (counted Instructions instruction code.instrs) [] code.instrs code instrs end in
-    let back : Follows (from_instructions code.locals code.sets) (counted Instructions instruction code.instrs) code =
-    subst (λ (fs : List Field). Follows (from_instructions code.locals code.sets) fs code)
-    (append-nil (counted Instructions instruction code.instrs)) with_end in
+    let instrs = put_counted Instructions (instruction v)_limit instructions_limit (an_instruction v) (instruction v)
+    (IsInstruction v) (put_instruction v) code.instrs h.instrs h.each_instr in
+    let with_end = follows_then (a_count_of Instructions (an_instruction v)) (made code.locals code.sets)
+    (counted Instructions (instruction v) code.instrs) [] code.instrs code instrs end in
+    let back : Follows (from_instructions v code.locals code.sets) (counted Instructions (instruction v) code.instrs) code =
+    subst (λ (fs : List Field). Follows (from_instructions v code.locals code.sets) fs code)
+    (append-nil (counted Instructions (instruction v) code.instrs)) with_end in
     let sets = put_counted Sets set_limit sets_limit a_set set IsSet put_set code.sets h.sets h.each_set in
-    let all = follows_then (a_count_of Sets a_set) (from_instructions code.locals) (counted Sets set code.sets)
-    (counted Instructions instruction code.instrs) code.sets code sets back in
-    let after_mark = put_number Locals from_sets code.locals
-    (counted Sets set code.sets ++ counted Instructions instruction code.instrs) code fits good all in
-    (refl, refl, refl, (refl, refl, refl, (refl, refl, refl, (refl, refl, refl, after_mark))))
+    let all = follows_then (a_count_of Sets a_set) (from_instructions v code.locals) (counted Sets set code.sets)
+    (counted Instructions (instruction v) code.instrs) code.sets code sets back in
+    put_number Locals (from_sets v) code.locals
+    (counted Sets set code.sets ++ counted Instructions (instruction v) code.instrs) code fits good all
+
+put_version : (v : Version) (code : CodeView) → IsCodeIn v code →
+    Follows (a_version >>= a_code) (version_mark v ∷ code_fields v code) code
+put_version version.One code h = (refl, refl, refl, put_code version.One code h)
+
+-- the fields of a code follow the format
+pub put_file : (v : Version) (code : CodeView) → IsCodeIn v code → Follows a_file (fields v code) code
+unfolding a_file
+put_file v code h = (refl, refl, refl, (refl, refl, refl, (refl, refl, refl, put_version v code h)))
 
 -- the next byte of the mark, and the fields after it
 record HasMark (place : ℕ) (later : Format CodeView) (fs : List Field) (code : CodeView) : Type 0 where
@@ -313,39 +326,39 @@ record IsFrom (spelled : CodeView → List Field) (says : CodeView → Type 0) (
   parts : fs ≡ spelled code
   is : says code
 
-abbrev SaysInstructions : ℕ → List (List PrefixPattern) → CodeView → Type 0
-SaysInstructions locals sets code = (code.locals ≡ locals) × (code.sets ≡ sets) × (length code.instrs ≤ instruction_limit)
-    × AllByRecursion IsInstruction code.instrs
+abbrev SaysInstructions : Version → ℕ → List (List PrefixPattern) → CodeView → Type 0
+SaysInstructions v locals sets code = (code.locals ≡ locals) × (code.sets ≡ sets) × (length code.instrs ≤ instruction_limit)
+    × AllByRecursion (IsInstruction v) code.instrs
 
-take_instructions : (locals : ℕ) (sets : List (List PrefixPattern)) (fs : List Field) (code : CodeView) → AreBytes fs →
-    Follows (from_instructions locals sets) fs code
-    → IsFrom (λ c. counted Instructions instruction c.instrs) (SaysInstructions locals sets) fs code
-take_instructions locals sets fs code b h =
-    let both = follows_both (a_count_of Instructions an_instruction) (made locals sets) fs code b h in
-    let all = take_counted Instructions instruction_limit instructions_limit an_instruction instruction IsInstruction
-    take_instruction both.first both.made both.first_are_bytes both.follows_first in
-    let parts : fs ≡ counted Instructions instruction both.made =
+take_instructions : (v : Version) (locals : ℕ) (sets : List (List PrefixPattern)) (fs : List Field) (code : CodeView) → AreBytes fs →
+    Follows (from_instructions v locals sets) fs code
+    → IsFrom (λ c. counted Instructions (instruction v) c.instrs) (SaysInstructions v locals sets) fs code
+take_instructions v locals sets fs code b h =
+    let both = follows_both (a_count_of Instructions (an_instruction v)) (made locals sets) fs code b h in
+    let all = take_counted Instructions (instruction v)_limit instructions_limit (an_instruction v) (instruction v) (IsInstruction v)
+    (take_instruction v) both.first both.made both.first_are_bytes both.follows_first in
+    let parts : fs ≡ counted Instructions (instruction v) both.made =
     both.parts ∙ ap (λ (gs : List Field). both.first ++ gs) both.follows_second.0 ∙ append-nil both.first ∙ all.parts in
-    subst (λ (c : CodeView). IsFrom (λ c. counted Instructions instruction c.instrs) (SaysInstructions locals sets) fs c)
+    subst (λ (c : CodeView). IsFrom (λ c. counted Instructions (instruction v) c.instrs) (SaysInstructions v locals sets) fs c)
     both.follows_second.1
     (record { parts = parts; is = (refl, refl, all.within_limit, all.each) })
 
-abbrev SaysSets : ℕ → CodeView → Type 0
-SaysSets locals code = (code.locals ≡ locals) × (length code.sets ≤ set_limit) × AllByRecursion IsSet code.sets
-    × (length code.instrs ≤ instruction_limit) × AllByRecursion IsInstruction code.instrs
+abbrev SaysSets : Version → ℕ → CodeView → Type 0
+SaysSets v locals code = (code.locals ≡ locals) × (length code.sets ≤ set_limit) × AllByRecursion IsSet code.sets
+    × (length code.instrs ≤ instruction_limit) × AllByRecursion (IsInstruction v) code.instrs
 
-take_sets : (locals : ℕ) (fs : List Field) (code : CodeView) → AreBytes fs → Follows (from_sets locals) fs code
-    → IsFrom (λ c. counted Sets set c.sets ++ counted Instructions instruction c.instrs) (SaysSets locals) fs code
-take_sets locals fs code b h =
-    let both = follows_both (a_count_of Sets a_set) (from_instructions locals) fs code b h in
+take_sets : (v : Version) (locals : ℕ) (fs : List Field) (code : CodeView) → AreBytes fs → Follows (from_sets v locals) fs code
+    → IsFrom (λ c. counted Sets set c.sets ++ counted Instructions (instruction v) c.instrs) (SaysSets v locals) fs code
+take_sets v locals fs code b h =
+    let both = follows_both (a_count_of Sets a_set) (from_instructions v locals) fs code b h in
     let all = take_counted Sets set_limit sets_limit a_set set IsSet take_set both.first both.made both.first_are_bytes
     both.follows_first in
-    let rest = take_instructions locals both.made both.second code both.second_are_bytes both.follows_second in
+    let rest = take_instructions v locals both.made both.second code both.second_are_bytes both.follows_second in
     let same : both.made ≡ code.sets = sym rest.is.1 in
-    let parts : fs ≡ counted Sets set code.sets ++ counted Instructions instruction code.instrs =
+    let parts : fs ≡ counted Sets set code.sets ++ counted Instructions (instruction v) code.instrs =
     both.parts ∙ ap (λ (gs : List Field). gs ++ both.second) all.parts
     ∙ ap (λ (gs : List Field). counted Sets set both.made ++ gs) rest.parts
-    ∙ ap (λ (sets : List (List PrefixPattern)). counted Sets set sets ++ counted Instructions instruction code.instrs) same in
+    ∙ ap (λ (sets : List (List PrefixPattern)). counted Sets set sets ++ counted Instructions (instruction v) code.instrs) same in
     record {
       parts = parts;
       is = (
@@ -358,36 +371,88 @@ take_sets locals fs code b h =
       );
     }
 
-take_locals : (fs : List Field) (code : CodeView) → AreBytes fs → Follows (a_number Locals >>= from_sets) fs code
-    → IsFrom (λ c. field Locals c.locals ∷ counted Sets set c.sets ++ counted Instructions instruction c.instrs) IsCode fs code
-take_locals fs code b h =
-    let n = take_number Locals from_sets fs code bytes_again_1 b h in
-    let rest = take_sets n.value n.others code n.are_bytes n.follows in
+take_locals : (v : Version) (fs : List Field) (code : CodeView) → AreBytes fs → Follows (a_code v) fs code
+    → IsFrom (λ c. field Locals c.locals ∷ counted Sets set c.sets ++ counted Instructions (instruction v) c.instrs) (IsCodeIn v) fs code
+take_locals v fs code b h =
+    let n = take_number Locals (from_sets v) fs code bytes_again_1 b h in
+    let rest = take_sets v n.value n.others code n.are_bytes n.follows in
     let same : n.value ≡ code.locals = sym rest.is.0 in
     let within : number Locals (big_bytes 1 n.value) ≤ local_limit = leb-true _ _ n.good in
     let limit : n.value ≤ local_limit = omega (arith, within, number_of_field Locals n.value n.fits) in
     record {
       parts = n.parts ∙ ap (λ (gs : List Field). field Locals n.value ∷ gs) rest.parts
-          ∙ ap (λ (k : ℕ). field Locals k ∷ counted Sets set code.sets ++ counted Instructions instruction code.instrs) same;
+          ∙ ap (λ (k : ℕ). field Locals k ∷ counted Sets set code.sets ++ counted Instructions (instruction v) code.instrs) same;
       is = record { locals = rw (← same) limit; sets = rest.is.1; each_set = rest.is.2; instrs = rest.is.3; each_instr = rest.is.4 };
     }
 
-in_front : (fs a b c d body : List Field) → fs ≡ mark_byte 0 ∷ a → a ≡ mark_byte 1 ∷ b → b ≡ mark_byte 2 ∷ c →
-    c ≡ mark_byte 3 ∷ d → d ≡ body → fs ≡ mark_byte 0 ∷ mark_byte 1 ∷ mark_byte 2 ∷ mark_byte 3 ∷ body
-in_front fs a b c d body p q r s t = rw (p, q, r, s, t) refl
+-- the last byte of the mark tells the version
+record HasVersion (fs : List Field) (code : CodeView) : Type 0 where
+  version : Version
+  others : List Field
+  parts : fs ≡ version_mark version ∷ others
+  follows : Follows (a_code version) others code
+  are_bytes : AreBytes others
+
+version_found : (p : Version → Bool) (vs : List Version) (v : Version) → find p vs ≡ Some v → p v ≡ true
+version_found p [] v e = absurd cc
+version_found p (u ∷ vs) v e = version_here p u vs v (p u) refl (version_found p vs v) e
+  where
+    version_here : (p : Version → Bool) (u : Version) (vs : List Version) (v : Version) (b : Bool) → p u ≡ b →
+        (find p vs ≡ Some v → p v ≡ true) → cond b (Some u) (find p vs) ≡ Some v → p v ≡ true
+    version_here p u vs v true here later e =
+        let same : u ≡ v = cc in
+        rw (← same) here
+    version_here p u vs v false here later e = later e
+
+byte_of_version : (byte : ℕ) (v : Version) → version_of byte ≡ Some v → version_byte v ≡ byte
+byte_of_version byte v e = eqb-true _ _ (version_found (λ v. eqb (version_byte v) byte) versions v e)
+
+record IsVersion (byte : ℕ) : Type 0 where
+  version : Version
+  is_version : version_of byte ≡ Some version
+
+is_version : (byte : ℕ) (o : Option Version) → version_of byte ≡ o → is_some o ≡ true → IsVersion byte
+is_version byte None e good = absurd cc
+is_version byte (Some v) e good = record { version = v; is_version = e }
+
+take_version : (fs : List Field) (code : CodeView) → AreBytes fs → Follows (a_version >>= a_code) fs code → HasVersion fs code
+take_version fs code b h =
+    let n = take_number VersionMark (λ byte. a_code (unwrap_or (version_of byte) version.One)) fs code bytes_again_1 b h in
+    let good : is_some (version_of n.value) ≡ true =
+    subst (λ (k : ℕ). is_some (version_of k) ≡ true) (number_of_field VersionMark n.value n.fits) n.good in
+    let known = is_version n.value (version_of n.value) refl good in
+    let byte : n.value ≡ version_byte known.version = sym (byte_of_version n.value known.version known.is_version) in
+    record {
+      version = known.version;
+      others = n.others;
+      parts = n.parts ∙ ap (λ (k : ℕ). field VersionMark k ∷ n.others) byte;
+      follows = rw known.is_version at n.follows;
+      are_bytes = n.are_bytes;
+    }
+
+in_front : (fs a b c d body : List Field) (v : Version) → fs ≡ mark_byte 0 ∷ a → a ≡ mark_byte 1 ∷ b → b ≡ mark_byte 2 ∷ c →
+    c ≡ version_mark v ∷ d → d ≡ body → fs ≡ mark_byte 0 ∷ mark_byte 1 ∷ mark_byte 2 ∷ version_mark v ∷ body
+in_front fs a b c d body v p q r s t = rw (p, q, r, s, t) refl
+
+-- fields of a whole file
+pub record IsWhole (fs : List Field) (code : CodeView) : Type 0 where
+  pub version : Version
+  pub parts : fs ≡ fields version code
+  pub is_code : IsCodeIn version code
 
 -- fields that follow the format are those of the code that they make
-pub take_file : (fs : List Field) (code : CodeView) → AreBytes fs → Follows a_file fs code → (fs ≡ fields code) × IsCode code
+pub take_file : (fs : List Field) (code : CodeView) → AreBytes fs → Follows a_file fs code → IsWhole fs code
 unfolding a_file
 take_file fs code b h =
-    let after_mark = a_number Locals >>= from_sets in
-    let m0 = take_mark 0 (a_number (Mark 1) >>= λ n. a_number (Mark 2) >>= λ n. a_number (Mark 3) >>= λ n. after_mark) fs code b h in
-    let m1 = take_mark 1 (a_number (Mark 2) >>= λ n. a_number (Mark 3) >>= λ n. after_mark) m0.others code m0.are_bytes m0.follows in
-    let m2 = take_mark 2 (a_number (Mark 3) >>= λ n. after_mark) m1.others code m1.are_bytes m1.follows in
-    let m3 = take_mark 3 after_mark m2.others code m2.are_bytes m2.follows in
-    let rest = take_locals m3.others code m3.are_bytes m3.follows in (
-      in_front fs m0.others m1.others m2.others m3.others
-          (field Locals code.locals ∷ counted Sets set code.sets ++ counted Instructions instruction code.instrs) m0.parts
-          m1.parts m2.parts m3.parts rest.parts,
-      rest.is,
-    )
+    let after = a_version >>= a_code in
+    let m0 = take_mark 0 (a_number (Mark 1) >>= λ n. a_number (Mark 2) >>= λ n. after) fs code b h in
+    let m1 = take_mark 1 (a_number (Mark 2) >>= λ n. after) m0.others code m0.are_bytes m0.follows in
+    let m2 = take_mark 2 after m1.others code m1.are_bytes m1.follows in
+    let m3 = take_version m2.others code m2.are_bytes m2.follows in
+    let rest = take_locals m3.version m3.others code m3.are_bytes m3.follows in
+    record {
+      version = m3.version;
+      parts = in_front fs m0.others m1.others m2.others m3.others (code_fields m3.version code) m3.version m0.parts m1.parts
+          m2.parts m3.parts rest.parts;
+      is_code = rest.is;
+    }

@@ -9,8 +9,10 @@ use Rattle.filter_code.specs.declared.instruction.Instr.TheVariants as instr
 use Rattle.filter_code.specs.CodeView.{CodeView}
 use Rattle.code_file.specs.declared.fault.FileFault.{FileFault}
 use Rattle.code_file.specs.declared.fault.FileFault.TheVariants as fault
-use Rattle.code_file.specs.Fields.{FieldKind, width, number, is_good, fault_of, form_of}
-use Rattle.code_file.specs.Fields.FieldKind.{Mark, Locals, Sets, Patterns, Pattern, Instructions, Opcode, WordOperand}
+use Rattle.code_file.specs.declared.version.Version.{Version}
+use Rattle.code_file.specs.declared.version.Version.TheVariants as version
+use Rattle.code_file.specs.Fields.{FieldKind, width, number, is_good, fault_of, version_of, form_of}
+use Rattle.code_file.specs.Fields.FieldKind.{Mark, VersionMark, Locals, Sets, Patterns, Pattern, Instructions, Opcode, WordOperand}
 use Rattle.code_file.specs.Fields.FieldKind.{TruthOperand, PrefixOperand, NameOperand, BitsOperand, SkipOperand}
 
 -- the fields to read, where each may depend on the bytes of those before it, and what they make
@@ -104,33 +106,44 @@ an_operand form = Done form
 
 -- an opcode: it makes the instruction that has it, with a blank operand (a byte that is no opcode is bad, and nothing is
 -- read after it)
-abbrev pub a_form : Format Instr
-a_form = do
-  byte ← a_number Opcode
-  Done (unwrap_or (form_of byte) instr.Reject)
+abbrev pub a_form : Version → Format Instr
+a_form v = do
+  byte ← a_number (Opcode v)
+  Done (unwrap_or (form_of v byte) instr.Reject)
 
 -- an opcode and its operand
-abbrev pub an_instruction : Format Instr
-an_instruction = do
-  form ← a_form
+abbrev pub an_instruction : Version → Format Instr
+an_instruction v = do
+  form ← a_form v
   an_operand form
 
--- the mark, and the number of locals
-abbrev pub a_header : Format ℕ
-a_header = do
+-- the last byte of the mark: it tells the version (a byte that tells none is bad, and nothing is read after it)
+abbrev pub a_version : Format Version
+a_version = do
+  byte ← a_number VersionMark
+  Done (unwrap_or (version_of byte) version.One)
+
+-- the mark
+abbrev pub a_mark : Format Version
+a_mark = do
   n ← a_number (Mark 0)
   c ← a_number (Mark 1)
   f ← a_number (Mark 2)
-  one ← a_number (Mark 3)
-  a_number Locals
+  a_version
+
+-- what follows the mark of a version
+abbrev pub a_code : Version → Format CodeView
+a_code v = do
+  locals ← a_number Locals
+  sets ← a_count_of Sets a_set
+  instrs ← a_count_of Instructions (an_instruction v)
+  Done (record { locals = locals; sets = sets; instrs = instrs })
 
 -- a whole file
 unfoldable pub a_file : Format CodeView
 a_file = do
-  locals ← a_header
-  sets ← a_count_of Sets a_set
-  instrs ← a_count_of Instructions an_instruction
-  Done (record { locals = locals; sets = sets; instrs = instrs })
+  v ← a_mark
+  a_code v
 
 -- the bytes that are left of a file, and the number of bytes before them
 pub record Rest : Type 0 where

@@ -1,5 +1,5 @@
 -- The spelling of each code, field by field. The format is this project's own choice.
-use Rattle.std.specs.Prelude.{ℕ, ◌<◌, ◌≤◌, ◌^◌, if◌then◌else◌, Bool, List, [], ◌∷◌, ◌++◌, length, slice_index}
+use Rattle.std.specs.Prelude.{◌≡◌, ℕ, ◌<◌, ◌≤◌, ◌^◌, if◌then◌else◌, Bool, List, [], ◌∷◌, ◌++◌, length, slice_index}
 use Rattle.std.specs.List.{flat_map, AllByRecursion}
 use Rattle.byteorder.specs.Endian.{big_bytes}
 use Rattle.prefix_patterns.specs.Matching.{pattern_limit}
@@ -9,8 +9,10 @@ use Rattle.filter_code.specs.declared.instruction.Instr.{Instr}
 use Rattle.filter_code.specs.Limits.{local_limit, set_limit, instruction_limit}
 use Rattle.filter_code.specs.Table.{Literal, Bare, Word, Truth, Bits, Index, Length, Skip, literal_of, opcode}
 use Rattle.filter_code.specs.CodeView.{CodeView}
-use Rattle.code_file.specs.Fields.{FieldKind, width, mark_bytes}
-use Rattle.code_file.specs.Fields.FieldKind.{Mark, Locals, Sets, Patterns, Pattern, Instructions, Opcode, WordOperand}
+use Rattle.code_file.specs.declared.version.Version.{Version}
+use Rattle.code_file.specs.declared.version.Version.TheVariants as version
+use Rattle.code_file.specs.Fields.{FieldKind, width, mark_bytes, version_byte}
+use Rattle.code_file.specs.Fields.FieldKind.{Mark, VersionMark, Locals, Sets, Patterns, Pattern, Instructions, Opcode, WordOperand}
 use Rattle.code_file.specs.Fields.FieldKind.{TruthOperand, PrefixOperand, NameOperand, BitsOperand, SkipOperand}
 
 -- a field with its bytes
@@ -30,6 +32,10 @@ bytes_of (f ∷ fs) = f.bytes ++ bytes_of fs
 -- a byte of the mark is a field of its own
 abbrev pub mark_byte : ℕ → Field
 mark_byte place = field (Mark place) (slice_index mark_bytes place)
+
+-- and so is its last byte
+abbrev pub version_mark : Version → Field
+version_mark v = field VersionMark (version_byte v)
 
 -- a prefix: its first address in four bytes, and its length
 abbrev pub prefix_bytes : List Bool → List ℕ
@@ -61,18 +67,22 @@ abbrev pub operand : Instr → List Field
 operand i = literal_field (literal_of i)
 
 -- an instruction: its opcode, then the operand
-abbrev pub instruction : Instr → List Field
-instruction i = field Opcode (opcode i) ∷ operand i
+abbrev pub instruction : Version → Instr → List Field
+instruction v i = field (Opcode v) (opcode i) ∷ operand i
 
 -- a whole file: the mark, the number of locals, the sets counted, and the instructions counted
-abbrev pub fields : CodeView → List Field
-fields code =
-    mark_byte 0 ∷ mark_byte 1 ∷ mark_byte 2 ∷ mark_byte 3 ∷ field Locals code.locals
-    ∷ counted Sets set code.sets ++ counted Instructions instruction code.instrs
+abbrev pub fields : Version → CodeView → List Field
+fields v code =
+    mark_byte 0 ∷ mark_byte 1 ∷ mark_byte 2 ∷ version_mark v ∷ field Locals code.locals
+    ∷ counted Sets set code.sets ++ counted Instructions (instruction v) code.instrs
 
--- the bytes of the file of a code
+-- the bytes of the file of a code in a version
+abbrev pub spelling_in : Version → CodeView → List ℕ
+spelling_in v code = bytes_of (fields v code)
+
+-- the bytes of the file of a code, as it is written
 abbrev pub spelling : CodeView → List ℕ
-spelling code = bytes_of (fields code)
+spelling code = spelling_in version.One code
 
 -- bits of an address, and lengths in order
 pub record IsPattern (p : PrefixPattern) : Type 0 where
@@ -94,13 +104,23 @@ FitsField (Index i) = i < 256
 FitsField (Length n) = n ≤ address_length
 FitsField (Skip k) = k < 2 ^ 16
 
-abbrev pub IsInstruction : Instr → Type 0
-IsInstruction i = FitsField (literal_of i)
+abbrev pub IsInstruction : Version → Instr → Type 0
+IsInstruction v i = FitsField (literal_of i)
 
--- a code that has a file: it is within the limits, and each set and instruction fits its fields
-pub record IsCode (code : CodeView) : Type 0 where
+-- a code that has a file of a version: it is within the limits, and each set and instruction fits its fields
+pub record IsCodeIn (v : Version) (code : CodeView) : Type 0 where
   pub locals : code.locals ≤ local_limit
   pub sets : length code.sets ≤ set_limit
   pub each_set : AllByRecursion IsSet code.sets
   pub instrs : length code.instrs ≤ instruction_limit
-  pub each_instr : AllByRecursion IsInstruction code.instrs
+  pub each_instr : AllByRecursion (IsInstruction v) code.instrs
+
+-- a code that has a file, as it is written
+abbrev pub IsCode : CodeView → Type 0
+IsCode code = IsCodeIn version.One code
+
+-- bytes that are the file of a code, of some version
+pub record IsFile (bytes : List ℕ) (code : CodeView) : Type 0 where
+  pub version : Version
+  pub is_code : IsCodeIn version code
+  pub spelled : bytes ≡ spelling_in version code

@@ -7,6 +7,7 @@ mod fault;
 mod laws;
 mod reader;
 mod reading;
+mod version;
 mod writing;
 
 pub use fault::FileFault;

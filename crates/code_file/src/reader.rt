@@ -5,16 +5,17 @@ ghost use Rattle.filter_code.specs.CodeView.{HasMask};
 ghost use Rattle.code_file.specs.Fields.{is_prefix, is_pattern};
 ghost use Rattle.code_file.specs.Fields.FieldKind.{Mark, Locals, Sets, Patterns, Instructions, WordOperand, NameOperand, BitsOperand, SkipOperand};
 ghost use Rattle.code_file.specs.Reading.{past, Reads, a_number, prefix_of, pattern_of, a_pattern, a_prefix, a_truth};
-ghost use Rattle.code_file.specs.Reading.{an_instruction, a_header};
+ghost use Rattle.code_file.specs.Reading.{an_instruction, a_version, a_mark};
 
 use crate::fault::FileFault;
+use crate::version::Version;
 use byteorder::{BigEndian, ByteOrder};
 use filter_code::{INSTRUCTION_LIMIT, Instr, LOCAL_LIMIT, SET_LIMIT};
 use prefix_patterns::{ADDRESS_LENGTH, Ip, PATTERN_LIMIT, Pattern, Prefix};
 use std::marker::Model;
 
-/// The first bytes of each file.
-pub const MARK: [u8; 4] = *b"NCF1";
+/// The first bytes of each file. The next one tells the version.
+pub const MARK: [u8; 3] = *b"NCF";
 
 /// The bytes that are left of a file, and the number of bytes before them.
 #[derive(Drop)]
@@ -73,7 +74,7 @@ impl<'a> Reader<'a> {
     }
 
     fn mark_byte(&mut self, place: usize) -> Result<u8, FileFault>
-        requires { place < 4 }
+        requires { place < 3 }
         ensures { Reads (λ byte. byte) (a_number (Mark place)) self.old self.new result }
     {
         let at = self.at;
@@ -84,7 +85,28 @@ impl<'a> Reader<'a> {
         Ok(byte)
     }
 
-    fn locals(&mut self) -> Result<u8, FileFault>
+    fn version(&mut self) -> Result<Version, FileFault>
+        ensures { Reads (λ v. v) a_version self.old self.new result }
+    {
+        let at = self.at;
+        match Version::of(self.field(1)?[0]) {
+            Some(version) => Ok(version),
+            None => Err(FileFault::OtherMark(at)),
+        }
+    }
+
+    /// The mark, which tells the version.
+    pub fn mark(&mut self) -> Result<Version, FileFault>
+        ensures { Reads (λ v. v) a_mark self.old self.new result }
+    {
+        self.mark_byte(0)?;
+        self.mark_byte(1)?;
+        self.mark_byte(2)?;
+        self.version()
+    }
+
+    /// The number of local variables.
+    pub fn locals(&mut self) -> Result<u8, FileFault>
         ensures value { Reads (λ n. n) (a_number Locals) self.old self.new result }
         ensures limit { IfOk result (λ n. n ≤ LOCAL_LIMIT) }
     {
@@ -94,18 +116,6 @@ impl<'a> Reader<'a> {
             return Err(FileFault::OverLimit(at));
         }
         Ok(number)
-    }
-
-    /// All that comes before the sets: the mark, and the number of local variables, which it answers.
-    pub fn header(&mut self) -> Result<u8, FileFault>
-        ensures value { Reads (λ n. n) a_header self.old self.new result }
-        ensures limit { IfOk result (λ n. n ≤ LOCAL_LIMIT) }
-    {
-        self.mark_byte(0)?;
-        self.mark_byte(1)?;
-        self.mark_byte(2)?;
-        self.mark_byte(3)?;
-        self.locals()
     }
 
     /// The number of sets.
@@ -214,10 +224,10 @@ impl<'a> Reader<'a> {
         }
     }
 
-    /// The next instruction: its opcode, and what is read after it.
+    /// The next instruction of a file of this version: its opcode, and what is read after it.
     #[tactic(auto, unfolding(crate::specs::Fields::form_of))]
-    pub fn instruction(&mut self) -> Result<Instr, FileFault>
-        ensures value { Reads (λ i. i) an_instruction self.old self.new result }
+    pub fn instruction(&mut self, version: Version) -> Result<Instr, FileFault>
+        ensures value { Reads (λ i. i) (an_instruction version) self.old self.new result }
         ensures mask { IfOk result HasMask }
     {
         let at = self.at;

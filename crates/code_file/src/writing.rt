@@ -4,11 +4,13 @@ ghost use Rattle.std.specs.Prelude.{◌≡◌, ◌≤◌, ◌++◌, ◌∷◌, [
 ghost use Rattle.std.specs.List.{flat_map};
 ghost use Rattle.prefix_patterns.specs.Bits.{address_length};
 ghost use Rattle.filter_code.specs.CodeView.{HasMask};
+ghost use Rattle.code_file.specs.declared.version.Version.TheVariants as version;
 ghost use Rattle.code_file.specs.Spelling.{bytes_of, prefix_bytes, pattern as pattern_field, set as set_fields, instruction};
-ghost use Rattle.code_file.specs.Spelling.{spelling, IsPattern, IsSet, IsInstruction, IsCode};
+ghost use Rattle.code_file.specs.Spelling.{spelling, spelling_in, IsPattern, IsSet, IsInstruction, IsCode, IsCodeIn};
 
 use crate::fault::FileFault;
 use crate::reader::MARK;
+use crate::version::Version;
 use filter_code::{Code, Instr};
 use prefix_patterns::{Ip, Pattern, PatternSet, Prefix};
 use std::alloc::{AllocError, Global};
@@ -35,8 +37,8 @@ fn put_pattern(out: &mut Vec<u8>, pattern: &Pattern) -> Result<(), AllocError>
 
 fn put_instruction(out: &mut Vec<u8>, instr: &Instr) -> Result<(), AllocError>
     requires { HasMask instr.now }
-    ensures written { OnOk result (out.new.items ≡ out.old.items ++ bytes_of (instruction instr.now)) }
-    ensures fits { OnOk result (IsInstruction instr.now) }
+    ensures written { OnOk result (out.new.items ≡ out.old.items ++ bytes_of (instruction version.One instr.now)) }
+    ensures fits { OnOk result (IsInstruction version.One instr.now) }
 {
     out.push(instr.opcode())?;
     match instr {
@@ -88,8 +90,8 @@ fn put_sets(out: &mut Vec<u8>, sets: &[PatternSet]) -> Result<(), AllocError>
 
 fn put_instructions(out: &mut Vec<u8>, instrs: &[Instr]) -> Result<(), AllocError>
     requires { All HasMask instrs.now }
-    ensures written { OnOk result (out.new.items ≡ out.old.items ++ flat_map (λ i. bytes_of (instruction i)) instrs.now) }
-    ensures fits { OnOk result (All IsInstruction instrs.now) }
+    ensures written { OnOk result (out.new.items ≡ out.old.items ++ flat_map (λ i. bytes_of (instruction version.One i)) instrs.now) }
+    ensures fits { OnOk result (All (IsInstruction version.One) instrs.now) }
 {
     for instr in instrs {
         put_instruction(out, instr)?;
@@ -103,10 +105,19 @@ pub fn write_code(alloc: Global, code: &Code) -> Result<Vec<u8>, FileFault>
     ensures readable { OnOk result (IsCode code.now) }
     ensures refused { IfErr result (λ fault. fault ≡ FileFault.Memory) }
 {
+    Ok(file_in(alloc, Version::One, code)?)
+}
+
+/// The file of a code in a version.
+fn file_in(alloc: Global, version: Version, code: &Code) -> Result<Vec<u8>, AllocError>
+    ensures written { IfOk result (λ bytes. bytes.items ≡ spelling_in version code.now) }
+    ensures fits { OnOk result (IsCodeIn version.One code.now) }
+{
     let sets = code.sets();
     let instrs = code.instrs();
     let mut out = Vec::new(alloc);
     out.extend_from_slice(&MARK)?;
+    out.push(version.byte())?;
     out.push(code.locals())?;
     out.push(sets.len() as u8)?;
     put_sets(&mut out, sets)?;
