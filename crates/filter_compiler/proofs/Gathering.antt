@@ -21,7 +21,7 @@ use Rattle.filter_compiler.proofs.Puts.{past_both}
 use Rattle.filter_compiler.proofs.Trees.{chain_push, sets_assoc, sets_push, without_more}
 
 pub gathers_none : (a : SetLists) → Gathers a a no_sets
-gathers_none a = record { holds = λ before h. subst (HoldsSets a) (sym (without_more before)) h; }
+gathers_none a = record { holds = λ before h. subst (HoldsSets a) (sym (without_more before)) h }
 
 pub gathers_then : {a b c : SetLists} {s t : Sets} → Gathers a b s → Gathers b c t → Gathers a c (with_sets s t)
 gathers_then {a} {b} {c} {s} {t} first second = record {

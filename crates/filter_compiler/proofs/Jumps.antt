@@ -45,4 +45,4 @@ over_code {a} {b} {c} {d} {empty} {code} {distance} jump first second far is = r
 
 pub over : {a b c d : Output} {k l : SetNumbers} {empty : Instr} {p : Part} {distance : ℕ} (jump : ℕ → Instr) → Puts a b (empty ∷ [])
     → Emits b c k l p → distance ≡ c.length - a.length - 1 → d ≡ patched c a.length (jump distance) → Emits a d k l (jump_over jump p)
-over jump first second far is = record { puts = λ n counted. over_code jump first (second.puts n counted) far is; counts = second.counts; }
+over jump first second far is = record { puts = λ n counted. over_code jump first (second.puts n counted) far is; counts = second.counts }

@@ -16,7 +16,7 @@ past_both n s t = ap (λ m. record { patterns = m }) (omega (arith, length-appen
 
 -- instructions and others
 pub nothing : (a : Output) → Puts a a []
-nothing a = record { holds = λ before h. subst (Holds a) (sym (append-nil before)) h; }
+nothing a = record { holds = λ before h. subst (Holds a) (sym (append-nil before)) h }
 
 pub puts_then : {a b c : Output} {x y : List Instr} → Puts a b x → Puts b c y → Puts a c (x ++ y)
 puts_then {a} {b} {c} {x} {y} first second = record {
@@ -55,11 +55,11 @@ with_code p instrs = record { code = λ n. p.code n ++ instrs; sets = p.sets }
 
 pub then_code : {a b c : Output} {k l : SetNumbers} {p : Part} {instrs : List Instr} → Emits a b k l p → Puts b c instrs
     → Emits a c k l (with_code p instrs)
-then_code first second = record { puts = λ n counted. puts_then (first.puts n counted) second; counts = first.counts; }
+then_code first second = record { puts = λ n counted. puts_then (first.puts n counted) second; counts = first.counts }
 
 abbrev pub code_with : List Instr → Part → Part
 code_with instrs p = record { code = λ n. instrs ++ p.code n; sets = p.sets }
 
 pub code_then : {a b c : Output} {k l : SetNumbers} {instrs : List Instr} {p : Part} → Puts a b instrs → Emits b c k l p
     → Emits a c k l (code_with instrs p)
-code_then first second = record { puts = λ n counted. puts_then first (second.puts n counted); counts = second.counts; }
+code_then first second = record { puts = λ n counted. puts_then first (second.puts n counted); counts = second.counts }

@@ -86,12 +86,7 @@ pub(crate) fn emit_commands(
 
 /// Writes a command, where the next sets have these numbers. What is answered are the numbers after those of the command.
 #[cycle(command)]
-fn emit_command(
-    typed: &Typed,
-    command: &Command,
-    sets: SetNumbers,
-    out: &mut Output,
-) -> SetNumbers
+fn emit_command(typed: &Typed, command: &Command, sets: SetNumbers, out: &mut Output) -> SetNumbers
     ensures code { Emits out.old out.new sets result (command_part (view_filter typed.now).decls (view_command command.now)) }
     ensures places { Notes out.old out.new (command_places command.now) }
 {

@@ -148,13 +148,7 @@ fn emit_and(
 
 /// Writes `||` with the operand at its right, which is passed over where the left one is true.
 #[cycle(expressions)]
-fn emit_or(
-    typed: &Typed,
-    at: usize,
-    right: &Expr,
-    sets: SetNumbers,
-    out: &mut Output,
-) -> SetNumbers
+fn emit_or(typed: &Typed, at: usize, right: &Expr, sets: SetNumbers, out: &mut Output) -> SetNumbers
     ensures code { Emits out.old out.new sets result (right_part (view_filter typed.now).decls Op.Or (view right.now)) }
     ensures places { Notes out.old out.new (right_places at Op.Or (expression_places right.now)) }
 {

@@ -14,7 +14,7 @@ use Rattle.filter_compiler.proofs.compiler.compile_mapped.Goals as goal
 abbrev program_of : ℕ → List (List PrefixPattern) → List Instr → CodeView
 program_of locals sets instrs = record { locals = locals; sets = sets; instrs = instrs }
 
-pub returns-clause-meaning : goal.returns-in_ok-build_code-clause-meaning
+pub returns-clause-meaning : goal.returns-clause-meaning
 returns-clause-meaning c =
     let f = view_filter c.args.typed.now in
     let out = c.write_filter-out.result in
