@@ -8,7 +8,7 @@ use Rattle.code_file.specs.Spelling.{IsFile}
 use Rattle.code_file.specs.Fault.{IsFault}
 use Rattle.code_file.specs.Fields.{IsBytes}
 use Rattle.code_file.specs.Reading.{file_of}
-use Rattle.code_file.proofs.Grammar.{file_of_spelling, spelling_of_file, fault_of_file}
+use Rattle.code_file.proofs.Grammar.{file_of_spelling_in, spelling_of_file, fault_of_file}
 
 -- code or fault of the bytes, or memory was refused
 abbrev pub Answers : List ℕ → Result CodeView FileFault → Type 0
@@ -22,11 +22,11 @@ is_found bytes (Err found) h given = tt
 pub is_only : (bytes : List ℕ) (r : Result CodeView FileFault) → Answers bytes r → (code : CodeView) → IsFile bytes code →
     MatchResult r (λ read. read ≡ code) (λ found. found ≡ fault.Memory)
 is_only bytes (Ok other) given code h =
-    let read = ap file_of h.spelled ∙ file_of_spelling h.version code h.is_code in
+    let read = ap file_of h.spelled ∙ file_of_spelling_in h.version code h.is_code in
     cc
 is_only bytes (Err found) (inl none) code h = none
 is_only bytes (Err found) (inr met) code h =
-    let read = ap file_of h.spelled ∙ file_of_spelling h.version code h.is_code in
+    let read = ap file_of h.spelled ∙ file_of_spelling_in h.version code h.is_code in
     absurd cc
 
 pub is_refused : (bytes : List ℕ) (r : Result CodeView FileFault) → IsBytes bytes → Answers bytes r →

@@ -8,8 +8,8 @@ use Rattle.code_file.specs.declared.fault.FileFault.{FileFault}
 use Rattle.code_file.specs.declared.fault.FileFault.TheVariants as fault
 use Rattle.code_file.proofs.Bytes.{IsBytes-drop, IsBytes-take, one_byte, zeros_are_bytes}
 use Rattle.code_file.specs.Fields.{FieldKind, width, is_good, fault_of, mark_bytes, form_of}
-use Rattle.code_file.specs.Fields.FieldKind.{Mark, VersionMark, Locals, Sets, Patterns, Pattern, Instructions, Opcode, WordOperand}
-use Rattle.code_file.specs.Fields.FieldKind.{TruthOperand, PrefixOperand, NameOperand, BitsOperand, SkipOperand}
+use Rattle.code_file.specs.Fields.FieldKind.{Mark, VersionMark, Locals, Sets, Patterns, Pattern, IntSets, Ranges, Range, Instructions, Opcode}
+use Rattle.code_file.specs.Fields.FieldKind.{WordOperand, TruthOperand, PrefixOperand, NameOperand, BitsOperand, SkipOperand}
 use Rattle.prefix_patterns.specs.Bits.{bits, number}
 use Rattle.code_file.specs.Spelling.{Field, bytes_of}
 use Rattle.code_file.specs.Fields.{IsBytes}
@@ -199,6 +199,9 @@ good_example Locals = 0 ∷ []
 good_example Sets = 0 ∷ []
 good_example Patterns = 0 ∷ 0 ∷ []
 good_example Pattern = 0 ∷ 0 ∷ 0 ∷ 0 ∷ 0 ∷ 0 ∷ 0 ∷ []
+good_example IntSets = 0 ∷ []
+good_example Ranges = 0 ∷ 0 ∷ []
+good_example Range = 0 ∷ 0 ∷ 0 ∷ 0 ∷ 0 ∷ 0 ∷ 0 ∷ 0 ∷ []
 good_example Instructions = 0 ∷ 0 ∷ []
 good_example (Opcode v) = 0x71 ∷ []
 good_example WordOperand = 0 ∷ 0 ∷ 0 ∷ 0 ∷ []
@@ -227,6 +230,9 @@ example_is_good Locals = record { len = refl; good = refl; are_bytes = zeros_are
 example_is_good Sets = record { len = refl; good = refl; are_bytes = zeros_are_bytes 1 }
 example_is_good Patterns = record { len = refl; good = refl; are_bytes = zeros_are_bytes 2 }
 example_is_good Pattern = record { len = refl; good = refl; are_bytes = zeros_are_bytes 7 }
+example_is_good IntSets = record { len = refl; good = refl; are_bytes = zeros_are_bytes 1 }
+example_is_good Ranges = record { len = refl; good = refl; are_bytes = zeros_are_bytes 2 }
+example_is_good Range = record { len = refl; good = refl; are_bytes = zeros_are_bytes 8 }
 example_is_good Instructions = record { len = refl; good = refl; are_bytes = zeros_are_bytes 2 }
 example_is_good (Opcode v) = record { len = refl; good = refl; are_bytes = one_byte 0x71 (lit< tt) }
 example_is_good WordOperand = record { len = refl; good = refl; are_bytes = zeros_are_bytes 4 }

@@ -1,12 +1,12 @@
 -- Reading is the grammar: a code is what is spelled so, and a fault is the one that the bytes have.
-use Rattle.std.proofs.Common.{refl, ◌≡◌, ℕ, ◌+◌, List, ◌∷◌, ◌++◌, length, Result, Ok, Err, sym, ap, subst, ◌∙◌, arith, inl, inr, ◌↔◌}
+use Rattle.std.proofs.Common.{refl, ◌≡◌, ℕ, ◌+◌, List, ◌∷◌, ◌++◌, length, slice_index, Result, Ok, Err, sym, ap, subst, ◌∙◌, arith, inl, inr, ◌↔◌}
 use Rattle.filter_code.specs.CodeView.{CodeView}
 use Rattle.code_file.specs.declared.fault.FileFault.{FileFault}
 use Rattle.code_file.specs.declared.fault.FileFault.TheVariants as fault
 use Rattle.code_file.specs.Fields.{fault_of}
 use Rattle.code_file.specs.declared.version.Version.{Version}
 use Rattle.code_file.specs.declared.version.Version.TheVariants as version
-use Rattle.code_file.specs.Spelling.{Field, bytes_of, fields, spelling_in, IsCodeIn, IsFile}
+use Rattle.code_file.specs.Spelling.{Field, bytes_of, fields, spelling, spelling_in, IsCode, IsCodeIn, IsFile}
 use Rattle.code_file.specs.Fault.{IsReadUpTo, IsFault}
 use Rattle.code_file.specs.Fields.{IsBytes}
 use Rattle.code_file.specs.Reading.{Rest, a_file, read, whole, file_of}
@@ -15,9 +15,12 @@ use Rattle.code_file.proofs.Formats.{AreNotAll, whole_found, Stopped, whole_refu
 use Rattle.code_file.proofs.Files.{put_file, take_file}
 
 -- the file of a code is read
-pub file_of_spelling : (v : Version) (code : CodeView) → IsCodeIn v code → file_of (spelling_in v code) ≡ Ok code
+pub file_of_spelling_in : (v : Version) (code : CodeView) → IsCodeIn v code → file_of (spelling_in v code) ≡ Ok code
 unfolding file_of
-file_of_spelling v code h = whole_again a_file (fields v code) code (put_file v code h)
+file_of_spelling_in v code h = whole_again a_file (fields v code) code (put_file v code h)
+
+pub file_of_spelling : (code : CodeView) → IsCode code → file_of (spelling code) ≡ Ok code
+file_of_spelling code h = file_of_spelling_in version.Two code h
 
 -- what was read is the file of the code
 pub spelling_of_file : (bytes : List ℕ) (code : CodeView) → IsBytes bytes → file_of bytes ≡ Ok code → IsFile bytes code
@@ -121,7 +124,7 @@ one_fault bytes a b p q =
 
 pub no_fault : (v : Version) (code : CodeView) (found : FileFault) → IsCodeIn v code → IsFault (spelling_in v code) found → ⊥
 no_fault v code found h p =
-    let read = file_of_spelling v code h in
+    let read = file_of_spelling_in v code h in
     let met = file_of_fault (spelling_in v code) found p in
     cc
 
@@ -137,6 +140,9 @@ same_found {A} {B} r x y t u p q =
 -- files that begin alike have the same version
 one_version : (v w : Version) (a b : CodeView) (x y : List ℕ) → spelling_in v a ++ x ≡ spelling_in w b ++ y → v ≡ w
 one_version version.One version.One a b x y e = refl
+one_version version.One version.Two a b x y e = absurd (let last = ap (λ (bytes : List ℕ). slice_index bytes 3) e in omega (arith, last))
+one_version version.Two version.One a b x y e = absurd (let last = ap (λ (bytes : List ℕ). slice_index bytes 3) e in omega (arith, last))
+one_version version.Two version.Two a b x y e = refl
 
 -- no file begins another, and each is that of one code
 pub one_file : (v w : Version) (a b : CodeView) (x y : List ℕ) → IsCodeIn v a → IsCodeIn w b →
@@ -150,7 +156,7 @@ one_file v w a b x y p q e =
 
 pub exact_code : (bytes : List ℕ) (code : CodeView) → IsBytes bytes → (file_of bytes ≡ Ok code) ↔ IsFile bytes code
 exact_code bytes code h =
-    (spelling_of_file bytes code h, λ is. ap file_of is.spelled ∙ file_of_spelling is.version code is.is_code)
+    (spelling_of_file bytes code h, λ is. ap file_of is.spelled ∙ file_of_spelling_in is.version code is.is_code)
 
 pub exact_fault : (bytes : List ℕ) (found : FileFault) → IsBytes bytes → (file_of bytes ≡ Err found) ↔ IsFault bytes found
 exact_fault bytes found h = (fault_of_file bytes found h, file_of_fault bytes found)

@@ -3,27 +3,31 @@ use Rattle.std.proofs.Common.{◌≡◌, ◌⊎◌, ℕ, ◌<◌, List, length, 
 use Rattle.prefix_patterns.specs.Matching.{PrefixPattern}
 use Rattle.filter_code.specs.declared.instruction.Instr.{Instr}
 use Rattle.filter_code.specs.CodeView.{CodeView}
+use Rattle.int_sets.specs.Holding.{NumberRange}
 use Rattle.code_file.specs.declared.fault.FileFault.{FileFault}
 use Rattle.code_file.specs.declared.fault.FileFault.TheVariants as fault
 use Rattle.code_file.specs.declared.version.Version.{Version}
 use Rattle.code_file.specs.Fields.FieldKind.{Locals, Sets, Instructions}
-use Rattle.code_file.specs.Reading.{Format, ◌>>=◌, Rest, read, whole, a_number, a_set, an_instruction, a_count_of, a_mark, a_code, a_file}
+use Rattle.code_file.specs.Reading.{Format, ◌>>=◌, Rest, read, whole, a_number, a_set, the_int_sets, an_instruction, a_count_of, a_mark, a_code, a_file}
 use Rattle.code_file.specs.Reading.{file_of}
 use Rattle.code_file.specs.Reading.Format.{Done}
 use Rattle.code_file.proofs.Formats.{from_start}
 use Rattle.code_file.proofs.Steps.{reads_on, reads_no_more, more_after, none_after}
 
-abbrev program_of : ℕ → List (List PrefixPattern) → List Instr → CodeView
-program_of locals sets instrs = record { locals = locals; sets = sets; instrs = instrs }
+abbrev program_of : ℕ → List (List PrefixPattern) → List (List NumberRange) → List Instr → CodeView
+program_of locals sets int_sets instrs = record { locals = locals; sets = sets; int_sets = int_sets; instrs = instrs }
 
-abbrev made : ℕ → List (List PrefixPattern) → List Instr → Format CodeView
-made locals sets instrs = Done (program_of locals sets instrs)
+abbrev made : ℕ → List (List PrefixPattern) → List (List NumberRange) → List Instr → Format CodeView
+made locals sets int_sets instrs = Done (program_of locals sets int_sets instrs)
 
-abbrev from_instructions : Version → ℕ → List (List PrefixPattern) → Format CodeView
-from_instructions v locals sets = a_count_of Instructions (an_instruction v) >>= made locals sets
+abbrev from_instructions : Version → ℕ → List (List PrefixPattern) → List (List NumberRange) → Format CodeView
+from_instructions v locals sets int_sets = a_count_of Instructions (an_instruction v) >>= made locals sets int_sets
+
+abbrev from_int_sets : Version → ℕ → List (List PrefixPattern) → Format CodeView
+from_int_sets v locals sets = the_int_sets v >>= from_instructions v locals sets
 
 abbrev from_sets : Version → ℕ → Format CodeView
-from_sets v locals = a_count_of Sets a_set >>= from_instructions v locals
+from_sets v locals = a_count_of Sets a_set >>= from_int_sets v locals
 
 abbrev all_of : Result (CodeView × Rest) FileFault → Result CodeView FileFault
 all_of r = whole r
@@ -40,36 +44,57 @@ pub sets_refused : (v : Version) (start left : Rest) (locals : ℕ) (found : Fil
 sets_refused v start left locals found h (inl none) = inl none
 sets_refused v start left locals found h (inr met) =
     inr (reads_on (a_number Locals) (from_sets v) start left locals h
-    ∙ reads_no_more (a_count_of Sets a_set) (from_instructions v locals) left found met)
+    ∙ reads_no_more (a_count_of Sets a_set) (from_int_sets v locals) left found met)
 
--- the parts before the instructions were read
-pub record AreRead (start : Rest) (locals : ℕ) (sets : List (List PrefixPattern)) (end : Rest) : Type 0 where
+-- the locals and the sets were read
+pub record HasSets (start : Rest) (locals : ℕ) (sets : List (List PrefixPattern)) (end : Rest) : Type 0 where
   pub left : Rest
   pub locals_read : read (a_number Locals) start ≡ Ok (locals, left)
   pub sets_read : read (a_count_of Sets a_set) left ≡ Ok (sets, end)
 
 after_sets : (v : Version) (start : Rest) (locals : ℕ) (sets : List (List PrefixPattern)) (end : Rest) →
-    AreRead start locals sets end → read (a_code v) start ≡ read (from_instructions v locals sets) end
+    HasSets start locals sets end → read (a_code v) start ≡ read (from_int_sets v locals sets) end
 after_sets v start locals sets end front =
     reads_on (a_number Locals) (from_sets v) start front.left locals front.locals_read
-    ∙ reads_on (a_count_of Sets a_set) (from_instructions v locals) front.left end sets front.sets_read
+    ∙ reads_on (a_count_of Sets a_set) (from_int_sets v locals) front.left end sets front.sets_read
 
-pub instructions_refused : (v : Version) (start : Rest) (locals : ℕ) (sets : List (List PrefixPattern)) (end : Rest)
-    (found : FileFault) → AreRead start locals sets end
-    → (found ≡ fault.Memory) ⊎ (read (a_count_of Instructions (an_instruction v)) end ≡ Err found)
+pub int_sets_refused : (v : Version) (start : Rest) (locals : ℕ) (sets : List (List PrefixPattern)) (end : Rest)
+    (found : FileFault) → HasSets start locals sets end → (found ≡ fault.Memory) ⊎ (read (the_int_sets v) end ≡ Err found)
     → (found ≡ fault.Memory) ⊎ (read (a_code v) start ≡ Err found)
-instructions_refused v start locals sets end found front (inl none) = inl none
-instructions_refused v start locals sets end found front (inr met) =
+int_sets_refused v start locals sets end found front (inl none) = inl none
+int_sets_refused v start locals sets end found front (inr met) =
     inr (after_sets v start locals sets end front
-    ∙ reads_no_more (a_count_of Instructions (an_instruction v)) (made locals sets) end found met)
+    ∙ reads_no_more (the_int_sets v) (from_instructions v locals sets) end found met)
 
-pub code_read : (v : Version) (start : Rest) (locals : ℕ) (sets : List (List PrefixPattern)) (end : Rest) (instrs : List Instr)
-    (last : Rest) → AreRead start locals sets end
-    → read (a_count_of Instructions (an_instruction v)) end ≡ Ok (instrs, last)
-    → read (a_code v) start ≡ Ok (program_of locals sets instrs, last)
-code_read v start locals sets end instrs last front k =
-    after_sets v start locals sets end front
-    ∙ reads_on (a_count_of Instructions (an_instruction v)) (made locals sets) end last instrs k
+-- all before the instructions was read
+pub record AreRead (v : Version) (start : Rest) (locals : ℕ) (sets : List (List PrefixPattern))
+    (int_sets : List (List NumberRange)) (last : Rest) : Type 0 where
+  pub end : Rest
+  pub front : HasSets start locals sets end
+  pub int_sets_read : read (the_int_sets v) end ≡ Ok (int_sets, last)
+
+after_int_sets : (v : Version) (start : Rest) (locals : ℕ) (sets : List (List PrefixPattern)) (int_sets : List (List NumberRange))
+    (last : Rest) → AreRead v start locals sets int_sets last → read (a_code v) start ≡ read (from_instructions v locals sets int_sets) last
+after_int_sets v start locals sets int_sets last all =
+    after_sets v start locals sets all.end all.front
+    ∙ reads_on (the_int_sets v) (from_instructions v locals sets) all.end last int_sets all.int_sets_read
+
+pub instructions_refused : (v : Version) (start : Rest) (locals : ℕ) (sets : List (List PrefixPattern))
+    (int_sets : List (List NumberRange)) (last : Rest) (found : FileFault) → AreRead v start locals sets int_sets last
+    → (found ≡ fault.Memory) ⊎ (read (a_count_of Instructions (an_instruction v)) last ≡ Err found)
+    → (found ≡ fault.Memory) ⊎ (read (a_code v) start ≡ Err found)
+instructions_refused v start locals sets int_sets last found all (inl none) = inl none
+instructions_refused v start locals sets int_sets last found all (inr met) =
+    inr (after_int_sets v start locals sets int_sets last all
+    ∙ reads_no_more (a_count_of Instructions (an_instruction v)) (made locals sets int_sets) last found met)
+
+pub code_read : (v : Version) (start : Rest) (locals : ℕ) (sets : List (List PrefixPattern)) (int_sets : List (List NumberRange))
+    (last : Rest) (instrs : List Instr) (new : Rest) → AreRead v start locals sets int_sets last
+    → read (a_count_of Instructions (an_instruction v)) last ≡ Ok (instrs, new)
+    → read (a_code v) start ≡ Ok (program_of locals sets int_sets instrs, new)
+code_read v start locals sets int_sets last instrs new all k =
+    after_int_sets v start locals sets int_sets last all
+    ∙ reads_on (a_count_of Instructions (an_instruction v)) (made locals sets int_sets) last new instrs k
 
 -- ---- a whole file
 

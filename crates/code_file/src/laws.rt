@@ -1,12 +1,13 @@
 //! What holds of every file and of all bytes.
 
-ghost use Rattle.std.specs.Prelude.{◌≡◌, ◌∷◌, ◌++◌, ◌↔◌, ℕ, List, length, Ok, Err};
+ghost use Rattle.std.specs.Prelude.{◌≡◌, ◌∷◌, ◌++◌, ◌↔◌, ℕ, List, length, false, Ok, Err};
 ghost use Rattle.filter_code.specs.CodeView.{CodeView};
 ghost use Rattle.code_file.specs.declared.fault.FileFault.{FileFault as Fault};
 ghost use Rattle.code_file.specs.declared.fault.FileFault.TheVariants.{BytesAfterEnd};
 ghost use Rattle.code_file.specs.declared.version.Version.{Version};
+ghost use Rattle.code_file.specs.declared.version.Version.TheVariants.{One};
 ghost use Rattle.code_file.specs.Fields.{IsBytes};
-ghost use Rattle.code_file.specs.Spelling.{spelling_in, IsCodeIn, IsFile};
+ghost use Rattle.code_file.specs.Spelling.{spelling, spelling_in, needs_int_sets, IsCode, IsCodeIn, IsFile};
 ghost use Rattle.code_file.specs.Fault.{IsFault};
 ghost use Rattle.code_file.specs.Reading.{file_of};
 
@@ -20,6 +21,13 @@ pub fn one_fault()
 pub fn one_file()
     ensures { (v w : Version) (a b : CodeView) (x y : List ℕ) → IsCodeIn v a → IsCodeIn w b →
         spelling_in v a ++ x ≡ spelling_in w b ++ y → (v ≡ w) × (a ≡ b) × (x ≡ y) }
+{}
+
+/// A code has a file with the mark `NCF1` exactly where it has one with the mark `NCF2`, and no set of ints and no INSET.
+/// Both are read as the same code.
+pub fn old_files()
+    ensures has { (code : CodeView) → IsCodeIn One code ↔ (IsCode code × (needs_int_sets code ≡ false)) }
+    ensures same { (code : CodeView) → IsCodeIn One code → file_of (spelling_in One code) ≡ file_of (spelling code) }
 {}
 
 /// Reading gives the code whose file the bytes are, or else their fault.

@@ -2,15 +2,16 @@
 
 ghost use Rattle.std.specs.Prelude.{◌≡◌, ◌≤◌, ◌⊎◌, length, All, Ok, Err, IfOk, IfErr, MatchResult};
 ghost use Rattle.filter_code.specs.CodeView.{CodeView, HasMask};
-ghost use Rattle.code_file.specs.Fields.FieldKind.{Sets, Instructions};
+ghost use Rattle.code_file.specs.Fields.FieldKind.{Sets, IntSets, Instructions};
 ghost use Rattle.code_file.specs.Spelling.{IsFile};
 ghost use Rattle.code_file.specs.Fault.{IsFault};
-ghost use Rattle.code_file.specs.Reading.{a_pattern, a_set, an_instruction, a_code, a_count_of, times, file_of, ReadsInto};
+ghost use Rattle.code_file.specs.Reading.{a_pattern, a_set, a_range, an_int_set, the_int_sets, an_instruction, a_code};
+ghost use Rattle.code_file.specs.Reading.{a_count_of, times, file_of, ReadsInto};
 
 use crate::fault::FileFault;
 use crate::reader::Reader;
 use crate::version::Version;
-use filter_code::{Code, INSTRUCTION_LIMIT, Instr, SET_LIMIT};
+use filter_code::{Code, INSTRUCTION_LIMIT, INT_SET_LIMIT, Instr, IntRange, IntSet, SET_LIMIT};
 use prefix_patterns::{PATTERN_LIMIT, Pattern, PatternSet};
 use std::alloc::Global;
 
@@ -52,6 +53,44 @@ fn sets(alloc: Global, reader: &mut Reader<'_>, count: u8) -> Result<Vec<Pattern
     Ok(sets)
 }
 
+/// The next ranges of ints, so many as `count`.
+fn ranges(alloc: Global, reader: &mut Reader<'_>, count: u16) -> Result<Vec<IntRange>, FileFault>
+    ensures value { ReadsInto (λ v. v.items) (times count a_range) reader.old reader.new result }
+    ensures count { IfOk result (λ v. length v.items ≡ count) }
+{
+    let mut ranges = Vec::with_capacity(alloc, (count as usize).min(reader.left()))?;
+    for _ in 0..count {
+        let range = reader.range()?;
+        ranges.push(range)?;
+    }
+    Ok(ranges)
+}
+
+/// The next set of ints.
+fn int_set(alloc: Global, reader: &mut Reader<'_>) -> Result<IntSet, FileFault>
+    ensures { ReadsInto (λ set. set) an_int_set reader.old reader.new result }
+{
+    let count = reader.range_count()?;
+    let ranges = ranges(alloc, reader, count)?;
+    match IntSet::build(alloc, &ranges) {
+        Ok(set) => Ok(set),
+        Err(_) => Err(FileFault::Memory),
+    }
+}
+
+/// So many sets of ints.
+fn int_sets(alloc: Global, reader: &mut Reader<'_>, count: u8) -> Result<Vec<IntSet>, FileFault>
+    ensures value { ReadsInto (λ v. v.items) (times count an_int_set) reader.old reader.new result }
+    ensures count { IfOk result (λ v. length v.items ≡ count) }
+{
+    let mut sets = Vec::with_capacity(alloc, (count as usize).min(reader.left()))?;
+    for _ in 0..count {
+        let set = int_set(alloc, reader)?;
+        sets.push(set)?;
+    }
+    Ok(sets)
+}
+
 /// So many instructions.
 fn instructions(alloc: Global, reader: &mut Reader<'_>, version: Version, count: u16) -> Result<Vec<Instr>, FileFault>
     ensures value { ReadsInto (λ v. v.items) (times count (an_instruction version)) reader.old reader.new result }
@@ -86,8 +125,9 @@ fn code_in(alloc: Global, reader: &mut Reader<'_>, version: Version) -> Result<C
 {
     let locals = reader.locals()?;
     let sets = counted_sets(alloc, reader)?;
+    let int_sets = version_int_sets(alloc, reader, version)?;
     let instrs = counted_instructions(alloc, reader, version)?;
-    Ok(Code::new(locals, sets, instrs).unwrap())
+    Ok(Code::new(locals, sets, int_sets, instrs).unwrap())
 }
 
 /// The number of sets, and these.
@@ -97,6 +137,26 @@ fn counted_sets(alloc: Global, reader: &mut Reader<'_>) -> Result<Vec<PatternSet
 {
     let count = reader.set_count()?;
     sets(alloc, reader, count)
+}
+
+/// The number of sets of ints, and these.
+fn counted_int_sets(alloc: Global, reader: &mut Reader<'_>) -> Result<Vec<IntSet>, FileFault>
+    ensures value { ReadsInto (λ v. v.items) (a_count_of IntSets an_int_set) reader.old reader.new result }
+    ensures limit { IfOk result (λ v. length v.items ≤ INT_SET_LIMIT) }
+{
+    let count = reader.int_set_count()?;
+    int_sets(alloc, reader, count)
+}
+
+/// The sets of ints of a version.
+fn version_int_sets(alloc: Global, reader: &mut Reader<'_>, version: Version) -> Result<Vec<IntSet>, FileFault>
+    ensures value { ReadsInto (λ v. v.items) (the_int_sets version) reader.old reader.new result }
+    ensures limit { IfOk result (λ v. length v.items ≤ INT_SET_LIMIT) }
+{
+    match version {
+        Version::One => Ok(Vec::new(alloc)),
+        Version::Two => counted_int_sets(alloc, reader),
+    }
 }
 
 /// The number of instructions, and these.

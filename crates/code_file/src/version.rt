@@ -1,11 +1,13 @@
 ghost use Rattle.std.specs.Prelude.{◌≡◌};
-ghost use Rattle.code_file.specs.Fields.{version_byte, version_of};
+ghost use Rattle.code_file.specs.Fields.{version_byte, version_of, has_int_sets};
 
 /// A version of the format. The last byte of the mark tells it.
 #[derive(Clone, Copy, Debug, PartialEq, Eq)]
 pub enum Version {
-    /// The mark is `NCF1`.
+    /// The mark is `NCF1`. Such a file has no sets of ints, and no INSET.
     One,
+    /// The mark is `NCF2`.
+    Two,
 }
 
 impl Version {
@@ -15,6 +17,7 @@ impl Version {
     {
         match self {
             Version::One => b'1',
+            Version::Two => b'2',
         }
     }
 
@@ -24,7 +27,18 @@ impl Version {
     {
         match byte {
             b'1' => Some(Version::One),
+            b'2' => Some(Version::Two),
             _ => None,
+        }
+    }
+
+    /// Whether files of the version have sets of ints.
+    pub fn has_int_sets(self) -> bool
+        ensures { result ≡ has_int_sets self }
+    {
+        match self {
+            Version::One => false,
+            Version::Two => true,
         }
     }
 }
