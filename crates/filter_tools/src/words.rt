@@ -279,7 +279,7 @@ fn kind_words(alloc: Global, text: &[u8], fault: TypeFault) -> Result<String, Al
         TypeFault::TooManyVariables(_) => {
             String::from_str(alloc, "a filter has at most 16 variables")
         }
-        TypeFault::LabelsOverlap(_) => String::from_str(
+        TypeFault::SharedLabel(_) => String::from_str(
             alloc,
             "an earlier label of this `case` has a number of this label",
         ),
