@@ -307,7 +307,7 @@ fn compile_words(fault: CompileFault) -> &'static str {
     match fault {
         CompileFault::TooManyInstructions => "the compiled filter exceeds 1024 instructions",
         CompileFault::TooManySets => {
-            "more than 64 sets of patterns or of numbers, or more than 1024 patterns or ranges in one"
+            "more than 64 sets of patterns or of ints, or more than 1024 patterns or ranges in one"
         }
         CompileFault::Memory => "out of memory",
     }

@@ -46,7 +46,7 @@ Write a number of 32 bits. No metric is over 250.
 P4: an address with a group over 255, a prefix with a length over 32
     an argument of `mask` over 32
     a pattern whose lengths are out of order or over 32
-    a range whose first number is the greater one
+    a range whose first int is the greater one
 Place: its first byte; the number's first byte; its `{`; its first byte
 
     $ echo 'filter q { if net ~ [1.0.0.0/33] then ; }' | ncroute check --size 16
