@@ -3,7 +3,7 @@ use Rattle.std.specs.Prelude.{◌≡◌, ◌≢◌, ℕ, Bool, true, false, List
 use Rattle.hex.specs.Hex.{decode_of}
 use Rattle.hex.specs.declared.error.FromHexError.{FromHexError}
 use Rattle.code_file.specs.Reading.{file_of}
-use Rattle.code_file.specs.Spelling.{IsCodeIn}
+use Rattle.code_file.specs.Spelling.{needs_int_sets}
 use Rattle.code_file.specs.declared.fault.FileFault.{FileFault}
 use Rattle.code_file.specs.declared.fault.FileFault.TheVariants as file
 use Rattle.code_file.specs.declared.version.Version.{Version}
@@ -75,7 +75,7 @@ version_for false = version.Two
 
 -- A code has no file of a version: only the older one has not all codes.
 abbrev pub IsUnwritten : Bool → CodeView → Refusal → Type 0
-IsUnwritten is_old program why = (is_old ≡ true) × (why ≡ File file.OldForm) × ¬ IsCodeIn version.One program
+IsUnwritten is_old program why = (is_old ≡ true) × (why ≡ File file.OldForm) × (needs_int_sets program ≡ true)
 
 -- the first thing that is not known of the code, and nothing else, refuses it
 abbrev pub IsUnsafe : CodeView → ℕ → Refusal → Type 0

@@ -292,7 +292,7 @@ Give the process more memory. `ncroute` answers E3 in its place.
     Page {
         code: "C8",
         text: "\
-C8: the code has a set of ints or an INSET, which the older form of code files has not
+C8: the code has a set of ints or an INSET, and an `NCF1` file is asked for (comes before C7)
 Place: none, shown as 0
 
     $ echo 4e4346320000010001000000020000000200051352006100017071 | ncroute rewrite --old
