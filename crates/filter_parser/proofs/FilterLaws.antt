@@ -7,7 +7,7 @@ use Rattle.filter_tokens.specs.declared.symbol.Symbol.{Symbol}
 use Rattle.filter_tokens.specs.declared.symbol.Symbol.TheVariants as symbols
 use Rattle.filter_parser.specs.declared.tree.decl.Kind.{Kind}
 use Rattle.filter_parser.specs.declared.tree.decl.Kind.TheVariants as kind
-use Rattle.filter_parser.specs.ReadingCommands.{PartsView, command_at, commands_with, decl_turn, decl_with, decls_after, filter_of, a_kind}
+use Rattle.filter_parser.specs.ReadingCommands.{SaidView, command_at, commands_with, decl_turn, decl_with, decls_after, filter_of, a_kind}
 use Rattle.filter_parser.specs.Readers.{a_name, turns, symbol}
 use Rattle.filter_parser.specs.ReadingCommands.{kind_of, nothing_after}
 use Rattle.filter_parser.specs.Reading.{expr_at}
@@ -167,7 +167,7 @@ whole_found x [] y e = (refl, some_is e)
 whole_found x (w ∷ ws) y e = absurd (cc)
 
 -- what was read of a filter: it is spelled so, and fits
-pub record FoundFilter (ws : List Lexeme) (x : PartsView) : Type 0 where
+pub record FoundFilter (ws : List Lexeme) (x : SaidView) : Type 0 where
   pub head : List DeclView
   pub inner : List DeclView
   pub declared : x.decls ≡ head ++ inner
@@ -179,7 +179,7 @@ filter_joined : (ws a b c d e : List Lexeme) (f g h k n : Lexeme) (front inner b
     → ws ≡ f ∷ n ∷ (front ++ g ∷ (inner ++ (body ++ k ∷ [])))
 filter_joined ws a b c d e f g h k n front inner body e1 e2 e3 e4 e5 e6 = rw (e1, e2, e3, e4, e5, e6) refl
 
-pub filter_sound : (ws : List Lexeme) (x : PartsView) → filter_of ws ≡ Some x → FoundFilter ws x
+pub filter_sound : (ws : List Lexeme) (x : SaidView) → filter_of ws ≡ Some x → FoundFilter ws x
 filter_sound ws x e =
     let (a, e1, f1) = bind_some (symbol symbols.Filter ws) _ x e in
     let (name, e2, f2) = bind_some (a_name a) _ x f1 in
