@@ -200,8 +200,8 @@ const REFUSED: [Row; 17] = [
         "P10 15 unexpected text at byte 15: only `accept` and `reject` take one",
     ),
     (
-        "filter q { if 1 ~ [1..3] then accept; }",
-        "P10 19 sets of numbers, as at byte 19, are not supported",
+        "filter q { if 1 ~ [3..1] then accept; }",
+        "P4 19 the range at byte 19 is not low..high with low <= high",
     ),
 ];
 
