@@ -250,7 +250,7 @@ C4: invalid operand, pattern or range
 Place: its first byte
 
     $ echo 4e4346320000000002020270 | ncroute check --size 16 --code
-    refused C4 9
+    refused C4 10
 
 docs/CODE_FILE.md says which operands are valid. Give the whole line that `ncroute check` wrote, without the word `code`.
 ",
