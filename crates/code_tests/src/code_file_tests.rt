@@ -116,7 +116,9 @@ fn everything(alloc: Global) -> Result<Code, Fail> {
     let instrs = instructions().ok_or("a prefix of 16 bits")?;
     let pattern = pattern().ok_or("a pattern")?;
     let sets = vec![in alloc; PatternSet::build(alloc, &[pattern])?]?;
-    Ok(Code::new(10, sets, Vec::new(alloc), instrs.to_vec(alloc)?).ok_or("a code within the limits")?)
+    Ok(Code::new(10, sets, Vec::new(alloc), instrs.to_vec(alloc)?).ok_or(
+        "a code within the limits",
+    )?)
 }
 
 #[test]
