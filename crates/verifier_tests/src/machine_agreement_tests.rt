@@ -119,8 +119,9 @@ fn int_sets(alloc: Global) -> Result<Vec<IntSet>, Fail> {
 
 /// The code of these instructions, if it verifies.
 fn verified(alloc: Global, instrs: &[Instr]) -> Result<Option<Verified>, Fail> {
-    let code = Code::new(4, sets(alloc)?, int_sets(alloc)?, instrs.to_vec(alloc)?)
-        .ok_or("a code within the limits")?;
+    let code = Code::new(4, sets(alloc)?, int_sets(alloc)?, instrs.to_vec(alloc)?).ok_or(
+        "a code within the limits",
+    )?;
     Ok(verify(alloc, code, SIZE).ok())
 }
 
