@@ -298,7 +298,7 @@ fn the_texts(rt: HostRuntime) -> Result<(), Fail> {
         ),
         (
             FileFault::BadOperand(9),
-            "C4 9 the operand or pattern at byte 9 is out of range",
+            "C4 9 the operand, pattern or range at byte 9 is out of range",
         ),
         (
             FileFault::OverLimit(4),
