@@ -16,8 +16,8 @@ ghost use Rattle.filter_code.specs.CodeView.{CodeView, HasMask};
 
 use crate::fault::FileFault;
 use crate::reader::MARK;
-use crate::version::Version;
 use crate::reading::read_code;
+use crate::version::Version;
 use filter_code::{Code, INT_SET_LIMIT, Instr, IntRange, IntSet};
 use prefix_patterns::{Ip, Pattern, PatternSet, Prefix};
 use std::alloc::{AllocError, Global};
@@ -137,7 +137,11 @@ fn put_int_sets(out: &mut Vec<u8>, sets: &[IntSet]) -> Result<(), AllocError>
 }
 
 /// The sets of ints, counted, in a version that has them. In another there are none.
-fn put_version_int_sets(out: &mut Vec<u8>, version: Version, sets: &[IntSet]) -> Result<(), AllocError>
+fn put_version_int_sets(
+    out: &mut Vec<u8>,
+    version: Version,
+    sets: &[IntSet],
+) -> Result<(), AllocError>
     requires limit { length sets.now ≤ INT_SET_LIMIT }
     requires none { version ≡ One → length sets.now ≡ 0 }
     ensures written { OnOk result (out.new.items ≡ out.old.items ++ bytes_of (int_set_list version sets.now)) }
