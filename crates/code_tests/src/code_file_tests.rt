@@ -171,7 +171,9 @@ fn older_files_are_written(rt: HostRuntime) -> Result<(), Fail> {
     assert!(rt; write_old(alloc, &code)?.as_slice() == OLD_EVERYTHING.as_slice());
     let read = read_code(alloc, &OLD_EVERYTHING)?;
     assert!(rt; write_old(alloc, &read)?.as_slice() == OLD_EVERYTHING.as_slice());
-    assert!(rt; write_code(alloc, &read)?.as_slice() == rewrite(alloc, &OLD_EVERYTHING)?.as_slice());
+    assert!(rt;
+        write_code(alloc, &read)?.as_slice() == rewrite(alloc, &OLD_EVERYTHING)?.as_slice()
+    );
     Ok(())
 }
 
@@ -298,7 +300,7 @@ fn the_texts(rt: HostRuntime) -> Result<(), Fail> {
         ),
         (
             FileFault::BadOperand(9),
-            "C4 9 the operand or pattern at byte 9 is out of range",
+            "C4 9 the operand, pattern or range at byte 9 is out of range",
         ),
         (
             FileFault::OverLimit(4),
