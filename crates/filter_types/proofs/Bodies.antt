@@ -1,14 +1,18 @@
 -- Laws of commands one after another, and of the parts of a `case`.
-use Rattle.std.proofs.Common.{◌≡◌, ℕ, zero, suc, ◌+◌, ◌<◌, List, [], ◌∷◌, ◌++◌}
-use Rattle.std.proofs.Common.{length, map, take, get_or, refl, sym, ap, subst, arith, Vec, Global}
+use Rattle.std.proofs.Common.{◌≡◌, ℕ, zero, suc, ◌+◌, ◌<◌, ◌≤◌, List, [], ◌∷◌, ◌++◌}
+use Rattle.std.proofs.Common.{length, map, take, get_or, refl, sym, ap, subst, arith, Vec, Global, Some, Result, Ok, Err}
 use Rattle.std.proofs.lemmas.List.{get_or-take, length-take-le, length-map, take_all}
 use Rattle.int_sets.specs.Holding.{NumberRange}
-use Rattle.filter_parser.specs.SyntaxCommands.{CommandView, CommandsView, DeclView, LabelView, commands_of, parts_of, view_command, view_part}
+use Rattle.filter_parser.specs.Syntax.{ExprView}
+use Rattle.filter_parser.specs.SyntaxCommands.{CommandView, CommandsView, PartsView, DeclView, LabelView, commands_of, parts_of, view_command, view_part}
 use Rattle.filter_parser.specs.declared.tree.command.Command.{Command}
 use Rattle.filter_parser.specs.declared.tree.command.Label.{Label}
-use Rattle.filter_types.specs.Kinds.{KindsFit, KindsFitAll, KindsFitParts}
+use Rattle.filter_types.specs.Answers.{DoPartsFit, Judges}
+use Rattle.filter_types.specs.Kinds.{KindsFit, KindsFitAll, KindsFitParts, kind_in}
 use Rattle.filter_types.specs.Labels.{AreAllApart, labels_of}
 use Rattle.filter_types.specs.Sweep.{part_ranges}
+use Rattle.filter_types.specs.Table.{argument_kind}
+use Rattle.filter_types.specs.declared.fault.TypeFault.{TypeFault}
 use Rattle.filter_types.proofs.Lists.{map_next}
 
 -- one more command
@@ -33,7 +37,14 @@ fits_at vs (d ∷ cs) zero c low is all =
 fits_at vs (d ∷ cs) (suc i) c low is all = fits_at vs cs i c (omega arith) is all.1
 fits_at vs [] i c low is all = absurd (omega arith)
 
--- ---- the parts of a `case`
+-- ---- `case` and its parts
+
+-- what is judged of a `case` after its argument
+pub case_judged : {A : Type 0} (vs : List DeclView) (x : CommandView) (argument : ExprView) (parts : PartsView) (answer : Result A TypeFault)
+    → x ≡ CommandView.case argument parts → kind_in vs argument ≡ Some argument_kind → Judges answer (DoPartsFit vs parts)
+    → Judges answer (KindsFit vs x)
+case_judged vs x argument parts (Ok done) is fits good = subst (KindsFit vs) (sym is) (fits, good.0, good.1)
+case_judged vs x argument parts (Err why) is fits refused = λ not_memory all. let whole = subst (KindsFit vs) is all in refused not_memory (whole.1, whole.2)
 
 -- one more part
 parts_push : (vs : List DeclView) (xs : List (LabelView × CommandsView)) (x : LabelView × CommandsView)

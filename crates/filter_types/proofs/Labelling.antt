@@ -1,15 +1,22 @@
 -- Labels share a number if and only if two of their ranges do, which are of different labels.
 use Rattle.std.proofs.Common.{◌≡◌, ℕ, zero, suc, ◌+◌, ◌<◌, ◌≤◌, ◌⊎◌, inl, inr, List, [], ◌∷◌, ◌++◌, length, map, take, get_or}
-use Rattle.std.proofs.Common.{refl, sym, ap, subst, ◌∙◌, arith}
+use Rattle.std.proofs.Common.{refl, sym, ap, subst, ◌∙◌, arith, Vec, Global}
 use Rattle.std.proofs.Math.ListN.{get_or-map}
 use Rattle.std.proofs.lemmas.Bool.{cases_order}
 use Rattle.std.proofs.lemmas.List as lists
 use Rattle.std.proofs.lemmas.List.Elements.{All-contains, Contains-append_cases, Contains-append_left, Contains-append_right, Contains-get_or}
-use Rattle.std.specs.List.{All, AllPairs, Any, Contains}
+use Rattle.std.specs.List.{All, Contains}
 use Rattle.int_sets.specs.Holding.{NumberRange, Holds, HoldsAny}
-use Rattle.filter_types.specs.Labels.{AreApart, AreAllApart}
-use Rattle.filter_types.specs.Sweep.{AreDisjoint, AreApartBefore, AreAllApartBefore, labelled, labelled_range}
+use Rattle.filter_parser.specs.Syntax.{range_of, view_range}
+use Rattle.filter_parser.specs.SyntaxCommands.{view_label}
+use Rattle.filter_parser.specs.declared.tree.command.Command.{Command}
+use Rattle.filter_parser.specs.declared.tree.command.Label.{Label}
+use Rattle.filter_parser.specs.declared.tree.command.Label.TheVariants as label
+use Rattle.filter_parser.specs.declared.tree.set.SetRange.{SetRange}
+use Rattle.filter_types.specs.Labels.{AreAllApart, label_ranges}
+use Rattle.filter_types.specs.Sweep.{AreDisjoint, AreApartBefore, AreAllApartBefore, labelled, labelled_range, part_ranges, written_range}
 use Rattle.filter_types.specs.declared.labels.Labelled.{Labelled}
+use Rattle.filter_types.proofs.Lists.{map_next}
 
 plus_none : (n : ℕ) → n ≡ n + 0
 plus_none n = omega arith
@@ -25,6 +32,40 @@ labelled_push n (first ∷ labels) label =
     ap (λ rest. map (labelled_range n) first ++ rest) (labelled_push (n + 1) labels label)
     ∙ ap (λ m. map (labelled_range n) first ++ (labelled (n + 1) labels ++ map (labelled_range m) label)) (plus_one n (length labels))
     ∙ sym (lists.append_assoc (map (labelled_range n) first) (labelled (n + 1) labels) _)
+
+ranges_fused : (xs : List SetRange) → map range_of (map view_range xs) ≡ map written_range xs
+ranges_fused [] = refl
+ranges_fused (x ∷ xs) = ap (λ (rest : List NumberRange). written_range x ∷ rest) (ranges_fused xs)
+
+-- the ranges of a label are those that are written in it
+pub written_ranges : (x : Label) (ranges : Vec SetRange Global) (xs : List SetRange) → x ≡ label.Ranges ranges → xs ≡ ranges.items
+    → label_ranges (view_label x) ≡ map written_range xs
+written_ranges x ranges xs is is_ranges =
+    ap (λ y. label_ranges (view_label y)) is ∙ ranges_fused ranges.items ∙ ap (map written_range) (sym is_ranges)
+
+-- one more range of a label
+pub gathered_range : (n i : ℕ) (before now : List Labelled) (ranges : List SetRange) (r : SetRange) → i < length ranges → r ≡ get_or ranges i r
+    → now ≡ before ++ map (labelled_range n) (map written_range (take i ranges))
+    → now ++ labelled_range n (written_range r) ∷ [] ≡ before ++ map (labelled_range n) (map written_range (take (i + 1) ranges))
+gathered_range n i before now ranges r low at is =
+    let so_far : List Labelled = map (labelled_range n) (map written_range (take i ranges)) in
+    let one = labelled_range n (written_range r) in
+    let longer : map (labelled_range n) (map written_range (take (i + 1) ranges)) ≡ so_far ++ one ∷ [] =
+    ap (map (labelled_range n)) (map_next written_range ranges i r low at)
+    ∙ lists.map-append (labelled_range n) (map written_range (take i ranges)) (written_range r ∷ []) in
+    ap (λ xs. xs ++ one ∷ []) is ∙ lists.append_assoc before so_far (one ∷ []) ∙ ap (λ xs. before ++ xs) (sym longer)
+
+-- one more label
+pub gathered_label : (i : ℕ) (before now : List Labelled) (parts : List (Label × Vec Command Global)) (p : Label × Vec Command Global)
+    → i < length parts → p ≡ get_or parts i p → before ≡ labelled 0 (map part_ranges (take i parts))
+    → now ≡ before ++ map (labelled_range i) (part_ranges p) → now ≡ labelled 0 (map part_ranges (take (i + 1) parts))
+gathered_label i before now parts p low at is added =
+    let so_far : List (List NumberRange) = map part_ranges (take i parts) in
+    let count : 0 + length so_far ≡ i =
+    omega (arith, lists.length-map (take i parts) part_ranges, lists.length-take-le i parts (omega (arith, low))) in
+    added ∙ ap (λ xs. xs ++ map (labelled_range i) (part_ranges p)) is
+    ∙ ap (λ m. labelled 0 so_far ++ map (labelled_range m) (part_ranges p)) (sym count)
+    ∙ sym (ap (labelled 0) (map_next part_ranges parts i p low at) ∙ labelled_push 0 so_far (part_ranges p))
 
 -- a range of a label is among the ranges of all
 there : (n m i : ℕ) (labels : List (List NumberRange)) (d : List NumberRange) (r : NumberRange) → m ≡ n + i → i < length labels
@@ -67,12 +108,17 @@ of_later n label labels x of = record {
   has = of.has;
 }
 
+found_step : (n : ℕ) (label : List NumberRange) (labels : List (List NumberRange)) (x : Labelled)
+    → (Contains (labelled (n + 1) labels) x → IsOf (n + 1) labels x)
+    → Contains (map (labelled_range n) label) x ⊎ Contains (labelled (n + 1) labels) x → IsOf n (label ∷ labels) x
+found_step n label labels x rest (inl here) = of_first n label labels x here
+found_step n label labels x rest (inr later) = of_later n label labels x (rest later)
+
 found : (n : ℕ) (labels : List (List NumberRange)) (x : Labelled) → Contains (labelled n labels) x → IsOf n labels x
 found n [] x has = absurd (omega (arith, has.1))
-found n (label ∷ labels) x has = by_case (Contains-append_cases (map (labelled_range n) label) (labelled (n + 1) labels) x has) where
-  by_case : Contains (map (labelled_range n) label) x ⊎ Contains (labelled (n + 1) labels) x → IsOf n (label ∷ labels) x
-  by_case (inl here) = of_first n label labels x here
-  by_case (inr later) = of_later n label labels x (found (n + 1) labels x later)
+found n (label ∷ labels) x has =
+    found_step n label labels x (found (n + 1) labels x)
+    (Contains-append_cases (map (labelled_range n) label) (labelled (n + 1) labels) x has)
 
 -- what any of a label's ranges holds, one of them does
 range_of_any : (number : ℕ) (label : List NumberRange) → HoldsAny number label → (r : NumberRange) × Contains label r × Holds number r
@@ -91,8 +137,8 @@ labels_apart count labels within all i j d before inside number here later =
     let second = range_of_any number (get_or labels j d) (rw (lists.get_or-take count labels j d below) at later) in
     let x = labelled_range i first.0 in
     let y = labelled_range j second.0 in
-    let has_x : Contains (labelled 0 labels) x = there 0 i i labels d first.0 refl (omega (arith, before, below, within)) first.1 in
-    let has_y : Contains (labelled 0 labels) y = there 0 j j labels d second.0 refl (omega (arith, below, within)) second.1 in
+    let has_x : Contains (labelled 0 labels) x = there 0 i i labels d first.0 (omega arith) (omega (arith, before, below, within)) first.1 in
+    let has_y : Contains (labelled 0 labels) y = there 0 j j labels d second.0 (omega arith) (omega (arith, below, within)) second.1 in
     let row : All (AreApartBefore count x) (labelled 0 labels) =
     All-contains (λ z. All (AreApartBefore count z) (labelled 0 labels)) (labelled 0 labels) x all has_x in
     All-contains (AreApartBefore count x) (labelled 0 labels) y row has_y (omega (arith, before, below)) below (λ e. omega (arith, before, e)) number
@@ -120,10 +166,10 @@ ranges_apart count labels within all k d inside i e bound low below differ numbe
     let of_x = found 0 labels x (Contains-get_or xs k d inside) in
     let of_y = found 0 labels y (Contains-get_or xs i e bound) in
     by_case x y of_x of_y low below differ holds_x holds_y (cases_order x.label y.label) where
-  by_case : (x y : Labelled) → IsOf 0 labels x → IsOf 0 labels y → x.label < count → y.label < count → (x.label ≡ y.label → ⊥)
-      → Holds number x.range → Holds number y.range → (x.label ≡ y.label) ⊎ ((x.label < y.label) ⊎ (y.label < x.label)) → ⊥
-  by_case x y of_x of_y low below differ holds_x holds_y (inl same) = differ same
-  by_case x y of_x of_y low below differ holds_x holds_y (inr (inl before)) =
-      in_order_apart count labels x y within all of_x of_y before below number holds_x holds_y
-  by_case x y of_x of_y low below differ holds_x holds_y (inr (inr after)) =
-      in_order_apart count labels y x within all of_y of_x after low number holds_y holds_x
+      by_case : (x y : Labelled) → IsOf 0 labels x → IsOf 0 labels y → x.label < count → y.label < count → (x.label ≡ y.label → ⊥)
+          → Holds number x.range → Holds number y.range → (x.label ≡ y.label) ⊎ ((x.label < y.label) ⊎ (y.label < x.label)) → ⊥
+      by_case x y of_x of_y low below differ holds_x holds_y (inl same) = differ same
+      by_case x y of_x of_y low below differ holds_x holds_y (inr (inl before)) =
+          in_order_apart count labels x y within all of_x of_y before below number holds_x holds_y
+      by_case x y of_x of_y low below differ holds_x holds_y (inr (inr after)) =
+          in_order_apart count labels y x within all of_y of_x after low number holds_y holds_x

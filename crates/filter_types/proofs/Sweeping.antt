@@ -6,7 +6,7 @@ use Rattle.std.proofs.lemmas.Bool.{cases_eq, cases_lt}
 use Rattle.std.proofs.lemmas.List.Elements.{All-head, All-tail, All-cons, All-nil}
 use Rattle.std.proofs.lemmas.List.Sorted.{All-permutation}
 use Rattle.std.specs.List.Sorted.{IsNonDecreasingBy, IsPermutation}
-use Rattle.int_sets.specs.Holding.{NumberRange, Holds}
+use Rattle.int_sets.specs.Holding.{NumberRange}
 use Rattle.filter_types.specs.declared.labels.Labelled.{Labelled}
 use Rattle.filter_types.specs.Sweep.{IsOrdered, AreDisjoint, AreApartBefore, AreAllApartBefore, meets, are_apart}
 
@@ -77,16 +77,14 @@ told_step count end label x xs order false h hit m longer l e next same =
 told_step count end label x xs order true h true m longer l e next same = absurd cc
 told_step count end label x xs order true h false m true l e next same =
     let rest = next e in
-    let longer = ltb-true end (x.range.high + 1) l in
-    (
+    let longer = ltb-true end (x.range.high + 1) l in (
       All-cons (IsClear count end label) x xs (λ low other. missed x end label m other)
           (λ k d inside. further_clear count end label x (get_or xs k d) (order.1 k d inside) m longer (rest.0 k d inside)),
       ((λ low. rest.0), rest.1),
     )
 told_step count end label x xs order true h false m false l e next same =
     let rest = same e in
-    let shorter = ltb-false end (x.range.high + 1) l in
-    (
+    let shorter = ltb-false end (x.range.high + 1) l in (
       All-cons (IsClear count end label) x xs (λ low other. missed x end label m other) rest.0,
       ((λ low k d inside. shorter_clear count end label x (get_or xs k d) order.0 m shorter (rest.0 k d inside)), rest.1),
     )
@@ -156,8 +154,7 @@ passed count [] order ordered all = tt
 passed count (x ∷ xs) order ordered all =
     let later = All-tail IsOrdered x xs ordered in
     let first = All-tail (AreApartBefore count x) x xs (All-head (λ y. All (AreApartBefore count y) (x ∷ xs)) x xs all) in
-    let others = All-tail (λ y. All (AreApartBefore count y) (x ∷ xs)) x xs all in
-    (
+    let others = All-tail (λ y. All (AreApartBefore count y) (x ∷ xs)) x xs all in (
       (λ low k d inside. clear_if_apart count x (get_or xs k d) (order.1 k d inside) (later k d inside) (first k d inside) low),
       passed count xs order.2 later (λ k d inside. All-tail (AreApartBefore count (get_or xs k d)) x xs (others k d inside)),
     )

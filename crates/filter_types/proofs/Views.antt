@@ -31,10 +31,12 @@ view_suffixed x inner suffixes y ys is is_inner is_suffixes =
     ∙ ap (λ z. suffixes_of (view z) suffixes.items) (sym is_inner)
     ∙ ap (suffixes_of (view y)) (sym is_suffixes)
 
-parts_folded : (parts : List (Label × Vec Command Global)) →
-    map view_part_step (map (λ p. (p.0, record { items = map view_command p.1.items })) parts) ≡ map view_part parts
-parts_folded [] = refl
-parts_folded (p ∷ parts) = ap (λ (xs : List (LabelView × CommandsView)). view_part p ∷ xs) (parts_folded parts)
+parts_folded : (f : Label × Vec Command Global → Label × Vec CommandView Global)
+    → ((p : Label × Vec Command Global) → view_part_step (f p) ≡ view_part p) → (parts : List (Label × Vec Command Global))
+    → map view_part_step (map f parts) ≡ map view_part parts
+parts_folded f same [] = refl
+parts_folded f same (p ∷ parts) =
+    ap (λ x. x ∷ map view_part_step (map f parts)) (same p) ∙ ap (λ (xs : List (LabelView × CommandsView)). view_part p ∷ xs) (parts_folded f same parts)
 
 pub view_case : (x : Command) (at : ℕ) (argument : Expr) (parts : Vec (Label × Vec Command Global) Global) (ys : List (Label × Vec Command Global))
     → x ≡ command.Case at argument parts → ys ≡ parts.items
@@ -42,5 +44,5 @@ pub view_case : (x : Command) (at : ℕ) (argument : Expr) (parts : Vec (Label �
 view_case x at argument parts ys is is_parts =
     ap view_command (is ∙ sym (command.rolls-Case at argument parts))
     ∙ fold-roll-Command CommandView view_step (Command-F.Case at argument parts)
-    ∙ ap (λ xs. CommandView.case (view argument) (parts_of xs)) (parts_folded parts.items)
+    ∙ ap (λ xs. CommandView.case (view argument) (parts_of xs)) (parts_folded _ (λ p. refl) parts.items)
     ∙ ap (λ zs. CommandView.case (view argument) (parts_of (map view_part zs))) (sym is_parts)

@@ -12,7 +12,7 @@ label_ranges else_label = []
 -- the ranges of each label, in the order of the parts
 abbrev pub labels_of : PartsView → List (List NumberRange)
 labels_of no_parts = []
-labels_of (part_then label commands more) = label_ranges label ∷ labels_of more
+labels_of (part_then label body more) = label_ranges label ∷ labels_of more
 
 -- no number is in both of two labels
 abbrev pub AreApart : List NumberRange → List NumberRange → Type 0

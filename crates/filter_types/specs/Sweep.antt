@@ -55,7 +55,7 @@ abbrev pub are_apart : ℕ → ℕ → ℕ → List Labelled → Bool
 are_apart count end label [] = true
 are_apart count end label (x ∷ xs) =
     if nat_lt x.label count then (
-      if meets x end label then false
-      else (if nat_lt end (x.range.high + 1) then are_apart count (x.range.high + 1) x.label xs else are_apart count end label xs)
+    if meets x end label then false
+    else (if nat_lt end (x.range.high + 1) then are_apart count (x.range.high + 1) x.label xs else are_apart count end label xs)
     )
     else are_apart count end label xs

@@ -1,7 +1,17 @@
-use Rattle.std.proofs.Common.{◌≤◌, map, take}
+use Rattle.std.proofs.Common.{◌≤◌, ◌+◌, ◌*◌, map, take}
 use Rattle.filter_parser.specs.SyntaxCommands.{commands_of, parts_of, view_command, view_decl, view_part}
 use Rattle.filter_types.specs.Kinds.{KindsFitAll, KindsFitParts}
 use Rattle.filter_types.proofs.commands.+command.Given as goal
+
+-- the parts of a `case` are as deep as the commands in them
+abbrev pub decreases-check_parts : goal.decreases-check_parts
+decreases-check_parts l = 3 * goal.size-check_parts l + 2
+
+abbrev pub decreases-check_commands : goal.decreases-check_commands
+decreases-check_commands l = 3 * goal.size-check_commands l + 1
+
+abbrev pub decreases-check_command : goal.decreases-check_command
+decreases-check_command l = 3 * goal.size-check_command l
 
 -- the commands so far fit
 abbrev pub invariant-check_commands-loop-command : goal.invariant-check_commands-loop-command

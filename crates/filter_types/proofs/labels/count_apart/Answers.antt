@@ -1,6 +1,6 @@
 use Rattle.std.proofs.Common.{◌≡◌, ◌+◌, ◌-◌, ◌/◌, sym, subst, ◌∙◌, arith}
 use Rattle.filter_types.specs.Sweep.{AreAllApartBefore}
-use Rattle.filter_types.proofs.Sweeping.{none_before, sweep_true, sweep_false}
+use Rattle.filter_types.proofs.Sweeping.{sweep_true, sweep_false}
 use Rattle.filter_types.proofs.labels.count_apart.Goals as goal
 
 pub loop-low-preserved-then-are_apart : goal.loop-low-preserved-then-are_apart

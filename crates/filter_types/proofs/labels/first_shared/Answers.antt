@@ -1,6 +1,6 @@
-use Rattle.std.proofs.Common.{◌≡◌, ◌+◌, subst, sym}
+use Rattle.std.proofs.Common.{◌+◌}
 use Rattle.std.proofs.lemmas.List.Sorted.{All-permutation, IsPermutation-sym}
-use Rattle.filter_types.specs.Sweep.{AreAllApartBefore, IsOrdered}
+use Rattle.filter_types.specs.Sweep.{IsOrdered}
 use Rattle.filter_types.proofs.Sweeping.{permuted}
 use Rattle.filter_types.proofs.labels.first_shared.Goals as goal
 

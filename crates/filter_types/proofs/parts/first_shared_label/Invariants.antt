@@ -1,4 +1,4 @@
-use Rattle.std.proofs.Common.{◌≡◌, ◌≤◌, All, length, map, take}
+use Rattle.std.proofs.Common.{◌≡◌, All, map, take}
 use Rattle.filter_types.specs.Sweep.{IsOrdered, labelled, part_ranges}
 use Rattle.filter_types.proofs.parts.first_shared_label.Given as goal
 
