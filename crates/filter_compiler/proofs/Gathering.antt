@@ -1,30 +1,34 @@
 -- Sets that are put into lists one after another.
-use Rattle.std.proofs.Common.{◌≡◌, ℕ, zero, suc, ◌+◌, ◌<◌, ◌≤◌, ◌↔◌, ◌⊎◌, inl, inr, List, [], ◌∷◌, ◌++◌, length, map, take, get_or}
+use Rattle.std.proofs.Common.{◌≡◌, ℕ, zero, suc, ◌+◌, ◌<◌, ◌≤◌, ◌↔◌, ◌⊎◌, inl, inr, List, [], ◌∷◌, ◌++◌, length, map, take, get_or, Vec, Global}
 use Rattle.std.proofs.Common.{Bool, true, false, refl, sym, ap, subst, ◌∙◌, arith, length-append}
 use Rattle.std.specs.Prelude.{slice_index_or}
 use Rattle.std.specs.List.{Any}
-use Rattle.prefix_patterns.specs.Matching.{PrefixPattern}
+use Rattle.std.proofs.lemmas.List.{append-nil}
 use Rattle.filter_parser.specs.declared.tree.command.Command.{Command}
 use Rattle.filter_parser.specs.declared.tree.expr.Expr.{Expr}
 use Rattle.filter_parser.specs.declared.tree.op.Op.{Op}
 use Rattle.filter_parser.specs.declared.tree.op.Suffix.{Suffix}
-use Rattle.filter_parser.specs.Syntax.{ExprView, chain_of, suffixed, suffixes_of, view, view_more}
-use Rattle.filter_parser.specs.SyntaxCommands.{commands_of, view_command}
+use Rattle.filter_parser.specs.Syntax.{ExprView, RangeView, SetPatternView, chain_of, of_patterns, pattern_of, range_of, suffixed, suffixes_of, view, view_more}
+use Rattle.filter_parser.specs.SyntaxCommands.{commands_of, parts_of, view_command, view_label, view_part}
+use Rattle.filter_parser.specs.declared.tree.command.Label.{Label}
 use Rattle.filter_types.proofs.Lists.{map_next}
 use Rattle.filter_compiler.specs.Limits.{AreTooMany}
 use Rattle.filter_compiler.specs.SetOrder.{Sets, SetCounts, no_sets, none_before, past, with_sets}
-use Rattle.filter_compiler.specs.Translation.{command_sets, commands_sets, one_set, sets_of}
-use Rattle.filter_compiler.specs.Written.{Gathers, HoldsSets, IsCounted}
-use Rattle.filter_compiler.specs.declared.numbers.SetNumbers.{SetNumbers}
+use Rattle.filter_compiler.specs.Translation.{command_sets, commands_sets, label_sets, one_set, parts_sets, ranges_set, sets_of}
+use Rattle.filter_compiler.specs.Written.{Gathers, HoldsSets, IsCounted, TooManySets}
 use Rattle.filter_compiler.specs.declared.sets.SetLists.{SetLists}
-use Rattle.filter_compiler.proofs.Puts.{past_both}
-use Rattle.filter_compiler.proofs.Trees.{chain_push, sets_assoc, sets_push, without_more}
+use Rattle.filter_compiler.proofs.Puts.{past_both, past_none}
+use Rattle.filter_compiler.proofs.Trees.{chain_push, parts_push, sets_assoc, sets_push, without_more}
 
 pub gathers_none : (a : SetLists) → Gathers a a no_sets
-gathers_none a = record { holds = λ before h. subst (HoldsSets a) (sym (without_more before)) h }
+gathers_none a = record {
+  counts = λ n counted. subst (λ m. IsCounted m a.numbers) (past_none n) counted;
+  holds = λ before h. subst (HoldsSets a) (sym (without_more before)) h;
+}
 
 pub gathers_then : {a b c : SetLists} {s t : Sets} → Gathers a b s → Gathers b c t → Gathers a c (with_sets s t)
 gathers_then {a} {b} {c} {s} {t} first second = record {
+  counts = λ n counted. subst (λ m. IsCounted m c.numbers) (past_both n s t) (second.counts (past n s) (first.counts n counted));
   holds = λ before h. subst (HoldsSets c) (sets_assoc before s t) (second.holds (with_sets before s) (first.holds before h));
 }
 
@@ -49,6 +53,16 @@ command_gathers xs i x low is first second =
     (sets_push (map view_command (take i xs)) (view_command x)
     ∙ ap (λ l. commands_sets (commands_of l)) (sym (map_next view_command xs i x low is)))
     (gathers_then first second)
+
+-- a part of a `case` more
+pub parts_gathers : {a b c d : SetLists} (xs : List (Label × Vec Command Global)) (i : ℕ) (x : Label × Vec Command Global) → i < length xs
+    → x ≡ get_or xs i x → Gathers a b (parts_sets (parts_of (map view_part (take i xs)))) → Gathers b c (label_sets (view_label x.0))
+    → Gathers c d (commands_sets (commands_of (map view_command x.1.items)))
+    → Gathers a d (parts_sets (parts_of (map view_part (take (i + 1) xs))))
+parts_gathers xs i x low is first second third =
+    as_sets
+    (parts_push (map view_part (take i xs)) (view_part x) ∙ ap (λ l. parts_sets (parts_of l)) (sym (map_next view_part xs i x low is)))
+    (gathers_then first (gathers_then second third))
 
 -- a suffix has no sets
 pub suffixes_sets : (inner : ExprView) (suffixes : List Suffix) → sets_of (suffixes_of inner suffixes) ≡ sets_of inner
@@ -106,42 +120,84 @@ module _ {X : Type 0} (many large : ℕ) (sets : List (List X)) (set : List X) w
 not_both : (b : Bool) → b ≡ false → b ≡ true → ⊥
 not_both b is not = cc
 
--- one more set of patterns
-module _ (old new : SetLists) (set : List PrefixPattern)
-    (after : (n : SetCounts) (s : List PrefixPattern) → IsCounted n old.numbers → IsCounted (past n (one_set s)) new.numbers) where
-  counts : (before : Sets) → HoldsSets old before → IsCounted (past none_before (with_sets before (one_set set))) new.numbers
+-- one more set of patterns or of ints, whose list and number are these: past a limit
+module _ (old new : SetLists) (set : Sets)
+    (after : (n : SetCounts) → IsCounted n old.numbers → IsCounted (past n set) new.numbers) where
+  counts : (before : Sets) → HoldsSets old before → IsCounted (past none_before (with_sets before set)) new.numbers
   counts before h =
-      subst (λ n. IsCounted n new.numbers) (past_both none_before before (one_set set)) (after (past none_before before) set h.counted)
+      subst (λ n. IsCounted n new.numbers) (past_both none_before before set) (after (past none_before before) h.counted)
 
-  -- past a limit
-  pub push_past : (64 ≤ old.numbers.patterns) ⊎ (1024 < length set) → new.too_many ≡ true → new.kept ≡ false
-      → Gathers old new (one_set set)
-  push_past why is lost = record {
+  pub put_past : ((before : Sets) → HoldsSets old before → TooManySets (with_sets before set)) → new.too_many ≡ true → new.kept ≡ false
+      → Gathers old new set
+  put_past many is lost = record {
+    counts = after;
     holds = λ before h. record {
       counted = counts before h;
-      too_many = (λ e. now_many 64 1024 before.patterns set (full before h why), λ m. is);
+      too_many = (λ e. many before h, λ m. is);
       patterns = λ k. absurd (not_both new.kept lost k);
+      ints = λ k. absurd (not_both new.kept lost k);
     };
   }
-    where
-      full : (before : Sets) → HoldsSets old before → (64 ≤ old.numbers.patterns) ⊎ (1024 < length set)
-          → (64 ≤ length before.patterns) ⊎ (1024 < length set)
-      full before h (inl many) = let c = h.counted.patterns in let over : 64 ≤ length before.patterns = omega arith in inl over
-      full before h (inr large) = inr large
 
   -- within the limits: it is kept, or memory was refused, or what came before is not kept
-  pub push_within : old.numbers.patterns < 64 → length set ≤ 1024 → new.too_many ≡ old.too_many
-      → (new.kept ≡ true → (old.kept ≡ true) × (new.patterns.items ≡ old.patterns.items ++ set ∷ [])) → Gathers old new (one_set set)
-  push_within few small same kept = record {
-    holds = λ before h.
-        let c = h.counted.patterns in
-        let room : length before.patterns < 64 = omega arith in
-        record {
-          counted = counts before h;
-          too_many = (
-            λ e. still_many 64 1024 before.patterns set (h.too_many.0 (sym same ∙ e)),
-            λ m. same ∙ h.too_many.1 (still_few 64 1024 before.patterns set room small m),
-          );
-          patterns = λ k. (kept k).1 ∙ ap (λ l. l ++ set ∷ []) (h.patterns (kept k).0);
-        };
+  pub put_within : ((before : Sets) → HoldsSets old before → TooManySets before ↔ TooManySets (with_sets before set))
+      → new.too_many ≡ old.too_many → (new.kept ≡ true → old.kept ≡ true)
+      → (new.kept ≡ true → new.patterns.items ≡ old.patterns.items ++ set.patterns)
+      → (new.kept ≡ true → new.ints.items ≡ old.ints.items ++ set.ints) → Gathers old new set
+  put_within still same kept patterns ints = record {
+    counts = after;
+    holds = λ before h. record {
+      counted = counts before h;
+      too_many = (λ e. (still before h).0 (h.too_many.0 (sym same ∙ e)), λ m. same ∙ h.too_many.1 ((still before h).1 m));
+      patterns = λ k. patterns k ∙ ap (λ l. l ++ set.patterns) (h.patterns (kept k));
+      ints = λ k. ints k ∙ ap (λ l. l ++ set.ints) (h.ints (kept k));
+    };
   }
+
+-- a set of patterns
+module _ (old : SetLists) (set : List SetPatternView) (before : Sets) (h : HoldsSets old before) where
+  pub many_patterns : (64 ≤ old.numbers.patterns) ⊎ (1024 < length (map pattern_of set)) → TooManySets (with_sets before (one_set (of_patterns set)))
+  many_patterns (inl many) =
+      let c = h.counted.patterns in
+      let over : 64 ≤ length before.patterns = omega arith in
+      inl (now_many 64 1024 before.patterns (map pattern_of set) (inl over))
+  many_patterns (inr large) = inl (now_many 64 1024 before.patterns (map pattern_of set) (inr large))
+
+  pub few_patterns : old.numbers.patterns < 64 → length (map pattern_of set) ≤ 1024
+      → TooManySets before ↔ TooManySets (with_sets before (one_set (of_patterns set)))
+  few_patterns few small = (there, back)
+    where
+      room : length before.patterns < 64
+      room = let c = h.counted.patterns in omega arith
+
+      there : TooManySets before → TooManySets (with_sets before (one_set (of_patterns set)))
+      there (inl m) = inl (still_many 64 1024 before.patterns (map pattern_of set) m)
+      there (inr m) = inr (subst (AreTooMany 64 1024) (sym (append-nil before.ints)) m)
+
+      back : TooManySets (with_sets before (one_set (of_patterns set))) → TooManySets before
+      back (inl m) = inl (still_few 64 1024 before.patterns (map pattern_of set) room small m)
+      back (inr m) = inr (subst (AreTooMany 64 1024) (append-nil before.ints) m)
+
+-- a set of ints
+module _ (old : SetLists) (set : List RangeView) (before : Sets) (h : HoldsSets old before) where
+  pub many_ranges : (64 ≤ old.numbers.ints) ⊎ (1024 < length (map range_of set)) → TooManySets (with_sets before (ranges_set set))
+  many_ranges (inl many) =
+      let c = h.counted.ints in
+      let over : 64 ≤ length before.ints = omega arith in
+      inr (now_many 64 1024 before.ints (map range_of set) (inl over))
+  many_ranges (inr large) = inr (now_many 64 1024 before.ints (map range_of set) (inr large))
+
+  pub few_ranges : old.numbers.ints < 64 → length (map range_of set) ≤ 1024
+      → TooManySets before ↔ TooManySets (with_sets before (ranges_set set))
+  few_ranges few small = (there, back)
+    where
+      room : length before.ints < 64
+      room = let c = h.counted.ints in omega arith
+
+      there : TooManySets before → TooManySets (with_sets before (ranges_set set))
+      there (inl m) = inl (subst (AreTooMany 64 1024) (sym (append-nil before.patterns)) m)
+      there (inr m) = inr (still_many 64 1024 before.ints (map range_of set) m)
+
+      back : TooManySets (with_sets before (ranges_set set)) → TooManySets before
+      back (inl m) = inl (subst (AreTooMany 64 1024) (append-nil before.patterns) m)
+      back (inr m) = inr (still_few 64 1024 before.ints (map range_of set) room small m)

@@ -38,9 +38,16 @@ has_all xs = has_rest xs []
 -- the sets of a part are in the code, at their numbers
 pub record HasSets (program : CodeView) (n : SetCounts) (sets : Sets) : Type 0 where
   pub patterns : HasAt program.sets n.patterns sets.patterns
+  pub ints : HasAt program.int_sets n.ints sets.ints
 
 pub sets_front : (program : CodeView) (n : SetCounts) (a b : Sets) → HasSets program n (with_sets a b) → HasSets program n a
-sets_front program n a b h = record { patterns = has_front program.sets n.patterns a.patterns b.patterns h.patterns }
+sets_front program n a b h = record {
+  patterns = has_front program.sets n.patterns a.patterns b.patterns h.patterns;
+  ints = has_front program.int_sets n.ints a.ints b.ints h.ints;
+}
 
 pub sets_back : (program : CodeView) (n : SetCounts) (a b : Sets) → HasSets program n (with_sets a b) → HasSets program (past n a) b
-sets_back program n a b h = record { patterns = has_back program.sets n.patterns a.patterns b.patterns h.patterns }
+sets_back program n a b h = record {
+  patterns = has_back program.sets n.patterns a.patterns b.patterns h.patterns;
+  ints = has_back program.int_sets n.ints a.ints b.ints h.ints;
+}

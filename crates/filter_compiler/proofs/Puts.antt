@@ -1,5 +1,5 @@
 -- Parts that are put into an output one after another.
-use Rattle.std.proofs.Common.{◌≡◌, ◌+◌, List, [], ◌++◌, length, sym, ap, subst, arith, append_assoc, length-append}
+use Rattle.std.proofs.Common.{◌≡◌, ℕ, ◌+◌, List, [], ◌++◌, length, sym, ap, subst, ◌∙◌, arith, append_assoc, length-append}
 use Rattle.std.proofs.lemmas.List.{append-nil}
 use Rattle.filter_code.specs.declared.instruction.Instr.{Instr}
 use Rattle.filter_compiler.specs.SetOrder.{Sets, SetCounts, no_sets, past, with_sets}
@@ -7,12 +7,20 @@ use Rattle.filter_compiler.specs.declared.numbers.SetNumbers.{SetNumbers}
 use Rattle.filter_compiler.specs.declared.output.Output.{Output}
 use Rattle.filter_compiler.specs.Written.{Emits, IsCounted, Part, Puts, Holds, code_alone}
 
+abbrev counts_of : ℕ → ℕ → SetCounts
+counts_of patterns ints = record { patterns = patterns; ints = ints }
+
+-- the same numbers
+same_counts : (a b c d : ℕ) → a ≡ c → b ≡ d → counts_of a b ≡ counts_of c d
+same_counts a b c d e f = ap (λ (m : ℕ). counts_of m b) e ∙ ap (counts_of c) f
+
 -- the numbers after no sets, and after those of two parts
 pub past_none : (n : SetCounts) → n ≡ past n no_sets
-past_none n = ap (λ m. record { patterns = m }) (omega arith)
+past_none n = same_counts n.patterns n.ints (n.patterns + 0) (n.ints + 0) (omega arith) (omega arith)
 
 pub past_both : (n : SetCounts) (s t : Sets) → past (past n s) t ≡ past n (with_sets s t)
-past_both n s t = ap (λ m. record { patterns = m }) (omega (arith, length-append s.patterns t.patterns))
+past_both n s t =
+    same_counts _ _ _ _ (omega (arith, length-append s.patterns t.patterns)) (omega (arith, length-append s.ints t.ints))
 
 -- instructions and others
 pub nothing : (a : Output) → Puts a a []

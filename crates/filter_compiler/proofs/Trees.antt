@@ -3,6 +3,8 @@ use Rattle.std.proofs.Common.{◌≡◌, ℕ, ◌+◌, ◌<◌, ◌≤◌, List,
 use Rattle.std.proofs.Common.{add-one, arith, append_assoc, length-append}
 use Rattle.std.proofs.Math.Seq.{take-suc}
 use Rattle.std.proofs.lemmas.List.{append-nil, length-map, length-take-le}
+use Rattle.int_sets.specs.Holding.{NumberRange}
+use Rattle.prefix_patterns.specs.Matching.{PrefixPattern}
 use Rattle.filter_code.specs.declared.instruction.Instr.{Instr}
 use Rattle.filter_code.specs.declared.instruction.Instr.TheVariants as instr
 use Rattle.filter_parser.specs.declared.tree.command.Command.{Command}
@@ -14,11 +16,11 @@ use Rattle.filter_parser.specs.declared.tree.op.Op.{Op}
 use Rattle.filter_parser.specs.declared.tree.op.Op.TheVariants as o
 use Rattle.filter_parser.specs.declared.tree.op.Suffix.{Suffix}
 use Rattle.filter_parser.specs.Syntax.{ExprView, binary, suffixed, chain_of, suffixes_of, view, view_more}
-use Rattle.filter_parser.specs.SyntaxCommands.{CommandView, DeclView, commands_of, view_command, view_decl}
+use Rattle.filter_parser.specs.SyntaxCommands.{CommandView, CommandsView, DeclView, LabelView, commands_of, parts_of, view_command, view_decl}
 use Rattle.filter_types.proofs.Lists.{map_next}
 use Rattle.filter_compiler.specs.declared.output.Output.{Output}
 use Rattle.filter_compiler.specs.Translation.{joined_code, operator_code, commands_code, command_code, commands_sets, command_sets}
-use Rattle.filter_compiler.specs.Translation.{declarations_code, first_value, suffix_code, expression_code, member_code, sets_of}
+use Rattle.filter_compiler.specs.Translation.{declarations_code, first_value, suffix_code, expression_code, member_code, sets_of, label_sets, parts_sets}
 use Rattle.filter_compiler.specs.SetOrder.{Sets, SetCounts, no_sets, past, with_sets}
 use Rattle.filter_compiler.specs.declared.numbers.SetNumbers.{SetNumbers}
 use Rattle.filter_compiler.specs.Written.{Emits, Holds, Puts, expression_part, right_part, command_part, commands_part}
@@ -75,12 +77,19 @@ module _ (decls : List DeclView) (a b c : Output) (k l m : SetNumbers) where
       (suffixes_push inner (take i xs) x ∙ ap (suffixes_of inner) (sym (take_next xs i x low is)))
       (then_code first second)
 
+abbrev sets_from : List (List PrefixPattern) → List (List NumberRange) → Sets
+sets_from patterns ints = record { patterns = patterns; ints = ints }
+
 -- sets of several parts
+same_sets : (a c : List (List PrefixPattern)) (b d : List (List NumberRange)) → a ≡ c → b ≡ d → sets_from a b ≡ sets_from c d
+same_sets a c b d e f = ap (λ x. sets_from x b) e ∙ ap (sets_from c) f
+
 pub without_more : (s : Sets) → with_sets s no_sets ≡ s
-without_more s = ap (λ x. record { patterns = x }) (append-nil s.patterns)
+without_more s = same_sets _ _ _ _ (append-nil s.patterns) (append-nil s.ints)
 
 pub sets_assoc : (s t u : Sets) → with_sets (with_sets s t) u ≡ with_sets s (with_sets t u)
-sets_assoc s t u = ap (λ x. record { patterns = x }) (append_assoc s.patterns t.patterns u.patterns)
+sets_assoc s t u =
+    same_sets _ _ _ _ (append_assoc s.patterns t.patterns u.patterns) (append_assoc s.ints t.ints u.ints)
 
 -- a command more
 codes_push : (decls : List DeclView) (n : SetCounts) (xs : List CommandView) (x : CommandView)
@@ -134,18 +143,31 @@ declared_next a b c d xs i x low is first second third =
     ∙ (declared_push 0 so_far (view_decl x) ∙ ap (declarations_code 0) (sym (map_next view_decl xs i x low is)))))
     (puts_then (puts_then first second) third)
 
--- the question for a set, whose number is within the limit where it is kept
-member_length : (op : Membership) (n m : ℕ) → length (member_code op n) ≡ length (member_code op m)
-member_length membership.In n m = refl
-member_length membership.NotIn n m = refl
+-- a question for a set, whose number is within the limit where it is kept
+member_length : (op : Membership) (x y : Instr) → length (member_code op x) ≡ length (member_code op y)
+member_length membership.In x y = refl
+member_length membership.NotIn x y = refl
 
-pub numbered : {a b c : Output} {number : ℕ} (n : ℕ) (op : Membership) → Puts a b [] → (c.kept ≡ true → number < 64)
-    → number ≡ min n 255 → Puts b c (member_code op number) → Puts a c (member_code op n)
-numbered {a} {b} {c} {number} n op first low is second = record {
+pub numbered : {a b c : Output} {number : ℕ} (n : ℕ) (question : ℕ → Instr) (op : Membership) → Puts a b []
+    → (c.kept ≡ true → number < 64) → number ≡ min n 255 → Puts b c (member_code op (question number))
+    → Puts a c (member_code op (question n))
+numbered {a} {b} {c} {number} n question op first low is second = record {
   holds = λ before h.
-      let h2 = subst (λ x. Holds c (x ++ member_code op number)) (append-nil before) (second.holds _ (first.holds before h)) in
-      let same : length (before ++ member_code op number) ≡ length (before ++ member_code op n) =
-      omega (arith, length-append before (member_code op number), length-append before (member_code op n), member_length op number n) in
+      let x = question number in
+      let y = question n in
+      let h2 = subst (λ l. Holds c (l ++ member_code op x)) (append-nil before) (second.holds _ (first.holds before h)) in
+      let same : length (before ++ member_code op x) ≡ length (before ++ member_code op y) =
+      omega (arith, length-append before (member_code op x), length-append before (member_code op y), member_length op x y) in
       let number_is : c.kept ≡ true → number ≡ n = (λ k. let l = low k in omega arith) in
-      exchanged c c _ _ refl refl same (λ k. h2.instrs k ∙ ap (λ m. before ++ member_code op m) (number_is k)) h2;
+      exchanged c c _ _ refl refl same (λ k. h2.instrs k ∙ ap (λ m. before ++ member_code op (question m)) (number_is k)) h2;
 }
+
+-- a part of a `case` more
+pub parts_push : (xs : List (LabelView × CommandsView)) (x : LabelView × CommandsView)
+    → with_sets (parts_sets (parts_of xs)) (with_sets (label_sets x.0) (commands_sets x.1)) ≡ parts_sets (parts_of (xs ++ x ∷ []))
+parts_push [] x = ap (with_sets (label_sets x.0)) (sym (without_more (commands_sets x.1)))
+parts_push (y ∷ xs) x =
+    let rest = parts_sets (parts_of xs) in
+    let new = with_sets (label_sets x.0) (commands_sets x.1) in
+    sets_assoc (label_sets y.0) (with_sets (commands_sets y.1) rest) new
+    ∙ ap (with_sets (label_sets y.0)) (sets_assoc (commands_sets y.1) rest new ∙ ap (with_sets (commands_sets y.1)) (parts_push xs x))

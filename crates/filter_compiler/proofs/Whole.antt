@@ -110,7 +110,7 @@ means_the_same filter typed = record {
       (begun program route) in
       let s : Stands program route scene pc1 [] = record { reached = r; room = omega arith } in
       let run = commands_run program route filter.decls filter.body none_before pc1 scene typed.body (declared_kinds filter.decls)
-      (has_front program.instrs pc1 body (instr.Reject ∷ []) after_first) (record { patterns = has_all program.sets }) s in
+      (has_front program.instrs pc1 body (instr.Reject ∷ []) after_first) (record { patterns = has_all program.sets; ints = has_all program.int_sets }) s in
       ends_so program route filter.decls (pc1 + length body) (commands_need filter.body) (need filter)
       (course_of_all route filter.body scene) last (omega arith) run;
 }

@@ -3,18 +3,19 @@
 ghost use Rattle.std.specs.Prelude.{◌≡◌, ℕ, [], ◌∷◌, ◌++◌, flat_map, length, map, min, replicate};
 ghost use Rattle.filter_code.specs.CodeView.{HasMask};
 ghost use Rattle.filter_parser.specs.Places.{expr_place};
-ghost use Rattle.filter_parser.specs.Syntax.{ExprView, chain_of, suffixes_of, view, view_more, view_set_pattern};
+ghost use Rattle.filter_parser.specs.Syntax.{ExprView, chain_of, suffixes_of, view, view_members, view_more};
 ghost use Rattle.filter_parser.specs.SyntaxText.{view_filter};
 ghost use Rattle.filter_compiler.specs.InstructionPlaces.{all_at, expression_places, right_places, suffixes_places};
-ghost use Rattle.filter_compiler.specs.Translation.{attribute_code, member_code, operator_code, suffix_code};
+ghost use Rattle.filter_compiler.specs.SetOrder.{SetCounts};
+ghost use Rattle.filter_compiler.specs.Translation.{attribute_code, expression_code, member_code, operator_code, suffix_code};
 ghost use Rattle.filter_compiler.specs.declared.numbers.SetNumbers.{SetNumbers as TheNumbers};
 ghost use Rattle.filter_compiler.specs.declared.output.Output.{Output as TheOutput};
-ghost use Rattle.filter_compiler.specs.Written.{Emits, Notes, Puts, code_alone, expression_part, member_part, right_part};
+ghost use Rattle.filter_compiler.specs.Written.{Emits, IsCounted, Notes, Puts, code_alone, expression_part, member_part, right_part};
 
 use crate::numbers::SetNumbers;
 use crate::output::Output;
-use filter_code::Instr;
-use filter_parser::{Attribute, Expr, Membership, Op, Set, Suffix};
+use filter_code::{INT_SET_LIMIT, Instr, SET_LIMIT};
+use filter_parser::{Attribute, Expr, Members, Membership, Op, Set, Suffix};
 use filter_types::Typed;
 
 /// The instruction that puts an attribute of the route on the stack.
@@ -82,25 +83,53 @@ pub(crate) fn emit_one(at: usize, instr: Instr, sets: SetNumbers, out: &mut Outp
     sets
 }
 
-/// Writes the question whether an operand matches the set of this number.
-fn put_member(at: usize, op: Membership, number: u8, out: &mut Output)
-    ensures code { (n : ℕ) → number ≡ min n 255 → Puts out.old out.new (member_code op n) }
-    ensures places { Notes out.old out.new (all_at at (member_code op 0)) }
+/// Writes a question that takes one operand, or its opposite.
+fn put_member(at: usize, op: Membership, question: Instr, out: &mut Output)
+    requires { HasMask question }
+    ensures code { Puts out.old out.new (member_code op question) }
+    ensures places { Notes out.old out.new (all_at at (member_code op question)) }
 {
-    out.need_set(number);
     match op {
-        Membership::In => out.put(at, Instr::Member(number)),
-        Membership::NotIn => put_opposite(at, Instr::Member(number), out),
+        Membership::In => out.put(at, question),
+        Membership::NotIn => put_opposite(at, question, out),
     }
 }
 
-/// Writes the question whether an operand matches a set, where the next sets have these numbers. What is answered are the numbers after it.
+/// Writes the question whether an operand is in a set, where the next sets have these numbers. What is answered are the numbers after it.
 fn emit_member(op: Membership, set: &Set, sets: SetNumbers, out: &mut Output) -> SetNumbers
-    ensures code { Emits out.old out.new sets result (member_part op (map view_set_pattern set.now.patterns.items)) }
-    ensures places { Notes out.old out.new (all_at set.now.at (member_code op 0)) }
+    ensures code { Emits out.old out.new sets result (member_part op (view_members set.now.members)) }
+    ensures places { Notes out.old out.new (all_at set.now.at (member_code op (Instr.Member 0))) }
 {
-    put_member(set.at, op, sets.patterns, out);
-    sets.after_patterns()
+    match &set.members {
+        Members::Patterns(_) => {
+            out.need_set(sets.patterns, SET_LIMIT);
+            put_member(set.at, op, Instr::Member(sets.patterns), out);
+            sets.after_patterns()
+        }
+        Members::Ranges(_) => {
+            out.need_set(sets.ints, INT_SET_LIMIT);
+            put_member(set.at, op, Instr::InSet(sets.ints), out);
+            sets.after_ints()
+        }
+    }
+}
+
+/// Writes the argument of a `case` and the question whether it is in the set of ints of a label.
+pub(crate) fn emit_question(
+    typed: &Typed,
+    at: usize,
+    argument: &Expr,
+    sets: SetNumbers,
+    number: u8,
+    out: &mut Output,
+)
+    ensures code { (n : SetCounts) (m : ℕ) → IsCounted n sets → number ≡ min m 255
+        → Puts out.old out.new (expression_code (view_filter typed.now).decls n (view argument.now) ++ Instr.InSet m ∷ []) }
+    ensures places { Notes out.old out.new (expression_places argument.now ++ at ∷ []) }
+{
+    emit(typed, argument, sets, out);
+    out.need_set(number, INT_SET_LIMIT);
+    out.put(at, Instr::InSet(number));
 }
 
 /// Writes an operand with its suffixes, from the left.

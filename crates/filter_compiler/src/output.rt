@@ -3,7 +3,7 @@
 ghost use Rattle.std.specs.Prelude.{◌≡◌, [], ◌∷◌, ◌++◌, All, OnOk, slice_set};
 ghost use Rattle.filter_code.specs.CodeView.{HasMask};
 
-use filter_code::{INSTRUCTION_LIMIT, Instr, SET_LIMIT};
+use filter_code::{INSTRUCTION_LIMIT, Instr};
 use std::alloc::{AllocError, Global};
 use std::marker::Model;
 
@@ -71,6 +71,7 @@ impl MappedInstrs {
 /// The code so far. Code that is past a limit, or for which memory was refused, is counted and no longer kept.
 #[derive(Drop)]
 pub(crate) struct Output {
+    pub alloc: Global,
     /// The instructions and their places, while they are kept.
     pub mapped: MappedInstrs,
     /// How many instructions were put, or some number past the limit.
@@ -81,7 +82,6 @@ pub(crate) struct Output {
 
 impl Output {
     ghost use Rattle.std.specs.Prelude.{◌-◌, ◌<◌, true};
-    ghost use Rattle.filter_code.specs.Limits.{set_limit};
     ghost use Rattle.filter_compiler.specs.Written.{Holds, Notes, Puts, patched};
 
     /// Nothing yet.
@@ -90,6 +90,7 @@ impl Output {
         ensures empty { result.mapped ≡ record { instrs = []; places = [] } }
     {
         Output {
+            alloc,
             mapped: MappedInstrs::new(alloc),
             length: 0,
             kept: true,
@@ -113,13 +114,13 @@ impl Output {
         }
     }
 
-    /// What comes next asks for the set of this number. Code that asks for a set past the limit is not kept.
-    pub(crate) fn need_set(&mut self, number: u8)
+    /// What comes next asks for the set of this number. Code that asks for a set past this limit is not kept.
+    pub(crate) fn need_set(&mut self, number: u8, limit: usize)
         ensures code { Puts self.old self.new [] }
         ensures places { Notes self.old self.new [] }
-        ensures within { self.new.kept ≡ true → number < set_limit }
+        ensures within { self.new.kept ≡ true → number < limit }
     {
-        if usize::from(number) >= SET_LIMIT {
+        if usize::from(number) >= limit {
             self.kept = false;
         }
     }
