@@ -107,7 +107,7 @@ const EXPECTED: [Row; 29] = [
     ),
     (
         "filter q { if net ~ [] then accept; }",
-        "P2 21 expected a prefix at byte 21",
+        "P2 21 expected a number or a prefix at byte 21",
     ),
     (
         "filter q { if net ~ [1.0.0.0/8{9}] then ; }",

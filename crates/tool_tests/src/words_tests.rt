@@ -49,7 +49,7 @@ fn tokens_are_told(rt: HostRuntime) -> Result<(), Fail> {
         ),
         (
             "filter q int a; { a := 1; }",
-            "f:1:21: expected `=`, found `:`: assign by `=` (P2)\n",
+            "f:1:19: expected `=`, found `:`: assign by `=` (P2)\n",
         ),
         (
             "filter q { if true & true then ; }",
