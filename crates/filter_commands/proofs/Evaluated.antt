@@ -19,7 +19,7 @@ use Rattle.line_protocol.specs.declared.answers.Reply.TheVariants as reply
 use Rattle.prefix_patterns.specs.Token.{IsPrefix}
 use Rattle.filter_commands.proofs.Printed.{line_again, none_in}
 use Rattle.filter_commands.proofs.RouteLines.{read_route}
-use Rattle.filter_commands.specs.Check.{printed}
+use Rattle.filter_commands.specs.Check.{FitsLine, printed}
 use Rattle.filter_commands.specs.Eval.{all_answers, answer_of, answers_after, eval_answers, route_answer, verdict}
 use Rattle.filter_commands.specs.RouteLine.{IsRouteLine}
 use Rattle.filter_commands.specs.Saying.{Says, SaysTheSame}
@@ -51,9 +51,9 @@ printed_lines bytes routes =
     lines-append (text ++ 10 ∷ []) routes (inr (text, refl)) ∙ ap (λ (all : List (List ℕ)). all ++ lines routes) one
 
 -- each line after the printed code is answered as a route under that code
-pub evaluated : (program : CodeView) (routes : List ℕ) → IsCode program
+pub evaluated : (program : CodeView) (routes : List ℕ) → FitsLine program → IsCode program
     → eval_answers (printed program ++ routes) ≡ map (route_answer program) (answerable_from 2 (lines routes))
-evaluated program routes h =
+evaluated program routes few h =
     let text = encode_lower (spelling program) in
     let shown : is_skipped text ≡ false = answered (spelling program) 78 (drop 1 (spelling program)) (first_byte program) in
     let first : answerable_from 1 (text ∷ lines routes) ≡ (1, text) ∷ answerable_from 2 (lines routes) =
@@ -61,7 +61,7 @@ evaluated program routes h =
     in
     ap (λ (all : List (List ℕ)). all_answers (answerable_from 1 all)) (printed_lines (spelling program) routes)
     ∙ ap all_answers first
-    ∙ ap (λ (read : Result CodeView Refusal). answers_after 1 read (answerable_from 2 (lines routes))) (line_again program h)
+    ∙ ap (λ (read : Result CodeView Refusal). answers_after 1 read (answerable_from 2 (lines routes))) (line_again program few h)
 
 -- a prefix has at most 32 bits
 pub short_prefix : (text : List ℕ) (bits : List Bool) → IsPrefix text bits → length bits ≤ 32

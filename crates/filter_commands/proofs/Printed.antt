@@ -1,12 +1,12 @@
 -- The hexadecimal of a code's file, as `check` prints it, gives the code back.
-use Rattle.std.proofs.Common.{◌≡◌, ℕ, zero, suc, ◌+◌, ◌-◌, ◌*◌, ◌/◌, ◌%◌, ◌<◌, ◌≤◌, Bool, true, false, not, List, [], ◌∷◌, ◌++◌, Result, Ok, Err, length, take, drop, slice_index, get_or, nat_lt, if◌then◌else◌, inr, refl, ap, ◌∙◌, arith, length-append}
+use Rattle.std.proofs.Common.{◌≡◌, ℕ, zero, suc, ◌+◌, ◌-◌, ◌/◌, ◌%◌, ◌<◌, Bool, true, false, not, List, [], ◌∷◌, ◌++◌, Result, Ok, Err, length, take, drop, slice_index, get_or, nat_lt, if◌then◌else◌, inr, refl, ap, ◌∙◌, arith, length-append}
 use Rattle.std.proofs.lemmas.Bool.Decides.{nat_tests}
 use Rattle.std.proofs.Math.ListN.{get_or-append}
 use Rattle.std.proofs.Math.Seq.{get_or-append_seam, take_all}
 use Rattle.std.proofs.lemmas.List.{take-append-le}
 use Rattle.std.proofs.lemmas.List.Sums.{prefix_len_is, suffix_len_is}
 use Rattle.std.specs.List.{list_all, prefix_len, suffix_len}
-use Rattle.hex.proofs.HexLemmas.{decode_of-encode_lower, length-encode_with}
+use Rattle.hex.proofs.HexLemmas.{decode_of-encode_lower}
 use Rattle.hex.specs.Hex.{encode_lower, encode_with, lower_digits}
 use Rattle.code_file.proofs.FileBytes.{a_file}
 use Rattle.code_file.proofs.Grammar.{file_of_spelling}
@@ -18,7 +18,7 @@ use Rattle.filter_source.specs.declared.refusal.Refusal.{Refusal}
 use Rattle.filter_source.specs.declared.refusal.Refusal.TheVariants.{TooLong}
 use Rattle.filter_tokens.specs.Tokenization as gaps
 use Rattle.line_protocol.specs.Words as words
-use Rattle.filter_commands.specs.Check.{IsCodeReport, IsReport, ReportView, printed, without_white_end}
+use Rattle.filter_commands.specs.Check.{FitsLine, IsCodeReport, IsReport, ReportView, printed, without_white_end}
 use Rattle.filter_commands.specs.Eval.{code_in}
 
 -- no byte of a text of hexadecimal digits has what no digit has
@@ -67,35 +67,22 @@ trimmed_both bytes =
     ap (λ (n : ℕ). words.without_end_blanks (drop n text)) front
     ∙ ap (λ (n : ℕ). take n text) kept ∙ take_all (length text) text (omega arith)
 
--- the digits of a code's file are within the limit
-few_digits : (program : CodeView) → IsCode program → length (encode_lower (spelling program)) < source_limit
-few_digits program h =
-    let few = (a_file program h).few in
-    let long : length (encode_lower (spelling program)) ≡ 2 * length (spelling program) =
-    length-encode_with lower_digits (spelling program)
-    in
-    omega (arith, few, long)
-
 -- the digits of a code's file are read as that code
 pub digits_again : (program : CodeView) → IsCode program → code_in_hexadecimal (encode_lower (spelling program)) ≡ Ok program
 digits_again program h = ap code_in_bytes (decode_of-encode_lower (spelling program) (a_file program h).each)
     ∙ ap code_or_fault (file_of_spelling program h)
 
 -- what `check` prints of a code, read by `check --code`, has the report on that code
-pub printed_again : (size : ℕ) (program : CodeView) (report : ReportView) → IsCodeReport size program report
+pub printed_again : (size : ℕ) (program : CodeView) (report : ReportView) → FitsLine program → IsCodeReport size program report
     → IsReport size true (printed program) report
-printed_again size program report h =
-    let few = few_digits program h.is_code in
-    let digits = encode_lower (spelling program) in
-    let all : length (printed program) ≡ length digits + 1 = length-append digits (10 ∷ []) in
-    let within : length (printed program) ≤ source_limit = omega (arith, few, all) in
+printed_again size program report within h =
     inr (program, (within, ap code_in_hexadecimal (trimmed_end (spelling program)) ∙ digits_again program h.is_code), h)
 
 -- and read by `eval` it is that code
-pub line_again : (program : CodeView) → IsCode program → code_in (encode_lower (spelling program)) ≡ Ok program
-line_again program h =
+pub line_again : (program : CodeView) → FitsLine program → IsCode program → code_in (encode_lower (spelling program)) ≡ Ok program
+line_again program few h =
     let digits = encode_lower (spelling program) in
-    let few = few_digits program h in
+    let all : length (printed program) ≡ length digits + 1 = length-append digits (10 ∷ []) in
     let within : nat_lt source_limit (length digits) ≡ false = grind (arith, nat_tests) in
     let read : Bool → Result CodeView Refusal = λ b. if b then Err TooLong else code_in_hexadecimal (words.trimmed digits) in
     ap read within ∙ ap code_in_hexadecimal (trimmed_both (spelling program)) ∙ digits_again program h

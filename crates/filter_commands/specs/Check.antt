@@ -32,6 +32,10 @@ refusal_report why = record { text = refusal (refusal_code why) (place_in_line w
 abbrev pub printed : CodeView → List ℕ
 printed program = encode_lower (spelling program) ++ 10 ∷ []
 
+-- The printed code is within the limit of a source: a code may have so many sets that its digits are in no line that is read.
+abbrev pub FitsLine : CodeView → Type 0
+FitsLine program = length (printed program) ≤ source_limit
+
 -- the line of a code
 abbrev pub code_line : CodeView → List ℕ
 code_line program = codes "code " ++ printed program

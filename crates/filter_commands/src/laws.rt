@@ -12,25 +12,25 @@ ghost use Rattle.line_protocol.specs.Lines.{answerable_from};
 ghost use Rattle.line_protocol.specs.declared.answers.Reply.TheVariants as reply;
 ghost use Rattle.std.specs.Str.Lines.{lines};
 ghost use Rattle.std.specs.Prelude.{◌≡◌, ◌↔◌, ◌++◌, ℕ, true, List, Ok, Err, map};
-ghost use Rattle.filter_commands.specs.Check.{IsCodeReport, IsReport, ReportView, printed};
+ghost use Rattle.filter_commands.specs.Check.{FitsLine, IsCodeReport, IsReport, ReportView, printed};
 ghost use Rattle.filter_commands.specs.Eval.{code_in, eval_answers, route_answer, verdict};
 ghost use Rattle.filter_commands.specs.RouteLine.{IsLineFault, IsRouteLine, route_in};
 ghost use Rattle.filter_commands.specs.Saying.{Says, SaysTheSame};
 ghost use Rattle.filter_commands.specs.declared.line_fault.LineFault.{LineFault as TheFault};
 
 /// The code that `check` prints is read by `check --code` as the same code, with the same lines: code that is written and read
-/// again has the same verdicts.
+/// again has the same verdicts. Its digits have to be within the limit of a source.
 pub fn printed_code_is_checked_alike()
-    ensures { (size : ℕ) (program : CodeView) (report : ReportView) → IsCodeReport size program report
+    ensures { (size : ℕ) (program : CodeView) (report : ReportView) → FitsLine program → IsCodeReport size program report
         → IsReport size true (printed program) report }
 {}
 
 /// What `check` prints of a code is read by `eval` as that code: each line after it is answered as a route under the code, and
 /// numbered from 2. Where the code says of the routes of a size what a filter says, a line with a route of that size is answered by
-/// what the filter says of it: `accept` with that metric, or `reject`.
+/// what the filter says of it: `accept` with that metric, or `reject`. The digits of the code have to be within the limit of a source.
 pub fn printed_code_is_evaluated()
-    ensures line { (program : CodeView) → IsCode program → code_in (encode_lower (spelling program)) ≡ Ok program }
-    ensures answers { (program : CodeView) (routes : List ℕ) → IsCode program
+    ensures line { (program : CodeView) → FitsLine program → IsCode program → code_in (encode_lower (spelling program)) ≡ Ok program }
+    ensures answers { (program : CodeView) (routes : List ℕ) → FitsLine program → IsCode program
         → eval_answers (printed program ++ routes) ≡ map (route_answer program) (answerable_from 2 (lines routes)) }
     ensures meant { (filter : FilterView) (program : CodeView) (size number : ℕ) (line : List ℕ) (route : RouteView)
         → SaysTheSame filter program size → IsRouteLine line route → route.size ≡ size

@@ -1,6 +1,6 @@
 //! What is wrong with a refused source, in words.
 
-use crate::around::{Around, declared, is_ipv6, name_of, quoted, tokens_around, word_at};
+use crate::around::{Around, declared, is_ipv6, is_symbol, name_of, quoted, tokens_around, word_at};
 use crate::head_word::Word;
 use crate::nearest::nearest;
 use crate::remedies::{
@@ -9,14 +9,16 @@ use crate::remedies::{
 use filter_compiler::CompileFault;
 use filter_parser::{Expected, ParseFault};
 use filter_source::{Diagnosis, Refusal};
-use filter_tokens::{Token, TokenFault, TokenKind, lex};
+use filter_tokens::{Symbol, Token, TokenFault, TokenKind, lex};
 use filter_types::{ExpectedKind, TypeFault};
 use filter_verifier::VerifyFault;
 use prefix_patterns::read_ip;
 use std::alloc::{AllocError, Global};
 
 /// The words with which a command begins.
-const HEADS: [&str; 7] = ["accept", "reject", "if", "else", "int", "bool", "prefix"];
+const HEADS: [&str; 8] = [
+    "accept", "reject", "if", "else", "case", "int", "bool", "prefix",
+];
 
 /// What a name may mean that is no variable's.
 const VALUES: [&str; 4] = ["net", "rip_metric", "true", "false"];
@@ -41,7 +43,6 @@ fn parse_words(alloc: Global, text: &[u8], fault: ParseFault) -> Result<String, 
             let lexed = lex(alloc, text)?;
             unexpected(alloc, text, lexed.tokens.as_slice(), at, expected)
         }
-        ParseFault::NumberSet(at) => String::from_str(alloc, number_words(text, at)),
         _ => String::from_str(alloc, plain_words(fault)),
     }
 }
@@ -52,23 +53,13 @@ fn plain_words(fault: ParseFault) -> &'static str {
         ParseFault::MaskOverLimit(_) => "the argument of `mask` exceeds 32",
         ParseFault::PatternLengths(_) =>
             "the lengths of a pattern must be in order, and at most 32",
+        ParseFault::RangeOrder(_) => "the lower number of a range comes first",
         ParseFault::TooDeep(_) => "nesting deeper than 32 levels",
         ParseFault::MixedOperators(_) => "`&&` and `||` are mixed: add parentheses",
         ParseFault::TooLong => "the filter is longer than 65536 bytes",
         ParseFault::EndsEarly(_) => "unexpected end of the text",
         ParseFault::TextElsewhere(_) => "unexpected text: only `accept` and `reject` take one",
         _ => "the text is no filter",
-    }
-}
-
-/// The words of a set that begins with a number.
-fn number_words(text: &[u8], at: usize) -> &'static str {
-    if is_ipv6(text, at) {
-        IPV6
-    } else if is_short_prefix(text, at) {
-        "a prefix has four numbers before its `/`, as 10.0.0.0/8"
-    } else {
-        "sets of numbers are not supported: write comparisons, as `net.len >= 8 && net.len <= 24`"
     }
 }
 
@@ -201,6 +192,25 @@ fn remedy_for(
     }
 }
 
+/// What is wrong where a prefix was meant: an address of IPv6, or one of fewer than four numbers in a set.
+fn prefix_words(
+    text: &[u8],
+    expected: Expected,
+    around: Around,
+    at: usize,
+) -> Option<&'static str> {
+    let may_be_ipv6 = matches!(expected, Expected::Member | Expected::Prefix)
+        || is_symbol(around.found, Symbol::Colon);
+    if may_be_ipv6 && is_ipv6(text, at) {
+        return Some(IPV6);
+    }
+    let begins = around.last?.from;
+    if expected == Expected::CommaOrBracket && is_short_prefix(text, begins) {
+        return Some("a prefix has four numbers before its `/`, as 10.0.0.0/8");
+    }
+    None
+}
+
 /// What was expected in place of the token at a byte.
 fn unexpected(
     alloc: Global,
@@ -209,10 +219,10 @@ fn unexpected(
     at: usize,
     expected: Expected,
 ) -> Result<String, AllocError> {
-    if expected == Expected::Prefix && is_ipv6(text, at) {
-        return String::from_str(alloc, IPV6);
-    }
     let around = tokens_around(tokens, at);
+    if let Some(words) = prefix_words(text, expected, around, at) {
+        return String::from_str(alloc, words);
+    }
     let found = found_words(alloc, text, around.found)?;
     let variables = declared(alloc, text, tokens)?;
     match remedy_for(text, expected, around, variables.as_slice()) {
@@ -269,6 +279,10 @@ fn kind_words(alloc: Global, text: &[u8], fault: TypeFault) -> Result<String, Al
         TypeFault::TooManyVariables(_) => {
             String::from_str(alloc, "a filter has at most 16 variables")
         }
+        TypeFault::SharedLabel(_) => String::from_str(
+            alloc,
+            "an earlier label of this `case` has a number of this label",
+        ),
         TypeFault::Memory => String::from_str(alloc, "out of memory"),
     }
 }
@@ -292,7 +306,9 @@ fn name_words(alloc: Global, text: &[u8], name: &str) -> Result<String, AllocErr
 fn compile_words(fault: CompileFault) -> &'static str {
     match fault {
         CompileFault::TooManyInstructions => "the compiled filter exceeds 1024 instructions",
-        CompileFault::TooManySets => "more than 64 sets, or more than 1024 patterns in one set",
+        CompileFault::TooManySets => {
+            "more than 64 sets of patterns or of ints, or more than 1024 patterns or ranges in one"
+        }
         CompileFault::Memory => "out of memory",
     }
 }

@@ -19,7 +19,7 @@ const NO_TERMINAL: Terminals = Terminals {
 
 #[test]
 fn reads_words(rt: HostRuntime) -> Result<(), Fail> {
-    let rows: [(&[&str], Words); 19] = [
+    let rows: [(&[&str], Words); 22] = [
         (&["ncroute", "eval"], Words::Asked(Request::Eval)),
         (&["ncroute"], Words::Shown(2)),
         (&["ncroute", "check"], Words::Shown(2)),
@@ -49,6 +49,15 @@ fn reads_words(rt: HostRuntime) -> Result<(), Fail> {
         (&["ncroute", "eval", "--size"], Words::Shown(2)),
         (&["ncroute", "run"], Words::Asked(Request::Run)),
         (&["ncroute", "run", "a", "b"], Words::Shown(2)),
+        (
+            &["ncroute", "rewrite"],
+            Words::Asked(Request::Rewrite { is_old: false }),
+        ),
+        (
+            &["ncroute", "rewrite", "--old"],
+            Words::Asked(Request::Rewrite { is_old: true }),
+        ),
+        (&["ncroute", "rewrite", "more"], Words::Shown(2)),
         (&["ncroute", "net"], Words::Network),
         (&["ncroute", "net", "more"], Words::Shown(2)),
         (
@@ -237,7 +246,7 @@ fn requests_end_with_their_status(rt: HostRuntime) -> Result<(), Fail> {
         size: 8,
         is_code: false,
     };
-    let rows: [(Request, &str, &str, u8); 7] = [
+    let rows: [(Request, &str, &str, u8); 9] = [
         (
             Request::Eval,
             "4e4346310000000170\n10.0.0.0/8 3 8\n",
@@ -254,10 +263,22 @@ fn requests_end_with_their_status(rt: HostRuntime) -> Result<(), Fail> {
         (
             check,
             "filter a { accept; }",
-            "code 4e434631000000027071\nverified 1 0\n",
+            "code 4e43463200000000027071\nverified 1 0\n",
             0,
         ),
         (check, "filter a { accept }", "refused P2 18\n", 1),
+        (
+            Request::Rewrite { is_old: false },
+            "4e4346310000000170\n",
+            "4e434632000000000170\n",
+            0,
+        ),
+        (
+            Request::Rewrite { is_old: true },
+            "4e4346320000000002520070",
+            "refused C8 0\n",
+            1,
+        ),
         (Request::Run, "network 4 0\nup 1\n", "ok\nopened 1\n", 0),
         (Request::Run, "up 1\n", "refused O4 1\n", 1),
     ];
@@ -464,7 +485,7 @@ fn files_that_are_missing_are_named(rt: HostRuntime) -> Result<(), Fail> {
         (
             &["ncroute", "check", "--size=8", "lost", "good"],
             "",
-            "code 4e434631000000027071\nverified 1 0\n",
+            "code 4e43463200000000027071\nverified 1 0\n",
             "lost: No such file or directory (E1)\n",
             1,
         ),
@@ -485,7 +506,7 @@ fn files_that_are_missing_are_named(rt: HostRuntime) -> Result<(), Fail> {
         (
             &["ncroute", "check", "--size=8", "good", "-"],
             "filter a { accept; }",
-            "code 4e434631000000027071\nverified 1 0\ncode 4e434631000000027071\nverified 1 0\n",
+            "code 4e43463200000000027071\nverified 1 0\ncode 4e43463200000000027071\nverified 1 0\n",
             "",
             0,
         ),

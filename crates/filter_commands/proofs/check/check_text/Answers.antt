@@ -1,5 +1,5 @@
 -- The report on what was read is written, or a front of it.
-use Rattle.std.proofs.Common.{◌≡◌, ◌≤◌, ◌+◌, ℕ, List, length, refl, sym, ap, ◌∙◌, subst, vec_len, arith}
+use Rattle.std.proofs.Common.{◌≡◌, ◌≤◌, ◌+◌, ℕ, List, length, sym, ap, ◌∙◌, subst, vec_len, arith}
 use Rattle.filter_source.specs.Limits.{source_limit}
 use Rattle.std.specs.Io.KnownBytes.{IsAtEnd}
 use Rattle.filter_source.proofs.Refused.{of_error}
