@@ -110,11 +110,27 @@ fn around_the_body(rt: HostRuntime) -> Result<(), ParseFault> {
 
 const CASES: [Row; 32] = [
     ("filter q { case 1 { } }", "tree", 0),
-    ("filter q { case 1 { 1: 2..3, 5: ; else: accept; } }", "tree", 0),
-    ("filter q { case 1 { 1: if true then ; else: ; } }", "tree", 0),
-    ("filter q { case 1 { 1: if true then ; else ; else: ; } }", "tree", 0),
+    (
+        "filter q { case 1 { 1: 2..3, 5: ; else: accept; } }",
+        "tree",
+        0,
+    ),
+    (
+        "filter q { case 1 { 1: if true then ; else: ; } }",
+        "tree",
+        0,
+    ),
+    (
+        "filter q { case 1 { 1: if true then ; else ; else: ; } }",
+        "tree",
+        0,
+    ),
     ("filter q { case 1 { else: ; 1: ; } }", "tree", 0),
-    ("filter q { case 1 { 1: case 2 { else: ; } else: ; } }", "tree", 0),
+    (
+        "filter q { case 1 { 1: case 2 { else: ; } else: ; } }",
+        "tree",
+        0,
+    ),
     ("filter q { case 1 { else: ; else: ; } }", "P2", 28),
     ("filter q { case 1 { else: ; else ; } }", "P2", 28),
     ("filter q { case 1 { else ; } }", "P2", 25),
@@ -126,7 +142,11 @@ const CASES: [Row; 32] = [
     ("filter q { case { } }", "P2", 16),
     ("filter q { else: ; }", "P2", 11),
     ("filter q { if true then ; else: ; }", "P2", 26),
-    ("filter q { case 1 { 1: { if true then ; else: ; } } }", "P2", 40),
+    (
+        "filter q { case 1 { 1: { if true then ; else: ; } } }",
+        "P2",
+        40,
+    ),
     ("filter q { if 1 ~ [1, 2..3, 3..3] then ; }", "tree", 0),
     ("filter q { if 1 !~ [0..4294967295] then ; }", "tree", 0),
     ("filter q { if 1 ~ [1, 2.0.0.0/8] then ; }", "P2", 22),
