@@ -113,16 +113,17 @@ kept_defined at a = ap expr_kept (sym (e.rolls-Defined at a)) ∙ fold-roll-Expr
 pub kept_block : (at : ℕ) (body : Vec Command Global) → command_kept (command.Block at body) ≡ Some at ∷ (joined (map command_kept body.items) ++ None ∷ [])
 kept_block at body = ap command_kept (sym (command.rolls-Block at body)) ∙ fold-roll-Command Kept command_kept_step (Command-F.Block at body)
 
-parts_folded : (parts : List (Label × Vec Command Global)) →
-    joined (map part_kept_step (map (λ p. (p.0, record { items = map command_kept p.1.items })) parts)) ≡ joined (map part_kept parts)
-parts_folded [] = refl
-parts_folded (p ∷ parts) = ap (λ (k : Kept). part_kept p ++ k) (parts_folded parts)
+parts_folded : (f : Label × Vec Command Global → Label × Vec Kept Global)
+    → ((p : Label × Vec Command Global) → part_kept_step (f p) ≡ part_kept p) → (parts : List (Label × Vec Command Global))
+    → joined (map part_kept_step (map f parts)) ≡ joined (map part_kept parts)
+parts_folded f same [] = refl
+parts_folded f same (p ∷ parts) = rw (same p, parts_folded f same parts) refl
 
 pub kept_case : (at : ℕ) (argument : Expr) (parts : Vec (Label × Vec Command Global) Global) → command_kept (command.Case at argument parts)
     ≡ Some at ∷ (expr_kept argument ++ None ∷ (joined (map part_kept parts.items) ++ None ∷ []))
 kept_case at argument parts =
     ap command_kept (sym (command.rolls-Case at argument parts)) ∙ fold-roll-Command Kept command_kept_step (Command-F.Case at argument parts)
-    ∙ ap (λ (k : Kept). Some at ∷ (expr_kept argument ++ None ∷ (k ++ None ∷ []))) (parts_folded parts.items)
+    ∙ ap (λ (k : Kept). Some at ∷ (expr_kept argument ++ None ∷ (k ++ None ∷ []))) (parts_folded _ (λ p. refl) parts.items)
 
 pub kept_assign : (at : ℕ) (target : Target) (value : Expr) → command_kept (command.Assign at target value)
     ≡ Some at ∷ None ∷ (expr_kept value ++ None ∷ [])

@@ -70,16 +70,17 @@ view_if_else at test chosen other =
     ∙ fold-roll-Command CommandView view_step (Command-F.If at test chosen (Some other))
 
 -- the parts of a `case`
-parts_folded : (parts : List (Label × Vec Command Global)) →
-    map view_part_step (map (λ p. (p.0, record { items = map view_command p.1.items })) parts) ≡ map view_part parts
-parts_folded [] = refl
-parts_folded (p ∷ parts) = ap (λ (xs : List (LabelView × CommandsView)). view_part p ∷ xs) (parts_folded parts)
+parts_folded : (f : Label × Vec Command Global → Label × Vec CommandView Global)
+    → ((p : Label × Vec Command Global) → view_part_step (f p) ≡ view_part p) → (parts : List (Label × Vec Command Global))
+    → map view_part_step (map f parts) ≡ map view_part parts
+parts_folded f same [] = refl
+parts_folded f same (p ∷ parts) = rw (same p, parts_folded f same parts) refl
 
 pub view_case : (at : ℕ) (argument : Expr) (parts : Vec (Label × Vec Command Global) Global) →
     view_command (command.Case at argument parts) ≡ CommandView.case (view argument) (parts_of (map view_part parts.items))
 view_case at argument parts =
     ap view_command (sym (command.rolls-Case at argument parts)) ∙ fold-roll-Command CommandView view_step (Command-F.Case at argument parts)
-    ∙ ap (λ (xs : List (LabelView × CommandsView)). CommandView.case (view argument) (parts_of xs)) (parts_folded parts.items)
+    ∙ ap (λ (xs : List (LabelView × CommandsView)). CommandView.case (view argument) (parts_of xs)) (parts_folded _ (λ p. refl) parts.items)
 
 pub view_defined : (at : ℕ) (a : Attribute) → view (e.Defined at a) ≡ ExprView.defined a
 view_defined at a = ap view (sym (e.rolls-Defined at a)) ∙ fold-roll-Expr ExprView view_expr_step (Expr-F.Defined at a)

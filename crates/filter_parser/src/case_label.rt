@@ -1,11 +1,10 @@
 //! The labels of the parts of a `case`.
 
-ghost use Rattle.std.specs.Prelude.{◌≡◌, ◌∷◌, ◌++◌, ◌≤◌, [], Some, None, IfOk, length};
+ghost use Rattle.std.specs.Prelude.{◌≡◌, ◌&&◌, ◌∷◌, ◌++◌, ◌≤◌, [], Some, None, IfOk, length};
 ghost use Rattle.filter_parser.specs.Placed.{label_kept};
 ghost use Rattle.filter_parser.specs.ReadingCommands as spec;
 ghost use Rattle.filter_parser.specs.Steps.{Reads, Continues, ReadsAs, StaysWithinAfter, remaining};
-ghost use Rattle.filter_parser.specs.SyntaxCommands as syntax;
-ghost use Rattle.filter_parser.specs.SyntaxCommands.{view_label};
+ghost use Rattle.filter_parser.specs.SyntaxCommands.{has_ranges, view_label};
 
 use crate::expected::Expected;
 use crate::fault::ParseFault;
@@ -25,12 +24,12 @@ pub fn begins_part(input: Input) -> bool
     }
 }
 
-/// Whether a label has ranges, and is no `else`.
-pub fn has_ranges(label: &Label) -> bool
-    ensures { result ≡ syntax.has_ranges (view_label label.now) }
+/// Whether no part up to the one with this label is the `else` part, where `is_first` says so of the parts before it.
+pub fn stays_first(is_first: bool, label: &Label) -> bool
+    ensures { result ≡ (is_first && has_ranges (view_label label.now)) }
 {
     match label {
-        Label::Ranges(_) => true,
+        Label::Ranges(_) => is_first,
         Label::Else(_) => false,
     }
 }

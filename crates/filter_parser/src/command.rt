@@ -11,7 +11,7 @@ ghost use Rattle.filter_parser.specs.Syntax.{view};
 ghost use Rattle.filter_parser.specs.SyntaxCommands.{view_command, view_part, view_target};
 ghost use Rattle.filter_parser.specs.SyntaxCommands.CommandView.{if_then, if_else};
 
-use crate::case_label::{begins_part, has_ranges, parse_label};
+use crate::case_label::{begins_part, parse_label, stays_first};
 use crate::expected::Expected;
 use crate::expr::parse_expr;
 use crate::fault::ParseFault;
@@ -230,7 +230,7 @@ fn parse_parts<'a>(
     while begins_part(rest) {
         match parse_part(alloc, depth, is_first, rest) {
             Ok((part, after)) => {
-                is_first = is_first && has_ranges(&part.0);
+                is_first = stays_first(is_first, &part.0);
                 parts.push(part)?;
                 rest = after;
             }
@@ -242,6 +242,7 @@ fn parse_parts<'a>(
 
 /// A `case`, after that word.
 #[cycle(command)]
+#[tactic(auto, using(crate::proofs::Bodies::case_is))]
 fn parse_case<'a>(
     alloc: Global,
     depth: usize,

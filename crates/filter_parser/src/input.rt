@@ -195,6 +195,7 @@ impl<'a> Input<'a> {
         ensures shorter { IfOk result (λ x. length (remaining x.1) < length (remaining self.entry)) }
         ensures placed { IfOk result (λ x. Spans (Some (first_place self.entry) ∷ []) self.entry x.1) }
         ensures refusal { IfErr result (λ why. why ≡ spec.unexpected self.entry Expected.Prefix) }
+        ensures not_memory { IfErr result (λ why. why ≢ Memory) }
         ensures within { StaysWithin self.entry result }
     {
         let Some((first, rest)) = self.next() else {

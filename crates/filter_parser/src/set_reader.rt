@@ -1,8 +1,9 @@
 ghost use Rattle.std.specs.Prelude.{◌∷◌, ◌<◌, ◌≤◌, [], Some, None, IfOk, length, map};
 ghost use Rattle.filter_parser.specs.Placed.{next_pattern_kept, set_kept, set_pattern_kept};
 ghost use Rattle.filter_parser.specs.Reading as spec;
-ghost use Rattle.filter_parser.specs.Steps.{Reads, ReadsOn, Continues, Finds, Grown, ReadsAs, StaysWithin, StaysWithinAfter, remaining};
+ghost use Rattle.filter_parser.specs.Steps.{Reads, ReadsOn, Continues, Finds, Grown, ReadsAs, Spans, StaysWithin, StaysWithinAfter, remaining};
 ghost use Rattle.filter_parser.specs.Syntax.{SetPatternView, view_set_pattern};
+ghost use Rattle.filter_parser.specs.declared.input.Input.{Input as TheInput};
 
 use crate::expected::Expected;
 use crate::fault::ParseFault;
@@ -157,7 +158,8 @@ fn parse_range_set<'a>(
 ) -> Result<(Set, Input<'a>), ParseFault>
     ensures reads { ReadsAs spec.set_read_of result (spec.range_set_from low (remaining input.entry)) }
     ensures shorter { IfOk result (λ x. length (remaining x.1) < length (remaining input.entry)) }
-    ensures placed { IfOk result (λ x. Continues (Some at ∷ Some first ∷ []) (set_kept x.0) input.entry x.1) }
+    ensures placed { IfOk result (λ x. (start middle : TheInput) → Spans (Some at ∷ []) start middle
+        → Spans (Some first ∷ []) middle input.entry → Spans (set_kept x.0) start x.1) }
     ensures within { StaysWithinAfter first input.entry result }
 {
     match parse_ranges_from(alloc, first, low, input) {
