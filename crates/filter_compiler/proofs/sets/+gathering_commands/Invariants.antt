@@ -1,6 +1,6 @@
 use Rattle.std.proofs.Common.{map, take}
-use Rattle.filter_parser.specs.SyntaxCommands.{commands_of, view_command}
-use Rattle.filter_compiler.specs.Translation.{commands_sets}
+use Rattle.filter_parser.specs.SyntaxCommands.{commands_of, parts_of, view_command, view_part}
+use Rattle.filter_compiler.specs.Translation.{commands_sets, parts_sets}
 use Rattle.filter_compiler.specs.Written.{Gathers}
 use Rattle.filter_compiler.proofs.sets.+gathering_commands.Given as goal
 
@@ -8,3 +8,8 @@ use Rattle.filter_compiler.proofs.sets.+gathering_commands.Given as goal
 abbrev pub invariant-gather_commands-loop-command : goal.invariant-gather_commands-loop-command
 invariant-gather_commands-loop-command l =
     Gathers l.initial.lists l.lists (commands_sets (commands_of (map view_command (take l.command-index l.commands))))
+
+-- the sets of the parts so far are put
+abbrev pub invariant-gather_parts-loop-label : goal.invariant-gather_parts-loop-label
+invariant-gather_parts-loop-label l =
+    Gathers l.initial.lists l.lists (parts_sets (parts_of (map view_part (take l.label-index l.parts))))
