@@ -1,6 +1,6 @@
 -- The parts of a `case` that have a label of ranges.
-use Rattle.std.proofs.Common.{◌≡◌, ℕ, suc, ◌+◌, ◌<◌, Bool, true, false, Vec, Global, List, [], ◌∷◌, length, map, get_or, refl, sym, ap, ◌∙◌}
-use Rattle.std.proofs.Common.{add-one}
+use Rattle.std.proofs.Common.{◌≡◌, ℕ, zero, suc, ◌+◌, ◌<◌, ◌≤◌, Bool, true, false, Vec, Global, List, [], ◌∷◌, length, map, get_or, refl, sym, ap, ◌∙◌}
+use Rattle.std.proofs.Common.{add-one, arith}
 use Rattle.std.proofs.Math.ListN.{drop}
 use Rattle.std.proofs.Math.Seq.{drop-cons}
 use Rattle.filter_parser.specs.SyntaxCommands.{commands_of, parts_of, part_then, view_command, view_label, view_part}
@@ -32,3 +32,12 @@ pub labelled_later : (xs : List Part) (i : ℕ) (x : Part) (at : ℕ) → i < le
 labelled_later xs i x at low is other =
     ap some_label (rest_is xs i x low is)
     ∙ ap (λ l. has_labelled (part_then (view_label l) (commands_of (map view_command x.1.items)) (parts_of (map view_part (drop (i + 1) xs))))) other
+
+pub labelled_end : (xs : List Part) (i : ℕ) → length xs ≤ i → some_label (drop i xs) ≡ false
+labelled_end [] i past = nothing_left i
+  where
+    nothing_left : (i : ℕ) → some_label (drop i []) ≡ false
+    nothing_left zero = refl
+    nothing_left (suc i) = refl
+labelled_end (x ∷ xs) zero past = absurd (omega arith)
+labelled_end (x ∷ xs) (suc i) past = labelled_end xs i (omega arith)

@@ -1,5 +1,5 @@
 use Rattle.std.proofs.Common.{sym, ◌∙◌}
-use Rattle.filter_compiler.proofs.Labels.{labelled_here, labelled_later}
+use Rattle.filter_compiler.proofs.Labels.{labelled_end, labelled_here, labelled_later}
 use Rattle.filter_compiler.proofs.sets.has_labelled.Goals as goal
 
 pub returns-in-Ranges : goal.returns-in-Ranges
@@ -15,4 +15,4 @@ loop-label-preserved c =
     c.loop-label-item.is c.in-Else.is
 
 pub returns : goal.returns
-returns c = ?
+returns c = sym (c.loop-label.invariant ∙ labelled_end c.args.parts.now c.loop-label.label-index c.loop-label-test.false)
