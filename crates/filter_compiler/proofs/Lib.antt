@@ -1,9 +1,11 @@
+pub mod Cases
 pub mod CommandPlaces
 pub mod CommandRuns
 pub mod ExpressionRuns
 pub mod Gathering
 pub mod InstructionPlaces
 pub mod Jumps
+pub mod Labels
 pub mod Notes
 pub mod Operators
 pub mod Parts
@@ -14,5 +16,6 @@ pub mod Scenes
 pub mod Steps
 pub mod Trees
 pub mod Views
+pub mod Weights
 pub mod Whole
 pub mod Within

@@ -117,8 +117,8 @@ expression_code decls sets (suffixed inner s) = expression_code decls sets inner
 -- whether a part of a `case` has a label of ranges
 abbrev pub has_labelled : PartsView → Bool
 has_labelled no_parts = false
-has_labelled (part_then (ranges_label ranges) commands more) = true
-has_labelled (part_then else_label commands more) = has_labelled more
+has_labelled (part_then (ranges_label ranges) _ more) = true
+has_labelled (part_then else_label _ more) = has_labelled more
 
 -- a `case` in which no part has one is compiled as if a part with no ranges and no commands stood first
 abbrev pub opening_sets : Bool → Sets

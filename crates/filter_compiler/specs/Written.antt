@@ -1,5 +1,5 @@
 -- What an output holds once instructions were put into it, one after another, and what is kept of the sets. (This project's own choice.)
-use Rattle.std.specs.Prelude.{◌≡◌, ◌↔◌, ◌⊎◌, ℕ, ◌≤◌, min, true, List, [], ◌∷◌, ◌++◌, length, map, slice_set}
+use Rattle.std.specs.Prelude.{◌≡◌, ◌↔◌, ◌⊎◌, ℕ, ◌+◌, ◌≤◌, min, true, List, [], ◌∷◌, ◌++◌, length, map, slice_set}
 use Rattle.int_sets.specs.Holding.{range_limit}
 use Rattle.prefix_patterns.specs.Matching.{pattern_limit}
 use Rattle.filter_code.specs.Limits.{instruction_limit, set_limit, int_set_limit}

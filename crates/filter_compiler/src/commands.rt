@@ -154,6 +154,7 @@ fn emit_parts(
         Label::Ranges(ranges) => {
             // So many parts are never kept, and are not gone through one inside the other.
             if usize::from(out.length) > INSTRUCTION_LIMIT {
+                out.kept = false;
                 return after_parts(out.alloc, parts, sets);
             }
             let place = label_place(at, ranges);

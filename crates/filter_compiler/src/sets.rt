@@ -1,11 +1,11 @@
 //! The sets of a filter, in the order of the text.
 
 ghost use Rattle.std.specs.Prelude.{◌≡◌, ◌≤◌, [], ◌∷◌, ◌++◌, All, IfOk, OnOk, length, map};
-ghost use Rattle.filter_parser.specs.Syntax.{ExprView, chain_of, of_patterns, pattern_of, range_of, view, view_more, view_range, view_set_pattern};
-ghost use Rattle.filter_parser.specs.SyntaxCommands.{commands_of, parts_of, view_command, view_part};
+ghost use Rattle.filter_parser.specs.Syntax.{ExprView, chain_of, of_patterns, pattern_of, range_of, view, view_members, view_more, view_range, view_set_pattern};
+ghost use Rattle.filter_parser.specs.SyntaxCommands.{commands_of, parts_of, view_command, view_label, view_part};
 ghost use Rattle.filter_parser.specs.SyntaxText.{view_filter};
 ghost use Rattle.filter_compiler.specs.SetOrder.{SetCounts, no_sets, past};
-ghost use Rattle.filter_compiler.specs.Translation.{command_sets, commands_sets, has_labelled, one_set, parts_sets, ranges_set, sets_of};
+ghost use Rattle.filter_compiler.specs.Translation.{command_sets, commands_sets, has_labelled, label_sets, one_set, opening_sets, parts_sets, ranges_set, sets_of};
 ghost use Rattle.filter_compiler.specs.Written.{Gathers, HoldsSets, IsCounted};
 ghost use Rattle.filter_compiler.specs.declared.sets.SetLists.{SetLists as TheLists};
 ghost use Rattle.int_sets.specs.Holding.{range_limit};
@@ -176,6 +176,35 @@ impl SetLists {
     }
 }
 
+/// Puts a set of a filter.
+fn gather_members(members: &Members, lists: &mut SetLists)
+    ensures { Gathers lists.old lists.new (one_set (view_members members.now)) }
+{
+    match members {
+        Members::Patterns(patterns) => lists.put_patterns(patterns),
+        Members::Ranges(ranges) => lists.put_ranges(ranges),
+    }
+}
+
+/// Puts the set of a label.
+fn gather_label(label: &Label, lists: &mut SetLists)
+    ensures { Gathers lists.old lists.new (label_sets (view_label label.now)) }
+{
+    match label {
+        Label::Ranges(ranges) => lists.put_ranges(ranges),
+        Label::Else(_) => {}
+    }
+}
+
+/// Puts the empty set of a `case` in which no part has a label of ranges.
+fn gather_opening(labelled: bool, lists: &mut SetLists)
+    ensures { Gathers lists.old lists.new (opening_sets labelled) }
+{
+    if !labelled {
+        lists.put_ranges(&[]);
+    }
+}
+
 /// Puts the sets of the operands after a first one.
 #[cycle(gathering)]
 fn gather_chain(more: &[(usize, Op, Expr)], lists: &mut SetLists)
@@ -201,10 +230,7 @@ fn gather(expr: &Expr, lists: &mut SetLists)
         }
         Expr::Member(_, left, set) => {
             gather(left, lists);
-            match &set.members {
-                Members::Patterns(patterns) => lists.put_patterns(patterns),
-                Members::Ranges(ranges) => lists.put_ranges(ranges),
-            }
+            gather_members(&set.members, lists);
         }
         Expr::Suffixed(inner, _) => gather(inner, lists),
         _ => {}
@@ -216,8 +242,9 @@ pub(crate) fn has_labelled(parts: &[(Label, Vec<Command>)]) -> bool
     ensures { result ≡ has_labelled (parts_of (map view_part parts.now)) }
 {
     for (label, _) in parts {
-        if let Label::Ranges(_) = label {
-            return true;
+        match label {
+            Label::Ranges(_) => return true,
+            Label::Else(_) => {}
         }
     }
     false
@@ -239,9 +266,7 @@ fn gather_parts(parts: &[(Label, Vec<Command>)], lists: &mut SetLists)
     ensures { Gathers lists.old lists.new (parts_sets (parts_of (map view_part parts.now))) }
 {
     for (label, commands) in parts {
-        if let Label::Ranges(ranges) = label {
-            lists.put_ranges(ranges);
-        }
+        gather_label(label, lists);
         gather_commands(commands, lists);
     }
 }
@@ -262,9 +287,7 @@ fn gather_command(command: &Command, lists: &mut SetLists)
         }
         Command::Case(_, argument, parts) => {
             gather(argument, lists);
-            if !has_labelled(parts) {
-                lists.put_ranges(&[]);
-            }
+            gather_opening(has_labelled(parts), lists);
             gather_parts(parts, lists);
         }
         Command::Assign(_, _, value) => gather(value, lists),

@@ -1,14 +1,17 @@
-use Rattle.std.proofs.Common.{◌≡◌, ℕ, ◌+◌, ap, sym, subst, ◌∙◌}
+use Rattle.std.proofs.Common.{◌≡◌, ℕ, ◌+◌, [], ◌∷◌, append_assoc, map, ap, sym, subst, ◌∙◌}
+use Rattle.std.specs.Prelude.{flat_map}
 use Rattle.filter_code.specs.declared.instruction.Instr.TheVariants as instr
 use Rattle.filter_parser.specs.Syntax.{view}
-use Rattle.filter_parser.specs.SyntaxCommands.{CommandView, assign, if_else, if_then, view_command, view_target}
+use Rattle.filter_parser.specs.SyntaxCommands.{CommandView, assign, case, commands_of, if_else, if_then, parts_of, view_command, view_part, view_target}
 use Rattle.filter_parser.specs.SyntaxText.{view_filter}
 use Rattle.filter_parser.specs.declared.tree.command.Command.{Command}
 use Rattle.filter_parser.specs.declared.tree.command.Command.TheVariants as command
-use Rattle.filter_parser.proofs.Views.{view_if, view_if_else}
-use Rattle.filter_compiler.specs.InstructionPlaces.{command_places}
+use Rattle.filter_parser.proofs.Views.{view_case, view_if, view_if_else}
+use Rattle.filter_compiler.specs.InstructionPlaces.{command_places, expression_places}
+use Rattle.filter_compiler.specs.Translation.{expression_code}
 use Rattle.filter_compiler.specs.Written.{Emits, command_part}
-use Rattle.filter_compiler.proofs.CommandPlaces.{assign_at, block_at, if_at, if_else_at}
+use Rattle.filter_compiler.proofs.CommandPlaces.{assign_at, block_at, case_at, if_at, if_else_at}
+use Rattle.filter_compiler.proofs.Cases.{part_emits}
 use Rattle.filter_compiler.proofs.Jumps.{over}
 use Rattle.filter_compiler.proofs.Notes.{as_noted, next_notes, patch_notes, then_notes}
 use Rattle.filter_compiler.proofs.Puts.{then, then_code}
@@ -90,3 +93,39 @@ emit_command-returns-in-Assign-clause-places t c =
     as_noted
     (sym (assign_at c.args.command.now c.in-Assign.at c.in-Assign.target c.in-Assign.value c.in-Assign.is))
     (then_notes c.emit-next.ensures.places c.emit_target.ensures.places)
+
+pub emit_command-returns-in-Case-clause-code : goal.emit_command-returns-in-Case-clause-code
+emit_command-returns-in-Case-clause-code t c =
+    let d = (view_filter c.args.typed.now).decls in
+    let is : view_command c.args.command.now ≡ case (view c.in-Case.argument) (parts_of (map view_part c.in-Case.parts.items)) =
+    ap view_command c.in-Case.is ∙ view_case c.in-Case.at c.in-Case.argument c.in-Case.parts in
+    subst (λ (x : CommandView). Emits c.args.out.now c.emit_case.new.out c.args.sets c.emit_case.result (command_part d x)) (sym is)
+    (subst (λ l. Emits c.args.out.now c.emit_case.new.out c.args.sets c.emit_case.result
+    (command_part d (case (view c.in-Case.argument) (parts_of (map view_part l))))) c.deref-in-Case.ensures.value c.emit_case.ensures.code)
+
+pub emit_command-returns-in-Case-clause-places : goal.emit_command-returns-in-Case-clause-places
+emit_command-returns-in-Case-clause-places t c =
+    as_noted
+    (sym (case_at c.args.command.now c.in-Case.at c.in-Case.argument c.in-Case.parts c.deref-in-Case.result.now c.in-Case.is
+    c.deref-in-Case.ensures.value))
+    c.emit_case.ensures.places
+
+pub emit_part-returns-clause-code : goal.emit_part-returns-clause-code
+emit_part-returns-clause-code t c = λ n ranges counted.
+    let d = (view_filter c.args.typed.now).decls in
+    let rest = over (λ (i : ℕ). instr.JumpIfNot (i + 1)) c.put.ensures.code c.emit_commands-next.ensures.code c.distance-distance.ensures.value
+    c.patch.ensures in
+    part_emits d (expression_code d n (view c.args.argument.now)) ranges (commands_of (map view_command c.args.commands.now))
+    (λ m is. c.emit_question.ensures.code n m counted is) (λ m is. c.after_ints.ensures m ranges is) rest
+
+pub emit_part-returns-clause-places : goal.emit_part-returns-clause-places
+emit_part-returns-clause-places t c =
+    as_noted (append_assoc (expression_places c.args.argument.now) (c.args.at ∷ []) (c.args.at ∷ flat_map command_places c.args.commands.now))
+    (patch_notes _ _ (then_notes c.emit_question.ensures.places (then_notes c.put.ensures.places c.emit_commands-next.ensures.places))
+    c.patch.ensures)
+
+pub emit_case-returns-then-has_labelled-clause-code : goal.emit_case-returns-then-has_labelled-clause-code
+emit_case-returns-then-has_labelled-clause-code t c = ?
+
+pub emit_case-returns-clause-code : goal.emit_case-returns-clause-code
+emit_case-returns-clause-code t c = ?

@@ -1,8 +1,7 @@
-use Rattle.std.proofs.Common.{map, refl, ap, sym, subst, ◌∙◌}
-use Rattle.filter_parser.specs.Syntax.{pattern_of, view, view_set_pattern}
+use Rattle.std.proofs.Common.{refl, ap, sym, ◌∙◌}
+use Rattle.filter_parser.specs.Syntax.{view}
 use Rattle.filter_types.proofs.Views.{view_chain, view_suffixed}
-use Rattle.filter_compiler.specs.Translation.{one_set, sets_of}
-use Rattle.filter_compiler.specs.Written.{Gathers}
+use Rattle.filter_compiler.specs.Translation.{sets_of}
 use Rattle.filter_compiler.proofs.Gathering.{as_sets, chain_gathers, gathers_then, suffixes_sets}
 use Rattle.filter_compiler.proofs.Views.{view_member}
 use Rattle.filter_compiler.proofs.sets.+gathering.Goals as goal
@@ -18,10 +17,7 @@ pub gather-returns-in-Member : goal.gather-returns-in-Member
 gather-returns-in-Member t c =
     let is = view_member c.args.expr.now c.in-Member.field-0 c.in-Member.left c.in-Member.set c.deref-in-Member.result.now c.in-Member.is
     c.deref-in-Member.ensures in
-    let pushed =
-    subst (λ l. Gathers c.gather-in-Member.new.lists c.push.new.self (one_set (map pattern_of (map view_set_pattern l))))
-    c.deref-in-Member-2.ensures.value c.push.ensures in
-    as_sets (ap sets_of (sym is)) (gathers_then c.gather-in-Member.ensures pushed)
+    as_sets (ap sets_of (sym is)) (gathers_then c.gather-in-Member.ensures c.gather_members.ensures)
 
 pub gather-returns-in-Suffixed : goal.gather-returns-in-Suffixed
 gather-returns-in-Suffixed t c =
