@@ -329,7 +329,7 @@ module _ (program : CodeView) (route : RouteView) (decls : List DeclView) where
         (λ i. course_of_parts route parts i scene (goes_on scene)) fits.0 have (omega arith) has has_a
         (sets_front program first opening (parts_sets parts) sets_rest) s
         (λ some h. first_argument parts argument sets start [] pc scene some fits.0 have h has_a s)
-        (λ i pc' is h u. parts_run parts argument sets start [] pc' scene all i (goes_on scene) fits.0 is fits.1.1 have (omega arith) (omega arith) h
+        (λ i pc' is h u. parts_run parts argument sets start [] pc' scene all i (goes_on scene) fits.0 is fits.2 have (omega arith) (omega arith) h
         has_a (sets_back program first opening (parts_sets parts) sets_rest)
         (λ pc2 h2 u2. let at : pc2 ≡ pc2 + 0 = omega arith in inl (same_place program route scene pc2 _ [] at u2, have)) u)
     command_runs (assign target tree) sets pc scene fits have has has_sets s = assign_runs target tree sets pc scene fits have has has_sets s

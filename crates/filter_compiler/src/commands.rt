@@ -159,11 +159,11 @@ fn emit_parts(
             }
             let place = label_place(at, ranges);
             let next = emit_part(typed, place, argument, argument_sets, &part.1, sets, out);
-            let jump = out.length;
+            let jump_to_end = out.length;
             out.put(place, Instr::Jump(0));
             let last = emit_parts(typed, at, argument, argument_sets, more, other, other_sets, next, out);
-            let distance = out.distance(jump);
-            out.patch(jump, Instr::Jump(distance));
+            let distance = out.distance(jump_to_end);
+            out.patch(jump_to_end, Instr::Jump(distance));
             last
         }
     }

@@ -2,16 +2,17 @@ use Rattle.std.proofs.Common.{◌≡◌, ℕ, ◌+◌, [], ◌∷◌, append_ass
 use Rattle.std.specs.Prelude.{flat_map}
 use Rattle.filter_code.specs.declared.instruction.Instr.TheVariants as instr
 use Rattle.filter_parser.specs.Syntax.{view}
-use Rattle.filter_parser.specs.SyntaxCommands.{CommandView, assign, case, commands_of, if_else, if_then, parts_of, view_command, view_part, view_target}
+use Rattle.filter_parser.specs.SyntaxCommands.{CommandView, assign, case, commands_of, if_else, if_then, no_commands, parts_of, view_command, view_part, view_target}
 use Rattle.filter_parser.specs.SyntaxText.{view_filter}
 use Rattle.filter_parser.specs.declared.tree.command.Command.{Command}
 use Rattle.filter_parser.specs.declared.tree.command.Command.TheVariants as command
 use Rattle.filter_parser.proofs.Views.{view_case, view_if, view_if_else}
-use Rattle.filter_compiler.specs.InstructionPlaces.{command_places, expression_places}
-use Rattle.filter_compiler.specs.Translation.{expression_code}
+use Rattle.filter_compiler.specs.InstructionPlaces.{command_places, expression_places, opening_places, part_of, parts_places}
+use Rattle.filter_compiler.specs.SetOrder.{past}
+use Rattle.filter_compiler.specs.Translation.{expression_code, sets_of}
 use Rattle.filter_compiler.specs.Written.{Emits, command_part}
-use Rattle.filter_compiler.proofs.CommandPlaces.{assign_at, block_at, case_at, if_at, if_else_at}
-use Rattle.filter_compiler.proofs.Cases.{part_emits}
+use Rattle.filter_compiler.proofs.CommandPlaces.{assign_at, block_at, case_at, if_at, if_else_at, same_labelled}
+use Rattle.filter_compiler.proofs.Cases.{labelled_case, opened_case, part_emits, ranges_emits}
 use Rattle.filter_compiler.proofs.Jumps.{over}
 use Rattle.filter_compiler.proofs.Notes.{as_noted, next_notes, patch_notes, then_notes}
 use Rattle.filter_compiler.proofs.Puts.{then, then_code}
@@ -125,7 +126,41 @@ emit_part-returns-clause-places t c =
     c.patch.ensures)
 
 pub emit_case-returns-then-has_labelled-clause-code : goal.emit_case-returns-then-has_labelled-clause-code
-emit_case-returns-then-has_labelled-clause-code t c = ?
+emit_case-returns-then-has_labelled-clause-code t c =
+    let d = (view_filter c.args.typed.now).decls in
+    let argument = view c.args.argument.now in
+    labelled_case d argument (parts_of (map view_part c.args.parts.now)) c.after_expr-first.ensures
+    (sym c.has_labelled.ensures ∙ c.if-has_labelled.true)
+    (λ n counted. c.emit_parts.ensures.code n (past n (sets_of argument)) counted (c.after_expr-first.ensures n counted))
+
+pub emit_case-returns-then-has_labelled-clause-places : goal.emit_case-returns-then-has_labelled-clause-places
+emit_case-returns-then-has_labelled-clause-places t c =
+    let e = expression_places c.args.argument.now in
+    let parts = map part_of c.args.parts.now in
+    as_noted
+    (ap (λ b. opening_places b c.args.at e (parts_places c.args.at e [] parts))
+    (sym (same_labelled c.args.parts.now ∙ (sym c.has_labelled.ensures ∙ c.if-has_labelled.true))))
+    c.emit_parts.ensures.places
 
 pub emit_case-returns-clause-code : goal.emit_case-returns-clause-code
-emit_case-returns-clause-code t c = ?
+emit_case-returns-clause-code t c =
+    let d = (view_filter c.args.typed.now).decls in
+    let argument = view c.args.argument.now in
+    let parts = parts_of (map view_part c.args.parts.now) in
+    opened_case d argument parts c.after_expr-first.ensures (sym c.has_labelled.ensures ∙ c.if-has_labelled.false)
+    (λ n counted.
+    let m = past n (sets_of argument) in
+    let e = expression_code d n argument in
+    ranges_emits d e [] [] no_commands parts (c.emit_part-next.ensures.code n [] counted)
+    (over instr.Jump c.put.ensures.code (c.emit_parts-last.ensures.code n m counted (c.after_expr-first.ensures n counted))
+    c.distance-distance.ensures.value c.patch.ensures))
+
+pub emit_case-returns-clause-places : goal.emit_case-returns-clause-places
+emit_case-returns-clause-places t c =
+    let e = expression_places c.args.argument.now in
+    let parts = map part_of c.args.parts.now in
+    as_noted
+    (ap (λ b. opening_places b c.args.at e (parts_places c.args.at e [] parts))
+    (sym (same_labelled c.args.parts.now ∙ (sym c.has_labelled.ensures ∙ c.if-has_labelled.false))))
+    (then_notes c.emit_part-next.ensures.places
+    (patch_notes _ _ (then_notes c.put.ensures.places c.emit_parts-last.ensures.places) c.patch.ensures))
