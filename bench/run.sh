@@ -2,9 +2,10 @@
 # Builds the proved programs and the plain one, checks that they answer the same, and prints their times and ratios:
 # of `ncroute eval`, `run`, `domain` and `check` as a whole, of the machines alone, or of the router alone.
 #
-# usage: bench/run.sh [eval|check|machines|instructions|bird|router|callers|script|domain]     (without a word: eval and machines)
+# usage: bench/run.sh [eval|check|machines|instructions|bird|router|callers|script|save|domain]     (without a word: eval and machines)
 #   instructions counts instructions of the machines with valgrind, in place of their time
 #   bird compares the machine for verified code with BIRD 2.0, where that is installed
+#   save compares `ncroute run --save` with `ncroute run`
 #   NCROUTE=PATH       a proved `ncroute` that is built already: then none is built here
 #   FILTER_BENCH=PATH  the same for `filter_bench`, and ROUTER_BENCH=PATH for `router_bench`
 #   ROUNDS=N           how often each program is run on each input (7)
@@ -74,6 +75,17 @@ if [ "$wanted" = script ]; then
         done
     done
     compare run "${inputs[@]}"
+    exit
+fi
+
+if [ "$wanted" = save ]; then
+    inputs=()
+    for kind in mixed messages dense; do
+        "$bench/script.py" "$kind" 16 >"$folder/${kind}_16"
+        inputs+=("$folder/${kind}_16")
+    done
+    need_ncroute
+    "$bench/save.py" "$NCROUTE" "${ROUNDS:-7}" "${inputs[@]}"
     exit
 fi
 

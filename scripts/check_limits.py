@@ -408,6 +408,30 @@ def hundred_files(ncroute):
         return differs(run(ncroute, "check --size 250 --explain never " + " ".join(names), b""), wanted)
 
 
+# ---- routes without end
+
+ROUTES = 1_300_000
+MEMORY = 16_777_216
+
+
+def million_routes(ncroute):
+    """More routes than the Internet has, of more bytes than an input of other commands may have, and than the program is given for memory."""
+    with tempfile.TemporaryDirectory() as folder:
+        name, routes, answers = (os.path.join(folder, name) for name in ("it.filter", "routes", "answers"))
+        with open(name, "wb") as it:
+            it.write(FILTER)
+        with open(routes, "wb") as it:
+            it.writelines(b"10.%d.%d.0/24 %d\n" % (at >> 8 & 255, at & 255, at % 16) for at in range(ROUTES))
+        with open(routes, "rb") as given, open(answers, "wb") as taken:
+            ran = subprocess.run(
+                [ncroute, "filter", "--size", "16", name], stdin=given, stdout=taken, stderr=subprocess.PIPE, cwd=program.TOP,
+                preexec_fn=lambda: resource.setrlimit(resource.RLIMIT_AS, (MEMORY, MEMORY)),
+            )
+        with open(answers, "rb") as it:
+            wrote = it.read()
+    return differs((wrote, ran.stderr, ran.returncode), (b"".join(b"accept %d\n" % (at % 16) for at in range(ROUTES)), 0))
+
+
 # ---- names that collide
 
 MULTIPLIER, SEED = 0x9E3779B97F4A7C15, 0x243F6A8885A308D3
@@ -469,7 +493,8 @@ def main(wanted):
         sys.exit("NCROUTE=PATH: the program that is to run")
     ncroute = os.path.realpath(ncroute)
     rows = [(name, lambda words=words, row=row: differs(run(ncroute, words, (made := row())[0]), made[1:])) for name, words, row in ROWS]
-    rows += [("check, a hundred files", lambda: hundred_files(ncroute)), ("run, names that collide", lambda: names_that_collide(ncroute))]
+    rows += [("check, a hundred files", lambda: hundred_files(ncroute)), ("filter, a million routes", lambda: million_routes(ncroute))]
+    rows += [("run, names that collide", lambda: names_that_collide(ncroute))]
     passed = failed = 0
     for name, row in rows:
         if wanted and not any(word in name for word in wanted):

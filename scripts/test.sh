@@ -57,6 +57,8 @@ add scripts/check_program_runs.py
 add scripts/check_domains.py
 add scripts/check_limits.py
 add scripts/check_bird.py
+add scripts/check_histories.py
+add scripts/check_broken_filters.py
 add scripts/check_install.py
 echo "$passed passed, $failed failed"
 [ "$failed" = 0 ]

@@ -41,6 +41,17 @@ pub struct Checking {
     pub is_explained: bool,
 }
 
+/// How a router's script is carried out, where more is asked for than its answers.
+#[derive(Debug, PartialEq, Eq, Drop)]
+pub struct Running {
+    /// A refusal is told in words too.
+    pub is_explained: bool,
+    /// The script ends at its first refused line.
+    pub stops: bool,
+    /// The name of a new file, where the router's history is kept.
+    pub save: Option<String>,
+}
+
 /// What the program is asked to do for people.
 #[derive(Debug, PartialEq, Eq, Drop)]
 pub enum Aid {
@@ -79,6 +90,13 @@ pub enum Aid {
     /// Replay the history that a source is the text of.
     Replay {
         /// The source.
+        source: Source,
+    },
+    /// Carry out the script of a router, and keep its history or end at its first refused line.
+    Run {
+        /// How it is carried out.
+        how: Running,
+        /// Where its commands are.
         source: Source,
     },
     /// Carry out a script.
@@ -217,6 +235,30 @@ pub fn script_in(
         source,
         is_explained: is_explained(Telling::read(matches), terminals.errors, is_file),
     })
+}
+
+/// What the words of `run` ask for, where they ask for more than answers.
+pub fn run_in(
+    alloc: Global,
+    matches: &ArgMatches<'_>,
+    terminals: Terminals,
+) -> Result<Option<Aid>, AllocError> {
+    let save = matches.get_str("save");
+    let stops = matches.get_flag("stop");
+    if save.is_none() && !stops {
+        return Ok(None);
+    }
+    let source = source_in(alloc, matches)?;
+    let is_file = source != Source::Input;
+    let how = Running {
+        is_explained: is_explained(Telling::read(matches), terminals.errors, is_file),
+        stops,
+        save: match save {
+            Some(name) => Some(String::from_str(alloc, name)?),
+            None => None,
+        },
+    };
+    Ok(Some(Aid::Run { how, source }))
 }
 
 /// The command `domain`.

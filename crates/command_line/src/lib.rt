@@ -8,7 +8,7 @@ mod telling;
 mod terminals;
 mod words;
 
-pub use aid_words::{Aid, Checking, Engine, Source};
+pub use aid_words::{Aid, Checking, Engine, Running, Source};
 pub use telling::{Telling, is_explained};
 pub use terminals::{Terminals, tell_that_input_is_read, waits_for_people};
 pub use words::{Request, Words, read, request_of};

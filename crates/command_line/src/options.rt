@@ -79,6 +79,21 @@ pub fn script_file<'a>(alloc: Global) -> Arg<'a> {
     )
 }
 
+/// The file in which a router's history is kept.
+pub fn save_option<'a>(alloc: Global) -> Arg<'a> {
+    Arg::new(alloc, "save").long("save").value_name("FILE").help(
+        "Keep the router's history in FILE, which must not be there yet; see `ncroute replay`",
+    )
+}
+
+/// The option by which a script ends at its first refused line.
+pub fn stop_option<'a>(alloc: Global) -> Arg<'a> {
+    Arg::new(alloc, "stop")
+        .long("stop")
+        .action(ArgAction::SetTrue)
+        .help("End at the first refused line, and say on standard error which line that is")
+}
+
 /// The file to replay.
 pub fn replayed_file<'a>(alloc: Global) -> Arg<'a> {
     Arg::new(alloc, "file").value_name("FILE").help(

@@ -22,7 +22,10 @@ fn reads_input(words: &Words) -> bool {
         Words::Asked(_) => true,
         Words::Aided(Aid::Check { sources, .. }) => has_input(sources.as_slice()),
         Words::Aided(
-            Aid::List { source, .. } | Aid::Replay { source } | Aid::Script { source, .. },
+            Aid::List { source, .. }
+            | Aid::Replay { source }
+            | Aid::Run { source, .. }
+            | Aid::Script { source, .. },
         ) => *source == Source::Input,
         Words::Aided(Aid::Filter { .. }) => true,
         Words::Aided(Aid::Explain { .. }) | Words::Network | Words::Shown(_) => false,

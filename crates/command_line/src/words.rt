@@ -1,11 +1,11 @@
 //! The words of the command line.
 use crate::aid_words::{
     Aid, Engine, Source, checked_in, domain_command, explain_command, filter_command, filter_in,
-    has_files, list_command, list_in, replay_command, replay_in, script_in,
+    has_files, list_command, list_in, replay_command, replay_in, run_in, script_in,
 };
 use crate::classes::page_of;
 use crate::options::{
-    code_option, explain_option, file_option, old_option, script_file, size_option,
+    code_option, explain_option, file_option, old_option, save_option, script_file, size_option, stop_option,
 };
 use crate::terminals::Terminals;
 use clap::error::ErrorKind;
@@ -94,7 +94,7 @@ fn words_in<R: Eprint>(
     terminals: Terminals,
 ) -> Result<Words, AllocError> {
     if let Some(run) = matches.subcommand_matches("run") {
-        return run_in(alloc, run, terminals);
+        return run_words(alloc, run, terminals);
     }
     if matches.subcommand_matches("net").is_some() {
         return Ok(Words::Network);
@@ -162,7 +162,14 @@ fn check_in(
 }
 
 /// What the words of `run` ask for.
-fn run_in(alloc: Global, run: &ArgMatches<'_>, terminals: Terminals) -> Result<Words, AllocError> {
+fn run_words(
+    alloc: Global,
+    run: &ArgMatches<'_>,
+    terminals: Terminals,
+) -> Result<Words, AllocError> {
+    if let Some(aid) = run_in(alloc, run, terminals)? {
+        return Ok(Words::Aided(aid));
+    }
     let aid = script_in(alloc, Engine::Router, run, terminals)?;
     let silent = Aid::Script {
         engine: Engine::Router,
@@ -237,6 +244,8 @@ fn run_command<'a>(alloc: Global) -> Result<Command<'a>, AllocError> {
     Command::new(alloc, "run")
         .about("Run a router by a script of commands, and answer each of them")
         .after_help(RUN_HELP)
+        .arg(save_option(alloc))?
+        .arg(stop_option(alloc))?
         .arg(explain_option(alloc))?
         .arg(script_file(alloc))
 }
@@ -347,9 +356,12 @@ Each command is answered on standard output before more input is read:
   history ENTRY | ENTRY ..
   refused CODE AT        the command was refused, and nothing changed:
     O1 to O8     the command is wrong (AT is the number of its line)
-    N1 to N7     the router refused it (AT is its position in the history)
+    N1 to N5     the router refused it (AT is its position in the history)
     J1           the history is full (AT is the number of its entries)
     P, Y, G, V   the filter is refused, as `ncroute check` refuses it; C: its code file
+
+With --save each event's line is in FILE before its answer is written, so a run that is
+killed leaves a history that `ncroute replay` reads up to its last whole line.
 
 Example:
   printf 'network 4 0\\nup 1\\nrecv 1 1 0\\nshow 1\\n' | ncroute run

@@ -16,6 +16,7 @@ use Rattle.filter_tools.specs.declared.filter.Filtered.TheVariants.{Refused, Ans
 use Rattle.line_protocol.specs.Runs.{AppendsFront}
 use Rattle.line_protocol.specs.declared.faults.StreamFault.{StreamFault}
 use Rattle.line_protocol.specs.Limits.{input_limit}
+use Rattle.ncroute.specs.Guiding.{RunsGuided, StopsRun}
 use Rattle.ncroute.specs.Reading.{IsRead, IsUnread, StopsTelling, TellsUnread, name_of}
 use Rattle.ncroute.specs.Replaying.{CutsReplay, ReplaysText, replay_limit}
 use Rattle.ncroute.specs.Scripts.{RunsScript, StopsScript, script_fault}
@@ -78,6 +79,7 @@ fault_status (aid.Explain page) = 1
 fault_status (aid.List size is_code source is_explained) = 3
 fault_status (aid.Filter size source is_explained) = 3
 fault_status (aid.Replay source) = 3
+fault_status (aid.Run how source) = 1
 fault_status (aid.Script engine source is_explained) = script_fault engine
 
 -- `opens name` says what may come of opening a file of this name.
@@ -186,35 +188,39 @@ module _ (opens : List ℕ → Result (Option (List ℕ)) Error → Type 0) wher
   StopsSource fault engine Input is_explained before after = StopsScript fault engine is_explained before after
   StopsSource fault engine (File name) is_explained before after = StopsFile fault engine (File name) is_explained before after
 
-  -- What people asked for was done to its end, with this exit status.
-  abbrev pub Helps : Aid → Streams → Streams → ℕ → Type 0
-  Helps (aid.Check how sources) before after status = (refused : Bool)
-      × ChecksFirst how sources.items (length sources.items) before after refused × (status ≡ (if refused then 1 else 0))
-  Helps (aid.Explain page) before after status =
-      Appends before.holds after.holds (string_bytes page) × (after.reads ≡ before.reads) × (after.tells ≡ before.tells) × (status ≡ 0)
-  Helps (aid.List size is_code source is_explained) before after status = ListsSource size is_code is_explained source before after status
-  Helps (aid.Filter size source is_explained) before after status = TriesFilter size source is_explained before after status
-  Helps (aid.Replay source) before after status = ReplaysSource source before after status
-  Helps (aid.Script engine source is_explained) before after status = RunsSource engine source is_explained before after status
+  -- `creates name` says what may come of making a file of this name: what it holds at first, or why there is none.
+  module _ (creates : List ℕ → Result (Option (List ℕ)) Error → Type 0) where
+    -- What people asked for was done to its end, with this exit status.
+    abbrev pub Helps : Aid → Streams → Streams → ℕ → Type 0
+    Helps (aid.Check how sources) before after status = (refused : Bool)
+        × ChecksFirst how sources.items (length sources.items) before after refused × (status ≡ (if refused then 1 else 0))
+    Helps (aid.Explain page) before after status =
+        Appends before.holds after.holds (string_bytes page) × (after.reads ≡ before.reads) × (after.tells ≡ before.tells) × (status ≡ 0)
+    Helps (aid.List size is_code source is_explained) before after status = ListsSource size is_code is_explained source before after status
+    Helps (aid.Filter size source is_explained) before after status = TriesFilter size source is_explained before after status
+    Helps (aid.Replay source) before after status = ReplaysSource source before after status
+    Helps (aid.Run how source) before after status = RunsGuided creates opens how source before after status
+    Helps (aid.Script engine source is_explained) before after status = RunsSource engine source is_explained before after status
 
-  -- A fault ended it.
-  abbrev pub StopsHelp : StreamFault → Aid → Streams → Streams → Type 0
-  StopsHelp fault (aid.Check how sources) before after = ChecksSome fault how sources.items before after
-  StopsHelp fault (aid.Explain page) before after =
-      IsCut fault before.holds after.holds (string_bytes page) × (after.reads ≡ before.reads) × (after.tells ≡ before.tells)
-  StopsHelp fault (aid.List size is_code source is_explained) before after = StopsListing fault size is_code source before after
-  StopsHelp fault (aid.Filter size source is_explained) before after = StopsFilter fault size source before after
-  StopsHelp fault (aid.Replay source) before after = StopsReplay fault source before after
-  StopsHelp fault (aid.Script engine source is_explained) before after = StopsSource fault engine source is_explained before after
+    -- A fault ended it.
+    abbrev pub StopsHelp : StreamFault → Aid → Streams → Streams → Type 0
+    StopsHelp fault (aid.Check how sources) before after = ChecksSome fault how sources.items before after
+    StopsHelp fault (aid.Explain page) before after =
+        IsCut fault before.holds after.holds (string_bytes page) × (after.reads ≡ before.reads) × (after.tells ≡ before.tells)
+    StopsHelp fault (aid.List size is_code source is_explained) before after = StopsListing fault size is_code source before after
+    StopsHelp fault (aid.Filter size source is_explained) before after = StopsFilter fault size source before after
+    StopsHelp fault (aid.Replay source) before after = StopsReplay fault source before after
+    StopsHelp fault (aid.Run how source) before after = StopsRun creates opens fault how source before after
+    StopsHelp fault (aid.Script engine source is_explained) before after = StopsSource fault engine source is_explained before after
 
-  -- What people asked for ended with this exit status: it was done to its end; or a fault ended it, which standard error was told,
-  -- and the status is that of a fault.
-  abbrev pub ServesPeople : Aid → Streams → Streams → ℕ → Type 0
-  ServesPeople what before after status = Helps what before after status
-      ⊎ ((fault : ProgramFault) × (mid : Streams) × StopsHelp (stream_fault fault) what before mid × (status ≡ fault_status what)
-      × (after.reads ≡ mid.reads) × (after.holds ≡ mid.holds) × Appends mid.tells after.tells (fault_line fault))
+    -- What people asked for ended with this exit status: it was done to its end; or a fault ended it, which standard error was told,
+    -- and the status is that of a fault.
+    abbrev pub ServesPeople : Aid → Streams → Streams → ℕ → Type 0
+    ServesPeople what before after status = Helps what before after status
+        ⊎ ((fault : ProgramFault) × (mid : Streams) × StopsHelp (stream_fault fault) what before mid × (status ≡ fault_status what)
+        × (after.reads ≡ mid.reads) × (after.holds ≡ mid.holds) × Appends mid.tells after.tells (fault_line fault))
 
-  -- A fault ended it, and standard error did not take the whole line that tells of it.
-  abbrev pub FailsToTell : Aid → Streams → Streams → Type 0
-  FailsToTell what before after = (fault : ProgramFault) × (mid : Streams) × StopsHelp (stream_fault fault) what before mid
-      × (after.reads ≡ mid.reads) × (after.holds ≡ mid.holds) × AppendsFront mid.tells after.tells (fault_line fault)
+    -- A fault ended it, and standard error did not take the whole line that tells of it.
+    abbrev pub FailsToTell : Aid → Streams → Streams → Type 0
+    FailsToTell what before after = (fault : ProgramFault) × (mid : Streams) × StopsHelp (stream_fault fault) what before mid
+        × (after.reads ≡ mid.reads) × (after.holds ≡ mid.holds) × AppendsFront mid.tells after.tells (fault_line fault)

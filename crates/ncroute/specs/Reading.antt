@@ -23,6 +23,10 @@ name_of (File name) = string_bytes name
 abbrev pub unread_line : Source → List ℕ → List ℕ
 unread_line source words = shown (name_of source) ++ codes ": " ++ words ++ codes " (E1)" ++ 10 ∷ []
 
+-- the line that tells that a file was not made, with its name as it is shown and the words of the reason
+abbrev pub unmade_line : List ℕ → List ℕ → List ℕ
+unmade_line name words = shown name ++ codes ": " ++ words ++ codes " (E2)" ++ 10 ∷ []
+
 -- A text is all that standard input had, or goes one byte beyond a limit. `known` is what it had, `left` what it has now.
 abbrev pub ReadsInput : ℕ → List ℕ → Option (List ℕ) → Option (List ℕ) → Type 0
 ReadsInput limit text known left = Consumes known left text × (length text ≤ limit → IsAtEnd left) × (length text ≤ limit + 1)

@@ -12,6 +12,7 @@ ghost use Rattle.ncroute.specs.Helping.{ReplaysSource, RunsFile, RunsSource, Ser
 ghost use Rattle.ncroute.specs.Helping.{StopsReplay, StopsSource, StopsTrying, TriesFilter, TriesText, fault_status, status_of_filter, told_refusal};
 ghost use Rattle.ncroute.specs.Reading.{name_of};
 
+use crate::guided::guide_source;
 use crate::replay::{REPLAY_LIMIT, replay_text};
 use crate::script::{FAULT, carry_out, script_fault};
 use crate::serve::{FAILED, report_fault};
@@ -391,10 +392,10 @@ fn help<F: Folder, R: Read, W: Write, E: Write>(
     writer: &mut W,
     errors: &mut E,
 ) -> Result<u8, ProgramFault>
-    ensures finished { IfOk result (Helps (F.opens files.now) aid.now
+    ensures finished { IfOk result (Helps (F.opens files.now) (F.creates files.now) aid.now
         (record { reads = R.remaining reader.old; holds = W.contents writer.old; tells = E.contents errors.old })
         (record { reads = R.remaining reader.new; holds = W.contents writer.new; tells = E.contents errors.new })) }
-    ensures stopped { IfErr result (λ fault. StopsHelp (F.opens files.now) (stream_fault fault) aid.now
+    ensures stopped { IfErr result (λ fault. StopsHelp (F.opens files.now) (F.creates files.now) (stream_fault fault) aid.now
         (record { reads = R.remaining reader.old; holds = W.contents writer.old; tells = E.contents errors.old })
         (record { reads = R.remaining reader.new; holds = W.contents writer.new; tells = E.contents errors.new })) }
 {
@@ -436,6 +437,9 @@ fn help<F: Folder, R: Read, W: Write, E: Write>(
             errors,
         ),
         Aid::Replay { source } => replay_source(files, alloc, source, reader, writer, errors),
+        Aid::Run { how, source } => {
+            guide_source(files, alloc, how, source, reader, writer, errors)
+        }
         Aid::Script {
             engine,
             source,
@@ -458,7 +462,7 @@ pub fn fault_status(aid: &Aid) -> u8
     ensures { result ≡ fault_status aid.now }
 {
     match aid {
-        Aid::Check { .. } | Aid::Explain { .. } => FAILED,
+        Aid::Check { .. } | Aid::Explain { .. } | Aid::Run { .. } => FAILED,
         Aid::List { .. } | Aid::Filter { .. } | Aid::Replay { .. } => FAULT,
         Aid::Script { engine, .. } => script_fault(*engine),
     }
@@ -474,10 +478,10 @@ pub fn serve_people<F: Folder, R: Read, W: Write, E: Write>(
     writer: &mut W,
     errors: &mut E,
 ) -> Result<u8, StreamFault>
-    ensures served { IfOk result (ServesPeople (F.opens files.now) aid.now
+    ensures served { IfOk result (ServesPeople (F.opens files.now) (F.creates files.now) aid.now
         (record { reads = R.remaining reader.old; holds = W.contents writer.old; tells = E.contents errors.old })
         (record { reads = R.remaining reader.new; holds = W.contents writer.new; tells = E.contents errors.new })) }
-    ensures not_reported { OnErr result (FailsToTell (F.opens files.now) aid.now
+    ensures not_reported { OnErr result (FailsToTell (F.opens files.now) (F.creates files.now) aid.now
         (record { reads = R.remaining reader.old; holds = W.contents writer.old; tells = E.contents errors.old })
         (record { reads = R.remaining reader.new; holds = W.contents writer.new; tells = E.contents errors.new })) }
 {

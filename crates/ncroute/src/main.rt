@@ -3,8 +3,10 @@
 #![tactic(auto)]
 
 mod aid;
+mod guided;
 mod network;
 mod replay;
+mod respond;
 mod script;
 mod serve;
 #[cfg(test)]
@@ -12,11 +14,8 @@ mod tests;
 mod texts;
 mod watcher;
 
-use aid::{fault_status, serve_people};
 use command_line::{Terminals, Words, tell_that_input_is_read, waits_for_people};
-use filter_commands::ProgramFault;
-use network::serve_network;
-use serve::{FAILED, report_fault, serve};
+use respond::respond;
 use std::io::{self, IsTerminal};
 use std::process::ExitCode;
 
@@ -33,16 +32,5 @@ fn main(rt: HostRuntime) -> ExitCode {
     {
         tell_that_input_is_read(&rt);
     }
-    let status = match words {
-        Ok(Words::Asked(request)) => serve(rt.alloc(), request, reader, writer, errors),
-        Ok(Words::Network) => serve_network(&rt, rt.alloc(), writer, errors),
-        Ok(Words::Aided(aid)) => {
-            let served = serve_people(&rt, rt.alloc(), &aid, reader, writer, errors);
-            Ok(served.unwrap_or(fault_status(&aid)))
-        }
-        Ok(Words::Shown(status)) => Ok(status),
-        Err(fault) => report_fault(errors, ProgramFault::from(fault)).map(|_| FAILED),
-    };
-    // Where standard error takes no text, the status alone tells of the fault.
-    ExitCode::from(status.unwrap_or(FAILED))
+    ExitCode::from(respond(&rt, rt.alloc(), words, reader, writer, errors))
 }

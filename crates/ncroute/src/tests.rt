@@ -5,7 +5,7 @@ use crate::aid::{fault_status, serve_people};
 use crate::serve::serve;
 use crate::texts::Folder;
 use command_line::{
-    Aid, Checking, Engine, Request, Source, Terminals, Words, request_of, waits_for_people,
+    Aid, Checking, Engine, Request, Running, Source, Terminals, Words, request_of, waits_for_people,
 };
 use line_protocol::StreamFault;
 use std::io;
@@ -148,6 +148,37 @@ fn reads_words_of_scripts(rt: HostRuntime) -> Result<(), Fail> {
     Ok(())
 }
 
+/// A history that is kept, and a script that ends at its first refused line.
+#[test]
+fn reads_words_of_histories(rt: HostRuntime) -> Result<(), Fail> {
+    let words: &[&str] = &["ncroute", "run", "--save", "night.log", "a.script"];
+    let want = Words::Aided(Aid::Run {
+        how: Running {
+            is_explained: true,
+            stops: false,
+            save: Some(String::from_str(rt.alloc(), "night.log")?),
+        },
+        source: Source::File(String::from_str(rt.alloc(), "a.script")?),
+    });
+    assert_eq!(&rt; request_of(&rt, rt.alloc(), words, NO_TERMINAL)?, want);
+    let words: &[&str] = &["ncroute", "run", "--stop", "-"];
+    let want = Words::Aided(Aid::Run {
+        how: Running {
+            is_explained: false,
+            stops: true,
+            save: None,
+        },
+        source: Source::Input,
+    });
+    assert_eq!(&rt; request_of(&rt, rt.alloc(), words, NO_TERMINAL)?, want);
+    let words: &[&str] = &["ncroute", "run", "--save"];
+    assert_eq!(&rt;
+        request_of(&rt, rt.alloc(), words, NO_TERMINAL)?,
+        Words::Shown(2)
+    );
+    Ok(())
+}
+
 /// Whether these words ask that a refusal is told in words, where standard error is a terminal or is none.
 fn is_told(rt: &HostRuntime, words: &[&str], errors: bool) -> Result<bool, Fail> {
     let terminals = Terminals {
@@ -158,6 +189,7 @@ fn is_told(rt: &HostRuntime, words: &[&str], errors: bool) -> Result<bool, Fail>
         Words::Aided(Aid::Check { how, .. }) => Ok(how.is_explained),
         Words::Aided(Aid::Filter { is_explained, .. }) => Ok(is_explained),
         Words::Aided(Aid::Script { is_explained, .. }) => Ok(is_explained),
+        Words::Aided(Aid::Run { how, .. }) => Ok(how.is_explained),
         Words::Asked(Request::Run | Request::Check { .. }) => Ok(false),
         _ => Err(Fail::from("neither check, domain, filter nor run")),
     }
@@ -406,6 +438,10 @@ impl Folder for Shelf {
 
     ghost opens = { λ _ _ _. ⊤ };
 
+    type New = io::Sink;
+
+    ghost creates = { λ _ _ _. ⊤ };
+
     fn open(&self, name: &str) -> io::Result<&'static [u8]> {
         for (known, text) in self.files {
             if *known == name {
@@ -414,6 +450,16 @@ impl Folder for Shelf {
         }
         // What a system says of a file that is not there.
         Err(io::Error::from_raw_os_error(2))
+    }
+
+    fn create(&self, name: &str) -> io::Result<io::Sink> {
+        for (known, _) in self.files {
+            if *known == name {
+                // What a system says of a file that is there.
+                return Err(io::Error::from_raw_os_error(17));
+            }
+        }
+        Ok(io::sink())
     }
 }
 
@@ -586,10 +632,71 @@ fn histories_are_replayed(rt: HostRuntime) -> Result<(), Fail> {
     Ok(())
 }
 
+/// A script ends at its first refused line where the words say so, which is told; and no line is answered where its history cannot be
+/// kept.
+#[test]
+fn scripts_end_where_they_are_to(rt: HostRuntime) -> Result<(), Fail> {
+    let stop = "stopped: this line is refused, and none after it is answered\n";
+    let told = format!(in rt.alloc(); "script:2: {stop}")?;
+    let typed = format!(in rt.alloc(); "<stdin>:1: {stop}")?;
+    let rows: [(&[&str], &str, &str, &str, u8); 6] = [
+        (
+            &["ncroute", "run", "--stop", "script"],
+            "",
+            "ok\nrefused N3 0\n",
+            told.as_str(),
+            1,
+        ),
+        (
+            &["ncroute", "run", "--stop"],
+            "up 1\nup 1\n",
+            "refused O4 1\n",
+            typed.as_str(),
+            1,
+        ),
+        (
+            &["ncroute", "run", "--stop"],
+            "network 4 0\n",
+            "ok\n",
+            "",
+            0,
+        ),
+        (
+            &["ncroute", "run", "--save", "new", "script"],
+            "",
+            "ok\nrefused N3 0\nroute 0 local\n",
+            "",
+            1,
+        ),
+        (
+            &["ncroute", "run", "--save", "night", "script"],
+            "",
+            "",
+            "night: File exists (E2)\n",
+            1,
+        ),
+        (
+            &["ncroute", "run", "--save", "new", "no"],
+            "",
+            "",
+            "no: No such file or directory (E1)\n",
+            1,
+        ),
+    ];
+    for (words, input, output, told, status) in rows {
+        assert_eq!(&rt;
+            said_by(&rt, words, input)?,
+            wanted(&rt, output, told, status)?
+        );
+    }
+    Ok(())
+}
+
 /// A fault has a status of its own where it is not that of `check` and `run`.
 #[test]
 fn faults_have_their_status(rt: HostRuntime) -> Result<(), Fail> {
-    let rows: [(&[&str], u8); 5] = [
+    let rows: [(&[&str], u8); 6] = [
+        (&["ncroute", "run", "--save", "new", "script"], 1),
         (&["ncroute", "list", "good"], 3),
         (&["ncroute", "filter", "--size=8", "good"], 3),
         (&["ncroute", "replay", "night"], 3),

@@ -5,7 +5,7 @@ ghost use Rattle.std.specs.declared.io.Error.{Error as TheError};
 ghost use Rattle.filter_commands.specs.Evaluation.{IsCut};
 ghost use Rattle.filter_commands.specs.Faults.{stream_fault};
 ghost use Rattle.ncroute.specs.Reading.{IsCause, IsOfFile, IsRead, IsUnread, LeavesFile, LeavesInput, ReadsFile, ReadsInput, ReadsWhole};
-ghost use Rattle.ncroute.specs.Reading.{StopsTelling, TellsUnread, name_of, unread_line};
+ghost use Rattle.ncroute.specs.Reading.{StopsTelling, TellsUnread, name_of, unmade_line, unread_line};
 
 use command_line::Source;
 use filter_commands::ProgramFault;
@@ -21,13 +21,24 @@ pub trait Folder {
     /// An open file.
     type File: Read + Drop;
 
+    /// A file that is written.
+    type New: Write + Drop;
+
     // Opening a name may give this: a file that has so much to read, or the reason why there is none.
     ghost opens: { Self → List ℕ → Result (Option (List ℕ)) TheError → Type 0 };
+
+    // Making a file of a name may give this: a file that holds so much at first, or the reason why there is none.
+    ghost creates: { Self → List ℕ → Result (Option (List ℕ)) TheError → Type 0 };
 
     /// Opens the file of this name.
     fn open(&self, name: &str) -> io::Result<Self::File>
         ensures { MatchResult result (λ file. opens self.now name.now (Ok (Self.File.remaining file)))
             (λ error. opens self.now name.now (Err error)) };
+
+    /// Makes a file of this name, which no file may have yet.
+    fn create(&self, name: &str) -> io::Result<Self::New>
+        ensures { MatchResult result (λ file. creates self.now name.now (Ok (Self.New.contents file)))
+            (λ error. creates self.now name.now (Err error)) };
 }
 
 impl<F: Files> Folder for F {
@@ -36,8 +47,16 @@ impl<F: Files> Folder for F {
     // Of the files of a system nothing is known.
     ghost opens = { λ _ _ _. ⊤ };
 
+    type New = F::File;
+
+    ghost creates = { λ _ _ _. ⊤ };
+
     fn open(&self, name: &str) -> io::Result<F::File> {
         fs::open(self, name)
+    }
+
+    fn create(&self, name: &str) -> io::Result<F::File> {
+        fs::File::create_new(self, name)
     }
 }
 
@@ -170,6 +189,18 @@ fn reason_in(words: &str) -> &str {
     }
 }
 
+/// The line that tells that a file was not made, with the words of the reason.
+fn unmade_line(alloc: Global, name: &str, words: &str) -> Result<Vec<u8>, AllocError>
+    ensures { IfOk result (λ line. line.items ≡ unmade_line name.now words.now) }
+{
+    let mut line = Vec::new(alloc);
+    push_shown(alloc, &mut line, name.as_bytes())?;
+    line.extend_from_slice(b": ")?;
+    line.extend_from_slice(words.as_bytes())?;
+    line.extend_from_slice(b" (E2)\n")?;
+    Ok(line)
+}
+
 /// The line that tells that a source was not read, with the words of the reason.
 fn unread_line(alloc: Global, source: &Source, words: &str) -> Result<Vec<u8>, AllocError>
     ensures { IfOk result (λ line. line.items ≡ unread_line source.now words.now) }
@@ -220,6 +251,37 @@ fn tell_reason<E: Write>(
 {
     let words = format!(in alloc; "{error}")?;
     tell_words(alloc, errors, source, reason_in(words.as_str()))
+}
+
+/// Tells that a file was not made, with the words of the reason.
+fn tell_unmade_words<E: Write>(
+    alloc: Global,
+    errors: &mut E,
+    name: &str,
+    words: &str,
+) -> Result<(), ProgramFault>
+    ensures ok { OnOk result (Appends (E.contents errors.old) (E.contents errors.new) (unmade_line name.now words.now)) }
+    ensures err { IfErr result (λ fault.
+        IsCut (stream_fault fault) (E.contents errors.old) (E.contents errors.new) (unmade_line name.now words.now)) }
+{
+    let line = unmade_line(alloc, name, words)?;
+    write_line(errors, line.as_slice())
+}
+
+/// Tells on `errors` that a file was not made, and the reason in the error.
+pub fn tell_unmade<E: Write>(
+    alloc: Global,
+    errors: &mut E,
+    name: &str,
+    error: &Error,
+) -> Result<(), ProgramFault>
+    ensures ok { OnOk result ((words : List ℕ)
+        × Appends (E.contents errors.old) (E.contents errors.new) (unmade_line name.now words)) }
+    ensures err { IfErr result (λ fault. (words : List ℕ)
+        × IsCut (stream_fault fault) (E.contents errors.old) (E.contents errors.new) (unmade_line name.now words)) }
+{
+    let words = format!(in alloc; "{error}")?;
+    tell_unmade_words(alloc, errors, name, reason_in(words.as_str()))
 }
 
 /// Tells on `errors` that a source was not read. Standard input has no name to tell: its fault is handed on.

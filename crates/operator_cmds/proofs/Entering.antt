@@ -1,6 +1,7 @@
 -- An event that a journal entered, and the answer to it.
 use Rattle.std.proofs.Common.{◌≡◌, ℕ, ◌+◌, ◌≤◌, ◌==◌, Bool, false, List, [], ◌∷◌, ◌++◌, length, Result, Ok, Err, IfOk, sym, subst, ap, ◌∙◌, length-append, arith}
-use Rattle.std.specs.Prelude.{MatchBool, codes}
+use Rattle.std.specs.Prelude.{MatchBool, codes, get_or}
+use Rattle.std.proofs.Math.Seq.{get_or-append_seam}
 use Rattle.std.proofs.lemmas.Bool.Decides.{nat_tests}
 use Rattle.line_protocol.specs.Answers.{Answer}
 use Rattle.line_protocol.specs.declared.answers.Reply.{Reply as LineReply}
@@ -21,6 +22,11 @@ use Rattle.operator_cmds.specs.Script.{AnswersIn, entered, told_of}
 last_reply : (w : World) (es : List Entry) (e : Entry) → IsLegalFrom w (es ++ e ∷ []) → (next (world_after w es) e.event).reply ≡ e.reply
 last_reply w [] e h = h.0
 last_reply w (x ∷ xs) e h = last_reply (next w x.event).world xs e h.1
+
+-- what stands at the place of a new last entry is that entry
+pub last_entry : (es old : List Entry) (x e : Entry) (at : ℕ) → es ≡ old ++ x ∷ [] → at ≡ length old → e ≡ get_or es at e → e ≡ x
+last_entry es old x e at is place h =
+    h ∙ ap (λ (xs : List Entry). get_or xs at e) is ∙ ap (λ (n : ℕ). get_or (old ++ x ∷ []) n e) place ∙ get_or-append_seam old x [] e
 
 journal_is : (j : JournalView) (opening : OpeningView) (limit : ℕ) (es : List Entry) → j.opening ≡ opening → j.limit ≡ limit
     → j.entries ≡ es → j ≡ record { opening = opening; limit = limit; entries = es }

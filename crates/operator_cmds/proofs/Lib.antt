@@ -4,6 +4,7 @@ pub mod Naming
 pub mod Sourced
 pub mod Entering
 pub mod Growing
+pub mod Going
 pub mod Viewed
 pub mod Ending
 mod Rows

@@ -12,6 +12,7 @@ pub mod Domain
 pub mod Stages
 pub mod Looks
 pub mod Script
+pub mod Entries
 pub mod Running
--- What only bodies are proved against.
+-- What contracts see of a script.
 pub mod State

@@ -16,6 +16,7 @@ use filter_verifier::Verified;
 use line_protocol::{Reply, Service, StreamFault};
 use netchange_core::Event;
 use prefix_patterns::Prefix;
+use route_history::Journal;
 use std::alloc::{AllocError, Global};
 use std::collections::BTreeMap;
 use std::io::{Read, Write};
@@ -24,9 +25,9 @@ use std::sync::Arc;
 /// What ends a script before its input does: E1 to E4.
 pub type ScriptFault = StreamFault;
 
-/// A script between two lines.
+/// A script between two lines. Contracts see it as a `ScriptView`.
 #[derive(Drop)]
-pub(crate) struct Script {
+pub struct Script {
     /// How far it has come.
     stage: Stage,
     /// The filter of each name, in the names' order: no choice of names makes it slow to find one.
@@ -34,10 +35,13 @@ pub(crate) struct Script {
 }
 
 impl Service for Script {
+    ghost use Rattle.std.specs.Prelude.{⊤};
     ghost use Rattle.operator_cmds.specs.Script.{AnswersLine};
     ghost use Rattle.operator_cmds.specs.State.{script_of};
 
     ghost answers = { λ before number line answer after. AnswersLine (script_of before) number line answer (script_of after) };
+
+    ghost refuses = { λ _ _. ⊤ };
 
     fn answer(
         &mut self,
@@ -55,20 +59,22 @@ impl Service for Script {
 }
 
 impl Script {
-    ghost use Rattle.std.specs.Prelude.{OnErr};
+    ghost use Rattle.std.specs.Option.{option_map};
+    ghost use Rattle.std.specs.Prelude.{OnErr, OnOk};
     ghost use Rattle.std.specs.Io.{StartsWith};
     ghost use Rattle.filter_source.specs.Sources.{IsRefusedText};
     ghost use Rattle.netchange_core.specs.declared.event.Event.TheVariants as event;
     ghost use Rattle.operator_cmds.specs.CommandView.{view_of};
     ghost use Rattle.operator_cmds.specs.Domain.{HasFitNumbers, IsDomain};
+    ghost use Rattle.operator_cmds.specs.Entries.{open_journal};
     ghost use Rattle.operator_cmds.specs.Looks.{history_text, looked};
     ghost use Rattle.operator_cmds.specs.Replies.{Answers, answered};
     ghost use Rattle.operator_cmds.specs.Script as spec;
-    ghost use Rattle.operator_cmds.specs.Stages.{stage_of, session_in};
+    ghost use Rattle.operator_cmds.specs.Stages.{stage_of, session_in, size_in};
     ghost use Rattle.operator_cmds.specs.State.{filter_at, script_of};
 
     /// A script at its first line.
-    pub(crate) fn new(alloc: Global) -> Script
+    pub fn new(alloc: Global) -> Script
         ensures { script_of result ≡ spec.fresh }
     {
         Script {
@@ -78,8 +84,33 @@ impl Script {
     }
 
     /// The number of nodes of the domain, if one is set up.
-    pub(crate) fn size(&self) -> Option<u16> {
+    pub fn size(&self) -> Option<u16>
+        ensures { result ≡ size_in (script_of self.now).stage }
+    {
         self.stage.size()
+    }
+
+    /// The router's journal, once the first event opened it. `one_line_one_entry` says what a line does to it.
+    pub fn journal(&self) -> Option<&Journal>
+        ensures { option_map (λ j. j.now) result ≡ open_journal (script_of self.now).stage }
+    {
+        match &self.stage {
+            Stage::Open(journal) => Some(journal),
+            Stage::Empty | Stage::Setting(_) => None,
+        }
+    }
+
+    /// Gives a filter a name, as `load` and `code` do.
+    pub fn set_filter(
+        &mut self,
+        alloc: Global,
+        name: &[u8],
+        filter: Arc<Verified>,
+    ) -> Result<(), AllocError>
+        ensures { OnOk result (spec.Names name.now filter.value (script_of self.old) (script_of self.new)) }
+    {
+        self.filters.insert(Vec::from_slice(alloc, name)?, filter)?;
+        Ok(())
     }
 
     /// Carries out the command of a line, and answers it.
@@ -239,8 +270,7 @@ impl Script {
         match verified {
             Ok(filter) => {
                 push_verified(out, &filter)?;
-                let filter = Arc::new(alloc, filter)?;
-                self.filters.insert(Vec::from_slice(alloc, name)?, filter)?;
+                self.set_filter(alloc, name, Arc::new(alloc, filter)?)?;
                 Ok(Reply::Answered)
             }
             Err(Failure::Refused(told)) => {

@@ -138,6 +138,8 @@ Give the process more memory.
         text: "\
 E4: the input is longer than 16,777,216 bytes: about a million routes of 16 bytes
 
+`filter` takes 4,000,000,000 bytes of routes.
+
     $ (echo 4e434632000000000170; head -c 17000000 /dev/zero | tr '\\0' '\\n') | ncroute eval 2>&1
     ncroute: E4
 

@@ -8,4 +8,6 @@ mod read_command_tests;
 #[cfg(test)]
 mod run_script_tests;
 #[cfg(test)]
+mod saved_tests;
+#[cfg(test)]
 mod streams_tests;

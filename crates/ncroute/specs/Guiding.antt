@@ -1,0 +1,80 @@
+-- What the program does for a router's script whose history is kept, or that ends at its first refused line. (This project's own choice.)
+use Rattle.std.specs.Prelude.{◌≡◌, ◌⊎◌, ◌||◌, ℕ, List, Option, Some, None, IfSome, Result, Ok, Err, string_bytes, ⊤}
+use Rattle.std.specs.Io.KnownBytes.{Appends}
+use Rattle.std.specs.declared.io.Error.{Error}
+use Rattle.std.specs.declared.string.String.{String}
+use Rattle.std.specs.declared.alloc.Global.{Global}
+use Rattle.filter_commands.specs.Evaluation.{IsCut}
+use Rattle.line_protocol.specs.Limits.{input_limit}
+use Rattle.line_protocol.specs.declared.faults.StreamFault.{StreamFault}
+use Rattle.script_runs.specs.Running.{IsSaved, IsSavedInPart}
+use Rattle.command_line.specs.declared.aid_words.Running.{Running}
+use Rattle.command_line.specs.declared.aid_words.Source.{Source}
+use Rattle.command_line.specs.declared.aid_words.Source.TheVariants.{Input, File}
+use Rattle.ncroute.specs.Reading.{IsRead, IsUnread, StopsTelling, TellsUnread, unmade_line}
+use Rattle.ncroute.specs.Scripts.{IsQuiet}
+use Rattle.ncroute.specs.Serving.{status_of}
+use Rattle.ncroute.specs.Streaming.{Streams}
+use Rattle.ncroute.specs.declared.texts.Unread.{Unread}
+
+-- A script was carried out, and the exit status says whether a line was refused. `kept` and `keeps` are what the saver held before and
+-- holds now. Standard error is told nothing where people asked for no words, and the script does not end at a refused line.
+pub record RunsSaved (how : Running) (kept keeps : Option (List ℕ)) (before after : Streams) (status : ℕ) : Type 0 where
+  pub refused : ℕ
+  pub carried_out : IfSome before.reads (λ input. IsSaved how.stops input after.reads before.holds after.holds refused kept keeps)
+  pub quiet : IsQuiet (how.is_explained || how.stops) before.tells after.tells
+  pub ends : status ≡ status_of refused
+
+-- A fault broke it off.
+pub record StopsSaved (fault : StreamFault) (how : Running) (kept keeps : Option (List ℕ)) (before after : Streams) : Type 0 where
+  pub left_off : IfSome before.reads (λ input. IsSavedInPart fault how.stops input after.reads before.holds after.holds kept keeps)
+  pub quiet : IsQuiet (how.is_explained || how.stops) before.tells after.tells
+
+-- `creates name` says what may come of making a file of this name: what it holds at first, or why there is none.
+module _ (creates : List ℕ → Result (Option (List ℕ)) Error → Type 0) where
+  -- a saver holds this at first: the file of this name, where there is one
+  abbrev pub IsSaver : Option (String Global) → Option (List ℕ) → Type 0
+  IsSaver None kept = ⊤
+  IsSaver (Some name) kept = creates (string_bytes name) (Ok kept)
+
+  -- there is no file of this name to save to, for which the reason has these words
+  abbrev pub IsUnmade : Option (String Global) → List ℕ → List ℕ → Type 0
+  IsUnmade None name words = ⊥
+  IsUnmade (Some saved) name words = (name ≡ string_bytes saved) × ((error : Error) × creates name (Err error))
+
+  -- A script was carried out, and its history saved; or the file of the history was not made, which standard error was told, and no line
+  -- was answered.
+  abbrev pub GuidesScript : Running → Streams → Streams → ℕ → Type 0
+  GuidesScript how before after status =
+      ((kept : Option (List ℕ)) × (keeps : Option (List ℕ)) × IsSaver how.save kept × RunsSaved how kept keeps before after status)
+      ⊎ ((name : List ℕ) × (words : List ℕ) × IsUnmade how.save name words × Appends before.tells after.tells (unmade_line name words)
+      × (after.reads ≡ before.reads) × (after.holds ≡ before.holds) × (status ≡ 1))
+
+  -- A fault ended it.
+  abbrev pub StopsGuided : StreamFault → Running → Streams → Streams → Type 0
+  StopsGuided fault how before after =
+      ((kept : Option (List ℕ)) × (keeps : Option (List ℕ)) × IsSaver how.save kept × StopsSaved fault how kept keeps before after)
+      ⊎ ((name : List ℕ) × (words : List ℕ) × IsUnmade how.save name words × IsCut fault before.tells after.tells (unmade_line name words)
+      × (after.reads ≡ before.reads) × (after.holds ≡ before.holds))
+
+  -- `opens name` says what may come of opening a file of this name.
+  module _ (opens : List ℕ → Result (Option (List ℕ)) Error → Type 0) where
+    -- The script of standard input was carried out line by line, or that of a file, which was read first; or the file was not read.
+    abbrev pub RunsGuided : Running → Source → Streams → Streams → ℕ → Type 0
+    RunsGuided how Input before after status = GuidesScript how before after status
+    RunsGuided how (File name) before after status =
+        ((script : List ℕ) × (left : Option (List ℕ)) × IsRead opens input_limit (File name) script before.reads after.reads
+        × GuidesScript how (record { reads = Some script; holds = before.holds; tells = before.tells })
+        (record { reads = left; holds = after.holds; tells = after.tells }) status)
+        ⊎ ((why : Unread) × IsUnread opens input_limit (File name) why before.reads after.reads
+        × TellsUnread (File name) why before.tells after.tells × (after.holds ≡ before.holds) × (status ≡ 1))
+
+    -- A fault ended it.
+    abbrev pub StopsRun : StreamFault → Running → Source → Streams → Streams → Type 0
+    StopsRun fault how Input before after = StopsGuided fault how before after
+    StopsRun fault how (File name) before after =
+        ((script : List ℕ) × (left : Option (List ℕ)) × IsRead opens input_limit (File name) script before.reads after.reads
+        × StopsGuided fault how (record { reads = Some script; holds = before.holds; tells = before.tells })
+        (record { reads = left; holds = after.holds; tells = after.tells }))
+        ⊎ ((why : Unread) × IsUnread opens input_limit (File name) why before.reads after.reads
+        × StopsTelling fault (File name) why before.tells after.tells × (after.holds ≡ before.holds))

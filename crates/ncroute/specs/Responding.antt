@@ -1,0 +1,26 @@
+-- What the program does for the words of its command line, and its exit status. (This project's own choice.)
+use Rattle.std.specs.Prelude.{◌≡◌, ◌⊎◌, ℕ, List, Option, Result, Ok, Err, IfSome}
+use Rattle.std.specs.declared.io.Error.{Error}
+use Rattle.command_line.specs.declared.words.Words.{Words}
+use Rattle.command_line.specs.declared.words.Words.TheVariants.{Asked, Network, Aided, Shown}
+use Rattle.filter_commands.specs.declared.fault.ProgramFault.TheVariants.{Stream}
+use Rattle.line_protocol.specs.Runs.{AppendsFront}
+use Rattle.line_protocol.specs.declared.faults.StreamFault.{StreamFault}
+use Rattle.ncroute.specs.Helping.{FailsToTell, ServesPeople, fault_status}
+use Rattle.ncroute.specs.Networking.{FailsToReportNetwork, ServesNetwork}
+use Rattle.ncroute.specs.Serving.{FailsToReport, Serves, fault_line}
+use Rattle.ncroute.specs.Streaming.{Streams}
+
+-- What was asked for was served, with its status; where standard error did not take all that it was to be told, the status is that
+-- of a fault. Words that were shown something have their status, and nothing else is done.
+abbrev pub Responds : (List ℕ → Result (Option (List ℕ)) Error → Type 0) → Result Words StreamFault → Streams → Streams → ℕ → Type 0
+Responds opens (Ok (Asked request)) before after status = IfSome before.reads (λ input.
+    Serves request input after.reads before.holds after.holds before.tells after.tells status
+    ⊎ (FailsToReport request input after.reads before.holds after.holds before.tells after.tells × (status ≡ 1)))
+Responds opens (Ok Network) before after status = ServesNetwork before.holds after.holds before.tells after.tells status
+    ⊎ (FailsToReportNetwork before.holds after.holds before.tells after.tells × (status ≡ 1))
+Responds opens (Ok (Aided what)) before after status = ServesPeople opens what before after status
+    ⊎ (FailsToTell opens what before after × (status ≡ fault_status what))
+Responds opens (Ok (Shown shown)) before after status = (status ≡ shown) × (after ≡ before)
+Responds opens (Err fault) before after status = (status ≡ 1) × (after.reads ≡ before.reads) × (after.holds ≡ before.holds)
+    × AppendsFront before.tells after.tells (fault_line (Stream fault))

@@ -1,0 +1,143 @@
+//! The script of a router whose history is kept in a file, or that ends at its first refused line.
+ghost use Rattle.std.specs.Prelude.{◌≡◌, ◌||◌, IfErr, IfOk, IfSome};
+ghost use Rattle.filter_commands.specs.Faults.{stream_fault};
+ghost use Rattle.ncroute.specs.Guiding.{GuidesScript, RunsGuided, RunsSaved, StopsGuided, StopsRun, StopsSaved};
+ghost use Rattle.ncroute.specs.Scripts.{IsQuiet};
+ghost use Rattle.script_runs.specs.Running.{IsSaved, IsSavedInPart};
+
+use crate::serve::{FAILED, status_of};
+use crate::texts::{Folder, name_of, read_source, tell_unmade, tell_unread};
+use crate::watcher::Guide;
+use command_line::{Running, Source};
+use filter_commands::ProgramFault;
+use line_protocol::{INPUT_LIMIT, StreamFault};
+use operator_cmds::Nobody;
+use script_runs::run_saved_script;
+use std::alloc::Global;
+use std::io::{self, Read, Write};
+
+/// Answers the lines of a script that people know by a name, and saves its history. Returns the number of refused lines, and the saver.
+fn answer<R: Read, W: Write, V: Write + Drop, E: Write>(
+    alloc: Global,
+    how: &Running,
+    name: &[u8],
+    saver: V,
+    reader: &mut R,
+    writer: &mut W,
+    errors: &mut E,
+) -> (Result<u32, StreamFault>, V)
+    ensures finished { IfOk result.0 (λ refused. IfSome (R.remaining reader.old) (λ input.
+        IsSaved how.now.stops input (R.remaining reader.new) (W.contents writer.old) (W.contents writer.new) refused
+        (V.contents saver) (V.contents result.1))) }
+    ensures left_off { IfErr result.0 (λ fault. IfSome (R.remaining reader.old) (λ input.
+        IsSavedInPart fault how.now.stops input (R.remaining reader.new) (W.contents writer.old) (W.contents writer.new)
+        (V.contents saver) (V.contents result.1))) }
+    ensures quiet { IsQuiet (how.now.is_explained || how.now.stops) (E.contents errors.old) (E.contents errors.new) }
+{
+    let (is_explained, stops) = (how.is_explained, how.stops);
+    if is_explained || stops {
+        let guide = Guide {
+            name,
+            errors,
+            is_explained,
+            stops,
+        };
+        run_saved_script(alloc, reader, writer, saver, guide, stops)
+    } else {
+        run_saved_script(alloc, reader, writer, saver, Nobody, stops)
+    }
+}
+
+/// Carries out a script whose history goes to a saver. Returns the exit status, and the saver.
+fn save_to<R: Read, W: Write, V: Write + Drop, E: Write>(
+    alloc: Global,
+    how: &Running,
+    name: &[u8],
+    saver: V,
+    reader: &mut R,
+    writer: &mut W,
+    errors: &mut E,
+) -> (Result<u8, ProgramFault>, V)
+    ensures finished { IfOk result.0 (RunsSaved how.now (V.contents saver) (V.contents result.1)
+        (record { reads = R.remaining reader.old; holds = W.contents writer.old; tells = E.contents errors.old })
+        (record { reads = R.remaining reader.new; holds = W.contents writer.new; tells = E.contents errors.new })) }
+    ensures stopped { IfErr result.0 (λ fault. StopsSaved (stream_fault fault) how.now (V.contents saver) (V.contents result.1)
+        (record { reads = R.remaining reader.old; holds = W.contents writer.old; tells = E.contents errors.old })
+        (record { reads = R.remaining reader.new; holds = W.contents writer.new; tells = E.contents errors.new })) }
+{
+    let (ended, saver) = answer(alloc, how, name, saver, reader, writer, errors);
+    match ended {
+        Ok(refused) => (Ok(status_of(refused)), saver),
+        Err(fault) => (Err(ProgramFault::Stream(fault)), saver),
+    }
+}
+
+/// Carries out a script that people know by a name, and keeps its history in a new file where one is named. Returns the exit status.
+fn guide_script<F: Folder, R: Read, W: Write, E: Write>(
+    files: &F,
+    alloc: Global,
+    how: &Running,
+    name: &[u8],
+    reader: &mut R,
+    writer: &mut W,
+    errors: &mut E,
+) -> Result<u8, ProgramFault>
+    ensures finished { IfOk result (GuidesScript (F.creates files.now) how.now
+        (record { reads = R.remaining reader.old; holds = W.contents writer.old; tells = E.contents errors.old })
+        (record { reads = R.remaining reader.new; holds = W.contents writer.new; tells = E.contents errors.new })) }
+    ensures stopped { IfErr result (λ fault. StopsGuided (F.creates files.now) (stream_fault fault) how.now
+        (record { reads = R.remaining reader.old; holds = W.contents writer.old; tells = E.contents errors.old })
+        (record { reads = R.remaining reader.new; holds = W.contents writer.new; tells = E.contents errors.new })) }
+{
+    match &how.save {
+        Some(file) => match files.create(file.as_str()) {
+            Ok(saver) => save_to(alloc, how, name, saver, reader, writer, errors).0,
+            Err(error) => {
+                tell_unmade(alloc, errors, file.as_str(), &error)?;
+                Ok(FAILED)
+            }
+        },
+        None => save_to(alloc, how, name, io::sink(), reader, writer, errors).0,
+    }
+}
+
+/// Carries out the script of a source, and returns the exit status. The lines of standard input are answered as they come, and a file is
+/// read before its first line is answered.
+pub fn guide_source<F: Folder, R: Read, W: Write, E: Write>(
+    files: &F,
+    alloc: Global,
+    how: &Running,
+    source: &Source,
+    reader: &mut R,
+    writer: &mut W,
+    errors: &mut E,
+) -> Result<u8, ProgramFault>
+    ensures finished { IfOk result (RunsGuided (F.creates files.now) (F.opens files.now) how.now source.now
+        (record { reads = R.remaining reader.old; holds = W.contents writer.old; tells = E.contents errors.old })
+        (record { reads = R.remaining reader.new; holds = W.contents writer.new; tells = E.contents errors.new })) }
+    ensures stopped { IfErr result (λ fault. StopsRun (F.creates files.now) (F.opens files.now) (stream_fault fault) how.now source.now
+        (record { reads = R.remaining reader.old; holds = W.contents writer.old; tells = E.contents errors.old })
+        (record { reads = R.remaining reader.new; holds = W.contents writer.new; tells = E.contents errors.new })) }
+{
+    match source {
+        Source::Input => guide_script(files, alloc, how, name_of(source), reader, writer, errors),
+        Source::File(_) => match read_source(files, alloc, source, INPUT_LIMIT, reader) {
+            Ok(text) => {
+                let mut script = text.as_slice();
+                guide_script(
+                    files,
+                    alloc,
+                    how,
+                    name_of(source),
+                    &mut script,
+                    writer,
+                    errors,
+                )
+            }
+            Err(why) => {
+                tell_unread(alloc, errors, source, why)?;
+                Ok(FAILED)
+            }
+        },
+    }
+}

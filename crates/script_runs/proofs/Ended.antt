@@ -1,0 +1,162 @@
+-- How a run ends, and what is saved by then, follows from how each line was answered.
+use Rattle.std.proofs.Common.{◌≡◌, ℕ, Bool, true, false, List, [], ◌∷◌, ◌++◌, Option, Some, None, Result, Ok, Err, IfOk, IfErr, IfSome, refl, sym, ap, subst, ◌∙◌, append_assoc, append-nil, inl, inr}
+use Rattle.std.specs.Prelude.{MatchBool, ⊤}
+use Rattle.std.proofs.KnownBytes.{Appends-nil, Appends-trans}
+use Rattle.std.specs.Io.KnownBytes.{Appends}
+use Rattle.line_protocol.specs.Answers.{Answer, is_end, text_of}
+use Rattle.line_protocol.specs.Lines.{numbered}
+use Rattle.line_protocol.specs.Limits.{input_limit}
+use Rattle.line_protocol.specs.Runs.{Finishes, Reaches, Runs, RunsFront, Stops}
+use Rattle.line_protocol.specs.declared.faults.StreamFault.{StreamFault}
+use Rattle.line_protocol.specs.declared.faults.StreamFault.TheVariants.{Read, Write, Memory, TooLong}
+use Rattle.operator_cmds.specs.Script.{ScriptView, fresh}
+use Rattle.operator_cmds.proofs.Viewed.{if_known}
+use Rattle.script_runs.specs.News.{IsToldOf}
+use Rattle.script_runs.specs.Running.{IsSaved, IsSavedInPart, IsSavedUntil}
+use Rattle.script_runs.specs.Saved.{AnswersSaved, SavedView, SavesMore, saved_text}
+use Rattle.script_runs.specs.Stopping.{AnswersStopping}
+
+either : (b : Bool) {P Q R : Type 0} → (P → R) → (Q → R) → MatchBool b P Q → R
+either true f g h = f h
+either false f g h = g h
+
+both : (b : Bool) (P Q P' Q' : Type 0) → (P → P') → (Q → Q') → MatchBool b P Q → MatchBool b P' Q'
+both true P Q P' Q' f g h = f h
+both false P Q P' Q' f g h = g h
+
+whole : (s : SavedView) (lines : List (ℕ × List ℕ)) (given : List Answer) (after : SavedView) → Runs AnswersSaved s lines given after
+    → Runs (AnswersStopping s.stops) s.script lines given after.script
+whole s [] [] after h = ap (λ (v : SavedView). v.script) h
+whole s [] (a ∷ more) after h = absurd h
+whole s (l ∷ ls) [] after h = absurd h
+whole s (l ∷ ls) (a ∷ more) after (mid, (told, saved, same), rest) = (
+  mid.script,
+  told,
+  both (is_end a.reply) _ _ _ _ (λ p. (p.0, ap (λ (v : SavedView). v.script) p.1))
+      (λ q. subst (λ (b : Bool). Runs (AnswersStopping b) mid.script ls more after.script) same (whole mid ls more after q)) rest,
+)
+
+front : (s : SavedView) (lines : List (ℕ × List ℕ)) (given : List Answer) (after : SavedView)
+    → RunsFront AnswersSaved s lines given after → RunsFront (AnswersStopping s.stops) s.script lines given after.script
+front s lines [] after h = ap (λ (v : SavedView). v.script) h
+front s [] (a ∷ more) after h = absurd h
+front s (l ∷ ls) (a ∷ more) after (mid, (told, saved, same), rest) = (
+  mid.script,
+  told,
+  both (is_end a.reply) _ _ _ _ (λ p. (p.0, ap (λ (v : SavedView). v.script) p.1))
+      (λ q. subst (λ (b : Bool). RunsFront (AnswersStopping b) mid.script ls more after.script) same (front mid ls more after q)) rest,
+)
+
+nothing : (s : SavedView) → SavesMore s s
+nothing s = ([], sym (append-nil (saved_text s.script.stage)), Appends-nil s.holds)
+
+together : (a b c : SavedView) → SavesMore a b → SavesMore b c → SavesMore a c
+together a b c (x, first, p) (y, second, q) =
+    (x ++ y, second ∙ ap (λ t. t ++ y) first ∙ append_assoc (saved_text a.script.stage) x y, Appends-trans _ _ _ x y p q)
+
+-- after any lines the saver has got what they added
+saves : (s : SavedView) (lines : List (ℕ × List ℕ)) (given : List Answer) (after : SavedView) → Runs AnswersSaved s lines given after
+    → SavesMore s after
+saves s [] [] after h = subst (SavesMore s) (sym h) (nothing s)
+saves s [] (a ∷ more) after h = absurd h
+saves s (l ∷ ls) [] after h = absurd h
+saves s (l ∷ ls) (a ∷ more) after (mid, (told, saved, same), rest) =
+    together s mid after saved
+    (either (is_end a.reply) (λ p. subst (SavesMore mid) (sym p.1) (nothing mid)) (λ q. saves mid ls more after q) rest)
+
+-- a fresh script has no text, so what was added is the whole text
+all_saved : (s after : SavedView) → s.script ≡ fresh → SavesMore s after → Appends s.holds after.holds (saved_text after.script.stage)
+all_saved s after e (more, text, p) =
+    subst (Appends s.holds after.holds) (sym (text ∙ ap (λ (v : ScriptView). saved_text v.stage ++ more) e)) p
+
+pub ends : (s after : SavedView) (input : List ℕ) (left held holds : Option (List ℕ)) (n : ℕ) → s.script ≡ fresh
+    → Finishes AnswersSaved input_limit s after input left held holds n → IsSaved s.stops input left held holds n s.holds after.holds
+ends s after input left held holds n e f =
+    let seen : Finishes (AnswersStopping s.stops) input_limit s.script after.script input left held holds n =
+    record {
+      given = f.given;
+      run = whole s (numbered input) f.given after f.run;
+      written = f.written;
+      counted = f.counted;
+      read = f.read;
+      consumed = f.consumed;
+      within = f.within;
+      to_end = f.to_end;
+    } in
+    record {
+      after = after.script;
+      finishes = subst (λ (v : ScriptView). Finishes (AnswersStopping s.stops) input_limit v after.script input left held holds n) e seen;
+      saved = all_saved s after e (saves s (numbered input) f.given after f.run);
+    }
+
+reaches : (fault : StreamFault) (s now : SavedView) (read : List ℕ) (given : List Answer) (after : SavedView)
+    → Reaches AnswersSaved (λ _ _. ⊤) input_limit fault s now read given after
+    → Reaches (AnswersStopping s.stops) (λ _ _. ⊤) input_limit fault s.script now.script read given after.script
+reaches Read s now read given after h = (ap (λ (v : SavedView). v.script) h.0, whole s _ given after h.1)
+reaches Write s now read given after h = inr tt
+reaches Memory s now read given after h = inr tt
+reaches TooLong s now read given after h = (h.0, ap (λ (v : SavedView). v.script) h.1, whole s _ given after h.2)
+
+until : (fault : StreamFault) (s now : SavedView) (read : List ℕ) (given : List Answer) (after : SavedView) → s.script ≡ fresh
+    → Reaches AnswersSaved (λ _ _. ⊤) input_limit fault s now read given after → IsSavedUntil fault s.holds now.holds (saved_text now.script.stage)
+until Read s now read given after e h =
+    all_saved s now e (subst (SavesMore s) (sym h.0) (saves s _ given after h.1))
+until Write s now read given after e h = tt
+until Memory s now read given after e h = tt
+until TooLong s now read given after e h =
+    all_saved s now e (subst (SavesMore s) (sym h.1) (saves s _ given after h.2))
+
+pub breaks : (fault : StreamFault) (s now : SavedView) (input : List ℕ) (left held holds : Option (List ℕ)) → s.script ≡ fresh
+    → Stops AnswersSaved (λ _ _. ⊤) input_limit fault s now input left held holds → IsSavedInPart fault s.stops input left held holds s.holds now.holds
+breaks fault s now input left held holds e f =
+    let seen : Stops (AnswersStopping s.stops) (λ _ _. ⊤) input_limit fault s.script now.script input left held holds =
+    record {
+      given = f.given;
+      after = f.after.script;
+      run = front s (numbered input) f.given f.after f.run;
+      written = f.written;
+      read = f.read;
+      consumed = f.consumed;
+      reach = reaches fault s now f.read f.given f.after f.reach;
+    } in
+    record {
+      after = now.script;
+      broken_off = subst (λ (v : ScriptView). Stops (AnswersStopping s.stops) (λ _ _. ⊤) input_limit fault v now.script input left held holds) e seen;
+      saved = until fault s now f.read f.given f.after e f.reach;
+    }
+
+-- where memory was refused the writer got whole answers, as it may where a write failed
+failed_write : (stops : Bool) (input : List ℕ) (left held holds kept keeps : Option (List ℕ))
+    → IsSavedInPart Memory stops input left held holds kept keeps → IsSavedInPart Write stops input left held holds kept keeps
+failed_write stops input left held holds kept keeps h =
+    let f = h.broken_off in
+    let text = text_of f.given in
+    record {
+      after = h.after;
+      broken_off = record {
+        given = f.given;
+        after = f.after;
+        run = f.run;
+        written = (text, [], sym (append-nil text), f.written);
+        read = f.read;
+        consumed = f.consumed;
+        reach = inr tt;
+      };
+      saved = tt;
+    }
+
+pub told_ok : (P : ℕ → Type 0) (ended told : Result ℕ StreamFault) → IsToldOf ended told → IfOk ended P → IfOk told P
+told_ok P ended told (inl same) h = subst (λ (r : Result ℕ StreamFault). IfOk r P) (sym same) h
+told_ok P ended told (inr (memory, write)) h = subst (λ (r : Result ℕ StreamFault). IfOk r P) (sym write) tt
+
+pub told_err : (stops : Bool) (known left held holds kept keeps : Option (List ℕ)) (ended told : Result ℕ StreamFault) → IsToldOf ended told
+    → IfErr ended (λ fault. IfSome known (λ input. IsSavedInPart fault stops input left held holds kept keeps))
+    → IfErr told (λ fault. IfSome known (λ input. IsSavedInPart fault stops input left held holds kept keeps))
+told_err stops known left held holds kept keeps ended told (inl same) h =
+    subst (λ (r : Result ℕ StreamFault). IfErr r (λ fault. IfSome known (λ input. IsSavedInPart fault stops input left held holds kept keeps)))
+    (sym same) h
+told_err stops known left held holds kept keeps ended told (inr (memory, write)) h =
+    let P : Result ℕ StreamFault → Type 0 =
+    λ r. IfErr r (λ fault. IfSome known (λ input. IsSavedInPart fault stops input left held holds kept keeps)) in
+    subst P (sym write)
+    (if_known known (λ input p. failed_write stops input left held holds kept keeps p) (subst P memory h))

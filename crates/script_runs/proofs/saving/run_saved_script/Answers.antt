@@ -1,0 +1,45 @@
+-- Each end follows from how the lines were answered.
+use Rattle.std.proofs.Common.{false}
+use Rattle.std.proofs.lemmas.Result.{IfErr-weaker, IfOk-weaker}
+use Rattle.operator_cmds.specs.State.{script_of}
+use Rattle.operator_cmds.proofs.Viewed.{finishes, if_known, stops}
+use Rattle.script_runs.specs.Saved.{AnswersSaved, SavedView}
+use Rattle.script_runs.proofs.Ended.{breaks, ends, told_err, told_ok}
+use Rattle.script_runs.proofs.saving.run_saved_script.Goals as goal
+
+pub returns-clause-finished : goal.returns-clause-finished
+returns-clause-finished g c =
+    let known = g.R.Read.remaining c.args.reader.now in
+    let left = g.R.Read.remaining c.answer_lines-ended.new.reader in
+    let held = g.W.Write.contents c.args.writer.now in
+    let holds = g.W.Write.contents c.answer_lines-ended.new.writer in
+    let kept = g.V.Write.contents c.args.saver in
+    let after = c.answer_lines-ended.new.service in
+    let keeps = g.V.Write.contents after.saver in
+    let ended = IfOk-weaker c.answer_lines-ended.result _ _
+    (λ n h. if_known known
+    (λ input f. ends (record { script = script_of c.new.result; holds = kept; stops = c.args.stops }) (record { script = script_of after.script; holds = keeps; stops = after.stops })
+    input left held holds n c.new.ensures
+    (finishes (λ s. record { script = script_of s.script; holds = g.V.Write.contents s.saver; stops = s.stops }) AnswersSaved
+    (record { script = c.new.result; saver = c.args.saver; is_broken = false; watcher = c.args.watcher; stops = c.args.stops }) after input left held holds n f)) h)
+    c.answer_lines-ended.ensures.ok in
+    rw c.finish.ensures.saver (told_ok _ c.answer_lines-ended.result c.finish.result.0 c.finish.ensures.told ended)
+
+pub returns-clause-broken_off : goal.returns-clause-broken_off
+returns-clause-broken_off g c =
+    let known = g.R.Read.remaining c.args.reader.now in
+    let left = g.R.Read.remaining c.answer_lines-ended.new.reader in
+    let held = g.W.Write.contents c.args.writer.now in
+    let holds = g.W.Write.contents c.answer_lines-ended.new.writer in
+    let kept = g.V.Write.contents c.args.saver in
+    let after = c.answer_lines-ended.new.service in
+    let keeps = g.V.Write.contents after.saver in
+    let ended = IfErr-weaker c.answer_lines-ended.result _ _
+    (λ fault h. if_known known
+    (λ input f. breaks fault (record { script = script_of c.new.result; holds = kept; stops = c.args.stops }) (record { script = script_of after.script; holds = keeps; stops = after.stops })
+    input left held holds c.new.ensures
+    (stops (λ s. record { script = script_of s.script; holds = g.V.Write.contents s.saver; stops = s.stops }) AnswersSaved fault
+    (record { script = c.new.result; saver = c.args.saver; is_broken = false; watcher = c.args.watcher; stops = c.args.stops }) after input left held holds f)) h)
+    c.answer_lines-ended.ensures.err in
+    rw c.finish.ensures.saver
+    (told_err c.args.stops known left held holds kept keeps c.answer_lines-ended.result c.finish.result.0 c.finish.ensures.told ended)

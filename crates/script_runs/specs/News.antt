@@ -1,0 +1,35 @@
+-- What a line added to the text of a history.
+use Rattle.std.specs.Prelude.{◌≡◌, ◌⊎◌, ℕ, List, [], ◌∷◌, ◌++◌, length, Option, Some, None, Result, Ok, Err, slice_get}
+use Rattle.history_file.specs.Text.{entry_line, opening_line}
+use Rattle.history_file.specs.Views.{entry_view}
+use Rattle.line_protocol.specs.declared.faults.StreamFault.{StreamFault}
+use Rattle.line_protocol.specs.declared.faults.StreamFault.TheVariants.{Write, Memory}
+use Rattle.operator_cmds.specs.Stages.{StageView, Empty, Setting, Open}
+use Rattle.route_history.specs.JournalView.{JournalView}
+use Rattle.route_history.specs.declared.entry.Entry.{Entry}
+
+-- how many entries there are, if the journal is open
+abbrev pub count_in : StageView → Option ℕ
+count_in Empty = None
+count_in (Setting opening limit) = None
+count_in (Open journal) = Some (length journal.entries)
+
+-- the line of the entry at a position, if there is one
+abbrev pub line_of : ℕ → Option Entry → List ℕ
+line_of at None = []
+line_of at (Some e) = entry_line at (entry_view e) ++ 10 ∷ []
+
+-- The next line of a journal of which so many entries are saved. Where nothing is, the opening's line comes before it.
+abbrev pub next_lines : Option ℕ → JournalView → List ℕ
+next_lines None j = (opening_line j.opening j.limit ++ 10 ∷ []) ++ line_of 0 (slice_get j.entries 0)
+next_lines (Some n) j = line_of n (slice_get j.entries n)
+
+-- the same of a script; before the first event there is none
+abbrev pub news : Option ℕ → StageView → List ℕ
+news saved Empty = []
+news saved (Setting opening limit) = []
+news saved (Open journal) = next_lines saved journal
+
+-- what is told of the end of a run: a saver that failed is a failed write
+abbrev pub IsToldOf : Result ℕ StreamFault → Result ℕ StreamFault → Type 0
+IsToldOf ended told = (told ≡ ended) ⊎ ((ended ≡ Err Memory) × (told ≡ Err Write))

@@ -1,0 +1,36 @@
+-- What is saved of a script. (This project's own choice.)
+use Rattle.std.specs.Prelude.{◌≡◌, ℕ, Bool, List, [], ◌++◌, map, Option}
+use Rattle.std.specs.Io.KnownBytes.{Appends}
+use Rattle.history_file.specs.Text.{history_text}
+use Rattle.history_file.specs.Views.{HistoryView, entry_view}
+use Rattle.line_protocol.specs.Answers.{Answer}
+use Rattle.operator_cmds.specs.Script.{ScriptView}
+use Rattle.operator_cmds.specs.Stages.{StageView, Empty, Setting, Open}
+use Rattle.route_history.specs.JournalView.{JournalView}
+use Rattle.script_runs.specs.Stopping.{AnswersStopping}
+
+-- a journal's history, as its text shows it
+abbrev pub history_of : JournalView → HistoryView
+history_of j = record { opening = j.opening; limit = j.limit; entries = map entry_view j.entries }
+
+-- the text of a script's history: nothing before the first event, then the opening and each entry so far
+abbrev pub saved_text : StageView → List ℕ
+saved_text Empty = []
+saved_text (Setting opening limit) = []
+saved_text (Open journal) = history_text (history_of journal)
+
+-- a script, what its saver holds where that is known, and whether it ends at its first refused line
+pub record SavedView : Type 0 where
+  pub script : ScriptView
+  pub holds : Option (List ℕ)
+  pub stops : Bool
+
+-- the saver got what was added to the text, and nothing else
+abbrev pub SavesMore : SavedView → SavedView → Type 0
+SavesMore before after = (more : List ℕ) × (saved_text after.script.stage ≡ saved_text before.script.stage ++ more)
+    × Appends before.holds after.holds more
+
+-- a line is answered as such a script answers it, and what it added to the history is saved
+abbrev pub AnswersSaved : SavedView → ℕ → List ℕ → Answer → SavedView → Type 0
+AnswersSaved before number line answer after = AnswersStopping before.stops before.script number line answer after.script
+    × SavesMore before after × (after.stops ≡ before.stops)

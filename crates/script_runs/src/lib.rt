@@ -1,0 +1,6 @@
+//! Runs of an operator's script that leave something behind: the text of the router's history.
+#![tactic(auto)]
+
+mod saving;
+
+pub use saving::run_saved_script;

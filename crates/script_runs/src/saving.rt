@@ -1,0 +1,207 @@
+//! A script whose history is saved as it is made.
+ghost use Rattle.std.specs.Prelude.{◌≡◌, ◌++◌, IfErr, IfOk, IfSome, OnErr, OnOk};
+ghost use Rattle.std.specs.Io.{StartsWith};
+ghost use Rattle.std.specs.Io.KnownBytes.{Appends};
+ghost use Rattle.operator_cmds.specs.State.{script_of};
+ghost use Rattle.script_runs.specs.News as spec;
+ghost use Rattle.script_runs.specs.Running.{IsSaved, IsSavedInPart};
+ghost use Rattle.script_runs.specs.Stopping as stopping;
+
+use history_file::{write_entry, write_opening};
+use line_protocol::{Reply, Service, StreamFault, answer_lines, write_text};
+use operator_cmds::{Script, ScriptFault, Watch};
+use route_history::{Journal, LARGEST_LIMIT};
+use std::alloc::{AllocError, Global};
+use std::io::{Read, Write};
+
+/// Adds the line of the entry at a position, if there is one.
+fn push_entry_at(
+    alloc: Global,
+    out: &mut Vec<u8>,
+    journal: &Journal,
+    at: usize,
+) -> Result<(), AllocError>
+    ensures { OnOk result (out.new.items ≡ out.old.items ++ spec.next_lines (Some at) journal.now) }
+{
+    // A position is less than the limit.
+    let _limit = journal.limit();
+    match journal.entries().get(at) {
+        Some(entry) => write_entry(alloc, out, at as u32, entry),
+        None => Ok(()),
+    }
+}
+
+/// Adds the next line of a journal of which so many entries are saved, and the opening's line before it where nothing is.
+fn push_next(
+    alloc: Global,
+    out: &mut Vec<u8>,
+    journal: &Journal,
+    saved: Option<usize>,
+) -> Result<(), AllocError>
+    ensures { OnOk result (out.new.items ≡ out.old.items ++ spec.next_lines saved journal.now) }
+{
+    match saved {
+        Some(count) => push_entry_at(alloc, out, journal, count),
+        None => {
+            let limit = journal.limit();
+            // No script opens a journal with another limit.
+            if limit == 0 || limit > LARGEST_LIMIT {
+                return Err(AllocError);
+            }
+            write_opening(alloc, out, journal.opening(), limit)?;
+            push_entry_at(alloc, out, journal, 0)
+        }
+    }
+}
+
+/// How many entries a script has, if its journal is open.
+fn count_entries(script: &Script) -> Option<usize>
+    ensures { result ≡ spec.count_in (script_of script.now).stage }
+{
+    match script.journal() {
+        Some(journal) => Some(journal.entries().len()),
+        None => None,
+    }
+}
+
+/// The lines that are not saved of a script's history, of which so many entries are.
+fn unsaved(alloc: Global, script: &Script, saved: Option<usize>) -> Result<Vec<u8>, AllocError>
+    ensures { IfOk result (λ text. text.items ≡ spec.news saved (script_of script.now).stage) }
+{
+    let mut text = Vec::new(alloc);
+    if let Some(journal) = script.journal() {
+        push_next(alloc, &mut text, journal, saved)?;
+    }
+    Ok(text)
+}
+
+/// A script, where its history is saved, and who watches it.
+#[derive(Drop)]
+struct Saving<V: Write + Drop, S: Watch + Drop> {
+    /// The script.
+    script: Script,
+    /// Where its history is saved.
+    saver: V,
+    /// The saver failed.
+    is_broken: bool,
+    /// Who is shown each line that is refused.
+    watcher: S,
+    /// The script ends at its first refused line.
+    stops: bool,
+}
+
+impl<V: Write + Drop, S: Watch + Drop> Service for Saving<V, S> {
+    ghost use Rattle.std.specs.Prelude.{⊤};
+    ghost use Rattle.script_runs.specs.Saved.{AnswersSaved};
+
+    ghost answers = { λ before number line answer after. AnswersSaved
+        (record { script = script_of before.script; holds = V.contents before.saver; stops = before.stops }) number line answer
+        (record { script = script_of after.script; holds = V.contents after.saver; stops = after.stops }) };
+
+    ghost refuses = { λ _ _. ⊤ };
+
+    fn answer(
+        &mut self,
+        alloc: Global,
+        number: u32,
+        line: &[u8],
+        out: &mut Vec<u8>,
+    ) -> Result<Reply, AllocError> {
+        let saved = count_entries(&self.script);
+        let reply = self.script.answer(alloc, number, line, out)?;
+        self.save(alloc, saved)?;
+        Ok(self.end(alloc, number, line, reply))
+    }
+}
+
+impl<V: Write + Drop, S: Watch + Drop> Saving<V, S> {
+    /// Shows a line that is refused to who watches, and makes it the last one where the script ends there.
+    fn end(&mut self, alloc: Global, number: u32, line: &[u8], reply: Reply) -> Reply
+        ensures script { script_of self.new.script ≡ script_of self.old.script }
+        ensures saver { self.new.saver ≡ self.old.saver }
+        ensures stops { self.new.stops ≡ self.old.stops }
+        ensures reply { result ≡ stopping.reply_where self.old.stops reply }
+    {
+        if reply != Reply::Refused {
+            return reply;
+        }
+        self.watcher
+            .see_refused(alloc, number, line, self.script.size());
+        if self.stops { Reply::Ended } else { reply }
+    }
+
+    /// Saves what is not saved of the history, of which so many entries are.
+    fn save(&mut self, alloc: Global, saved: Option<usize>) -> Result<(), AllocError>
+        ensures script { script_of self.new.script ≡ script_of self.old.script }
+        ensures stops { self.new.stops ≡ self.old.stops }
+        ensures ok { OnOk result (Appends (V.contents self.old.saver) (V.contents self.new.saver)
+            (spec.news saved (script_of self.old.script).stage)) }
+    {
+        let text = unsaved(alloc, &self.script, saved)?;
+        match write_text(&mut self.saver, text.as_slice()) {
+            Ok(()) => Ok(()),
+            Err(_) => {
+                self.is_broken = true;
+                Err(AllocError)
+            }
+        }
+    }
+
+    /// What is told of the end of the run, and the saver.
+    fn finish(self, ended: Result<u32, ScriptFault>) -> (Result<u32, ScriptFault>, V)
+        ensures told { spec.IsToldOf ended result.0 }
+        ensures saver { result.1 ≡ self.saver }
+    {
+        let Saving {
+            script: _script,
+            saver,
+            is_broken,
+            watcher: _watcher,
+            stops: _stops,
+        } = self;
+        (told_end(ended, is_broken), saver)
+    }
+}
+
+/// What is told of the end of a run: where the saver failed, that a write failed.
+fn told_end(ended: Result<u32, ScriptFault>, is_broken: bool) -> Result<u32, ScriptFault>
+    ensures { spec.IsToldOf ended result }
+{
+    match ended {
+        Err(StreamFault::Memory) if is_broken => Err(StreamFault::Write),
+        _ => ended,
+    }
+}
+
+/// Does what `run_script` does, shows each line that is refused to who watches, and saves the script's history as it is made: the
+/// opening's line when the first event opens the journal, then the line of each entry, written and flushed before the answer to its line
+/// is written. Where `stops` says so, the script ends at its first refused line: that line is answered, and none that follows. Gives
+/// the saver back.
+///
+/// A write to the saver that fails is E2, and the line whose entry it was is not answered.
+pub fn run_saved_script<R: Read, W: Write, V: Write + Drop, S: Watch + Drop>(
+    alloc: Global,
+    reader: &mut R,
+    writer: &mut W,
+    saver: V,
+    watcher: S,
+    stops: bool,
+) -> (Result<u32, ScriptFault>, V)
+    // The answers are those of `run_script`, up to the one that ends it, and what was saved is the text of the whole history.
+    ensures finished { IfOk result.0 (λ refused. IfSome (R.remaining reader.old) (λ input.
+        IsSaved stops input (R.remaining reader.new) (W.contents writer.old) (W.contents writer.new) refused
+        (V.contents saver) (V.contents result.1))) }
+    ensures broken_off { IfErr result.0 (λ fault. IfSome (R.remaining reader.old) (λ input.
+        IsSavedInPart fault stops input (R.remaining reader.new) (W.contents writer.old) (W.contents writer.new)
+        (V.contents saver) (V.contents result.1))) }
+{
+    let mut service = Saving {
+        script: Script::new(alloc),
+        saver,
+        is_broken: false,
+        watcher,
+        stops,
+    };
+    let ended = answer_lines(alloc, reader, writer, &mut service);
+    service.finish(ended)
+}

@@ -1,0 +1,99 @@
+#!/usr/bin/env python3
+"""Kills `ncroute run --save` 200 times at random moments, and sees what is left: each line of the file but the last is whole, each event that
+was answered is there, and `ncroute replay` finds all replies right up to the last whole line. Prints a line for each run of which that is not
+so, and at last 'N passed, M failed'.
+
+usage: NCROUTE=PATH scripts/check_histories.py [RUNS [SEED]]     (PATH: the program; 200 runs, of seed 1)
+"""
+import os
+import random
+import signal
+import subprocess
+import sys
+import tempfile
+import time
+
+TOP = os.path.realpath(os.path.join(os.path.dirname(os.path.abspath(__file__)), ".."))
+sys.dont_write_bytecode = True
+sys.path.insert(0, os.path.join(TOP, "bench"))
+
+# The words with which the answers to events begin, whether the router refuses them or not.
+REPLIES = (b"opened ", b"done ", b"messages", b"route ", b"refused N")
+LINES = 20_000
+
+
+def written_by(program, script, kept, seconds):
+    """What the program had answered when it was killed, after so many seconds, and what it had saved."""
+    with open(script, "rb") as given, tempfile.TemporaryFile() as answers:
+        run = subprocess.Popen([program, "run", "--save", kept], stdin=given, stdout=answers, stderr=subprocess.DEVNULL)
+        time.sleep(seconds)
+        run.send_signal(signal.SIGKILL)
+        run.wait()
+        answers.seek(0)
+        answered = answers.read()
+    if not os.path.exists(kept):
+        return answered, b""
+    with open(kept, "rb") as it:
+        return answered, it.read()
+
+
+def replayed(program, text):
+    """The verdict on a text."""
+    return subprocess.run([program, "replay"], input=text, stdout=subprocess.PIPE, stderr=subprocess.DEVNULL).stdout
+
+
+def fault_in(program, answered, saved):
+    """What is wrong with what a run left, if anything is."""
+    whole = saved[: saved.rfind(b"\n") + 1]
+    entries = max(whole.count(b"\n") - 1, 0)
+    events = sum(line.startswith(REPLIES) for line in answered[: answered.rfind(b"\n") + 1].splitlines())
+    if events > entries:
+        return f"{events} events are answered, and {entries} are saved"
+    if not whole:
+        return None if replayed(program, saved) == b"cut 1\n" else "the front of a first line is not told as such"
+    verdict = replayed(program, whole)
+    if verdict != b"replay ok %d\n" % entries:
+        return f"the whole lines are answered {verdict!r}"
+    verdict = replayed(program, saved)
+    wanted = b"replay ok %d\n" % entries if whole == saved else b"cut %d\n" % (entries + 2)
+    return None if verdict == wanted else f"the text is answered {verdict!r} in place of {wanted!r}"
+
+
+def main(runs=200, seed=1):
+    program = os.environ.get("NCROUTE")
+    if not program:
+        print("scripts/check_histories.py needs NCROUTE=PATH")
+        print("0 passed, 1 failed")
+        return 1
+    chosen = random.Random(seed)
+    failed = 0
+    with tempfile.TemporaryDirectory() as folder:
+        script = os.path.join(folder, "script")
+        with open(script, "wb") as it:
+            made = [sys.executable, os.path.join(TOP, "bench", "script.py"), "mixed", "16", str(LINES)]
+            subprocess.run(made, stdout=it, check=True)
+        begun = time.monotonic()
+        written_by_end = subprocess.run([program, "run", "--save", os.path.join(folder, "all"), script], stdout=subprocess.DEVNULL)
+        longest = time.monotonic() - begun
+        if written_by_end.returncode not in (0, 1):
+            failed += 1
+            print(f"the run to its end has status {written_by_end.returncode}")
+        cut = 0
+        for run in range(runs):
+            kept = os.path.join(folder, str(run))
+            answered, saved = written_by(program, script, kept, chosen.uniform(0, longest))
+            cut += bool(saved)
+            fault = fault_in(program, answered, saved)
+            if fault:
+                failed += 1
+                print(f"run {run}: {fault}")
+        # A run of which every moment comes before the first entry would show nothing.
+        if cut < runs // 4:
+            failed += 1
+            print(f"only {cut} of {runs} runs had saved something")
+    print(f"{runs + 2 - failed} passed, {failed} failed")
+    return 1 if failed else 0
+
+
+if __name__ == "__main__":
+    sys.exit(main(*map(int, sys.argv[1:])))
