@@ -11,5 +11,5 @@ returns-in_ok-rest-in-Ok-clause-within c = λ len after start. c.in_ok-rest-in-O
 
 pub returns-in_err-rest-in-Ok-clause-within : goal.returns-in_err-rest-in-Ok-clause-within
 returns-in_err-rest-in-Ok-clause-within c = λ len after start.
-    failed _ len _ c.from_residual-in_err-rest-in-Ok.result c.from_residual-in_err-rest-in-Ok.ensures
+    failed _ len _ c.from_residual.result c.from_residual.ensures
     (c.in_err-rest-in-Ok.ensures.within len (c.in-Ok.ensures.within len after start))
