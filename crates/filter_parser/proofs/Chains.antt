@@ -61,9 +61,11 @@ pub set_pattern_stops : {xs : List SetPatternView} {ws rest : List Lexeme} {answ
 set_pattern_stops {xs = xs} {ws = ws} {answer = answer} comma none g = refuses adds_set_pattern xs ws answer refl (rw comma (rw none refl)) g
 
 -- no bracket follows the patterns of a set
-pub set_after_none : {first : SetPatternView} {xs ys : List SetPatternView} {ws rest : List Lexeme} → xs ≡ first ∷ [] →
+pub set_after_none : (first : SetPatternView) (xs : List SetPatternView) {ys : List SetPatternView} (ws : List Lexeme) {rest : List Lexeme} → xs ≡ first ∷ [] →
     set_patterns_from xs ws ≡ Some (ys, rest) → symbol symbols.RightBracket rest ≡ None → set_after_first first ws ≡ None
-set_after_none {ws = ws} {rest = rest} same read none = rw (rw same at read, none) refl
+set_after_none first xs {ys} ws {rest} same read none =
+    let of_one : set_patterns_from (first ∷ []) ws ≡ Some (ys, rest) = rw same at read in
+    rw (of_one, none) refl
 
 -- one more operator and operand were read
 pub chain_on : (next : Reader ExprView) (level : Level) {x y : ExprView} {op : Op} {ws rest after : List Lexeme}

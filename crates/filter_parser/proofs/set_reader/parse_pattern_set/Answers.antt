@@ -7,5 +7,5 @@ returns-in-Ok c = record {
   reads = search rules;
   shorter = search rules;
   placed = ok_map c.parse_set_after_first.result (λ x h start first. h start (spans_both first c.in-Ok.ensures.placed)) c.parse_set_after_first.ensures.placed;
-  within = search rules;
+  within = λ len start. c.parse_set_after_first.ensures.within len (c.in-Ok.ensures.within len start);
 }

@@ -1,4 +1,4 @@
-use Rattle.std.proofs.Common.{rules}
+use Rattle.std.proofs.Common.{map, rules}
 use Rattle.filter_parser.specs.Steps.{remaining}
 use Rattle.filter_parser.specs.Syntax.{view_set_pattern}
 use Rattle.filter_parser.proofs.Chains.{set_after_none}
@@ -18,7 +18,7 @@ returns-in_ok-rest-in-Ok c = record {
 pub returns-in_err-rest-in-Ok : goal.returns-in_err-rest-in-Ok
 returns-in_err-rest-in-Ok c = record {
   reads = unread _ _ c.from_residual-in_err-rest-in-Ok.result _ c.from_residual-in_err-rest-in-Ok.ensures
-      (λ other. set_after_none {first = view_set_pattern c.args.first} {ws = remaining c.args.input} ? c.in-Ok.ensures.reads (c.in_err-rest-in-Ok.ensures.reads other));
+      (λ other. set_after_none (view_set_pattern c.args.first) (map view_set_pattern c.push.new.self.items) (remaining c.args.input) (search rules) c.in-Ok.ensures.reads (c.in_err-rest-in-Ok.ensures.reads other));
   shorter = search rules;
   placed = search rules;
   within = λ len start. failed _ len _ c.from_residual-in_err-rest-in-Ok.result c.from_residual-in_err-rest-in-Ok.ensures
