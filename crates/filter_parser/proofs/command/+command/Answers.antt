@@ -100,7 +100,7 @@ parse_parts-loop-alloc-init t c = record {
 
 pub parse_parts-loop-alloc-preserved : goal.parse_parts-loop-alloc-preserved
 parse_parts-loop-alloc-preserved t c = record {
-  goes = rw (c.in_ok-push-in-Ok.ensures.items, map_one view_part c.loop-alloc.parts.items c.in-Ok.part, c.stays_first.ensures)
+  goes = rw (c.in_ok-push-in-Ok.ensures.items, map_one view_part c.loop-alloc.parts.items c.in-Ok.part, c.stays_first-is_first.ensures)
       (parts.goes_on c.loop-alloc.invariant.goes (search rules) c.in-Ok.ensures.reads c.in-Ok.ensures.shorter);
   grown = grown_more c.loop-alloc.invariant.grown c.in-Ok.ensures.placed c.in_ok-push-in-Ok.ensures.items;
   within = λ len start. c.in-Ok.ensures.within len (c.loop-alloc.invariant.within len start);
