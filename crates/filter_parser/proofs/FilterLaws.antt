@@ -216,5 +216,5 @@ filter_complete name head inner body fits =
       decls_again head [] (Lexeme.symbol symbols.LeftBrace ∷ (spelling_decls inner ++ (spelling_commands body ++ Lexeme.symbol symbols.RightBrace ∷ []))) refl,
       decls_again inner head (spelling_commands body ++ Lexeme.symbol symbols.RightBrace ∷ []) (no_kind_commands body []),
       commands_with_complete nesting_limit (command_at nesting_limit) (command_complete exprs_complete nesting_limit) body (Lexeme.symbol symbols.RightBrace ∷ []) fits
-      (brace_ends []),
+          (brace_ends []),
     ) refl

@@ -56,10 +56,7 @@ fn parse_ranges_label<'a>(
 }
 
 /// `else` and its `:`. Whether no part before it is the `else` part.
-fn parse_else_label<'a>(
-    is_first: bool,
-    input: Input<'a>,
-) -> Result<(Label, Input<'a>), ParseFault>
+fn parse_else_label<'a>(is_first: bool, input: Input<'a>) -> Result<(Label, Input<'a>), ParseFault>
     ensures { Reads view_label (λ x. label_kept x ++ None ∷ []) (spec.else_label_of is_first) input.entry result }
 {
     if !is_first {
