@@ -6,8 +6,14 @@ use Rattle.std.specs.Io.KnownBytes.{Appends, Consumes, IsAtEnd}
 use Rattle.line_protocol.specs.declared.faults.StreamFault.{StreamFault}
 use Rattle.line_protocol.specs.declared.faults.StreamFault.TheVariants.{Read, Write, Memory, TooLong}
 use Rattle.filter_source.specs.Limits.{source_limit}
+use Rattle.filter_code.specs.CodeView.{CodeView}
+use Rattle.filter_source.specs.Failures.{OnRefusal}
+use Rattle.filter_source.specs.Sources.{IsUnwritten}
+use Rattle.filter_source.specs.declared.failure.Failure.{Failure}
+use Rattle.filter_source.specs.declared.failure.Failure.TheVariants.{Refused}
+use Rattle.filter_source.specs.declared.failure.Failure.TheVariants as failure
 use Rattle.filter_commands.specs.Check.{GivesCode, IsRefused, ReportView}
-use Rattle.filter_commands.specs.Rewriting.{IsCut, IsRewritten, Respells, Rewrites, RewritesOff}
+use Rattle.filter_commands.specs.Rewriting.{IsCut, IsRewritten, IsUnspelled, Respells, Rewrites, RewritesOff}
 
 -- of an input that is longer than the limit, more than the limit was read
 beyond : (is_old : Bool) (input left read : List ℕ) (report : ReportView) → input ≡ read ++ left
@@ -73,3 +79,14 @@ broken_off fault is_old (Some input) (Some left) held holds read used end within
       consumed = used;
       within = within;
     }
+
+-- What refuses to write a code refuses its source, and so does what gives no code.
+pub code_is_unwritten : (is_old : Bool) (input : List ℕ) (program : CodeView) (e : Failure) → GivesCode true input program
+    → OnRefusal (IsUnwritten is_old program) e → OnRefusal (IsUnspelled is_old input) e
+code_is_unwritten is_old input program (Refused told) gives h = inr (program, gives, h)
+code_is_unwritten is_old input program failure.Memory gives h = tt
+
+pub no_code : (is_old : Bool) (input : List ℕ) (e : Failure) → OnRefusal (IsRefused true input) e
+    → OnRefusal (IsUnspelled is_old input) e
+no_code is_old input (Refused told) h = inl h
+no_code is_old input failure.Memory h = tt
