@@ -1,4 +1,5 @@
 pub mod Cases
+pub mod EmittedParts
 pub mod CommandPlaces
 pub mod CommandRuns
 pub mod ExpressionRuns

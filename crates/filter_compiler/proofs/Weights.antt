@@ -1,6 +1,7 @@
 -- How much there is in commands, for the proof that they are gone through to the end.
-use Rattle.std.proofs.Common.{◌≡◌, ℕ, zero, suc, ◌+◌, ◌<◌, ◌≤◌, Box, Vec, Global, List, [], ◌∷◌, length, map, get_or, Some, None, refl, sym, ap, ◌∙◌, arith}
+use Rattle.std.proofs.Common.{◌≡◌, ℕ, zero, suc, ◌+◌, ◌<◌, ◌≤◌, Box, Vec, Global, List, [], ◌∷◌, length, map, get_or, Option, Some, None, refl, sym, ap, ◌∙◌, arith}
 use Rattle.std.specs.Prelude.{sum}
+use Rattle.std.proofs.lemmas.List.Sums.{sum_by-cons}
 use Rattle.filter_parser.specs.declared.tree.command.Command.{Command}
 use Rattle.filter_parser.specs.declared.tree.command.Command.TheFolds.{fold-Command, fold-roll-Command}
 use Rattle.filter_parser.specs.declared.tree.command.Command.TheOpen.{Command-F}
@@ -58,8 +59,27 @@ case_weight x at argument parts is =
     ∙ (fold-roll-Command ℕ weight_step (Command-F.Case at argument parts)
     ∙ ap (λ (xs : List ℕ). 6 + sum xs) (folded _ (λ p. refl) parts.items))
 
+-- the first of a list weighs what the others do not
+pub commands_cons : (x : Command) (xs : List Command) → commands_weight (x ∷ xs) ≡ weight x + commands_weight xs
+commands_cons x xs = sum_by-cons (λ (n : ℕ). n) (weight x) (map weight xs)
+
+pub parts_cons : (p : Label × Vec Command Global) (ps : List (Label × Vec Command Global))
+    → parts_weight (p ∷ ps) ≡ part_weight p + parts_weight ps
+parts_cons p ps = sum_by-cons (λ (n : ℕ). n) (part_weight p) (map part_weight ps)
+
 -- an element weighs no more than its list
 pub one_weight : (xs : List Command) (i : ℕ) (x : Command) → i < length xs → x ≡ get_or xs i x → weight x ≤ commands_weight xs
 one_weight [] i x low is = absurd (omega arith)
-one_weight (y ∷ xs) zero x low is = let e : weight x ≡ weight y = ap weight is in omega arith
-one_weight (y ∷ xs) (suc i) x low is = let rest = one_weight xs i x (omega arith) is in omega arith
+one_weight (y ∷ xs) zero x low is = let e : weight x ≡ weight y = ap weight is in omega (arith, commands_cons y xs)
+one_weight (y ∷ xs) (suc i) x low is =
+    let rest : weight x ≤ commands_weight xs = one_weight xs i x (omega arith) is in omega (arith, commands_cons y xs)
+
+-- what an `if` chooses from weighs less than the `if`
+pub chosen_lighter : (x : Command) (at : ℕ) (test : Expr) (chosen : Box Command Global) (other : Option (Box Command Global))
+    → x ≡ command.If at test chosen other → weight chosen.value < weight x
+chosen_lighter x at test chosen None is = let e = if_weight x at test chosen is in omega (arith, e)
+chosen_lighter x at test chosen (Some other) is = let e = if_else_weight x at test chosen other is in omega (arith, e)
+
+pub other_lighter : (x : Command) (at : ℕ) (test : Expr) (chosen other : Box Command Global)
+    → x ≡ command.If at test chosen (Some other) → weight other.value < weight x
+other_lighter x at test chosen other is = let e = if_else_weight x at test chosen other is in omega (arith, e)

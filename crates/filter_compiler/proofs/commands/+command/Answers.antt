@@ -1,23 +1,26 @@
-use Rattle.std.proofs.Common.{◌≡◌, ℕ, ◌+◌, [], ◌∷◌, append_assoc, map, ap, sym, subst, ◌∙◌}
+use Rattle.std.proofs.Common.{◌≡◌, ℕ, ◌+◌, [], ◌∷◌, append_assoc, map, ap, sym, subst, ◌∙◌, arith}
 use Rattle.std.specs.Prelude.{flat_map}
 use Rattle.filter_code.specs.declared.instruction.Instr.TheVariants as instr
-use Rattle.filter_parser.specs.Syntax.{view}
-use Rattle.filter_parser.specs.SyntaxCommands.{CommandView, assign, case, commands_of, if_else, if_then, no_commands, parts_of, view_command, view_part, view_target}
+use Rattle.filter_parser.specs.Syntax.{view, view_range}
+use Rattle.filter_parser.specs.SyntaxCommands.{CommandView, PartsView, assign, case, commands_of, if_else, if_then, no_commands, parts_of, view_command, view_part, view_target}
 use Rattle.filter_parser.specs.SyntaxText.{view_filter}
 use Rattle.filter_parser.specs.declared.tree.command.Command.{Command}
 use Rattle.filter_parser.specs.declared.tree.command.Command.TheVariants as command
+use Rattle.filter_parser.specs.declared.tree.command.Label.TheVariants as label
 use Rattle.filter_parser.proofs.Views.{view_case, view_if, view_if_else}
 use Rattle.filter_compiler.specs.InstructionPlaces.{command_places, expression_places, opening_places, part_of, parts_places}
 use Rattle.filter_compiler.specs.SetOrder.{past}
-use Rattle.filter_compiler.specs.Translation.{expression_code, sets_of}
-use Rattle.filter_compiler.specs.Written.{Emits, command_part}
+use Rattle.filter_compiler.specs.Translation.{commands_code, expression_code, sets_of}
+use Rattle.filter_compiler.specs.Written.{Emits, command_part, parts_part}
 use Rattle.filter_compiler.proofs.CommandPlaces.{assign_at, block_at, case_at, if_at, if_else_at, same_labelled}
-use Rattle.filter_compiler.proofs.Cases.{labelled_case, opened_case, part_emits, ranges_emits}
+use Rattle.filter_compiler.proofs.Cases.{else_emits, labelled_case, opened_case, part_emits, ranges_emits}
+use Rattle.filter_compiler.proofs.EmittedParts.{no_parts_emit, viewed}
 use Rattle.filter_compiler.proofs.Jumps.{over}
 use Rattle.filter_compiler.proofs.Notes.{as_noted, next_notes, patch_notes, then_notes}
 use Rattle.filter_compiler.proofs.Puts.{then, then_code}
 use Rattle.filter_compiler.proofs.Trees.{command_next}
 use Rattle.filter_compiler.proofs.Views.{view_assign}
+use Rattle.filter_compiler.proofs.Weights.{one_weight}
 use Rattle.filter_compiler.proofs.commands.+command.Goals as goal
 
 pub emit_command-returns-in-None-clause-code : goal.emit_command-returns-in-None-clause-code
@@ -164,3 +167,50 @@ emit_case-returns-clause-places t c =
     (sym (same_labelled c.args.parts.now ∙ (sym c.has_labelled.ensures ∙ c.if-has_labelled.false))))
     (then_notes c.emit_part-next.ensures.places
     (patch_notes _ _ (then_notes c.put.ensures.places c.emit_parts-last.ensures.places) c.patch.ensures))
+
+pub emit_commands-emit_command-next-requires : goal.emit_commands-emit_command-next-requires
+emit_commands-emit_command-next-requires t c =
+    let low = one_weight c.args.commands.now c.loop-command.command-index c.command-item.result c.loop-command-test.true c.command-item.is in
+    (omega (arith, low, c.decreases), tt)
+
+pub emit_parts-returns-in_default-clause-code : goal.emit_parts-returns-in_default-clause-code
+emit_parts-returns-in_default-clause-code t c = λ n m counted other.
+    let d = (view_filter c.args.typed.now).decls in
+    let none : c.args.parts.now ≡ [] = ? in
+    no_parts_emit d (expression_code d n (view c.args.argument.now)) (commands_of (map view_command c.args.other.now)) m c.args.parts.now none
+    other c.emit_commands.ensures.code
+
+pub emit_parts-returns-in-Else-clause-code : goal.emit_parts-returns-in-Else-clause-code
+emit_parts-returns-in-Else-clause-code t c = λ n m counted other.
+    let d = (view_filter c.args.typed.now).decls in
+    let e = expression_code d n (view c.args.argument.now) in
+    let o = commands_code d m (commands_of (map view_command c.args.other.now)) in
+    let parts_are : c.args.parts.now ≡ c.in-Some.part.now ∷ c.in-Some.more.now = ? in
+    let is = viewed c.args.parts.now c.in-Some.part.now (label.Else c.in-Else.field-0) c.deref.result.now c.in-Some.more.now parts_are
+    c.in-Else.is c.deref.ensures.value in
+    subst (λ (ps : PartsView). Emits c.args.out.now c.emit_parts.new.out c.args.sets c.emit_parts.result (parts_part d e o ps)) (sym is)
+    (else_emits d e o (commands_of (map view_command c.deref.result.now)) (parts_of (map view_part c.in-Some.more.now))
+    c.after_commands-next.ensures
+    (λ x first.
+    subst (λ cs. Emits c.args.out.now c.emit_parts.new.out c.after_commands-next.result c.emit_parts.result
+    (parts_part d e (commands_code d x (commands_of (map view_command cs))) (parts_of (map view_part c.in-Some.more.now))))
+    (c.deref-in-Else.ensures.value ∙ sym c.deref.ensures.value) (c.emit_parts.ensures.code n x counted first)))
+
+pub emit_parts-returns-else-from-gt-INSTRUCTION_LIMIT-clause-code : goal.emit_parts-returns-else-from-gt-INSTRUCTION_LIMIT-clause-code
+emit_parts-returns-else-from-gt-INSTRUCTION_LIMIT-clause-code t c = λ n m counted other.
+    let d = (view_filter c.args.typed.now).decls in
+    let e = expression_code d n (view c.args.argument.now) in
+    let o = commands_code d m (commands_of (map view_command c.args.other.now)) in
+    let ranges = map view_range c.in-Ranges.ranges.items in
+    let body = c.deref-in-Ranges-2.result.now in
+    let parts_are : c.args.parts.now ≡ c.in-Some.part.now ∷ c.in-Some.more.now = ? in
+    let is = viewed c.args.parts.now c.in-Some.part.now (label.Ranges c.in-Ranges.ranges) body c.in-Some.more.now parts_are c.in-Ranges.is
+    c.deref-in-Ranges-2.ensures.value in
+    subst (λ (ps : PartsView). Emits c.args.out.now c.patch.new.self c.args.sets c.emit_parts-last.result (parts_part d e o ps)) (sym is)
+    (ranges_emits d e o ranges (commands_of (map view_command body)) (parts_of (map view_part c.in-Some.more.now))
+    (c.emit_part-next.ensures.code n ranges counted)
+    (over instr.Jump c.put.ensures.code (c.emit_parts-last.ensures.code n m counted other) c.distance-distance.ensures.value c.patch.ensures))
+
+pub emit_parts-returns-else-from-gt-INSTRUCTION_LIMIT-clause-places : goal.emit_parts-returns-else-from-gt-INSTRUCTION_LIMIT-clause-places
+emit_parts-returns-else-from-gt-INSTRUCTION_LIMIT-clause-places t c =
+    let h = c.in-Some in ?

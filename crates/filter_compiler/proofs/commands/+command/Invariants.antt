@@ -14,16 +14,16 @@ invariant-emit_commands-loop-command l =
     × Notes l.initial.out l.out (flat_map command_places (take l.command-index l.commands))
 
 abbrev pub decreases-emit_commands : goal.decreases-emit_commands
-decreases-emit_commands l = 1 + commands_weight l.commands
+decreases-emit_commands l = 1 + commands_weight l.commands.now
 
 abbrev pub decreases-emit_command : goal.decreases-emit_command
-decreases-emit_command l = weight l.command
+decreases-emit_command l = weight l.command.now
 
 abbrev pub decreases-emit_part : goal.decreases-emit_part
-decreases-emit_part l = 2 + commands_weight l.commands
+decreases-emit_part l = 2 + commands_weight l.commands.now
 
 abbrev pub decreases-emit_parts : goal.decreases-emit_parts
-decreases-emit_parts l = parts_weight l.parts + (2 + commands_weight l.other)
+decreases-emit_parts l = parts_weight l.parts.now + (2 + commands_weight l.other.now)
 
 abbrev pub decreases-emit_case : goal.decreases-emit_case
-decreases-emit_case l = parts_weight l.parts + 5
+decreases-emit_case l = parts_weight l.parts.now + 5
