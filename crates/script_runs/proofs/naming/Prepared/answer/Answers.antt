@@ -1,0 +1,1 @@
+use Rattle.script_runs.proofs.naming.Prepared.answer.Goals as goal
