@@ -3,6 +3,7 @@
 ghost use Rattle.std.specs.Prelude.{◌≡◌, [], ◌∷◌, IfOk, map};
 ghost use Rattle.command_line.specs.Sources.{AreNamed, AreSources, IsNamed};
 
+use crate::filter_words::{NamedFile, WrongFilter, filters_in};
 use crate::options::{
     code_option, explain_option, explained_code, filter_file, listed_file, replayed_file,
     script_file, size_option, verified_size_option,
@@ -50,6 +51,8 @@ pub struct Running {
     pub stops: bool,
     /// The name of a new file, where the router's history is kept.
     pub save: Option<String>,
+    /// The filters that the script is started with.
+    pub filters: Vec<NamedFile>,
 }
 
 /// What the program is asked to do for people.
@@ -111,7 +114,7 @@ pub enum Aid {
 }
 
 /// The source of a name: standard input for `-`.
-fn source_of(alloc: Global, name: &str) -> Result<Source, AllocError>
+pub fn source_of(alloc: Global, name: &str) -> Result<Source, AllocError>
     ensures { IfOk result (IsNamed name.now) }
 {
     if name == "-" {
@@ -237,28 +240,35 @@ pub fn script_in(
     })
 }
 
-/// What the words of `run` ask for, where they ask for more than answers.
-pub fn run_in(
+/// Whether the words of `run` ask for more than answers.
+pub fn asks_for_more(matches: &ArgMatches<'_>) -> bool {
+    matches.get_str("save").is_some()
+        || matches.get_flag("stop")
+        || matches.get_strs("filter").is_some()
+}
+
+/// What the words of `run` ask for, where they ask for more than answers; or what is wrong with the filters that they name.
+pub fn run_in<'a>(
     alloc: Global,
-    matches: &ArgMatches<'_>,
+    matches: &'a ArgMatches<'a>,
     terminals: Terminals,
-) -> Result<Option<Aid>, AllocError> {
-    let save = matches.get_str("save");
-    let stops = matches.get_flag("stop");
-    if save.is_none() && !stops {
-        return Ok(None);
-    }
+) -> Result<Result<Aid, WrongFilter<'a>>, AllocError> {
+    let filters = match filters_in(alloc, matches.get_strs("filter").unwrap_or(&[]))? {
+        Ok(filters) => filters,
+        Err(wrong) => return Ok(Err(wrong)),
+    };
     let source = source_in(alloc, matches)?;
     let is_file = source != Source::Input;
     let how = Running {
         is_explained: is_explained(Telling::read(matches), terminals.errors, is_file),
-        stops,
-        save: match save {
+        stops: matches.get_flag("stop"),
+        save: match matches.get_str("save") {
             Some(name) => Some(String::from_str(alloc, name)?),
             None => None,
         },
+        filters,
     };
-    Ok(Some(Aid::Run { how, source }))
+    Ok(Ok(Aid::Run { how, source }))
 }
 
 /// The command `domain`.

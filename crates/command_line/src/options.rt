@@ -78,6 +78,17 @@ pub fn save_option<'a>(alloc: Global) -> Arg<'a> {
     )
 }
 
+/// The filters that a script is started with.
+pub fn filter_option<'a>(alloc: Global) -> Arg<'a> {
+    Arg::new(alloc, "filter")
+        .long("filter")
+        .value_name("NAME=FILE")
+        .action(ArgAction::Append)
+        .help(
+            "Give the filter of FILE this name when the domain is set up; a run whose filter is refused ends there",
+        )
+}
+
 /// The option by which a script ends at its first refused line.
 pub fn stop_option<'a>(alloc: Global) -> Arg<'a> {
     Arg::new(alloc, "stop")

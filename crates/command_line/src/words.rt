@@ -1,11 +1,12 @@
 //! The words of the command line.
 use crate::aid_words::{
-    Aid, Engine, Source, checked_in, domain_command, explain_command, filter_command, filter_in,
-    has_files, list_command, list_in, replay_command, replay_in, run_in, script_in,
+    Aid, Engine, Source, asks_for_more, checked_in, domain_command, explain_command, filter_command,
+    filter_in, has_files, list_command, list_in, replay_command, replay_in, run_in, script_in,
 };
 use crate::classes::page_of;
+use crate::filter_words::WrongFilter;
 use crate::options::{
-    code_option, explain_option, file_option, save_option, script_file, size_option, stop_option,
+    code_option, explain_option, file_option, filter_option, save_option, script_file, size_option, stop_option,
 };
 use crate::terminals::Terminals;
 use clap::error::ErrorKind;
@@ -89,7 +90,7 @@ fn words_in<R: Eprint>(
     terminals: Terminals,
 ) -> Result<Words, AllocError> {
     if let Some(run) = matches.subcommand_matches("run") {
-        return run_words(alloc, run, terminals);
+        return run_words(rt, alloc, run, terminals);
     }
     if matches.subcommand_matches("net").is_some() {
         return Ok(Words::Network);
@@ -152,13 +153,17 @@ fn check_in(
 }
 
 /// What the words of `run` ask for.
-fn run_words(
+fn run_words<R: Eprint>(
+    rt: &R,
     alloc: Global,
     run: &ArgMatches<'_>,
     terminals: Terminals,
 ) -> Result<Words, AllocError> {
-    if let Some(aid) = run_in(alloc, run, terminals)? {
-        return Ok(Words::Aided(aid));
+    if asks_for_more(run) {
+        return match run_in(alloc, run, terminals)? {
+            Ok(aid) => Ok(Words::Aided(aid)),
+            Err(wrong) => Ok(show_wrong_filter(rt, wrong)),
+        };
     }
     let aid = script_in(alloc, Engine::Router, run, terminals)?;
     let silent = Aid::Script {
@@ -171,6 +176,19 @@ fn run_words(
     } else {
         Words::Aided(aid)
     })
+}
+
+/// Says what is wrong with a word that was to name a filter.
+fn show_wrong_filter<R: Eprint>(rt: &R, wrong: WrongFilter<'_>) -> Words {
+    let _ = match wrong {
+        WrongFilter::Word(word) => eprintln!(rt;
+            "error: '--filter {word}' is not '--filter NAME=FILE', where NAME is letters, digits and _, does not begin with a digit, and has at most 64 bytes"
+        ),
+        WrongFilter::Twice(word) => eprintln!(rt;
+            "error: '--filter {word}' gives a name that an earlier --filter gives"
+        ),
+    };
+    Words::Shown(WRONG_WORDS)
 }
 
 /// Shows what the parser of words answered in place of matches: help on standard output, or what is wrong with the words on
@@ -233,6 +251,7 @@ fn run_command<'a>(alloc: Global) -> Result<Command<'a>, AllocError> {
     Command::new(alloc, "run")
         .about("Run a router by a script of commands, and answer each of them")
         .after_help(RUN_HELP)
+        .arg(filter_option(alloc))?
         .arg(save_option(alloc))?
         .arg(stop_option(alloc))?
         .arg(explain_option(alloc))?

@@ -1,3 +1,4 @@
+pub mod Filters
 pub mod Guiding
 pub mod Helping
 pub mod Networking

@@ -3,6 +3,7 @@
 #![tactic(auto)]
 
 mod aid;
+mod filters;
 mod guided;
 mod network;
 mod replay;
