@@ -2,6 +2,8 @@
 #![tactic(auto)]
 
 #[cfg(test)]
+mod filters_tests;
+#[cfg(test)]
 mod look_tests;
 #[cfg(test)]
 mod read_command_tests;
