@@ -12,15 +12,17 @@ use Rattle.ncroute.specs.Serving.{FailsToReport, Serves, fault_line}
 use Rattle.ncroute.specs.Streaming.{Streams}
 
 -- What was asked for was served, with its status; where standard error did not take all that it was to be told, the status is that
--- of a fault. Words that were shown something have their status, and nothing else is done.
-abbrev pub Responds : (List ℕ → Result (Option (List ℕ)) Error → Type 0) → Result Words StreamFault → Streams → Streams → ℕ → Type 0
-Responds opens (Ok (Asked request)) before after status = IfSome before.reads (λ input.
+-- of a fault. Words that were shown something have their status, and nothing else is done. `opens name` and `creates name` say what may
+-- come of opening and of making a file of this name.
+abbrev pub Responds : (List ℕ → Result (Option (List ℕ)) Error → Type 0) → (List ℕ → Result (Option (List ℕ)) Error → Type 0)
+    → Result Words StreamFault → Streams → Streams → ℕ → Type 0
+Responds opens creates (Ok (Asked request)) before after status = IfSome before.reads (λ input.
     Serves request input after.reads before.holds after.holds before.tells after.tells status
     ⊎ (FailsToReport request input after.reads before.holds after.holds before.tells after.tells × (status ≡ 1)))
-Responds opens (Ok Network) before after status = ServesNetwork before.holds after.holds before.tells after.tells status
+Responds opens creates (Ok Network) before after status = ServesNetwork before.holds after.holds before.tells after.tells status
     ⊎ (FailsToReportNetwork before.holds after.holds before.tells after.tells × (status ≡ 1))
-Responds opens (Ok (Aided what)) before after status = ServesPeople opens what before after status
-    ⊎ (FailsToTell opens what before after × (status ≡ fault_status what))
-Responds opens (Ok (Shown shown)) before after status = (status ≡ shown) × (after ≡ before)
-Responds opens (Err fault) before after status = (status ≡ 1) × (after.reads ≡ before.reads) × (after.holds ≡ before.holds)
+Responds opens creates (Ok (Aided what)) before after status = ServesPeople opens creates what before after status
+    ⊎ (FailsToTell opens creates what before after × (status ≡ fault_status what))
+Responds opens creates (Ok (Shown shown)) before after status = (status ≡ shown) × (after ≡ before)
+Responds opens creates (Err fault) before after status = (status ≡ 1) × (after.reads ≡ before.reads) × (after.holds ≡ before.holds)
     × AppendsFront before.tells after.tells (fault_line (Stream fault))

@@ -66,10 +66,10 @@ fn status_of_aid<F: Folder, R: Read, W: Write, E: Write>(
     writer: &mut W,
     errors: &mut E,
 ) -> u8
-    ensures { ServesPeople (F.opens files.now) aid.now
+    ensures { ServesPeople (F.opens files.now) (F.creates files.now) aid.now
         (record { reads = R.remaining reader.old; holds = W.contents writer.old; tells = E.contents errors.old })
         (record { reads = R.remaining reader.new; holds = W.contents writer.new; tells = E.contents errors.new }) result
-        ⊎ (FailsToTell (F.opens files.now) aid.now
+        ⊎ (FailsToTell (F.opens files.now) (F.creates files.now) aid.now
         (record { reads = R.remaining reader.old; holds = W.contents writer.old; tells = E.contents errors.old })
         (record { reads = R.remaining reader.new; holds = W.contents writer.new; tells = E.contents errors.new })
         × (result ≡ fault_status aid.now)) }
@@ -98,7 +98,7 @@ pub fn respond<R: Threads + Wait + Clock + Sync + Folder, I: Read, W: Write, E: 
     writer: &mut W,
     errors: &mut E,
 ) -> u8
-    ensures { Responds (R.opens rt.now) words
+    ensures { Responds (R.opens rt.now) (R.creates rt.now) words
         (record { reads = I.remaining reader.old; holds = W.contents writer.old; tells = E.contents errors.old })
         (record { reads = I.remaining reader.new; holds = W.contents writer.new; tells = E.contents errors.new }) result }
 {
