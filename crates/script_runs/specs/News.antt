@@ -1,5 +1,7 @@
 -- What a line added to the text of a history, and what is told of its end.
 use Rattle.std.specs.Prelude.{◌≡◌, ◌⊎◌, ℕ, List, [], ◌∷◌, ◌++◌, length, Option, Some, None, Result, Ok, Err, slice_get, take}
+use Rattle.filter_source.specs.declared.failure.Failure.{Failure}
+use Rattle.filter_source.specs.declared.failure.Failure.TheVariants as failure
 use Rattle.history_file.specs.Text.{entry_line, opening_line}
 use Rattle.history_file.specs.Views.{entry_view}
 use Rattle.line_protocol.specs.declared.answers.Reply.{Reply}
@@ -41,3 +43,8 @@ IsToldOf ended told = (told ≡ ended) ⊎ ((ended ≡ Err Memory) × (told ≡ 
 abbrev pub Tells : Option Unfit → ℕ → Reply → List ℕ → List ℕ → Reply → Type 0
 Tells None begun reply before after given = (after ≡ before) × (given ≡ reply)
 Tells (Some unfit) begun reply before after given = (after ≡ take begun before) × (given ≡ Ended)
+
+-- the filter at a place that was not verified is refused; refused memory is no refusal
+abbrev pub IsFailureAt : ℕ → Failure → Option Unfit → Type 0
+IsFailureAt index (failure.Refused told) unfit = unfit ≡ Some (record { index = index; told = told })
+IsFailureAt index failure.Memory unfit = ⊥

@@ -58,6 +58,16 @@ fn give_name(
     script.set_filter(alloc, name, Arc::new(alloc, filter)?)
 }
 
+/// The filter at a place that was not verified, if it is refused.
+fn unfit_at(index: usize, failure: Failure) -> Result<Option<Unfit>, AllocError>
+    ensures { IfOk result (news.IsFailureAt index failure) }
+{
+    match failure {
+        Failure::Refused(told) => Ok(Some(Unfit { index, told })),
+        Failure::Memory => Err(AllocError),
+    }
+}
+
 /// Verifies each of some filters for domains of a size, and gives it its name, up to the first that is refused, which is returned.
 fn name_filters(
     alloc: Global,
@@ -71,8 +81,7 @@ fn name_filters(
         let named = &filters[index];
         match verify_text(alloc, named.text.as_slice(), size) {
             Ok(filter) => give_name(alloc, script, named.name.as_slice(), filter)?,
-            Err(Failure::Refused(told)) => return Ok(Some(Unfit { index, told })),
-            Err(Failure::Memory) => return Err(AllocError),
+            Err(failure) => return unfit_at(index, failure),
         }
     }
     Ok(None)

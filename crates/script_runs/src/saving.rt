@@ -155,8 +155,8 @@ impl<'a, V: Write + Drop, S: Watch + Drop> Saving<'a, V, S> {
         ended: Result<u32, ScriptFault>,
     ) -> (Result<u32, ScriptFault>, V, Option<Unfit>)
         ensures told { spec.IsToldOf ended result.0 }
-        ensures saver { result.1 ≡ self.saver }
-        ensures unfit { result.2 ≡ (prepared_of self.prepared).unfit }
+        ensures saver { result.1 ≡ self.entry.saver }
+        ensures unfit { result.2 ≡ (prepared_of self.entry.prepared).unfit }
     {
         let Saving {
             prepared,
