@@ -60,13 +60,15 @@ pub fn filters_in<'a>(
 {
     let mut filters = Vec::new(alloc);
     for word in words {
-        let Some(named) = filter_of(alloc, word)? else {
-            return Ok(Err(WrongFilter::Word(word)));
-        };
-        if has_name(filters.as_slice(), named.name.as_str()) {
-            return Ok(Err(WrongFilter::Twice(word)));
+        match filter_of(alloc, word)? {
+            None => return Ok(Err(WrongFilter::Word(word))),
+            Some(named) => {
+                if has_name(filters.as_slice(), named.name.as_str()) {
+                    return Ok(Err(WrongFilter::Twice(word)));
+                }
+                filters.push(named)?;
+            }
         }
-        filters.push(named)?;
     }
     Ok(Ok(filters))
 }
