@@ -36,7 +36,7 @@ Reads word found = MatchOption found (names_filter word ≡ false) (IsFilterWord
 
 module _ (words : Words) (n : ℕ) (d : Bor (List ℕ)) (earlier : List NamedFile) (within : n < length words)
     (first : NameFirst (texts words) n earlier) where
-  word : Bor (List ℕ)
+  abbrev word : Bor (List ℕ)
   word = get_or words n d
 
   is_word : slice_get (texts words) n ≡ Some word.now
@@ -62,16 +62,16 @@ module _ (words : Words) (n : ℕ) (d : Bor (List ℕ)) (earlier : List NamedFil
     same = ap (λ (l : List NamedFile). has_name l name) is_before ∙ ap (has_name earlier) (is_name ∙ names.name)
 
     pub names_twice : (r : Bool) → r ≡ has_name before name → r ≡ true → HasWrong (texts words) (Twice (get_or words n d))
-    names_twice r is yes = record {
+    names_twice r is holds = record {
       n = n;
       word = word.now;
       is_word = is_word;
       earlier = earlier;
       first = first;
-      is_wrong = (refl, names.names, sym same ∙ sym is ∙ yes);
+      is_wrong = (refl, names.names, sym same ∙ sym is ∙ holds);
     }
 
     pub names_more : (r : Bool) (later : List NamedFile) → r ≡ has_name before name → r ≡ false → later ≡ earlier ++ named ∷ []
         → NameFirst (texts words) (n + 1) later
-    names_more r later is no grown =
-        next_filter (texts words) n word.now earlier later named is_word first names (sym same ∙ sym is ∙ no) grown
+    names_more r later is fails grown =
+        next_filter (texts words) n word.now earlier later named is_word first names (sym same ∙ sym is ∙ fails) grown

@@ -71,9 +71,14 @@ pub stopped_at : {E : Type 0} (size : ℕ) (xs : List NamedFilter) (i : ℕ) (x 
     → GetNames size (take i xs) a b → OnRefusal (IsRefusedBy (GivesText text) (IsRefusedText text) size) why
     → IfOk r (IsFailureAt i why) → IfOk r (λ unfit. AreNamed size xs unfit a b)
 stopped_at size xs i x text a b (failure.Refused told) (Ok unfit) within is is_text names refused h =
-    subst (λ (u : Option Unfit). AreNamed size xs u a b) (sym h)
-    ((x, slice_get_read xs (length xs) i x refl within is,
-    subst (λ (t : List ℕ). IsRefusedBy (GivesText t) (IsRefusedText t) size told.refusal) is_text refused), names)
+    subst (λ (u : Option Unfit). AreNamed size xs u a b) (sym h) (
+      (
+        x,
+        slice_get_read xs (length xs) i x refl within is,
+        subst (λ (t : List ℕ). IsRefusedBy (GivesText t) (IsRefusedText t) size told.refusal) is_text refused,
+      ),
+      names,
+    )
 stopped_at size xs i x text a b failure.Memory (Ok unfit) within is is_text names refused h = absurd h
 stopped_at size xs i x text a b why (Err e) within is is_text names refused h = tt
 

@@ -150,10 +150,7 @@ impl<'a, V: Write + Drop, S: Watch + Drop> Saving<'a, V, S> {
     }
 
     /// What is told of the end of the run, the saver, and the filter that was refused.
-    fn finish(
-        self,
-        ended: Result<u32, ScriptFault>,
-    ) -> (Result<u32, ScriptFault>, V, Option<Unfit>)
+    fn finish(self, ended: Result<u32, ScriptFault>) -> (Result<u32, ScriptFault>, V, Option<Unfit>)
         ensures told { spec.IsToldOf ended result.0 }
         ensures saver { result.1 ≡ self.entry.saver }
         ensures unfit { result.2 ≡ (prepared_of self.entry.prepared).unfit }

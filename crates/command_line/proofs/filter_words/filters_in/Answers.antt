@@ -26,4 +26,4 @@ loop-word-preserved c =
     names_more c.args.words.now c.loop-word.word-index _ c.loop-word.filters.items c.loop-word-test.true c.loop-word.invariant
     c.in_ok-filter_of.field-0 c.in-Some.named c.in_ok-filter_of.ensures c.in-Some.is c.as_slice.result.now c.as_str.result.now
     c.as_slice.ensures.value c.as_str.ensures.value c.has_name.result c.push.new.self.items c.has_name.ensures c.if-has_name.false
-    c.in_ok-push.ensures.items
+    c.in_ok-push-in-Some.ensures.items
