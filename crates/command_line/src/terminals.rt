@@ -30,9 +30,9 @@ fn reads_input(words: &Words) -> bool {
         Words::Aided(Aid::Run { how, source }) => {
             *source == Source::Input || reads_filter(how.filters.as_slice())
         }
-        Words::Aided(Aid::List { source, .. } | Aid::Replay { source } | Aid::Script { source, .. }) => {
-            *source == Source::Input
-        }
+        Words::Aided(
+            Aid::List { source, .. } | Aid::Replay { source } | Aid::Script { source, .. },
+        ) => { *source == Source::Input }
         Words::Aided(Aid::Filter { .. }) => true,
         Words::Aided(Aid::Explain { .. }) | Words::Network | Words::Shown(_) => false,
     }

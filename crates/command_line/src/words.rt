@@ -1,12 +1,14 @@
 //! The words of the command line.
 use crate::aid_words::{
-    Aid, Engine, Source, asks_for_more, checked_in, domain_command, explain_command, filter_command,
-    filter_in, has_files, list_command, list_in, replay_command, replay_in, run_in, script_in,
+    Aid, Engine, Source, asks_for_more, checked_in, domain_command, explain_command,
+    filter_command, filter_in, has_files, list_command, list_in, replay_command, replay_in, run_in,
+    script_in,
 };
 use crate::classes::page_of;
 use crate::filter_words::WrongFilter;
 use crate::options::{
-    code_option, explain_option, file_option, filter_option, save_option, script_file, size_option, stop_option,
+    code_option, explain_option, file_option, filter_option, save_option, script_file, size_option,
+    stop_option,
 };
 use crate::terminals::Terminals;
 use clap::error::ErrorKind;
