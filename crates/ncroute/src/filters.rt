@@ -67,14 +67,15 @@ pub fn read_filters<'a, F: Folder, R: Read>(
     for file in named {
         let source = &file.source;
         match read_filter(files, alloc, file, reader) {
-            Ok(filter) => {
-                if filters.push(filter).is_err() {
+            Ok(filter) => match filters.push(filter) {
+                Ok(()) => {}
+                Err(_) => {
                     return Err(UnreadFilter {
                         source,
                         why: Unread::Memory,
                     });
                 }
-            }
+            },
             Err(why) => return Err(UnreadFilter { source, why }),
         }
     }

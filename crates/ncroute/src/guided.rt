@@ -122,7 +122,17 @@ fn guide_script<F: Folder, R: Read, W: Write, E: Write>(
                 Ok(FAILED)
             }
         },
-        None => save_to(alloc, how, name, filters, io::sink(), reader, writer, errors).0,
+        None => save_to(
+            alloc,
+            how,
+            name,
+            filters,
+            io::sink(),
+            reader,
+            writer,
+            errors,
+        )
+        .0,
     }
 }
 

@@ -235,11 +235,7 @@ fn long_line(alloc: Global, source: &Source) -> Result<Vec<u8>, AllocError>
 }
 
 /// Tells that the text of a filter is longer than its limit.
-fn tell_long<E: Write>(
-    alloc: Global,
-    errors: &mut E,
-    source: &Source,
-) -> Result<(), ProgramFault>
+fn tell_long<E: Write>(alloc: Global, errors: &mut E, source: &Source) -> Result<(), ProgramFault>
     ensures ok { OnOk result (Appends (E.contents errors.old) (E.contents errors.new) (long_line source.now)) }
     ensures err { IfErr result (λ fault.
         IsCut (stream_fault fault) (E.contents errors.old) (E.contents errors.new) (long_line source.now)) }
