@@ -1,12 +1,13 @@
 -- How the filters that a script is started with are read, one after another.
-use Rattle.std.proofs.Common.{◌≡◌, ℕ, ◌+◌, ◌++◌, List, [], ◌∷◌, Option, Some, Result, refl, inl, add-one}
-use Rattle.std.specs.Prelude.{slice_get}
+use Rattle.std.proofs.Common.{◌≡◌, ◌⊎◌, ℕ, ◌+◌, ◌++◌, List, [], ◌∷◌, Option, Some, Result, Ok, Err, IfErr, refl, inl, add-one}
+use Rattle.std.specs.Prelude.{OnOk, slice_get}
 use Rattle.std.specs.declared.io.Error.{Error}
 use Rattle.script_runs.specs.declared.naming.NamedFilter.{NamedFilter}
 use Rattle.command_line.specs.declared.aid_words.Source.{Source}
 use Rattle.command_line.specs.declared.filter_words.NamedFile.{NamedFile}
 use Rattle.ncroute.specs.Filters.{LeavesFilter, ReadsFilter, ReadsFirst, StopsAtFilter}
 use Rattle.ncroute.specs.declared.texts.Unread.{Unread}
+use Rattle.ncroute.specs.declared.texts.Unread.TheVariants as unread
 
 module _ (opens : List ℕ → Result (Option (List ℕ)) Error → Type 0) (files : List NamedFile) where
   pub none_read : (known : Option (List ℕ)) → ReadsFirst opens files 0 [] known known
@@ -34,3 +35,15 @@ module _ (opens : List ℕ → Result (Option (List ℕ)) Error → Type 0) (fil
     first = first;
     leaves = leaves;
   }
+
+-- a filter that was read, and then added
+pub added : {A E : Type 0} {Reads Grows : NamedFilter → Type 0} (filter : NamedFilter) → Reads filter → (r : Result A E)
+    → OnOk r (Grows filter) → OnOk r ((f : NamedFilter) × Reads f × Grows f)
+added filter reads (Ok x) h = (filter, reads, h)
+added filter reads (Err e) h = tt
+
+-- memory that is refused is one cause
+pub left : {A : Type 0} {Others : Unread → Type 0} (r : Result A Unread) → IfErr r (λ why. why ≡ unread.Memory)
+    → IfErr r (λ why. (why ≡ unread.Memory) ⊎ Others why)
+left (Ok x) h = tt
+left (Err why) h = inl h

@@ -2,4 +2,3 @@ pub mod Sources
 pub mod Tried
 pub mod Untold
 mod FiltersRead
-mod Guided

@@ -61,7 +61,10 @@ TellsUnfit filters None told tells = tells ≡ told
 TellsUnfit filters (Some unfit) told tells = TellsOfFilter (slice_get filters unfit.index) unfit.told told tells
 
 -- A fault cut what was told of a filter.
+abbrev pub IsCutFilter : StreamFault → Option NamedFilter → Diagnosis → Option (List ℕ) → Option (List ℕ) → Type 0
+IsCutFilter fault None why told tells = ⊥
+IsCutFilter fault (Some filter) why told tells = IsCutExplanation fault filter.origin.items filter.text.items why told tells
+
 abbrev pub IsCutUnfit : StreamFault → List NamedFilter → Option Unfit → Option (List ℕ) → Option (List ℕ) → Type 0
 IsCutUnfit fault filters None told tells = ⊥
-IsCutUnfit fault filters (Some unfit) told tells = (filter : NamedFilter) × (slice_get filters unfit.index ≡ Some filter)
-    × IsCutExplanation fault filter.origin.items filter.text.items unfit.told told tells
+IsCutUnfit fault filters (Some unfit) told tells = IsCutFilter fault (slice_get filters unfit.index) unfit.told told tells

@@ -1,10 +1,8 @@
 //! The script of a router whose history is kept in a file, that is started with filters, or that ends at its first refused line.
 ghost use Rattle.std.specs.Prelude.{◌≡◌, ◌||◌, IfErr, IfOk, IfSome};
 ghost use Rattle.filter_commands.specs.Faults.{stream_fault};
-ghost use Rattle.ncroute.specs.Filters.{IsCutUnfit, TellsUnfit};
 ghost use Rattle.ncroute.specs.Guiding.{GuidesScript, RunsGuided, RunsNamed, RunsSaved, StopsGuided, StopsNamed, StopsRun, StopsSaved};
 ghost use Rattle.ncroute.specs.Scripts.{IsQuiet};
-ghost use Rattle.ncroute.specs.Serving.{status_of};
 ghost use Rattle.script_runs.specs.Running.{IsSaved, IsSavedInPart};
 
 use crate::filters::{read_filters, tell_unfit};
@@ -53,24 +51,6 @@ fn answer<R: Read, W: Write, V: Write + Drop, E: Write>(
     }
 }
 
-/// Tells why a filter is refused, if one is, and returns the exit status of a script with so many refused lines.
-fn end<E: Write>(
-    alloc: Global,
-    errors: &mut E,
-    filters: &[NamedFilter],
-    unfit: &Option<Unfit>,
-    refused: u32,
-) -> Result<u8, ProgramFault>
-    ensures finished { IfOk result (λ status. TellsUnfit filters.now unfit.now (E.contents errors.old) (E.contents errors.new)
-        × (status ≡ status_of refused)) }
-    ensures cut { IfErr result (λ fault. IsCutUnfit (stream_fault fault) filters.now unfit.now (E.contents errors.old) (E.contents errors.new)) }
-{
-    match tell_unfit(alloc, errors, filters, unfit) {
-        Ok(()) => Ok(status_of(refused)),
-        Err(fault) => Err(fault),
-    }
-}
-
 /// Carries out a script whose history goes to a saver. Returns the exit status, and the saver.
 fn save_to<R: Read, W: Write, V: Write + Drop, E: Write>(
     alloc: Global,
@@ -91,7 +71,10 @@ fn save_to<R: Read, W: Write, V: Write + Drop, E: Write>(
 {
     let (ended, saver, unfit) = answer(alloc, how, name, filters, saver, reader, writer, errors);
     match ended {
-        Ok(refused) => (end(alloc, errors, filters, &unfit, refused), saver),
+        Ok(refused) => match tell_unfit(alloc, errors, filters, &unfit) {
+            Ok(()) => (Ok(status_of(refused)), saver),
+            Err(fault) => (Err(fault), saver),
+        },
         Err(fault) => (Err(ProgramFault::Stream(fault)), saver),
     }
 }
