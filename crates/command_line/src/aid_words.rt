@@ -250,7 +250,7 @@ pub fn asks_for_more(matches: &ArgMatches<'_>) -> bool {
 /// What the words of `run` ask for, where they ask for more than answers; or what is wrong with the filters that they name.
 pub fn run_in<'a>(
     alloc: Global,
-    matches: &'a ArgMatches<'a>,
+    matches: &ArgMatches<'a>,
     terminals: Terminals,
 ) -> Result<Result<Aid, WrongFilter<'a>>, AllocError> {
     let filters = match filters_in(alloc, matches.get_strs("filter").unwrap_or(&[]))? {
