@@ -127,9 +127,9 @@ fn tell_filter<E: Write>(
     filter: Option<&NamedFilter>,
     told: &Diagnosis,
 ) -> Result<(), ProgramFault>
-    ensures ok { OnOk result (TellsOfFilter (option_map (λ filter. filter.now) filter) told.now
+    ensures ok { OnOk result (TellsOfFilter (option_map (λ filter. filter.now) filter.entry) told.now
         (E.contents errors.old) (E.contents errors.new)) }
-    ensures err { IfErr result (λ fault. IsCutFilter (stream_fault fault) (option_map (λ filter. filter.now) filter) told.now
+    ensures err { IfErr result (λ fault. IsCutFilter (stream_fault fault) (option_map (λ filter. filter.now) filter.entry) told.now
         (E.contents errors.old) (E.contents errors.new)) }
 {
     match filter {
