@@ -19,7 +19,7 @@ fn has_input(sources: &[Source]) -> bool {
 /// Whether what is asked for reads standard input.
 fn reads_input(words: &Words) -> bool {
     match words {
-        Words::Asked(_) => true,
+        Words::Asked(_) | Words::Router(_) => true,
         Words::Aided(Aid::Check { sources, .. }) => has_input(sources.as_slice()),
         Words::Aided(
             Aid::List { source, .. }

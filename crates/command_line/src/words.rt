@@ -7,6 +7,7 @@ use crate::classes::page_of;
 use crate::options::{
     code_option, explain_option, file_option, save_option, script_file, size_option, stop_option,
 };
+use crate::router_words::{RouterWords, router_command, router_in};
 use crate::terminals::Terminals;
 use clap::error::ErrorKind;
 use clap::{ArgMatches, Command, Error};
@@ -45,6 +46,8 @@ pub enum Words {
     Asked(Request),
     /// They ask for the network of routers.
     Network,
+    /// They ask for a router that talks to its neighbours.
+    Router(RouterWords),
     /// They ask for this, which helps people.
     Aided(Aid),
     /// Help, or what is wrong with them, was shown. The program ends with this status.
@@ -109,6 +112,9 @@ fn words_in<R: Eprint>(
     if let Some(replay) = matches.subcommand_matches("replay") {
         return Ok(Words::Aided(replay_in(alloc, replay)?));
     }
+    if let Some(router) = matches.subcommand_matches("router") {
+        return router_words(alloc, router);
+    }
     let Some(check) = matches.subcommand_matches("check") else {
         return Ok(Words::Asked(Request::Eval));
     };
@@ -129,6 +135,14 @@ fn filter_words<R: Eprint>(
         "error: the routes come from standard input, so the filter has to be in a file"
     );
     Ok(Words::Shown(WRONG_WORDS))
+}
+
+/// What the words of `router` ask for.
+fn router_words(alloc: Global, router: &ArgMatches<'_>) -> Result<Words, AllocError> {
+    Ok(match router_in(alloc, router)? {
+        Some(words) => Words::Router(words),
+        None => Words::Shown(WRONG_WORDS),
+    })
 }
 
 /// What the words of `check` ask for.
@@ -224,6 +238,7 @@ fn command<'a>(alloc: Global) -> Result<Command<'a>, AllocError> {
         .subcommand(filter_command(alloc)?)?
         .subcommand(list_command(alloc)?)?
         .subcommand(replay_command(alloc)?)?
+        .subcommand(router_command(alloc, save_option(alloc))?)?
         .subcommand(run_command(alloc)?)?
         .subcommand(net)
 }

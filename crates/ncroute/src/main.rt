@@ -7,6 +7,7 @@ mod guided;
 mod network;
 mod replay;
 mod respond;
+mod router;
 mod script;
 mod serve;
 #[cfg(test)]
@@ -32,5 +33,5 @@ fn main(rt: HostRuntime) -> ExitCode {
     {
         tell_that_input_is_read(&rt);
     }
-    ExitCode::from(respond(&rt, rt.alloc(), words, reader, writer, errors))
+    ExitCode::from(respond(&rt, &rt, rt.alloc(), words, reader, writer, errors))
 }

@@ -9,6 +9,7 @@ ghost use Rattle.ncroute.specs.Serving.{FailsToReport, Serves, fault_line};
 
 use crate::aid::{fault_status, serve_people};
 use crate::network::serve_network;
+use crate::router::serve_router;
 use crate::serve::{FAILED, report_fault, serve};
 use crate::texts::Folder;
 use command_line::{Aid, Request, Words};
@@ -16,7 +17,7 @@ use filter_commands::ProgramFault;
 use line_protocol::StreamFault;
 use std::alloc::Global;
 use std::io::{Read, Write};
-use std::rt::Clock;
+use std::rt::{Clock, Files};
 use std::sync::Wait;
 use std::thread::Threads;
 
@@ -89,15 +90,24 @@ fn status_of_fault<E: Write>(errors: &mut E, fault: StreamFault) -> u8
     FAILED
 }
 
-/// Does what the words of the command line ask for, and returns the exit status.
-pub fn respond<R: Threads + Wait + Clock + Sync + Folder, I: Read, W: Write, E: Write>(
+/// Does what the words of the command line ask for, and returns the exit status. A router that talks starts its threads with `handle`.
+pub fn respond<
+    R: Threads + Wait + Clock + Sync + Folder,
+    H: Threads + Wait + Clock + Files + Eprint + Copy + Send + Drop + 'static,
+    I: Read,
+    W: Write,
+    E: Write,
+>(
     rt: &R,
+    handle: &H,
     alloc: Global,
     words: Result<Words, StreamFault>,
     reader: &mut I,
     writer: &mut W,
     errors: &mut E,
 ) -> u8
+where
+    H::File: Send + 'static,
     ensures { Responds (R.opens rt.now) words
         (record { reads = I.remaining reader.old; holds = W.contents writer.old; tells = E.contents errors.old })
         (record { reads = I.remaining reader.new; holds = W.contents writer.new; tells = E.contents errors.new }) result }
@@ -105,6 +115,7 @@ pub fn respond<R: Threads + Wait + Clock + Sync + Folder, I: Read, W: Write, E: 
     match words {
         Ok(Words::Asked(request)) => status_of_request(alloc, request, reader, writer, errors),
         Ok(Words::Network) => status_of_network(rt, alloc, writer, errors),
+        Ok(Words::Router(words)) => serve_router(handle, alloc, &words, reader, writer, errors),
         Ok(Words::Aided(aid)) => status_of_aid(rt, alloc, &aid, reader, writer, errors),
         Ok(Words::Shown(status)) => status,
         Err(fault) => status_of_fault(errors, fault),

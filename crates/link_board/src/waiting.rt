@@ -1,0 +1,41 @@
+//! Whether something waits for a neighbour, as the answers of a router tell.
+
+/// Whether something waits in a router's queue for one neighbour, as far as the router's answers are known.
+///
+/// Answers come in any order: what counts is the last position whose answer queued something, and the last one whose Take left the
+/// queue empty. So an answer that is known late, or twice, does no harm.
+#[derive(Clone, Copy, Debug, PartialEq, Eq)]
+pub struct Waiting {
+    /// How many entries the history had with the last one that queued something; 0 where none did.
+    queued: u32,
+    /// How many it had with the last Take that left nothing in the queue; 0 where none did.
+    emptied: u32,
+}
+
+impl Waiting {
+    /// Nothing waits.
+    pub fn new() -> Waiting {
+        Waiting {
+            queued: 0,
+            emptied: 0,
+        }
+    }
+
+    /// The entry at this position queued something.
+    pub fn note_queued(&mut self, at: u32) {
+        self.queued = self.queued.max(at.saturating_add(1));
+    }
+
+    /// The entry at this position is a Take of at most `most` messages, and brought `taken` of them. One that brought fewer left
+    /// nothing.
+    pub fn note_taken(&mut self, at: u32, taken: usize, most: usize) {
+        if taken < most {
+            self.emptied = self.emptied.max(at.saturating_add(1));
+        }
+    }
+
+    /// Whether something may wait. Where all answers are known and it does not, the queue is empty.
+    pub fn is_some(self) -> bool {
+        self.emptied < self.queued
+    }
+}

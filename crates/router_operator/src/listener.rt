@@ -1,0 +1,17 @@
+//! Who is told of an operator's calls.
+
+use slot_lock::Answer;
+use std::rt::Clock;
+use std::sync::Wait;
+
+/// Who is told of the answers to an operator's calls, and knows which nodes have links.
+pub trait Listener {
+    /// Whether a node has a link, which brings it up and down.
+    fn has_link<R: Wait + Clock>(&self, rt: &R, node: u16) -> bool;
+
+    /// A call was answered.
+    fn answered<R: Wait + Clock>(&self, rt: &R, answer: &Answer);
+
+    /// A call that set the export filter of a node was answered. If it is up, its queue has all distances again.
+    fn exported<R: Wait + Clock>(&self, rt: &R, node: u16, answer: &Answer);
+}
