@@ -29,7 +29,7 @@ pub trait Crew: Gate {
 /// Who starts a writer for each session of a link.
 pub trait Starter<O: Write> {
     /// Who serves the session.
-    type Crew: Crew;
+    type Crew: Crew + Drop;
 
     /// A session began, with this answer to its Up. Who writes to the neighbour begins, with the pass. None where a session is there
     /// already, the router is being closed, or nobody can be started: then the session is over, and nobody has entered its Down.

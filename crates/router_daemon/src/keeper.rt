@@ -34,6 +34,7 @@ fn open_output<R: Files>(rt: &R, name: &str) -> io::Result<R::File> {
 }
 
 /// Which file of a link was not opened, and why.
+#[derive(Drop)]
 struct Unopened<'a> {
     name: &'a str,
     why: io::Error,

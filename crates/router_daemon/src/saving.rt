@@ -35,7 +35,7 @@ fn tell<R: Wait + Eprint>(rt: &R, alloc: Global, shared: &Shared, fault: SaveFau
 }
 
 /// Saves the history as it is made, until the router is closed or saving fails.
-pub(crate) fn save_history<R: Wait + Clock + Eprint, V: Write>(
+pub(crate) fn save_history<R: Wait + Clock + Eprint + Drop, V: Write + Drop>(
     rt: R,
     alloc: Global,
     shared: Arc<Shared>,
