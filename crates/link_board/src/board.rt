@@ -1,20 +1,7 @@
 //! What those who serve links know together.
 
-use crate::waiting::Waiting;
+use crate::link::Link;
 use std::alloc::{AllocError, Global};
-
-/// A link, between two of its sessions or in one.
-#[derive(Clone, Copy, Debug)]
-struct Link {
-    /// The neighbour that it leads to.
-    node: u16,
-    /// The session that is there; none where none is, or the last one is over.
-    session: Option<u32>,
-    /// Whether something waits for the neighbour.
-    waiting: Waiting,
-    /// Its writer sleeps until something waits.
-    is_asleep: bool,
-}
 
 /// What those who serve the links of one router know together.
 ///
@@ -35,12 +22,7 @@ impl Board {
     pub fn new(alloc: Global, nodes: &[u16]) -> Result<Board, AllocError> {
         let mut links = Vec::with_capacity(alloc, nodes.len())?;
         for node in nodes {
-            links.push(Link {
-                node: *node,
-                session: None,
-                waiting: Waiting::new(),
-                is_asleep: false,
-            })?;
+            links.push(Link::to(*node))?;
         }
         Ok(Board {
             links,
@@ -56,27 +38,18 @@ impl Board {
         if self.is_closing {
             return false;
         }
-        let Some(link) = self.links.get_mut(index) else {
-            return false;
-        };
-        if link.session.is_some() {
-            return false;
+        match self.links.get_mut(index) {
+            Some(link) => link.begin(session, at),
+            None => false,
         }
-        link.session = Some(session);
-        link.waiting.note_queued(at);
-        true
     }
 
     /// Ends a session of a link: true for the first who does.
     pub fn end(&mut self, index: usize, session: u32) -> bool {
-        let Some(link) = self.links.get_mut(index) else {
-            return false;
-        };
-        if link.session != Some(session) {
-            return false;
+        match self.links.get_mut(index) {
+            Some(link) => link.end(session),
+            None => false,
         }
-        link.session = None;
-        true
     }
 
     /// Ends the session of a link, if one is there, and says which.
@@ -153,14 +126,10 @@ impl Board {
 
     /// Whether the writer of a link is to be woken: it sleeps, and something waits or its session is over. It counts as awake then.
     pub fn wakes(&mut self, index: usize) -> bool {
-        let Some(link) = self.links.get_mut(index) else {
-            return false;
-        };
-        let wakes = link.is_asleep && (link.waiting.is_some() || link.session.is_none());
-        if wakes {
-            link.is_asleep = false;
+        match self.links.get_mut(index) {
+            Some(link) => link.wakes(),
+            None => false,
         }
-        wakes
     }
 
     /// Who saves the history has saved so many entries, and is about to sleep. False where there is more to save, or the router is

@@ -3,7 +3,9 @@
 #![tactic(auto)]
 
 mod board;
+mod link;
 mod waiting;
 
 pub use board::Board;
+pub use link::Link;
 pub use waiting::Waiting;

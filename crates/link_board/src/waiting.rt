@@ -1,4 +1,6 @@
 //! Whether something waits for a neighbour, as the answers of a router tell.
+ghost use Rattle.std.specs.Prelude.{◌≡◌};
+ghost use Rattle.link_board.specs.Steps as spec;
 
 /// Whether something waits in a router's queue for one neighbour, as far as the router's answers are known.
 ///
@@ -7,14 +9,16 @@
 #[derive(Clone, Copy, Debug, PartialEq, Eq)]
 pub struct Waiting {
     /// How many entries the history had with the last one that queued something; 0 where none did.
-    queued: u32,
+    pub queued: u64,
     /// How many it had with the last Take that left nothing in the queue; 0 where none did.
-    emptied: u32,
+    pub emptied: u64,
 }
 
 impl Waiting {
     /// Nothing waits.
-    pub fn new() -> Waiting {
+    pub fn new() -> Waiting
+        ensures { result ≡ record { queued = 0; emptied = 0 } }
+    {
         Waiting {
             queued: 0,
             emptied: 0,
@@ -22,20 +26,26 @@ impl Waiting {
     }
 
     /// The entry at this position queued something.
-    pub fn note_queued(&mut self, at: u32) {
-        self.queued = self.queued.max(at.saturating_add(1));
+    pub fn note_queued(&mut self, at: u32)
+        ensures { self.new ≡ spec.queued_at at self.old }
+    {
+        self.queued = self.queued.max(u64::from(at) + 1);
     }
 
     /// The entry at this position is a Take of at most `most` messages, and brought `taken` of them. One that brought fewer left
     /// nothing.
-    pub fn note_taken(&mut self, at: u32, taken: usize, most: usize) {
+    pub fn note_taken(&mut self, at: u32, taken: usize, most: usize)
+        ensures { self.new ≡ spec.taken_at at taken most self.old }
+    {
         if taken < most {
-            self.emptied = self.emptied.max(at.saturating_add(1));
+            self.emptied = self.emptied.max(u64::from(at) + 1);
         }
     }
 
     /// Whether something may wait. Where all answers are known and it does not, the queue is empty.
-    pub fn is_some(self) -> bool {
+    pub fn is_some(self) -> bool
+        ensures { result ≡ spec.waits self }
+    {
         self.emptied < self.queued
     }
 }
