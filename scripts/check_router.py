@@ -412,7 +412,7 @@ class Rows:
     def row_no_threads(self):
         """Only some of 20 links get a thread for their writers: the others are closed, and these are served."""
         def prepare():
-            resource.setrlimit(resource.RLIMIT_AS, (200 << 20,) * 2)
+            resource.setrlimit(resource.RLIMIT_AS, (100 << 20,) * 2)
         nodes = range(1, 21)
         run = Run(self.program, nodes=nodes, size=30, prepare=prepare)
         try:

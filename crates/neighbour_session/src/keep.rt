@@ -12,26 +12,53 @@ use std::rt::Clock;
 use std::sync::Wait;
 use stream_link::StreamLink;
 
-/// The turns of a reader. A history has fewer entries, so it is full before they are used up.
-const TURNS: u32 = u32::MAX;
+/// The turns that a reader has at a time. The gate answers no to each once the session is over.
+const TURNS: u32 = 1_000;
 
-/// Why a reader's session is over.
+/// Why a link's reader hands out no more.
+fn end_of_link<I: Read + Drop, O: Write + Drop>(link: &StreamLink<I, O>) -> SessionEnd {
+    match link.end() {
+        Some(why) => SessionEnd::Read {
+            why,
+            line: link.line(),
+        },
+        None => SessionEnd::Closed,
+    }
+}
+
+/// Why a reader's session is over; None where it is not.
 fn end_of_reader<I: Read + Drop, O: Write + Drop>(
     read: ReadEnd,
     link: &StreamLink<I, O>,
-) -> SessionEnd {
+) -> Option<SessionEnd> {
     match read.cause {
-        Cause::Full => SessionEnd::Full,
-        Cause::Memory => SessionEnd::Memory,
-        Cause::Turns | Cause::Stale => SessionEnd::Closed,
-        Cause::LinkEnded | Cause::LinkFault => match link.end() {
-            Some(why) => SessionEnd::Read {
-                why,
-                line: link.line(),
-            },
-            None => SessionEnd::Closed,
-        },
+        Cause::Turns => None,
+        Cause::Stale => Some(SessionEnd::Closed),
+        Cause::Full => Some(SessionEnd::Full),
+        Cause::Memory => Some(SessionEnd::Memory),
+        Cause::LinkEnded | Cause::LinkFault => Some(end_of_link(link)),
     }
+}
+
+/// Enters what a link hands out until the session is over: why it is.
+fn read_all<R: Wait + Clock, I: Read + Drop, O: Write + Drop, C: Crew>(
+    rt: &R,
+    router: &Router,
+    pass: &mut Pass,
+    session: u32,
+    link: &mut StreamLink<I, O>,
+    crew: &C,
+) -> SessionEnd {
+    for _ in rt.forever() {
+        let read = read_session(rt, router, pass, session, link, crew, READER, TURNS);
+        if let Some(why) = end_of_reader(read, link) {
+            return why;
+        }
+        if !crew.is_present(rt) {
+            return SessionEnd::Closed;
+        }
+    }
+    unreachable!()
 }
 
 /// Reads a session until it is over, and enters Down if nobody did before.
@@ -44,8 +71,7 @@ fn read_until_over<R: Wait + Clock, I: Read + Drop, O: Write + Drop, C: Crew>(
     crew: &C,
 ) -> SessionEnd {
     let mut link: StreamLink<I, O> = StreamLink::new(Some(input), None);
-    let read = read_session(rt, router, pass, session, &mut link, crew, READER, TURNS);
-    let why = end_of_reader(read, &link);
+    let why = read_all(rt, router, pass, session, &mut link, crew);
     if !crew.end(rt) {
         return why;
     }

@@ -2,7 +2,7 @@
 
 use crate::shared::Shared;
 use message_streams::MessageWriter;
-use neighbour_session::{Crew, READER, Starter, serve_writer};
+use neighbour_session::{Crew, READER, SessionEnd, Starter, serve_writer};
 use netchange_core::Reply;
 use route_session::{Gate, MOST_TAKEN};
 use slot_lock::{Answer, Pass};
@@ -89,7 +89,7 @@ pub(crate) struct WriterStarter<F: Read + Write + Drop, H: Threads + Wait + Cloc
     /// The link's number.
     link: usize,
     /// The writer that was started.
-    writer: Option<JoinHandle<Pass>>,
+    writer: Option<JoinHandle<(Pass, SessionEnd)>>,
     of: PhantomData<F>,
 }
 
@@ -111,8 +111,8 @@ impl<F: Read + Write + Drop, H: Threads + Wait + Clock + Drop> WriterStarter<F, 
         }
     }
 
-    /// Waits for the writer to end, if there is one, and gives its pass.
-    pub(crate) fn writer_pass<R: Threads>(&mut self, rt: &R) -> Option<Pass> {
+    /// Waits for the writer to end, if there is one: its pass, and why it ended.
+    pub(crate) fn await_writer<R: Threads>(&mut self, rt: &R) -> Option<(Pass, SessionEnd)> {
         match self.writer.take() {
             Some(writer) => Some(writer.join(rt)),
             None => None,
@@ -189,8 +189,8 @@ fn write_in_thread<
     session: u32,
     output: MessageWriter<F>,
     mut pass: Pass,
-) -> Pass {
-    let _ = serve_writer::<H, BufReader<F>, F, LinkCrew>(
+) -> (Pass, SessionEnd) {
+    let why = serve_writer::<H, BufReader<F>, F, LinkCrew>(
         &handle,
         alloc,
         &crew.shared.router,
@@ -199,5 +199,5 @@ fn write_in_thread<
         output,
         &crew,
     );
-    pass
+    (pass, why)
 }

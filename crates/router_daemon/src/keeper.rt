@@ -93,6 +93,14 @@ fn tell<R: Wait + Eprint>(rt: &R, shared: &Shared, line: Result<String, AllocErr
     }
 }
 
+/// Tells people why a session is over, unless another thread tells it or the router is being closed.
+fn tell_end<R: Wait + Eprint>(rt: &R, alloc: Global, shared: &Shared, node: u16, why: SessionEnd) {
+    if why == SessionEnd::Closed || shared.board.lock(rt).is_closing() {
+        return;
+    }
+    tell(rt, shared, end_line(alloc, node, why));
+}
+
 /// Opens a link, and serves one session. Says whether it can be opened again.
 fn keep_once<R: Threads + Wait + Clock + Files + Eprint + Copy + Send + Drop + 'static>(
     rt: &R,
@@ -129,10 +137,13 @@ where
         MessageWriter::new(alloc, output),
         &mut starter,
     );
-    tell(rt, shared, end_line(alloc, node, why));
+    tell_end(rt, alloc, shared, node, why);
     // The link is opened again only when nobody writes to it any more.
-    if let Some(writing) = starter.writer_pass(rt) {
+    if let Some((writing, their_why)) = starter.await_writer(rt) {
         shared.router.join(pass, writing);
+        if why == SessionEnd::Closed {
+            tell_end(rt, alloc, shared, node, their_why);
+        }
     }
     why.can_be_opened_again()
 }
