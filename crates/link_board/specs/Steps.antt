@@ -3,9 +3,10 @@ use Rattle.std.specs.Prelude.{◌≡◌, ◌≢◌, ℕ, ◌+◌, ◌&&◌, ◌|
 use Rattle.link_board.specs.declared.link.Link.{Link}
 use Rattle.link_board.specs.declared.waiting.Waiting.{Waiting}
 
--- Something may wait: something was queued after the queue was last seen to be empty. Both are numbers of entries that the history had.
-abbrev pub waits : Waiting → Bool
-waits w = nat_lt w.emptied w.queued
+-- Something may wait: after the queue was last seen to be empty something was queued for this neighbour, or a distance changed, which
+-- queues something for each. All three are numbers of entries that the history had.
+abbrev pub waits : ℕ → Waiting → Bool
+waits changed w = nat_lt w.emptied w.queued || nat_lt w.emptied changed
 
 -- something was queued by the entry at a position
 abbrev pub queued_at : ℕ → Waiting → Waiting
@@ -37,8 +38,9 @@ has_session None = false
 has_session (Some session) = true
 
 -- a writer that sleeps is woken where something waits, or its session is over
-abbrev pub is_woken : Link → Bool
-is_woken l = l.is_asleep && (waits l.waiting || (if has_session l.session then false else true))
+abbrev pub is_woken : ℕ → Link → Bool
+is_woken changed l = l.is_asleep && (waits changed l.waiting || (if has_session l.session then false else true))
 
-abbrev pub Wakes : Link → Bool → Link → Type 0
-Wakes old woken new = (woken ≡ is_woken old) × (new ≡ record old { is_asleep = if is_woken old then false else old.is_asleep })
+abbrev pub Wakes : ℕ → Link → Bool → Link → Type 0
+Wakes changed old woken new = (woken ≡ is_woken changed old)
+    × (new ≡ record old { is_asleep = if is_woken changed old then false else old.is_asleep })

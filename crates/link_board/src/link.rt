@@ -53,11 +53,12 @@ impl Link {
         true
     }
 
-    /// Whether the writer is to be woken: it sleeps, and something waits or no session is there. It counts as awake then.
-    pub fn wakes(&mut self) -> bool
-        ensures { spec.Wakes self.old result self.new }
+    /// Whether the writer is to be woken, where the last entry that changed a distance left so many in the history: it sleeps, and
+    /// something waits or no session is there. It counts as awake then.
+    pub fn wakes(&mut self, changed: u64) -> bool
+        ensures { spec.Wakes changed self.old result self.new }
     {
-        let wakes = self.is_asleep && (self.waiting.is_some() || self.session.is_none());
+        let wakes = self.is_asleep && (self.waiting.is_some(changed) || self.session.is_none());
         if wakes {
             self.is_asleep = false;
         }

@@ -42,10 +42,11 @@ impl Waiting {
         }
     }
 
-    /// Whether something may wait. Where all answers are known and it does not, the queue is empty.
-    pub fn is_some(self) -> bool
-        ensures { result ≡ spec.waits self }
+    /// Whether something may wait, where the last entry that changed a distance left so many in the history. Where all answers are
+    /// known and nothing may wait, the queue is empty.
+    pub fn is_some(self, changed: u64) -> bool
+        ensures { result ≡ spec.waits changed self }
     {
-        self.emptied < self.queued
+        self.emptied < self.queued || self.emptied < changed
     }
 }

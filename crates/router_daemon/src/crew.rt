@@ -28,10 +28,10 @@ impl Gate for LinkCrew {
     fn may_go<R: Wait + Clock>(&self, rt: &R, job: u32, _turn: u32) -> bool {
         let mut board = self.shared.board.lock(rt);
         if job == READER {
-            return board.is_present(self.link, self.session);
+            return board.session(self.link) == Some(self.session);
         }
         for _ in rt.forever() {
-            if !board.is_present(self.link, self.session) {
+            if !board.session(self.link) == Some(self.session) {
                 return false;
             }
             if board.has_waiting(self.link) {
@@ -61,10 +61,8 @@ impl Gate for LinkCrew {
 
 impl Crew for LinkCrew {
     fn is_present<R: Wait + Clock>(&self, rt: &R) -> bool {
-        self.shared
-            .board
-            .lock(rt)
-            .is_present(self.link, self.session)
+        let board = self.shared.board.lock(rt);
+        board.session(self.link) == Some(self.session)
     }
 
     fn end<R: Wait + Clock>(&self, rt: &R) -> bool {

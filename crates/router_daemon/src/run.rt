@@ -125,7 +125,10 @@ fn close_links<R: Wait + Clock>(rt: &R, shared: &Shared, pass: &mut Pass) {
     shared.wake(board);
     for index in 0..count {
         let mut board = shared.board.lock(rt);
-        let session = board.end_present(index);
+        let session = board.session(index);
+        if let Some(session) = session {
+            board.end(index, session);
+        }
         shared.wake(board);
         if let Some(session) = session {
             if let Ok(answer) = enter_down(rt, &shared.router, pass, session) {

@@ -17,8 +17,7 @@ const REST: u64 = 50;
 fn await_entries<R: Wait>(rt: &R, shared: &Shared, saved: usize) -> bool {
     let mut board = shared.board.lock(rt);
     for _ in rt.forever() {
-        // A history has fewer entries than a u32.
-        if !board.rest_saver(saved as u32) {
+        if !board.rest_saver(saved as u64) {
             return board.is_closing();
         }
         board = shared.saver_bell.wait(rt, board);

@@ -56,7 +56,7 @@ impl Shared {
 
 impl Listener for Shared {
     fn has_link<R: Wait + Clock>(&self, rt: &R, node: u16) -> bool {
-        self.board.lock(rt).has_link(node)
+        self.board.lock(rt).link_to(node).is_some()
     }
 
     fn answered<R: Wait + Clock>(&self, rt: &R, answer: &Answer) {
@@ -66,7 +66,10 @@ impl Listener for Shared {
     fn exported<R: Wait + Clock>(&self, rt: &R, node: u16, answer: &Answer) {
         let mut board = self.board.lock(rt);
         match answer.reply {
-            Reply::Done { .. } => board.note_queued(node, answer.at),
+            Reply::Done { .. } => match board.link_to(node) {
+                Some(index) => board.note_queued(index, answer.at),
+                None => board.note_entry(answer.at),
+            },
             _ => board.note_entry(answer.at),
         }
         self.wake(board);
