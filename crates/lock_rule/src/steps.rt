@@ -61,9 +61,12 @@ pub(crate) fn show<O: Observer>(desk: &LockTable, seat: &mut LockSeat, observer:
     ensures same { (seat.new.table_id ≡ seat.old.table_id) × (seat.new.id ≡ seat.old.id) }
     ensures shown { Shows O.sees seat.old.me observer.old observer.new seat.new.me }
 {
-    let journal = seat.slot_mut(&desk.shared, 0);
-    observer.see(journal);
-    desk.shared.store::<Show>(seat, 0, 0);
+    let table = &desk.shared;
+    let shown = seat.slot_mut(table, 0);
+    // What a journal says of its entries, it says of those that are shown.
+    let _entries = shown.entries();
+    observer.see(shown);
+    table.store::<Show>(seat, 0, 0);
 }
 
 /// Divides a seat: the new one has this many of its shares.

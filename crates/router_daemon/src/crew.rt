@@ -31,7 +31,7 @@ impl Gate for LinkCrew {
             return board.session(self.link) == Some(self.session);
         }
         for _ in rt.forever() {
-            if !board.session(self.link) == Some(self.session) {
+            if board.session(self.link) != Some(self.session) {
                 return false;
             }
             if board.has_waiting(self.link) {
