@@ -97,7 +97,7 @@ impl Router {
         ensures missed { pass.old.part.missed ≤ pass.new.part.missed }
         ensures observed { Observed O.sees self.now pass.old observer.old observer.new pass.new }
     {
-        take_in_the_end(rt, &self.desk, &mut pass.place);
+        take_in_the_end::<R>(rt, &self.desk, &mut pass.place);
         self.desk.show(&mut pass.place, observer);
     }
 
