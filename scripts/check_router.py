@@ -262,6 +262,8 @@ class Rows:
             print(f"never read: {40000 / took:.0f} messages a second were entered", file=sys.stderr)
             self.judge("2 is served", run.ask("show 3") == "route 2 via 2", run.ask("show 3"))
             self.end(run)
+            said = run.replays()
+            self.judge("each was entered", int(said.split()[-1]) > 40000, said)
         finally:
             run.close()
 
