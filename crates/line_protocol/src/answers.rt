@@ -36,8 +36,25 @@ pub trait Service {
         ensures err { OnErr result (StartsWith out.new.items out.old.items) };
 }
 
-/// Appends a number in decimal digits.
+/// Appends a number in decimal digits. Most numbers of answers have one or two, and are written without a buffer.
 pub fn push_decimal(out: &mut Vec<u8>, n: u64) -> Result<(), AllocError>
+    ensures ok { OnOk result (out.new.items ≡ out.old.items ++ decimal n) }
+    ensures err { OnErr result (out.new.items ≡ out.old.items) }
+{
+    if n < 10 {
+        return out.extend_from_slice(&[b'0' + n as u8]);
+    }
+    if n < 100 {
+        let ten = b'0' + (n / 10) as u8;
+        let one = b'0' + (n % 10) as u8;
+        return out.extend_from_slice(&[ten, one]);
+    }
+    push_long_decimal(out, n)
+}
+
+/// Appends a number in decimal digits, however many.
+#[inline(never)]
+fn push_long_decimal(out: &mut Vec<u8>, n: u64) -> Result<(), AllocError>
     ensures ok { OnOk result (out.new.items ≡ out.old.items ++ decimal n) }
     ensures err { OnErr result (out.new.items ≡ out.old.items) }
 {

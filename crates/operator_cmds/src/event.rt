@@ -15,8 +15,8 @@ pub fn enter(journal: &mut Journal, event: Event, out: &mut Vec<u8>) -> Result<R
     ensures ok { IfOk result (Answers (λ answer. AnswersIn journal.old event answer journal.new) out.old.items out.new.items) }
     ensures err { OnErr result (StartsWith out.new.items out.old.items) }
 {
-    match journal.apply(event) {
-        Ok((at, reply)) => answer_reply(out, at, &reply),
+    match journal.enter(event) {
+        Ok(at) => answer_reply(out, at, &journal.entries()[at as usize].reply),
         Err(CallFault::Full) => {
             let entries = journal.entries().len() as u64;
             refuse(out, CallFault::Full.code(), entries)

@@ -1,7 +1,7 @@
 //! The journal of a router.
 
 ghost use Rattle.std.specs.Prelude.{◌≡◌, ℕ, ◌≤◌, [], IfErr, IfOk, length};
-ghost use Rattle.netchange_core.specs.Calls.{session_of};
+ghost use Rattle.netchange_core.specs.Calls.{carried, room_of, session_of};
 ghost use Rattle.route_history.specs.Calls.{IsEntered, IsRefused};
 ghost use Rattle.route_history.specs.History.{IsLegal, world_of};
 
@@ -35,6 +35,8 @@ impl Model for Journal {
 }
 
 impl Journal {
+    ghost use Rattle.netchange_core.specs.declared.reply.Reply.{Reply};
+
     /// An empty journal, of a router whose neighbours were never up. It takes as many entries as the limit, 1 to 1,000,000.
     pub fn open(alloc: Global, opening: Opening, limit: u32) -> Result<Journal, AllocError>
         requires { (1 ≤ limit) × (limit ≤ LARGEST_LIMIT) }
@@ -48,11 +50,12 @@ impl Journal {
         })
     }
 
-    /// Applies an event and enters it with its reply: its position, counted from 0, and the reply. A refused event is entered
-    /// too. Whether the journal is full is judged before memory is asked for.
-    pub fn apply(&mut self, event: Event) -> Result<(u32, Reply), CallFault>
+    /// Applies an event and enters it with its reply: its position, counted from 0. A refused event is entered too. Whether the
+    /// journal is full is judged before memory is asked for.
+    pub fn enter(&mut self, event: Event) -> Result<u32, CallFault>
         ensures same { (self.new.opening ≡ self.old.opening) × (self.new.limit ≡ self.old.limit) }
-        ensures entered { IfOk result (λ r. IsEntered self.old self.new event r.0 r.1) }
+        ensures entered { IfOk result (λ at. (reply : Reply) × IsEntered self.old self.new event at reply
+            × (length (carried reply) ≤ room_of (world_of self.old.opening self.old.entries) event)) }
         ensures legal { IsLegal self.new.opening self.new.entries × (length self.new.entries ≤ self.new.limit) }
         ensures refused { IfErr result (λ f. IsRefused f self.old self.new) }
     {
@@ -60,19 +63,33 @@ impl Journal {
         if position >= self.limit as usize {
             return Err(CallFault::Full);
         }
-        let alloc = *self.entries.allocator();
-        let Ok(room) = Vec::with_capacity(alloc, event.room(&self.tables)) else {
-            return Err(CallFault::Memory);
-        };
         let Ok(()) = self.entries.reserve(1) else {
             return Err(CallFault::Memory);
         };
         let Ok(reply) = self.tables.apply(&event) else {
             return Err(CallFault::Memory);
         };
-        let kept = reply.copy_into(room);
-        self.entries.push_reserved(Entry { event, reply: kept });
-        Ok((position as u32, reply))
+        self.entries.push_reserved(Entry { event, reply });
+        Ok(position as u32)
+    }
+
+    /// Enters an event, and hands out a copy of its reply beside its position.
+    pub fn apply(&mut self, event: Event) -> Result<(u32, Reply), CallFault>
+        ensures same { (self.new.opening ≡ self.old.opening) × (self.new.limit ≡ self.old.limit) }
+        ensures entered { IfOk result (λ r. IsEntered self.old self.new event r.0 r.1) }
+        ensures legal { IsLegal self.new.opening self.new.entries × (length self.new.entries ≤ self.new.limit) }
+        ensures refused { IfErr result (λ f. IsRefused f self.old self.new) }
+    {
+        if self.entries.len() >= self.limit as usize {
+            return Err(CallFault::Full);
+        }
+        let alloc = *self.entries.allocator();
+        let Ok(room) = Vec::with_capacity(alloc, event.room(&self.tables)) else {
+            return Err(CallFault::Memory);
+        };
+        let position = self.enter(event)?;
+        let reply = self.entries[position as usize].reply.copy_into(room);
+        Ok((position, reply))
     }
 
     /// The entries, in order.
