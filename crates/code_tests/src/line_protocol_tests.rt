@@ -2,7 +2,7 @@
 
 use expectations::expect_fault;
 use line_protocol::{
-    INPUT_LIMIT, LINE_LIMIT, Reply, Service, StreamFault, answer_lines, next_word, push_decimal,
+    INPUT_LIMIT, LINE_LIMIT, Reply, Service, StreamFault, answer_lines, answer_lines_within, next_word, push_decimal,
     push_refusal, trim_blanks,
 };
 use std::alloc::{AllocError, Global};
@@ -88,6 +88,8 @@ struct Echo;
 
 impl Service for Echo {
     ghost answers = { λ _ _ _ _ _. Unit {0} };
+
+    ghost refuses = { λ _ _. Unit {0} };
 
     fn answer(
         &mut self,
@@ -218,6 +220,69 @@ fn tells_of_a_failed_write(rt: HostRuntime) {
     }
 }
 
+// Fails at one write, and takes all others.
+#[derive(Drop)]
+struct Stumbling {
+    taken: usize,
+    left: u32,
+    kind: ErrorKind,
+}
+
+impl Write for Stumbling {
+    fn write(&mut self, buf: &[u8]) -> io::Result<usize> {
+        let fails = self.left == 0;
+        self.left = self.left.wrapping_sub(1);
+        if fails {
+            return Err(io::Error::from(self.kind));
+        }
+        self.taken = self.taken.saturating_add(buf.len());
+        Ok(buf.len())
+    }
+
+    fn flush(&mut self) -> io::Result<()> {
+        Ok(())
+    }
+}
+
+/// What is no interruption is a fault at once, also of a writer that would take the next write. So a run that goes on ends well.
+#[test]
+fn asks_no_failed_writer_again(rt: HostRuntime) {
+    for kind in [
+        ErrorKind::WouldBlock,
+        ErrorKind::TimedOut,
+        ErrorKind::BrokenPipe,
+        ErrorKind::Other,
+    ] {
+        for left in [0, 1] {
+            let mut reader = make_pieces(b"a\nb\n", 2, false);
+            let mut out = Stumbling {
+                taken: 0,
+                left,
+                kind,
+            };
+            let result = answer_lines(rt.alloc(), &mut reader, &mut out, &mut Echo);
+            let taken = if left == 0 { 0 } else { 4 };
+            assert!(&rt; result == Err(StreamFault::Write) && out.taken == taken);
+        }
+    }
+}
+
+/// A limit that the caller chooses: the lines up to it are answered, and one byte more is the fault.
+#[test]
+fn reads_up_to_a_chosen_limit(rt: HostRuntime) {
+    for (limit, want, text) in [
+        (5, Ok(0), b"1 a\n2 b\n3 c\n".as_slice()),
+        (4, Err(StreamFault::TooLong), b"1 a\n2 b\n"),
+        (3, Err(StreamFault::TooLong), b"1 a\n"),
+        (0, Err(StreamFault::TooLong), b""),
+    ] {
+        let mut reader = b"a\nb\nc".as_slice();
+        let mut out = make_sink(100, 100);
+        let result = answer_lines_within(rt.alloc(), limit, &mut reader, &mut out, &mut Echo);
+        assert!(&rt; result == want && out.text() == text);
+    }
+}
+
 /// The writer takes both answers, and fails when it is flushed.
 #[test]
 fn tells_of_a_failed_flush(rt: HostRuntime) {
@@ -326,10 +391,7 @@ const FAULTS: [(StreamFault, &str); 4] = [
     (StreamFault::Read, "E1 0 the input could not be read"),
     (StreamFault::Write, "E2 0 the output could not be written"),
     (StreamFault::Memory, "E3 0 out of memory"),
-    (
-        StreamFault::TooLong,
-        "E4 0 the input has more than 16777216 bytes",
-    ),
+    (StreamFault::TooLong, "E4 0 the input is too long"),
 ];
 
 #[test]

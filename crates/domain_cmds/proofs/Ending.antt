@@ -1,12 +1,13 @@
 -- A script ends where its input does: no answer ends it before.
 use Rattle.std.proofs.Common.{◌≡◌, ℕ, Bool, true, false, ◌||◌, List, [], ◌∷◌, Option, Some, None, Ok, Err, refl, subst, ap, ◌∙◌, inl, inr, nat_lt, ◌&&◌}
-use Rattle.std.specs.Prelude.{MatchBool}
+use Rattle.std.specs.Prelude.{MatchBool, ⊤}
 use Rattle.filter_code.specs.CodeView.{CodeView}
 use Rattle.filter_source.specs.Sources.{IsRefusedText}
 use Rattle.filter_source.specs.declared.refusal.Refusal.{Refusal}
 use Rattle.filter_verifier.specs.VerifiedView.{VerifiedView}
 use Rattle.line_protocol.specs.Answers.{Answer, is_end, is_over}
 use Rattle.line_protocol.specs.Lines.{numbered}
+use Rattle.line_protocol.specs.Limits.{input_limit}
 use Rattle.line_protocol.specs.Runs.{Finishes, Runs, Stops}
 use Rattle.line_protocol.specs.declared.faults.StreamFault.{StreamFault}
 use Rattle.operator_cmds.specs.Script.{GivesFile, GivesText, IsRefusedFile}
@@ -127,12 +128,12 @@ not_over before (l ∷ ls) (a ∷ more) after h =
     ap (λ (b : Bool). b || is_over more) on ∙ not_over h.0 ls more after rest
 
 pub carried_out : (before after : Option PlanningView) (input : List ℕ) (left held holds : Option (List ℕ)) (n : ℕ) → before ≡ None
-    → Finishes AnswersLine before after input left held holds n → IsCarriedOut input left held holds n
+    → Finishes AnswersLine input_limit before after input left held holds n → IsCarriedOut input left held holds n
 carried_out before after input left held holds n e f =
-    let g = subst (λ (s : Option PlanningView). Finishes AnswersLine s after input left held holds n) e f in
+    let g = subst (λ (s : Option PlanningView). Finishes AnswersLine input_limit s after input left held holds n) e f in
     record { after = after; finishes = g; to_end = g.to_end (not_over None (numbered input) g.given after g.run) }
 
 pub broken_off : (fault : StreamFault) (before now : Option PlanningView) (input : List ℕ) (left held holds : Option (List ℕ))
-    → before ≡ None → Stops AnswersLine fault before now input left held holds → IsBrokenOff fault input left held holds
+    → before ≡ None → Stops AnswersLine (λ _ _. ⊤) input_limit fault before now input left held holds → IsBrokenOff fault input left held holds
 broken_off fault before now input left held holds e f =
-    record { after = now; stops = subst (λ (s : Option PlanningView). Stops AnswersLine fault s now input left held holds) e f }
+    record { after = now; stops = subst (λ (s : Option PlanningView). Stops AnswersLine (λ _ _. ⊤) input_limit fault s now input left held holds) e f }

@@ -19,9 +19,12 @@ pub(crate) struct Engine {
 }
 
 impl Service for Engine {
+    ghost use Rattle.std.specs.Prelude.{⊤};
     ghost use Rattle.domain_cmds.specs.Script.{AnswersLine};
 
     ghost answers = { λ before number line answer after. AnswersLine before.planning number line answer after.planning };
+
+    ghost refuses = { λ _ _. ⊤ };
 
     fn answer(
         &mut self,
@@ -94,10 +97,13 @@ struct Watched<S: Watch + Drop> {
 }
 
 impl<S: Watch + Drop> Service for Watched<S> {
+    ghost use Rattle.std.specs.Prelude.{⊤};
     ghost use Rattle.domain_cmds.specs.Script.{AnswersLine};
 
     ghost answers = { λ before number line answer after.
         AnswersLine before.engine.planning number line answer after.engine.planning };
+
+    ghost refuses = { λ _ _. ⊤ };
 
     fn answer(
         &mut self,

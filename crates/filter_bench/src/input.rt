@@ -30,6 +30,8 @@ fn route_in(line: &[u8]) -> Option<Route> {
 impl Service for Input {
     ghost answers = { λ _ _ _ _ _. Unit {0} };
 
+    ghost refuses = { λ _ _. Unit {0} };
+
     fn answer(
         &mut self,
         alloc: Global,

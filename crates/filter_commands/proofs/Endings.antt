@@ -1,5 +1,6 @@
 -- How a run of `eval` ends, from how the lines were answered.
 use Rattle.std.proofs.Common.{◌≡◌, ℕ, ◌≤◌, List, [], ◌∷◌, ◌++◌, length, Option, Some, None, IfSome, Result, Ok, Err, IfOk, IfErr, is_some, false, true, refl, sym, ap, subst, ◌∙◌, append_assoc}
+use Rattle.std.specs.Prelude.{⊤}
 use Rattle.std.proofs.lemmas.List.{append-nil}
 use Rattle.std.specs.Io.KnownBytes.{Appends, Consumes}
 use Rattle.filter_code.specs.CodeView.{CodeView}
@@ -36,7 +37,7 @@ no_code_text = append-nil no_code.text
 
 -- A run in which a line was answered ends as the run of its lines does.
 pub ends_well : (s after : Evaluator) (input : List ℕ) (left held holds : Option (List ℕ)) (n : ℕ) → s.code ≡ None
-    → ((n ≡ 0) → (after.code ≡ None) → ⊥) → Finishes answers s after input left held holds n → Evaluates input left held holds n
+    → ((n ≡ 0) → (after.code ≡ None) → ⊥) → Finishes answers input_limit s after input left held holds n → Evaluates input left held holds n
 ends_well s after input left held holds n e some f =
     let makes : Makes (numbered input) f.given after = whole_run s e (numbered input) f.given after f.run in
     let P : List Line → Type 0 = λ lines. Runs answers s lines f.given after in
@@ -68,7 +69,7 @@ pub record IsSilent (input : List ℕ) (left held holds : Option (List ℕ)) : T
   pub to_end : left ≡ Some []
 
 pub silent_run : (s after : Evaluator) (input : List ℕ) (left held holds : Option (List ℕ)) (n : ℕ) → s.code ≡ None → (n ≡ 0)
-    → (after.code ≡ None) → Finishes answers s after input left held holds n → IsSilent input left held holds
+    → (after.code ≡ None) → Finishes answers input_limit s after input left held holds n → IsSilent input left held holds
 silent_run s after input left held holds n e zero none f =
     let makes : Makes (numbered input) f.given after = whole_run s e (numbered input) f.given after f.run in
     let lines : numbered input ≡ [] = makes.silent none (sym f.counted ∙ zero) in
@@ -99,7 +100,7 @@ ends_empty input left held mid holds s w =
 
 -- A fault ends a run as it ends the answers to its lines.
 pub breaks_off : (fault : StreamFault) (s now : Evaluator) (input : List ℕ) (left held holds : Option (List ℕ)) → s.code ≡ None
-    → Stops answers fault s now input left held holds → Breaks fault input left held holds
+    → Stops answers (λ _ _. ⊤) input_limit fault s now input left held holds → Breaks fault input left held holds
 breaks_off fault s now input left held holds e f =
     let begins : Begins (numbered input) f.given = front_run s e (numbered input) f.given f.after f.run in
     record {
@@ -113,7 +114,7 @@ breaks_off fault s now input left held holds e f =
     }
   where
     reach_to : (fault : StreamFault) (s now : Evaluator) (read : List ℕ) (given : List Answer) (after : Evaluator) (front : List Answer)
-        → s.code ≡ None → text_of given ≡ text_of front → Reaches answers fault s now read given after → ReachesTo fault read front
+        → s.code ≡ None → text_of given ≡ text_of front → Reaches answers (λ _ _. ⊤) input_limit fault s now read given after → ReachesTo fault read front
     reach_to Read s now read given after front e text r = sym text ∙ (whole_run s e _ given after r.1).text
     reach_to Write s now read given after front e text r = tt
     reach_to Memory s now read given after front e text r = tt

@@ -25,9 +25,12 @@ struct Evaluator {
 }
 
 impl Service for Evaluator {
+    ghost use Rattle.std.specs.Prelude.{⊤};
     ghost use Rattle.filter_commands.specs.Steps.{AnswersLine};
 
     ghost answers = { λ before number line answer after. AnswersLine before.code number line answer after.code };
+
+    ghost refuses = { λ _ _. ⊤ };
 
     fn answer(
         &mut self,

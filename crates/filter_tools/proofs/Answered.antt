@@ -1,5 +1,6 @@
 -- How a run of `filter` ends, from how its lines were answered.
 use Rattle.std.proofs.Common.{◌≡◌, ℕ, List, [], ◌∷◌, ◌++◌, map, Option, Result, Ok, Err, Bool, false, MatchBool, refl, sym, ap, subst, ◌∙◌}
+use Rattle.std.specs.Prelude.{⊤}
 use Rattle.std.specs.Io.KnownBytes.{Appends}
 use Rattle.filter_code.specs.RouteView.{RouteView}
 use Rattle.filter_verifier.specs.VerifiedView.{VerifiedView}
@@ -10,7 +11,7 @@ use Rattle.line_protocol.specs.declared.faults.StreamFault.{StreamFault}
 use Rattle.line_protocol.specs.declared.faults.StreamFault.TheVariants.{Read, Write, Memory, TooLong}
 use Rattle.filter_commands.specs.Eval.{Line, answer_of}
 use Rattle.filter_commands.specs.declared.line_fault.LineFault.{LineFault}
-use Rattle.filter_tools.specs.Filtering.{AnswersEach, AnswersFirst, ReachesTo, code_answer}
+use Rattle.filter_tools.specs.Filtering.{AnswersEach, AnswersFirst, ReachesTo, code_answer, routes_limit}
 use Rattle.filter_tools.specs.RouteOfSize.{route_of_size}
 use Rattle.filter_tools.specs.declared.filter.RouteFilter.{RouteFilter}
 
@@ -66,7 +67,7 @@ first_lines v s e (l ∷ ls) (a ∷ more) after r =
 
 -- a run of the service answers each line
 pub ends_well : (v : VerifiedView) (s after : RouteFilter) (input : List ℕ) (left held holds : Option (List ℕ)) (n : ℕ)
-    → s.verified ≡ v → Finishes answers s after input left held holds n → AnswersEach (answer_by v) input left held holds n
+    → s.verified ≡ v → Finishes answers routes_limit s after input left held holds n → AnswersEach (answer_by v) input left held holds n
 ends_well v s after input left held holds n e f =
     let all : f.given ≡ map (answer_by v) (numbered input) = all_lines v s e (numbered input) f.given after f.run in
     record {
@@ -76,7 +77,7 @@ ends_well v s after input left held holds n e f =
     }
 
 reach_to : (v : VerifiedView) (fault : StreamFault) (s now : RouteFilter) (read : List ℕ) (given : List Answer) (after : RouteFilter)
-    → s.verified ≡ v → Reaches answers fault s now read given after → ReachesTo (answer_by v) fault read given
+    → s.verified ≡ v → Reaches answers (λ _ _. ⊤) routes_limit fault s now read given after → ReachesTo (answer_by v) fault read given
 reach_to v Read s now read given after e r = all_lines v s e _ given after r.1
 reach_to v Write s now read given after e r = tt
 reach_to v Memory s now read given after e r = tt
@@ -84,7 +85,7 @@ reach_to v TooLong s now read given after e r = (r.0, all_lines v s e _ given af
 
 -- a fault ends it behind the first lines
 pub breaks_off : (v : VerifiedView) (fault : StreamFault) (s now : RouteFilter) (input : List ℕ) (left held holds : Option (List ℕ))
-    → s.verified ≡ v → Stops answers fault s now input left held holds → AnswersFirst (answer_by v) fault input left held holds
+    → s.verified ≡ v → Stops answers (λ _ _. ⊤) routes_limit fault s now input left held holds → AnswersFirst (answer_by v) fault input left held holds
 breaks_off v fault s now input left held holds e f =
     let first = first_lines v s e (numbered input) f.given f.after f.run in
     record {

@@ -12,7 +12,6 @@ use Rattle.filter_source.specs.declared.refusal.Refusal.{Refusal}
 use Rattle.filter_verifier.specs.Safe.{IsSafe}
 use Rattle.line_protocol.specs.Answers.{Answer, refusal, refusals, text_of}
 use Rattle.line_protocol.specs.Lines.{numbered, whole_lines}
-use Rattle.line_protocol.specs.Limits.{input_limit}
 use Rattle.line_protocol.specs.Runs.{AppendsFront, IsWritten}
 use Rattle.line_protocol.specs.declared.answers.Reply.TheVariants as reply
 use Rattle.line_protocol.specs.declared.faults.StreamFault.{StreamFault}
@@ -51,13 +50,17 @@ pub record AnswersEach (answer_to : Line → Answer) (input : List ℕ) (left he
   pub counted : refused ≡ refusals (map answer_to (numbered input))
   pub to_end : left ≡ Some []
 
+-- the most bytes of routes that a run answers
+abbrev pub routes_limit : ℕ
+routes_limit = 4000000000
+
 -- how far the answers reach where a fault ended the run, when `read` was read of the input
 abbrev pub ReachesTo : (Line → Answer) → StreamFault → List ℕ → List Answer → Type 0
 ReachesTo answer_to Read read given = given ≡ map answer_to (numbered (whole_lines read))
 ReachesTo answer_to Write read given = ⊤
 ReachesTo answer_to Memory read given = ⊤
-ReachesTo answer_to TooLong read given = (length read ≡ input_limit + 1)
-    × (given ≡ map answer_to (numbered (whole_lines (take input_limit read))))
+ReachesTo answer_to TooLong read given = (length read ≡ routes_limit + 1)
+    × (given ≡ map answer_to (numbered (whole_lines (take routes_limit read))))
 
 -- A fault ended the run: the first of the lines were answered so, each whole, but for a writer that failed.
 pub record AnswersFirst (answer_to : Line → Answer) (fault : StreamFault) (input : List ℕ) (left held holds : Option (List ℕ)) : Type 0 where

@@ -19,12 +19,15 @@ use filter_compiler::MappedCode;
 use filter_machine::{Verdict, run};
 use filter_source::{Diagnosis, Failure, Refusal, verify_mapped};
 use filter_verifier::Verified;
-use line_protocol::{Reply, Service, answer_lines, push_refusal, write_text};
+use line_protocol::{Reply, Service, answer_lines_within, push_refusal, write_text};
 use std::alloc::{AllocError, Global};
 use std::io::{Read, Write};
 
 /// The number of the line that the refusal of a filter names where it names a line.
 const FIRST_LINE: u32 = 1;
+
+/// How many bytes of routes a run answers at most: about 200 times the routes of the whole Internet. Lines are numbered below 2^32.
+const ROUTES_LIMIT: usize = 4_000_000_000;
 
 /// What became of a filter.
 #[derive(Clone, Copy, Debug)]
@@ -43,8 +46,11 @@ struct RouteFilter {
 }
 
 impl Service for RouteFilter {
+    ghost use Rattle.std.specs.Prelude.{⊤};
     ghost answers = { λ before number line answer after. (after.verified ≡ before.verified)
         × (answer ≡ code_answer before.verified.program before.verified.size (number, line)) };
+
+    ghost refuses = { λ _ _. ⊤ };
 
     fn answer(
         &mut self,
@@ -119,7 +125,13 @@ fn answer_routes<R: Read, W: Write>(
         (W.contents writer.old) (W.contents writer.new))) }
 {
     let mut service = RouteFilter { verified };
-    Ok(answer_lines(alloc, reader, writer, &mut service)?)
+    Ok(answer_lines_within(
+        alloc,
+        ROUTES_LIMIT,
+        reader,
+        writer,
+        &mut service,
+    )?)
 }
 
 /// The line that refuses a filter.

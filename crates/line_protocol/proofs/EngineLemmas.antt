@@ -9,7 +9,7 @@ use Rattle.std.proofs.lemmas.List.Concat.{flat_map-append}
 use Rattle.line_protocol.specs.Answers.{Answer, text_of}
 use Rattle.line_protocol.specs.Lines.{answerable_from}
 use Rattle.line_protocol.specs.Steps.{Advances, AnswersFront, BreaksOff, EndsOff, NoneEnds}
-use Rattle.line_protocol.specs.Runs.{RunsFront, AppendsFront, IsWritten}
+use Rattle.line_protocol.specs.Runs.{AppendsFront, IsLeft, IsWritten, RunsFront}
 use Rattle.line_protocol.specs.declared.faults.StreamFault.{StreamFault}
 use Rattle.line_protocol.specs.declared.faults.StreamFault.TheVariants.{Write, Memory}
 use Rattle.line_protocol.proofs.LineLemmas.{open_text, lines_more, whole_more, lines-append, lines-last}
@@ -81,30 +81,30 @@ pub written_front : (fault : StreamFault) (held holds : Option (List ℕ)) (text
     (fault ≡ Write) × AppendsFront held holds text → IsWritten fault held holds text
 written_front fault held holds text p = rw p.0 p.1
 
-module _ {S : Type 0} (answers : S → ℕ → List ℕ → Answer → S → Type 0) where
-  -- some front of these bytes is answered, which leaves the service in some state
-  abbrev pub SomeFront : S → List ℕ → ℕ → ℕ → ℕ → ℕ → Bool → List ℕ → List ℕ → Type 0
-  SomeFront before bytes first next already refused over old new =
+module _ {S : Type 0} (answers : S → ℕ → List ℕ → Answer → S → Type 0) (refuses : S → S → Type 0) where
+  -- some front of these bytes is answered, and the service is left so
+  abbrev pub SomeFront : S → S → List ℕ → ℕ → ℕ → ℕ → ℕ → Bool → List ℕ → List ℕ → Type 0
+  SomeFront before now bytes first next already refused over old new =
       (after : S) × (at : ℕ) × (given : List Answer) × AnswersFront answers before after bytes at given first next already
-      refused over × (new ≡ old ++ text_of given)
+      refused over × (new ≡ old ++ text_of given) × IsLeft refuses after now
 
   -- what was answered, whether it ended well or not
   pub either_front : {E : Type 0} (result : Result ℕ E) (before now : S) (bytes : List ℕ) (first next already refused : ℕ)
       (over : Bool) (old new : List ℕ)
       → IfOk result (λ at. (given : List Answer) × AnswersFront answers before now bytes at given first next already refused
       over × (new ≡ old ++ text_of given))
-      → OnErr result (SomeFront before bytes first next already refused over old new)
-      → SomeFront before bytes first next already refused over old new
-  either_front (Ok at) before now bytes first next already refused over old new (given, front, text) err = (now, at, given, front, text)
+      → OnErr result (SomeFront before now bytes first next already refused over old new)
+      → SomeFront before now bytes first next already refused over old new
+  either_front (Ok at) before now bytes first next already refused over old new (given, front, text) err = (now, at, given, front, text, inl refl)
   either_front (Err e) before now bytes first next already refused over old new ok err = err
 
   -- where a fault comes after some answers, the first lines are answered
-  pub break_off : (fault : StreamFault) (before : S) (bytes : List ℕ) (first next already refused : ℕ) (over : Bool)
+  pub break_off : (fault : StreamFault) (before now : S) (bytes : List ℕ) (first next already refused : ℕ) (over : Bool)
       (old new : List ℕ) (held holds : Option (List ℕ))
-      → SomeFront before bytes first next already refused over old new → old ≡ [] → (fault ≡ Write) ⊎ (fault ≡ Memory) →
+      → SomeFront before now bytes first next already refused over old new → old ≡ [] → (fault ≡ Write) ⊎ (fault ≡ Memory) →
       IsWritten fault held holds new
-      → BreaksOff answers fault before bytes first held holds
-  break_off fault before bytes first next already refused over old new held holds (after, at, given, front, text) none kind written =
+      → BreaksOff answers refuses fault before now bytes first held holds
+  break_off fault before now bytes first next already refused over old new held holds (after, at, given, front, text, left_so) none kind written =
       let all : (left : List ℕ) → answerable_from first (lines (bytes ++ left)) ≡ answerable_from first
       (lines (take at bytes)) ++ answerable_from (first + length (lines (take at bytes))) (lines (drop at bytes ++ left)) =
       λ left. ap (λ t. answerable_from first (lines (t ++ left))) (sym (take-append-drop at bytes))
@@ -121,6 +121,7 @@ module _ {S : Type 0} (answers : S → ℕ → List ℕ → Answer → S → Typ
             front.advances.run);
         written = subst (IsWritten fault held holds) same written;
         kind = kind;
+        left = left_so;
       }
 
   -- the last line, which no line feed ends
@@ -144,7 +145,7 @@ module _ {S : Type 0} (answers : S → ℕ → List ℕ → Answer → S → Typ
       → (given : List Answer) × Advances answers before after (bytes ∷ []) given first next already refused over
       × (new ≡ old ++ text_of given)
       → (fault ≡ Write) × AppendsFront held holds new
-      → EndsOff answers fault before bytes first held holds
+      → EndsOff answers refuses fault before after bytes first held holds
   rest_broken fault before after bytes first next already refused over old new held holds none some empty (given, step, text) written =
       let line = lines-last bytes (open_text bytes none) some in
       let same : new ≡ text_of given = text ∙ ap (λ t. t ++ text_of given) empty in
@@ -155,4 +156,5 @@ module _ {S : Type 0} (answers : S → ℕ → List ℕ → Answer → S → Typ
         run = rw line (subst (λ ls. RunsFront answers before ls given after) (append-nil (answerable_from first (bytes ∷ []))) front);
         written = subst (IsWritten fault held holds) same (written_front fault held holds new written);
         kind = inl written.0;
+        left = inl refl;
       }

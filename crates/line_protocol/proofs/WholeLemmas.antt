@@ -11,8 +11,7 @@ use Rattle.std.proofs.lemmas.List.Concat.{flat_map-append}
 use Rattle.line_protocol.specs.Answers.{Answer, text_of}
 use Rattle.line_protocol.specs.Lines.{answerable_from, numbered, whole_lines}
 use Rattle.line_protocol.specs.Steps.{Advances, AnswersFront, BreaksOff, EndsOff, IsWhole, NoneEnds}
-use Rattle.line_protocol.specs.Runs.{IsReadFault, Finishes, Runs, RunsFront, Stops, IsWritten}
-use Rattle.line_protocol.specs.Limits.{input_limit}
+use Rattle.line_protocol.specs.Runs.{Finishes, IsLeft, IsReadFault, IsWritten, Runs, RunsFront, Stops}
 use Rattle.line_protocol.specs.declared.faults.StreamFault.{StreamFault}
 use Rattle.line_protocol.specs.declared.faults.StreamFault.TheVariants.{Read, Write, Memory, TooLong}
 use Rattle.line_protocol.proofs.LineLemmas.{IsOpen, open_part, lines-append, whole_lines-append, whole_lines-cut}
@@ -122,12 +121,13 @@ module _ {S : Type 0} (answers : S → ℕ → List ℕ → Answer → S → Typ
         subst IsOpen end (open_part block at (length block) (omega arith) none),
       )
 
-module _ {S : Type 0} (answers : S → ℕ → List ℕ → Answer → S → Type 0) (start : S) (held : Option (List ℕ)) where
+module _ {S : Type 0} (answers : S → ℕ → List ℕ → Answer → S → Type 0) (refuses : S → S → Type 0)
+    (limit : ℕ) (start : S) (held : Option (List ℕ)) where
   -- an answer ended the stream
   pub finish_over : (known : Option (List ℕ)) (after : S) (left holds : Option (List ℕ)) (front back : List ℕ)
       (given : List Answer) (total number refused : ℕ)
-      → Done answers start after known left held holds front back given total number refused true → total ≤ input_limit
-      → IfSome known (λ input. Finishes answers start after input left held holds refused)
+      → Done answers start after known left held holds front back given total number refused true → total ≤ limit
+      → IfSome known (λ input. Finishes answers limit start after input left held holds refused)
   finish_over None after left holds front back given total number refused done short = tt
   finish_over (Some input) after left holds front back given total number refused done short =
       let (rest, e) = input_cut input left front back done.consumed in
@@ -151,8 +151,8 @@ module _ {S : Type 0} (answers : S → ℕ → List ℕ → Answer → S → Typ
       → Consumes left left' [] → IsAtEnd left'
       → (found : List Answer) × Advances answers now after (lines begun) found number number' refused refused' over
       × Appends holds holds' (text_of found)
-      → total ≤ input_limit
-      → IfSome known (λ input. Finishes answers start after input left' held holds' refused')
+      → total ≤ limit
+      → IfSome known (λ input. Finishes answers limit start after input left' held holds' refused')
   finish_end None now after left left' holds holds' begun total number number' refused refused' over
       (front, given, done, begun_open) none end (found, told, written) short = tt
   finish_end (Some input) now after None left' holds holds' begun total number number' refused refused' over
@@ -180,7 +180,7 @@ module _ {S : Type 0} (answers : S → ℕ → List ℕ → Answer → S → Typ
   pub stop_read : (fault : StreamFault) (known : Option (List ℕ)) (now : S) (left left' holds : Option (List ℕ))
       (begun : List ℕ) (total number refused : ℕ)
       → UnderWay answers start now known left held holds begun total number refused → IsReadFault fault × Keeps left left'
-      → IfSome known (λ input. Stops answers fault start now input left' held holds)
+      → IfSome known (λ input. Stops answers refuses limit fault start now input left' held holds)
   stop_read fault None now left left' holds begun total number refused (front, given, done, begun_open) (kind, kept) = tt
   stop_read fault (Some input) now left left' holds begun total number refused (front, given, done, begun_open) (kind, kept) =
       let consumed = Consumes-kept (Some input) left left' (front ++ begun) done.consumed kept in
@@ -196,7 +196,7 @@ module _ {S : Type 0} (answers : S → ℕ → List ℕ → Answer → S → Typ
         written = ⊎_elim (λ (is : fault ≡ Read). rw is done.written) (λ (is : fault ≡ Memory). rw is done.written) kind;
         read = front ++ begun;
         consumed = consumed;
-        reach = ⊎_elim (λ (is : fault ≡ Read). rw is (refl, reached)) (λ (is : fault ≡ Memory). rw is tt) kind;
+        reach = ⊎_elim (λ (is : fault ≡ Read). rw is (refl, reached)) (λ (is : fault ≡ Memory). rw is (inl refl)) kind;
       }
 
   -- what is written after a text
@@ -220,10 +220,10 @@ module _ {S : Type 0} (answers : S → ℕ → List ℕ → Answer → S → Typ
       → Consumes (Some input) left' read → input ≡ front ++ rest → IsWhole front →
       Advances answers start now (lines front) given 1 number 0 refused false
       → RunsFront answers now (answerable_from number (lines rest)) found after → Appends held holds (text_of given)
-      → IsWritten fault holds holds' (text_of found) → (fault ≡ Write) ⊎ (fault ≡ Memory)
-      → Stops answers fault start last input left' held holds'
+      → IsWritten fault holds holds' (text_of found) → (fault ≡ Write) ⊎ (fault ≡ Memory) → IsLeft refuses after last
+      → Stops answers refuses limit fault start last input left' held holds'
   stop_at fault input read rest now last after left' holds holds' front given found number refused consumed e whole done run
-      first later kind =
+      first later kind left_so =
       record {
         given = given ++ found;
         after = after;
@@ -234,7 +234,7 @@ module _ {S : Type 0} (answers : S → ℕ → List ℕ → Answer → S → Typ
             (written_after fault holds holds' (text_of given) (text_of found) kind first later);
         read = read;
         consumed = consumed;
-        reach = ⊎_elim (λ (is : fault ≡ Write). rw is tt) (λ (is : fault ≡ Memory). rw is tt) kind;
+        reach = ⊎_elim (λ (is : fault ≡ Write). rw is left_so) (λ (is : fault ≡ Memory). rw is left_so) kind;
       }
 
   -- the answers to a block could not be written, or the service found no memory
@@ -242,8 +242,8 @@ module _ {S : Type 0} (answers : S → ℕ → List ℕ → Answer → S → Typ
       (begun more bytes excess : List ℕ) (total number refused : ℕ)
       → UnderWay answers start now known left held holds begun total number refused → Consumes left left' more →
       begun ++ more ≡ bytes ++ excess
-      → BreaksOff answers fault now bytes number holds holds'
-      → IfSome known (λ input. Stops answers fault start last input left' held holds')
+      → BreaksOff answers refuses fault now last bytes number holds holds'
+      → IfSome known (λ input. Stops answers refuses limit fault start last input left' held holds')
   stop_block fault None now last left left' holds holds' begun more bytes excess total number refused
       (front, given, done, begun_open) read cut broken = tt
   stop_block fault (Some input) now last left None holds holds' begun more bytes excess total number refused
@@ -257,14 +257,14 @@ module _ {S : Type 0} (answers : S → ℕ → List ℕ → Answer → S → Typ
       ∙ ap (λ t. front ++ t) (append_assoc bytes excess rest) in
       stop_at fault input ((front ++ begun) ++ more) (bytes ++ (excess ++ rest)) now last broken.after (Some rest) holds holds'
       front given broken.given number refused
-      consumed e done.whole done.advances (broken.run (excess ++ rest)) done.written broken.written broken.kind
+      consumed e done.whole done.advances (broken.run (excess ++ rest)) done.written broken.written broken.kind broken.left
 
   -- the same of the last line
   pub stop_rest : (fault : StreamFault) (known : Option (List ℕ)) (now last : S) (left left' holds holds' : Option (List ℕ))
       (begun : List ℕ) (total number refused : ℕ)
       → UnderWay answers start now known left held holds begun total number refused → Consumes left left' [] → IsAtEnd left'
-      → EndsOff answers fault now begun number holds holds'
-      → IfSome known (λ input. Stops answers fault start last input left' held holds')
+      → EndsOff answers refuses fault now last begun number holds holds'
+      → IfSome known (λ input. Stops answers refuses limit fault start last input left' held holds')
   stop_rest fault None now last left left' holds holds' begun total number refused (front, given, done, begun_open) none end broken = tt
   stop_rest fault (Some input) now last left None holds holds' begun total number refused (front, given, done, begun_open) none end broken =
       absurd (Consumes-trans (Some input) left None (front ++ begun) [] done.consumed none)
@@ -274,7 +274,7 @@ module _ {S : Type 0} (answers : S → ℕ → List ℕ → Answer → S → Typ
       (Consumes-trans (Some input) left (Some rest) (front ++ begun) [] done.consumed none) in
       let e : input ≡ front ++ begun = consumed ∙ ap (λ t. (front ++ begun) ++ t) end ∙ append-nil (front ++ begun) in
       stop_at fault input (front ++ begun) begun now last broken.after (Some rest) holds holds' front given broken.given number refused
-      consumed e done.whole done.advances broken.run done.written broken.written broken.kind
+      consumed e done.whole done.advances broken.run done.written broken.written broken.kind broken.left
 
   -- the lines that ended in what was read
   ends_run : (now : S) (front back : List ℕ) (given : List Answer) (number refused : ℕ) (over : Bool)
@@ -291,8 +291,8 @@ module _ {S : Type 0} (answers : S → ℕ → List ℕ → Answer → S → Typ
   pub stop_long : (known : Option (List ℕ)) (now : S) (left holds : Option (List ℕ)) (front bytes excess : List ℕ) (at : ℕ)
       (given : List Answer) (total number refused : ℕ) (over : Bool)
       → Done answers start now known left held holds front (drop at bytes ++ excess) given total number refused over
-      → (over ≡ false → NoneEnds bytes at (length bytes)) → total ≡ input_limit + 1 → length excess ≡ 1
-      → IfSome known (λ input. Stops answers TooLong start now input left held holds)
+      → (over ≡ false → NoneEnds bytes at (length bytes)) → total ≡ limit + 1 → length excess ≡ 1
+      → IfSome known (λ input. Stops answers refuses limit TooLong start now input left held holds)
   stop_long None now left holds front bytes excess at given total number refused over done none long one = tt
   stop_long (Some input) now left holds front bytes excess at given total number refused over done none long one =
       let back = drop at bytes in
@@ -300,9 +300,9 @@ module _ {S : Type 0} (answers : S → ℕ → List ℕ → Answer → S → Typ
       let same : front ++ (back ++ excess) ≡ (front ++ back) ++ excess = sym (append_assoc front back excess) in
       let both = ap length same in
       let parts = length-append (front ++ back) excess in
-      let limit : length (front ++ back) ≡ input_limit = omega (arith, done.all) in
-      let kept : take input_limit (front ++ (back ++ excess)) ≡ front ++ back =
-      ap (take input_limit) same ∙ take_at (front ++ back) excess input_limit limit in
+      let long_as : length (front ++ back) ≡ limit = omega (arith, done.all) in
+      let kept : take limit (front ++ (back ++ excess)) ≡ front ++ back =
+      ap (take limit) same ∙ take_at (front ++ back) excess limit long_as in
       let open_back = λ (go : over ≡ false). subst IsOpen (take_rest bytes at)
       (open_part bytes at (length bytes) (omega arith) (none go)) in
       record {

@@ -1,9 +1,8 @@
 -- How a service answers the lines of a stream, one after another. This project's own choice.
-use Rattle.std.specs.Prelude.{◌≡◌, ℕ, ◌+◌, ◌≤◌, false, MatchBool, List, [], ◌∷◌, ◌++◌, length, take, Option, Some, ⊤, ◌⊎◌}
+use Rattle.std.specs.Prelude.{◌≡◌, ℕ, ◌+◌, ◌≤◌, false, MatchBool, List, [], ◌∷◌, ◌++◌, length, take, Option, Some, ◌⊎◌}
 use Rattle.std.specs.Io.KnownBytes.{Appends, Consumes}
 use Rattle.line_protocol.specs.Answers.{Answer, is_end, is_over, refusals, text_of}
 use Rattle.line_protocol.specs.Lines.{numbered, whole_lines}
-use Rattle.line_protocol.specs.Limits.{input_limit}
 use Rattle.line_protocol.specs.declared.faults.StreamFault.{StreamFault}
 use Rattle.line_protocol.specs.declared.faults.StreamFault.TheVariants.{Read, Write, Memory, TooLong}
 
@@ -45,36 +44,42 @@ module _ {S : Type 0} (answers : S → ℕ → List ℕ → Answer → S → Typ
   -- there are no more answers than lines
   RunsFront before [] (answer ∷ given) after = ⊥
 
-  -- A stream of lines was answered to its end, or to the answer that ended it. `input` is all that the reader had, `left` what
+  -- A stream of lines was answered to its end, or to the answer that ended it. At most `limit` bytes were read. `input` is all that the reader had, `left` what
   -- it has now; `held` and `holds` are what the writer held before and holds now; `refused` is the number that was returned.
-  pub record Finishes (before after : S) (input : List ℕ) (left held holds : Option (List ℕ)) (refused : ℕ) : Type 0 where
+  pub record Finishes (limit : ℕ) (before after : S) (input : List ℕ) (left held holds : Option (List ℕ)) (refused : ℕ) : Type 0 where
     pub given : List Answer
     pub run : Runs before (numbered input) given after
     pub written : Appends held holds (text_of given)
     pub counted : refused ≡ refusals given
     pub read : List ℕ
     pub consumed : Consumes (Some input) left read
-    pub within : length read ≤ input_limit
+    pub within : length read ≤ limit
     pub to_end : is_over given ≡ false → left ≡ Some []
 
-  -- How far the answers reach where a fault ended the stream, when `read` was read of it.
-  abbrev pub Reaches : StreamFault → S → S → List ℕ → List Answer → S → Type 0
+-- How a service is left that gave some answers, the last of which left it as `after`: so, or as a call left it that was then
+-- refused memory. `refuses before after` says that such a call may leave the service so.
+abbrev pub IsLeft : {S : Type 0} → (S → S → Type 0) → S → S → Type 0
+IsLeft refuses after now = (now ≡ after) ⊎ refuses after now
+
+module _ {S : Type 0} (answers : S → ℕ → List ℕ → Answer → S → Type 0) (refuses : S → S → Type 0) where
+  -- How far the answers reach where a fault ended the stream, when `read` was read of it and `limit` bytes may be.
+  abbrev pub Reaches : ℕ → StreamFault → S → S → List ℕ → List Answer → S → Type 0
   -- each line that ended in what was read is answered
-  Reaches Read before now read given after = (now ≡ after) × Runs before (numbered (whole_lines read)) given after
-  -- some lines may have no answer, and where the service itself found no memory nothing is said of it
-  Reaches Write before now read given after = ⊤
-  Reaches Memory before now read given after = ⊤
+  Reaches limit Read before now read given after = (now ≡ after) × Runs answers before (numbered (whole_lines read)) given after
+  -- some lines may have no answer, but each line that the service answered has the answer
+  Reaches limit Write before now read given after = IsLeft refuses after now
+  Reaches limit Memory before now read given after = IsLeft refuses after now
   -- one byte more than the limit was read, and each line that ended within the limit is answered
-  Reaches TooLong before now read given after = (length read ≡ input_limit + 1) × (now ≡ after)
-      × Runs before (numbered (whole_lines (take input_limit read))) given after
+  Reaches limit TooLong before now read given after = (length read ≡ limit + 1) × (now ≡ after)
+      × Runs answers before (numbered (whole_lines (take limit read))) given after
 
   -- A fault ended a stream of lines: the first lines of the input are answered, each whole. The names are those of `Finishes`,
   -- and `now` is the service as the fault left it.
-  pub record Stops (fault : StreamFault) (before now : S) (input : List ℕ) (left held holds : Option (List ℕ)) : Type 0 where
+  pub record Stops (limit : ℕ) (fault : StreamFault) (before now : S) (input : List ℕ) (left held holds : Option (List ℕ)) : Type 0 where
     pub given : List Answer
     pub after : S
-    pub run : RunsFront before (numbered input) given after
+    pub run : RunsFront answers before (numbered input) given after
     pub written : IsWritten fault held holds (text_of given)
     pub read : List ℕ
     pub consumed : Consumes (Some input) left read
-    pub reach : Reaches fault before now read given after
+    pub reach : Reaches limit fault before now read given after

@@ -3,7 +3,7 @@ use Rattle.std.specs.Prelude.{◌≡◌, ℕ, ◌+◌, ◌<◌, ◌≤◌, Bool,
 use Rattle.std.specs.Str.Lines.{lines}
 use Rattle.line_protocol.specs.Answers.{Answer, is_over, refusals, text_of}
 use Rattle.line_protocol.specs.Lines.{answerable_from, is_line_feed}
-use Rattle.line_protocol.specs.Runs.{Runs, RunsFront, IsWritten}
+use Rattle.line_protocol.specs.Runs.{IsLeft, Runs, RunsFront, IsWritten}
 use Rattle.line_protocol.specs.declared.faults.StreamFault.{StreamFault}
 use Rattle.line_protocol.specs.declared.faults.StreamFault.TheVariants.{Write, Memory}
 
@@ -30,22 +30,24 @@ pub record AnswersFront {S : Type 0} (answers : S → ℕ → List ℕ → Answe
 
 -- The writer failed, or memory was refused. Until then the first lines of these bytes and of what follows them were
 -- answered, the first of them numbered `first`, and the writer got these answers, or a front of them if it failed.
-pub record BreaksOff {S : Type 0} (answers : S → ℕ → List ℕ → Answer → S → Type 0) (fault : StreamFault)
-    (before : S) (bytes : List ℕ) (first : ℕ) (held holds : Option (List ℕ)) : Type 0 where
+pub record BreaksOff {S : Type 0} (answers : S → ℕ → List ℕ → Answer → S → Type 0) (refuses : S → S → Type 0) (fault : StreamFault)
+    (before now : S) (bytes : List ℕ) (first : ℕ) (held holds : Option (List ℕ)) : Type 0 where
   pub given : List Answer
   pub after : S
   pub run : (left : List ℕ) → RunsFront answers before (answerable_from first (lines (bytes ++ left))) given after
   pub written : IsWritten fault held holds (text_of given)
   pub kind : (fault ≡ Write) ⊎ (fault ≡ Memory)
+  pub left : IsLeft refuses after now
 
 -- the same for a last line without a line feed, which nothing follows
-pub record EndsOff {S : Type 0} (answers : S → ℕ → List ℕ → Answer → S → Type 0) (fault : StreamFault)
-    (before : S) (bytes : List ℕ) (first : ℕ) (held holds : Option (List ℕ)) : Type 0 where
+pub record EndsOff {S : Type 0} (answers : S → ℕ → List ℕ → Answer → S → Type 0) (refuses : S → S → Type 0) (fault : StreamFault)
+    (before now : S) (bytes : List ℕ) (first : ℕ) (held holds : Option (List ℕ)) : Type 0 where
   pub given : List Answer
   pub after : S
   pub run : RunsFront answers before (answerable_from first (lines bytes)) given after
   pub written : IsWritten fault held holds (text_of given)
   pub kind : (fault ≡ Write) ⊎ (fault ≡ Memory)
+  pub left : IsLeft refuses after now
 
 -- no line ends in this part of a text
 abbrev pub NoneEnds : List ℕ → ℕ → ℕ → Type 0

@@ -22,6 +22,9 @@ pub trait Service {
     // The service may give this answer to the line of this number, and is then the later service.
     ghost answers: { Self → ℕ → List ℕ → Answer → Self → Type 0 };
 
+    // A call that is refused memory may leave the service so.
+    ghost refuses: { Self → Self → Type 0 };
+
     /// Answers the line of this number: appends the answer to `out`. After an error the caller drops
     /// what was appended.
     fn answer(
@@ -33,7 +36,8 @@ pub trait Service {
     ) -> Result<Reply, AllocError>
         ensures ok { IfOk result (λ reply. (text : List ℕ) × (out.new.items ≡ out.old.items ++ text)
             × answers self.old number line.now (record { text = text; reply = reply }) self.new) }
-        ensures err { OnErr result (StartsWith out.new.items out.old.items) };
+        ensures err { OnErr result (StartsWith out.new.items out.old.items) }
+        ensures left { OnErr result (refuses self.old self.new) };
 }
 
 /// Appends a number in decimal digits. Most numbers of answers have one or two, and are written without a buffer.

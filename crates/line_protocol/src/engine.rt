@@ -5,7 +5,8 @@ ghost use Rattle.std.specs.Io.KnownBytes.{Appends, Consumes, IsAtEnd, Keeps};
 ghost use Rattle.std.specs.Str.Lines.{lines, strip_carriage_return};
 ghost use Rattle.line_protocol.specs.Answers.{Answer, text_of};
 ghost use Rattle.line_protocol.specs.Lines.{is_line_feed, is_skipped};
-ghost use Rattle.line_protocol.specs.Runs.{Finishes, IsReadFault, Stops};
+ghost use Rattle.line_protocol.specs.Runs.{Finishes, IsLeft, IsReadFault, Stops};
+ghost use Rattle.line_protocol.specs.Limits.{input_limit};
 ghost use Rattle.line_protocol.specs.Steps.{Advances, AnswersFront, BreaksOff, EndsOff, NoneEnds};
 
 use crate::INPUT_LIMIT;
@@ -102,6 +103,7 @@ fn answer_line<S: Service>(
     ensures err { OnErr result ((progress.new.number ≡ progress.old.number)
         × (progress.new.refused ≡ progress.old.refused) × (progress.new.over ≡ false)
         × (progress.new.text.items ≡ progress.old.text.items)) }
+    ensures left { OnErr result (S.refuses service.old service.new) }
 {
     if is_skipped(line) {
         progress.number += 1;
@@ -150,7 +152,8 @@ fn answer_whole_lines<S: Service>(
     ensures err { OnErr result ((after : S) × (at : ℕ) × (given : List Answer)
         × AnswersFront S.answers service.old after bytes.now at given
         progress.old.number progress.new.number progress.old.refused progress.new.refused progress.new.over
-        × (progress.new.text.items ≡ progress.old.text.items ++ text_of given)) }
+        × (progress.new.text.items ≡ progress.old.text.items ++ text_of given)
+        × IsLeft S.refuses after service.new) }
 {
     let mut at = 0;
     let mut from = searched;
@@ -189,7 +192,7 @@ fn answer_block<W: Write, S: Service>(
         × Appends (W.contents writer.old) (W.contents writer.new) (text_of given)) }
     ensures begun { IfOk result (λ at. progress.new.over ≡ false → NoneEnds bytes.now at (length bytes.now)) }
     ensures cleared { OnOk result (progress.new.text.items ≡ []) }
-    ensures err { IfErr result (λ fault. BreaksOff S.answers fault service.old bytes.now progress.old.number
+    ensures err { IfErr result (λ fault. BreaksOff S.answers S.refuses fault service.old service.new bytes.now progress.old.number
         (W.contents writer.old) (W.contents writer.new)) }
 {
     let answered = answer_whole_lines(alloc, service, bytes, searched, progress);
@@ -217,7 +220,7 @@ fn answer_rest<W: Write, S: Service>(
         × Advances S.answers service.old service.new (lines bytes.now) given
         progress.old.number progress.new.number progress.old.refused progress.new.refused progress.new.over
         × Appends (W.contents writer.old) (W.contents writer.new) (text_of given)) }
-    ensures err { IfErr result (λ fault. EndsOff S.answers fault service.old bytes.now progress.old.number
+    ensures err { IfErr result (λ fault. EndsOff S.answers S.refuses fault service.old service.new bytes.now progress.old.number
         (W.contents writer.old) (W.contents writer.new)) }
 {
     if bytes.is_empty() {
@@ -300,22 +303,24 @@ fn answer_blocks<R: Read, W: Write, S: Service>(
     service: &mut S,
     buffer: &mut Vec<u8>,
     progress: &mut Progress,
+    limit: usize,
 ) -> Result<u32, StreamFault>
+    requires limit { limit + 2 < 2 ^ 32 }
     requires first { progress.old.number ≡ 1 }
     requires counted { progress.old.refused ≡ 0 }
     requires goes_on { progress.old.over ≡ false }
     requires written { progress.old.text.items ≡ [] }
     ensures ok { IfOk result (λ refused. IfSome (R.remaining reader.old) (λ input.
-        Finishes S.answers service.old service.new input (R.remaining reader.new)
+        Finishes S.answers limit service.old service.new input (R.remaining reader.new)
         (W.contents writer.old) (W.contents writer.new) refused)) }
     ensures err { IfErr result (λ fault. IfSome (R.remaining reader.old) (λ input.
-        Stops S.answers fault service.old service.new input (R.remaining reader.new)
+        Stops S.answers S.refuses limit fault service.old service.new input (R.remaining reader.new)
         (W.contents writer.old) (W.contents writer.new))) }
 {
     let mut begun = 0;
     let mut total = 0;
     'turns: loop {
-        let most = BLOCK.max(begun).min(INPUT_LIMIT + 1 - total);
+        let most = BLOCK.max(begun).min(limit + 1 - total);
         let n = read_block(reader, buffer, begun, most)?;
         if n == 0 {
             answer_rest(
@@ -328,10 +333,10 @@ fn answer_blocks<R: Read, W: Write, S: Service>(
             return Ok(progress.refused);
         }
         total += n;
-        let end = begun + n - total.saturating_sub(INPUT_LIMIT);
+        let end = begun + n - total.saturating_sub(limit);
         let block = &buffer.as_slice()[..end];
         let at = answer_block(alloc, writer, service, block, begun, progress)?;
-        if total > INPUT_LIMIT {
+        if total > limit {
             return Err(StreamFault::TooLong);
         }
         if progress.over {
@@ -345,7 +350,8 @@ fn answer_blocks<R: Read, W: Write, S: Service>(
 /// answers and nothing else. Returns how many lines were refused.
 ///
 /// It reads in blocks. The answers to the lines of a block are written and flushed before more is
-/// read. Where a fault ends it, each answer that was written is whole, unless the writer failed.
+/// read. Where a fault ends it, each answer that was written is whole, unless the writer failed, and each line that the service
+/// answered has its answer. At most `INPUT_LIMIT` bytes are answered.
 pub fn answer_lines<R: Read, W: Write, S: Service>(
     alloc: Global,
     reader: &mut R,
@@ -353,13 +359,40 @@ pub fn answer_lines<R: Read, W: Write, S: Service>(
     service: &mut S,
 ) -> Result<u32, StreamFault>
     ensures ok { IfOk result (λ refused. IfSome (R.remaining reader.old) (λ input.
-        Finishes S.answers service.old service.new input (R.remaining reader.new)
+        Finishes S.answers input_limit service.old service.new input (R.remaining reader.new)
         (W.contents writer.old) (W.contents writer.new) refused)) }
     ensures err { IfErr result (λ fault. IfSome (R.remaining reader.old) (λ input.
-        Stops S.answers fault service.old service.new input (R.remaining reader.new)
+        Stops S.answers S.refuses input_limit fault service.old service.new input (R.remaining reader.new)
+        (W.contents writer.old) (W.contents writer.new))) }
+{
+    answer_lines_within(alloc, INPUT_LIMIT, reader, writer, service)
+}
+
+/// Does what `answer_lines` does with an input that may have so many bytes. Lines are numbered below 2^32, so no limit is above that.
+pub fn answer_lines_within<R: Read, W: Write, S: Service>(
+    alloc: Global,
+    limit: usize,
+    reader: &mut R,
+    writer: &mut W,
+    service: &mut S,
+) -> Result<u32, StreamFault>
+    requires { limit + 2 < 2 ^ 32 }
+    ensures ok { IfOk result (λ refused. IfSome (R.remaining reader.old) (λ input.
+        Finishes S.answers limit service.old service.new input (R.remaining reader.new)
+        (W.contents writer.old) (W.contents writer.new) refused)) }
+    ensures err { IfErr result (λ fault. IfSome (R.remaining reader.old) (λ input.
+        Stops S.answers S.refuses limit fault service.old service.new input (R.remaining reader.new)
         (W.contents writer.old) (W.contents writer.new))) }
 {
     let mut buffer = Vec::new(alloc);
     let mut progress = Progress::new(alloc);
-    answer_blocks(alloc, reader, writer, service, &mut buffer, &mut progress)
+    answer_blocks(
+        alloc,
+        reader,
+        writer,
+        service,
+        &mut buffer,
+        &mut progress,
+        limit,
+    )
 }

@@ -15,8 +15,8 @@ pub enum StreamFault {
     /// Memory was refused.
     #[error("out of memory")]
     Memory,
-    /// The input has more than `INPUT_LIMIT` bytes.
-    #[error("the input has more than 16777216 bytes")]
+    /// The input has more bytes than its limit.
+    #[error("the input is too long")]
     TooLong,
 }
 

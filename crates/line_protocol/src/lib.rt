@@ -15,7 +15,7 @@ mod streams;
 mod words;
 
 pub use answers::{Reply, Service, push_decimal, push_refusal};
-pub use engine::answer_lines;
+pub use engine::{answer_lines, answer_lines_within};
 pub use faults::StreamFault;
 pub use input::read_input;
 pub use streams::write_text;
@@ -25,5 +25,5 @@ pub use words::{next_word, trim_blanks, trim_front_blanks};
 /// return before that not counted.
 pub const LINE_LIMIT: usize = 1_048_576;
 
-/// An input of more bytes than this ends with `StreamFault::TooLong`.
+/// An input of more bytes than this ends with `StreamFault::TooLong`, unless the engine is given another limit.
 pub const INPUT_LIMIT: usize = 16_777_216;

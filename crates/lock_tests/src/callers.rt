@@ -3,6 +3,7 @@
 ghost use Rattle.std.specs.Prelude.{IfSome};
 ghost use Rattle.slot_lock.specs.Held.{IsPassOf};
 
+use crate::kinds::event_of;
 use netchange_core::Event;
 use slot_lock::{Answer, Pass, Router, TryFault};
 use std::alloc::Global;
@@ -18,6 +19,10 @@ pub enum Work {
     /// It tells of a distance under a session, by `try_call`: the first is 0, each one more than the one before, and 0 again
     /// after 4.
     Tell(u32),
+    /// It enters events of each kind, by `try_call`.
+    TryEach,
+    /// It enters events of each kind, by `call`.
+    CallEach,
 }
 
 /// A caller, and how often it calls.
@@ -55,6 +60,7 @@ fn enter<R: Wait>(rt: &R, router: &Router, pass: &mut Pass, event: Event) -> Opt
 /// Calls once.
 fn call<R: Wait>(
     rt: &R,
+    alloc: Global,
     router: &Router,
     pass: &mut Pass,
     work: Work,
@@ -66,6 +72,8 @@ fn call<R: Wait>(
     match work {
         Work::Look => router.call(rt, pass, Event::Show(0)).ok(),
         Work::Tell(session) => enter(rt, router, pass, Event::Receive(session, 3, number % 5)),
+        Work::TryEach => enter(rt, router, pass, event_of(alloc, number)?),
+        Work::CallEach => router.call(rt, pass, event_of(alloc, number)?).ok(),
     }
 }
 
@@ -80,7 +88,7 @@ fn serve<R: Wait>(rt: &R, alloc: Global, router: &Router, caller: Caller) -> Opt
         answers: Vec::new(alloc),
     };
     for number in 0..calls {
-        let answer = call(rt, router, &mut ended.pass, work, number)?;
+        let answer = call(rt, alloc, router, &mut ended.pass, work, number)?;
         ended.answers.push(answer).ok()?;
     }
     Some(ended)

@@ -6,6 +6,8 @@ mod callers;
 #[cfg(test)]
 mod fixtures;
 #[cfg(test)]
+mod kinds;
+#[cfg(test)]
 mod one_thread;
 #[cfg(test)]
 mod threads;

@@ -62,6 +62,8 @@ struct Echo;
 impl Service for Echo {
     ghost answers = { λ _ _ _ _ _. Unit {0} };
 
+    ghost refuses = { λ _ _. Unit {0} };
+
     fn answer(
         &mut self,
         _alloc: Global,

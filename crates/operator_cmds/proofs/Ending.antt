@@ -1,6 +1,6 @@
 -- A script ends where its input does: no answer ends it before.
 use Rattle.std.proofs.Common.{◌≡◌, ℕ, ◌==◌, Bool, true, false, ◌||◌, List, [], ◌∷◌, length, Option, Some, None, Ok, Err, Global, refl, subst, ap, ◌∙◌, inl, inr, nat_lt}
-use Rattle.std.specs.Prelude.{MatchBool, codes, if◌then◌else◌}
+use Rattle.std.specs.Prelude.{MatchBool, codes, if◌then◌else◌, ⊤}
 use Rattle.std.specs.BTreeMap.{BTreeMap, is_at}
 use Rattle.std.specs.Cmp.Lexicographic.{slice_cmp}
 use Rattle.std.specs.Map.{lookup}
@@ -13,6 +13,7 @@ use Rattle.filter_source.specs.declared.refusal.Refusal.{Refusal}
 use Rattle.filter_verifier.specs.VerifiedView.{VerifiedView}
 use Rattle.line_protocol.specs.Answers.{Answer, is_end, is_over}
 use Rattle.line_protocol.specs.Lines.{numbered}
+use Rattle.line_protocol.specs.Limits.{input_limit}
 use Rattle.line_protocol.specs.Runs.{Finishes, Runs, Stops}
 use Rattle.line_protocol.specs.declared.faults.StreamFault.{StreamFault}
 use Rattle.netchange_core.specs.declared.event.Event.{Event}
@@ -146,12 +147,12 @@ is_fresh filters e =
     ap script e
 
 pub carried_out : (before after : ScriptView) (input : List ℕ) (left held holds : Option (List ℕ)) (n : ℕ) → before ≡ fresh
-    → Finishes AnswersLine before after input left held holds n → IsCarriedOut input left held holds n
+    → Finishes AnswersLine input_limit before after input left held holds n → IsCarriedOut input left held holds n
 carried_out before after input left held holds n e f =
-    let g = subst (λ (s : ScriptView). Finishes AnswersLine s after input left held holds n) e f in
+    let g = subst (λ (s : ScriptView). Finishes AnswersLine input_limit s after input left held holds n) e f in
     record { after = after; finishes = g; to_end = g.to_end (not_over fresh (numbered input) g.given after g.run) }
 
 pub broken_off : (fault : StreamFault) (before now : ScriptView) (input : List ℕ) (left held holds : Option (List ℕ)) → before ≡ fresh
-    → Stops AnswersLine fault before now input left held holds → IsBrokenOff fault input left held holds
+    → Stops AnswersLine (λ _ _. ⊤) input_limit fault before now input left held holds → IsBrokenOff fault input left held holds
 broken_off fault before now input left held holds e f =
-    record { after = now; stops = subst (λ (s : ScriptView). Stops AnswersLine fault s now input left held holds) e f }
+    record { after = now; stops = subst (λ (s : ScriptView). Stops AnswersLine (λ _ _. ⊤) input_limit fault s now input left held holds) e f }

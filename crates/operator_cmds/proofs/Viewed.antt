@@ -1,6 +1,6 @@
 -- A run of a service is a run of what contracts see of it.
-use Rattle.std.proofs.Common.{ℕ, Bool, true, false, List, [], ◌∷◌, Option, Some, None, IfSome, ap}
-use Rattle.std.specs.Prelude.{MatchBool}
+use Rattle.std.proofs.Common.{ℕ, Bool, true, false, List, [], ◌∷◌, Option, Some, None, IfSome, ap, inr}
+use Rattle.std.specs.Prelude.{MatchBool, ⊤}
 use Rattle.line_protocol.specs.Answers.{Answer, is_end}
 use Rattle.line_protocol.specs.Lines.{numbered}
 use Rattle.line_protocol.specs.Runs.{Finishes, Reaches, Runs, RunsFront, Stops}
@@ -31,8 +31,8 @@ module _ {S V : Type 0} (view : S → V) (answers : V → ℕ → List ℕ → A
   front_run s (l ∷ ls) (a ∷ more) after h =
       (view h.0, h.1, either (is_end a.reply) _ _ _ _ (λ p. (p.0, ap view p.1)) (λ q. front_run h.0 ls more after q) h.2)
 
-  pub finishes : (s after : S) (input : List ℕ) (left held holds : Option (List ℕ)) (n : ℕ)
-      → Finishes of_service s after input left held holds n → Finishes answers (view s) (view after) input left held holds n
+  pub finishes : {limit : ℕ} (s after : S) (input : List ℕ) (left held holds : Option (List ℕ)) (n : ℕ)
+      → Finishes of_service limit s after input left held holds n → Finishes answers limit (view s) (view after) input left held holds n
   finishes s after input left held holds n f = record {
     given = f.given;
     run = whole_run s (numbered input) f.given after f.run;
@@ -44,15 +44,15 @@ module _ {S V : Type 0} (view : S → V) (answers : V → ℕ → List ℕ → A
     to_end = f.to_end;
   }
 
-  reaches : (fault : StreamFault) (s now : S) (read : List ℕ) (given : List Answer) (after : S)
-      → Reaches of_service fault s now read given after → Reaches answers fault (view s) (view now) read given (view after)
-  reaches Read s now read given after h = (ap view h.0, whole_run s _ given after h.1)
-  reaches Write s now read given after h = tt
-  reaches Memory s now read given after h = tt
-  reaches TooLong s now read given after h = (h.0, ap view h.1, whole_run s _ given after h.2)
+  reaches : (limit : ℕ) (fault : StreamFault) (s now : S) (read : List ℕ) (given : List Answer) (after : S)
+      → Reaches of_service (λ _ _. ⊤) limit fault s now read given after → Reaches answers (λ _ _. ⊤) limit fault (view s) (view now) read given (view after)
+  reaches limit Read s now read given after h = (ap view h.0, whole_run s _ given after h.1)
+  reaches limit Write s now read given after h = inr tt
+  reaches limit Memory s now read given after h = inr tt
+  reaches limit TooLong s now read given after h = (h.0, ap view h.1, whole_run s _ given after h.2)
 
-  pub stops : (fault : StreamFault) (s now : S) (input : List ℕ) (left held holds : Option (List ℕ))
-      → Stops of_service fault s now input left held holds → Stops answers fault (view s) (view now) input left held holds
+  pub stops : {limit : ℕ} (fault : StreamFault) (s now : S) (input : List ℕ) (left held holds : Option (List ℕ))
+      → Stops of_service (λ _ _. ⊤) limit fault s now input left held holds → Stops answers (λ _ _. ⊤) limit fault (view s) (view now) input left held holds
   stops fault s now input left held holds f = record {
     given = f.given;
     after = view f.after;
@@ -60,7 +60,7 @@ module _ {S V : Type 0} (view : S → V) (answers : V → ℕ → List ℕ → A
     written = f.written;
     read = f.read;
     consumed = f.consumed;
-    reach = reaches fault s now f.read f.given f.after f.reach;
+    reach = reaches _ fault s now f.read f.given f.after f.reach;
   }
 
 -- Of bytes that are known, more follows.

@@ -34,10 +34,13 @@ pub(crate) struct Script {
 }
 
 impl Service for Script {
+    ghost use Rattle.std.specs.Prelude.{⊤};
     ghost use Rattle.operator_cmds.specs.Script.{AnswersLine};
     ghost use Rattle.operator_cmds.specs.State.{script_of};
 
     ghost answers = { λ before number line answer after. AnswersLine (script_of before) number line answer (script_of after) };
+
+    ghost refuses = { λ _ _. ⊤ };
 
     fn answer(
         &mut self,

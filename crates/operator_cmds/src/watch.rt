@@ -69,11 +69,14 @@ struct Watched<S: Watch + Drop> {
 }
 
 impl<S: Watch + Drop> Service for Watched<S> {
+    ghost use Rattle.std.specs.Prelude.{⊤};
     ghost use Rattle.operator_cmds.specs.Script.{AnswersLine};
     ghost use Rattle.operator_cmds.specs.State.{script_of};
 
     ghost answers = { λ before number line answer after.
         AnswersLine (script_of before.script) number line answer (script_of after.script) };
+
+    ghost refuses = { λ _ _. ⊤ };
 
     fn answer(
         &mut self,

@@ -116,6 +116,8 @@ impl Input {
 impl Service for Input {
     ghost answers = { λ _ _ _ _ _. Unit {0} };
 
+    ghost refuses = { λ _ _. Unit {0} };
+
     fn answer(
         &mut self,
         alloc: Global,

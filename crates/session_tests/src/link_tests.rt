@@ -4,8 +4,12 @@ use crate::fixtures::{OpenGate, bring_up, message, open};
 use netchange_core::{Event, Message, Reply};
 use route_session::{Cause, ChannelLink, Got, Link, LinkFault, read_session, write_session};
 use std::io::{ErrorKind, Read, Write};
+use std::rt::Clock;
 use std::sync::Wait;
+use std::sync::atomic::{AtomicU64, Ordering};
 use std::test::Fail;
+use std::thread;
+use std::time::Duration;
 
 /// What is sent into one end of a channel comes out of the other, in order; what an end has no direction for fails.
 #[test]
@@ -37,6 +41,54 @@ fn a_channel_is_closed(rt: HostRuntime) -> Result<(), Fail> {
     let (mut writer, mut reader) = ChannelLink::pair(rt.alloc())?;
     reader.close();
     assert!(&rt; writer.send(&rt, message(1, 1)) == Err(LinkFault));
+    Ok(())
+}
+
+/// Sends so many messages, and counts those that were taken.
+fn send_all<R: Wait>(rt: &R, writer: &mut ChannelLink, count: u16, sent: &AtomicU64) -> bool {
+    for node in 0..count {
+        if writer.send(rt, message(node, 3)).is_err() {
+            return false;
+        }
+        sent.fetch_add(1, Ordering::SeqCst);
+    }
+    true
+}
+
+/// Waits until the channel is full and a while longer: how many messages it took by then. Then receives all.
+fn receive_late<R: Wait + Clock>(
+    rt: &R,
+    reader: &mut ChannelLink,
+    count: u16,
+    sent: &AtomicU64,
+) -> Option<u64> {
+    for _ in 0..10_000 {
+        if sent.load(Ordering::SeqCst) >= 64 {
+            break;
+        }
+        thread::sleep(rt, Duration::from_millis(1));
+    }
+    thread::sleep(rt, Duration::from_millis(20));
+    let full = sent.load(Ordering::SeqCst);
+    for node in 0..count {
+        if reader.recv(rt) != Ok(Got::Message(message(node, 3))) {
+            return None;
+        }
+    }
+    Some(full)
+}
+
+/// A channel takes 64 messages. The sender of the next waits until there is room, and none is lost.
+#[test]
+fn a_full_channel_waits(rt: HostRuntime) -> Result<(), Fail> {
+    let (mut writer, mut reader) = ChannelLink::pair(rt.alloc())?;
+    let sent = AtomicU64::new(0);
+    let (are_sent, full) = thread::join(
+        &rt,
+        || -> bool { send_all(&rt, &mut writer, 200, &sent) },
+        || -> Option<u64> { receive_late(&rt, &mut reader, 200, &sent) },
+    );
+    assert!(&rt; are_sent && full == Some(64));
     Ok(())
 }
 

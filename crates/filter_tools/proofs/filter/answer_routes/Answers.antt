@@ -6,16 +6,16 @@ use Rattle.filter_commands.specs.declared.fault.ProgramFault.TheVariants.{Stream
 use Rattle.filter_tools.proofs.Answered.{breaks_off, ends_well}
 use Rattle.filter_tools.proofs.filter.answer_routes.Goals as goal
 
-pub returns-in_err-answer_lines-clause-broken_off : goal.returns-in_err-answer_lines-clause-broken_off
-returns-in_err-answer_lines-clause-broken_off g c =
+pub returns-in_err-answer_lines_within-clause-broken_off : goal.returns-in_err-answer_lines_within-clause-broken_off
+returns-in_err-answer_lines_within-clause-broken_off g c =
     let v = c.args.verified in
-    let fault = c.in_err-answer_lines.field-0.0 in
+    let fault = c.in_err-answer_lines_within.field-0.0 in
     of_error c.from_residual.result _ (Stream fault) c.from_residual.ensures.1
-    (if_known _ (λ input f. breaks_off v fault (record { verified = v }) c.answer_lines.new.service input _ _ _ refl f)
-    c.in_err-answer_lines.ensures.err)
+    (if_known _ (λ input f. breaks_off v fault (record { verified = v }) c.answer_lines_within.new.service input _ _ _ refl f)
+    c.in_err-answer_lines_within.ensures.err)
 
 pub returns-clause-finished : goal.returns-clause-finished
 returns-clause-finished g c =
     let v = c.args.verified in
-    if_known _ (λ input f. ends_well v (record { verified = v }) c.answer_lines.new.service input _ _ _ c.in_ok-answer_lines.field-0 refl f)
-    c.in_ok-answer_lines.ensures.ok
+    if_known _ (λ input f. ends_well v (record { verified = v }) c.answer_lines_within.new.service input _ _ _ c.in_ok-answer_lines_within.field-0 refl f)
+    c.in_ok-answer_lines_within.ensures.ok

@@ -20,7 +20,7 @@ pub returns-in_err-n-clause-err : goal.returns-in_err-n-clause-err
 returns-in_err-n-clause-err g c =
     let p = err_from_is_err_and c.from_residual.result c.from_residual.ensures.1 in
     let was = c.turns.progress in
-    rw (p.1, p.2) (stop_read g.S.Service.answers c.args.service.now (g.W.Write.contents c.args.writer.now) c.in_err-n.field-0.0
+    rw (p.1, p.2) (stop_read g.S.Service.answers g.S.Service.refuses c.args.limit c.args.service.now (g.W.Write.contents c.args.writer.now) c.in_err-n.field-0.0
     (g.R.Read.remaining c.args.reader.now)
     c.turns.service (g.R.Read.remaining c.turns.reader) (g.R.Read.remaining c.read_block.new.reader) (g.W.Write.contents c.turns.writer)
     (take c.turns.begun c.turns.buffer.items) c.turns.total was.number was.refused c.turns.invariant.under_way c.in_err-n.ensures.err)
@@ -31,7 +31,7 @@ returns-in_err-answer_rest-clause-err g c =
     let was = c.turns.progress in
     let none = rw c.if-n-eq0.true at c.in_ok-n.ensures.bytes in
     let broken = rw (c.as_slice.ensures.value, c.in_ok-n.ensures.front) at c.in_err-answer_rest.ensures.err in
-    rw (p.1, p.2) (stop_rest g.S.Service.answers c.args.service.now (g.W.Write.contents c.args.writer.now)
+    rw (p.1, p.2) (stop_rest g.S.Service.answers g.S.Service.refuses c.args.limit c.args.service.now (g.W.Write.contents c.args.writer.now)
     c.in_err-answer_rest.field-0.0 (g.R.Read.remaining c.args.reader.now)
     c.turns.service c.answer_rest.new.service (g.R.Read.remaining c.turns.reader) (g.R.Read.remaining c.read_block.new.reader)
     (g.W.Write.contents c.turns.writer) (g.W.Write.contents c.answer_rest.new.writer)
@@ -44,7 +44,7 @@ returns-then-n-eq0-clause-ok g c =
     let now = c.answer_rest.new.progress in
     let none = rw c.if-n-eq0.true at c.in_ok-n.ensures.bytes in
     let told = rw (c.as_slice.ensures.value, c.in_ok-n.ensures.front) at c.in_ok-answer_rest.ensures.ok in
-    finish_end g.S.Service.answers c.args.service.now (g.W.Write.contents c.args.writer.now) (g.R.Read.remaining c.args.reader.now)
+    finish_end g.S.Service.answers g.S.Service.refuses c.args.limit c.args.service.now (g.W.Write.contents c.args.writer.now) (g.R.Read.remaining c.args.reader.now)
     c.turns.service c.answer_rest.new.service (g.R.Read.remaining c.turns.reader) (g.R.Read.remaining c.read_block.new.reader)
     (g.W.Write.contents c.turns.writer) (g.W.Write.contents c.answer_rest.new.writer)
     (take c.turns.begun c.turns.buffer.items) c.turns.total was.number now.number was.refused now.refused now.over
@@ -68,7 +68,7 @@ returns-in_err-at-clause-err g c =
     let end = (c.turns.begun + c.in_ok-n.n) - c.saturating_sub.result in
     let broken = rw c.as_slice-in-turns.ensures.value at c.in_err-at.ensures.err in
     let cut = begun_cut c.turns.buffer.items new c.turns.begun c.in_ok-n.ensures.front c.in_ok-n.n end (omega arith) in
-    rw (p.1, p.2) (stop_block g.S.Service.answers c.args.service.now (g.W.Write.contents c.args.writer.now)
+    rw (p.1, p.2) (stop_block g.S.Service.answers g.S.Service.refuses c.args.limit c.args.service.now (g.W.Write.contents c.args.writer.now)
     c.in_err-at.field-0.0 (g.R.Read.remaining c.args.reader.now)
     c.turns.service c.answer_block.new.service (g.R.Read.remaining c.turns.reader) (g.R.Read.remaining c.read_block.new.reader)
     (g.W.Write.contents c.turns.writer) (g.W.Write.contents c.answer_block.new.writer)
@@ -76,8 +76,8 @@ returns-in_err-at-clause-err g c =
     (drop end (take (c.turns.begun + c.in_ok-n.n) new))
     c.turns.total was.number was.refused c.turns.invariant.under_way c.in_ok-n.ensures.bytes cut broken)
 
-pub returns-then-total-gt-INPUT_LIMIT-clause-err : goal.returns-then-total-gt-INPUT_LIMIT-clause-err
-returns-then-total-gt-INPUT_LIMIT-clause-err g c =
+pub returns-then-total-limit-clause-err : goal.returns-then-total-limit-clause-err
+returns-then-total-limit-clause-err g c =
     let was = c.turns.progress in
     let now = c.answer_block.new.progress in
     let (front, given, done, begun_open) = c.turns.invariant.under_way in
@@ -97,8 +97,8 @@ returns-then-total-gt-INPUT_LIMIT-clause-err g c =
     let read_len = length-take both new in
     let excess_len = length-drop end (take both new) in
     let one : length excess ≡ 1 = omega (arith, c.in_ok-n.ensures.room.0) in
-    let long : c.turns.total + n ≡ 16777217 = omega (arith, c.in_ok-n.ensures.room.0) in
-    stop_long g.S.Service.answers c.args.service.now (g.W.Write.contents c.args.writer.now) (g.R.Read.remaining c.args.reader.now)
+    let long : c.turns.total + n ≡ c.args.limit + 1 = omega (arith, c.in_ok-n.ensures.room.0) in
+    stop_long g.S.Service.answers g.S.Service.refuses c.args.limit c.args.service.now (g.W.Write.contents c.args.writer.now) (g.R.Read.remaining c.args.reader.now)
     c.answer_block.new.service (g.R.Read.remaining c.read_block.new.reader) (g.W.Write.contents c.answer_block.new.writer)
     (front ++ take c.in_ok-at.at (take end new)) (take end new) excess c.in_ok-at.at (given ++ found) (c.turns.total + n)
     now.number now.refused now.over
@@ -128,7 +128,7 @@ returns-then-progress-clause-ok g c =
     let left = length-drop c.turns.begun new in
     let more_len = length-take n (drop c.turns.begun new) in
     let sum : c.turns.total + n ≡ c.turns.total + length more = omega arith in
-    finish_over g.S.Service.answers c.args.service.now (g.W.Write.contents c.args.writer.now) (g.R.Read.remaining c.args.reader.now)
+    finish_over g.S.Service.answers g.S.Service.refuses c.args.limit c.args.service.now (g.W.Write.contents c.args.writer.now) (g.R.Read.remaining c.args.reader.now)
     c.answer_block.new.service (g.R.Read.remaining c.read_block.new.reader) (g.W.Write.contents c.answer_block.new.writer)
     (front ++ take c.in_ok-at.at (take end new)) (drop c.in_ok-at.at (take end new) ++ excess) (given ++ found)
     (c.turns.total + n) now.number now.refused
