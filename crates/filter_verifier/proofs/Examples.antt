@@ -9,10 +9,10 @@ use Rattle.filter_verifier.specs.FirstFault.{first_fault, the_fault}
 use Rattle.filter_verifier.specs.InStates.{incoming}
 use Rattle.filter_verifier.specs.Bounds.{cost, peak}
 
--- the fault of instructions with one local variable, one empty set of patterns and two of ints, in a domain of a size
+-- the fault of instructions with one local variable and one empty set of patterns, in a domain of a size
 abbrev fault_at : ℕ → List Instr → Option VerifyFault
 fault_at size instrs =
-    let program : CodeView = record { locals = 1; sets = [] ∷ []; int_sets = [] ∷ ([] ∷ []); instrs = instrs } in
+    let program : CodeView = record { locals = 1; sets = [] ∷ []; int_sets = []; instrs = instrs } in
     the_fault program size
 
 -- the metric times a number
@@ -105,16 +105,3 @@ pub metric_less_metric : fault_at 8 (instr.Int 8 ∷ (instr.Metric ∷ (instr.Me
     ∷ (instr.SetMetric ∷ (instr.Accept ∷ []))))))) ≡ Some (refusal.LowerMetric 5)
 unfolding incoming first_fault
 metric_less_metric = refl
-
--- sets of ints are numbered by themselves, and what is asked about is an int
-pub asks : fault_at 8 (instr.Metric ∷ (instr.InSet 1 ∷ (instr.JumpIfNot 1 ∷ (instr.Accept ∷ (instr.Reject ∷ []))))) ≡ None
-unfolding incoming first_fault
-asks = refl
-
-pub no_such_set : fault_at 8 (instr.Metric ∷ (instr.InSet 2 ∷ (instr.Accept ∷ []))) ≡ Some (refusal.UnknownName 1)
-unfolding incoming first_fault
-no_such_set = refl
-
-pub set_of_a_prefix : fault_at 8 (instr.Net ∷ (instr.InSet 1 ∷ (instr.Accept ∷ []))) ≡ Some (refusal.WrongKind 1)
-unfolding incoming first_fault
-set_of_a_prefix = refl
