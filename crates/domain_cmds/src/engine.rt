@@ -106,10 +106,12 @@ impl<S: Watch + Drop> Service for Watched<S> {
         line: &[u8],
         out: &mut Vec<u8>,
     ) -> Result<Reply, AllocError> {
+        let begun = out.len();
         let reply = self.engine.answer(alloc, number, line, out)?;
         if reply == Reply::Refused {
+            let answer = out.as_slice().get(begun..).unwrap_or(&[]);
             self.watcher
-                .see_refused(alloc, number, line, self.engine.size());
+                .see_refused(alloc, number, line, answer, self.engine.size());
         }
         Ok(reply)
     }

@@ -5,6 +5,7 @@
 mod aid;
 mod guided;
 mod network;
+mod refused_words;
 mod replay;
 mod script;
 mod serve;

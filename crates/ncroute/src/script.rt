@@ -4,7 +4,7 @@ ghost use Rattle.filter_commands.specs.Faults.{stream_fault};
 ghost use Rattle.ncroute.specs.Scripts.{IsAnswered, IsLeftOff, IsQuiet, RunsScript, StopsScript, script_fault};
 
 use crate::serve::{FAILED, status_of};
-use crate::watcher::Teller;
+use crate::watcher::{Guide, Teller};
 use command_line::Engine;
 use domain_cmds::{run_domain, run_watched_domain};
 use filter_commands::ProgramFault;
@@ -26,8 +26,8 @@ pub fn script_fault(engine: Engine) -> u8
     }
 }
 
-/// Answers the lines of a script that people know by a name. Where `is_explained` says so, it is told in words why a filter is
-/// refused. Returns the number of refused lines.
+/// Answers the lines of a script that people know by a name. Where `is_explained` says so, it is told in words why a line
+/// is refused. Returns the number of refused lines.
 fn answer<R: Read, W: Write, E: Write>(
     alloc: Global,
     engine: Engine,
@@ -48,7 +48,12 @@ fn answer<R: Read, W: Write, E: Write>(
             alloc,
             reader,
             writer,
-            Teller { name, errors },
+            Guide {
+                name,
+                errors,
+                is_explained,
+                stops: false,
+            },
         ),
         (Engine::Router, false) => run_script(alloc, reader, writer),
         (Engine::Domain, true) => run_watched_domain(

@@ -23,8 +23,16 @@ pub struct RefusedFilter<'a> {
 
 /// Somebody who watches a script.
 pub trait Watch {
-    /// Is shown a line that is refused, and the number of nodes of the domain, if one is set up. The answer is written later.
-    fn see_refused(&mut self, alloc: Global, number: u32, line: &[u8], size: Option<u16>);
+    /// Is shown a line that is refused with its answer, which is written later, and the number of nodes of the domain, if one is set
+    /// up.
+    fn see_refused(
+        &mut self,
+        alloc: Global,
+        number: u32,
+        line: &[u8],
+        answer: &[u8],
+        size: Option<u16>,
+    );
 }
 
 /// Nobody watches.
@@ -32,7 +40,15 @@ pub trait Watch {
 pub struct Nobody;
 
 impl Watch for Nobody {
-    fn see_refused(&mut self, _alloc: Global, _number: u32, _line: &[u8], _size: Option<u16>) {}
+    fn see_refused(
+        &mut self,
+        _alloc: Global,
+        _number: u32,
+        _line: &[u8],
+        _answer: &[u8],
+        _size: Option<u16>,
+    ) {
+    }
 }
 
 /// The code file that a line gives, where it is refused.
@@ -82,10 +98,12 @@ impl<S: Watch + Drop> Service for Watched<S> {
         line: &[u8],
         out: &mut Vec<u8>,
     ) -> Result<Reply, AllocError> {
+        let begun = out.len();
         let reply = self.script.answer(alloc, number, line, out)?;
         if reply == Reply::Refused {
+            let answer = out.as_slice().get(begun..).unwrap_or(&[]);
             self.watcher
-                .see_refused(alloc, number, line, self.script.size());
+                .see_refused(alloc, number, line, answer, self.script.size());
         }
         Ok(reply)
     }

@@ -104,16 +104,25 @@ impl<V: Write + Drop, S: Watch + Drop> Service for Saving<V, S> {
         line: &[u8],
         out: &mut Vec<u8>,
     ) -> Result<Reply, AllocError> {
+        let begun = out.len();
         let saved = count_entries(&self.script);
         let reply = self.script.answer(alloc, number, line, out)?;
         self.save(alloc, saved)?;
-        Ok(self.end(alloc, number, line, reply))
+        let told = out.as_slice().get(begun..).unwrap_or(&[]);
+        Ok(self.end(alloc, number, line, told, reply))
     }
 }
 
 impl<V: Write + Drop, S: Watch + Drop> Saving<V, S> {
     /// Shows a line that is refused to who watches, and makes it the last one where the script ends there.
-    fn end(&mut self, alloc: Global, number: u32, line: &[u8], reply: Reply) -> Reply
+    fn end(
+        &mut self,
+        alloc: Global,
+        number: u32,
+        line: &[u8],
+        told: &[u8],
+        reply: Reply,
+    ) -> Reply
         ensures script { script_of self.new.script ≡ script_of self.old.script }
         ensures saver { self.new.saver ≡ self.old.saver }
         ensures stops { self.new.stops ≡ self.old.stops }
@@ -123,7 +132,7 @@ impl<V: Write + Drop, S: Watch + Drop> Saving<V, S> {
             return reply;
         }
         self.watcher
-            .see_refused(alloc, number, line, self.script.size());
+            .see_refused(alloc, number, line, told, self.script.size());
         if self.stops { Reply::Ended } else { reply }
     }
 
