@@ -14,8 +14,11 @@ sys.dont_write_bytecode = True
 import program  # noqa: E402
 
 FILTER = b"filter up2 { rip_metric = rip_metric + 2; accept; }\n"
-CODE = b"4e43463100000008130100000002201424157071"
+CODE = b"4e4346320000000008130100000002201424157071"
+OLD_CODE = b"4e43463100000008130100000002201424157071"
 HISTORY = b"NCH1 4 0 9 10.0.0.0/16 10.1.0.0/16 10.2.0.0/16 10.3.0.0/16\n0 up 1 opened 1\n1 show 1 route 4 none\n"
+CASE_CODE = b"4e4346320000020001000000000000000000020000000100000001000000030000000500101352006100027160000a1352016100027060000501000000071424157071"
+SET_CODE = b"4e43463200000100020000000200000002000000040000000600051352006100017071"
 LINES = b"code " + CODE + b"\nverified 7 2\n"
 
 # The words, the input, the output and the exit status.
@@ -33,8 +36,27 @@ RUNS = [
     ("check --size 4294967295", FILTER, b"code " + CODE + b"\nrefused V8 0\n", 1),
     ("check --size 8", CODE, b"refused P2 0\n", 1),
     ("check --size 8 --code", FILTER, b"refused O3 1\n", 1),
-    ("check --size 8", b"filter d { if 8 / rip_metric = 2 then accept; }", b"code 4e43463100000008010000000813230100000002306100017071\nrefused V3 2\n", 1),
+    ("check --size 8", b"filter d { if 8 / rip_metric = 2 then accept; }", b"code 4e4346320000000008010000000813230100000002306100017071\nrefused V3 2\n", 1),
     ("check --size 8 --code", b"4e434631000000017000", b"refused C6 9\n", 1),
+    ("check --size=8 --code", OLD_CODE, LINES, 0),
+    ("eval", OLD_CODE + b"\n10.0.0.0/8 3 8\n", b"accept 5\n", 0),
+    ("eval", b"4e434632000000000170\n10.0.0.0/8 3 8\n", b"accept 3\n", 0),
+    ("eval", b"4e4346320000000170\n10.0.0.0/8 3 8\n", b"refused C2 9\n", 1),
+    ("eval", CASE_CODE + b"".join(b"\n10.0.0.0/8 %d 8" % metric for metric in (0, 1, 2, 4, 8)), b"reject\naccept 1\naccept 7\naccept 4\naccept 8\n", 0),
+    ("eval", SET_CODE + b"\n10.0.0.0/8 5 8\n10.0.0.0/8 3 8\n", b"accept 5\nreject\n", 0),
+    ("rewrite", OLD_CODE, CODE + b"\n", 0),
+    ("rewrite", CODE + b" \r\n", CODE + b"\n", 0),
+    ("rewrite --old", CODE, OLD_CODE + b"\n", 0),
+    ("rewrite --old", OLD_CODE, OLD_CODE + b"\n", 0),
+    ("rewrite", b"4e4346310000000170", b"4e434632000000000170\n", 0),
+    ("rewrite", SET_CODE, SET_CODE + b"\n", 0),
+    ("rewrite --old", SET_CODE, b"refused C8 0\n", 1),
+    ("rewrite --old", b"4e43463200000000031352007071", b"refused C6 13\n", 1),
+    ("rewrite", b"4e4346310000000152", b"refused C3 8\n", 1),
+    ("rewrite --old", b"4e434632000000000313520070", b"refused C8 0\n", 1),
+    ("rewrite", b"", b"refused C2 0\n", 1),
+    ("rewrite", b"code", b"refused O3 1\n", 1),
+    ("rewrite more", b"", b"", 2),
     ("check --size 8 --explain always", b"filter a { accept }", b"refused P2 18\n", 1),
     ("check --size 8 --explain always", FILTER, LINES, 0),
     ("check --size 8 --explain never", b"filter a { accept }", b"refused P2 18\n", 1),
@@ -90,6 +112,8 @@ FAULTS = [
     ("echo 'filter q { accept; }' | ncroute check --size 8 2>&1 >/dev/full; echo $?", b"ncroute: E2\n1\n"),
     ("echo 4e4 | ncroute eval 2>&1 >/dev/full; echo $?", b"ncroute: E2\n1\n"),
     ("ncroute net 2>&1 >/dev/full; echo $?", b"ncroute: E2\n1\n"),
+    ("echo 4e4346310000000170 | ncroute rewrite 2>&1 >/dev/full; echo $?", b"ncroute: E2\n1\n"),
+    ("ncroute rewrite < examples 2>&1; echo $?", b"ncroute: E1\n1\n"),
     ("ncroute eval < examples >/dev/null 2>/dev/full; echo $?", b"1\n"),
     ("ncroute eval < examples 2>&-; echo $?", b"1\n"),
     ("ncroute check 2>&-; echo $?", b"2\n"),
@@ -117,7 +141,7 @@ FAULTS = [
     ("ncroute explain | head -1", b"A code is a letter and a number. The letters are:\n"),
     ("printf 'network 16 0\\n\\tload  b filter b int c; { c = 100 / rip_metric; accept; }\\ncode d 00\\nload\\n' | ncroute run --explain always 2>&1 >/dev/null; echo $?",
      b"<stdin>:2:36: the divisor may be 0: it is 0..16 here, whatever the conditions before it; see `ncroute explain V3` (V3)\n\tload  b filter b int c; { c = 100 / rip_metric; accept; }\n\t"
-     + b" " * 34 + b"^\n<stdin>:3: byte 0 does not match the mark NCF1, which begins a code file (C1)\n1\n"),
+     + b" " * 34 + b"^\n<stdin>:3: byte 0 does not match the mark NCF1 or NCF2, which begins a code file (C1)\n1\n"),
     ("printf 'network 4 0\\nload a filter a { accept }\\nup 1\\n' | ncroute run --explain always 2>/dev/full; echo $?",
      b"ok\nrefused P2 18\nopened 1\n1\n"),
     ("ncroute domain < examples 2>&1; echo $?", b"ncroute: E1\n3\n"),

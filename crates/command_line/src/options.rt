@@ -37,6 +37,14 @@ pub fn code_option<'a>(alloc: Global) -> Arg<'a> {
         .help("Read a code file in hexadecimal in place of a filter")
 }
 
+/// The option by which a code file is written in the older form.
+pub fn old_option<'a>(alloc: Global) -> Arg<'a> {
+    Arg::new(alloc, "old")
+        .long("old")
+        .action(ArgAction::SetTrue)
+        .help("Write the older form, NCF1")
+}
+
 /// The option by which a refusal is told in words on standard error.
 pub fn explain_option<'a>(alloc: Global) -> Arg<'a> {
     Arg::new(alloc, "explain")

@@ -4,7 +4,9 @@ use crate::aid_words::{
     has_files, list_command, list_in, replay_command, replay_in, script_in,
 };
 use crate::classes::page_of;
-use crate::options::{code_option, explain_option, file_option, script_file, size_option};
+use crate::options::{
+    code_option, explain_option, file_option, old_option, script_file, size_option,
+};
 use crate::terminals::Terminals;
 use clap::error::ErrorKind;
 use clap::{ArgMatches, Command, Error};
@@ -31,6 +33,11 @@ pub enum Request {
         size: u32,
         /// Standard input is a code file in hexadecimal, and not a filter's text.
         is_code: bool,
+    },
+    /// Write the code file of standard input in the newer form.
+    Rewrite {
+        /// It is written in the older form.
+        is_old: bool,
     },
     /// Carry out the script of standard input: its commands drive a router.
     Run,
@@ -106,6 +113,11 @@ fn words_in<R: Eprint>(
     }
     if let Some(replay) = matches.subcommand_matches("replay") {
         return Ok(Words::Aided(replay_in(alloc, replay)?));
+    }
+    if let Some(rewrite) = matches.subcommand_matches("rewrite") {
+        return Ok(Words::Asked(Request::Rewrite {
+            is_old: rewrite.get_flag("old"),
+        }));
     }
     let Some(check) = matches.subcommand_matches("check") else {
         return Ok(Words::Asked(Request::Eval));
@@ -215,6 +227,7 @@ fn command<'a>(alloc: Global) -> Result<Command<'a>, AllocError> {
         .subcommand(filter_command(alloc)?)?
         .subcommand(list_command(alloc)?)?
         .subcommand(replay_command(alloc)?)?
+        .subcommand(rewrite_command(alloc)?)?
         .subcommand(run_command(alloc)?)?
         .subcommand(net)
 }
@@ -226,6 +239,14 @@ fn run_command<'a>(alloc: Global) -> Result<Command<'a>, AllocError> {
         .after_help(RUN_HELP)
         .arg(explain_option(alloc))?
         .arg(script_file(alloc))
+}
+
+/// The command `rewrite`.
+fn rewrite_command<'a>(alloc: Global) -> Result<Command<'a>, AllocError> {
+    Command::new(alloc, "rewrite")
+        .about("Write a code file in the newer form, or in the older one")
+        .after_help(REWRITE_HELP)
+        .arg(old_option(alloc))
 }
 
 /// The command `check`.
@@ -278,6 +299,21 @@ Example:
   printf '4e4346310000000170\\n10.0.0.0/8 3 8\\n' | ncroute eval
 prints `accept 3`. The exit status is 0; 1 if a line was refused or a fault
 ended the run; 2 if the command line is wrong.
+";
+
+const REWRITE_HELP: &str = "\
+Standard input is a code file in hexadecimal, of either form. One line is printed: the file of
+the same code in the newer form, NCF2, or with --old in the older one, NCF1. Each code has one
+file in the newer form; in the older one a code with sets of ints has none.
+For input that is refused the line is `refused CODE AT` instead:
+  C1 to C6   not a code file: an error at byte AT
+  C8         the code has sets of ints, which the older form has not
+  O3, O7     not hexadecimal; more than 1,048,576 bytes
+
+Example:
+  echo 4e4346310000000170 | ncroute rewrite
+prints `4e434632000000000170`. The exit status is 0; 1 if the input was refused or a
+fault ended the run; 2 if the command line is wrong.
 ";
 
 const RUN_HELP: &str = "\

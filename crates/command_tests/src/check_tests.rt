@@ -44,7 +44,7 @@ fn filters_are_compiled_and_verified(rt: HostRuntime) -> Result<(), Fail> {
 
 #[test]
 fn domains_have_2_to_250_nodes(rt: HostRuntime) -> Result<(), Fail> {
-    let want = "code 4e434631000000027071\nrefused V8 0\n";
+    let want = "code 4e43463200000000027071\nrefused V8 0\n";
     for size in [0, 1, 251, 65_536, u32::MAX] {
         expect_lines(rt.alloc(), b"filter q { accept; }", size, false, want)?;
         expect_lines(rt.alloc(), b"4e434631000000027071", size, true, want)?;
@@ -100,85 +100,100 @@ fn texts_are_refused(rt: HostRuntime) -> Result<(), Fail> {
 }
 
 /// A code file in hexadecimal, the size, and the lines.
-const CODE_FILES: [(&[u8], u32, &str); 27] = [
+const CODE_FILES: [(&[u8], u32, &str); 34] = [
     (
         b"4e434631000000051301ffffffff201570",
         8,
-        "code 4e434631000000051301ffffffff201570\nrefused V6 3\n",
+        "code 4e43463200000000051301ffffffff201570\nrefused V6 3\n",
     ),
     (
         b"4e43463100000005130100000002201570\n",
         8,
-        "code 4e43463100000005130100000002201570\nverified 5 2\n",
+        "code 4e4346320000000005130100000002201570\nverified 5 2\n",
     ),
     (
         b"4e43463100000005130100000002221570 \t\r\n",
         8,
-        "code 4e43463100000005130100000002221570\nverified 5 2\n",
+        "code 4e4346320000000005130100000002221570\nverified 5 2\n",
     ),
     (
         b"4E43463100000005130100000000221570",
         8,
-        "code 4e43463100000005130100000000221570\nrefused V6 3\n",
+        "code 4e4346320000000005130100000000221570\nrefused V6 3\n",
     ),
     (
         b"4e4346310000000301000000081570",
         8,
-        "code 4e4346310000000301000000081570\nverified 3 1\n",
+        "code 4e434632000000000301000000081570\nverified 3 1\n",
     ),
     (
         b"4e4346310000000301000000081570",
         9,
-        "code 4e4346310000000301000000081570\nrefused V6 1\n",
+        "code 4e434632000000000301000000081570\nrefused V6 1\n",
     ),
     (
         b"4e4346310100000902016100030100000001110060000202011100100070",
         8,
-        "code 4e4346310100000902016100030100000001110060000202011100100070\nrefused V2 7\n",
+        "code 4e434632010000000902016100030100000001110060000202011100100070\nrefused V2 7\n",
     ),
     (
         b"4e4346310000000501000000000201610001010000000170",
         8,
-        "code 4e4346310000000501000000000201610001010000000170\nrefused V9 4\n",
+        "code 4e434632000000000501000000000201610001010000000170\nrefused V9 4\n",
     ),
     (
         b"4e4346310000000260000170",
         8,
-        "code 4e4346310000000260000170\nrefused V4 0\n",
+        "code 4e434632000000000260000170\nrefused V4 0\n",
     ),
     (
         b"4e43463100000000",
         8,
-        "code 4e43463100000000\nrefused V4 0\n",
+        "code 4e4346320000000000\nrefused V4 0\n",
     ),
     (
         b"4e43463100000000",
         1,
-        "code 4e43463100000000\nrefused V8 0\n",
+        "code 4e4346320000000000\nrefused V8 0\n",
     ),
     (
         b"4e4346310000000113",
         8,
-        "code 4e4346310000000113\nrefused V4 0\n",
+        "code 4e434632000000000113\nrefused V4 0\n",
     ),
     (
         b"4e4346310000002213131313131313131313131313131313131313131313131313131313131313131370",
         8,
-        "code 4e4346310000002213131313131313131313131313131313131313131313131313131313131313131370\nrefused V5 32\n",
+        "code 4e434632000000002213131313131313131313131313131313131313131313131313131313131313131370\nrefused V5 32\n",
     ),
     (
         b"4e434631000000031361000070",
         8,
-        "code 4e434631000000031361000070\nrefused V2 1\n",
+        "code 4e43463200000000031361000070\nrefused V2 1\n",
     ),
     (
         b"4e43463101000002100070",
         8,
-        "code 4e43463101000002100070\nrefused V2 0\n",
+        "code 4e4346320100000002100070\nrefused V2 0\n",
     ),
     (b"", 8, "refused C2 0\n"),
     (b"\n", 8, "refused C2 0\n"),
-    (b"4e4346320000000170", 8, "refused C1 3\n"),
+    (b"4e4346330000000170", 8, "refused C1 3\n"),
+    (b"4e4346320000000170", 8, "refused C2 9\n"),
+    (b"4e43463200000000021352 ", 8, "refused C2 11\n"),
+    (b"4e4346310000000152", 8, "refused C3 8\n"),
+    (
+        b"4e434632000001000100000003000000020001",
+        8,
+        "refused C4 9\n",
+    ),
+    (b"4e43463200004100", 8, "refused C5 6\n"),
+    (b"4e4346320000010401", 8, "refused C5 7\n"),
+    (
+        b"4e434632000000000313520070",
+        8,
+        "code 4e434632000000000313520070\nrefused V7 1\n",
+    ),
     (b"4e43463100000001", 8, "refused C2 8\n"),
     (b"4e4346310000000172", 8, "refused C3 8\n"),
     (b"4e4346310000000204010203041070", 8, "refused C4 9\n"),
@@ -189,12 +204,12 @@ const CODE_FILES: [(&[u8], u32, &str); 27] = [
     (
         b"4e43463100000002100070",
         8,
-        "code 4e43463100000002100070\nrefused V7 0\n",
+        "code 4e4346320000000002100070\nrefused V7 0\n",
     ),
     (
         b"4e434631000000022370",
         8,
-        "code 4e434631000000022370\nrefused V1 0\n",
+        "code 4e43463200000000022370\nrefused V1 0\n",
     ),
 ];
 
@@ -275,7 +290,7 @@ fn parentheses_use_the_stack(rt: HostRuntime) -> Result<(), Fail> {
 
 /// The bytes of an input, whether it is code, and the lines.
 const LONG_INPUTS: [(usize, bool, &str); 7] = [
-    (65_536, false, "code 4e434631000000027071\nverified 1 0\n"),
+    (65_536, false, "code 4e43463200000000027071\nverified 1 0\n"),
     (65_537, false, "refused P7 65536\n"),
     (1_048_576, false, "refused P7 65536\n"),
     (1_048_577, false, "refused O7 1\n"),
@@ -319,7 +334,7 @@ fn is_cut_short(alloc: Global, room: usize) -> bool {
     let mut reader: &[u8] = b"filter q { accept; }";
     let mut writer = FailingWriter::new(alloc, room);
     let result = check_text(alloc, &mut reader, &mut writer, 8, false);
-    let lines = b"code 4e434631000000027071\nverified 1 0\n";
+    let lines = b"code 4e43463200000000027071\nverified 1 0\n";
     result == Err(ProgramFault::WRITE) && lines.get(..room) == Some(writer.text())
 }
 

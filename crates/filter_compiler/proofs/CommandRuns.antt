@@ -25,7 +25,8 @@ use Rattle.filter_compiler.specs.Translation.{command_code, commands_code}
 use Rattle.filter_compiler.specs.Verdicts.{accepted, rejected, divided, Course, goes_on, ends, assigned, kept_in_range, set_to, chosen_by}
 use Rattle.filter_compiler.specs.Verdicts.{then_do, course_of, course_of_all}
 use Rattle.filter_compiler.proofs.ExpressionRuns.{Comes, expression_runs}
-use Rattle.filter_compiler.proofs.Parts.{HasAt, has_front, has_back}
+use Rattle.filter_compiler.proofs.Parts.{HasAt, HasSets, has_front, has_back, sets_front, sets_back}
+use Rattle.filter_compiler.specs.SetOrder.{SetCounts, past, with_sets}
 use Rattle.filter_compiler.proofs.Scenes.{HaveKinds, held, is_assigned, kind_of_value, locals_of}
 use Rattle.filter_compiler.proofs.Steps.{Stands, Fills, Divides, config_in, fills_more, same_place, goes_to, put, replaced, jumped}
 use Rattle.filter_compiler.proofs.Steps.{not_jumped, jumped_if_not}
@@ -131,9 +132,9 @@ module _ (program : CodeView) (route : RouteView) (decls : List DeclView) where
   metric_from scene pc depth o have has (inr f) = inr f
 
   -- an assignment
-  assign_runs : (target : TargetView) (tree : ExprView) (sets pc : ℕ) (scene : Scene) → HasSameKind (target_kind decls target) (kind_in decls tree)
+  assign_runs : (target : TargetView) (tree : ExprView) (sets : SetCounts) (pc : ℕ) (scene : Scene) → HasSameKind (target_kind decls target) (kind_in decls tree)
       → HaveKinds decls scene.variables → HasAt program.instrs pc (expression_code decls sets tree ++ target_code decls target)
-      → HasAt program.sets sets (sets_of tree) → Stands program route scene pc []
+      → HasSets program sets (sets_of tree) → Stands program route scene pc []
       → Runs (pc + length (expression_code decls sets tree ++ target_code decls target)) (target_need target (expression_need tree))
       (set_to route scene target (value_of route scene tree))
   assign_runs (to_name text) tree sets pc scene fits have has has_sets s =
@@ -163,15 +164,15 @@ module _ (program : CodeView) (route : RouteView) (decls : List DeclView) where
 
   mutual
     -- a command's code does what the command says
-    pub command_runs : (command : CommandView) (sets pc : ℕ) (scene : Scene) → KindsFit decls command → HaveKinds decls scene.variables
-        → HasAt program.instrs pc (command_code decls sets command) → HasAt program.sets sets (command_sets command) → Stands program route scene pc []
+    pub command_runs : (command : CommandView) (sets : SetCounts) (pc : ℕ) (scene : Scene) → KindsFit decls command → HaveKinds decls scene.variables
+        → HasAt program.instrs pc (command_code decls sets command) → HasSets program sets (command_sets command) → Stands program route scene pc []
         → Runs (pc + length (command_code decls sets command)) (command_need command) (course_of route command scene)
     command_runs empty sets pc scene fits have has has_sets s =
         let behind : pc ≡ pc + 0 = omega arith in
         inl (same_place program route scene pc _ [] behind s, have)
     command_runs (block body) sets pc scene fits have has has_sets s = commands_run body sets pc scene fits have has has_sets s
     command_runs (if_then test chosen) sets pc scene fits have has has_sets s =
-        let sets' = sets + length (sets_of test) in
+        let sets' = past sets (sets_of test) in
         let t = expression_code decls sets test in
         let c = command_code decls sets' chosen in
         let pc1 = pc + length t in
@@ -183,9 +184,9 @@ module _ (program : CodeView) (route : RouteView) (decls : List DeclView) where
         chosen_from scene pc1 (pc + length (if_code t c)) (0 + expression_need test) all (value_of route scene test)
         (course_of route chosen scene) (goes_on scene) (omega arith)
         (expression_runs program route decls scene have test sets pc [] kind.Bool fits.0 (has_front program.instrs pc t (instr.JumpIfNot
-        (length c) ∷ c) has) (has_front program.sets sets (sets_of test) (command_sets chosen) has_sets) s)
+        (length c) ∷ c) has) (sets_front program sets (sets_of test) (command_sets chosen) has_sets) s)
         (λ u. runs_at _ _ _ _ behind (runs_deeper _ (command_need chosen) all _ (omega arith) (command_runs chosen sets'
-        (pc1 + 1) scene fits.1 have h1.1 (has_back program.sets sets (sets_of test) (command_sets chosen) has_sets)
+        (pc1 + 1) scene fits.1 have h1.1 (sets_back program sets (sets_of test) (command_sets chosen) has_sets)
         (not_jumped program route scene pc1 (length c) [] h1.0 u))))
         (λ u. inl (
           same_place program route scene (pc1 + (1 + length c)) _ [] over (jumped_if_not program route scene pc1
@@ -193,8 +194,8 @@ module _ (program : CodeView) (route : RouteView) (decls : List DeclView) where
           have,
         ))
     command_runs (if_else test chosen other) sets pc scene fits have has has_sets s =
-        let sets1 = sets + length (sets_of test) in
-        let sets2 = sets1 + length (command_sets chosen) in
+        let sets1 = past sets (sets_of test) in
+        let sets2 = past sets1 (command_sets chosen) in
         let t = expression_code decls sets test in
         let c = command_code decls sets1 chosen in
         let d = command_code decls sets2 other in
@@ -210,18 +211,18 @@ module _ (program : CodeView) (route : RouteView) (decls : List DeclView) where
         let over : pc2 + (1 + length d) ≡ end = omega (arith, l1, l2) in
         let to_other : pc1 + (1 + (length c + 1)) ≡ pc2 + 1 = omega arith in
         let behind : pc2 + 1 + length d ≡ end = omega (arith, l1, l2) in
-        let sets_rest = has_back program.sets sets (sets_of test) (command_sets chosen ++ command_sets other) has_sets in
+        let sets_rest = sets_back program sets (sets_of test) (with_sets (command_sets chosen) (command_sets other)) has_sets in
         let first = course_of route chosen scene in
         chosen_from scene pc1 end (0 + expression_need test) all (value_of route scene test) first (course_of route other scene)
         (omega arith)
         (expression_runs program route decls scene have test sets pc [] kind.Bool fits.0 (has_front program.instrs pc t (instr.JumpIfNot
-        (length c + 1) ∷ tail) has) (has_front program.sets sets (sets_of test) (command_sets chosen ++ command_sets other) has_sets) s)
+        (length c + 1) ∷ tail) has) (sets_front program sets (sets_of test) (with_sets (command_sets chosen) (command_sets other)) has_sets) s)
         (λ u. over_other pc2 end (length d) all first over h2.0 (runs_deeper _ (command_need chosen) all first (omega arith)
         (command_runs chosen sets1 (pc1 + 1) scene fits.1 have (has_front program.instrs (pc1 + 1) c (instr.Jump (length d) ∷ d) h1.1)
-        (has_front program.sets sets1 (command_sets chosen) (command_sets other) sets_rest) (not_jumped program route scene pc1
+        (sets_front program sets1 (command_sets chosen) (command_sets other) sets_rest) (not_jumped program route scene pc1
         (length c + 1) [] h1.0 u))))
         (λ u. runs_at _ _ _ _ behind (runs_deeper _ (command_need other) all _ (omega arith) (command_runs other sets2
-        (pc2 + 1) scene fits.2 have h2.1 (has_back program.sets sets1 (command_sets chosen) (command_sets other) sets_rest)
+        (pc2 + 1) scene fits.2 have h2.1 (sets_back program sets1 (command_sets chosen) (command_sets other) sets_rest)
         (same_place program route scene _ (pc2 + 1) [] to_other (jumped_if_not program route scene pc1 (length c + 1) [] h1.0 u)))))
     command_runs (assign target tree) sets pc scene fits have has has_sets s = assign_runs target tree sets pc scene fits have has has_sets s
     command_runs (accept has_text) sets pc scene fits have has has_sets s =
@@ -229,15 +230,15 @@ module _ (program : CodeView) (route : RouteView) (decls : List DeclView) where
     command_runs (reject has_text) sets pc scene fits have has has_sets s =
         inl (carried_over program route (config_in program route scene pc []) instr.Reject _ s.reached has.0 refl)
 
-    pub commands_run : (commands : CommandsView) (sets pc : ℕ) (scene : Scene) → KindsFitAll decls commands → HaveKinds decls scene.variables
-        → HasAt program.instrs pc (commands_code decls sets commands) → HasAt program.sets sets (commands_sets commands)
+    pub commands_run : (commands : CommandsView) (sets : SetCounts) (pc : ℕ) (scene : Scene) → KindsFitAll decls commands → HaveKinds decls scene.variables
+        → HasAt program.instrs pc (commands_code decls sets commands) → HasSets program sets (commands_sets commands)
         → Stands program route scene pc []
         → Runs (pc + length (commands_code decls sets commands)) (commands_need commands) (course_of_all route commands scene)
     commands_run no_commands sets pc scene fits have has has_sets s =
         let behind : pc ≡ pc + 0 = omega arith in
         inl (same_place program route scene pc _ [] behind s, have)
     commands_run (command_then first more) sets pc scene fits have has has_sets s =
-        let sets' = sets + length (command_sets first) in
+        let sets' = past sets (command_sets first) in
         let c = command_code decls sets first in
         let d = commands_code decls sets' more in
         let pc1 = pc + length c in
@@ -245,7 +246,7 @@ module _ (program : CodeView) (route : RouteView) (decls : List DeclView) where
         let behind : pc1 + length d ≡ pc + length (c ++ d) = omega (arith, length-append c d) in
         runs_at _ _ _ _ behind
         (then_from pc1 (pc1 + length d) (command_need first) all (course_of route first scene) (course_of_all route more) (omega arith)
-        (command_runs first sets pc scene fits.0 have (has_front program.instrs pc c d has) (has_front program.sets sets (command_sets first)
+        (command_runs first sets pc scene fits.0 have (has_front program.instrs pc c d has) (sets_front program sets (command_sets first)
         (commands_sets more) has_sets) s)
         (λ scene' have' u. runs_deeper _ (commands_need more) all _ (omega arith) (commands_run more sets' pc1 scene' fits.1 have'
-        (has_back program.instrs pc c d has) (has_back program.sets sets (command_sets first) (commands_sets more) has_sets) u)))
+        (has_back program.instrs pc c d has) (sets_back program sets (command_sets first) (commands_sets more) has_sets) u)))

@@ -1,6 +1,7 @@
 pub mod CommandPlaces
 pub mod CommandRuns
 pub mod ExpressionRuns
+pub mod Gathering
 pub mod InstructionPlaces
 pub mod Jumps
 pub mod Notes

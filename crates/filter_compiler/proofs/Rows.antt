@@ -22,7 +22,7 @@ filter_of decls body = record { name = codes "f"; decls = decls; body = commands
 
 -- code without sets
 abbrev without_sets : ℕ → List Instr → code.CodeView
-without_sets locals instrs = record { locals = locals; sets = []; instrs = instrs }
+without_sets locals instrs = record { locals = locals; sets = []; int_sets = []; instrs = instrs }
 
 -- a route with a metric, in a domain of this size, to a prefix of these bits
 abbrev route_of : List Bool → ℕ → ℕ → RouteView
@@ -99,6 +99,7 @@ abbrev s_code_wanted : code.CodeView
 s_code_wanted = record {
   locals = 0;
   sets = (record { bits = eight; low = 15; high = 17 } ∷ []) ∷ [];
+  int_sets = [];
   instrs = instr.Net ∷ instr.Member 0 ∷ instr.JumpIfNot 1 ∷ instr.Accept ∷ instr.Reject ∷ [];
 }
 

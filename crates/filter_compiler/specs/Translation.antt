@@ -20,20 +20,25 @@ use Rattle.filter_parser.specs.SyntaxCommands.{TargetView, to_name, to_metric, t
 use Rattle.filter_parser.specs.SyntaxText as syntax
 use Rattle.filter_code.specs.CodeView as code
 use Rattle.filter_types.specs.Kinds.{number_of}
+use Rattle.filter_compiler.specs.SetOrder.{Sets, SetCounts, no_sets, none_before, past, with_sets}
+
+-- a set of patterns alone
+abbrev pub one_set : List PrefixPattern → Sets
+one_set patterns = record { patterns = patterns ∷ [] }
 
 -- the sets of an expression, in the order of the text
-abbrev pub sets_of : ExprView → List (List PrefixPattern)
-sets_of (number n) = []
-sets_of (address a) = []
-sets_of (prefix bits) = []
-sets_of (truth b) = []
-sets_of (name text) = []
-sets_of (attribute a) = []
-sets_of (defined a) = []
+abbrev pub sets_of : ExprView → Sets
+sets_of (number n) = no_sets
+sets_of (address a) = no_sets
+sets_of (prefix bits) = no_sets
+sets_of (truth b) = no_sets
+sets_of (name text) = no_sets
+sets_of (attribute a) = no_sets
+sets_of (defined a) = no_sets
 sets_of (group inner) = sets_of inner
 sets_of (negation inner) = sets_of inner
-sets_of (binary op left right) = sets_of left ++ sets_of right
-sets_of (member op left set) = sets_of left ++ map pattern_of set ∷ []
+sets_of (binary op left right) = with_sets (sets_of left) (sets_of right)
+sets_of (member op left set) = with_sets (sets_of left) (one_set (map pattern_of set))
 sets_of (suffixed inner s) = sets_of inner
 
 -- the instructions of an operator that takes both operands, after them
@@ -83,7 +88,7 @@ attribute_code attributes.Net = instr.Net
 attribute_code attributes.RipMetric = instr.Metric
 
 -- the code of an expression among these declarations, where so many sets come before it in the text
-abbrev pub expression_code : List DeclView → ℕ → ExprView → List Instr
+abbrev pub expression_code : List DeclView → SetCounts → ExprView → List Instr
 expression_code decls sets (number n) = instr.Int n ∷ []
 expression_code decls sets (address a) = instr.Ip (record { 0 = a }) ∷ []
 expression_code decls sets (prefix bits) = instr.Prefix bits ∷ []
@@ -94,25 +99,25 @@ expression_code decls sets (defined a) = instr.Bool true ∷ []
 expression_code decls sets (group inner) = expression_code decls sets inner
 expression_code decls sets (negation inner) = expression_code decls sets inner ++ instr.Not ∷ []
 expression_code decls sets (binary op left right) =
-    joined_code op (expression_code decls sets left) (expression_code decls (sets + length (sets_of left)) right)
+    joined_code op (expression_code decls sets left) (expression_code decls (past sets (sets_of left)) right)
 expression_code decls sets (member op left set) =
-    expression_code decls sets left ++ member_code op (sets + length (sets_of left))
+    expression_code decls sets left ++ member_code op (past sets (sets_of left)).patterns
 expression_code decls sets (suffixed inner s) = expression_code decls sets inner ++ suffix_code s ∷ []
 
 -- the sets of a command and of commands one after another
 abbrev mutual
-  pub command_sets : CommandView → List (List PrefixPattern)
-  command_sets empty = []
+  pub command_sets : CommandView → Sets
+  command_sets empty = no_sets
   command_sets (block body) = commands_sets body
-  command_sets (if_then test chosen) = sets_of test ++ command_sets chosen
-  command_sets (if_else test chosen other) = sets_of test ++ (command_sets chosen ++ command_sets other)
+  command_sets (if_then test chosen) = with_sets (sets_of test) (command_sets chosen)
+  command_sets (if_else test chosen other) = with_sets (sets_of test) (with_sets (command_sets chosen) (command_sets other))
   command_sets (assign target value) = sets_of value
-  command_sets (accept has_text) = []
-  command_sets (reject has_text) = []
+  command_sets (accept has_text) = no_sets
+  command_sets (reject has_text) = no_sets
 
-  pub commands_sets : CommandsView → List (List PrefixPattern)
-  commands_sets no_commands = []
-  commands_sets (command_then first more) = command_sets first ++ commands_sets more
+  pub commands_sets : CommandsView → Sets
+  commands_sets no_commands = no_sets
+  commands_sets (command_then first more) = with_sets (command_sets first) (commands_sets more)
 
 -- a command that is passed over where the test is false
 abbrev pub if_code : List Instr → List Instr → List Instr
@@ -135,23 +140,23 @@ target_code decls to_net = []
 
 -- the code of a command, and of commands one after another
 abbrev mutual
-  pub command_code : List DeclView → ℕ → CommandView → List Instr
+  pub command_code : List DeclView → SetCounts → CommandView → List Instr
   command_code decls sets empty = []
   command_code decls sets (block body) = commands_code decls sets body
   command_code decls sets (if_then test chosen) =
-      if_code (expression_code decls sets test) (command_code decls (sets + length (sets_of test)) chosen)
+      if_code (expression_code decls sets test) (command_code decls (past sets (sets_of test)) chosen)
   command_code decls sets (if_else test chosen other) =
       if_else_code (expression_code decls sets test)
-      (command_code decls (sets + length (sets_of test)) chosen)
-      (command_code decls (sets + length (sets_of test) + length (command_sets chosen)) other)
+      (command_code decls (past sets (sets_of test)) chosen)
+      (command_code decls (past (past sets (sets_of test)) (command_sets chosen)) other)
   command_code decls sets (assign target value) = expression_code decls sets value ++ target_code decls target
   command_code decls sets (accept has_text) = instr.Accept ∷ []
   command_code decls sets (reject has_text) = instr.Reject ∷ []
 
-  pub commands_code : List DeclView → ℕ → CommandsView → List Instr
+  pub commands_code : List DeclView → SetCounts → CommandsView → List Instr
   commands_code decls sets no_commands = []
   commands_code decls sets (command_then first more) =
-      command_code decls sets first ++ commands_code decls (sets + length (command_sets first)) more
+      command_code decls sets first ++ commands_code decls (past sets (command_sets first)) more
 
 -- what puts a variable's first value on the stack
 abbrev pub first_value : Kind → Instr
@@ -168,12 +173,13 @@ declarations_code before (d ∷ rest) = first_value d.kind ∷ instr.Store befor
 -- the instructions of a filter: its declarations, its commands, and a REJECT at the end
 abbrev pub instructions : syntax.FilterView → List Instr
 instructions filter =
-    declarations_code 0 filter.decls ++ (commands_code filter.decls 0 filter.body ++ instr.Reject ∷ [])
+    declarations_code 0 filter.decls ++ (commands_code filter.decls none_before filter.body ++ instr.Reject ∷ [])
 
 -- the code of a filter
 abbrev pub code_of : syntax.FilterView → code.CodeView
 code_of filter = record {
   locals = length filter.decls;
-  sets = commands_sets filter.body;
+  sets = (commands_sets filter.body).patterns;
+  int_sets = [];
   instrs = instructions filter;
 }

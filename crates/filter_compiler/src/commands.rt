@@ -8,9 +8,10 @@ ghost use Rattle.filter_parser.specs.SyntaxText.{view_filter};
 ghost use Rattle.filter_types.specs.Kinds.{variable_limit};
 ghost use Rattle.filter_compiler.specs.InstructionPlaces.{command_places, decl_places, target_places};
 ghost use Rattle.filter_compiler.specs.Translation.{declarations_code, first_value, metric_code, target_code};
-ghost use Rattle.filter_compiler.specs.Written.{Notes, Puts, code_alone, command_part, commands_part};
+ghost use Rattle.filter_compiler.specs.Written.{Emits, Notes, Puts, command_part, commands_part};
 
-use crate::expressions::emit;
+use crate::expressions::{emit, emit_one};
+use crate::numbers::SetNumbers;
 use crate::output::Output;
 use filter_code::Instr;
 use filter_parser::{Command, Decl, Expr, Kind, Target};
@@ -33,7 +34,7 @@ fn first_value(kind: Kind) -> Instr
 /// Writes the declarations: each gives its variable the first value.
 pub(crate) fn emit_declarations(variables: &[Decl], out: &mut Output)
     requires { length variables.now ≤ variable_limit }
-    ensures code { Puts out.old out.new (code_alone (declarations_code 0 (map view_decl variables.now))) }
+    ensures code { Puts out.old out.new (declarations_code 0 (map view_decl variables.now)) }
     ensures places { Notes out.old out.new (flat_map decl_places variables.now) }
 {
     for (number, variable) in variables.iter().enumerate() {
@@ -44,7 +45,7 @@ pub(crate) fn emit_declarations(variables: &[Decl], out: &mut Output)
 
 /// Writes what sets the metric, which is at least the metric received.
 fn emit_metric(at: usize, out: &mut Output)
-    ensures code { Puts out.old out.new (code_alone metric_code) }
+    ensures code { Puts out.old out.new metric_code }
     ensures places { Notes out.old out.new (at ∷ at ∷ at ∷ []) }
 {
     out.put(at, Instr::Received);
@@ -54,7 +55,7 @@ fn emit_metric(at: usize, out: &mut Output)
 
 /// Writes what sets a variable or the metric to a value, where its name stands at a place.
 fn emit_target(typed: &Typed, at: usize, target: &Target, out: &mut Output)
-    ensures code { Puts out.old out.new (code_alone (target_code (view_filter typed.now).decls (view_target target.now))) }
+    ensures code { Puts out.old out.new (target_code (view_filter typed.now).decls (view_target target.now)) }
     ensures places { Notes out.old out.new (target_places at target.now) }
 {
     match target {
@@ -64,49 +65,62 @@ fn emit_target(typed: &Typed, at: usize, target: &Target, out: &mut Output)
     }
 }
 
-/// Writes commands one after another.
+/// Writes commands one after another, where the next sets have these numbers. What is answered are the numbers after theirs.
 #[cycle(command)]
-pub(crate) fn emit_commands(typed: &Typed, commands: &[Command], out: &mut Output)
-    ensures code { Puts out.old out.new (commands_part (view_filter typed.now).decls (commands_of (map view_command commands.now))) }
+pub(crate) fn emit_commands(
+    typed: &Typed,
+    commands: &[Command],
+    sets: SetNumbers,
+    out: &mut Output,
+) -> SetNumbers
+    ensures code { Emits out.old out.new sets result
+        (commands_part (view_filter typed.now).decls (commands_of (map view_command commands.now))) }
     ensures places { Notes out.old out.new (flat_map command_places commands.now) }
 {
+    let mut next = sets;
     for command in commands {
-        emit_command(typed, command, out);
+        next = emit_command(typed, command, next, out);
     }
+    next
 }
 
-/// Writes a command.
+/// Writes a command, where the next sets have these numbers. What is answered are the numbers after those of the command.
 #[cycle(command)]
-fn emit_command(typed: &Typed, command: &Command, out: &mut Output)
-    ensures code { Puts out.old out.new (command_part (view_filter typed.now).decls (view_command command.now)) }
+fn emit_command(typed: &Typed, command: &Command, sets: SetNumbers, out: &mut Output) -> SetNumbers
+    ensures code { Emits out.old out.new sets result (command_part (view_filter typed.now).decls (view_command command.now)) }
     ensures places { Notes out.old out.new (command_places command.now) }
 {
     match command {
-        Command::Empty(_) => {}
-        Command::Block(_, body) => emit_commands(typed, body, out),
+        Command::Empty(_) => sets,
+        Command::Block(_, body) => emit_commands(typed, body, sets, out),
         Command::If(at, test, chosen, other) => {
-            emit(typed, test, out);
+            let tested = emit(typed, test, sets, out);
             let jump = out.length;
             out.put(*at, Instr::JumpIfNot(0));
-            emit_command(typed, chosen, out);
+            let next = emit_command(typed, chosen, tested, out);
             let distance = out.distance(jump);
             match other {
-                None => out.patch(jump, Instr::JumpIfNot(distance)),
+                None => {
+                    out.patch(jump, Instr::JumpIfNot(distance));
+                    next
+                }
                 Some(other) => {
                     out.patch(jump, Instr::JumpIfNot(distance + 1));
                     let jump_over = out.length;
                     out.put(*at, Instr::Jump(0));
-                    emit_command(typed, other, out);
+                    let last = emit_command(typed, other, next, out);
                     let distance = out.distance(jump_over);
                     out.patch(jump_over, Instr::Jump(distance));
+                    last
                 }
             }
         }
         Command::Assign(at, target, value) => {
-            emit(typed, value, out);
+            let next = emit(typed, value, sets, out);
             emit_target(typed, *at, target, out);
+            next
         }
-        Command::Accept(at, _) => out.put(*at, Instr::Accept),
-        Command::Reject(at, _) => out.put(*at, Instr::Reject),
+        Command::Accept(at, _) => emit_one(*at, Instr::Accept, sets, out),
+        Command::Reject(at, _) => emit_one(*at, Instr::Reject, sets, out),
     }
 }

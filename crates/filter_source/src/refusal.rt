@@ -19,7 +19,7 @@ pub enum Refusal {
     /// O3: the digits of a code file are not hexadecimal.
     #[error("not an even number of hexadecimal digits")]
     Hexadecimal,
-    /// C1 to C6: the bytes are no code file.
+    /// C1 to C6: the bytes are no code file; C8: its code has no file in the older form.
     #[error(transparent)]
     File(FileFault),
     /// P1 to P10: the text spells no filter.

@@ -254,7 +254,7 @@ fn requests_end_with_their_status(rt: HostRuntime) -> Result<(), Fail> {
         (
             check,
             "filter a { accept; }",
-            "code 4e434631000000027071\nverified 1 0\n",
+            "code 4e43463200000000027071\nverified 1 0\n",
             0,
         ),
         (check, "filter a { accept }", "refused P2 18\n", 1),
@@ -464,7 +464,7 @@ fn files_that_are_missing_are_named(rt: HostRuntime) -> Result<(), Fail> {
         (
             &["ncroute", "check", "--size=8", "lost", "good"],
             "",
-            "code 4e434631000000027071\nverified 1 0\n",
+            "code 4e43463200000000027071\nverified 1 0\n",
             "lost: No such file or directory (E1)\n",
             1,
         ),
@@ -485,7 +485,7 @@ fn files_that_are_missing_are_named(rt: HostRuntime) -> Result<(), Fail> {
         (
             &["ncroute", "check", "--size=8", "good", "-"],
             "filter a { accept; }",
-            "code 4e434631000000027071\nverified 1 0\ncode 4e434631000000027071\nverified 1 0\n",
+            "code 4e43463200000000027071\nverified 1 0\ncode 4e43463200000000027071\nverified 1 0\n",
             "",
             0,
         ),

@@ -24,7 +24,7 @@ fn code_of(rt: &impl Abort, alloc: Global, file: &[u8], seed: u64) -> Result<Opt
 /// A file: that of a worked filter, damaged, or one of a few instructions.
 fn random_file(alloc: Global, numbers: &mut Numbers) -> Result<Vec<u8>, Fail> {
     if numbers.below(4) > 0 {
-        let file = hex::decode(alloc, FILTERS[numbers.place(10)].file)?;
+        let file = hex::decode(alloc, FILTERS[numbers.place(FILTERS.len())].file)?;
         return Ok(damaged(alloc, numbers, file.as_slice(), 2)?);
     }
     let mut file = Vec::from_slice(alloc, b"NCF1\0\0\0")?;
