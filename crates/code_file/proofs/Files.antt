@@ -18,7 +18,7 @@ use Rattle.code_file.specs.declared.version.Version.{Version}
 use Rattle.code_file.specs.declared.version.Version.TheVariants as version
 use Rattle.code_file.specs.Fields.{FieldKind, width, number, mark_bytes, version_byte, versions, version_of, has_int_sets}
 use Rattle.code_file.specs.Fields.{is_good, is_prefix, is_in_set, is_in, form_of, forms}
-use Rattle.code_file.specs.Fields.FieldKind.{Mark, VersionMark, Locals, Sets, Patterns, Pattern, IntSets, Ranges, Range, Instructions, Opcode}
+use Rattle.code_file.specs.Fields.FieldKind.{Mark, VersionMark, Locals, Sets, Patterns, Pattern, IntSets, Ranges, Instructions, Opcode}
 use Rattle.code_file.specs.Fields.FieldKind.{WordOperand, TruthOperand, PrefixOperand, NameOperand, BitsOperand, SkipOperand}
 use Rattle.code_file.specs.Spelling.{Field, field, mark_byte, version_mark, prefix_bytes, pattern, counted, set, range, int_set, int_sets, operand, instruction, fields}
 use Rattle.code_file.specs.Spelling.{IsRange, IsIntSet, AreIntSets, IsPattern, IsSet, FitsField, IsInstruction, IsCodeIn}

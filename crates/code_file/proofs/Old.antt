@@ -1,12 +1,12 @@
 -- Which codes have a file of the first version.
-use Rattle.std.proofs.Common.{◌≡◌, ◌≤◌, ℕ, Bool, true, false, ◌||◌, not, List, [], ◌∷◌, length, Ok, ltb, refl, sym, ap, ◌∙◌, ◌↔◌, arith, lit≤}
+use Rattle.std.proofs.Common.{◌≡◌, Bool, true, false, ◌||◌, not, List, [], ◌∷◌, length, ltb, refl, sym, ◌∙◌, ◌↔◌, lit≤}
 use Rattle.std.specs.List.{AllByRecursion, list_any}
 use Rattle.filter_code.specs.declared.instruction.Instr.{Instr}
 use Rattle.filter_code.specs.CodeView.{CodeView}
 use Rattle.int_sets.specs.Holding.{NumberRange}
 use Rattle.code_file.specs.declared.version.Version.TheVariants.{One, Two}
-use Rattle.code_file.specs.Fields.{is_in_set, is_in}
-use Rattle.code_file.specs.Spelling.{spelling, spelling_in, needs_int_sets, IsInstruction, IsIntSet, AreIntSets, IsCode, IsCodeIn}
+use Rattle.code_file.specs.Fields.{is_in_set}
+use Rattle.code_file.specs.Spelling.{spelling, spelling_in, needs_int_sets, IsInstruction, AreIntSets, IsCode, IsCodeIn}
 use Rattle.code_file.specs.Reading.{file_of}
 use Rattle.code_file.proofs.Grammar.{file_of_spelling, file_of_spelling_in}
 use Rattle.code_file.proofs.Written.{each_in, needs_none, no_int_sets}

@@ -1,8 +1,7 @@
 -- Ranges of ints in their fields.
-use Rattle.std.proofs.Common.{◌≡◌, ℕ, ◌+◌, ◌^◌, ◌<◌, ◌≤◌, true, List, [], ◌∷◌, ◌++◌, length, take, drop, refl, sym, ap, subst, ◌∙◌, arith}
-use Rattle.std.proofs.Common.{append_assoc}
+use Rattle.std.proofs.Common.{◌≡◌, ℕ, ◌^◌, ◌<◌, List, [], ◌∷◌, ◌++◌, length, take, drop, refl, sym, ap, subst, ◌∙◌, arith}
 use Rattle.std.proofs.lemmas.Bool.{le-leb, leb-true}
-use Rattle.std.proofs.lemmas.List.{append-nil, take-append-drop, drop_at, length-append, length-take, length-drop}
+use Rattle.std.proofs.lemmas.List.{take-append-drop, drop_at, length-take, length-drop}
 use Rattle.byteorder.specs.Endian.{big_number, big_bytes}
 use Rattle.byteorder.specs.Numbers.{big_number-reads_back, big_from-take, big_from-lt, length-bytes_high_first}
 use Rattle.int_sets.specs.Holding.{NumberRange}
@@ -30,13 +29,15 @@ put_range r h =
     let high_fits = h.fits in
     let low : big_number 4 (big_bytes 4 r.low ++ big_bytes 4 r.high) ≡ r.low = low_again r.low r.high (omega arith) in
     let high : big_number 4 (drop 4 (big_bytes 4 r.low ++ big_bytes 4 r.high)) ≡ r.high = high_again r.low r.high high_fits in
-    let len : length (big_bytes 4 r.low ++ big_bytes 4 r.high) ≡ 8 = refl in
-    (
+    let len : length (big_bytes 4 r.low ++ big_bytes 4 r.high) ≡ 8 = refl in (
       refl,
       len,
       le-leb _ _ (omega (arith, order, low, high)),
-      (refl, ap (λ (n : ℕ). of_ends n (big_number 4 (drop 4 (big_bytes 4 r.low ++ big_bytes 4 r.high)))) low
-          ∙ ap (λ (n : ℕ). of_ends r.low n) high),
+      (
+        refl,
+        ap (λ (n : ℕ). of_ends n (big_number 4 (drop 4 (big_bytes 4 r.low ++ big_bytes 4 r.high)))) low
+            ∙ ap (λ (n : ℕ). of_ends r.low n) high,
+      ),
     )
 
 -- bytes are those of the two numbers in them

@@ -1,6 +1,7 @@
 -- The bytes of fields that are written one after the other.
 use Rattle.std.proofs.Common.{◌≡◌, ℕ, ◌%◌, ◌<◌, ◌≤◌, List, [], ◌∷◌, ◌++◌, length, All, take, get_or, ◌+◌, refl, sym, ap, ◌∙◌}
-use Rattle.std.proofs.Common.{append_assoc, arith, inl, inr, lit<, ltb, Bool, true, false, ◌||◌}
+use Rattle.std.proofs.Common.{append_assoc, arith, inl, inr, lit<, ltb, Result, Ok, Err, Bool, true, false, ◌||◌}
+use Rattle.std.specs.Prelude.{OnOk}
 use Rattle.std.specs.List.{flat_map, AllByRecursion, list_any}
 use Rattle.std.proofs.lemmas.Bool.{cases_lt, ltb-false}
 use Rattle.std.proofs.lemmas.List.{append-nil, take_more, get_or_default}
@@ -206,3 +207,8 @@ needs_none code e =
     let both = or_false (ltb 0 (length code.int_sets)) (list_any is_in_set code.instrs) e in
     let least : length code.int_sets ≤ 0 = ltb-false _ _ both.0 in
     (omega (arith, least), both.1)
+
+-- what follows from what stands where nothing failed
+pub on_ok : {X E P Q : Type 0} (r : Result X E) → (P → Q) → OnOk r P → OnOk r Q
+on_ok (Ok x) follows h = follows h
+on_ok (Err e) follows h = tt

@@ -20,8 +20,8 @@ pub enum FileFault {
     /// C3: the byte at this place is no known opcode.
     #[error("byte {0} is no known opcode")]
     UnknownOpcode(usize),
-    /// C4: the operand or pattern that begins at this place is out of range.
-    #[error("the operand or pattern at byte {0} is out of range")]
+    /// C4: the operand, pattern or range that begins at this place is out of range.
+    #[error("the operand, pattern or range at byte {0} is out of range")]
     BadOperand(usize),
     /// C5: the number that begins at this place is over its limit.
     #[error("the number at byte {0} is over its limit")]

@@ -92,7 +92,12 @@ fn int_sets(alloc: Global, reader: &mut Reader<'_>, count: u8) -> Result<Vec<Int
 }
 
 /// So many instructions.
-fn instructions(alloc: Global, reader: &mut Reader<'_>, version: Version, count: u16) -> Result<Vec<Instr>, FileFault>
+fn instructions(
+    alloc: Global,
+    reader: &mut Reader<'_>,
+    version: Version,
+    count: u16,
+) -> Result<Vec<Instr>, FileFault>
     ensures value { ReadsInto (λ v. v.items) (times count (an_instruction version)) reader.old reader.new result }
     ensures count { IfOk result (λ v. length v.items ≡ count) }
     ensures masks { IfOk result (λ v. All HasMask v.items) }
@@ -149,7 +154,11 @@ fn counted_int_sets(alloc: Global, reader: &mut Reader<'_>) -> Result<Vec<IntSet
 }
 
 /// The sets of ints of a version.
-fn version_int_sets(alloc: Global, reader: &mut Reader<'_>, version: Version) -> Result<Vec<IntSet>, FileFault>
+fn version_int_sets(
+    alloc: Global,
+    reader: &mut Reader<'_>,
+    version: Version,
+) -> Result<Vec<IntSet>, FileFault>
     ensures value { ReadsInto (λ v. v.items) (the_int_sets version) reader.old reader.new result }
     ensures limit { IfOk result (λ v. length v.items ≤ INT_SET_LIMIT) }
 {
@@ -160,7 +169,11 @@ fn version_int_sets(alloc: Global, reader: &mut Reader<'_>, version: Version) ->
 }
 
 /// The number of instructions, and these.
-fn counted_instructions(alloc: Global, reader: &mut Reader<'_>, version: Version) -> Result<Vec<Instr>, FileFault>
+fn counted_instructions(
+    alloc: Global,
+    reader: &mut Reader<'_>,
+    version: Version,
+) -> Result<Vec<Instr>, FileFault>
     ensures value { ReadsInto (λ v. v.items) (a_count_of Instructions (an_instruction version)) reader.old reader.new result }
     ensures limit { IfOk result (λ v. length v.items ≤ INSTRUCTION_LIMIT) }
     ensures masks { IfOk result (λ v. All HasMask v.items) }

@@ -1,7 +1,7 @@
 //! Writing a whole file.
 
 ghost use Rattle.std.specs.Prelude.{◌≡◌, ◌≤◌, ◌++◌, ◌∷◌, [], List, All, length, OnOk, IfOk, IfErr, IsErrOf, Err, ◌⊎◌, ◌↔◌, true, false};
-ghost use Rattle.std.specs.List.{flat_map};
+ghost use Rattle.std.specs.List.{flat_map, list_any};
 ghost use Rattle.prefix_patterns.specs.Bits.{address_length};
 ghost use Rattle.code_file.specs.declared.version.Version.TheVariants.{One, Two};
 ghost use Rattle.code_file.specs.Spelling.{bytes_of, prefix_bytes, pattern as pattern_field, set as set_fields, instruction};
@@ -9,14 +9,15 @@ ghost use Rattle.code_file.specs.Spelling.{range as range_field, int_set as int_
 ghost use Rattle.code_file.specs.Spelling.{spelling, spelling_in, IsPattern, IsSet, IsInstruction, IsCode, IsCodeIn, IsFile};
 ghost use Rattle.code_file.specs.Spelling.{IsRange, IsIntSet, AreIntSets};
 ghost use Rattle.code_file.specs.Spelling as spec;
+ghost use Rattle.code_file.specs.Fields as field;
 ghost use Rattle.code_file.specs.Fault.{IsFault};
 ghost use Rattle.code_file.specs.Reading.{file_of};
 ghost use Rattle.filter_code.specs.CodeView.{CodeView, HasMask};
 
 use crate::fault::FileFault;
 use crate::reader::MARK;
-use crate::version::Version;
 use crate::reading::read_code;
+use crate::version::Version;
 use filter_code::{Code, INT_SET_LIMIT, Instr, IntRange, IntSet};
 use prefix_patterns::{Ip, Pattern, PatternSet, Prefix};
 use std::alloc::{AllocError, Global};
@@ -136,7 +137,11 @@ fn put_int_sets(out: &mut Vec<u8>, sets: &[IntSet]) -> Result<(), AllocError>
 }
 
 /// The sets of ints, counted, in a version that has them. In another there are none.
-fn put_version_int_sets(out: &mut Vec<u8>, version: Version, sets: &[IntSet]) -> Result<(), AllocError>
+fn put_version_int_sets(
+    out: &mut Vec<u8>,
+    version: Version,
+    sets: &[IntSet],
+) -> Result<(), AllocError>
     requires limit { length sets.now ≤ INT_SET_LIMIT }
     requires none { version ≡ One → length sets.now ≡ 0 }
     ensures written { OnOk result (out.new.items ≡ out.old.items ++ bytes_of (int_set_list version sets.now)) }
@@ -172,11 +177,25 @@ pub fn write_code(alloc: Global, code: &Code) -> Result<Vec<u8>, FileFault>
     Ok(file_in(alloc, Version::Two, code)?)
 }
 
+/// Whether an instruction looks into a set of ints.
+fn is_in_set(instr: &Instr) -> bool
+    ensures { result ≡ field.is_in_set instr.now }
+{
+    matches!(instr, Instr::InSet(_))
+}
+
+/// Whether one of the instructions looks into a set of ints.
+fn any_in_set(instrs: &[Instr]) -> bool
+    ensures { result ≡ list_any field.is_in_set instrs.now }
+{
+    instrs.iter().any(|instr| is_in_set(instr))
+}
+
 /// Whether a code has a set of ints or an INSET.
 fn needs_int_sets(code: &Code) -> bool
     ensures { result ≡ spec.needs_int_sets code.now }
 {
-    !code.int_sets().is_empty() || code.instrs().iter().any(|instr| matches!(instr, Instr::InSet(_)))
+    !code.int_sets().is_empty() || any_in_set(code.instrs())
 }
 
 /// Writes the file of a code with the mark `NCF1`. It is the only such file.

@@ -1,7 +1,6 @@
-use Rattle.std.proofs.Common.{◌≡◌, Ok, Err, ◌∙◌, sym, ap}
+use Rattle.std.proofs.Common.{Ok, ◌∙◌, sym, ap}
 use Rattle.std.proofs.lemmas.Result.{err_from_is_err_and}
 use Rattle.filter_code.specs.CodeView.{CodeView}
-use Rattle.code_file.specs.Reading.{Rest, read, ReadsInto}
 use Rattle.code_file.proofs.Parts.{sets_refused, HasSets, int_sets_refused, AreRead, instructions_refused, code_read}
 use Rattle.code_file.proofs.reading.code_in.Goals as goal
 

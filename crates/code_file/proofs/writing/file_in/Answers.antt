@@ -1,12 +1,10 @@
-use Rattle.std.proofs.Common.{◌≡◌, ◌≤◌, ℕ, List, ◌∷◌, [], ◌++◌, length, All, false, ap, subst, ◌∙◌}
-use Rattle.std.specs.List.{list_any}
+use Rattle.std.proofs.Common.{◌≤◌, ℕ, List, ◌∷◌, [], ◌++◌, length, All, ap, subst, ◌∙◌}
 use Rattle.byteorder.specs.Endian.{big_bytes}
 use Rattle.prefix_patterns.specs.Matching.{PrefixPattern}
 use Rattle.int_sets.specs.Holding.{NumberRange}
 use Rattle.filter_code.specs.declared.instruction.Instr.{Instr}
 use Rattle.filter_code.specs.Limits.{local_limit, set_limit, instruction_limit}
-use Rattle.code_file.specs.declared.version.Version.TheVariants.{One, Two}
-use Rattle.code_file.specs.Fields.{version_byte, is_in_set}
+use Rattle.code_file.specs.declared.version.Version.TheVariants.{Two}
 use Rattle.code_file.specs.Spelling.{bytes_of, int_sets, IsSet, AreIntSets, IsInstruction}
 use Rattle.code_file.proofs.Written.{head, set_bytes, instruction_bytes, file_joined, is_code, needs_none}
 use Rattle.code_file.proofs.writing.file_in.Goals as goal
