@@ -1,4 +1,6 @@
-use Rattle.std.proofs.Common.{◌≡◌, ℕ, ◌+◌, [], ◌∷◌, append_assoc, map, ap, sym, subst, ◌∙◌, arith}
+use Rattle.std.proofs.Common.{◌≡◌, ℕ, ◌+◌, [], ◌∷◌, append_assoc, map, ap, sym, subst, ◌∙◌, arith, rules}
+use Rattle.std.proofs.lemmas.Grind.{common_steps}
+use Rattle.std.proofs.lemmas.List.{nil_from_length}
 use Rattle.std.specs.Prelude.{flat_map}
 use Rattle.filter_code.specs.declared.instruction.Instr.TheVariants as instr
 use Rattle.filter_parser.specs.Syntax.{view, view_range}
@@ -8,11 +10,11 @@ use Rattle.filter_parser.specs.declared.tree.command.Command.{Command}
 use Rattle.filter_parser.specs.declared.tree.command.Command.TheVariants as command
 use Rattle.filter_parser.specs.declared.tree.command.Label.TheVariants as label
 use Rattle.filter_parser.proofs.Views.{view_case, view_if, view_if_else}
-use Rattle.filter_compiler.specs.InstructionPlaces.{command_places, expression_places, opening_places, part_of, parts_places}
+use Rattle.filter_compiler.specs.InstructionPlaces.{command_places, expression_places, label_place, opening_places, part_of, part_places, parts_places}
 use Rattle.filter_compiler.specs.SetOrder.{past}
 use Rattle.filter_compiler.specs.Translation.{commands_code, expression_code, sets_of}
 use Rattle.filter_compiler.specs.Written.{Emits, command_part, parts_part}
-use Rattle.filter_compiler.proofs.CommandPlaces.{assign_at, block_at, case_at, if_at, if_else_at, same_labelled}
+use Rattle.filter_compiler.proofs.CommandPlaces.{assign_at, block_at, case_at, if_at, if_else_at, ranges_places, same_labelled}
 use Rattle.filter_compiler.proofs.Cases.{else_emits, labelled_case, opened_case, part_emits, ranges_emits}
 use Rattle.filter_compiler.proofs.EmittedParts.{no_parts_emit, viewed}
 use Rattle.filter_compiler.proofs.Jumps.{over}
@@ -176,7 +178,7 @@ emit_commands-emit_command-next-requires t c =
 pub emit_parts-returns-in_default-clause-code : goal.emit_parts-returns-in_default-clause-code
 emit_parts-returns-in_default-clause-code t c = λ n m counted other.
     let d = (view_filter c.args.typed.now).decls in
-    let none : c.args.parts.now ≡ [] = ? in
+    let none : c.args.parts.now ≡ [] = nil_from_length c.args.parts.now (first_of (search rules, grind (arith, common_steps))) in
     no_parts_emit d (expression_code d n (view c.args.argument.now)) (commands_of (map view_command c.args.other.now)) m c.args.parts.now none
     other c.emit_commands.ensures.code
 
@@ -185,7 +187,7 @@ emit_parts-returns-in-Else-clause-code t c = λ n m counted other.
     let d = (view_filter c.args.typed.now).decls in
     let e = expression_code d n (view c.args.argument.now) in
     let o = commands_code d m (commands_of (map view_command c.args.other.now)) in
-    let parts_are : c.args.parts.now ≡ c.in-Some.part.now ∷ c.in-Some.more.now = ? in
+    let parts_are : c.args.parts.now ≡ c.in-Some.part.now ∷ c.in-Some.more.now = first_of (search rules, cc) in
     let is = viewed c.args.parts.now c.in-Some.part.now (label.Else c.in-Else.field-0) c.deref.result.now c.in-Some.more.now parts_are
     c.in-Else.is c.deref.ensures.value in
     subst (λ (ps : PartsView). Emits c.args.out.now c.emit_parts.new.out c.args.sets c.emit_parts.result (parts_part d e o ps)) (sym is)
@@ -203,7 +205,7 @@ emit_parts-returns-else-from-gt-INSTRUCTION_LIMIT-clause-code t c = λ n m count
     let o = commands_code d m (commands_of (map view_command c.args.other.now)) in
     let ranges = map view_range c.in-Ranges.ranges.items in
     let body = c.deref-in-Ranges-2.result.now in
-    let parts_are : c.args.parts.now ≡ c.in-Some.part.now ∷ c.in-Some.more.now = ? in
+    let parts_are : c.args.parts.now ≡ c.in-Some.part.now ∷ c.in-Some.more.now = first_of (search rules, cc) in
     let is = viewed c.args.parts.now c.in-Some.part.now (label.Ranges c.in-Ranges.ranges) body c.in-Some.more.now parts_are c.in-Ranges.is
     c.deref-in-Ranges-2.ensures.value in
     subst (λ (ps : PartsView). Emits c.args.out.now c.patch.new.self c.args.sets c.emit_parts-last.result (parts_part d e o ps)) (sym is)
@@ -213,4 +215,18 @@ emit_parts-returns-else-from-gt-INSTRUCTION_LIMIT-clause-code t c = λ n m count
 
 pub emit_parts-returns-else-from-gt-INSTRUCTION_LIMIT-clause-places : goal.emit_parts-returns-else-from-gt-INSTRUCTION_LIMIT-clause-places
 emit_parts-returns-else-from-gt-INSTRUCTION_LIMIT-clause-places t c =
-    let h = c.in-Some in ?
+    let at = c.args.at in
+    let e = expression_places c.args.argument.now in
+    let other = flat_map command_places c.args.other.now in
+    let body = c.deref-in-Ranges-2.result.now in
+    let ranges = c.in-Ranges.ranges in
+    let more = map part_of c.in-Some.more.now in
+    let rest = parts_places at e other more in
+    let parts_are : c.args.parts.now ≡ c.in-Some.part.now ∷ c.in-Some.more.now = first_of (search rules, cc) in
+    as_noted
+    (ap (λ p. part_places e p (flat_map command_places body) rest) (c.label_place-place.ensures ∙ ap (label_place at) c.deref-in-Ranges.ensures.value)
+    ∙ (ap (λ cs. part_places e (label_place at ranges.items) (flat_map command_places cs) rest) c.deref-in-Ranges-2.ensures.value
+    ∙ (sym (ranges_places at e other c.in-Some.part.now ranges more c.in-Ranges.is)
+    ∙ ap (λ ps. parts_places at e other (map part_of ps)) (sym parts_are))))
+    (then_notes c.emit_part-next.ensures.places
+    (patch_notes _ _ (then_notes c.put.ensures.places c.emit_parts-last.ensures.places) c.patch.ensures))
