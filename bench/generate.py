@@ -9,6 +9,7 @@ INPUT is one of
     accept_alone       ACCEPT
     add_two_and_clip   a filter that adds 2 to the metric
     set_of_1024        a set of 1,024 patterns; it matches about half of the routes
+    case_of_64         a `case` of 64 parts, each with a label of three ranges; about half of the metrics of the largest domain are in none
     straight_filter    about 1,000 instructions of arithmetic, local variables, comparisons and branches forward
 
 or a code file in hexadecimal, or one of these texts, which are written alone (ROUTES and SIZE mean nothing there):
@@ -92,15 +93,19 @@ NET, METRIC, RECEIVED, SETMETRIC = map(plain, (0x12, 0x13, 0x14, 0x15))
 ADD, SUB, MUL, DIV, MAX = map(plain, (0x20, 0x21, 0x22, 0x23, 0x24))
 EQ, LT, LE, NOT = map(plain, (0x30, 0x31, 0x32, 0x33))
 ADDR, LEN, WITHIN, ACCEPT, REJECT = map(plain, (0x40, 0x41, 0x50, 0x70, 0x71))
-LOAD, STORE, MASK, MEMBER, JUMP, JUMPIFNOT = 0x10, 0x11, 0x42, 0x51, 0x60, 0x61
+LOAD, STORE, MASK, MEMBER, INSET, JUMP, JUMPIFNOT = 0x10, 0x11, 0x42, 0x51, 0x52, 0x60, 0x61
 
 
-def file_of(local_variables, sets, code):
-    """The code file in hexadecimal. A set is a list of patterns (address, length, low, high)."""
-    written = b"NCF1" + bytes([local_variables, len(sets)])
+def file_of(local_variables, sets, code, int_sets=()):
+    """The code file in hexadecimal. A set is a list of patterns (address, length, low, high), a set of ints one of ranges (low, high)."""
+    written = b"NCF2" + bytes([local_variables, len(sets)])
     for patterns in sets:
         written += len(patterns).to_bytes(2, "big")
         written += b"".join(word.to_bytes(4, "big") + bytes(lengths) for word, *lengths in patterns)
+    written += bytes([len(int_sets)])
+    for ranges in int_sets:
+        written += len(ranges).to_bytes(2, "big")
+        written += b"".join(low.to_bytes(4, "big") + high.to_bytes(4, "big") for low, high in ranges)
     return (written + len(code).to_bytes(2, "big") + b"".join(code)).hex()
 
 
@@ -116,7 +121,17 @@ def set_of_1024(patterns):
     return file_of(0, [patterns], [NET, with_byte(MEMBER, 0), jump(JUMPIFNOT, 1), ACCEPT, REJECT])
 
 
+def case_of_64():
+    """`case rip_metric { .. }`, as `check` compiles it: of 64 parts, half accept and half reject, and so does what comes after the `case`."""
+    labels = [[(part, part), (64 + part, 64 + part), (1000 + 2 * part, 1001 + 2 * part)] for part in range(64)]
+    code = []
+    for part in range(64):
+        code += [METRIC, with_byte(INSET, part), jump(JUMPIFNOT, 2), ACCEPT if part % 2 else REJECT, jump(JUMP, 5 * (63 - part))]
+    return file_of(0, [], code + [REJECT], labels)
+
+
 CODES = {
+    "case_of_64": case_of_64(),
     "accept_alone": file_of(0, [], [ACCEPT]),
     "add_two_and_clip": file_of(0, [], [METRIC, number(2), ADD, RECEIVED, MAX, SETMETRIC, ACCEPT, REJECT]),
 }

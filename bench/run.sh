@@ -51,7 +51,7 @@ compare() {
 
 if [ "$wanted" = both ] || [ "$wanted" = eval ]; then
     inputs=()
-    for name in accept_alone add_two_and_clip set_of_1024 straight_filter; do
+    for name in accept_alone add_two_and_clip set_of_1024 case_of_64 straight_filter; do
         "$bench/generate.py" "$name" ${ROUTES:+"$ROUTES"} >"$folder/$name"
         inputs+=("$folder/$name")
     done
@@ -130,7 +130,7 @@ elif [ "$wanted" = bird ]; then
 elif [ "$wanted" != eval ]; then
     need_filter_bench
     inputs=()
-    for name_rounds in accept_alone=1000 add_two_and_clip=500 set_of_1024=20 straight_filter=5; do
+    for name_rounds in accept_alone=1000 add_two_and_clip=500 set_of_1024=20 case_of_64=20 straight_filter=5; do
         "$bench/generate.py" "${name_rounds%=*}" 20000 1 64 >"$folder/${name_rounds%=*}"
         inputs+=("$folder/$name_rounds")
     done

@@ -87,7 +87,7 @@ def listings(text):
         code = "".join(table[name][0] + (f"{int(operand):0{2 * table[name][1]}x}" if operand else "") for name, operand, _ in rows)
         used = [int(operand) for name, operand, _ in rows if name in ("LOAD", "STORE")]
         has_set = any(name == "MEMBER" for name, _, _ in rows)
-        file = f"4e434631{max(used, default=-1) + 1:02x}{has_set:02x}{SET if has_set else ''}{len(rows):04x}{code}"
+        file = f"4e434632{max(used, default=-1) + 1:02x}{has_set:02x}{SET if has_set else ''}00{len(rows):04x}{code}"
         shown = re.search(r"(?m)^    ([0-9a-f]{16,})$", block)
         refusal = re.search(r"\b(V\d+) at (\d+)", block)
         yield file, shown and shown.group(1), refusal and f"refused {refusal.group(1)} {refusal.group(2)}"

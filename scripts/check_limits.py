@@ -26,7 +26,7 @@ MOST_TAKEN = 65_535
 NODES = 250
 
 # The smallest code file: ACCEPT alone.
-CODE = b"4e4346310000000170"
+CODE = b"4e434632000000000170"
 FILTER = b"filter f { accept; }"
 VERIFIED = b"verified 1 0\n"
 
@@ -232,9 +232,19 @@ def longest_code():
         instructions[3 * number + 1] = f"51{number:02x}"
     instructions += ["0100000000", "11" + "00"] * ((1024 - len(instructions) - 1) // 2)
     instructions += ["0201"] * (1024 - len(instructions) - 1) + ["70"]
-    file = "4e434631" + "10" + "40" + patterns * 64 + "0400" + "".join(instructions)
+    file = "4e434632" + "10" + "40" + patterns * 64 + "00" + "0400" + "".join(instructions)
     answers = b"ok\nverified 1024 32\nopened 1\ndone 0\ndone 1\nroute 1 via 1\n"
     return f"network 250 0\ncode a {file}\nup 1\nimport 1 a\nrecv 1 1 0\nshow 1\n".encode(), answers, 0
+
+
+def most_int_sets():
+    """`code` with 64 sets of ints, of which 63 have 1,024 ranges; a 64th of 1,024 makes the line too long. And a file with one set more."""
+    ranges = "0400" + "".join(f"{4 * number:08x}{4 * number + 2:08x}" for number in range(1024))
+    instructions = "".join(f"1352{number:02x}610000" for number in range(64)) + "70"
+    files = [f"4e4346320000{count:02x}" + ranges * 63 + last + f"{3 * 64 + 1:04x}" + instructions
+             for count, last in ((64, "00010000000000000000"), (64, ranges), (65, "00010000000000000000" * 2))]
+    lines = ["network 250 0"] + [f"code {name} {file}" for name, file in zip("abc", files)] + ["import 1 a"]
+    return "\n".join(lines).encode(), b"ok\nverified 193 1\nrefused O7 3\nrefused C5 6\ndone 0\n", 1
 
 
 def longest_script():
@@ -280,7 +290,19 @@ def longer_source():
 
 def longest_filter():
     """`check` of a text at the limit of filters."""
-    return FILTER.ljust(TEXT), b"code 4e434631000000027071\n" + VERIFIED, 0
+    return FILTER.ljust(TEXT), b"code 4e43463200000000027071\n" + VERIFIED, 0
+
+
+def longest_labels():
+    """`check` of a `case` with two labels of 16,000 ranges each; the last number of the second is in the first."""
+    first = b"filter q { case 1 { " + b",".join([b"1"] * 16000) + b": ; "
+    return first + b",".join([b"2"] * 15999 + [b"1"]) + b": ; } }", b"refused Y7 %d\n" % len(first), 1
+
+
+def too_many_ranges():
+    """The same where they share no number: each label is a set of more than 1,024 ranges."""
+    labels = (b",".join([number] * 16000) + b": ; " for number in (b"1", b"2"))
+    return b"filter q { case 1 { " + b"".join(labels) + b"} }", b"refused G2 0\n", 1
 
 
 def saved_history():
@@ -333,6 +355,7 @@ ROWS = [
     ("run, lines at the limit", "run", longest_lines),
     ("run, a text at the limit", "run", longest_text),
     ("run, a code file at all limits", "run", longest_code),
+    ("run, a code file with the most sets of ints", "run", most_int_sets),
     ("run, an input at the limit", "run", longest_script),
     ("run, an input over the limit", "run", longer_script),
     ("domain, the greatest", "domain", greatest_plan),
@@ -344,6 +367,8 @@ ROWS = [
     ("check, an input at the limit", "check --size 250", longest_source),
     ("check, an input over the limit", "check --size 250", longer_source),
     ("check, a text at the limit", "check --size 250", longest_filter),
+    ("check, the longest labels", "check --size 250", longest_labels),
+    ("check, too many ranges", "check --size 250", too_many_ranges),
     ("replay, a full history", "replay", saved_history),
     ("replay, an entry over the limit", "replay", longer_history),
 ]
@@ -379,7 +404,7 @@ def hundred_files(ncroute):
         for name in names:
             with open(name, "wb") as it:
                 it.write(FILTER if name != names[-1] else FILTER[:-1])
-        wanted = (b"code 4e434631000000027071\n" + VERIFIED) * 99 + b"refused P9 19\n", 1, names[-1].encode() + b": refused P9 19\n"
+        wanted = (b"code 4e43463200000000027071\n" + VERIFIED) * 99 + b"refused P9 19\n", 1, names[-1].encode() + b": refused P9 19\n"
         return differs(run(ncroute, "check --size 250 --explain never " + " ".join(names), b""), wanted)
 
 

@@ -2,10 +2,11 @@
 """Writes filters that look random, each with the routes that it is to be asked about, as `ask_bird.py` and `check_bird.py` read them.
 
 usage: make_bird_filters.py THEME [FILTERS [SEED]]     (FILTERS: how many, 43; THEME: one of sets, prefixes, arithmetic, conditions, variables,
-                                                         metrics, whole)
+                                                         metrics, cases, whole)
 
 Both Gomthau and BIRD 2.0.12 take these texts, and mean the same by them: a variable is declared before the brace and assigned before it is read, no
-divisor is 0, and no metric is assigned that is lower than the one received or higher than the size, which is 250. What the two read differently
+divisor is 0, no metric is assigned that is lower than the one received or higher than the size, which is 250, and no number is in two labels of a
+`case`. What the two read differently
 stands in `tests/bird/differences.filters`, which was written by hand.
 """
 import random
@@ -114,11 +115,29 @@ class Writer:
             "prefixes": ("prefix", "prefix", "ip", "length"),
             "arithmetic": ("int",),
             "metrics": ("int", "set"),
+            "cases": ("number_set", "number_set", "set"),
         }.get(self.theme, ("set", "prefix", "ip", "int", "length", "bool", "alike"))
         return getattr(self, f"{self.one_of(kinds)}_test")()
 
     def set_test(self):
         return f"net {self.one_of(('~', '~', '!~'))} {self.set()}"
+
+    def number_set_test(self):
+        ranges = ", ".join(self.range(low, high) for low, high in self.ranges(self.one_of((1, 2, 3))))
+        return f"{self.argument()} {self.one_of(('~', '~', '!~'))} [ {ranges} ]"
+
+    def argument(self):
+        return self.one_of(("net.len", "net.len", "rip_metric", "rip_metric", f"({self.int(1)})"))
+
+    def ranges(self, count):
+        """Ranges of small numbers, in any order, of which none shares a number with another."""
+        ends = sorted(self.numbers.sample(range(102), 2 * count))
+        ranges = [(low, low if self.is_one_in(3) else high) for low, high in zip(ends[::2], ends[1::2])]
+        self.numbers.shuffle(ranges)
+        return ranges
+
+    def range(self, low, high):
+        return str(low) if low == high else f"{low}..{high}"
 
     def prefix_test(self):
         return f"{self.prefix_value()} {self.one_of(('~', '!~', '=', '!='))} {self.prefix_value()}"
@@ -150,7 +169,7 @@ class Writer:
         return self.one_of(("accept", "accept", "reject")) + self.one_of(("", "", "", ' "as written"')) + ";"
 
     def assignment(self):
-        if self.theme in ("metrics", "whole", "arithmetic") and self.raised < 8 and self.is_one_in(2):
+        if self.theme in ("metrics", "whole", "arithmetic", "cases") and self.raised < 8 and self.is_one_in(2):
             self.raised += 1
             return f"rip_metric = {self.raise_of_metric()};"
         if not self.has_variables:
@@ -164,7 +183,21 @@ class Writer:
         return self.one_of((f"rip_metric + {by}", f"{by} + rip_metric", f"rip_metric + net.len / {self.numbers.randrange(3, 9)}",
                             f"rip_metric + {by} - {self.numbers.randrange(by + 1)}"))
 
+    def case(self, depth):
+        """A `case`. Each part has a command: BIRD ends where one has none."""
+        labels, ranges = [], self.ranges(self.one_of((1, 2, 3, 5)))
+        while ranges:
+            count = self.one_of((1, 1, 2))
+            labels.append(", ".join(self.range(low, high) for low, high in ranges[:count]))
+            ranges = ranges[count:]
+        if not self.is_one_in(3):
+            labels.insert(self.numbers.randrange(len(labels) + 1), "else")
+        parts = (f"{label}: " + " ".join(self.command(depth - 1) for _ in range(self.one_of((1, 1, 1, 2)))) for label in labels)
+        return f"case {self.argument()} {{ {' '.join(parts)} }}"
+
     def command(self, depth):
+        if self.theme == "cases" and depth > 0 and self.is_one_in(4 - depth):
+            return self.case(depth)
         if depth == 0 or self.is_one_in(3):
             return self.assignment() or self.verdict()
         text = f"if {self.bool(2)} then {self.branch(depth - 1)}"

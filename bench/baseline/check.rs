@@ -42,6 +42,7 @@ fn push_instruction(file: &mut Vec<u8>, instruction: &Instruction) {
         Instruction::Mask(bits) => (0x42, &[*bits]),
         Instruction::Within => (0x50, &[]),
         Instruction::Member(index) => (0x51, &[*index]),
+        Instruction::InSet(index) => (0x52, &[*index]),
         Instruction::Jump(skipped) => (0x60, &skipped.to_be_bytes()),
         Instruction::JumpIfNot(skipped) => (0x61, &skipped.to_be_bytes()),
         Instruction::Accept => (0x70, &[]),
@@ -62,6 +63,8 @@ fn write_code(code: &Compiled) -> Vec<u8> {
             file.extend_from_slice(&[prefix.length, *low, *high]);
         }
     }
+    // The plain program's filters have no sets of ints.
+    file.push(0);
     file.extend_from_slice(&(code.instructions.len() as u16).to_be_bytes());
     code.instructions.iter().for_each(|instruction| push_instruction(&mut file, instruction));
     file

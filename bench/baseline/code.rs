@@ -1,16 +1,21 @@
 //! Instructions and the code file: one table of opcodes, and a reader that goes field by field.
 //!
-//! A code file is the mark `NCF1`, the number of local variables, the number of prefix sets, each set as the number of its
-//! patterns and the patterns, the number of instructions, and each instruction as its opcode and operand. Nothing
-//! follows. Numbers of patterns and instructions have two bytes. The high byte of a number comes first.
+//! A code file is the mark `NCF2`, the number of local variables, the number of prefix sets, each set as the number of its
+//! patterns and the patterns, the number of sets of ints, each set as the number of its ranges and the ranges, the number
+//! of instructions, and each instruction as its opcode and operand. Nothing follows. Numbers of patterns, ranges and
+//! instructions have two bytes. The high byte of a number comes first. A file with the mark `NCF1` has no sets of ints,
+//! nor their number.
 
+use crate::int_sets::{IntRange, IntSet};
 use crate::patterns::{Pattern, PatternSet};
 use crate::route::Prefix;
 
-pub const MARK: [u8; 4] = *b"NCF1";
+pub const MARK: [u8; 4] = *b"NCF2";
 pub const MOST_LOCALS: u8 = 16;
 pub const MOST_SETS: u8 = 64;
 pub const MOST_PATTERNS: u16 = 1_024;
+pub const MOST_INT_SETS: u8 = 64;
+pub const MOST_RANGES: u16 = 1_024;
 pub const MOST_INSTRUCTIONS: u16 = 1_024;
 
 #[derive(Clone, Copy, Debug, PartialEq, Eq)]
@@ -39,6 +44,7 @@ pub enum Instruction {
     Mask(u8),
     Within,
     Member(u8),
+    InSet(u8),
     Jump(u16),
     JumpIfNot(u16),
     Accept,
@@ -48,6 +54,7 @@ pub enum Instruction {
 pub struct Code {
     pub locals: u8,
     pub sets: Vec<PatternSet>,
+    pub int_sets: Vec<IntSet>,
     pub instructions: Vec<Instruction>,
 }
 
@@ -88,14 +95,19 @@ impl<'a> Reader<'a> {
         Ok((byte, at))
     }
 
-    fn mark(&mut self) -> Result<(), FileFault> {
-        for wanted in MARK {
+    /// Whether the mark is that of files with sets of ints.
+    fn mark(&mut self) -> Result<bool, FileFault> {
+        for wanted in &MARK[..3] {
             let (byte, at) = self.byte()?;
-            if byte != wanted {
+            if byte != *wanted {
                 return Err(FileFault::new("C1", at));
             }
         }
-        Ok(())
+        match self.byte()? {
+            (b'1', _) => Ok(false),
+            (b'2', _) => Ok(true),
+            (_, at) => Err(FileFault::new("C1", at)),
+        }
     }
 
     /// A number of one byte; C5 where it is over its limit.
@@ -134,6 +146,22 @@ impl<'a> Reader<'a> {
         (0..count).map(|_| self.set()).collect()
     }
 
+    fn range(&mut self) -> Result<IntRange, FileFault> {
+        let (low, at) = self.field()?;
+        let high = self.number()?;
+        IntRange::new(u32::from_be_bytes(low), high).ok_or(FileFault::new("C4", at))
+    }
+
+    fn int_set(&mut self) -> Result<IntSet, FileFault> {
+        let count = self.long_count(MOST_RANGES)?;
+        (0..count).map(|_| self.range()).collect()
+    }
+
+    fn int_sets(&mut self) -> Result<Vec<IntSet>, FileFault> {
+        let count = self.count(MOST_INT_SETS)?;
+        (0..count).map(|_| self.int_set()).collect()
+    }
+
     /// An operand of `N` bytes and what it means; C4 where it means nothing.
     fn operand<const N: usize, T>(&mut self, meaning: impl Fn([u8; N]) -> Option<T>) -> Result<T, FileFault> {
         let (field, at) = self.field()?;
@@ -152,7 +180,7 @@ impl<'a> Reader<'a> {
         Ok(self.byte()?.0)
     }
 
-    fn instruction(&mut self) -> Result<Instruction, FileFault> {
+    fn instruction(&mut self, has_int_sets: bool) -> Result<Instruction, FileFault> {
         let (opcode, at) = self.byte()?;
         Ok(match opcode {
             0x01 => Instruction::Int(self.number()?),
@@ -179,6 +207,7 @@ impl<'a> Reader<'a> {
             0x42 => Instruction::Mask(self.operand(spelled_length)?),
             0x50 => Instruction::Within,
             0x51 => Instruction::Member(self.index()?),
+            0x52 if has_int_sets => Instruction::InSet(self.index()?),
             0x60 => Instruction::Jump(self.distance()?),
             0x61 => Instruction::JumpIfNot(self.distance()?),
             0x70 => Instruction::Accept,
@@ -187,9 +216,9 @@ impl<'a> Reader<'a> {
         })
     }
 
-    fn instructions(&mut self) -> Result<Vec<Instruction>, FileFault> {
+    fn instructions(&mut self, has_int_sets: bool) -> Result<Vec<Instruction>, FileFault> {
         let count = self.long_count(MOST_INSTRUCTIONS)?;
-        (0..count).map(|_| self.instruction()).collect()
+        (0..count).map(|_| self.instruction(has_int_sets)).collect()
     }
 
     fn end(&self) -> Result<(), FileFault> {
@@ -221,12 +250,13 @@ fn spelled_prefix([a, b, c, d, length]: [u8; 5]) -> Option<Prefix> {
 /// The code that `bytes` spell, or their first fault.
 pub fn read_code(bytes: &[u8]) -> Result<Code, FileFault> {
     let mut reader = Reader { bytes, at: 0 };
-    reader.mark()?;
+    let has_int_sets = reader.mark()?;
     let locals = reader.count(MOST_LOCALS)?;
     let sets = reader.sets()?;
-    let instructions = reader.instructions()?;
+    let int_sets = if has_int_sets { reader.int_sets()? } else { Vec::new() };
+    let instructions = reader.instructions(has_int_sets)?;
     reader.end()?;
-    Ok(Code { locals, sets, instructions })
+    Ok(Code { locals, sets, int_sets, instructions })
 }
 
 fn hexadecimal_digit(byte: u8) -> Option<u8> {

@@ -14,6 +14,7 @@ mod check;
 mod code;
 mod domain;
 mod events;
+mod int_sets;
 mod lexer;
 mod lines;
 mod machine;

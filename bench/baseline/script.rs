@@ -159,7 +159,7 @@ pub fn cost_and_peak(instructions: &[Instruction]) -> (u32, u32) {
             Instruction::Load(_) | Instruction::Net | Instruction::Metric | Instruction::Received => (0, 1, None),
             Instruction::Store(_) | Instruction::SetMetric => (1, 0, None),
             Instruction::Not | Instruction::AddressOf | Instruction::LengthOf => (1, 1, None),
-            Instruction::Mask(_) | Instruction::Member(_) => (1, 1, None),
+            Instruction::Mask(_) | Instruction::Member(_) | Instruction::InSet(_) => (1, 1, None),
             Instruction::Jump(skipped) => (0, 0, Some(*skipped)),
             Instruction::JumpIfNot(skipped) => (1, 0, Some(*skipped)),
             Instruction::Accept | Instruction::Reject => (0, 0, None),

@@ -191,6 +191,8 @@ impl Verifier<'_> {
                 }
                 frame.one(Kind::Prefix).map(|_| frame.replace(1, is(Kind::Bool)))
             }
+            // The plain program's filters have no sets of ints.
+            Instruction::InSet(_) => Err("V7"),
             Instruction::JumpIfNot(_) => frame.one(Kind::Bool).map(|_| frame.depth -= 1),
             Instruction::Jump(_) | Instruction::Accept | Instruction::Reject => Ok(()),
         }

@@ -1,4 +1,4 @@
--- The file of a code is made of bytes, at most 465,032 of them.
+-- The file of a code is made of bytes, at most 989,449 of them.
 use Rattle.std.proofs.Common.{Bool, ℕ, zero, suc, ◌+◌, ◌*◌, ◌<◌, ◌≤◌, List, [], ◌∷◌, ◌++◌, length, slice_index, sym, subst, arith}
 use Rattle.std.proofs.Common.{lit<, lit≤, length-append, append-nil, if◌then◌else◌}
 use Rattle.std.specs.List.{AllByRecursion, flat_map}
@@ -8,10 +8,14 @@ use Rattle.filter_code.specs.Table.{Literal, Bare, Word, Truth, Bits, Index, Len
 use Rattle.filter_code.specs.CodeView.{CodeView}
 use Rattle.filter_code.specs.declared.instruction.Instr.{Instr}
 use Rattle.code_file.proofs.Written.{bytes_of-append, bytes_of-flat_map}
-use Rattle.code_file.specs.Fields.{FieldKind, IsBytes, mark_bytes, width}
-use Rattle.code_file.specs.Fields.FieldKind.{Instructions, Locals, Mark, Patterns, Sets}
-use Rattle.code_file.specs.Spelling.{Field, FitsField, IsInstruction, IsPattern, IsCode, IsSet, bytes_of, counted, field, instruction}
-use Rattle.code_file.specs.Spelling.{literal_field, mark_byte, operand, pattern, prefix_bytes, set, spelling}
+use Rattle.int_sets.specs.Holding.{NumberRange}
+use Rattle.code_file.specs.declared.version.Version.{Version}
+use Rattle.code_file.specs.declared.version.Version.TheVariants as version
+use Rattle.code_file.specs.Fields.{FieldKind, IsBytes, mark_bytes, version_byte, width}
+use Rattle.code_file.specs.Fields.FieldKind.{Instructions, IntSets, Locals, Mark, VersionMark, Patterns, Ranges, Sets}
+use Rattle.code_file.specs.Spelling.{Field, FitsField, IsInstruction, IsPattern, IsCodeIn, IsSet, bytes_of, counted, field, instruction}
+use Rattle.code_file.specs.Spelling.{literal_field, mark_byte, version_mark, operand, pattern, prefix_bytes, set, spelling}
+use Rattle.code_file.specs.Spelling.{range, int_set, int_sets, spelling_in, AreIntSets, IsCode, IsIntSet, IsRange}
 use Rattle.std.specs.Int.{byte_at, bytes_high_first as big_bytes}
 
 -- at most so many bytes
@@ -100,6 +104,20 @@ a_set patterns h =
     let le = h.within_limit in
     all_counted Patterns IsPattern 7 7168 (λ p. pattern p ∷ []) a_pattern patterns h.each (omega arith)
 
+a_range : (r : NumberRange) → IsRange r → AreBytes 8 (bytes_of (range r ∷ []))
+a_range r h = alone 8 (range r).bytes (joined 4 4 (big_bytes 4 r.low) (big_bytes 4 r.high) (number 4 r.low) (number 4 r.high))
+
+an_int_set : (ranges : List NumberRange) → IsIntSet ranges → AreBytes 8194 (bytes_of (int_set ranges))
+an_int_set ranges h =
+    let le = h.within_limit in
+    all_counted Ranges IsRange 8 8192 (λ r. range r ∷ []) a_range ranges h.each (omega arith)
+
+the_int_sets : (v : Version) (sets : List (List NumberRange)) → AreIntSets v sets → AreBytes 524417 (bytes_of (int_sets v sets))
+the_int_sets version.One sets h = relaxed 0 524417 [] (lit≤ tt) none
+the_int_sets version.Two sets h =
+    let le = h.0 in
+    all_counted IntSets IsIntSet 8194 524416 int_set an_int_set sets h.1 (omega arith)
+
 -- the operand of an instruction takes at most five bytes
 a_number : (n x : ℕ) → n ≤ 5 → AreBytes 5 (big_bytes n x ++ [])
 a_number n x le = relaxed n 5 (big_bytes n x ++ []) le (alone n (big_bytes n x) (number n x))
@@ -113,29 +131,38 @@ a_literal (Index i) h = a_number 1 i (lit≤ tt)
 a_literal (Length n) h = a_number 1 n (lit≤ tt)
 a_literal (Skip k) h = a_number 2 k (lit≤ tt)
 
-an_instruction : (i : Instr) → IsInstruction i → AreBytes 6 (bytes_of (instruction i))
-an_instruction i h = joined 1 5 (big_bytes 1 (opcode i)) (bytes_of (operand i)) (number 1 (opcode i)) (a_literal (literal_of i) h)
+an_instruction : (v : Version) (i : Instr) → IsInstruction v i → AreBytes 6 (bytes_of (instruction v i))
+an_instruction v i h = joined 1 5 (big_bytes 1 (opcode i)) (bytes_of (operand i)) (number 1 (opcode i)) (a_literal (literal_of i) h.0)
 
 -- the mark
 a_mark : {n : ℕ} (place : ℕ) (fs : List Field) → AreBytes n (bytes_of fs) → AreBytes (1 + n) (bytes_of (mark_byte place ∷ fs))
 a_mark place fs a = and_more (Mark place) (slice_index mark_bytes place) fs a
 
-after_mark : (n : ℕ) (fs : List Field) → AreBytes n (bytes_of fs)
-    → AreBytes (1 + (1 + (1 + (1 + n)))) (bytes_of (mark_byte 0 ∷ mark_byte 1 ∷ mark_byte 2 ∷ mark_byte 3 ∷ fs))
-after_mark n fs a =
-    let third = mark_byte 3 ∷ fs in
+after_mark : (v : Version) (n : ℕ) (fs : List Field) → AreBytes n (bytes_of fs)
+    → AreBytes (1 + (1 + (1 + (1 + n)))) (bytes_of (mark_byte 0 ∷ mark_byte 1 ∷ mark_byte 2 ∷ version_mark v ∷ fs))
+after_mark v n fs a =
+    let third = version_mark v ∷ fs in
     let second = mark_byte 2 ∷ third in
-    a_mark 0 (mark_byte 1 ∷ second) (a_mark 1 second (a_mark 2 third (a_mark 3 fs a)))
+    a_mark 0 (mark_byte 1 ∷ second) (a_mark 1 second (a_mark 2 third (and_more VersionMark (version_byte v) fs a)))
 
--- a file has at most 465,032 bytes
-pub a_file : (code : CodeView) → IsCode code → AreBytes 465032 (spelling code)
-a_file code h =
+-- a file has at most 989,449 bytes
+pub a_file_in : (v : Version) (code : CodeView) → IsCodeIn v code → AreBytes 989449 (spelling_in v code)
+a_file_in v code h =
     let sets_limit = h.sets in
     let instrs_limit = h.instrs in
     let sets = all_counted Sets IsSet 7170 458880 set a_set code.sets h.each_set (omega arith) in
-    let instrs = all_counted Instructions IsInstruction 6 6144 instruction an_instruction code.instrs h.each_instr (omega arith) in
+    let ints = the_int_sets v code.int_sets h.int_sets in
+    let instrs = all_counted Instructions (IsInstruction v) 6 6144 (instruction v) (an_instruction v) code.instrs h.each_instr
+    (omega arith) in
+    let last = int_sets v code.int_sets ++ counted Instructions (instruction v) code.instrs in
+    let end : AreBytes 530563 (bytes_of last) =
+    subst (AreBytes 530563) (sym (bytes_of-append (int_sets v code.int_sets) (counted Instructions (instruction v) code.instrs)))
+    (joined 524417 6146 (bytes_of (int_sets v code.int_sets)) (bytes_of (counted Instructions (instruction v) code.instrs)) ints instrs) in
     let locals = and_more Locals code.locals (counted Sets set code.sets) sets in
-    let front = mark_byte 0 ∷ mark_byte 1 ∷ mark_byte 2 ∷ mark_byte 3 ∷ field Locals code.locals ∷ counted Sets set code.sets in
-    subst (AreBytes 465032) (sym (bytes_of-append front (counted Instructions instruction code.instrs)))
-    (joined 458886 6146 (bytes_of front) (bytes_of (counted Instructions instruction code.instrs))
-    (after_mark 458882 (field Locals code.locals ∷ counted Sets set code.sets) locals) instrs)
+    let front = mark_byte 0 ∷ mark_byte 1 ∷ mark_byte 2 ∷ version_mark v ∷ field Locals code.locals ∷ counted Sets set code.sets in
+    subst (AreBytes 989449) (sym (bytes_of-append front last))
+    (joined 458886 530563 (bytes_of front) (bytes_of last)
+    (after_mark v 458882 (field Locals code.locals ∷ counted Sets set code.sets) locals) end)
+
+pub a_file : (code : CodeView) → IsCode code → AreBytes 989449 (spelling code)
+a_file code h = a_file_in version.Two code h

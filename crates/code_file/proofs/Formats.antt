@@ -8,8 +8,8 @@ use Rattle.code_file.specs.declared.fault.FileFault.{FileFault}
 use Rattle.code_file.specs.declared.fault.FileFault.TheVariants as fault
 use Rattle.code_file.proofs.Bytes.{IsBytes-drop, IsBytes-take, one_byte, zeros_are_bytes}
 use Rattle.code_file.specs.Fields.{FieldKind, width, is_good, fault_of, mark_bytes, form_of}
-use Rattle.code_file.specs.Fields.FieldKind.{Mark, Locals, Sets, Patterns, Pattern, Instructions, Opcode, WordOperand}
-use Rattle.code_file.specs.Fields.FieldKind.{TruthOperand, PrefixOperand, NameOperand, BitsOperand, SkipOperand}
+use Rattle.code_file.specs.Fields.FieldKind.{Mark, VersionMark, Locals, Sets, Patterns, Pattern, IntSets, Ranges, Range, Instructions, Opcode}
+use Rattle.code_file.specs.Fields.FieldKind.{WordOperand, TruthOperand, PrefixOperand, NameOperand, BitsOperand, SkipOperand}
 use Rattle.prefix_patterns.specs.Bits.{bits, number}
 use Rattle.code_file.specs.Spelling.{Field, bytes_of}
 use Rattle.code_file.specs.Fields.{IsBytes}
@@ -194,12 +194,16 @@ read_found {A} (Next kind others) rest x left h e =
 
 abbrev good_example : FieldKind → List ℕ
 good_example (Mark place) = slice_index mark_bytes place ∷ []
+good_example VersionMark = 0x31 ∷ []
 good_example Locals = 0 ∷ []
 good_example Sets = 0 ∷ []
 good_example Patterns = 0 ∷ 0 ∷ []
 good_example Pattern = 0 ∷ 0 ∷ 0 ∷ 0 ∷ 0 ∷ 0 ∷ 0 ∷ []
+good_example IntSets = 0 ∷ []
+good_example Ranges = 0 ∷ 0 ∷ []
+good_example Range = 0 ∷ 0 ∷ 0 ∷ 0 ∷ 0 ∷ 0 ∷ 0 ∷ 0 ∷ []
 good_example Instructions = 0 ∷ 0 ∷ []
-good_example Opcode = 0x71 ∷ []
+good_example (Opcode v) = 0x71 ∷ []
 good_example WordOperand = 0 ∷ 0 ∷ 0 ∷ 0 ∷ []
 good_example TruthOperand = 0 ∷ []
 good_example PrefixOperand = 0 ∷ 0 ∷ 0 ∷ 0 ∷ 0 ∷ []
@@ -211,8 +215,7 @@ mark_is_bytes : IsBytes mark_bytes
 mark_is_bytes zero = lit< tt
 mark_is_bytes (suc zero) = lit< tt
 mark_is_bytes (suc (suc zero)) = lit< tt
-mark_is_bytes (suc (suc (suc zero))) = lit< tt
-mark_is_bytes (suc (suc (suc (suc i)))) = lit< tt
+mark_is_bytes (suc (suc (suc i))) = lit< tt
 
 pub record IsGoodField (kind : FieldKind) (bytes : List ℕ) : Type 0 where
   pub len : length bytes ≡ width kind
@@ -222,12 +225,16 @@ pub record IsGoodField (kind : FieldKind) (bytes : List ℕ) : Type 0 where
 example_is_good : (kind : FieldKind) → IsGoodField kind (good_example kind)
 unfolding bits number form_of
 example_is_good (Mark place) = record { len = refl; good = eq-eqb _ _ (omega arith); are_bytes = one_byte _ (mark_is_bytes place) }
+example_is_good VersionMark = record { len = refl; good = refl; are_bytes = one_byte 0x31 (lit< tt) }
 example_is_good Locals = record { len = refl; good = refl; are_bytes = zeros_are_bytes 1 }
 example_is_good Sets = record { len = refl; good = refl; are_bytes = zeros_are_bytes 1 }
 example_is_good Patterns = record { len = refl; good = refl; are_bytes = zeros_are_bytes 2 }
 example_is_good Pattern = record { len = refl; good = refl; are_bytes = zeros_are_bytes 7 }
+example_is_good IntSets = record { len = refl; good = refl; are_bytes = zeros_are_bytes 1 }
+example_is_good Ranges = record { len = refl; good = refl; are_bytes = zeros_are_bytes 2 }
+example_is_good Range = record { len = refl; good = refl; are_bytes = zeros_are_bytes 8 }
 example_is_good Instructions = record { len = refl; good = refl; are_bytes = zeros_are_bytes 2 }
-example_is_good Opcode = record { len = refl; good = refl; are_bytes = one_byte 0x71 (lit< tt) }
+example_is_good (Opcode v) = record { len = refl; good = refl; are_bytes = one_byte 0x71 (lit< tt) }
 example_is_good WordOperand = record { len = refl; good = refl; are_bytes = zeros_are_bytes 4 }
 example_is_good TruthOperand = record { len = refl; good = refl; are_bytes = zeros_are_bytes 1 }
 example_is_good PrefixOperand = record { len = refl; good = refl; are_bytes = zeros_are_bytes 5 }

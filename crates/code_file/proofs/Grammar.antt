@@ -1,10 +1,12 @@
 -- Reading is the grammar: a code is what is spelled so, and a fault is the one that the bytes have.
-use Rattle.std.proofs.Common.{refl, ◌≡◌, ℕ, ◌+◌, List, ◌∷◌, ◌++◌, length, Result, Ok, Err, sym, ap, subst, ◌∙◌, arith, inl, inr, ◌↔◌}
+use Rattle.std.proofs.Common.{refl, ◌≡◌, ℕ, ◌+◌, List, ◌∷◌, ◌++◌, length, slice_index, Result, Ok, Err, sym, ap, subst, ◌∙◌, arith, inl, inr, ◌↔◌}
 use Rattle.filter_code.specs.CodeView.{CodeView}
 use Rattle.code_file.specs.declared.fault.FileFault.{FileFault}
 use Rattle.code_file.specs.declared.fault.FileFault.TheVariants as fault
 use Rattle.code_file.specs.Fields.{fault_of}
-use Rattle.code_file.specs.Spelling.{Field, bytes_of, fields, spelling, IsCode}
+use Rattle.code_file.specs.declared.version.Version.{Version}
+use Rattle.code_file.specs.declared.version.Version.TheVariants as version
+use Rattle.code_file.specs.Spelling.{Field, bytes_of, fields, spelling, spelling_in, IsCode, IsCodeIn, IsFile}
 use Rattle.code_file.specs.Fault.{IsReadUpTo, IsFault}
 use Rattle.code_file.specs.Fields.{IsBytes}
 use Rattle.code_file.specs.Reading.{Rest, a_file, read, whole, file_of}
@@ -13,23 +15,26 @@ use Rattle.code_file.proofs.Formats.{AreNotAll, whole_found, Stopped, whole_refu
 use Rattle.code_file.proofs.Files.{put_file, take_file}
 
 -- the file of a code is read
-pub file_of_spelling : (code : CodeView) → IsCode code → file_of (spelling code) ≡ Ok code
+pub file_of_spelling_in : (v : Version) (code : CodeView) → IsCodeIn v code → file_of (spelling_in v code) ≡ Ok code
 unfolding file_of
-file_of_spelling code h = whole_again a_file (fields code) code (put_file code h)
+file_of_spelling_in v code h = whole_again a_file (fields v code) code (put_file v code h)
+
+pub file_of_spelling : (code : CodeView) → IsCode code → file_of (spelling code) ≡ Ok code
+file_of_spelling code h = file_of_spelling_in version.Two code h
 
 -- what was read is the file of the code
-pub spelling_of_file : (bytes : List ℕ) (code : CodeView) → IsBytes bytes → file_of bytes ≡ Ok code → IsCode code × (bytes ≡ spelling code)
+pub spelling_of_file : (bytes : List ℕ) (code : CodeView) → IsBytes bytes → file_of bytes ≡ Ok code → IsFile bytes code
 unfolding file_of
 spelling_of_file bytes code h e =
     let all = whole_found a_file bytes code h e in
     let is = take_file all.fields code all.fields_are_bytes all.follows in
-    (is.1, all.parts ∙ ap bytes_of is.0)
+    record { version = is.version; is_code = is.is_code; spelled = all.parts ∙ ap bytes_of is.parts }
 
 -- where a code begins with some fields, these and the others follow the format
 follows_up_to : (bytes : List ℕ) (front : List Field) (next : Field) (rest : List ℕ)
     (up_to : IsReadUpTo bytes front next rest) → Follows a_file (front ++ next ∷ up_to.others) up_to.code
 follows_up_to bytes front next rest up_to = subst (λ (fs : List Field). Follows a_file fs up_to.code) up_to.in_order
-    (put_file up_to.code up_to.is_code)
+    (put_file up_to.version up_to.code up_to.is_code)
 
 -- the fault of bytes is met
 pub file_of_fault : (bytes : List ℕ) (found : FileFault) → IsFault bytes found → file_of bytes ≡ Err found
@@ -47,7 +52,8 @@ file_of_fault bytes found (inr (inl bad)) =
     (follows_up_to bytes bad.front bad.next bad.rest up_to) bad.whole bad.bad in
     ap (λ (b : List ℕ). whole (read a_file (from_start b))) up_to.parts ∙ met ∙ ap (λ (f : FileFault). Err f) (sym bad.fault)
 file_of_fault bytes found (inr (inr long)) =
-    let met = whole_long a_file (fields long.code) long.code long.next long.others (put_file long.code long.is_code) in
+    let met = whole_long a_file (fields long.version long.code) long.code long.next long.others
+    (put_file long.version long.code long.is_code) in
     ap (λ (b : List ℕ). whole (read a_file (from_start b))) long.parts ∙ met ∙ ap (λ (f : FileFault). Err f) (sym long.fault)
 
 -- the fault that is met is that of the bytes
@@ -55,7 +61,14 @@ stopped_is_fault : (bytes : List ℕ) (found : FileFault) → Stopped a_file (fr
 stopped_is_fault bytes found stopped =
     let is = take_file (stopped.front ++ stopped.next ∷ stopped.others) stopped.made stopped.fields_are_bytes stopped.follows in
     let up_to : IsReadUpTo bytes stopped.front stopped.next stopped.tail =
-    record { code = stopped.made; is_code = is.1; others = stopped.others; in_order = sym is.0; parts = stopped.parts } in
+    record {
+      version = is.version;
+      code = stopped.made;
+      is_code = is.is_code;
+      others = stopped.others;
+      in_order = sym is.parts;
+      parts = stopped.parts;
+    } in
     let end : 0 + length bytes ≡ length bytes = omega arith in
     let place : 0 + length (bytes_of stopped.front) ≡ length (bytes_of stopped.front) = omega arith in
     elim stopped.why [
@@ -84,12 +97,13 @@ long_is_fault : (bytes : List ℕ) (found : FileFault) → AreNotAll a_file byte
 long_is_fault bytes found long =
     let is = take_file long.fields long.made long.fields_are_bytes long.follows in
     inr (inr (record {
+      version = is.version;
       code = long.made;
-      is_code = is.1;
+      is_code = is.is_code;
       next = long.next;
       others = long.others;
-      parts = long.parts ∙ ap (λ (fs : List Field). bytes_of fs ++ long.next ∷ long.others) is.0;
-      fault = long.is ∙ ap (λ (fs : List Field). fault.BytesAfterEnd (length (bytes_of fs))) is.0;
+      parts = long.parts ∙ ap (λ (fs : List Field). bytes_of fs ++ long.next ∷ long.others) is.parts;
+      fault = long.is ∙ ap (λ (fs : List Field). fault.BytesAfterEnd (length (bytes_of fs))) is.parts;
     }))
 
 pub fault_of_file : (bytes : List ℕ) (found : FileFault) → IsBytes bytes → file_of bytes ≡ Err found → IsFault bytes found
@@ -108,10 +122,10 @@ one_fault bytes a b p q =
     let also = file_of_fault bytes b q in
     cc
 
-pub no_fault : (code : CodeView) (found : FileFault) → IsCode code → IsFault (spelling code) found → ⊥
-no_fault code found h p =
-    let read = file_of_spelling code h in
-    let met = file_of_fault (spelling code) found p in
+pub no_fault : (v : Version) (code : CodeView) (found : FileFault) → IsCodeIn v code → IsFault (spelling_in v code) found → ⊥
+no_fault v code found h p =
+    let read = file_of_spelling_in v code h in
+    let met = file_of_fault (spelling_in v code) found p in
     cc
 
 abbrev pair : {A B : Type 0} → A → B → A × B
@@ -123,23 +137,32 @@ same_found {A} {B} r x y t u p q =
     let both : pair x t ≡ pair y u = cc in
     (ap (λ (p : A × B). p.0) both, ap (λ (p : A × B). p.1) both)
 
--- no file begins another, and each is that of one code
-pub one_file : (a b : CodeView) (x y : List ℕ) → IsCode a → IsCode b → spelling a ++ x ≡ spelling b ++ y → (a ≡ b) × (x ≡ y)
-one_file a b x y p q e =
-    let left = read_again a_file (fields a) a 0 x (put_file a p) in
-    let right = ap (λ (bytes : List ℕ). read a_file (from_start bytes)) e ∙ read_again a_file (fields b) b 0 y (put_file b q) in
-    let same = same_found (read a_file (from_start (spelling a ++ x))) a b (rest_at (0 + length (spelling a)) x)
-    (rest_at (0 + length (spelling b)) y) left right in
-    (same.0, ap (λ (r : Rest). r.bytes) same.1)
+-- files that begin alike have the same version
+one_version : (v w : Version) (a b : CodeView) (x y : List ℕ) → spelling_in v a ++ x ≡ spelling_in w b ++ y → v ≡ w
+one_version version.One version.One a b x y e = refl
+one_version version.One version.Two a b x y e = absurd (let last = ap (λ (bytes : List ℕ). slice_index bytes 3) e in omega (arith, last))
+one_version version.Two version.One a b x y e = absurd (let last = ap (λ (bytes : List ℕ). slice_index bytes 3) e in omega (arith, last))
+one_version version.Two version.Two a b x y e = refl
 
-pub exact_code : (bytes : List ℕ) (code : CodeView) → IsBytes bytes → (file_of bytes ≡ Ok code) ↔ (IsCode code × (bytes ≡ spelling code))
-exact_code bytes code h = (spelling_of_file bytes code h, λ is. ap file_of is.1 ∙ file_of_spelling code is.0)
+-- no file begins another, and each is that of one code
+pub one_file : (v w : Version) (a b : CodeView) (x y : List ℕ) → IsCodeIn v a → IsCodeIn w b →
+    spelling_in v a ++ x ≡ spelling_in w b ++ y → (v ≡ w) × (a ≡ b) × (x ≡ y)
+one_file v w a b x y p q e =
+    let left = read_again a_file (fields v a) a 0 x (put_file v a p) in
+    let right = ap (λ (bytes : List ℕ). read a_file (from_start bytes)) e ∙ read_again a_file (fields w b) b 0 y (put_file w b q) in
+    let same = same_found (read a_file (from_start (spelling_in v a ++ x))) a b (rest_at (0 + length (spelling_in v a)) x)
+    (rest_at (0 + length (spelling_in w b)) y) left right in
+    (one_version v w a b x y e, same.0, ap (λ (r : Rest). r.bytes) same.1)
+
+pub exact_code : (bytes : List ℕ) (code : CodeView) → IsBytes bytes → (file_of bytes ≡ Ok code) ↔ IsFile bytes code
+exact_code bytes code h =
+    (spelling_of_file bytes code h, λ is. ap file_of is.spelled ∙ file_of_spelling_in is.version code is.is_code)
 
 pub exact_fault : (bytes : List ℕ) (found : FileFault) → IsBytes bytes → (file_of bytes ≡ Err found) ↔ IsFault bytes found
 exact_fault bytes found h = (fault_of_file bytes found h, file_of_fault bytes found)
 
-pub more_follows : (code : CodeView) (next : ℕ) (others : List ℕ) → IsCode code →
-    file_of (spelling code ++ next ∷ others) ≡ Err (fault.BytesAfterEnd (length (spelling code)))
-more_follows code next others h =
-    file_of_fault (spelling code ++ next ∷ others) (fault.BytesAfterEnd (length (spelling code)))
-    (inr (inr (record { code = code; is_code = h; next = next; others = others; parts = refl; fault = refl })))
+pub more_follows : (v : Version) (code : CodeView) (next : ℕ) (others : List ℕ) → IsCodeIn v code →
+    file_of (spelling_in v code ++ next ∷ others) ≡ Err (fault.BytesAfterEnd (length (spelling_in v code)))
+more_follows v code next others h =
+    file_of_fault (spelling_in v code ++ next ∷ others) (fault.BytesAfterEnd (length (spelling_in v code)))
+    (inr (inr (record { version = v; code = code; is_code = h; next = next; others = others; parts = refl; fault = refl })))

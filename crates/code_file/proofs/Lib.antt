@@ -4,8 +4,10 @@ pub mod FileBytes
 pub mod Files
 pub mod Formats
 pub mod Grammar
+pub mod Old
 pub mod Parts
 pub mod Prefixes
+pub mod Ranges
 mod Rows
 pub mod Steps
 pub mod Times

@@ -12,6 +12,7 @@ fault_code (fault.BadOperand at) = codes "C4"
 fault_code (fault.OverLimit at) = codes "C5"
 fault_code (fault.BytesAfterEnd at) = codes "C6"
 fault_code fault.Memory = codes "C7"
+fault_code fault.OldForm = codes "C8"
 
 -- the place, and 0 where there is none
 abbrev pub fault_place : FileFault → ℕ
@@ -22,3 +23,4 @@ fault_place (fault.BadOperand at) = at
 fault_place (fault.OverLimit at) = at
 fault_place (fault.BytesAfterEnd at) = at
 fault_place fault.Memory = 0
+fault_place fault.OldForm = 0

@@ -7,10 +7,13 @@ use Rattle.prefix_patterns.specs.Matching.{PrefixPattern}
 use Rattle.filter_code.specs.declared.instruction.Instr.{Instr}
 use Rattle.filter_code.specs.declared.instruction.Instr.TheVariants as instr
 use Rattle.filter_code.specs.CodeView.{CodeView}
+use Rattle.int_sets.specs.Holding.{NumberRange}
 use Rattle.code_file.specs.declared.fault.FileFault.{FileFault}
 use Rattle.code_file.specs.declared.fault.FileFault.TheVariants as fault
-use Rattle.code_file.specs.Fields.{FieldKind, width, number, is_good, fault_of, form_of}
-use Rattle.code_file.specs.Fields.FieldKind.{Mark, Locals, Sets, Patterns, Pattern, Instructions, Opcode, WordOperand}
+use Rattle.code_file.specs.declared.version.Version.{Version}
+use Rattle.code_file.specs.declared.version.Version.TheVariants as version
+use Rattle.code_file.specs.Fields.{FieldKind, width, number, is_good, fault_of, version_of, form_of}
+use Rattle.code_file.specs.Fields.FieldKind.{Mark, VersionMark, Locals, Sets, Patterns, Pattern, IntSets, Ranges, Range, Instructions, Opcode, WordOperand}
 use Rattle.code_file.specs.Fields.FieldKind.{TruthOperand, PrefixOperand, NameOperand, BitsOperand, SkipOperand}
 
 -- the fields to read, where each may depend on the bytes of those before it, and what they make
@@ -58,6 +61,23 @@ a_count_of kind format = do
 abbrev pub a_set : Format (List PrefixPattern)
 a_set = a_count_of Patterns a_pattern
 
+-- the range of two numbers of four bytes
+abbrev pub range_of : List ℕ → NumberRange
+range_of bytes = record { low = big_number 4 bytes; high = big_number 4 (drop 4 bytes) }
+
+-- a range of ints
+abbrev pub a_range : Format NumberRange
+a_range = Next Range (λ bytes. Done (range_of bytes))
+
+-- a set of ints
+abbrev pub an_int_set : Format (List NumberRange)
+an_int_set = a_count_of Ranges a_range
+
+-- the sets of ints of a version
+abbrev pub the_int_sets : Version → Format (List (List NumberRange))
+the_int_sets version.One = Done []
+the_int_sets version.Two = a_count_of IntSets an_int_set
+
 -- an operand that is a truth value
 abbrev pub a_truth : Format Bool
 a_truth = do
@@ -94,6 +114,9 @@ an_operand (instr.Mask any) = do
 an_operand (instr.Member any) = do
   i ← a_number NameOperand
   Done (instr.Member i)
+an_operand (instr.InSet any) = do
+  i ← a_number NameOperand
+  Done (instr.InSet i)
 an_operand (instr.Jump any) = do
   k ← a_number SkipOperand
   Done (instr.Jump k)
@@ -104,33 +127,45 @@ an_operand form = Done form
 
 -- an opcode: it makes the instruction that has it, with a blank operand (a byte that is no opcode is bad, and nothing is
 -- read after it)
-abbrev pub a_form : Format Instr
-a_form = do
-  byte ← a_number Opcode
-  Done (unwrap_or (form_of byte) instr.Reject)
+abbrev pub a_form : Version → Format Instr
+a_form v = do
+  byte ← a_number (Opcode v)
+  Done (unwrap_or (form_of v byte) instr.Reject)
 
 -- an opcode and its operand
-abbrev pub an_instruction : Format Instr
-an_instruction = do
-  form ← a_form
+abbrev pub an_instruction : Version → Format Instr
+an_instruction v = do
+  form ← a_form v
   an_operand form
 
--- the mark, and the number of locals
-abbrev pub a_header : Format ℕ
-a_header = do
+-- the last byte of the mark: it tells the version (a byte that tells none is bad, and nothing is read after it)
+abbrev pub a_version : Format Version
+a_version = do
+  byte ← a_number VersionMark
+  Done (unwrap_or (version_of byte) version.One)
+
+-- the mark
+abbrev pub a_mark : Format Version
+a_mark = do
   n ← a_number (Mark 0)
   c ← a_number (Mark 1)
   f ← a_number (Mark 2)
-  one ← a_number (Mark 3)
-  a_number Locals
+  a_version
+
+-- what follows the mark of a version
+abbrev pub a_code : Version → Format CodeView
+a_code v = do
+  locals ← a_number Locals
+  sets ← a_count_of Sets a_set
+  int_sets ← the_int_sets v
+  instrs ← a_count_of Instructions (an_instruction v)
+  Done (record { locals = locals; sets = sets; int_sets = int_sets; instrs = instrs })
 
 -- a whole file
 unfoldable pub a_file : Format CodeView
 a_file = do
-  locals ← a_header
-  sets ← a_count_of Sets a_set
-  instrs ← a_count_of Instructions an_instruction
-  Done (record { locals = locals; sets = sets; instrs = instrs })
+  v ← a_mark
+  a_code v
 
 -- the bytes that are left of a file, and the number of bytes before them
 pub record Rest : Type 0 where

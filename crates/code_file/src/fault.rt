@@ -11,8 +11,8 @@ use thiserror::Error;
 /// A place is the offset of a byte in the file.
 #[derive(Clone, Copy, Debug, PartialEq, Eq, Error)]
 pub enum FileFault {
-    /// C1: the byte at this place is not that of the mark `NCF1`.
-    #[error("byte {0} does not match the mark NCF1, which begins a code file")]
+    /// C1: the byte at this place is not that of the mark `NCF1` or `NCF2`.
+    #[error("byte {0} does not match the mark NCF1 or NCF2, which begins a code file")]
     OtherMark(usize),
     /// C2: the file ends at this place, inside a field.
     #[error("the file ends at byte {0}, inside a field")]
@@ -20,8 +20,8 @@ pub enum FileFault {
     /// C3: the byte at this place is no known opcode.
     #[error("byte {0} is no known opcode")]
     UnknownOpcode(usize),
-    /// C4: the operand or pattern that begins at this place is out of range.
-    #[error("the operand or pattern at byte {0} is out of range")]
+    /// C4: the operand, pattern or range that begins at this place is out of range.
+    #[error("the operand, pattern or range at byte {0} is out of range")]
     BadOperand(usize),
     /// C5: the number that begins at this place is over its limit.
     #[error("the number at byte {0} is over its limit")]
@@ -32,12 +32,15 @@ pub enum FileFault {
     /// C7: memory was refused.
     #[error("out of memory")]
     Memory,
+    /// C8: the code has a set of ints or an INSET, which a file with the mark `NCF1` cannot say.
+    #[error("the code has sets of ints, which a file with the mark NCF1 does not have")]
+    OldForm,
 }
 
 impl FileFault {
     ghost use Rattle.code_file.specs.Codes.{fault_code, fault_place};
 
-    /// The fault's code, `C1` to `C7`.
+    /// The fault's code, `C1` to `C8`.
     pub fn code(self) -> &'static str
         ensures { result.now ≡ fault_code self }
     {
@@ -49,10 +52,11 @@ impl FileFault {
             FileFault::OverLimit(_) => "C5",
             FileFault::BytesAfterEnd(_) => "C6",
             FileFault::Memory => "C7",
+            FileFault::OldForm => "C8",
         }
     }
 
-    /// The fault's place; 0 if memory was refused.
+    /// The fault's place; 0 if memory was refused or the code is not for an older file.
     pub fn at(self) -> usize
         ensures { result ≡ fault_place self }
     {
@@ -63,7 +67,7 @@ impl FileFault {
             | FileFault::BadOperand(at)
             | FileFault::OverLimit(at)
             | FileFault::BytesAfterEnd(at) => at,
-            FileFault::Memory => 0,
+            FileFault::Memory | FileFault::OldForm => 0,
         }
     }
 }

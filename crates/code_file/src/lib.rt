@@ -7,9 +7,11 @@ mod fault;
 mod laws;
 mod reader;
 mod reading;
+mod version;
 mod writing;
 
 pub use fault::FileFault;
-pub use laws::{one_fault, one_file, reading_is_exact, written_is_read};
+pub use laws::{old_files, one_fault, one_file, reading_is_exact, written_is_read};
 pub use reading::read_code;
-pub use writing::write_code;
+pub use version::Version;
+pub use writing::{rewrite, write_code, write_old};

@@ -2,19 +2,21 @@
 
 ghost use Rattle.std.specs.Prelude.{◌≡◌, ◌+◌, ◌<◌, ◌≤◌, true, false, length, take, MatchOption, MatchResult, IfOk};
 ghost use Rattle.filter_code.specs.CodeView.{HasMask};
-ghost use Rattle.code_file.specs.Fields.{is_prefix, is_pattern};
-ghost use Rattle.code_file.specs.Fields.FieldKind.{Mark, Locals, Sets, Patterns, Instructions, WordOperand, NameOperand, BitsOperand, SkipOperand};
-ghost use Rattle.code_file.specs.Reading.{past, Reads, a_number, prefix_of, pattern_of, a_pattern, a_prefix, a_truth};
-ghost use Rattle.code_file.specs.Reading.{an_instruction, a_header};
+ghost use Rattle.code_file.specs.Fields.{is_prefix, is_pattern, is_range};
+ghost use Rattle.code_file.specs.Fields.FieldKind.{Mark, Locals, Sets, Patterns, IntSets, Ranges, Instructions, WordOperand, NameOperand, BitsOperand, SkipOperand};
+ghost use Rattle.code_file.specs.Reading.{past, Reads, a_number, prefix_of, pattern_of, range_of, a_pattern, a_range, a_prefix, a_truth};
+ghost use Rattle.code_file.specs.Reading.{an_instruction, a_version, a_mark};
 
 use crate::fault::FileFault;
+use crate::version::Version;
 use byteorder::{BigEndian, ByteOrder};
-use filter_code::{INSTRUCTION_LIMIT, Instr, LOCAL_LIMIT, SET_LIMIT};
+use filter_code::{INSTRUCTION_LIMIT, INT_SET_LIMIT, Instr, IntRange, LOCAL_LIMIT, SET_LIMIT};
+use int_sets::RANGE_LIMIT;
 use prefix_patterns::{ADDRESS_LENGTH, Ip, PATTERN_LIMIT, Pattern, Prefix};
 use std::marker::Model;
 
-/// The first bytes of each file.
-pub const MARK: [u8; 4] = *b"NCF1";
+/// The first bytes of each file. The next one tells the version.
+pub const MARK: [u8; 3] = *b"NCF";
 
 /// The bytes that are left of a file, and the number of bytes before them.
 #[derive(Drop)]
@@ -73,7 +75,7 @@ impl<'a> Reader<'a> {
     }
 
     fn mark_byte(&mut self, place: usize) -> Result<u8, FileFault>
-        requires { place < 4 }
+        requires { place < 3 }
         ensures { Reads (λ byte. byte) (a_number (Mark place)) self.old self.new result }
     {
         let at = self.at;
@@ -84,7 +86,28 @@ impl<'a> Reader<'a> {
         Ok(byte)
     }
 
-    fn locals(&mut self) -> Result<u8, FileFault>
+    fn version(&mut self) -> Result<Version, FileFault>
+        ensures { Reads (λ v. v) a_version self.old self.new result }
+    {
+        let at = self.at;
+        match Version::of(self.field(1)?[0]) {
+            Some(version) => Ok(version),
+            None => Err(FileFault::OtherMark(at)),
+        }
+    }
+
+    /// The mark, which tells the version.
+    pub fn mark(&mut self) -> Result<Version, FileFault>
+        ensures { Reads (λ v. v) a_mark self.old self.new result }
+    {
+        self.mark_byte(0)?;
+        self.mark_byte(1)?;
+        self.mark_byte(2)?;
+        self.version()
+    }
+
+    /// The number of local variables.
+    pub fn locals(&mut self) -> Result<u8, FileFault>
         ensures value { Reads (λ n. n) (a_number Locals) self.old self.new result }
         ensures limit { IfOk result (λ n. n ≤ LOCAL_LIMIT) }
     {
@@ -94,18 +117,6 @@ impl<'a> Reader<'a> {
             return Err(FileFault::OverLimit(at));
         }
         Ok(number)
-    }
-
-    /// All that comes before the sets: the mark, and the number of local variables, which it answers.
-    pub fn header(&mut self) -> Result<u8, FileFault>
-        ensures value { Reads (λ n. n) a_header self.old self.new result }
-        ensures limit { IfOk result (λ n. n ≤ LOCAL_LIMIT) }
-    {
-        self.mark_byte(0)?;
-        self.mark_byte(1)?;
-        self.mark_byte(2)?;
-        self.mark_byte(3)?;
-        self.locals()
     }
 
     /// The number of sets.
@@ -145,6 +156,43 @@ impl<'a> Reader<'a> {
         }
     }
 
+    /// The number of sets of ints.
+    pub fn int_set_count(&mut self) -> Result<u8, FileFault>
+        ensures value { Reads (λ n. n) (a_number IntSets) self.old self.new result }
+        ensures limit { IfOk result (λ n. n ≤ INT_SET_LIMIT) }
+    {
+        let at = self.at;
+        let number = self.field(1)?[0];
+        if number as usize > INT_SET_LIMIT {
+            return Err(FileFault::OverLimit(at));
+        }
+        Ok(number)
+    }
+
+    /// The number of ranges of a set of ints.
+    pub fn range_count(&mut self) -> Result<u16, FileFault>
+        ensures value { Reads (λ n. n) (a_number Ranges) self.old self.new result }
+        ensures limit { IfOk result (λ n. n ≤ RANGE_LIMIT) }
+    {
+        let at = self.at;
+        let number = BigEndian::read_u16(self.field(2)?);
+        if number as usize > RANGE_LIMIT {
+            return Err(FileFault::OverLimit(at));
+        }
+        Ok(number)
+    }
+
+    /// The next range of ints.
+    pub fn range(&mut self) -> Result<IntRange, FileFault>
+        ensures { Reads (λ r. r) a_range self.old self.new result }
+    {
+        let at = self.at;
+        match range_in(self.field(8)?) {
+            Some(range) => Ok(range),
+            None => Err(FileFault::BadOperand(at)),
+        }
+    }
+
     /// The number of instructions.
     pub fn instruction_count(&mut self) -> Result<u16, FileFault>
         ensures value { Reads (λ n. n) (a_number Instructions) self.old self.new result }
@@ -172,7 +220,7 @@ impl<'a> Reader<'a> {
         Ok(BigEndian::read_u16(self.field(2)?))
     }
 
-    /// An operand that is the number of a local variable or of a set.
+    /// An operand that is the number of a local variable, of a set or of a set of ints.
     fn name(&mut self) -> Result<u8, FileFault>
         ensures { Reads (λ n. n) (a_number NameOperand) self.old self.new result }
     {
@@ -214,10 +262,10 @@ impl<'a> Reader<'a> {
         }
     }
 
-    /// The next instruction: its opcode, and what is read after it.
+    /// The next instruction of a file of this version: its opcode, and what is read after it.
     #[tactic(auto, unfolding(crate::specs::Fields::form_of))]
-    pub fn instruction(&mut self) -> Result<Instr, FileFault>
-        ensures value { Reads (λ i. i) an_instruction self.old self.new result }
+    pub fn instruction(&mut self, version: Version) -> Result<Instr, FileFault>
+        ensures value { Reads (λ i. i) (an_instruction version) self.old self.new result }
         ensures mask { IfOk result HasMask }
     {
         let at = self.at;
@@ -246,6 +294,7 @@ impl<'a> Reader<'a> {
             0x42 => Ok(Instr::Mask(self.bits()?)),
             0x50 => Ok(Instr::Within),
             0x51 => Ok(Instr::Member(self.name()?)),
+            0x52 if version.has_int_sets() => Ok(Instr::InSet(self.name()?)),
             0x60 => Ok(Instr::Jump(self.skip()?)),
             0x61 => Ok(Instr::JumpIfNot(self.skip()?)),
             0x70 => Ok(Instr::Accept),
@@ -279,4 +328,13 @@ fn pattern_in(field: &[u8]) -> Option<Pattern>
 {
     let prefix = prefix_in(field)?;
     Pattern::new(prefix, field[5], field[6])
+}
+
+/// The range from one number of four bytes to another. None if the first is above the last.
+fn range_in(field: &[u8]) -> Option<IntRange>
+    requires { 8 ≤ length field.now }
+    ensures good { MatchOption result (is_range field.now ≡ false) (λ _. is_range field.now ≡ true) }
+    ensures value { MatchOption result (is_range field.now ≡ false) (λ range. range ≡ range_of field.now) }
+{
+    IntRange::new(BigEndian::read_u32(field), BigEndian::read_u32(&field[4..]))
 }

@@ -6,17 +6,24 @@ use code_file::FileFault;
 /// NET, MEMBER, JUMPIFNOT, ACCEPT and REJECT, after a set of one pattern.
 const FILE: [u8; 25] = *b"NCF1\0\x01\0\x01\x01\0\0\0\x08\x0f\x11\0\x05\x12\x51\0\x61\0\x01\x70\x71";
 
+/// METRIC, INSET, JUMPIFNOT, ACCEPT and REJECT, after a set of ints of two ranges.
+const NEW_FILE: [u8; 35] =
+    *b"NCF2\0\0\x01\0\x02\0\0\0\x02\0\0\0\x02\0\0\0\x04\0\0\0\x06\0\x05\x13\x52\0\x61\0\x01\x70\x71";
+
 #[test]
 fn a_file_that_is_cut_ends_early(rt: HostRuntime) {
     let alloc = rt.alloc();
-    for length in 0..FILE.len() {
-        let fault = fault_of(alloc, &FILE[..length]);
-        assert!(rt;
-            fault == Some(FileFault::EndsEarly(length)),
-            "{length} bytes"
-        );
+    let files: [&[u8]; 2] = [&FILE, &NEW_FILE];
+    for file in files {
+        for length in 0..file.len() {
+            let fault = fault_of(alloc, &file[..length]);
+            assert!(rt;
+                fault == Some(FileFault::EndsEarly(length)),
+                "{length} bytes"
+            );
+        }
+        assert!(rt; fault_of(alloc, file).is_none());
     }
-    assert!(rt; fault_of(alloc, &FILE).is_none());
 }
 
 /// The place of NET, the first opcode.

@@ -2,7 +2,8 @@
 
 use expectations::{expect, expect_str, expect_text};
 use filter_code::{
-    Code, Counted, FaultKind, Instr, Kind, Outcome, Route, Value, run_checked, run_counted,
+    Code, Counted, FaultKind, Instr, IntRange, IntSet, Kind, Outcome, Route, Value, run_checked,
+    run_counted,
 };
 use prefix_patterns::{Ip, Pattern, PatternSet, Prefix};
 use std::alloc::Global;
@@ -26,10 +27,17 @@ fn sets(alloc: Global) -> Result<Vec<PatternSet>, Fail> {
     Ok(vec![in alloc; PatternSet::build(alloc, &[pattern])?]?)
 }
 
-/// The code of these instructions, with two local variables and that set.
+/// The set of 2 and of 4 to 6.
+fn int_sets(alloc: Global) -> Result<Vec<IntSet>, Fail> {
+    let two = IntRange::new(2, 2).ok_or("one number")?;
+    let more = IntRange::new(4, 6).ok_or("three numbers")?;
+    Ok(vec![in alloc; IntSet::build(alloc, &[two, more])?]?)
+}
+
+/// The code of these instructions, with two local variables, that set of patterns and that set of ints.
 fn code(alloc: Global, instrs: &[Instr]) -> Result<Code, Fail> {
     let instrs = instrs.to_vec(alloc)?;
-    Ok(Code::new(2, sets(alloc)?, instrs).ok_or("a code within the limits")?)
+    Ok(Code::new(2, sets(alloc)?, int_sets(alloc)?, instrs).ok_or("a code within the limits")?)
 }
 
 fn outcome_on(alloc: Global, instrs: &[Instr], metric: u32) -> Result<Outcome, Fail> {
@@ -104,7 +112,7 @@ fn outcomes(rt: HostRuntime) -> Result<(), Fail> {
 }
 
 /// Three instructions, the fault that their run on metric 3 meets first, and its place.
-const FIRST_FAULTS: [([Instr; 3], FaultKind, usize); 15] = [
+const FIRST_FAULTS: [([Instr; 3], FaultKind, usize); 18] = [
     (
         [Instr::Metric, Instr::JumpIfNot(0), Instr::Accept],
         FaultKind::WrongKind,
@@ -139,6 +147,21 @@ const FIRST_FAULTS: [([Instr; 3], FaultKind, usize); 15] = [
         [Instr::Member(0), Instr::Accept, Instr::Accept],
         FaultKind::MissingOperand,
         0,
+    ),
+    (
+        [Instr::InSet(1), Instr::Accept, Instr::Accept],
+        FaultKind::UnknownName,
+        0,
+    ),
+    (
+        [Instr::InSet(0), Instr::Accept, Instr::Accept],
+        FaultKind::MissingOperand,
+        0,
+    ),
+    (
+        [Instr::Net, Instr::InSet(0), Instr::Accept],
+        FaultKind::WrongKind,
+        1,
     ),
     (
         [Instr::Div, Instr::Accept, Instr::Accept],
@@ -244,7 +267,7 @@ fn numbers_are_computed(rt: HostRuntime) -> Result<(), Fail> {
 }
 
 /// Three instructions, and the truth value that they leave.
-const TRUTHS: [([Instr; 3], bool); 8] = [
+const TRUTHS: [([Instr; 3], bool); 11] = [
     ([Instr::Int(2), Instr::Int(2), Instr::Eq], true),
     ([Instr::Int(2), Instr::Int(2), Instr::Lt], false),
     ([Instr::Ip(Ip(1)), Instr::Ip(Ip(2)), Instr::Lt], true),
@@ -256,6 +279,9 @@ const TRUTHS: [([Instr; 3], bool); 8] = [
         true,
     ),
     ([Instr::Int(1), Instr::Net, Instr::Member(0)], false),
+    ([Instr::Int(1), Instr::Int(2), Instr::InSet(0)], true),
+    ([Instr::Int(1), Instr::Int(3), Instr::InSet(0)], false),
+    ([Instr::Int(1), Instr::Int(6), Instr::InSet(0)], true),
 ];
 
 /// The same with a prefix, by its address and its length, which stands in the place of None.
@@ -338,6 +364,7 @@ fn a_code_is_read_back(rt: HostRuntime) -> Result<(), Fail> {
     for instrs in rows {
         let code = code(rt.alloc(), instrs)?;
         assert!(rt; code.locals() == 2 && code.sets().len() == 1 && code.instrs() == instrs);
+        assert!(rt; code.int_sets().len() == 1);
     }
     Ok(())
 }
@@ -345,7 +372,7 @@ fn a_code_is_read_back(rt: HostRuntime) -> Result<(), Fail> {
 /// Whether there is a code of these instructions, with so many local variables and no sets.
 fn is_code(alloc: Global, locals: u8, instrs: &[Instr]) -> Result<bool, Fail> {
     let instrs = instrs.to_vec(alloc)?;
-    Ok(Code::new(locals, Vec::new(alloc), instrs).is_some())
+    Ok(Code::new(locals, Vec::new(alloc), Vec::new(alloc), instrs).is_some())
 }
 
 #[test]
@@ -360,12 +387,18 @@ fn a_code_is_within_the_limits(rt: HostRuntime) -> Result<(), Fail> {
 }
 
 #[test]
-fn a_code_has_at_most_64_sets(rt: HostRuntime) -> Result<(), Fail> {
+fn a_code_has_at_most_64_sets_of_each_kind(rt: HostRuntime) -> Result<(), Fail> {
     let mut sets = Vec::new(rt.alloc());
     for _ in 0..65 {
         sets.push(PatternSet::build(rt.alloc(), &[])?)?;
     }
-    assert!(rt; Code::new(0, sets, Vec::new(rt.alloc())).is_none());
+    let mut int_sets = Vec::new(rt.alloc());
+    for _ in 0..65 {
+        int_sets.push(IntSet::build(rt.alloc(), &[])?)?;
+    }
+    let of_patterns = Code::new(0, sets, Vec::new(rt.alloc()), Vec::new(rt.alloc()));
+    let of_ints = Code::new(0, Vec::new(rt.alloc()), int_sets, Vec::new(rt.alloc()));
+    assert!(rt; of_patterns.is_none() && of_ints.is_none());
     Ok(())
 }
 
@@ -403,7 +436,7 @@ fn values_have_kinds(rt: HostRuntime) -> Result<(), Fail> {
 }
 
 /// Instructions, their texts and their opcodes.
-const TEXTS: [(Instr, &str, u8); 27] = [
+const TEXTS: [(Instr, &str, u8); 28] = [
     (Instr::Int(4_294_967_295), "INT 4294967295", 0x01),
     (Instr::Bool(true), "BOOL true", 0x02),
     (Instr::Ip(Ip(0x0102_0304)), "IP 1.2.3.4", 0x03),
@@ -427,6 +460,7 @@ const TEXTS: [(Instr, &str, u8); 27] = [
     (Instr::Mask(8), "MASK 8", 0x42),
     (Instr::Within, "WITHIN", 0x50),
     (Instr::Member(0), "MEMBER 0", 0x51),
+    (Instr::InSet(0), "INSET 0", 0x52),
     (Instr::Jump(300), "JUMP 300", 0x60),
     (Instr::JumpIfNot(2), "JUMPIFNOT 2", 0x61),
     (Instr::Accept, "ACCEPT", 0x70),

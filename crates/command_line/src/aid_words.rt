@@ -3,9 +3,10 @@
 ghost use Rattle.std.specs.Prelude.{◌≡◌, [], ◌∷◌, IfOk, map};
 ghost use Rattle.command_line.specs.Sources.{AreNamed, AreSources, IsNamed};
 
+use crate::filter_words::{NamedFile, WrongFilter, filters_in};
 use crate::options::{
-    code_option, explain_option, explained_code, filter_file, listed_file, replayed_file,
-    script_file, size_option, verified_size_option,
+    code_option, explain_option, explained_code, filter_file, imported_file, listed_file,
+    out_option, replayed_file, script_file, size_option, usual_size_option, verified_size_option,
 };
 use crate::telling::{Telling, is_explained};
 use crate::terminals::Terminals;
@@ -39,6 +40,10 @@ pub struct Checking {
     pub is_code: bool,
     /// A refusal is told in words too.
     pub is_explained: bool,
+    /// The name of its source stands before each line of a report.
+    pub has_names: bool,
+    /// Of a report only the line that refuses its source is written.
+    pub is_quiet: bool,
 }
 
 /// How a router's script is carried out, where more is asked for than its answers.
@@ -50,6 +55,17 @@ pub struct Running {
     pub stops: bool,
     /// The name of a new file, where the router's history is kept.
     pub save: Option<String>,
+    /// The filters that the script is started with.
+    pub filters: Vec<NamedFile>,
+}
+
+/// How the filters of a configuration are imported.
+#[derive(Debug, PartialEq, Eq, Drop)]
+pub struct Importing {
+    /// The number of nodes of the domains that they are verified for.
+    pub size: u32,
+    /// The folder of the files that they are written to, if they are.
+    pub folder: Option<String>,
 }
 
 /// What the program is asked to do for people.
@@ -87,6 +103,13 @@ pub enum Aid {
         /// A refusal of the filter is told in words too.
         is_explained: bool,
     },
+    /// Import the filters of a configuration of BIRD.
+    Import {
+        /// How they are imported.
+        how: Importing,
+        /// The configuration.
+        source: Source,
+    },
     /// Replay the history that a source is the text of.
     Replay {
         /// The source.
@@ -98,6 +121,13 @@ pub enum Aid {
         how: Running,
         /// Where its commands are.
         source: Source,
+    },
+    /// Carry out the script of a router that several sources are, one after another.
+    RunJoined {
+        /// How it is carried out.
+        how: Running,
+        /// Where its commands are, in order.
+        sources: Vec<Source>,
     },
     /// Carry out a script.
     Script {
@@ -111,7 +141,7 @@ pub enum Aid {
 }
 
 /// The source of a name: standard input for `-`.
-fn source_of(alloc: Global, name: &str) -> Result<Source, AllocError>
+pub fn source_of(alloc: Global, name: &str) -> Result<Source, AllocError>
     ensures { IfOk result (IsNamed name.now) }
 {
     if name == "-" {
@@ -170,6 +200,8 @@ pub fn checked_in(
         size,
         is_code: matches.get_flag("code"),
         is_explained: is_explained(Telling::read(matches), terminals.errors, has_files),
+        has_names: matches.get_flag("names"),
+        is_quiet: matches.get_flag("quiet"),
     };
     Ok((how, sources))
 }
@@ -214,6 +246,21 @@ pub fn list_in(
     })
 }
 
+/// What the words of `import` ask for.
+pub fn import_in(alloc: Global, matches: &ArgMatches<'_>) -> Result<Aid, AllocError> {
+    let how = Importing {
+        size: matches.get_one::<u32>("size").unwrap_or(USUAL_SIZE),
+        folder: match matches.get_str("out") {
+            Some(name) => Some(String::from_str(alloc, name)?),
+            None => None,
+        },
+    };
+    Ok(Aid::Import {
+        how,
+        source: source_in(alloc, matches)?,
+    })
+}
+
 /// What the words of `replay` ask for.
 pub fn replay_in(alloc: Global, matches: &ArgMatches<'_>) -> Result<Aid, AllocError> {
     Ok(Aid::Replay {
@@ -237,28 +284,45 @@ pub fn script_in(
     })
 }
 
-/// What the words of `run` ask for, where they ask for more than answers.
-pub fn run_in(
+/// Whether the words of `run` ask for more than answers.
+pub fn asks_for_more(matches: &ArgMatches<'_>) -> bool {
+    matches.get_str("save").is_some()
+        || matches.get_flag("stop")
+        || matches.get_strs("filter").is_some()
+}
+
+/// Whether the words of `run` name several sources.
+pub fn names_several(matches: &ArgMatches<'_>) -> bool {
+    matches.get_strs("file").unwrap_or(&[]).len() > 1
+}
+
+/// What the words of `run` ask for, where they ask for more than the answers to one source; or what is wrong with the filters that they
+/// name.
+pub fn run_in<'a>(
     alloc: Global,
-    matches: &ArgMatches<'_>,
+    matches: &ArgMatches<'a>,
     terminals: Terminals,
-) -> Result<Option<Aid>, AllocError> {
-    let save = matches.get_str("save");
-    let stops = matches.get_flag("stop");
-    if save.is_none() && !stops {
-        return Ok(None);
-    }
-    let source = source_in(alloc, matches)?;
-    let is_file = source != Source::Input;
+) -> Result<Result<Aid, WrongFilter<'a>>, AllocError> {
+    let filters = match filters_in(alloc, matches.get_strs("filter").unwrap_or(&[]))? {
+        Ok(filters) => filters,
+        Err(wrong) => return Ok(Err(wrong)),
+    };
+    let sources = sources_in(alloc, matches.get_strs("file").unwrap_or(&[]))?;
+    let has_files = has_files(sources.as_slice());
     let how = Running {
-        is_explained: is_explained(Telling::read(matches), terminals.errors, is_file),
-        stops,
-        save: match save {
+        is_explained: is_explained(Telling::read(matches), terminals.errors, has_files),
+        stops: matches.get_flag("stop"),
+        save: match matches.get_str("save") {
             Some(name) => Some(String::from_str(alloc, name)?),
             None => None,
         },
+        filters,
     };
-    Ok(Some(Aid::Run { how, source }))
+    if names_several(matches) {
+        return Ok(Ok(Aid::RunJoined { how, sources }));
+    }
+    let source = source_in(alloc, matches)?;
+    Ok(Ok(Aid::Run { how, source }))
 }
 
 /// The command `domain`.
@@ -367,6 +431,38 @@ Example:
   echo '8.8.8.0/24 9' | ncroute filter --size 16 examples/backup_link.filter
 prints `accept 12`. The exit status is 0; 1 if something was refused; 2 if the command
 line is wrong; 3 if a fault ended the run, as a file that cannot be read.
+";
+
+/// The number of nodes for which imported filters are verified where none is said: that of RIP.
+const USUAL_SIZE: u32 = 16;
+
+/// The command `import`.
+pub fn import_command<'a>(alloc: Global) -> Result<Command<'a>, AllocError> {
+    Command::new(alloc, "import")
+        .about("Take a configuration of BIRD apart, and verify each filter of it")
+        .after_help(IMPORT_HELP)
+        .arg(usual_size_option(alloc))?
+        .arg(out_option(alloc))?
+        .arg(imported_file(alloc))
+}
+
+const IMPORT_HELP: &str = "\
+FILE is a configuration of BIRD 2.0. Its filters are found, with those that a protocol has
+without a name, and each is written in this language: definitions and functions stand where
+they are used. Files that it includes are read. What has no counterpart is left out, and so
+is the whole filter that it stands in: no filter is written that means something else.
+
+For each filter a line is printed:
+  FILE:LINE:COL filter NAME verified BUDGET DEPTH
+                    it is taken; with --out behind its name ` -> FOLDER/NAME.filter`, a new
+                    file with its text and the places that it comes from
+  FILE:LINE:COL filter NAME: WHY: this filter was left out
+                    what stands there is not taken
+
+Example:
+  ncroute import --out filters examples/customers.bird
+The exit status is 0; 1 if something was left out or a fault ended the run; 2 if the command
+line is wrong.
 ";
 
 /// The command `replay`.

@@ -3,12 +3,14 @@
 
 mod aid_words;
 mod classes;
+mod filter_words;
 mod options;
 mod telling;
 mod terminals;
 mod words;
 
-pub use aid_words::{Aid, Checking, Engine, Running, Source};
+pub use aid_words::{Aid, Checking, Engine, Importing, Running, Source};
+pub use filter_words::{NamedFile, WrongFilter, filters_in};
 pub use telling::{Telling, is_explained};
 pub use terminals::{Terminals, tell_that_input_is_read, waits_for_people};
 pub use words::{Request, Words, read, request_of};

@@ -37,6 +37,14 @@ pub fn code_option<'a>(alloc: Global) -> Arg<'a> {
         .help("Read a code file in hexadecimal in place of a filter")
 }
 
+/// The option by which a code file is written in the older form.
+pub fn old_option<'a>(alloc: Global) -> Arg<'a> {
+    Arg::new(alloc, "old")
+        .long("old")
+        .action(ArgAction::SetTrue)
+        .help("Write the older form, NCF1")
+}
+
 /// The option by which a refusal is told in words on standard error.
 pub fn explain_option<'a>(alloc: Global) -> Arg<'a> {
     Arg::new(alloc, "explain")
@@ -46,6 +54,23 @@ pub fn explain_option<'a>(alloc: Global) -> Arg<'a> {
         .help(
             "Say in words on standard error why something is refused, with its line and column: always, never, or auto (the default), which is where standard error is a terminal, and of files that are named",
         )
+}
+
+/// The option by which the name of its source stands before each line of a report.
+pub fn names_option<'a>(alloc: Global) -> Arg<'a> {
+    Arg::new(alloc, "names")
+        .long("names")
+        .action(ArgAction::SetTrue)
+        .help("Begin each line of the output with the name of its file, as `FILE: `")
+}
+
+/// The option by which only refusals are written.
+pub fn quiet_option<'a>(alloc: Global) -> Arg<'a> {
+    Arg::new(alloc, "quiet")
+        .short('q')
+        .long("quiet")
+        .action(ArgAction::SetTrue)
+        .help("Print nothing but the lines that refuse something")
 }
 
 /// The files to check.
@@ -71,11 +96,33 @@ pub fn script_file<'a>(alloc: Global) -> Arg<'a> {
     )
 }
 
+/// The files of a router's script.
+pub fn script_files<'a>(alloc: Global) -> Arg<'a> {
+    Arg::new(alloc, "file")
+        .value_name("FILE")
+        .action(ArgAction::Append)
+        .num_args(0..)
+        .help(
+            "A file of the commands in place of standard input; - is standard input; several are one script, in order",
+        )
+}
+
 /// The file in which a router's history is kept.
 pub fn save_option<'a>(alloc: Global) -> Arg<'a> {
     Arg::new(alloc, "save").long("save").value_name("FILE").help(
         "Keep the router's history in FILE, which must not be there yet; see `ncroute replay`",
     )
+}
+
+/// The filters that a script is started with.
+pub fn filter_option<'a>(alloc: Global) -> Arg<'a> {
+    Arg::new(alloc, "filter")
+        .long("filter")
+        .value_name("NAME=FILE")
+        .action(ArgAction::Append)
+        .help(
+            "Give the filter of FILE this name when the domain is set up; a run whose filter is refused ends there",
+        )
 }
 
 /// The option by which a script ends at its first refused line.
@@ -99,6 +146,30 @@ pub fn filter_file<'a>(alloc: Global) -> Arg<'a> {
         .value_name("FILE")
         .required(true)
         .help("The file of the filter's text")
+}
+
+/// The number of nodes of the domain that imported filters are verified for.
+pub fn usual_size_option<'a>(alloc: Global) -> Arg<'a> {
+    Arg::new(alloc, "size")
+        .long("size")
+        .value_name("N")
+        .allow_negative_numbers(true)
+        .value_parser(clap::value_parser!(u32))
+        .help("Verify the filters for a routing domain of N nodes (2 to 250; 16)")
+}
+
+/// The folder of imported filters.
+pub fn out_option<'a>(alloc: Global) -> Arg<'a> {
+    Arg::new(alloc, "out").long("out").value_name("FOLDER").help(
+        "Write each filter into a new file of this folder, which has to be there",
+    )
+}
+
+/// The configuration that is imported.
+pub fn imported_file<'a>(alloc: Global) -> Arg<'a> {
+    Arg::new(alloc, "file").value_name("FILE").help(
+        "The configuration, in place of standard input; - is standard input",
+    )
 }
 
 /// The code that is explained.

@@ -1,5 +1,6 @@
 //! Which of the standard streams are terminals.
 use crate::aid_words::{Aid, Source};
+use crate::filter_words::NamedFile;
 use crate::words::Words;
 
 /// Which of the standard streams that people type into or read are terminals.
@@ -16,17 +17,28 @@ fn has_input(sources: &[Source]) -> bool {
     sources.iter().any(|source| *source == Source::Input)
 }
 
+/// Whether one of these filters is on standard input.
+fn reads_filter(filters: &[NamedFile]) -> bool {
+    filters.iter().any(|named| named.source == Source::Input)
+}
+
 /// Whether what is asked for reads standard input.
 fn reads_input(words: &Words) -> bool {
     match words {
         Words::Asked(_) => true,
         Words::Aided(Aid::Check { sources, .. }) => has_input(sources.as_slice()),
+        Words::Aided(Aid::Run { how, source }) => {
+            *source == Source::Input || reads_filter(how.filters.as_slice())
+        }
+        Words::Aided(Aid::RunJoined { how, sources }) => {
+            has_input(sources.as_slice()) || reads_filter(how.filters.as_slice())
+        }
         Words::Aided(
-            Aid::List { source, .. }
+            Aid::Import { source, .. }
+            | Aid::List { source, .. }
             | Aid::Replay { source }
-            | Aid::Run { source, .. }
             | Aid::Script { source, .. },
-        ) => *source == Source::Input,
+        ) => { *source == Source::Input }
         Words::Aided(Aid::Filter { .. }) => true,
         Words::Aided(Aid::Explain { .. }) | Words::Network | Words::Shown(_) => false,
     }

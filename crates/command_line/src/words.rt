@@ -1,11 +1,14 @@
 //! The words of the command line.
 use crate::aid_words::{
-    Aid, Engine, Source, checked_in, domain_command, explain_command, filter_command, filter_in,
-    has_files, list_command, list_in, replay_command, replay_in, run_in, script_in,
+    Aid, Engine, Source, asks_for_more, checked_in, domain_command, explain_command,
+    filter_command, filter_in, has_files, import_command, import_in, list_command, list_in,
+    names_several, replay_command, replay_in, run_in, script_in,
 };
 use crate::classes::page_of;
+use crate::filter_words::WrongFilter;
 use crate::options::{
-    code_option, explain_option, file_option, save_option, script_file, size_option, stop_option,
+    code_option, explain_option, file_option, filter_option, names_option, old_option,
+    quiet_option, save_option, script_files, size_option, stop_option,
 };
 use crate::terminals::Terminals;
 use clap::error::ErrorKind;
@@ -17,7 +20,7 @@ use std::rt::Env;
 use std::{env, io};
 
 /// The version of the project, and the kit that it is written for, as `rt version` says.
-const VERSION: &str = "0.1.0 (rattle-kit-13b logic dac8208d650f15bf)";
+const VERSION: &str = "0.1.0 (rattle-kit-13f logic dac8208d650f15bf)";
 
 /// The exit status of a run whose words were wrong.
 const WRONG_WORDS: u8 = 2;
@@ -33,6 +36,11 @@ pub enum Request {
         size: u32,
         /// Standard input is a code file in hexadecimal, and not a filter's text.
         is_code: bool,
+    },
+    /// Write the code file of standard input in the newer form.
+    Rewrite {
+        /// It is written in the older form.
+        is_old: bool,
     },
     /// Carry out the script of standard input: its commands drive a router.
     Run,
@@ -89,7 +97,7 @@ fn words_in<R: Eprint>(
     terminals: Terminals,
 ) -> Result<Words, AllocError> {
     if let Some(run) = matches.subcommand_matches("run") {
-        return run_words(alloc, run, terminals);
+        return run_words(rt, alloc, run, terminals);
     }
     if matches.subcommand_matches("net").is_some() {
         return Ok(Words::Network);
@@ -106,8 +114,16 @@ fn words_in<R: Eprint>(
     if let Some(filter) = matches.subcommand_matches("filter") {
         return filter_words(rt, alloc, filter, terminals);
     }
+    if let Some(import) = matches.subcommand_matches("import") {
+        return Ok(Words::Aided(import_in(alloc, import)?));
+    }
     if let Some(replay) = matches.subcommand_matches("replay") {
         return Ok(Words::Aided(replay_in(alloc, replay)?));
+    }
+    if let Some(rewrite) = matches.subcommand_matches("rewrite") {
+        return Ok(Words::Asked(Request::Rewrite {
+            is_old: rewrite.get_flag("old"),
+        }));
     }
     let Some(check) = matches.subcommand_matches("check") else {
         return Ok(Words::Asked(Request::Eval));
@@ -142,7 +158,8 @@ fn check_in(
         return Ok(Words::Shown(WRONG_WORDS));
     };
     let (how, sources) = checked_in(alloc, check, size, terminals)?;
-    if how.is_explained || has_files(sources.as_slice()) || sources.len() > 1 {
+    let is_plain = !how.is_explained && !how.has_names && !how.is_quiet;
+    if !is_plain || has_files(sources.as_slice()) || sources.len() > 1 {
         return Ok(Words::Aided(Aid::Check { how, sources }));
     }
     Ok(Words::Asked(Request::Check {
@@ -152,13 +169,17 @@ fn check_in(
 }
 
 /// What the words of `run` ask for.
-fn run_words(
+fn run_words<R: Eprint>(
+    rt: &R,
     alloc: Global,
     run: &ArgMatches<'_>,
     terminals: Terminals,
 ) -> Result<Words, AllocError> {
-    if let Some(aid) = run_in(alloc, run, terminals)? {
-        return Ok(Words::Aided(aid));
+    if asks_for_more(run) || names_several(run) {
+        return match run_in(alloc, run, terminals)? {
+            Ok(aid) => Ok(Words::Aided(aid)),
+            Err(wrong) => Ok(show_wrong_filter(rt, wrong)),
+        };
     }
     let aid = script_in(alloc, Engine::Router, run, terminals)?;
     let silent = Aid::Script {
@@ -171,6 +192,19 @@ fn run_words(
     } else {
         Words::Aided(aid)
     })
+}
+
+/// Says what is wrong with a word that was to name a filter.
+fn show_wrong_filter<R: Eprint>(rt: &R, wrong: WrongFilter<'_>) -> Words {
+    let _ = match wrong {
+        WrongFilter::Word(word) => eprintln!(rt;
+            "error: '--filter {word}' is not '--filter NAME=FILE', where NAME is letters, digits and _, does not begin with a digit, and has at most 64 bytes"
+        ),
+        WrongFilter::Twice(word) => eprintln!(rt;
+            "error: '--filter {word}' gives a name that an earlier --filter gives"
+        ),
+    };
+    Words::Shown(WRONG_WORDS)
 }
 
 /// Shows what the parser of words answered in place of matches: help on standard output, or what is wrong with the words on
@@ -222,8 +256,10 @@ fn command<'a>(alloc: Global) -> Result<Command<'a>, AllocError> {
         .subcommand(eval)?
         .subcommand(explain_command(alloc)?)?
         .subcommand(filter_command(alloc)?)?
+        .subcommand(import_command(alloc)?)?
         .subcommand(list_command(alloc)?)?
         .subcommand(replay_command(alloc)?)?
+        .subcommand(rewrite_command(alloc)?)?
         .subcommand(run_command(alloc)?)?
         .subcommand(net)
 }
@@ -233,10 +269,19 @@ fn run_command<'a>(alloc: Global) -> Result<Command<'a>, AllocError> {
     Command::new(alloc, "run")
         .about("Run a router by a script of commands, and answer each of them")
         .after_help(RUN_HELP)
+        .arg(filter_option(alloc))?
         .arg(save_option(alloc))?
         .arg(stop_option(alloc))?
         .arg(explain_option(alloc))?
-        .arg(script_file(alloc))
+        .arg(script_files(alloc))
+}
+
+/// The command `rewrite`.
+fn rewrite_command<'a>(alloc: Global) -> Result<Command<'a>, AllocError> {
+    Command::new(alloc, "rewrite")
+        .about("Write a code file in the newer form, or in the older one")
+        .after_help(REWRITE_HELP)
+        .arg(old_option(alloc))
 }
 
 /// The command `check`.
@@ -246,6 +291,8 @@ fn check_command<'a>(alloc: Global) -> Result<Command<'a>, AllocError> {
         .after_help(CHECK_HELP)
         .arg(size_option(alloc))?
         .arg(code_option(alloc))?
+        .arg(names_option(alloc))?
+        .arg(quiet_option(alloc))?
         .arg(explain_option(alloc))?
         .arg(file_option(alloc))
 }
@@ -253,7 +300,8 @@ fn check_command<'a>(alloc: Global) -> Result<Command<'a>, AllocError> {
 const CHECK_HELP: &str = "\
 Standard input is one filter, or with --code a code file in hexadecimal. Where files are
 named, each of them is, in order; `-` is standard input. Of a file that is refused standard
-error gets the name and the refusal.
+error gets the name and the refusal. With --names each line that is printed begins with the
+name of its file, as `FILE: verified 7 2`, and with -q only refusals are printed.
 
 Two lines are printed:
   code HEX                the filter's code, as `ncroute eval` reads it
@@ -261,7 +309,7 @@ Two lines are printed:
                           a route, and holds at most DEPTH operands at a time
 For a filter or code that is refused, the last line is `refused CODE AT` instead:
   P1 to P10   the text is not a filter: a syntax error at byte AT
-  Y1 to Y5    a name or a kind is wrong at byte AT
+  Y1 to Y7    a name, a kind or a label is wrong at byte AT
   G1, G2      the code would be too long, or have too many sets
   V1 to V9    instruction AT might go wrong on some route; V8: N is not 2 to 250
   C1 to C6    not a code file: an error at byte AT
@@ -291,8 +339,24 @@ prints `accept 3`. The exit status is 0; 1 if a line was refused or a fault
 ended the run; 2 if the command line is wrong.
 ";
 
+const REWRITE_HELP: &str = "\
+Standard input is a code file in hexadecimal, of either form. One line is printed: the file of
+the same code in the newer form, NCF2, or with --old in the older one, NCF1. Each code has one
+file in the newer form; in the older one a code with sets of ints has none.
+For input that is refused the line is `refused CODE AT` instead:
+  C1 to C6   not a code file: an error at byte AT
+  C8         the code has sets of ints, which the older form has not
+  O3, O7     not hexadecimal; more than 1,048,576 bytes
+
+Example:
+  echo 4e4346310000000170 | ncroute rewrite
+prints `4e434632000000000170`. The exit status is 0; 1 if the input was refused or a
+fault ended the run; 2 if the command line is wrong.
+";
+
 const RUN_HELP: &str = "\
-The input is commands, one a line. Empty lines and lines that begin with # are skipped.
+The input is commands, one a line. Empty lines and lines that begin with # are skipped. Several
+FILEs are one script, one after another, and all are read before the first line is answered.
   network N ME [LIMIT]   a domain of N nodes (2 to 250), of which the router is node ME;
                          its history has at most LIMIT entries (1,000,000)
   prefix V P             P is the prefix of node V; otherwise it is 10.V.0.0/16

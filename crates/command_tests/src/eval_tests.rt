@@ -147,13 +147,14 @@ fn judges_words_from_the_left(rt: HostRuntime) -> Result<(), Fail> {
 }
 
 /// An input whose code line is bad, and the refusal.
-const BAD_CODE_LINES: [(&[u8], &[u8]); 14] = [
+const BAD_CODE_LINES: [(&[u8], &[u8]); 15] = [
     (b"", b"refused O1 0\n"),
     (b"# nothing\n\n\r\n", b"refused O1 0\n"),
     (b"4e434631000000017000\n10.0.0.0/8 3 8\n", b"refused C6 9\n"),
     (b"4e43463100000001\n", b"refused C2 8\n"),
     (b"4e43\n", b"refused C2 2\n"),
-    (b"4e4346320000000170\n", b"refused C1 3\n"),
+    (b"4e4346330000000170\n", b"refused C1 3\n"),
+    (b"4e4346320000000170\n", b"refused C2 9\n"),
     (b"4e4346310000000172\n", b"refused C3 8\n"),
     (b"4e4346311100000170\n", b"refused C5 4\n"),
     (b"4e4346310041000170\n", b"refused C5 5\n"),

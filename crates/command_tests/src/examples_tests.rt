@@ -69,6 +69,22 @@ const CUSTOMER_LIST: &[u8] = b"filter customer_list {
   reject \"not in the customer's list\";
 }";
 
+/// `examples/by_distance.filter`, without its comments.
+const BY_DISTANCE: &[u8] = b"filter by_distance
+{
+  if net.len !~ [ 16, 20..24 ] then reject;
+  case rip_metric {
+    0, 1: accept \"nearby\";
+    2..4: rip_metric = rip_metric + 2;
+    5..8: {
+      if net ~ [ 10.0.0.0/8+ ] then reject;
+      rip_metric = rip_metric * 2;
+    }
+    else: reject \"too far\";
+  }
+  accept;
+}";
+
 /// A filter's text, verified.
 fn verified(alloc: Global, text: &[u8]) -> Result<Verified, Fail> {
     let typed = check(alloc, parse(alloc, text)?)?;
@@ -82,7 +98,7 @@ fn verified(alloc: Global, text: &[u8]) -> Result<Verified, Fail> {
 #[test]
 fn examples_answer_as_operators_mean_them(rt: HostRuntime) -> Result<(), Fail> {
     // A filter, a route's network and metric, and the distance at which it is accepted.
-    let rows: [(&[u8], &[u8], u32, Option<u32>); 22] = [
+    let rows: [(&[u8], &[u8], u32, Option<u32>); 28] = [
         (NO_BOGONS, b"8.8.8.0/24", 3, Some(3)),
         (NO_BOGONS, b"10.1.0.0/16", 3, None),
         (NO_BOGONS, b"172.32.0.0/16", 3, Some(3)),
@@ -105,6 +121,12 @@ fn examples_answer_as_operators_mean_them(rt: HostRuntime) -> Result<(), Fail> {
         (CUSTOMER_LIST, b"192.0.36.0/25", 4, None),
         (CUSTOMER_LIST, b"199.43.132.0/22", 4, Some(4)),
         (CUSTOMER_LIST, b"199.4.139.0/24", 4, None),
+        (BY_DISTANCE, b"192.0.2.0/24", 1, Some(1)),
+        (BY_DISTANCE, b"192.0.2.0/24", 3, Some(5)),
+        (BY_DISTANCE, b"192.0.2.0/24", 6, Some(12)),
+        (BY_DISTANCE, b"10.1.2.0/24", 6, None),
+        (BY_DISTANCE, b"192.0.2.0/24", 9, None),
+        (BY_DISTANCE, b"192.0.2.0/25", 1, None),
     ];
     for (text, net, metric, distance) in rows {
         let verified = verified(rt.alloc(), text)?;

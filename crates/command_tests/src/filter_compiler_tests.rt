@@ -98,7 +98,7 @@ fn a_fault_says_what_is_wanted(rt: HostRuntime) -> Result<(), Fail> {
         (
             CompileFault::TooManySets,
             "G2",
-            "at most 64 sets of at most 1024 patterns each are wanted, and the filter has more",
+            "at most 64 sets of at most 1024 patterns or ranges each are wanted, of patterns and of ints, and the filter has more",
         ),
         (CompileFault::Memory, "G3", "out of memory"),
     ] {

@@ -7,7 +7,7 @@ use crate::fault::StateFault;
 use crate::planning::Planning;
 use crate::read::read_command;
 use line_protocol::{Reply, Service, StreamFault, answer_lines};
-use operator_cmds::{CommandFault, Nobody, Watch, confirm, refuse};
+use operator_cmds::{CommandFault, Nobody, RefusedLine, Watch, confirm, refuse};
 use std::alloc::{AllocError, Global};
 use std::io::{Read, Write};
 
@@ -56,9 +56,20 @@ impl Engine {
         Engine { planning: None }
     }
 
-    /// The number of nodes of the domain, if one is set up.
-    fn size(&self) -> Option<u16> {
-        self.planning.as_ref().map(|planning| planning.size())
+    /// A line that this script refused, and what the script knows.
+    fn refused_line<'a>(
+        &'a self,
+        number: u32,
+        line: &'a [u8],
+        answer: &'a [u8],
+    ) -> RefusedLine<'a> {
+        RefusedLine {
+            number,
+            line,
+            answer,
+            size: self.planning.as_ref().map(|planning| planning.size()),
+            filters: self.planning.as_ref().map(|planning| planning.filters()),
+        }
     }
 
     /// Carries out the command of a line, and answers it.
@@ -112,10 +123,12 @@ impl<S: Watch + Drop> Service for Watched<S> {
         line: &[u8],
         out: &mut Vec<u8>,
     ) -> Result<Reply, AllocError> {
+        let begun = out.len();
         let reply = self.engine.answer(alloc, number, line, out)?;
         if reply == Reply::Refused {
+            let answer = out.as_slice().get(begun..).unwrap_or(&[]);
             self.watcher
-                .see_refused(alloc, number, line, self.engine.size());
+                .see_refused(alloc, &self.engine.refused_line(number, line, answer));
         }
         Ok(reply)
     }

@@ -2,9 +2,10 @@
 ghost use Rattle.std.specs.Prelude.{◌≡◌, [], ℕ, IfOk, IfSome, List, OnOk, Some, if◌then◌else◌};
 ghost use Rattle.std.specs.Option.{option_map};
 ghost use Rattle.std.specs.Str.{bytes_eq};
-ghost use Rattle.domain_cmds.specs.State.{filter_named};
+ghost use Rattle.domain_cmds.specs.State.{filter_named, named_in};
 
 use filter_verifier::Verified;
+use operator_cmds::NamedFilters;
 use std::alloc::{AllocError, Global};
 use std::collections::BTreeMap;
 use std::marker::Model;
@@ -16,7 +17,7 @@ pub(crate) struct Filters {
     /// The number of nodes of the domains.
     size: u16,
     /// The filter of each name, in the names' order: no choice of names makes it slow to find one.
-    named: BTreeMap<Vec<u8>, Arc<Verified>>,
+    named: NamedFilters,
 }
 
 impl Model for Filters {
@@ -56,6 +57,13 @@ impl Filters {
         let filter = Arc::new(alloc, filter)?;
         self.named.insert(Vec::from_slice(alloc, name)?, filter)?;
         Ok(())
+    }
+
+    /// All of them.
+    pub(crate) fn all(&self) -> &NamedFilters
+        ensures { named_in result.now ≡ self.now.named }
+    {
+        &self.named
     }
 
     /// The filter of a name.

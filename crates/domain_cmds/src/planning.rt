@@ -16,7 +16,7 @@ use domain_routes::Plan;
 use filter_source::{Failure, push_verified};
 use filter_verifier::Verified;
 use line_protocol::Reply;
-use operator_cmds::{confirm, default_prefixes, refuse, verify_file, verify_text};
+use operator_cmds::{NamedFilters, confirm, default_prefixes, refuse, verify_file, verify_text};
 use prefix_patterns::Prefix;
 use std::alloc::{AllocError, Global};
 use std::marker::Model;
@@ -70,7 +70,7 @@ impl Planning {
     ghost use Rattle.domain_routes.specs.Edits.{exporting, importing};
     ghost use Rattle.domain_cmds.specs.CommandView.{view_of};
     ghost use Rattle.domain_cmds.specs.Commands.{HasFitSize, is_size};
-    ghost use Rattle.domain_cmds.specs.State.{filter_named};
+    ghost use Rattle.domain_cmds.specs.State.{filter_named, named_in};
 
     /// A domain of so many nodes without links, with the default prefixes.
     pub(crate) fn new(alloc: Global, size: u16) -> Result<Planning, AllocError>
@@ -93,6 +93,13 @@ impl Planning {
         ensures { result ≡ self.now.plan.size }
     {
         self.domain.size()
+    }
+
+    /// The filters that have names.
+    pub(crate) fn filters(&self) -> &NamedFilters
+        ensures { named_in result.now ≡ self.now.filters }
+    {
+        self.filters.all()
     }
 
     /// Carries out a command, and answers it.

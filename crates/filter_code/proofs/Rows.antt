@@ -1,6 +1,7 @@
 -- Worked rows: the definitions compute the outcomes that they should.
 use Rattle.std.proofs.Common.{◌≡◌, ℕ, List, [], ◌∷◌, ◌++◌, replicate, Bool, true, false, refl}
 use Rattle.prefix_patterns.specs.Matching.{PrefixPattern}
+use Rattle.int_sets.specs.Holding.{NumberRange}
 use Rattle.filter_code.specs.declared.instruction.Instr.{Instr}
 use Rattle.filter_code.specs.declared.instruction.Instr.TheVariants as instr
 use Rattle.filter_code.specs.declared.outcome.FaultKind.TheVariants as fault
@@ -13,7 +14,7 @@ use Rattle.filter_code.specs.CodeView.{CodeView}
 -- the outcome of instructions on a metric, in a domain of 8
 abbrev outcome_on : List Instr → ℕ → Outcome
 outcome_on instrs metric =
-    let program : CodeView = record { locals = 0; sets = []; instrs = instrs } in
+    let program : CodeView = record { locals = 0; sets = []; int_sets = []; instrs = instrs } in
     let route : RouteView = record { net = []; metric = metric; size = 8 } in
     outcome_of program route
 
@@ -104,7 +105,7 @@ no_local = refl
 abbrev outcome_at : List Instr → List Bool → Outcome
 outcome_at instrs net =
     let pattern : PrefixPattern = record { bits = eight; low = 15; high = 17 } in
-    let program : CodeView = record { locals = 1; sets = (pattern ∷ []) ∷ []; instrs = instrs } in
+    let program : CodeView = record { locals = 1; sets = (pattern ∷ []) ∷ []; int_sets = []; instrs = instrs } in
     let route : RouteView = record { net = net; metric = 3; size = 8 } in
     outcome_of program route
 
@@ -124,3 +125,42 @@ taken = refl
 pub too_short : outcome_at filtering eight ≡ outcome.Reject
 unfolding after
 too_short = refl
+
+-- a code with the set of 2 and of 4 to 6, on a metric
+abbrev outcome_in : List Instr → ℕ → Outcome
+outcome_in instrs metric =
+    let two : NumberRange = record { low = 2; high = 2 } in
+    let more : NumberRange = record { low = 4; high = 6 } in
+    let program : CodeView = record { locals = 0; sets = []; int_sets = (two ∷ (more ∷ [])) ∷ []; instrs = instrs } in
+    let route : RouteView = record { net = []; metric = metric; size = 8 } in
+    outcome_of program route
+
+-- takes the metrics of the set, and rejects the rest
+abbrev choosing : List Instr
+choosing = instr.Metric ∷ (instr.InSet 0 ∷ (instr.JumpIfNot 1 ∷ (instr.Accept ∷ (instr.Reject ∷ []))))
+
+pub chosen : outcome_in choosing 5 ≡ outcome.Accept 5
+unfolding after
+chosen = refl
+
+pub between : outcome_in choosing 3 ≡ outcome.Reject
+unfolding after
+between = refl
+
+-- sets of patterns and sets of ints are numbered each by themselves
+pub no_set_of_ints : outcome_at (instr.Metric ∷ (instr.InSet 0 ∷ (instr.Accept ∷ []))) [] ≡ outcome.Fault fault.UnknownName 1
+unfolding after
+no_set_of_ints = refl
+
+pub no_set_of_patterns : outcome_in (instr.Net ∷ (instr.Member 0 ∷ (instr.Accept ∷ []))) 3 ≡ outcome.Fault fault.UnknownName 1
+unfolding after
+no_set_of_patterns = refl
+
+-- a missing set comes before an operand of the wrong kind, and that before what the set holds
+pub set_of_a_prefix : outcome_in (instr.Net ∷ (instr.InSet 0 ∷ (instr.Accept ∷ []))) 3 ≡ outcome.Fault fault.WrongKind 1
+unfolding after
+set_of_a_prefix = refl
+
+pub set_past_the_last : outcome_in (instr.Net ∷ (instr.InSet 1 ∷ (instr.Accept ∷ []))) 3 ≡ outcome.Fault fault.UnknownName 1
+unfolding after
+set_past_the_last = refl

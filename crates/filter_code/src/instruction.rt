@@ -56,8 +56,10 @@ pub enum Instr {
     Mask(u8),
     /// ip prefix, or prefix prefix, to bool: whether the first lies within the second, or is the second.
     Within,
-    /// prefix to bool: whether it matches the set with this number.
+    /// prefix to bool: whether it matches the set of patterns with this number.
     Member(u8),
+    /// int to bool: whether it is in the set of ints with this number.
+    InSet(u8),
     /// Any stack: skips the next instructions, this many.
     Jump(u16),
     /// bool to none: skips the next instructions, this many, if it is false.
@@ -110,6 +112,7 @@ impl Instr {
             Instr::Mask(_) => (0x42, "MASK"),
             Instr::Within => (0x50, "WITHIN"),
             Instr::Member(_) => (0x51, "MEMBER"),
+            Instr::InSet(_) => (0x52, "INSET"),
             Instr::Jump(_) => (0x60, "JUMP"),
             Instr::JumpIfNot(_) => (0x61, "JUMPIFNOT"),
             Instr::Accept => (0x70, "ACCEPT"),
@@ -133,9 +136,11 @@ impl fmt::Display for Instr {
             Instr::Bool(flag) => write!(f, " {flag}"),
             Instr::Ip(ip) => write!(f, " {ip}"),
             Instr::Prefix(prefix) => write!(f, " {prefix}"),
-            Instr::Load(byte) | Instr::Store(byte) | Instr::Mask(byte) | Instr::Member(byte) => {
-                write!(f, " {byte}")
-            }
+            Instr::Load(byte)
+            | Instr::Store(byte)
+            | Instr::Mask(byte)
+            | Instr::Member(byte)
+            | Instr::InSet(byte) => write!(f, " {byte}"),
             Instr::Jump(skipped) | Instr::JumpIfNot(skipped) => write!(f, " {skipped}"),
             _ => Ok(()),
         }

@@ -15,8 +15,10 @@ mod value;
 
 pub use code::Code;
 pub use instruction::Instr;
+pub use int_sets::{IntRange, IntSet};
 pub use limits::{
-    INSTRUCTION_LIMIT, LARGEST_SIZE, LOCAL_LIMIT, SET_LIMIT, SMALLEST_SIZE, STACK_LIMIT,
+    INSTRUCTION_LIMIT, INT_SET_LIMIT, LARGEST_SIZE, LOCAL_LIMIT, SET_LIMIT, SMALLEST_SIZE,
+    STACK_LIMIT,
 };
 pub use machine::{run_checked, run_counted};
 pub use outcome::{Counted, FaultKind, Outcome};

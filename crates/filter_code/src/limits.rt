@@ -1,8 +1,11 @@
 /// The greatest number of local variables of a code.
 pub const LOCAL_LIMIT: usize = 16;
 
-/// The greatest number of pattern sets of a code.
+/// The greatest number of sets of patterns of a code.
 pub const SET_LIMIT: usize = 64;
+
+/// The greatest number of sets of ints of a code.
+pub const INT_SET_LIMIT: usize = 64;
 
 /// The greatest number of instructions of a code.
 pub const INSTRUCTION_LIMIT: usize = 1024;

@@ -22,6 +22,7 @@ use crate::operands::{
 use crate::outcome::{Counted, FaultKind, Outcome};
 use crate::route::Route;
 use crate::tagged::Tagged;
+use int_sets::IntSet;
 use prefix_patterns::{Ip, PatternSet, Prefix};
 
 /// How an instruction ends a run.
@@ -174,7 +175,7 @@ fn masked(ip: Ip, bits: u8) -> Ip
     Prefix::new(ip, bits).unwrap().address()
 }
 
-/// The set with this number. A fault if and only if there is none.
+/// The set of patterns with this number. A fault if and only if there is none.
 #[inline(always)]
 fn set_at(code: &Code, set: u8) -> Result<&PatternSet, FaultKind>
     ensures { MatchResult result
@@ -183,6 +184,19 @@ fn set_at(code: &Code, set: u8) -> Result<&PatternSet, FaultKind>
 {
     match code.sets().get(usize::from(set)) {
         Some(patterns) => Ok(patterns),
+        None => Err(FaultKind::UnknownName),
+    }
+}
+
+/// The set of ints with this number. A fault if and only if there is none.
+#[inline(always)]
+fn int_set_at(code: &Code, set: u8) -> Result<&IntSet, FaultKind>
+    ensures { MatchResult result
+        (λ ranges. slice_get code.now.int_sets set ≡ Some ranges.now)
+        (λ why. (length code.now.int_sets ≤ set) × (why ≡ fault.UnknownName)) }
+{
+    match code.int_sets().get(usize::from(set)) {
+        Some(ranges) => Ok(ranges),
         None => Err(FaultKind::UnknownName),
     }
 }
@@ -270,6 +284,14 @@ fn carry_out(
             let patterns = set_at(code, *set)?;
             put(
                 Tagged::bool(patterns.matches(&take_prefix(stack, depth)?)),
+                stack,
+                depth,
+            );
+        }
+        Instr::InSet(set) => {
+            let ranges = int_set_at(code, *set)?;
+            put(
+                Tagged::bool(ranges.holds(take_int(stack, depth)?)),
                 stack,
                 depth,
             );

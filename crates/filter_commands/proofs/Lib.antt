@@ -4,6 +4,7 @@ pub mod Endings
 pub mod PlainLines
 pub mod Printed
 pub mod Reports
+pub mod Rewritten
 pub mod RouteLines
 mod Rows
 pub mod Saying

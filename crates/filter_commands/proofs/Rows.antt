@@ -20,11 +20,11 @@ use Rattle.filter_commands.specs.declared.line_fault.LineFault.TheVariants.{Word
 
 -- the code that accepts every route as it is
 abbrev accepts : CodeView
-accepts = record { locals = 0; sets = []; instrs = instr.Accept ∷ [] }
+accepts = record { locals = 0; sets = []; int_sets = []; instrs = instr.Accept ∷ [] }
 
 -- the code that divides by 0, once it has the metric
 abbrev divides : CodeView
-divides = record { locals = 0; sets = []; instrs = instr.Metric ∷ instr.Int 0 ∷ instr.Div ∷ instr.Accept ∷ [] }
+divides = record { locals = 0; sets = []; int_sets = []; instrs = instr.Metric ∷ instr.Int 0 ∷ instr.Div ∷ instr.Accept ∷ [] }
 
 -- a route line has a prefix, a metric and a size
 pub a_route : route_in (codes "10.0.0.0/8 3 8")
@@ -74,15 +74,15 @@ unfolding decode_pairs digits
 odd_digits = refl
 
 -- what `check` writes on a code: it is verified, or the size is none, or an instruction may go wrong
-pub verified : (code_report 8 accepts).text ≡ codes "code 4e4346310000000170\nverified 1 0\n"
+pub verified : (code_report 8 accepts).text ≡ codes "code 4e434632000000000170\nverified 1 0\n"
 unfolding encode_with incoming first_fault digits
 verified = refl
 
-pub bad_size : (code_report 1 accepts).text ≡ codes "code 4e4346310000000170\nrefused V8 0\n"
+pub bad_size : (code_report 1 accepts).text ≡ codes "code 4e434632000000000170\nrefused V8 0\n"
 unfolding encode_with incoming first_fault digits
 bad_size = refl
 
-pub may_divide : (code_report 8 divides).text ≡ codes "code 4e434631000000041301000000002370\nrefused V3 2\n"
+pub may_divide : (code_report 8 divides).text ≡ codes "code 4e43463200000000041301000000002370\nrefused V3 2\n"
 unfolding encode_with incoming first_fault digits
 may_divide = refl
 

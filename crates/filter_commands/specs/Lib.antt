@@ -6,6 +6,7 @@ pub mod Eval
 pub mod Evaluation
 pub mod Check
 pub mod Checking
+pub mod Rewriting
 pub mod Saying
 -- What only the bodies of this crate are proved against.
 pub mod Steps

@@ -7,6 +7,7 @@ mod fault;
 mod laws;
 mod line_fault;
 mod report;
+mod rewrite;
 mod route_line;
 mod verdict_line;
 
@@ -18,6 +19,7 @@ pub use laws::{
     verified_code_says_the_same,
 };
 pub use line_fault::LineFault;
+pub use rewrite::rewrite_text;
 pub use verdict_line::push_accept;
 
 /// A number of a route line is at most this.

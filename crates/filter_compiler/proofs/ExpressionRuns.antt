@@ -15,20 +15,23 @@ use Rattle.filter_parser.specs.declared.tree.decl.Kind.{Kind}
 use Rattle.filter_parser.specs.declared.tree.decl.Kind.TheVariants as kind
 use Rattle.filter_parser.specs.declared.tree.expr.Attribute.{Attribute}
 use Rattle.filter_parser.specs.declared.tree.expr.Attribute.TheVariants as attributes
+use Rattle.int_sets.specs.Holding.{holds_any}
+use Rattle.filter_parser.specs.declared.tree.op.Membership.TheVariants as membership
 use Rattle.filter_parser.specs.declared.tree.op.Op.{Op}
 use Rattle.filter_parser.specs.declared.tree.op.Op.TheVariants as o
 use Rattle.filter_parser.specs.Syntax.{ExprView, number, address, prefix, truth, name, attribute, defined, group, negation, binary, member}
-use Rattle.filter_parser.specs.Syntax.{suffixed, pattern_of}
+use Rattle.filter_parser.specs.Syntax.{suffixed, RangeView, of_ranges, range_of}
 use Rattle.filter_parser.specs.SyntaxCommands.{DeclView}
 use Rattle.filter_types.specs.Kinds.{kind_in, of_one, of_two, number_of}
 use Rattle.filter_types.specs.Table.{operator, logic, attribute_kind, in_set, suffixed_by}
 use Rattle.filter_types.specs.Table as table
 use Rattle.filter_compiler.specs.Meaning.{Scene, value_of, both, result_of, if_true, if_false, negated, member_of, suffix_of, value_named}
 use Rattle.filter_compiler.specs.Need.{expression_need}
-use Rattle.filter_compiler.specs.Translation.{expression_code, sets_of, operator_code, and_code, or_code, member_code, suffix_code}
+use Rattle.filter_compiler.specs.Translation.{expression_code, sets_of, operator_code, and_code, or_code, member_code, one_set, question, ranges_set, suffix_code}
 use Rattle.filter_compiler.specs.Translation.{attribute_code}
 use Rattle.filter_compiler.proofs.Operators.{TakesBoth, Gives, operator_runs, negation_runs, suffix_runs, member_runs}
-use Rattle.filter_compiler.proofs.Parts.{HasAt, has_front, has_back}
+use Rattle.filter_compiler.proofs.Parts.{HasAt, HasSets, has_front, has_back, sets_front, sets_back}
+use Rattle.filter_compiler.specs.SetOrder.{SetCounts, past, with_sets}
 use Rattle.filter_compiler.proofs.Scenes.{HaveKinds, IsHeld, held, kind_of_value, locals_of}
 use Rattle.filter_compiler.proofs.Steps.{Stands, Fills, config_in, fills_more, same_place, pushed, put, jumped, not_jumped, jumped_if_not}
 
@@ -52,7 +55,7 @@ module _ (program : CodeView) (route : RouteView) (scene : Scene) where
       → Comes (pc + 1) stack k (length stack + 1) (Some v)
   push_runs pc stack i k v is here e s = from_push pc stack k v is (pushed program route scene pc stack i v here e s)
 
-  attribute_runs : (a : Attribute) (pc : ℕ) (stack : List Value) (k : Kind) (sets : ℕ) (decls : List DeclView)
+  attribute_runs : (a : Attribute) (pc : ℕ) (stack : List Value) (k : Kind) (sets : SetCounts) (decls : List DeclView)
       → Some (attribute_kind a) ≡ Some k → HasAt program.instrs pc (attribute_code a ∷ []) → Stands program route scene pc stack
       → Comes (pc + 1) stack k (length stack + 1) (value_of route scene (attribute a))
   attribute_runs attributes.Net pc stack k sets decls fits has s = push_runs pc stack instr.Net k (value.Net route.net) (cc) has.0 refl s
@@ -254,8 +257,8 @@ module _ (program : CodeView) (route : RouteView) (decls : List DeclView) (scene
       (kind_of_value y) ≡ Some k) (sym is_x) (subst (λ j. operator op f.left j ≡ Some k) (sym is_y) f.fits)) h2 s))
 
   -- an expression's code puts its value on the stack
-  pub expression_runs : (t : ExprView) (sets pc : ℕ) (stack : List Value) (k : Kind) → kind_in decls t ≡ Some k
-      → HasAt program.instrs pc (expression_code decls sets t) → HasAt program.sets sets (sets_of t)
+  pub expression_runs : (t : ExprView) (sets : SetCounts) (pc : ℕ) (stack : List Value) (k : Kind) → kind_in decls t ≡ Some k
+      → HasAt program.instrs pc (expression_code decls sets t) → HasSets program sets (sets_of t)
       → Stands program route scene pc stack
       → Comes program route scene (pc + length (expression_code decls sets t)) stack k (length stack + expression_need t)
       (value_of route scene t)
@@ -284,7 +287,7 @@ module _ (program : CodeView) (route : RouteView) (decls : List DeclView) (scene
       (λ j is. expression_runs inner sets pc stack j is (has_front program.instrs pc c (instr.Not ∷ []) has) has_sets s)
       (λ v is t. negation_runs program route scene pc1 stack v k is h t))
   expression_runs (binary o.And left right) sets pc stack k fits has has_sets s =
-      let sets' = sets + length (sets_of left) in
+      let sets' = past sets (sets_of left) in
       let l = expression_code decls sets left in
       let r = expression_code decls sets' right in
       let tail = r ++ instr.Jump 1 ∷ instr.Bool false ∷ [] in
@@ -296,12 +299,12 @@ module _ (program : CodeView) (route : RouteView) (decls : List DeclView) (scene
       (and_runs program route scene l r pc stack all (value_of route scene left) (value_of route scene right) has
       (comes_deeper program route scene _ stack kind.Bool (length stack + expression_need left) all _ (omega arith)
       (expression_runs left sets pc stack kind.Bool f.left (has_front program.instrs pc l (instr.JumpIfNot (length r + 1) ∷ tail) has)
-      (has_front program.sets sets (sets_of left) (sets_of right) has_sets) s))
+      (sets_front program sets (sets_of left) (sets_of right) has_sets) s))
       (λ t. comes_deeper program route scene _ stack kind.Bool (length stack + expression_need right) all _ (omega arith)
       (expression_runs right sets' (pc + length l + 1) stack kind.Bool f.right (has_front program.instrs _ r
-      (instr.Jump 1 ∷ instr.Bool false ∷ []) h1.1) (has_back program.sets sets (sets_of left) (sets_of right) has_sets) t)))
+      (instr.Jump 1 ∷ instr.Bool false ∷ []) h1.1) (sets_back program sets (sets_of left) (sets_of right) has_sets) t)))
   expression_runs (binary o.Or left right) sets pc stack k fits has has_sets s =
-      let sets' = sets + length (sets_of left) in
+      let sets' = past sets (sets_of left) in
       let l = expression_code decls sets left in
       let r = expression_code decls sets' right in
       let tail = instr.Bool true ∷ instr.Jump (length r) ∷ r in
@@ -313,34 +316,34 @@ module _ (program : CodeView) (route : RouteView) (decls : List DeclView) (scene
       (or_runs program route scene l r pc stack all (value_of route scene left) (value_of route scene right) has
       (comes_deeper program route scene _ stack kind.Bool (length stack + expression_need left) all _ (omega arith)
       (expression_runs left sets pc stack kind.Bool f.left (has_front program.instrs pc l (instr.JumpIfNot 2 ∷ tail) has)
-      (has_front program.sets sets (sets_of left) (sets_of right) has_sets) s))
+      (sets_front program sets (sets_of left) (sets_of right) has_sets) s))
       (λ t. comes_deeper program route scene _ stack kind.Bool (length stack + expression_need right) all _ (omega arith)
-      (expression_runs right sets' (pc + length l + 1 + 1 + 1) stack kind.Bool f.right h1.1.1.1 (has_back program.sets sets (sets_of left)
+      (expression_runs right sets' (pc + length l + 1 + 1 + 1) stack kind.Bool f.right h1.1.1.1 (sets_back program sets (sets_of left)
       (sets_of right) has_sets) t)))
   expression_runs (binary op left right) sets pc stack k fits has has_sets s =
-      let sets' = sets + length (sets_of left) in
+      let sets' = past sets (sets_of left) in
       let l = expression_code decls sets left in
       let r = expression_code decls sets' right in
       let h1 = has_back program.instrs pc l (r ++ operator_code op) has in
       strict_runs op l r (kind_in decls left) (kind_in decls right) pc stack k (expression_need left) (expression_need right)
       (value_of route scene left) (value_of route scene right) tt fits has
       (λ j is. expression_runs left sets pc stack j is (has_front program.instrs pc l (r ++ operator_code op) has)
-      (has_front program.sets sets (sets_of left) (sets_of right) has_sets) s)
+      (sets_front program sets (sets_of left) (sets_of right) has_sets) s)
       (λ j v is t. expression_runs right sets' (pc + length l) (v ∷ stack) j is (has_front program.instrs (pc + length l) r
-      (operator_code op) h1) (has_back program.sets sets (sets_of left) (sets_of right) has_sets) t)
+      (operator_code op) h1) (sets_back program sets (sets_of left) (sets_of right) has_sets) t)
   expression_runs (member op left set) sets pc stack k fits has has_sets s =
-      let n = sets + length (sets_of left) in
+      let n = past sets (sets_of left) in
       let c = expression_code decls sets left in
       let pc1 = pc + length c in
-      let last = member_code op n in
+      let last = member_code op (question set n) in
       let behind : pc1 + length last ≡ pc + length (c ++ last) = omega (arith, length-append c last) in
       let h = has_back program.instrs pc c last has in
-      let found = (has_back program.sets sets (sets_of left) (map pattern_of set ∷ []) has_sets).0 in
+      let found = sets_back program sets (sets_of left) (one_set set) has_sets in
       comes_at program route scene _ _ stack k _ _ behind
-      (one_runs program route scene pc1 (pc1 + length last) stack in_set (kind_in decls left) k (length stack + expression_need left)
+      (one_runs program route scene pc1 (pc1 + length last) stack (in_set set) (kind_in decls left) k (length stack + expression_need left)
       (member_of op set) (value_of route scene left) fits
-      (λ j is. expression_runs left sets pc stack j is (has_front program.instrs pc c last has) (has_front program.sets sets
-      (sets_of left) (map pattern_of set ∷ []) has_sets) s)
+      (λ j is. expression_runs left sets pc stack j is (has_front program.instrs pc c last has)
+      (sets_front program sets (sets_of left) (one_set set) has_sets) s)
       (λ v is t. member_runs program route scene op pc1 stack n set v k is found h t))
   expression_runs (suffixed inner x) sets pc stack k fits has has_sets s =
       let c = expression_code decls sets inner in
@@ -352,3 +355,25 @@ module _ (program : CodeView) (route : RouteView) (decls : List DeclView) (scene
       (suffix_of x) (value_of route scene inner) fits
       (λ j is. expression_runs inner sets pc stack j is (has_front program.instrs pc c (suffix_code x ∷ []) has) has_sets s)
       (λ v is t. suffix_runs program route scene x pc1 stack v k is h t))
+
+  -- the argument of a `case`, and the question whether it is in the set of ints of a label
+  pub question_comes : (argument : ExprView) (a n : SetCounts) (ranges : List RangeView) (pc i : ℕ) → kind_in decls argument ≡ Some kind.Int
+      → value_of route scene argument ≡ Some (value.Int i)
+      → HasAt program.instrs pc (expression_code decls a argument ++ instr.InSet n.ints ∷ []) → HasSets program a (sets_of argument)
+      → HasSets program n (ranges_set ranges) → Stands program route scene pc []
+      → Comes program route scene (pc + length (expression_code decls a argument ++ instr.InSet n.ints ∷ [])) [] kind.Bool
+      (0 + expression_need argument) (Some (value.Bool (holds_any i (map range_of ranges))))
+  question_comes argument a n ranges pc i fits is has has_a has_n s =
+      let c = expression_code decls a argument in
+      let pc1 = pc + length c in
+      let last = instr.InSet n.ints ∷ [] in
+      let set = of_ranges ranges in
+      let behind : pc1 + 1 ≡ pc + length (c ++ last) = omega (arith, length-append c last) in
+      let fits' : of_one (in_set set) (kind_in decls argument) ≡ Some kind.Bool = rw fits refl in
+      subst (λ o. Comes program route scene (pc + length (c ++ last)) [] kind.Bool (0 + expression_need argument)
+      (option_and_then (member_of membership.In set) o)) is
+      (comes_at program route scene _ _ [] kind.Bool _ _ behind
+      (one_runs program route scene pc1 (pc1 + 1) [] (in_set set) (kind_in decls argument) kind.Bool (0 + expression_need argument)
+      (member_of membership.In set) (value_of route scene argument) fits'
+      (λ j is_j. expression_runs argument a pc [] j is_j (has_front program.instrs pc c last has) has_a s)
+      (λ v is_v t. member_runs program route scene membership.In pc1 [] n set v kind.Bool is_v has_n (has_back program.instrs pc c last has) t)))

@@ -2,6 +2,7 @@
 use Rattle.std.proofs.Common.{◌≡◌, ℕ, Box, Global, List, Vec, [], ◌∷◌, ◌++◌, length, refl, sym, ap, subst, ◌∙◌}
 use Rattle.std.specs.Prelude.{flat_map, replicate}
 use Rattle.std.proofs.lemmas.List.Folds.{flat_map-map}
+use Rattle.filter_code.specs.declared.instruction.Instr.TheVariants as instr
 use Rattle.filter_parser.specs.declared.tree.expr.Expr.{Expr}
 use Rattle.filter_parser.specs.declared.tree.expr.Expr.TheFolds.{fold-roll-Expr, ind-Expr, map-Expr}
 use Rattle.filter_parser.specs.declared.tree.expr.Expr.TheOpen.{Expr-F}
@@ -30,7 +31,7 @@ chain_places first more =
     (flat_map-map (λ (x : ℕ × Op × Origins). right_places x.0 x.1 x.2.places) (λ (x : ℕ × Op × Expr). (x.0, x.1, origins x.2)) more.items))
 
 pub member_places : (op : Membership) (left : Box Expr Global) (set : Set)
-    → expression_places (e.Member op left set) ≡ expression_places left.value ++ all_at set.at (member_code op 0)
+    → expression_places (e.Member op left set) ≡ expression_places left.value ++ all_at set.at (member_code op (instr.Member 0))
 member_places op left set =
     ap expression_places (sym (e.rolls-Member op left set))
     ∙ ap (λ (o : Origins). o.places) (fold-roll-Expr Origins origins_step (Expr-F.Member op left set))
@@ -86,9 +87,9 @@ not_at x at inner y is is_inner =
     ∙ ap (λ z. expression_places z ++ at ∷ []) (sym is_inner))
 
 pub member_at : (x : Expr) (op : Membership) (left : Box Expr Global) (set : Set) (y : Expr) → x ≡ e.Member op left set
-    → y ≡ left.value → expression_places x ≡ expression_places y ++ all_at set.at (member_code op 0)
+    → y ≡ left.value → expression_places x ≡ expression_places y ++ all_at set.at (member_code op (instr.Member 0))
 member_at x op left set y is is_left =
-    ap expression_places is ∙ (member_places op left set ∙ ap (λ z. expression_places z ++ all_at set.at (member_code op 0)) (sym is_left))
+    ap expression_places is ∙ (member_places op left set ∙ ap (λ z. expression_places z ++ all_at set.at (member_code op (instr.Member 0))) (sym is_left))
 
 pub suffixed_at : (x : Expr) (inner : Box Expr Global) (suffixes : Vec Suffix Global) (y : Expr) (ys : List Suffix)
     → x ≡ e.Suffixed inner suffixes → y ≡ inner.value → ys ≡ suffixes.items

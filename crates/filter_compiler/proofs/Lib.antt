@@ -1,8 +1,12 @@
+pub mod Cases
+pub mod EmittedParts
 pub mod CommandPlaces
 pub mod CommandRuns
 pub mod ExpressionRuns
+pub mod Gathering
 pub mod InstructionPlaces
 pub mod Jumps
+pub mod Labels
 pub mod Notes
 pub mod Operators
 pub mod Parts
@@ -13,5 +17,6 @@ pub mod Scenes
 pub mod Steps
 pub mod Trees
 pub mod Views
+pub mod Weights
 pub mod Whole
 pub mod Within

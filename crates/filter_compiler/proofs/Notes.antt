@@ -1,5 +1,5 @@
 -- Places of instructions that are put into an output one after another.
-use Rattle.std.proofs.Common.{◌≡◌, ℕ, ◌+◌, ◌<◌, List, [], ◌∷◌, ◌++◌, length, take, get_or, None, refl, sym, ap, subst, ◌∙◌, arith}
+use Rattle.std.proofs.Common.{◌≡◌, ℕ, ◌+◌, ◌<◌, List, [], ◌∷◌, ◌++◌, length, take, get_or, true, refl, sym, ap, subst, ◌∙◌, arith}
 use Rattle.std.proofs.Common.{add-one, append_assoc, length-append}
 use Rattle.std.specs.Prelude.{flat_map, replicate}
 use Rattle.std.proofs.Math.Seq.{take-suc}
@@ -14,38 +14,38 @@ pub as_noted : {a b : Output} {ps qs : List ℕ} → ps ≡ qs → Notes a b ps 
 as_noted {a} {b} is notes = subst (Notes a b) is notes
 
 -- an output that keeps the same
-pub kept_same : (a b : Output) → (b.fault ≡ None → a.fault ≡ None) → (b.fault ≡ None → b.mapped ≡ a.mapped) → Notes a b []
+pub kept_same : (a b : Output) → (b.kept ≡ true → a.kept ≡ true) → (b.kept ≡ true → b.mapped ≡ a.mapped) → Notes a b []
 kept_same a b went_on same = record {
   went_on = went_on;
-  noted = λ none. ap (λ (m : Mapped). m.places) (same none) ∙ sym (append-nil a.mapped.places);
-  each = λ none e.
-      ap (λ (m : Mapped). length m.places) (same none) ∙ (e ∙ sym (ap (λ (m : Mapped). length m.instrs) (same none)));
+  noted = λ k. ap (λ (m : Mapped). m.places) (same k) ∙ sym (append-nil a.mapped.places);
+  each = λ k e.
+      ap (λ (m : Mapped). length m.places) (same k) ∙ (e ∙ sym (ap (λ (m : Mapped). length m.instrs) (same k)));
 }
 
 pub no_notes : (a : Output) → Notes a a []
-no_notes a = kept_same a a (λ none. none) (λ none. refl)
+no_notes a = kept_same a a (λ k. k) (λ k. refl)
 
 -- one more instruction is kept
-pub one_note : (a b : Output) (at : ℕ) (instr : Instr) → (b.fault ≡ None → a.fault ≡ None)
-    → (b.fault ≡ None → b.mapped ≡ record { instrs = a.mapped.instrs ++ instr ∷ []; places = a.mapped.places ++ at ∷ [] })
+pub one_note : (a b : Output) (at : ℕ) (instr : Instr) → (b.kept ≡ true → a.kept ≡ true)
+    → (b.kept ≡ true → b.mapped ≡ record { instrs = a.mapped.instrs ++ instr ∷ []; places = a.mapped.places ++ at ∷ [] })
     → Notes a b (at ∷ [])
 one_note a b at instr went_on more = record {
   went_on = went_on;
-  noted = λ none. ap (λ (m : Mapped). m.places) (more none);
-  each = λ none e.
-      ap (λ (m : Mapped). length m.places) (more none)
+  noted = λ k. ap (λ (m : Mapped). m.places) (more k);
+  each = λ k e.
+      ap (λ (m : Mapped). length m.places) (more k)
       ∙ (omega (arith, length-append a.mapped.places (at ∷ []), length-append a.mapped.instrs (instr ∷ []), e)
-      ∙ sym (ap (λ (m : Mapped). length m.instrs) (more none)));
+      ∙ sym (ap (λ (m : Mapped). length m.instrs) (more k)));
 }
 
 -- some places, and then others
 pub then_notes : {a b c : Output} {ps qs : List ℕ} → Notes a b ps → Notes b c qs → Notes a c (ps ++ qs)
 then_notes {a} {b} {c} {ps} {qs} first second = record {
-  went_on = λ none. first.went_on (second.went_on none);
-  noted = λ none.
-      second.noted none
-      ∙ (ap (λ l. l ++ qs) (first.noted (second.went_on none)) ∙ append_assoc a.mapped.places ps qs);
-  each = λ none e. second.each none (first.each (second.went_on none) e);
+  went_on = λ k. first.went_on (second.went_on k);
+  noted = λ k.
+      second.noted k
+      ∙ (ap (λ l. l ++ qs) (first.noted (second.went_on k)) ∙ append_assoc a.mapped.places ps qs);
+  each = λ k e. second.each k (first.each (second.went_on k) e);
 }
 
 -- an instruction is replaced where it stands
@@ -54,7 +54,7 @@ patch_notes {a} {c} {d} {ps} at instr notes is =
     subst (λ o. Notes a o ps) (sym is) (record {
       went_on = notes.went_on;
       noted = notes.noted;
-      each = λ none e. notes.each none e ∙ sym (length-set c.mapped.instrs at instr);
+      each = λ k e. notes.each k e ∙ sym (length-set c.mapped.instrs at instr);
     })
 
 -- one more element of a list, and the places that it gives

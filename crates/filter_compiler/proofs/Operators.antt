@@ -13,19 +13,22 @@ use Rattle.filter_code.specs.RouteView.{RouteView}
 use Rattle.filter_code.specs.Machine.{Going, unless_full, carry_out}
 use Rattle.filter_code.specs.CodeView.{CodeView}
 use Rattle.filter_compiler.proofs.Reaching.{carried_over}
+use Rattle.int_sets.specs.Holding.{NumberRange, holds_any}
 use Rattle.filter_parser.specs.declared.tree.decl.Kind.{Kind}
+use Rattle.filter_parser.specs.declared.tree.decl.Kind.TheVariants as kind
 use Rattle.filter_parser.specs.declared.tree.op.Membership.{Membership}
 use Rattle.filter_parser.specs.declared.tree.op.Membership.TheVariants as membership
 use Rattle.filter_parser.specs.declared.tree.op.Op.{Op}
 use Rattle.filter_parser.specs.declared.tree.op.Op.TheVariants as o
 use Rattle.filter_parser.specs.declared.tree.op.Suffix.{Suffix}
 use Rattle.filter_parser.specs.declared.tree.op.Suffix.TheVariants as suffix
-use Rattle.filter_parser.specs.Syntax.{SetPatternView, pattern_of}
+use Rattle.filter_parser.specs.Syntax.{SetView, of_patterns, of_ranges}
 use Rattle.filter_types.specs.Table.{arithmetic, equality, order, within, operator, in_set, suffixed_by, negated}
 use Rattle.filter_compiler.specs.Meaning as meaning
 use Rattle.filter_compiler.specs.Meaning.{Scene, quotient, result_of, suffix_of, member_of}
-use Rattle.filter_compiler.specs.Translation.{operator_code, suffix_code, member_code}
-use Rattle.filter_compiler.proofs.Parts.{HasAt}
+use Rattle.filter_compiler.specs.SetOrder.{SetCounts}
+use Rattle.filter_compiler.specs.Translation.{operator_code, suffix_code, member_code, one_set, question}
+use Rattle.filter_compiler.proofs.Parts.{HasAt, HasSets}
 use Rattle.filter_compiler.proofs.Scenes.{kind_of_value}
 use Rattle.filter_compiler.proofs.Steps.{Stands, Divides, config_in, same_place, replaced}
 
@@ -44,6 +47,11 @@ lt_is_not_ge a b = grind (arith, nat_tests)
 
 suc_is_not_zero : (n : ℕ) → (suc n == 0) ≡ false
 suc_is_not_zero n = grind (arith, nat_tests)
+
+-- the answer to a question
+abbrev pub answer_of : Membership → Bool → Option Value
+answer_of membership.In b = Some (value.Bool b)
+answer_of membership.NotIn b = Some (value.Bool (not b))
 
 module _ (program : CodeView) (route : RouteView) (scene : Scene) where
   -- a value of a kind is on the stack, or the run has divided by zero
@@ -225,22 +233,42 @@ module _ (program : CodeView) (route : RouteView) (scene : Scene) where
       let test : nat_lt set (length program.sets) ≡ true = grind (arith, nat_tests) in
       rw (test, found) refl
 
-  pub member_runs : (op : Membership) (pc : ℕ) (stack : List Value) (number : ℕ) (set : List SetPatternView) (a : Value) (k : Kind)
-      → in_set (kind_of_value a) ≡ Some k → slice_get program.sets number ≡ Some (map pattern_of set)
-      → HasAt program.instrs pc (member_code op number) → Stands program route scene pc (a ∷ stack)
-      → Gives (pc + length (member_code op number)) stack k (member_of op set a)
-  member_runs membership.In pc stack number set (value.Net p) k fits found has s = (
-    replaced program route scene pc (value.Net p ∷ stack) stack (instr.Member number) _ has.0 (omega arith)
-        (member_step pc stack number _ p found) s,
-    cc,
-  )
-  member_runs membership.NotIn pc stack number set (value.Net p) k fits found has s =
+  -- INSET of a set of the code
+  in_set_step : (pc : ℕ) (stack : List Value) (set : ℕ) (ranges : List NumberRange) (n : ℕ)
+      → slice_get program.int_sets set ≡ Some ranges
+      → carry_out program route (config_in program route scene pc (value.Int n ∷ stack)) (Some (instr.InSet set)) ≡ unless_full
+      (nat_lt 32 (suc (length stack))) pc (Going (config_in program route scene (pc + 1) (value.Bool (holds_any n ranges) ∷ stack)))
+  in_set_step pc stack set ranges n found =
+      let within : set < length program.int_sets = slice_get_within program.int_sets set ranges found in
+      let test : nat_lt set (length program.int_sets) ≡ true = grind (arith, nat_tests) in
+      rw (test, found) refl
+
+  -- a question, and its opposite
+  question_runs : (op : Membership) (pc : ℕ) (stack : List Value) (i : Instr) (a : Value) (answer : Bool) (k : Kind) → Some kind.Bool ≡ Some k
+      → carry_out program route (config_in program route scene pc (a ∷ stack)) (Some i) ≡ unless_full
+      (nat_lt 32 (suc (length stack))) pc (Going (config_in program route scene (pc + 1) (value.Bool answer ∷ stack)))
+      → HasAt program.instrs pc (member_code op i) → Stands program route scene pc (a ∷ stack)
+      → Gives (pc + length (member_code op i)) stack k (answer_of op answer)
+  question_runs membership.In pc stack i a answer k fits e has s =
+      (replaced program route scene pc (a ∷ stack) stack i _ has.0 (omega arith) e s, cc)
+  question_runs membership.NotIn pc stack i a answer k fits e has s =
       let at : pc + 1 + 1 ≡ pc + 2 = omega arith in
-      let one = replaced program route scene pc (value.Net p ∷ stack) stack (instr.Member number) _ has.0 (omega arith)
-      (member_step pc stack number _ p found) s in (
-        same_place program route scene (pc + 1 + 1) (pc + 2) (value.Bool (not (matches_any p (map pattern_of set))) ∷ stack) at (inverted
-            (pc + 1) stack _ has.1.0 one),
+      let one = replaced program route scene pc (a ∷ stack) stack i _ has.0 (omega arith) e s in (
+        same_place program route scene (pc + 1 + 1) (pc + 2) (value.Bool (not answer) ∷ stack) at (inverted (pc + 1) stack _ has.1.0 one),
         cc,
       )
-  member_runs membership.In pc stack number set _ k fits found has s = cc
-  member_runs membership.NotIn pc stack number set _ k fits found has s = cc
+
+  pub member_runs : (op : Membership) (pc : ℕ) (stack : List Value) (n : SetCounts) (set : SetView) (a : Value) (k : Kind)
+      → in_set set (kind_of_value a) ≡ Some k → HasSets program n (one_set set)
+      → HasAt program.instrs pc (member_code op (question set n)) → Stands program route scene pc (a ∷ stack)
+      → Gives (pc + length (member_code op (question set n))) stack k (member_of op set a)
+  member_runs membership.In pc stack n (of_patterns set) (value.Net p) k fits found has s =
+      question_runs membership.In pc stack _ _ _ k fits (member_step pc stack n.patterns _ p found.patterns.0) has s
+  member_runs membership.NotIn pc stack n (of_patterns set) (value.Net p) k fits found has s =
+      question_runs membership.NotIn pc stack _ _ _ k fits (member_step pc stack n.patterns _ p found.patterns.0) has s
+  member_runs membership.In pc stack n (of_ranges set) (value.Int i) k fits found has s =
+      question_runs membership.In pc stack _ _ _ k fits (in_set_step pc stack n.ints _ i found.ints.0) has s
+  member_runs membership.NotIn pc stack n (of_ranges set) (value.Int i) k fits found has s =
+      question_runs membership.NotIn pc stack _ _ _ k fits (in_set_step pc stack n.ints _ i found.ints.0) has s
+  member_runs op pc stack n (of_patterns set) _ k fits found has s = cc
+  member_runs op pc stack n (of_ranges set) _ k fits found has s = cc

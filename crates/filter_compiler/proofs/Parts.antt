@@ -3,6 +3,8 @@ use Rattle.std.proofs.Common.{◌≡◌, ℕ, ◌+◌, ◌<◌, List, [], ◌∷
 use Rattle.std.specs.Prelude.{slice_get}
 use Rattle.std.proofs.Math.Seq.{get_or-append_seam}
 use Rattle.std.proofs.lemmas.Option.{slice_get-get_or}
+use Rattle.filter_code.specs.CodeView.{CodeView}
+use Rattle.filter_compiler.specs.SetOrder.{Sets, SetCounts, past, with_sets}
 
 -- the part is in the list at this place
 abbrev pub HasAt : {X : Type 0} → List X → ℕ → List X → Type 0
@@ -32,3 +34,20 @@ has_rest (x ∷ part) before =
 
 pub has_all : {X : Type 0} (xs : List X) → HasAt xs 0 xs
 has_all xs = has_rest xs []
+
+-- the sets of a part are in the code, at their numbers
+pub record HasSets (program : CodeView) (n : SetCounts) (sets : Sets) : Type 0 where
+  pub patterns : HasAt program.sets n.patterns sets.patterns
+  pub ints : HasAt program.int_sets n.ints sets.ints
+
+pub sets_front : (program : CodeView) (n : SetCounts) (a b : Sets) → HasSets program n (with_sets a b) → HasSets program n a
+sets_front program n a b h = record {
+  patterns = has_front program.sets n.patterns a.patterns b.patterns h.patterns;
+  ints = has_front program.int_sets n.ints a.ints b.ints h.ints;
+}
+
+pub sets_back : (program : CodeView) (n : SetCounts) (a b : Sets) → HasSets program n (with_sets a b) → HasSets program (past n a) b
+sets_back program n a b h = record {
+  patterns = has_back program.sets n.patterns a.patterns b.patterns h.patterns;
+  ints = has_back program.int_sets n.ints a.ints b.ints h.ints;
+}

@@ -1,5 +1,6 @@
 -- Worked rows: the definitions compute the code and the verdicts that they should.
 use Rattle.std.proofs.Common.{◌≡◌, ℕ, List, [], ◌∷◌, ◌++◌, Bool, true, false, codes, refl}
+use Rattle.int_sets.specs.Holding.{NumberRange}
 use Rattle.filter_code.specs.declared.instruction.Instr.{Instr}
 use Rattle.filter_code.specs.declared.instruction.Instr.TheVariants as instr
 use Rattle.filter_code.specs.RouteView.{RouteView}
@@ -8,9 +9,9 @@ use Rattle.filter_parser.specs.declared.tree.decl.Kind.TheVariants as kind
 use Rattle.filter_parser.specs.declared.tree.expr.Attribute.TheVariants as attributes
 use Rattle.filter_parser.specs.declared.tree.op.Membership.TheVariants as membership
 use Rattle.filter_parser.specs.declared.tree.op.Op.TheVariants as o
-use Rattle.filter_parser.specs.Syntax.{ExprView, number, truth, name, attribute, defined, binary, member, group, between}
+use Rattle.filter_parser.specs.Syntax.{ExprView, number, truth, name, attribute, defined, binary, member, group, between, of_patterns, of_ranges, one, from_to}
 use Rattle.filter_parser.specs.SyntaxCommands.{CommandView, block, if_then, if_else, assign, accept, reject, to_name, to_metric, DeclView}
-use Rattle.filter_parser.specs.SyntaxCommands.{commands_of}
+use Rattle.filter_parser.specs.SyntaxCommands.{case, commands_of, else_label, parts_of, ranges_label}
 use Rattle.filter_parser.specs.SyntaxText as syntax
 use Rattle.filter_compiler.specs.Need.{need}
 use Rattle.filter_compiler.specs.Translation.{code_of}
@@ -22,7 +23,7 @@ filter_of decls body = record { name = codes "f"; decls = decls; body = commands
 
 -- code without sets
 abbrev without_sets : ℕ → List Instr → code.CodeView
-without_sets locals instrs = record { locals = locals; sets = []; instrs = instrs }
+without_sets locals instrs = record { locals = locals; sets = []; int_sets = []; instrs = instrs }
 
 -- a route with a metric, in a domain of this size, to a prefix of these bits
 abbrev route_of : List Bool → ℕ → ℕ → RouteView
@@ -93,12 +94,13 @@ sixteen = eight ++ false ∷ false ∷ false ∷ false ∷ false ∷ false ∷ t
 
 -- `if net ~ [1.0.0.0/8{15,17}] then accept;`
 abbrev s : syntax.FilterView
-s = filter_of [] (if_then (member membership.In (attribute attributes.Net) (between eight 15 17 ∷ [])) (accept false) ∷ [])
+s = filter_of [] (if_then (member membership.In (attribute attributes.Net) (of_patterns (between eight 15 17 ∷ []))) (accept false) ∷ [])
 
 abbrev s_code_wanted : code.CodeView
 s_code_wanted = record {
   locals = 0;
   sets = (record { bits = eight; low = 15; high = 17 } ∷ []) ∷ [];
+  int_sets = [];
   instrs = instr.Net ∷ instr.Member 0 ∷ instr.JumpIfNot 1 ∷ instr.Accept ∷ instr.Reject ∷ [];
 }
 
@@ -171,3 +173,76 @@ z_code = refl
 
 pub z_three : meaning z (route_of [] 3 8) ≡ accepted 3
 z_three = refl
+
+-- the ints from a first one to a last one
+abbrev range : ℕ → ℕ → NumberRange
+range low high = record { low = low; high = high }
+
+-- code without sets of patterns
+abbrev with_int_sets : List (List NumberRange) → List Instr → code.CodeView
+with_int_sets int_sets instrs = record { locals = 0; sets = []; int_sets = int_sets; instrs = instrs }
+
+-- `if rip_metric ~ [2, 4..6] then accept;`
+abbrev i : syntax.FilterView
+i = filter_of [] (if_then (member membership.In metric_of_route (of_ranges (one 2 ∷ from_to 4 6 ∷ []))) (accept false) ∷ [])
+
+pub i_code : code_of i ≡ with_int_sets ((range 2 2 ∷ range 4 6 ∷ []) ∷ [])
+    (instr.Metric ∷ instr.InSet 0 ∷ instr.JumpIfNot 1 ∷ instr.Accept ∷ instr.Reject ∷ [])
+i_code = refl
+
+pub i_five : meaning i (route_of [] 5 8) ≡ accepted 5
+i_five = refl
+
+pub i_three : meaning i (route_of [] 3 8) ≡ rejected
+i_three = refl
+
+-- `case rip_metric { 0: reject; 1, 3..5: accept; else: rip_metric = 7; accept; }`
+abbrev c : syntax.FilterView
+c =
+    filter_of []
+    (case metric_of_route
+    (parts_of ((ranges_label (one 0 ∷ []), commands_of (reject false ∷ []))
+    ∷ (ranges_label (one 1 ∷ from_to 3 5 ∷ []), commands_of (accept false ∷ []))
+    ∷ (else_label, commands_of (assign to_metric (number 7) ∷ accept false ∷ [])) ∷ [])) ∷ [])
+
+pub c_code : code_of c ≡ with_int_sets ((range 0 0 ∷ []) ∷ (range 1 1 ∷ range 3 5 ∷ []) ∷ [])
+    (instr.Metric ∷ instr.InSet 0 ∷ instr.JumpIfNot 2 ∷ instr.Reject ∷ instr.Jump 10 ∷ instr.Metric ∷ instr.InSet 1 ∷ instr.JumpIfNot 2
+    ∷ instr.Accept ∷ instr.Jump 5 ∷ instr.Int 7 ∷ instr.Received ∷ instr.Max ∷ instr.SetMetric ∷ instr.Accept ∷ instr.Reject ∷ [])
+c_code = refl
+
+pub c_zero : meaning c (route_of [] 0 8) ≡ rejected
+c_zero = refl
+
+pub c_one : meaning c (route_of [] 1 8) ≡ accepted 1
+c_one = refl
+
+pub c_two : meaning c (route_of [] 2 8) ≡ accepted 7
+c_two = refl
+
+pub c_four : meaning c (route_of [] 4 8) ≡ accepted 4
+c_four = refl
+
+pub c_eight : meaning c (route_of [] 8 8) ≡ accepted 8
+c_eight = refl
+
+-- `case rip_metric { }`: as if a part with no ranges and no commands stood first
+abbrev nothing_asked : syntax.FilterView
+nothing_asked = filter_of [] (case metric_of_route (parts_of []) ∷ [])
+
+pub nothing_code : code_of nothing_asked ≡ with_int_sets ([] ∷ [])
+    (instr.Metric ∷ instr.InSet 0 ∷ instr.JumpIfNot 1 ∷ instr.Jump 0 ∷ instr.Reject ∷ [])
+nothing_code = refl
+
+-- `case rip_metric { else: if 1 ~ [8] then accept; 2: if 1 ~ [9] then accept; }`: the `else` part comes last, with the first set
+abbrev last : syntax.FilterView
+last =
+    filter_of []
+    (case metric_of_route
+    (parts_of ((else_label, commands_of (if_then (member membership.In (number 1) (of_ranges (one 8 ∷ []))) (accept false) ∷ []))
+    ∷ (ranges_label (one 2 ∷ []), commands_of (if_then (member membership.In (number 1) (of_ranges (one 9 ∷ []))) (accept false) ∷ []))
+    ∷ [])) ∷ [])
+
+pub last_code : code_of last ≡ with_int_sets ((range 8 8 ∷ []) ∷ (range 2 2 ∷ []) ∷ (range 9 9 ∷ []) ∷ [])
+    (instr.Metric ∷ instr.InSet 1 ∷ instr.JumpIfNot 5 ∷ instr.Int 1 ∷ instr.InSet 2 ∷ instr.JumpIfNot 1 ∷ instr.Accept ∷ instr.Jump 4
+    ∷ instr.Int 1 ∷ instr.InSet 0 ∷ instr.JumpIfNot 1 ∷ instr.Accept ∷ instr.Reject ∷ [])
+last_code = refl

@@ -1,6 +1,6 @@
 -- What is seen at a negation, at a question for a set and at an assignment.
-use Rattle.std.proofs.Common.{◌≡◌, ℕ, Box, Global, ap, sym, ◌∙◌, map}
-use Rattle.filter_parser.specs.Syntax.{ExprView, member, negation, view, view_expr_step, view_set_pattern}
+use Rattle.std.proofs.Common.{◌≡◌, ℕ, Box, Global, ap, sym, ◌∙◌}
+use Rattle.filter_parser.specs.Syntax.{ExprView, member, negation, view, view_expr_step, view_members}
 use Rattle.filter_parser.specs.SyntaxCommands.{CommandView, assign, view_command, view_step, view_target}
 use Rattle.filter_parser.specs.declared.tree.command.Command.TheFolds.{fold-roll-Command}
 use Rattle.filter_parser.specs.declared.tree.command.Command.TheOpen.{Command-F}
@@ -20,11 +20,11 @@ view_not x at inner y is is_inner =
     ∙ ap (λ z. negation (view z)) (sym is_inner)
 
 pub view_member : (x : Expr) (op : Membership) (left : Box Expr Global) (set : Set) (y : Expr) → x ≡ e.Member op left set
-    → y ≡ left.value → view x ≡ member op (view y) (map view_set_pattern set.patterns.items)
+    → y ≡ left.value → view x ≡ member op (view y) (view_members set.members)
 view_member x op left set y is is_left =
     ap view (is ∙ sym (e.rolls-Member op left set))
     ∙ fold-roll-Expr ExprView view_expr_step (Expr-F.Member op left set)
-    ∙ ap (λ z. member op (view z) (map view_set_pattern set.patterns.items)) (sym is_left)
+    ∙ ap (λ z. member op (view z) (view_members set.members)) (sym is_left)
 
 pub view_assign : (at : ℕ) (target : Target) (value : Expr) → view_command (c.Assign at target value) ≡ assign (view_target target) (view value)
 view_assign at target value =

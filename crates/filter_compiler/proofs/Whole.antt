@@ -19,6 +19,7 @@ use Rattle.filter_types.specs.Kinds.{IsTyped}
 use Rattle.filter_compiler.specs.Meaning.{Scene}
 use Rattle.filter_compiler.specs.Need.{need, commands_need}
 use Rattle.filter_compiler.specs.Same.{Agrees, MeansTheSame}
+use Rattle.filter_compiler.specs.SetOrder.{none_before}
 use Rattle.filter_compiler.specs.Translation.{commands_code, declarations_code, first_value, code_of}
 use Rattle.filter_compiler.specs.Verdicts as verdicts
 use Rattle.filter_compiler.specs.Verdicts.{accepted, rejected, divided, Course, goes_on, ends, course_of_all, declared_as, unassigned}
@@ -99,7 +100,7 @@ means_the_same filter typed = record {
   agrees = λ route.
       let program = code_of filter in
       let first = declarations_code 0 filter.decls in
-      let body = commands_code filter.decls 0 filter.body in
+      let body = commands_code filter.decls none_before filter.body in
       let scene : Scene = verdicts.begun filter route in
       let has = has_all program.instrs in
       let after_first = has_back program.instrs 0 first (body ++ instr.Reject ∷ []) has in
@@ -108,8 +109,8 @@ means_the_same filter typed = record {
       let r = declared_run program route route.metric filter.decls [] 0 (has_front program.instrs 0 first (body ++ instr.Reject ∷ []) has)
       (begun program route) in
       let s : Stands program route scene pc1 [] = record { reached = r; room = omega arith } in
-      let run = commands_run program route filter.decls filter.body 0 pc1 scene typed.body (declared_kinds filter.decls)
-      (has_front program.instrs pc1 body (instr.Reject ∷ []) after_first) (has_all program.sets) s in
+      let run = commands_run program route filter.decls filter.body none_before pc1 scene typed.body (declared_kinds filter.decls)
+      (has_front program.instrs pc1 body (instr.Reject ∷ []) after_first) (record { patterns = has_all program.sets; ints = has_all program.int_sets }) s in
       ends_so program route filter.decls (pc1 + length body) (commands_need filter.body) (need filter)
       (course_of_all route filter.body scene) last (omega arith) run;
 }

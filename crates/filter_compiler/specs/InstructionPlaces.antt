@@ -1,13 +1,18 @@
 -- Where in the text each instruction of a translation comes from: the place of the part that it translates. A place is the number
 -- of bytes of the text before it. (This project's own choice.)
-use Rattle.std.specs.Prelude.{ℕ, List, [], ◌∷◌, ◌++◌, Some, None, flat_map, length, replicate}
+use Rattle.std.specs.Prelude.{ℕ, Bool, true, false, List, [], ◌∷◌, ◌++◌, Some, None, Vec, flat_map, length, map, replicate}
+use Rattle.std.specs.declared.alloc.Global.{Global}
 use Rattle.filter_code.specs.declared.instruction.Instr.{Instr}
-use Rattle.filter_parser.specs.Places.{body_of, decls_of, end_place}
+use Rattle.filter_code.specs.declared.instruction.Instr.TheVariants as instr
+use Rattle.filter_parser.specs.Places.{body_of, decls_of, end_place, range_place}
 use Rattle.filter_parser.specs.SyntaxCommands.{view_target}
 use Rattle.filter_parser.specs.declared.tree.command.Command.{Command}
 use Rattle.filter_parser.specs.declared.tree.command.Command.TheFolds.{fold-Command}
 use Rattle.filter_parser.specs.declared.tree.command.Command.TheOpen.{Command-F}
+use Rattle.filter_parser.specs.declared.tree.command.Label.{Label}
+use Rattle.filter_parser.specs.declared.tree.command.Label.TheVariants as label
 use Rattle.filter_parser.specs.declared.tree.command.Target.{Target}
+use Rattle.filter_parser.specs.declared.tree.set.SetRange.{SetRange}
 use Rattle.filter_parser.specs.declared.tree.decl.Decl.{Decl}
 use Rattle.filter_parser.specs.declared.tree.expr.Expr.{Expr}
 use Rattle.filter_parser.specs.declared.tree.expr.Expr.TheFolds.{fold-Expr}
@@ -60,7 +65,7 @@ origins_step (Expr-F.Not at inner) = record { start = at; places = inner.value.p
 origins_step (Expr-F.Chain first more) =
     record { start = first.value.start; places = first.value.places ++ rights_places more.items }
 origins_step (Expr-F.Member op left set) =
-    record { start = left.value.start; places = left.value.places ++ all_at set.at (member_code op 0) }
+    record { start = left.value.start; places = left.value.places ++ all_at set.at (member_code op (instr.Member 0)) }
 origins_step (Expr-F.Suffixed inner suffixes) = record {
   start = inner.value.start;
   places = inner.value.places ++ suffixes_places inner.value.start suffixes.items;
@@ -77,6 +82,42 @@ expression_places tree = (origins tree).places
 abbrev pub target_places : ℕ → Target → List ℕ
 target_places at target = all_at at (target_code [] (view_target target))
 
+-- the place of a label: that of its first range
+abbrev pub label_place : ℕ → List SetRange → ℕ
+label_place at [] = at
+label_place at (range ∷ more) = range_place range
+
+-- a part of a `case` whose label has this place: the argument's instructions are where they are, and the question for its set and both
+-- jumps are at the label
+abbrev pub part_places : List ℕ → ℕ → List ℕ → List ℕ → List ℕ
+part_places argument at commands rest = (argument ++ at ∷ at ∷ commands) ++ at ∷ rest
+
+-- the parts of a `case`, where the places of their commands are known, and those of the `else` part
+abbrev pub parts_places : ℕ → List ℕ → List ℕ → List (Label × List ℕ) → List ℕ
+parts_places at argument other [] = other
+parts_places at argument other ((label.Ranges ranges, commands) ∷ more) =
+    part_places argument (label_place at ranges.items) commands (parts_places at argument other more)
+parts_places at argument other ((label.Else place, commands) ∷ more) = parts_places at argument commands more
+
+-- whether a part has a label of ranges
+abbrev pub some_labelled : List (Label × List ℕ) → Bool
+some_labelled [] = false
+some_labelled ((label.Ranges ranges, commands) ∷ more) = true
+some_labelled ((label.Else place, commands) ∷ more) = some_labelled more
+
+-- the part that a `case` without a labelled part begins with is at the `case`
+abbrev pub opening_places : Bool → ℕ → List ℕ → List ℕ → List ℕ
+opening_places true at argument rest = rest
+opening_places false at argument rest = part_places argument at [] rest
+
+-- a `case` at this place
+abbrev pub case_places : ℕ → List ℕ → List (Label × List ℕ) → List ℕ
+case_places at argument parts = opening_places (some_labelled parts) at argument (parts_places at argument [] parts)
+
+-- the places of a part's commands, where those of each command are known
+abbrev pub part_step : Label × Vec (List ℕ) Global → Label × List ℕ
+part_step part = (part.0, flat_map (λ places. places) part.1.items)
+
 -- a command, where the commands in it are known: the jumps of `if` and `else` are at the `if`
 abbrev pub command_places_step : Command-F (List ℕ) → List ℕ
 command_places_step (Command-F.Empty at) = []
@@ -84,6 +125,7 @@ command_places_step (Command-F.Block at body) = flat_map (λ places. places) bod
 command_places_step (Command-F.If at test chosen None) = expression_places test ++ at ∷ chosen.value
 command_places_step (Command-F.If at test chosen (Some other)) =
     expression_places test ++ at ∷ (chosen.value ++ at ∷ other.value)
+command_places_step (Command-F.Case at argument parts) = case_places at (expression_places argument) (map part_step parts.items)
 command_places_step (Command-F.Assign at target value) = expression_places value ++ target_places at target
 command_places_step (Command-F.Accept at has_text) = at ∷ []
 command_places_step (Command-F.Reject at has_text) = at ∷ []
@@ -91,6 +133,10 @@ command_places_step (Command-F.Reject at has_text) = at ∷ []
 -- a command
 abbrev pub command_places : Command → List ℕ
 command_places = fold-Command (List ℕ) command_places_step
+
+-- a part of a `case`: its label, and the places of its commands
+abbrev pub part_of : Label × Vec Command Global → Label × List ℕ
+part_of part = (part.0, flat_map command_places part.1.items)
 
 -- a declaration is two instructions, which are at the name
 abbrev pub decl_places : Decl → List ℕ

@@ -5,6 +5,7 @@ pub mod Limits
 pub mod Meaning
 pub mod Need
 pub mod Same
+pub mod SetOrder
 pub mod Translation
 pub mod Verdicts
 -- What only the bodies of this crate are proved against.

@@ -7,6 +7,7 @@ use Rattle.std.specs.Bool.{beq}
 use Rattle.std.specs.Cmp.Lexicographic.{pointwise}
 use Rattle.std.specs.Option.{option_map}
 use Rattle.std.specs.Str.{bytes_eq}
+use Rattle.int_sets.specs.Holding.{holds_any}
 use Rattle.prefix_patterns.specs.Bits.{address_bits, address_of, prefix_bits}
 use Rattle.prefix_patterns.specs.Matching.{lies_within, matches_any}
 use Rattle.filter_code.specs.declared.value.Value.{Value}
@@ -21,7 +22,7 @@ use Rattle.filter_parser.specs.declared.tree.op.Op.TheVariants as o
 use Rattle.filter_parser.specs.declared.tree.op.Suffix.{Suffix}
 use Rattle.filter_parser.specs.declared.tree.op.Suffix.TheVariants as suffix
 use Rattle.filter_parser.specs.Syntax.{ExprView, number, address, prefix, truth, name, attribute, defined, group, negation, binary, member}
-use Rattle.filter_parser.specs.Syntax.{suffixed, SetPatternView, pattern_of}
+use Rattle.filter_parser.specs.Syntax.{suffixed, SetView, of_patterns, of_ranges, pattern_of, range_of}
 
 -- a variable and its value
 pub record Bound : Type 0 where
@@ -126,11 +127,16 @@ suffix_of suffix.Len (value.Net p) = Some (value.Int (length p))
 suffix_of (suffix.Mask n) (value.Addr a) = Some (value.Addr (record { 0 = address_of (prefix_bits a.0 n) }))
 suffix_of _ _ = None
 
--- whether an operand matches one of the patterns of a set, or none
-abbrev pub member_of : Membership → List SetPatternView → Value → Option Value
-member_of membership.In set (value.Net p) = Some (value.Bool (matches_any p (map pattern_of set)))
-member_of membership.NotIn set (value.Net p) = Some (value.Bool (not (matches_any p (map pattern_of set))))
-member_of _ set _ = None
+-- whether a prefix matches one of the patterns of a set, or an int is in one of its ranges
+abbrev pub is_in : SetView → Value → Option Bool
+is_in (of_patterns patterns) (value.Net p) = Some (matches_any p (map pattern_of patterns))
+is_in (of_ranges ranges) (value.Int n) = Some (holds_any n (map range_of ranges))
+is_in _ _ = None
+
+-- whether it is, or is not
+abbrev pub member_of : Membership → SetView → Value → Option Value
+member_of membership.In set v = as_it_is (is_in set v)
+member_of membership.NotIn set v = opposite (is_in set v)
 
 -- the route's prefix, and the current metric
 abbrev pub attribute_of : RouteView → Scene → Attribute → Value

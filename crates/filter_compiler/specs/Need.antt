@@ -4,8 +4,8 @@ use Rattle.filter_parser.specs.declared.tree.op.Op.{Op}
 use Rattle.filter_parser.specs.declared.tree.op.Op.TheVariants as o
 use Rattle.filter_parser.specs.Syntax.{ExprView, number, address, prefix, truth, name, attribute, defined, group, negation, binary, member}
 use Rattle.filter_parser.specs.Syntax.{suffixed}
-use Rattle.filter_parser.specs.SyntaxCommands.{CommandView, empty, block, if_then, if_else, assign, accept, reject, CommandsView, no_commands, command_then}
-use Rattle.filter_parser.specs.SyntaxCommands.{TargetView, to_metric, DeclView}
+use Rattle.filter_parser.specs.SyntaxCommands.{CommandView, empty, block, if_then, if_else, case, assign, accept, reject, CommandsView, no_commands, command_then}
+use Rattle.filter_parser.specs.SyntaxCommands.{TargetView, to_metric, DeclView, PartsView, no_parts, part_then}
 use Rattle.filter_parser.specs.SyntaxText as syntax
 
 -- the left operand waits while the right one is worked out; of `&&` and `||` it does not
@@ -34,13 +34,14 @@ abbrev pub target_need : TargetView → ℕ → ℕ
 target_need to_metric value = max value 2
 target_need _ value = value
 
--- the greatest need in a command, and in commands one after another
+-- the greatest need in a command, in commands one after another, and in the parts of a `case`
 abbrev mutual
   pub command_need : CommandView → ℕ
   command_need empty = 0
   command_need (block body) = commands_need body
   command_need (if_then test chosen) = max (expression_need test) (command_need chosen)
   command_need (if_else test chosen other) = max (expression_need test) (max (command_need chosen) (command_need other))
+  command_need (case argument parts) = max (expression_need argument) (parts_need parts)
   command_need (assign target value) = target_need target (expression_need value)
   command_need (accept has_text) = 0
   command_need (reject has_text) = 0
@@ -48,6 +49,10 @@ abbrev mutual
   pub commands_need : CommandsView → ℕ
   commands_need no_commands = 0
   commands_need (command_then first more) = max (command_need first) (commands_need more)
+
+  pub parts_need : PartsView → ℕ
+  parts_need no_parts = 0
+  parts_need (part_then label commands more) = max (commands_need commands) (parts_need more)
 
 -- a declaration needs one operand
 abbrev pub declarations_need : List DeclView → ℕ

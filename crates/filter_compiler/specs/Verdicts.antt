@@ -3,13 +3,15 @@
 -- variables are before they are assigned are this project's own choice.
 use Rattle.std.specs.Prelude.{ℕ, min, max, true, false, if◌then◌else◌, Option, Some, List, [], ◌∷◌, map}
 use Rattle.std.specs.Str.{bytes_eq}
+use Rattle.int_sets.specs.Holding.{holds_any}
 use Rattle.filter_code.specs.declared.value.Value.{Value}
 use Rattle.filter_code.specs.declared.value.Value.TheVariants as value
 use Rattle.filter_code.specs.RouteView.{RouteView}
 use Rattle.filter_parser.specs.declared.tree.decl.Kind.{Kind}
 use Rattle.filter_parser.specs.declared.tree.decl.Kind.TheVariants as kind
-use Rattle.filter_parser.specs.SyntaxCommands.{CommandView, empty, block, if_then, if_else, assign, accept, reject, CommandsView, no_commands, command_then}
-use Rattle.filter_parser.specs.SyntaxCommands.{TargetView, to_name, to_metric, DeclView}
+use Rattle.filter_parser.specs.SyntaxCommands.{CommandView, empty, block, if_then, if_else, case, assign, accept, reject, CommandsView, no_commands, command_then}
+use Rattle.filter_parser.specs.SyntaxCommands.{TargetView, to_name, to_metric, DeclView, ranges_label, else_label, PartsView, no_parts, part_then}
+use Rattle.filter_parser.specs.Syntax.{range_of}
 use Rattle.filter_parser.specs.SyntaxText as syntax
 use Rattle.filter_compiler.specs.Meaning.{Bound, Scene, value_of}
 
@@ -61,7 +63,13 @@ abbrev pub then_do : Course → (Scene → Course) → Course
 then_do (goes_on scene) more = more scene
 then_do (ends verdict) more = ends verdict
 
--- what a command comes to, and commands one after another
+-- what an int chooses
+abbrev pub for_int : Option Value → (ℕ → Course) → Course
+for_int (Some (value.Int n)) course = course n
+for_int _ course = ends divided
+
+-- what a command comes to, commands one after another, and the parts of a `case` for the value of its argument: the part whose label
+-- holds it, otherwise the `else` part, otherwise nothing
 abbrev mutual
   pub course_of : RouteView → CommandView → Scene → Course
   course_of route empty scene = goes_on scene
@@ -70,6 +78,8 @@ abbrev mutual
       chosen_by (value_of route scene test) (course_of route chosen scene) (goes_on scene)
   course_of route (if_else test chosen other) scene =
       chosen_by (value_of route scene test) (course_of route chosen scene) (course_of route other scene)
+  course_of route (case argument parts) scene =
+      for_int (value_of route scene argument) (λ n. course_of_parts route parts n scene (goes_on scene))
   course_of route (assign target value) scene = set_to route scene target (value_of route scene value)
   course_of route (accept has_text) scene = ends (accepted scene.metric)
   course_of route (reject has_text) scene = ends rejected
@@ -77,6 +87,13 @@ abbrev mutual
   pub course_of_all : RouteView → CommandsView → Scene → Course
   course_of_all route no_commands scene = goes_on scene
   course_of_all route (command_then first more) scene = then_do (course_of route first scene) (course_of_all route more)
+
+  pub course_of_parts : RouteView → PartsView → ℕ → Scene → Course → Course
+  course_of_parts route no_parts n scene other = other
+  course_of_parts route (part_then (ranges_label ranges) commands more) n scene other =
+      if holds_any n (map range_of ranges) then course_of_all route commands scene else course_of_parts route more n scene other
+  course_of_parts route (part_then else_label commands more) n scene other =
+      course_of_parts route more n scene (course_of_all route commands scene)
 
 -- a body that ends without a verdict rejects
 abbrev pub verdict_of : Course → Verdict

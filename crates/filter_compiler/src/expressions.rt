@@ -1,18 +1,21 @@
 //! The code of expressions.
 
-ghost use Rattle.std.specs.Prelude.{◌≡◌, [], ◌∷◌, ◌++◌, flat_map, length, map, replicate};
+ghost use Rattle.std.specs.Prelude.{◌≡◌, ℕ, [], ◌∷◌, ◌++◌, flat_map, length, map, min, replicate};
 ghost use Rattle.filter_code.specs.CodeView.{HasMask};
 ghost use Rattle.filter_parser.specs.Places.{expr_place};
-ghost use Rattle.filter_parser.specs.Syntax.{ExprView, chain_of, suffixes_of, view, view_more, view_set_pattern};
+ghost use Rattle.filter_parser.specs.Syntax.{ExprView, chain_of, suffixes_of, view, view_members, view_more};
 ghost use Rattle.filter_parser.specs.SyntaxText.{view_filter};
 ghost use Rattle.filter_compiler.specs.InstructionPlaces.{all_at, expression_places, right_places, suffixes_places};
-ghost use Rattle.filter_compiler.specs.Translation.{attribute_code, member_code, operator_code, suffix_code};
+ghost use Rattle.filter_compiler.specs.SetOrder.{SetCounts};
+ghost use Rattle.filter_compiler.specs.Translation.{attribute_code, expression_code, member_code, operator_code, suffix_code};
+ghost use Rattle.filter_compiler.specs.declared.numbers.SetNumbers.{SetNumbers as TheNumbers};
 ghost use Rattle.filter_compiler.specs.declared.output.Output.{Output as TheOutput};
-ghost use Rattle.filter_compiler.specs.Written.{Notes, Puts, code_alone, expression_part, member_part, right_part};
+ghost use Rattle.filter_compiler.specs.Written.{Emits, IsCounted, Notes, Puts, code_alone, expression_part, member_part, right_part};
 
+use crate::numbers::SetNumbers;
 use crate::output::Output;
-use filter_code::Instr;
-use filter_parser::{Attribute, Expr, Membership, Op, Set, Suffix};
+use filter_code::{INT_SET_LIMIT, Instr, SET_LIMIT};
+use filter_parser::{Attribute, Expr, Members, Membership, Op, Set, Suffix};
 use filter_types::Typed;
 
 /// The instruction that puts an attribute of the route on the stack.
@@ -41,7 +44,7 @@ fn suffix_instr(suffix: Suffix) -> Instr
 /// Writes an instruction, and NOT after it.
 fn put_opposite(at: usize, instr: Instr, out: &mut Output)
     requires { HasMask instr }
-    ensures code { Puts out.old out.new (code_alone (instr ∷ Instr.Not ∷ [])) }
+    ensures code { Puts out.old out.new (instr ∷ Instr.Not ∷ []) }
     ensures places { Notes out.old out.new (at ∷ at ∷ []) }
 {
     out.put(at, instr);
@@ -50,7 +53,7 @@ fn put_opposite(at: usize, instr: Instr, out: &mut Output)
 
 /// Writes an operator that takes both operands.
 fn emit_operator(at: usize, op: Op, out: &mut Output)
-    ensures code { Puts out.old out.new (code_alone (operator_code op)) }
+    ensures code { Puts out.old out.new (operator_code op) }
     ensures places { Notes out.old out.new (all_at at (operator_code op)) }
 {
     match op {
@@ -70,117 +73,196 @@ fn emit_operator(at: usize, op: Op, out: &mut Output)
     }
 }
 
-/// Writes the question whether an operand matches a set.
-fn emit_member(op: Membership, set: &Set, out: &mut Output)
-    ensures code { Puts out.old out.new (member_part op (map view_set_pattern set.now.patterns.items)) }
-    ensures places { Notes out.old out.new (all_at set.now.at (member_code op 0)) }
+/// Writes what is one instruction.
+pub(crate) fn emit_one(at: usize, instr: Instr, sets: SetNumbers, out: &mut Output) -> SetNumbers
+    requires { HasMask instr }
+    ensures code { Emits out.old out.new sets result (code_alone (instr ∷ [])) }
+    ensures places { Notes out.old out.new (at ∷ []) }
 {
-    let number = out.keep_set(set);
+    out.put(at, instr);
+    sets
+}
+
+/// Writes a question that takes one operand, or its opposite.
+fn put_member(at: usize, op: Membership, question: Instr, out: &mut Output)
+    requires { HasMask question }
+    ensures code { Puts out.old out.new (member_code op question) }
+    ensures places { Notes out.old out.new (all_at at (member_code op question)) }
+{
     match op {
-        Membership::In => out.put(set.at, Instr::Member(number)),
-        Membership::NotIn => put_opposite(set.at, Instr::Member(number), out),
+        Membership::In => out.put(at, question),
+        Membership::NotIn => put_opposite(at, question, out),
     }
+}
+
+/// Writes the question whether an operand is in a set, where the next sets have these numbers. What is answered are the numbers after it.
+fn emit_member(op: Membership, set: &Set, sets: SetNumbers, out: &mut Output) -> SetNumbers
+    ensures code { Emits out.old out.new sets result (member_part op (view_members set.now.members)) }
+    ensures places { Notes out.old out.new (all_at set.now.at (member_code op (Instr.Member 0))) }
+{
+    match &set.members {
+        Members::Patterns(_) => {
+            out.need_set(sets.patterns, SET_LIMIT);
+            put_member(set.at, op, Instr::Member(sets.patterns), out);
+            sets.after_patterns()
+        }
+        Members::Ranges(_) => {
+            out.need_set(sets.ints, INT_SET_LIMIT);
+            put_member(set.at, op, Instr::InSet(sets.ints), out);
+            sets.after_ints()
+        }
+    }
+}
+
+/// Writes the argument of a `case` and the question whether it is in the set of ints of a label.
+pub(crate) fn emit_question(
+    typed: &Typed,
+    at: usize,
+    argument: &Expr,
+    sets: SetNumbers,
+    number: u8,
+    out: &mut Output,
+)
+    ensures code { (n : SetCounts) (m : ℕ) → IsCounted n sets → number ≡ min m 255
+        → Puts out.old out.new (expression_code (view_filter typed.now).decls n (view argument.now) ++ Instr.InSet m ∷ []) }
+    ensures places { Notes out.old out.new (expression_places argument.now ++ at ∷ []) }
+{
+    emit(typed, argument, sets, out);
+    out.need_set(number, INT_SET_LIMIT);
+    out.put(at, Instr::InSet(number));
 }
 
 /// Writes an operand with its suffixes, from the left.
 #[cycle(expressions)]
-fn emit_suffixed(typed: &Typed, operand: &Expr, suffixes: &[Suffix], out: &mut Output)
-    ensures code { Puts out.old out.new
+fn emit_suffixed(
+    typed: &Typed,
+    operand: &Expr,
+    suffixes: &[Suffix],
+    sets: SetNumbers,
+    out: &mut Output,
+) -> SetNumbers
+    ensures code { Emits out.old out.new sets result
         (expression_part (view_filter typed.now).decls (suffixes_of (view operand.now) suffixes.now)) }
     ensures places { Notes out.old out.new (expression_places operand.now ++ suffixes_places (expr_place operand.now) suffixes.now) }
 {
-    emit(typed, operand, out);
+    let next = emit(typed, operand, sets, out);
     let at = operand.at();
     for suffix in suffixes {
         out.put(at, suffix_instr(*suffix));
     }
+    next
 }
 
 /// Writes `&&` with the operand at its right, which is passed over where the left one is false.
 #[cycle(expressions)]
-fn emit_and(typed: &Typed, at: usize, right: &Expr, out: &mut Output)
-    ensures code { Puts out.old out.new (right_part (view_filter typed.now).decls Op.And (view right.now)) }
+fn emit_and(
+    typed: &Typed,
+    at: usize,
+    right: &Expr,
+    sets: SetNumbers,
+    out: &mut Output,
+) -> SetNumbers
+    ensures code { Emits out.old out.new sets result (right_part (view_filter typed.now).decls Op.And (view right.now)) }
     ensures places { Notes out.old out.new (right_places at Op.And (expression_places right.now)) }
 {
     let jump = out.length;
     out.put(at, Instr::JumpIfNot(0));
-    emit(typed, right, out);
+    let next = emit(typed, right, sets, out);
     let distance = out.distance(jump);
     out.patch(jump, Instr::JumpIfNot(distance + 1));
     out.put(at, Instr::Jump(1));
     out.put(at, Instr::Bool(false));
+    next
 }
 
 /// Writes `||` with the operand at its right, which is passed over where the left one is true.
 #[cycle(expressions)]
-fn emit_or(typed: &Typed, at: usize, right: &Expr, out: &mut Output)
-    ensures code { Puts out.old out.new (right_part (view_filter typed.now).decls Op.Or (view right.now)) }
+fn emit_or(typed: &Typed, at: usize, right: &Expr, sets: SetNumbers, out: &mut Output) -> SetNumbers
+    ensures code { Emits out.old out.new sets result (right_part (view_filter typed.now).decls Op.Or (view right.now)) }
     ensures places { Notes out.old out.new (right_places at Op.Or (expression_places right.now)) }
 {
     out.put(at, Instr::JumpIfNot(2));
     out.put(at, Instr::Bool(true));
     let jump = out.length;
     out.put(at, Instr::Jump(0));
-    emit(typed, right, out);
+    let next = emit(typed, right, sets, out);
     let distance = out.distance(jump);
     out.patch(jump, Instr::Jump(distance));
+    next
 }
 
 /// Writes an operator, which stands at a place, with the operand at its right.
 #[cycle(expressions)]
-fn emit_right(typed: &Typed, at: usize, op: Op, right: &Expr, out: &mut Output)
-    ensures code { Puts out.old out.new (right_part (view_filter typed.now).decls op (view right.now)) }
+fn emit_right(
+    typed: &Typed,
+    at: usize,
+    op: Op,
+    right: &Expr,
+    sets: SetNumbers,
+    out: &mut Output,
+) -> SetNumbers
+    ensures code { Emits out.old out.new sets result (right_part (view_filter typed.now).decls op (view right.now)) }
     ensures places { Notes out.old out.new (right_places at op (expression_places right.now)) }
 {
     match op {
-        Op::And => emit_and(typed, at, right, out),
-        Op::Or => emit_or(typed, at, right, out),
+        Op::And => emit_and(typed, at, right, sets, out),
+        Op::Or => emit_or(typed, at, right, sets, out),
         _ => {
-            emit(typed, right, out);
+            let next = emit(typed, right, sets, out);
             emit_operator(at, op, out);
+            next
         }
     }
 }
 
 /// Writes the operators after a first operand, each with the operand at its right.
 #[cycle(expressions)]
-fn emit_chain(typed: &Typed, more: &[(usize, Op, Expr)], out: &mut Output)
-    ensures code { (before : TheOutput) (first : ExprView) → Puts before out.old (expression_part (view_filter typed.now).decls first)
-        → Puts before out.new (expression_part (view_filter typed.now).decls (chain_of first (view_more more.now))) }
+fn emit_chain(
+    typed: &Typed,
+    more: &[(usize, Op, Expr)],
+    sets: SetNumbers,
+    out: &mut Output,
+) -> SetNumbers
+    ensures code { (before : TheOutput) (start : TheNumbers) (first : ExprView)
+        → Emits before out.old start sets (expression_part (view_filter typed.now).decls first)
+        → Emits before out.new start result (expression_part (view_filter typed.now).decls (chain_of first (view_more more.now))) }
     ensures places { Notes out.old out.new (flat_map (λ x. right_places x.0 x.1 (expression_places x.2)) more.now) }
 {
+    let mut next = sets;
     for (at, op, right) in more {
-        emit_right(typed, *at, *op, right, out);
+        next = emit_right(typed, *at, *op, right, next, out);
     }
+    next
 }
 
-/// Writes an expression.
+/// Writes an expression, where the next sets have these numbers. What is answered are the numbers after those of the expression.
 #[cycle(expressions)]
-pub(crate) fn emit(typed: &Typed, expr: &Expr, out: &mut Output)
-    ensures code { Puts out.old out.new (expression_part (view_filter typed.now).decls (view expr.now)) }
+pub(crate) fn emit(typed: &Typed, expr: &Expr, sets: SetNumbers, out: &mut Output) -> SetNumbers
+    ensures code { Emits out.old out.new sets result (expression_part (view_filter typed.now).decls (view expr.now)) }
     ensures places { Notes out.old out.new (expression_places expr.now) }
 {
     match expr {
-        Expr::Number(at, number) => out.put(*at, Instr::Int(*number)),
-        Expr::Address(at, address) => out.put(*at, Instr::Ip(*address)),
-        Expr::Prefix(at, prefix) => out.put(*at, Instr::Prefix(*prefix)),
-        Expr::Truth(at, truth) => out.put(*at, Instr::Bool(*truth)),
-        Expr::Name(at, name) => out.put(*at, Instr::Load(typed.number_of(name))),
-        Expr::Attribute(at, attribute) => out.put(*at, attribute_instr(*attribute)),
-        Expr::Defined(at, _) => out.put(*at, Instr::Bool(true)),
-        Expr::Group(_, inner) => emit(typed, inner, out),
+        Expr::Number(at, number) => emit_one(*at, Instr::Int(*number), sets, out),
+        Expr::Address(at, address) => emit_one(*at, Instr::Ip(*address), sets, out),
+        Expr::Prefix(at, prefix) => emit_one(*at, Instr::Prefix(*prefix), sets, out),
+        Expr::Truth(at, truth) => emit_one(*at, Instr::Bool(*truth), sets, out),
+        Expr::Name(at, name) => emit_one(*at, Instr::Load(typed.number_of(name)), sets, out),
+        Expr::Attribute(at, attribute) => emit_one(*at, attribute_instr(*attribute), sets, out),
+        Expr::Defined(at, _) => emit_one(*at, Instr::Bool(true), sets, out),
+        Expr::Group(_, inner) => emit(typed, inner, sets, out),
         Expr::Not(at, inner) => {
-            emit(typed, inner, out);
+            let next = emit(typed, inner, sets, out);
             out.put(*at, Instr::Not);
+            next
         }
         Expr::Chain(first, more) => {
-            emit(typed, first, out);
-            emit_chain(typed, more, out);
+            let next = emit(typed, first, sets, out);
+            emit_chain(typed, more, next, out)
         }
         Expr::Member(op, left, set) => {
-            emit(typed, left, out);
-            emit_member(*op, set, out);
+            let next = emit(typed, left, sets, out);
+            emit_member(*op, set, next, out)
         }
-        Expr::Suffixed(inner, suffixes) => emit_suffixed(typed, inner, suffixes, out),
+        Expr::Suffixed(inner, suffixes) => emit_suffixed(typed, inner, suffixes, sets, out),
     }
 }

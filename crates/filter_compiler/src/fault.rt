@@ -13,8 +13,9 @@ pub enum CompileFault {
     /// G1: its code would have more than 1,024 instructions.
     #[error("at most 1024 instructions are wanted, and the filter's code has more")]
     TooManyInstructions,
-    /// G2: it has more than 64 sets, or a set of more than 1,024 patterns.
-    #[error("at most 64 sets of at most 1024 patterns each are wanted, and the filter has more")]
+    /// G2: it has more than 64 sets of patterns, or a set of more than 1,024 patterns; or more than 64 sets of ints, or one of more
+    /// than 1,024 ranges.
+    #[error("at most 64 sets of at most 1024 patterns or ranges each are wanted, of patterns and of ints, and the filter has more")]
     TooManySets,
     /// G3: memory was refused.
     #[error("out of memory")]

@@ -5,6 +5,7 @@ mod commands;
 mod compiler;
 mod expressions;
 mod fault;
+mod numbers;
 mod output;
 mod sets;
 

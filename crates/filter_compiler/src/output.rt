@@ -3,11 +3,7 @@
 ghost use Rattle.std.specs.Prelude.{◌≡◌, [], ◌∷◌, ◌++◌, All, OnOk, slice_set};
 ghost use Rattle.filter_code.specs.CodeView.{HasMask};
 
-use crate::fault::CompileFault;
-use crate::sets::{PatternList, push_set};
-use filter_code::{INSTRUCTION_LIMIT, Instr, SET_LIMIT};
-use filter_parser::Set;
-use prefix_patterns::PATTERN_LIMIT;
+use filter_code::{INSTRUCTION_LIMIT, Instr};
 use std::alloc::{AllocError, Global};
 use std::marker::Model;
 
@@ -76,53 +72,56 @@ impl MappedInstrs {
 #[derive(Drop)]
 pub(crate) struct Output {
     pub alloc: Global,
-    /// The instructions and their places, while there is no fault.
+    /// The instructions and their places, while they are kept.
     pub mapped: MappedInstrs,
-    /// The patterns of each set, while there is no fault.
-    pub sets: Vec<PatternList>,
-    /// How many instructions were put, or the greatest number there is here.
+    /// How many instructions were put, or some number past the limit.
     pub length: u16,
-    /// How many sets were put, or the greatest number there is here.
-    pub set_count: u8,
-    /// The first of the faults that were found, in the order in which a filter is refused for them.
-    pub fault: Option<CompileFault>,
+    /// Whether the instructions are kept.
+    pub kept: bool,
 }
 
 impl Output {
-    ghost use Rattle.std.specs.Prelude.{ℕ, ◌-◌, ◌<◌, length, map};
-    ghost use Rattle.filter_code.specs.CodeView.{CodeView};
-    ghost use Rattle.filter_parser.specs.Syntax.{pattern_of, view_set_pattern};
-    ghost use Rattle.filter_compiler.specs.Written.{Holds, Notes, Puts, code_alone, patched};
+    ghost use Rattle.std.specs.Prelude.{◌-◌, ◌<◌, true};
+    ghost use Rattle.filter_compiler.specs.Written.{Holds, Notes, Puts, patched};
 
     /// Nothing yet.
     pub(crate) fn new(alloc: Global) -> Output
-        ensures holds { (locals : ℕ) → let program : CodeView = record { locals = locals; sets = []; instrs = [] } in Holds result program }
+        ensures holds { Holds result [] }
         ensures empty { result.mapped ≡ record { instrs = []; places = [] } }
     {
         Output {
             alloc,
             mapped: MappedInstrs::new(alloc),
-            sets: Vec::new(alloc),
             length: 0,
-            set_count: 0,
-            fault: None,
+            kept: true,
         }
     }
 
     /// One more instruction, which comes from a place in the text: the number of bytes before it.
     pub(crate) fn put(&mut self, at: usize, instr: Instr)
         requires { HasMask instr }
-        ensures code { Puts self.old self.new (code_alone (instr ∷ [])) }
+        ensures code { Puts self.old self.new (instr ∷ []) }
         ensures places { Notes self.old self.new (at ∷ []) }
     {
         let index = self.length;
         self.length = index.saturating_add(1);
         if usize::from(index) >= INSTRUCTION_LIMIT {
-            self.fault = Some(CompileFault::TooManyInstructions);
+            self.kept = false;
             return;
         }
-        if self.fault.is_none() && self.mapped.push(at, instr).is_err() {
-            self.fault = Some(CompileFault::Memory);
+        if self.kept && self.mapped.push(at, instr).is_err() {
+            self.kept = false;
+        }
+    }
+
+    /// What comes next asks for the set of this number. Code that asks for a set past this limit is not kept.
+    pub(crate) fn need_set(&mut self, number: u8, limit: usize)
+        ensures code { Puts self.old self.new [] }
+        ensures places { Notes self.old self.new [] }
+        ensures within { self.new.kept ≡ true → number < limit }
+    {
+        if usize::from(number) >= limit {
+            self.kept = false;
         }
     }
 
@@ -140,26 +139,5 @@ impl Output {
         ensures { self.new ≡ patched self.old index instr }
     {
         self.mapped.replace(usize::from(index), instr);
-    }
-
-    /// One more set, whose number is answered.
-    pub(crate) fn keep_set(&mut self, set: &Set) -> u8
-        ensures number { result ≡ self.old.set_count }
-        ensures sets { Puts self.old self.new
-            (record { code = λ n. []; sets = map pattern_of (map view_set_pattern set.now.patterns.items) ∷ [] }) }
-        ensures places { Notes self.old self.new [] }
-    {
-        let number = self.set_count;
-        self.set_count = number.saturating_add(1);
-        if usize::from(number) >= SET_LIMIT || set.patterns.len() > PATTERN_LIMIT {
-            if !matches!(self.fault, Some(CompileFault::TooManyInstructions)) {
-                self.fault = Some(CompileFault::TooManySets);
-            }
-            return number;
-        }
-        if self.fault.is_none() && push_set(self.alloc, &mut self.sets, set).is_err() {
-            self.fault = Some(CompileFault::Memory);
-        }
-        number
     }
 }

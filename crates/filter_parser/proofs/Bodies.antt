@@ -1,16 +1,15 @@
--- The loop over the commands of a body, beside the function that reads them.
-use Rattle.std.proofs.Common.{◌≡◌, ℕ, zero, suc, ◌-◌, ◌<◌, List, [], ◌∷◌, ◌++◌, length, map, Option, Some, None, refl}
+-- The loop over commands, beside the function that reads them.
+use Rattle.std.proofs.Common.{◌≡◌, ℕ, zero, suc, ◌-◌, ◌<◌, List, [], ◌∷◌, ◌++◌, length, map, Option, Some, None, Bool, true, false, refl}
 use Rattle.std.proofs.Common.{sym, ap, ◌∙◌, arith}
 use Rattle.filter_tokens.specs.Lexemes.{Lexeme}
-use Rattle.filter_tokens.specs.declared.symbol.Symbol.TheVariants as symbols
-use Rattle.filter_parser.specs.ReadingCommands.{commands_from, commands_with, command_with, command_at, block_at, if_at, if_with}
-use Rattle.filter_parser.specs.Readers.{Reader, symbol}
+use Rattle.filter_parser.specs.ReadingCommands.{commands_from, commands_with, command_begins, command_with, command_at, block_at, case_at, case_with, if_at, if_with}
+use Rattle.filter_parser.specs.Readers.{Reader}
 use Rattle.filter_parser.specs.Reading.{expr_at}
 use Rattle.prefix_patterns.specs.Reading.{◌>>=◌}
 use Rattle.filter_parser.specs.SyntaxCommands.{CommandView, CommandsView, commands_of}
 
 -- a command where this many more levels may nest, by its first lexeme
-pub command_is : (depth : ℕ) (ws : List Lexeme) → command_at depth ws ≡ command_with (expr_at depth) (block_at depth) (if_at depth) ws
+pub command_is : (depth : ℕ) (ws : List Lexeme) → command_at depth ws ≡ command_with (expr_at depth) (block_at depth) (if_at depth) (case_at depth) ws
 unfolding command_at
 command_is zero ws = refl
 command_is (suc depth) ws = refl
@@ -21,6 +20,13 @@ if_is zero ws some = absurd (omega arith)
 if_is (suc depth) ws some =
     let same : depth ≡ suc depth - 1 = omega arith in
     ap (λ (n : ℕ). if_with (expr_at n) (command_at n) ws) same
+
+-- a `case` where a level is left
+pub case_is : (depth : ℕ) (ws : List Lexeme) → 0 < depth → case_at depth ws ≡ case_with (expr_at (depth - 1)) (command_at (depth - 1)) ws
+case_is zero ws some = absurd (omega arith)
+case_is (suc depth) ws some =
+    let same : depth ≡ suc depth - 1 = omega arith in
+    ap (λ (n : ℕ). case_with (expr_at n) (command_at n) ws) same
 
 -- commands before others
 abbrev pub before : List CommandView → CommandsView → CommandsView
@@ -53,16 +59,16 @@ regroup : (xs : List CommandView) (x : CommandView) (r : Option (CommandsView ×
 regroup xs x None = refl
 regroup xs x (Some more) = ap (λ (all : CommandsView). Some (all, more.1)) (sym (one_more xs x more.0))
 
-first_is : (command : Reader CommandView) (n : ℕ) (ws rest : List Lexeme) (x : CommandView) → symbol symbols.RightBrace ws ≡ None → command ws ≡ Some (x, rest)
+first_is : (command : Reader CommandView) (n : ℕ) (ws rest : List Lexeme) (x : CommandView) → command_begins ws ≡ true → command ws ≡ Some (x, rest)
     → commands_from command (suc n) ws ≡ (commands_from command n rest >>= λ more. Some (CommandsView.command_then x more.0, more.1))
 first_is command n ws rest x none found = rw (none, found) refl
 
-none_is : (command : Reader CommandView) (n : ℕ) (ws : List Lexeme) → symbol symbols.RightBrace ws ≡ None → command ws ≡ None → commands_from command (suc n) ws ≡ None
+none_is : (command : Reader CommandView) (n : ℕ) (ws : List Lexeme) → command_begins ws ≡ true → command ws ≡ None → commands_from command (suc n) ws ≡ None
 none_is command n ws none found = rw (none, found) refl
 
-end_is : (command : Reader CommandView) (n : ℕ) (ws rest : List Lexeme) → symbol symbols.RightBrace ws ≡ Some rest
-    → commands_from command (suc n) ws ≡ Some (CommandsView.no_commands, rest)
-end_is command n ws rest found = rw found refl
+end_is : (command : Reader CommandView) (n : ℕ) (ws : List Lexeme) → command_begins ws ≡ false
+    → commands_from command (suc n) ws ≡ Some (CommandsView.no_commands, ws)
+end_is command n ws found = rw found refl
 
 pub begins : (command : Reader CommandView) (ws : List Lexeme) → Goes command [] ws (commands_with command ws)
 unfolding commands_with
@@ -73,7 +79,7 @@ map_one f [] x = refl
 map_one {B = B} f (y ∷ xs) x = ap (λ (ys : List B). f y ∷ ys) (map_one f xs x)
 
 pub goes_on : {command : Reader CommandView} {xs : List CommandView} {ws rest : List Lexeme} {total : Option (CommandsView × List Lexeme)} {x : CommandView}
-    → Goes command xs ws total → symbol symbols.RightBrace ws ≡ None → command ws ≡ Some (x, rest) → length rest < length ws
+    → Goes command xs ws total → command_begins ws ≡ true → command ws ≡ Some (x, rest) → length rest < length ws
     → Goes command (xs ++ x ∷ []) rest total
 goes_on {command} {xs} {ws} {rest} {total} {x} g none found lt =
     let enough : length ws < g.turns = g.enough in
@@ -87,18 +93,18 @@ goes_on {command} {xs} {ws} {rest} {total} {x} g none found lt =
     }
 
 pub stops : {command : Reader CommandView} {xs : List CommandView} {ws : List Lexeme} {total : Option (CommandsView × List Lexeme)}
-    → Goes command xs ws total → symbol symbols.RightBrace ws ≡ None → command ws ≡ None → total ≡ None
+    → Goes command xs ws total → command_begins ws ≡ true → command ws ≡ None → total ≡ None
 stops {command} {xs} {ws} {total} g none found =
     let enough : length ws < g.turns = g.enough in
     let n : ℕ = g.turns - 1 in
     let is_suc : suc n ≡ g.turns = omega arith in
     sym g.same ∙ ap (λ (k : ℕ). with_front xs (commands_from command k ws)) (sym is_suc) ∙ ap (with_front xs) (none_is command n ws none found)
 
-pub ends : {command : Reader CommandView} {xs : List CommandView} {ws rest : List Lexeme} {total : Option (CommandsView × List Lexeme)}
-    → Goes command xs ws total → symbol symbols.RightBrace ws ≡ Some rest → total ≡ Some (commands_of xs, rest)
-ends {command} {xs} {ws} {rest} {total} g found =
+pub ends : {command : Reader CommandView} {xs : List CommandView} {ws : List Lexeme} {total : Option (CommandsView × List Lexeme)}
+    → Goes command xs ws total → command_begins ws ≡ false → total ≡ Some (commands_of xs, ws)
+ends {command} {xs} {ws} {total} g found =
     let enough : length ws < g.turns = g.enough in
     let n : ℕ = g.turns - 1 in
     let is_suc : suc n ≡ g.turns = omega arith in
-    sym g.same ∙ ap (λ (k : ℕ). with_front xs (commands_from command k ws)) (sym is_suc) ∙ ap (with_front xs) (end_is command n ws rest found)
-    ∙ ap (λ (all : CommandsView). Some (all, rest)) (all_of xs)
+    sym g.same ∙ ap (λ (k : ℕ). with_front xs (commands_from command k ws)) (sym is_suc) ∙ ap (with_front xs) (end_is command n ws found)
+    ∙ ap (λ (all : CommandsView). Some (all, ws)) (all_of xs)

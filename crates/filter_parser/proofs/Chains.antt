@@ -11,7 +11,7 @@ use Rattle.filter_parser.specs.Reading.{chain_from, chain_with, comparison_with,
 use Rattle.filter_parser.specs.declared.fault.ParseFault.{ParseFault}
 use Rattle.filter_parser.specs.declared.input.Input.{Input}
 use Rattle.filter_parser.specs.Readers.{Reader, with_some, symbol}
-use Rattle.filter_parser.specs.Reading.{a_set_pattern, adds_set_pattern, joins, an_operator, suffix_of, suffixes}
+use Rattle.filter_parser.specs.Reading.{a_set_pattern, adds_set_pattern, set_after_first, set_patterns_from, joins, an_operator, suffix_of, suffixes}
 use Rattle.prefix_patterns.specs.Reading.{◌>>=◌}
 use Rattle.filter_parser.specs.Steps.{ReadsAs}
 use Rattle.filter_parser.specs.Syntax.{SetPatternView, ExprView, view, view_more}
@@ -59,6 +59,13 @@ set_pattern_ends {xs = xs} {ws = ws} {answer = answer} comma g = ends adds_set_p
 pub set_pattern_stops : {xs : List SetPatternView} {ws rest : List Lexeme} {answer : Option (List SetPatternView × List Lexeme)} →
     symbol symbols.Comma ws ≡ Some rest → a_set_pattern rest ≡ None → Goes adds_set_pattern xs ws answer → answer ≡ None
 set_pattern_stops {xs = xs} {ws = ws} {answer = answer} comma none g = refuses adds_set_pattern xs ws answer refl (rw comma (rw none refl)) g
+
+-- no bracket follows the patterns of a set
+pub set_after_none : (first : SetPatternView) (xs : List SetPatternView) {ys : List SetPatternView} (ws : List Lexeme) {rest : List Lexeme} → xs ≡ first ∷ [] →
+    set_patterns_from xs ws ≡ Some (ys, rest) → symbol symbols.RightBracket rest ≡ None → set_after_first first ws ≡ None
+set_after_none first xs {ys} ws {rest} same read none =
+    let of_one : set_patterns_from (first ∷ []) ws ≡ Some (ys, rest) = rw same at read in
+    rw (of_one, none) refl
 
 -- one more operator and operand were read
 pub chain_on : (next : Reader ExprView) (level : Level) {x y : ExprView} {op : Op} {ws rest after : List Lexeme}

@@ -14,9 +14,9 @@ use Rattle.filter_parser.specs.Readers.{given, Reader, with_some, symbol}
 use Rattle.filter_parser.specs.Reading.{an_operator, set_of, sum_with, membership_of, set_opening, member_of, right_operand_with}
 use Rattle.filter_parser.specs.Reading.{comparison_with}
 use Rattle.prefix_patterns.specs.Reading.{◌>>=◌}
-use Rattle.filter_parser.specs.Syntax.{SetPatternView, ExprView, Fits, FitsSet, membership_symbol, rank, rank_of, op_symbol, spelling, spelling_set_pattern}
-use Rattle.filter_parser.specs.Syntax.{spelling_set_patterns, spelling_set, spelling_suffix}
-use Rattle.filter_parser.proofs.CompleteWords.{set_back}
+use Rattle.filter_parser.specs.Syntax.{SetView, ExprView, Fits, FitsSet, membership_symbol, rank, rank_of, op_symbol, spelling, spelling_set_pattern}
+use Rattle.filter_parser.specs.Syntax.{spelling_ranges, spelling_set_patterns, spelling_set, spelling_suffix}
+use Rattle.filter_parser.proofs.CompleteWords.{range_set_back, set_back}
 use Rattle.filter_parser.proofs.Operators.{op_read}
 use Rattle.filter_parser.proofs.Stops.{Stops, binds_op_symbol, op_stops, stops_less}
 use Rattle.filter_parser.proofs.CompleteOperands.{IsComplete}
@@ -64,10 +64,13 @@ right_back depth sum s op a b rest f low stops =
     ∙ ap (λ r. r >>= λ right. Some (ExprView.binary op a right.0, right.1)) (s.complete b rest f low stops)
 
 -- the set of a comparison
-set_found : (xs : List SetPatternView) (rest : List Lexeme) → FitsSet xs →
+set_found : (xs : SetView) (rest : List Lexeme) → FitsSet xs →
     (ws : List Lexeme) × (spelling_set xs ++ rest ≡ Lexeme.symbol symbols.LeftBracket ∷ ws) × (set_of ws ≡ Some (xs, rest))
-set_found [] rest f = absurd f
-set_found (x ∷ more) rest f = ((spelling_set_pattern x ++ spelling_set_patterns more) ++ rest, refl, set_back x more rest f.0 f.1)
+set_found (SetView.of_patterns []) rest f = absurd f
+set_found (SetView.of_ranges []) rest f = absurd f
+set_found (SetView.of_ranges (x ∷ more)) rest f =
+    ((spelling_ranges (x ∷ more) ++ Lexeme.symbol symbols.RightBracket ∷ []) ++ rest, refl, range_set_back x more rest f.0 f.1)
+set_found (SetView.of_patterns (x ∷ more)) rest f = ((spelling_set_pattern x ++ spelling_set_patterns more) ++ rest, refl, set_back x more rest f.0 f.1)
 
 op_of_member : Membership → Op
 op_of_member membership.In = o.Match
@@ -84,7 +87,7 @@ unfolding op_of_member
 member_bracket membership.In ws = refl
 member_bracket membership.NotIn ws = refl
 
-member_back : (sum : Reader ExprView) (k : Membership) (a : ExprView) (xs : List SetPatternView) (rest : List Lexeme) → FitsSet xs →
+member_back : (sum : Reader ExprView) (k : Membership) (a : ExprView) (xs : SetView) (rest : List Lexeme) → FitsSet xs →
     right_operand_with sum a (op_of_member k) (spelling_set xs ++ rest) ≡ Some (ExprView.member k a xs, rest)
 member_back sum k a xs rest f =
     let s = set_found xs rest f in
@@ -120,7 +123,7 @@ comparison_binary depth unary s op a b rest f e stops =
     ∙ right_back depth (sum_with unary) sum op a b rest f.2 (r.right (rank a) (rank b) f.0) (stops_less 3 4 rest (omega arith) stops)))
 
 comparison_member : (depth : ℕ) (unary : Reader ExprView) → IsComplete depth 1 unary →
-    (k : Membership) (a : ExprView) (xs : List SetPatternView) (rest : List Lexeme) →
+    (k : Membership) (a : ExprView) (xs : SetView) (rest : List Lexeme) →
     Fits (ExprView.member k a xs) depth → comparison_with unary (spelling (ExprView.member k a xs) ++ rest) ≡ Some (ExprView.member k a xs, rest)
 comparison_member depth unary s k a xs rest f =
     let ws : List Lexeme = spelling_set xs ++ rest in

@@ -7,7 +7,7 @@ use Rattle.filter_tokens.specs.declared.symbol.Symbol.{Symbol}
 use Rattle.filter_tokens.specs.declared.symbol.Symbol.TheVariants as symbols
 use Rattle.filter_parser.specs.declared.tree.decl.Kind.{Kind}
 use Rattle.filter_parser.specs.declared.tree.decl.Kind.TheVariants as kind
-use Rattle.filter_parser.specs.ReadingCommands.{PartsView, command_at, commands_with, decl_turn, decl_with, decls_after, filter_of, a_kind}
+use Rattle.filter_parser.specs.ReadingCommands.{SaidView, command_at, commands_with, decl_turn, decl_with, decls_after, filter_of, a_kind}
 use Rattle.filter_parser.specs.Readers.{a_name, turns, symbol}
 use Rattle.filter_parser.specs.ReadingCommands.{kind_of, nothing_after}
 use Rattle.filter_parser.specs.Reading.{expr_at}
@@ -15,7 +15,7 @@ use Rattle.filter_parser.specs.Syntax.{nesting_limit}
 use Rattle.filter_parser.specs.SyntaxCommands.{TargetView, CommandView, CommandsView, DeclView, FitsCommands, kind_symbol, spelling_command, spelling_commands}
 use Rattle.filter_parser.specs.SyntaxCommands.{spelling_decl, spelling_decls}
 use Rattle.filter_parser.specs.SyntaxText.{spelling_filter}
-use Rattle.filter_parser.proofs.CommandsComplete.{AreComplete, command_complete, commands_with_complete}
+use Rattle.filter_parser.proofs.CommandsComplete.{AreComplete, brace_ends, command_complete, commands_with_complete}
 use Rattle.filter_parser.proofs.CommandsSound.{AreSound, command_sound, commands_with_sound}
 use Rattle.filter_parser.proofs.Complete.{expr_complete}
 use Rattle.filter_parser.proofs.CompleteOperands.{rank_most}
@@ -29,6 +29,7 @@ exprs_complete : (depth : ℕ) → AreComplete depth (expr_at depth)
 exprs_complete depth = record {
   before_end = λ t rest fits. (expr_complete depth).complete t (Lexeme.symbol symbols.Semicolon ∷ rest) fits (rank_most t) (omega arith);
   before_then = λ t rest fits. (expr_complete depth).complete t (Lexeme.symbol symbols.Then ∷ rest) fits (rank_most t) (omega arith);
+  before_brace = λ t rest fits. (expr_complete depth).complete t (Lexeme.symbol symbols.LeftBrace ∷ rest) fits (rank_most t) (omega arith);
 }
 
 -- ---- declarations
@@ -150,6 +151,7 @@ no_kind CommandView.empty rest = refl
 no_kind (CommandView.block body) rest = refl
 no_kind (CommandView.if_then test chosen) rest = refl
 no_kind (CommandView.if_else test chosen other) rest = refl
+no_kind (CommandView.case argument parts) rest = refl
 no_kind (CommandView.assign (TargetView.to_name text) value) rest = refl
 no_kind (CommandView.assign TargetView.to_metric value) rest = refl
 no_kind (CommandView.assign TargetView.to_net value) rest = refl
@@ -167,7 +169,7 @@ whole_found x [] y e = (refl, some_is e)
 whole_found x (w ∷ ws) y e = absurd (cc)
 
 -- what was read of a filter: it is spelled so, and fits
-pub record FoundFilter (ws : List Lexeme) (x : PartsView) : Type 0 where
+pub record FoundFilter (ws : List Lexeme) (x : SaidView) : Type 0 where
   pub head : List DeclView
   pub inner : List DeclView
   pub declared : x.decls ≡ head ++ inner
@@ -179,7 +181,7 @@ filter_joined : (ws a b c d e : List Lexeme) (f g h k n : Lexeme) (front inner b
     → ws ≡ f ∷ n ∷ (front ++ g ∷ (inner ++ (body ++ k ∷ [])))
 filter_joined ws a b c d e f g h k n front inner body e1 e2 e3 e4 e5 e6 = rw (e1, e2, e3, e4, e5, e6) refl
 
-pub filter_sound : (ws : List Lexeme) (x : PartsView) → filter_of ws ≡ Some x → FoundFilter ws x
+pub filter_sound : (ws : List Lexeme) (x : SaidView) → filter_of ws ≡ Some x → FoundFilter ws x
 filter_sound ws x e =
     let (a, e1, f1) = bind_some (symbol symbols.Filter ws) _ x e in
     let (name, e2, f2) = bind_some (a_name a) _ x f1 in
@@ -187,7 +189,8 @@ filter_sound ws x e =
     let (d, e4, f4) = bind_some (symbol symbols.LeftBrace head.1) _ x f3 in
     let (all, e5, f5) = bind_some (decls_after head.0 d) _ x f4 in
     let (body, e6, f6) = bind_some (commands_with (command_at nesting_limit) all.1) _ x f5 in
-    let (nothing, is) = whole_found _ body.1 x f6 in
+    let (last, e7, f7) = bind_some (symbol symbols.RightBrace body.1) _ x f6 in
+    let (nothing, is) = whole_found _ last x f7 in
     let front = decls_found [] name.1 head e3 in
     let inner = decls_found head.0 d all e5 in
     let commands = commands_with_sound nesting_limit (command_at nesting_limit) (command_sound exprs_sound nesting_limit) all.1 body e6 in
@@ -200,6 +203,7 @@ filter_sound ws x e =
           (spelling_decls front.more) (spelling_decls inner.more) (spelling_commands body.0) (symbol_found symbols.Filter ws a e1)
           (name_found a name e2) front.spelled
           (symbol_found symbols.LeftBrace head.1 d e4) inner.spelled (commands.spelled
+          ∙ ap (λ (rest : List Lexeme). spelling_commands body.0 ++ rest) (symbol_found symbols.RightBrace body.1 last e7)
           ∙ ap (λ (rest : List Lexeme). spelling_commands body.0 ++ Lexeme.symbol symbols.RightBrace ∷ rest) nothing);
       fits = commands.fits;
     } in
@@ -211,5 +215,6 @@ filter_complete name head inner body fits =
     rw (
       decls_again head [] (Lexeme.symbol symbols.LeftBrace ∷ (spelling_decls inner ++ (spelling_commands body ++ Lexeme.symbol symbols.RightBrace ∷ []))) refl,
       decls_again inner head (spelling_commands body ++ Lexeme.symbol symbols.RightBrace ∷ []) (no_kind_commands body []),
-      commands_with_complete nesting_limit (command_at nesting_limit) (command_complete exprs_complete nesting_limit) body [] fits,
+      commands_with_complete nesting_limit (command_at nesting_limit) (command_complete exprs_complete nesting_limit) body (Lexeme.symbol symbols.RightBrace ∷ []) fits
+          (brace_ends []),
     ) refl

@@ -5,8 +5,15 @@ pub assign_joined : {A : Type 0} (w k s : A) (ws v t l rest : List A) → ws ≡
     → w ∷ ws ≡ (w ∷ k ∷ (t ++ s ∷ [])) ++ rest
 assign_joined w k s ws v t l rest a b c = rw (a, b, c) (simp append_assoc)
 
-pub commands_joined : {A : Type 0} (k : A) (ws a r b s : List A) → ws ≡ a ++ r → r ≡ b ++ k ∷ s → ws ≡ (a ++ b) ++ k ∷ s
-commands_joined k ws a r b s e f = rw (e, f) (simp append_assoc)
+pub both_joined : {A : Type 0} (ws a r b s : List A) → ws ≡ a ++ r → r ≡ b ++ s → ws ≡ (a ++ b) ++ s
+both_joined ws a r b s e f = rw (e, f) (simp append_assoc)
+
+pub part_joined : {A : Type 0} (k : A) (ws a r b s d t : List A) → ws ≡ a ++ k ∷ r → r ≡ b ++ s → s ≡ d ++ t → ws ≡ (a ++ k ∷ (b ++ d)) ++ t
+part_joined k ws a r b s d t e f g = rw (e, f, g) (simp append_assoc)
+
+pub case_joined : {A : Type 0} (w k n : A) (ws t l b p r s : List A) → ws ≡ t ++ l → l ≡ k ∷ b → b ≡ p ++ r → r ≡ n ∷ s
+    → w ∷ ws ≡ (w ∷ (t ++ k ∷ (p ++ n ∷ []))) ++ s
+case_joined w k n ws t l b p r s e f g h = rw (e, f, g, h) (simp append_assoc)
 
 pub block_joined : {A : Type 0} (w k : A) (ws b s : List A) → ws ≡ b ++ k ∷ s → w ∷ ws ≡ (w ∷ (b ++ k ∷ [])) ++ s
 block_joined w k ws b s e = rw e (simp append_assoc)

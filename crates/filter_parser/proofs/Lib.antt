@@ -1,4 +1,5 @@
 pub mod Bodies
+pub mod CaseParts
 pub mod Chains
 pub mod CommandsComplete
 pub mod CommandsSound
@@ -12,6 +13,7 @@ pub mod FilterLaws
 pub mod Joined
 pub mod Operators
 pub mod Placing
+pub mod Ranges
 pub mod Rows
 pub mod Sound
 pub mod SoundSets

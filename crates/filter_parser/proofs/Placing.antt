@@ -11,16 +11,18 @@ use Rattle.filter_parser.specs.declared.tree.command.Command.{Command}
 use Rattle.filter_parser.specs.declared.tree.command.Command.TheFolds.{fold-roll-Command}
 use Rattle.filter_parser.specs.declared.tree.command.Command.TheOpen.{Command-F}
 use Rattle.filter_parser.specs.declared.tree.command.Command.TheVariants as command
+use Rattle.filter_parser.specs.declared.tree.command.Label.{Label}
 use Rattle.filter_parser.specs.declared.tree.command.Target.{Target}
 use Rattle.filter_parser.specs.declared.tree.op.Op.{Op}
 use Rattle.filter_parser.specs.declared.tree.set.SetPattern.{SetPattern}
+use Rattle.filter_parser.specs.declared.tree.set.SetRange.{SetRange}
 use Rattle.filter_parser.specs.declared.tree.expr.Attribute.{Attribute}
 use Rattle.filter_parser.specs.declared.tree.expr.Expr.{Expr}
 use Rattle.filter_parser.specs.declared.tree.expr.Expr.TheFolds.{fold-roll-Expr}
 use Rattle.filter_parser.specs.declared.tree.expr.Expr.TheOpen.{Expr-F}
 use Rattle.filter_parser.specs.declared.tree.expr.Expr.TheVariants as e
 use Rattle.filter_parser.specs.declared.tree.decl.Decl.{Decl}
-use Rattle.filter_parser.specs.Placed.{ArePlaced, decl_kept, Kept, AreAt, joined, operand_kept, kept_more, next_pattern_kept, set_pattern_kept, set_patterns_kept, expr_kept, expr_kept_step, command_kept, command_kept_step, end_kept}
+use Rattle.filter_parser.specs.Placed.{ArePlaced, decl_kept, Kept, AreAt, joined, operand_kept, kept_more, next_pattern_kept, set_pattern_kept, set_patterns_kept, next_range_kept, part_kept, part_kept_step, range_kept, ranges_kept, expr_kept, expr_kept_step, command_kept, command_kept_step, end_kept}
 use Rattle.filter_parser.specs.Readers.{symbol}
 use Rattle.filter_parser.specs.Steps.{Spans, Grown, remaining}
 use Rattle.filter_parser.proofs.Steps.{symbol_found}
@@ -111,6 +113,18 @@ kept_defined at a = ap expr_kept (sym (e.rolls-Defined at a)) ∙ fold-roll-Expr
 pub kept_block : (at : ℕ) (body : Vec Command Global) → command_kept (command.Block at body) ≡ Some at ∷ (joined (map command_kept body.items) ++ None ∷ [])
 kept_block at body = ap command_kept (sym (command.rolls-Block at body)) ∙ fold-roll-Command Kept command_kept_step (Command-F.Block at body)
 
+parts_folded : (f : Label × Vec Command Global → Label × Vec Kept Global)
+    → ((p : Label × Vec Command Global) → part_kept_step (f p) ≡ part_kept p) → (parts : List (Label × Vec Command Global))
+    → joined (map part_kept_step (map f parts)) ≡ joined (map part_kept parts)
+parts_folded f same [] = refl
+parts_folded f same (p ∷ parts) = rw (same p, parts_folded f same parts) refl
+
+pub kept_case : (at : ℕ) (argument : Expr) (parts : Vec (Label × Vec Command Global) Global) → command_kept (command.Case at argument parts)
+    ≡ Some at ∷ (expr_kept argument ++ None ∷ (joined (map part_kept parts.items) ++ None ∷ []))
+kept_case at argument parts =
+    ap command_kept (sym (command.rolls-Case at argument parts)) ∙ fold-roll-Command Kept command_kept_step (Command-F.Case at argument parts)
+    ∙ ap (λ (k : Kept). Some at ∷ (expr_kept argument ++ None ∷ (k ++ None ∷ []))) (parts_folded _ (λ p. refl) parts.items)
+
 pub kept_assign : (at : ℕ) (target : Target) (value : Expr) → command_kept (command.Assign at target value)
     ≡ Some at ∷ None ∷ (expr_kept value ++ None ∷ [])
 kept_assign at target value =
@@ -139,6 +153,13 @@ pub set_grown : (at : ℕ) (first : SetPattern) (old all : List SetPattern) {x y
 set_grown at first old all e g last front =
     let is : all ≡ first ∷ g.more = g.whole ∙ ap (λ (xs : List SetPattern). xs ++ g.more) e in
     spans_as (ap (λ (xs : List SetPattern). Some at ∷ (set_patterns_kept xs ++ None ∷ [])) is) (spans_both (spans_both front g.spans) (unkept last))
+
+-- ranges, after the first
+pub ranges_grown : (first : SetRange) (old all : List SetRange) {x y start : Input} → old ≡ first ∷ [] → Grown next_range_kept old all x y
+    → Spans (range_kept first) start x → Spans (ranges_kept all) start y
+ranges_grown first old all e g front =
+    let is : all ≡ first ∷ g.more = g.whole ∙ ap (λ (xs : List SetRange). xs ++ g.more) e in
+    spans_as (ap ranges_kept is) (spans_both front g.spans)
 
 -- the brace before the body
 pub record IsBrace (text : List ℕ) (tokens more : List Token) : Type 0 where

@@ -4,12 +4,13 @@ use Rattle.std.proofs.Common.{append-nil, arith}
 use Rattle.filter_tokens.specs.Lexemes.{Lexeme}
 use Rattle.filter_tokens.specs.declared.symbol.Symbol.{Symbol}
 use Rattle.filter_tokens.specs.declared.symbol.Symbol.TheVariants as symbols
-use Rattle.filter_parser.specs.Readers.{turns, symbol}
-use Rattle.filter_parser.specs.Reading.{an_attribute, a_set_pattern, adds_set_pattern, set_patterns_from, set_after_first, set_of, defined_of, keyword_of}
+use Rattle.filter_parser.specs.Readers.{turns, symbol, a_number}
+use Rattle.filter_parser.specs.Reading.{an_attribute, a_set_pattern, adds_set_pattern, set_patterns_from, set_after_first, pattern_set_of, ranges_from, range_set_from, set_of, defined_of, keyword_of}
 use Rattle.filter_parser.specs.Reading.{single_of, a_single, atom_of}
-use Rattle.filter_parser.specs.Syntax.{SetPatternView, ExprView, Fits, FitsSetPattern, FitsSetPatterns, FitsSet, attribute_symbol, rank, spelling, spelling_set_pattern}
-use Rattle.filter_parser.specs.Syntax.{spelling_set_patterns, spelling_set}
-use Rattle.filter_parser.proofs.SoundWords.{an_attribute_found, set_pattern_sound}
+use Rattle.filter_parser.specs.Syntax.{SetPatternView, SetView, ExprView, Fits, FitsSetPattern, FitsSetPatterns, FitsSet, attribute_symbol, rank, spelling, spelling_set_pattern}
+use Rattle.filter_parser.specs.Syntax.{spelling_ranges, spelling_set_patterns, spelling_set}
+use Rattle.filter_parser.proofs.Ranges.{ranges_sound}
+use Rattle.filter_parser.proofs.SoundWords.{an_attribute_found, number_found, set_pattern_sound}
 use Rattle.filter_parser.proofs.Steps.{bind_some, symbol_found, some_is, with_some_cases}
 
 -- more patterns after some, up to where no comma follows
@@ -57,42 +58,61 @@ set_patterns_sound (suc n) xs ws y e =
           }
     ]
 
--- a set after its first pattern
-record IsBehind (first : SetPatternView) (ws : List Lexeme) (x : List SetPatternView × List Lexeme) : Type 0 where
+-- a set of prefixes after its first pattern
+record IsBehind (first : SetPatternView) (ws : List Lexeme) (x : SetView × List Lexeme) : Type 0 where
   more : List SetPatternView
-  all : x.0 ≡ first ∷ more
+  all : x.0 ≡ SetView.of_patterns (first ∷ more)
   fits : FitsSetPatterns more
   spelled : ws ≡ spelling_set_patterns more ++ x.1
 
-after_sound : (first : SetPatternView) (ws : List Lexeme) (x : List SetPatternView × List Lexeme) → set_after_first first ws ≡ Some x → IsBehind first ws x
+after_sound : (first : SetPatternView) (ws : List Lexeme) (x : SetView × List Lexeme) → set_after_first first ws ≡ Some x → IsBehind first ws x
 after_sound first ws x e =
     let (y, e1, e2) = bind_some (set_patterns_from (first ∷ []) ws) _ x e in
     let (rest, e3, e4) = bind_some (symbol symbols.RightBracket y.1) _ x e2 in
     let g = set_patterns_sound _ (first ∷ []) ws y e1 in
-    let Q : (List SetPatternView × List Lexeme) → Type 0 = IsBehind first ws in
+    let Q : (SetView × List Lexeme) → Type 0 = IsBehind first ws in
     subst Q (some_is e4) (record {
       more = g.more;
-      all = g.all;
+      all = ap SetView.of_patterns g.all;
       fits = g.fits;
       spelled = g.spelled rest (symbol_found symbols.RightBracket y.1 rest e3);
     })
 
 -- a set after its bracket
-pub record IsSet (ws : List Lexeme) (x : List SetPatternView × List Lexeme) : Type 0 where
+pub record IsSet (ws : List Lexeme) (x : SetView × List Lexeme) : Type 0 where
   pub spelled : Lexeme.symbol symbols.LeftBracket ∷ ws ≡ spelling_set x.0 ++ x.1
   pub fits : FitsSet x.0
 
-pub set_sound : (ws : List Lexeme) (x : List SetPatternView × List Lexeme) → set_of ws ≡ Some x → IsSet ws x
-set_sound ws x e =
+pattern_set_sound : (ws : List Lexeme) (x : SetView × List Lexeme) → pattern_set_of ws ≡ Some x → IsSet ws x
+pattern_set_sound ws x e =
     let (first, e1, e2) = bind_some (a_set_pattern ws) _ x e in
     let a = set_pattern_sound ws first e1 in
     let b = after_sound first.0 first.1 x e2 in
-    let Q : List SetPatternView → Type 0 = λ xs. IsSet ws (xs, x.1) in
+    let Q : SetView → Type 0 = λ set. IsSet ws (set, x.1) in
     subst Q (sym b.all) (record {
       spelled = ap (λ v. Lexeme.symbol symbols.LeftBracket ∷ v) (a.spelled ∙ (ap (λ v. spelling_set_pattern first.0 ++ v) b.spelled
           ∙ sym (append_assoc (spelling_set_pattern first.0) (spelling_set_patterns b.more) x.1)));
       fits = (a.fits, b.fits);
     })
+
+range_set_sound : (low : ℕ) (ws : List Lexeme) (x : SetView × List Lexeme) → range_set_from low ws ≡ Some x → IsSet (Lexeme.number low ∷ ws) x
+range_set_sound low ws x e =
+    let (y, e1, e2) = bind_some (ranges_from low ws) _ x e in
+    let (rest, e3, e4) = bind_some (symbol symbols.RightBracket y.1) _ x e2 in
+    let g = ranges_sound low ws y e1 in
+    let Q : (SetView × List Lexeme) → Type 0 = IsSet (Lexeme.number low ∷ ws) in
+    subst Q (some_is e4) (record {
+      spelled = ap (λ v. Lexeme.symbol symbols.LeftBracket ∷ v) (g.spelled
+          ∙ (ap (λ v. spelling_ranges y.0 ++ v) (symbol_found symbols.RightBracket y.1 rest e3)
+          ∙ sym (append_assoc (spelling_ranges y.0) (Lexeme.symbol symbols.RightBracket ∷ []) rest)));
+      fits = g.fits;
+    })
+
+pub set_sound : (ws : List Lexeme) (x : SetView × List Lexeme) → set_of ws ≡ Some x → IsSet ws x
+set_sound ws x e = elim (with_some_cases (a_number ws) _ _ x e) [
+  | inl p ↦ pattern_set_sound ws x p.1
+  | inr p ↦ let Q : List Lexeme → Type 0 = λ v. IsSet v x in subst Q (sym (number_found ws p.0 p.1)) (range_set_sound p.0.0 p.0.1 x p.2)
+]
 
 -- an operand that no suffix follows yet
 pub record IsAtom (ws : List Lexeme) (x : ExprView × List Lexeme) : Type 0 where

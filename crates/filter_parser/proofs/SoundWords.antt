@@ -31,7 +31,7 @@ name_found wanted (Lexeme.address a ∷ ws) rest e = absurd (cc)
 name_found wanted (Lexeme.prefix bits ∷ ws) rest e = absurd (cc)
 name_found wanted (Lexeme.quote ∷ ws) rest e = absurd (cc)
 
-number_found : (ws : List Lexeme) (x : ℕ × List Lexeme) → a_number ws ≡ Some x → ws ≡ Lexeme.number x.0 ∷ x.1
+pub number_found : (ws : List Lexeme) (x : ℕ × List Lexeme) → a_number ws ≡ Some x → ws ≡ Lexeme.number x.0 ∷ x.1
 number_found [] x e = absurd (cc)
 number_found (Lexeme.number n ∷ ws) x e = let P : (ℕ × List Lexeme) → Type 0 = λ y. Lexeme.number n ∷ ws ≡ Lexeme.number y.0 ∷ y.1 in
     subst P (some_is e) refl

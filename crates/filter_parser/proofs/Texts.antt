@@ -4,21 +4,21 @@ use Rattle.filter_tokens.specs.Tokenization.{IsTokenization}
 use Rattle.filter_tokens.specs.Lexemes.{lexemes}
 use Rattle.filter_tokens.specs.declared.token.Token.{Token}
 use Rattle.filter_tokens.proofs.Tokenized.{tokenized_once}
-use Rattle.filter_parser.specs.ReadingCommands.{PartsView, filter_of}
+use Rattle.filter_parser.specs.ReadingCommands.{SaidView, filter_of}
 use Rattle.filter_parser.specs.SyntaxCommands.{DeclView}
 use Rattle.filter_parser.specs.SyntaxText.{IsText, FilterView, text_limit}
 use Rattle.filter_parser.proofs.FilterLaws.{filter_complete, filter_sound}
 use Rattle.filter_parser.proofs.Steps.{some_is}
 
 -- what a filter says without its tokens, and with tokens
-abbrev pub said : FilterView → PartsView
+abbrev pub said : FilterView → SaidView
 said t = record { name = t.name; decls = t.decls; body = t.body }
 
-abbrev pub program : PartsView → List Token → FilterView
+abbrev pub program : SaidView → List Token → FilterView
 program x tokens = record { name = x.name; decls = x.decls; body = x.body; tokens = tokens }
 
 -- what is read of the tokens that a text is cut into, the text spells
-pub text_found : (text : List ℕ) (tokens : List Token) (x : PartsView) → length text ≤ text_limit → IsTokenization tokens 0 text
+pub text_found : (text : List ℕ) (tokens : List Token) (x : SaidView) → length text ≤ text_limit → IsTokenization tokens 0 text
     → filter_of (lexemes text tokens) ≡ Some x
     → IsText text (program x tokens)
 text_found text tokens x size cut read =
@@ -39,15 +39,15 @@ pub text_only : (text : List ℕ) (tokens : List Token) (t : FilterView) → IsT
 text_only text tokens t is same =
     ap (λ (ts : List Token). filter_of (lexemes text ts)) same ∙ ap filter_of is.spelled
     ∙ filter_complete t.name is.head is.inner t.body is.fits
-    ∙ ap (λ (ds : List DeclView). let x : PartsView = record { name = t.name; decls = ds; body = t.body } in Some x) (sym is.declared)
+    ∙ ap (λ (ds : List DeclView). let x : SaidView = record { name = t.name; decls = ds; body = t.body } in Some x) (sym is.declared)
 
 -- a text spells one filter
-pub text_once : (text : List ℕ) (tokens : List Token) (x : PartsView) (t : FilterView) → filter_of (lexemes text tokens) ≡ Some x → IsText text t
+pub text_once : (text : List ℕ) (tokens : List Token) (x : SaidView) (t : FilterView) → filter_of (lexemes text tokens) ≡ Some x → IsText text t
     → tokens ≡ t.tokens
     → t ≡ program x tokens
 text_once text tokens x t read is same =
     let e : said t ≡ x = some_is (sym (text_only text tokens t is same) ∙ read) in
-    ap (λ (ts : List Token). program (said t) ts) (sym same) ∙ ap (λ (y : PartsView). program y tokens) e
+    ap (λ (ts : List Token). program (said t) ts) (sym same) ∙ ap (λ (y : SaidView). program y tokens) e
 
 -- no text spells two filters
 pub text_one : (text : List ℕ) (t u : FilterView) → IsText text t → IsText text u → t ≡ u

@@ -6,6 +6,7 @@ use Rattle.filter_parser.specs.declared.tree.command.Command.{Command}
 use Rattle.filter_parser.specs.declared.tree.command.Command.TheFolds.{fold-roll-Command}
 use Rattle.filter_parser.specs.declared.tree.command.Command.TheOpen.{Command-F}
 use Rattle.filter_parser.specs.declared.tree.command.Command.TheVariants as command
+use Rattle.filter_parser.specs.declared.tree.command.Label.{Label}
 use Rattle.filter_parser.specs.declared.tree.command.Target.{Target}
 use Rattle.filter_parser.specs.declared.tree.expr.Attribute.{Attribute}
 use Rattle.filter_parser.specs.declared.tree.expr.Expr.{Expr}
@@ -16,8 +17,8 @@ use Rattle.filter_parser.specs.declared.tree.op.Membership.{Membership}
 use Rattle.filter_parser.specs.declared.tree.op.Op.{Op}
 use Rattle.filter_parser.specs.declared.tree.op.Suffix.{Suffix}
 use Rattle.filter_parser.specs.declared.tree.set.Set.{Set}
-use Rattle.filter_parser.specs.Syntax.{ExprView, chain_of, suffixes_of, view, view_expr_step, view_set_pattern, view_more}
-use Rattle.filter_parser.specs.SyntaxCommands.{CommandView, commands_of, view_command, view_step, view_target}
+use Rattle.filter_parser.specs.Syntax.{ExprView, chain_of, suffixes_of, view, view_expr_step, view_members, view_more}
+use Rattle.filter_parser.specs.SyntaxCommands.{CommandView, CommandsView, LabelView, commands_of, parts_of, view_command, view_part, view_part_step, view_step, view_target}
 
 -- a chain with one more operator after it
 pub chain_more : (left : ExprView) (xs : List (ℕ × Op × ExprView)) (at : ℕ) (op : Op) (right : ExprView) →
@@ -43,7 +44,7 @@ pub view_chain : (first : Box Expr Global) (more : Vec (ℕ × Op × Expr) Globa
 view_chain first more = ap view (sym (e.rolls-Chain first more)) ∙ fold-roll-Expr ExprView view_expr_step (Expr-F.Chain first more)
 
 pub view_member : (op : Membership) (left : Box Expr Global) (set : Set) →
-    view (e.Member op left set) ≡ ExprView.member op (view left.value) (map view_set_pattern set.patterns.items)
+    view (e.Member op left set) ≡ ExprView.member op (view left.value) (view_members set.members)
 view_member op left set = ap view (sym (e.rolls-Member op left set)) ∙ fold-roll-Expr ExprView view_expr_step (Expr-F.Member op left set)
 
 pub view_suffixed : (inner : Box Expr Global) (suffixes : Vec Suffix Global) →
@@ -67,6 +68,19 @@ pub view_if_else : (at : ℕ) (test : Expr) (chosen other : Box Command Global) 
 view_if_else at test chosen other =
     ap view_command (sym (command.rolls-If at test chosen (Some other)))
     ∙ fold-roll-Command CommandView view_step (Command-F.If at test chosen (Some other))
+
+-- the parts of a `case`
+parts_folded : (f : Label × Vec Command Global → Label × Vec CommandView Global)
+    → ((p : Label × Vec Command Global) → view_part_step (f p) ≡ view_part p) → (parts : List (Label × Vec Command Global))
+    → map view_part_step (map f parts) ≡ map view_part parts
+parts_folded f same [] = refl
+parts_folded f same (p ∷ parts) = rw (same p, parts_folded f same parts) refl
+
+pub view_case : (at : ℕ) (argument : Expr) (parts : Vec (Label × Vec Command Global) Global) →
+    view_command (command.Case at argument parts) ≡ CommandView.case (view argument) (parts_of (map view_part parts.items))
+view_case at argument parts =
+    ap view_command (sym (command.rolls-Case at argument parts)) ∙ fold-roll-Command CommandView view_step (Command-F.Case at argument parts)
+    ∙ ap (λ (xs : List (LabelView × CommandsView)). CommandView.case (view argument) (parts_of xs)) (parts_folded _ (λ p. refl) parts.items)
 
 pub view_defined : (at : ℕ) (a : Attribute) → view (e.Defined at a) ≡ ExprView.defined a
 view_defined at a = ap view (sym (e.rolls-Defined at a)) ∙ fold-roll-Expr ExprView view_expr_step (Expr-F.Defined at a)

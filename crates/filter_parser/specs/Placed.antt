@@ -1,12 +1,15 @@
 -- Where the parts of a tree are in the text: each part that keeps a place keeps the place of its own token. (This project's
 -- own choice.)
-use Rattle.std.specs.Prelude.{◌≡◌, ℕ, Bool, true, false, Option, Some, None, List, [], ◌∷◌, ◌++◌, map}
+use Rattle.std.specs.Prelude.{◌≡◌, ℕ, Bool, true, false, Option, Some, None, List, [], ◌∷◌, ◌++◌, map, Vec}
+use Rattle.std.specs.declared.alloc.Global.{Global}
 use Rattle.filter_tokens.specs.Lexemes.{Lexeme, lexeme}
 use Rattle.filter_tokens.specs.declared.symbol.Symbol.TheVariants as symbols
 use Rattle.filter_tokens.specs.declared.token.Token.{Token}
 use Rattle.filter_parser.specs.declared.tree.command.Command.{Command}
 use Rattle.filter_parser.specs.declared.tree.command.Command.TheFolds.{fold-Command}
 use Rattle.filter_parser.specs.declared.tree.command.Command.TheOpen.{Command-F}
+use Rattle.filter_parser.specs.declared.tree.command.Label.{Label}
+use Rattle.filter_parser.specs.declared.tree.command.Label.TheVariants as label
 use Rattle.filter_parser.specs.declared.tree.decl.Decl.{Decl}
 use Rattle.filter_parser.specs.declared.tree.expr.Expr.{Expr}
 use Rattle.filter_parser.specs.declared.tree.expr.Expr.TheFolds.{fold-Expr}
@@ -15,9 +18,13 @@ use Rattle.filter_parser.specs.declared.tree.filter.Filter.{Filter}
 use Rattle.filter_parser.specs.declared.tree.op.Op.{Op}
 use Rattle.filter_parser.specs.declared.tree.op.Suffix.{Suffix}
 use Rattle.filter_parser.specs.declared.tree.op.Suffix.TheVariants as suffix
+use Rattle.filter_parser.specs.declared.tree.set.Members.{Members}
+use Rattle.filter_parser.specs.declared.tree.set.Members.TheVariants as members
 use Rattle.filter_parser.specs.declared.tree.set.Set.{Set}
 use Rattle.filter_parser.specs.declared.tree.set.SetPattern.{SetPattern}
 use Rattle.filter_parser.specs.declared.tree.set.SetPattern.TheVariants as written
+use Rattle.filter_parser.specs.declared.tree.set.SetRange.{SetRange}
+use Rattle.filter_parser.specs.declared.tree.set.SetRange.TheVariants as range
 
 -- for each token of a part, in the order of the text, the place that the tree keeps for it, if it keeps one
 abbrev pub Kept : Type 0
@@ -50,9 +57,28 @@ abbrev pub set_patterns_kept : List SetPattern → Kept
 set_patterns_kept [] = []
 set_patterns_kept (first ∷ more) = set_pattern_kept first ++ joined (map next_pattern_kept more)
 
+-- a range keeps the place of its first int
+abbrev pub range_kept : SetRange → Kept
+range_kept (range.One at n) = Some at ∷ []
+range_kept (range.FromTo at r) = Some at ∷ None ∷ None ∷ []
+
+-- a range after a comma
+abbrev pub next_range_kept : SetRange → Kept
+next_range_kept one = None ∷ range_kept one
+
+-- the ranges of a set or a label
+abbrev pub ranges_kept : List SetRange → Kept
+ranges_kept [] = []
+ranges_kept (first ∷ more) = range_kept first ++ joined (map next_range_kept more)
+
+-- the members of a set
+abbrev pub members_kept : Members → Kept
+members_kept (members.Patterns patterns) = set_patterns_kept patterns.items
+members_kept (members.Ranges ranges) = ranges_kept ranges.items
+
 -- a set keeps the place of its `[`
 abbrev pub set_kept : Set → Kept
-set_kept set = Some set.at ∷ (set_patterns_kept set.patterns.items ++ None ∷ [])
+set_kept set = Some set.at ∷ (members_kept set.members ++ None ∷ [])
 
 -- an operator keeps its place, and the operand at its right follows
 abbrev pub operand_kept : ℕ × Op × Kept → Kept
@@ -86,12 +112,23 @@ abbrev pub end_kept : Bool → Kept
 end_kept true = None ∷ None ∷ []
 end_kept false = None ∷ []
 
+-- a label keeps the places of its ranges, or that of its `else`
+abbrev pub label_kept : Label → Kept
+label_kept (label.Ranges ranges) = ranges_kept ranges.items
+label_kept (label.Else at) = Some at ∷ []
+
+-- a part of a `case`, where its commands are known
+abbrev pub part_kept_step : Label × Vec Kept Global → Kept
+part_kept_step part = label_kept part.0 ++ None ∷ joined part.1.items
+
 -- a command, where the commands in it are known: it keeps the place of its first token
 abbrev pub command_kept_step : Command-F Kept → Kept
 command_kept_step (Command-F.Empty at) = Some at ∷ []
 command_kept_step (Command-F.Block at body) = Some at ∷ (joined body.items ++ None ∷ [])
 command_kept_step (Command-F.If at test chosen None) = Some at ∷ (expr_kept test ++ None ∷ chosen.value)
 command_kept_step (Command-F.If at test chosen (Some other)) = Some at ∷ (expr_kept test ++ None ∷ (chosen.value ++ None ∷ other.value))
+command_kept_step (Command-F.Case at argument parts) =
+    Some at ∷ (expr_kept argument ++ None ∷ (joined (map part_kept_step parts.items) ++ None ∷ []))
 command_kept_step (Command-F.Assign at target value) = Some at ∷ None ∷ (expr_kept value ++ None ∷ [])
 command_kept_step (Command-F.Accept at has_text) = Some at ∷ end_kept has_text
 command_kept_step (Command-F.Reject at has_text) = Some at ∷ end_kept has_text
@@ -99,6 +136,10 @@ command_kept_step (Command-F.Reject at has_text) = Some at ∷ end_kept has_text
 -- a command
 abbrev pub command_kept : Command → Kept
 command_kept = fold-Command Kept command_kept_step
+
+-- a part of a `case`
+abbrev pub part_kept : Label × Vec Command Global → Kept
+part_kept part = label_kept part.0 ++ None ∷ joined (map command_kept part.1.items)
 
 -- a declaration keeps the place of its name
 abbrev pub decl_kept : Decl → Kept

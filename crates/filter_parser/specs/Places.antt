@@ -11,6 +11,8 @@ use Rattle.filter_parser.specs.declared.tree.expr.Expr.TheOpen.{Expr-F}
 use Rattle.filter_parser.specs.declared.tree.filter.Filter.{Filter}
 use Rattle.filter_parser.specs.declared.tree.set.SetPattern.{SetPattern}
 use Rattle.filter_parser.specs.declared.tree.set.SetPattern.TheVariants as written
+use Rattle.filter_parser.specs.declared.tree.set.SetRange.{SetRange}
+use Rattle.filter_parser.specs.declared.tree.set.SetRange.TheVariants as range
 
 -- the place of an expression, where those of the expressions in it are known
 abbrev pub expr_place_step : Expr-F ℕ → ℕ
@@ -36,6 +38,7 @@ abbrev pub command_place_step : Command-F ℕ → ℕ
 command_place_step (Command-F.Empty at) = at
 command_place_step (Command-F.Block at body) = at
 command_place_step (Command-F.If at test chosen other) = at
+command_place_step (Command-F.Case at argument parts) = at
 command_place_step (Command-F.Assign at target value) = at
 command_place_step (Command-F.Accept at has_text) = at
 command_place_step (Command-F.Reject at has_text) = at
@@ -50,6 +53,11 @@ pattern_place (written.Exact at bits) = at
 pattern_place (written.OrLonger at bits) = at
 pattern_place (written.OrShorter at bits) = at
 pattern_place (written.Between at pattern) = at
+
+-- the place of a range in a set or a label
+abbrev pub range_place : SetRange → ℕ
+range_place (range.One at n) = at
+range_place (range.FromTo at r) = at
 
 -- the declarations and the commands of a filter, with their places
 abbrev pub decls_of : Filter → List Decl

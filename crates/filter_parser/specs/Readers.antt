@@ -1,6 +1,6 @@
 -- Readers of lexemes, and how they are put together: each says what the first lexemes are, and leaves those after them. They
 -- follow the parser; nothing that is published cites them.
-use Rattle.std.specs.Prelude.{ℕ, zero, suc, Bool, false, List, [], ◌∷◌, Option, Some, None, nat_eq, if◌then◌else◌}
+use Rattle.std.specs.Prelude.{ℕ, zero, suc, Bool, true, false, List, [], ◌∷◌, Option, Some, None, nat_eq, if◌then◌else◌}
 use Rattle.std.specs.Cmp.Lexicographic.{pointwise}
 use denote.Enum.Bare.{sameb}
 use Rattle.prefix_patterns.specs.Reading.{◌>>=◌ as and_then}
@@ -47,6 +47,11 @@ infix 5 with◌then◌else◌
 abbrev pub with◌then◌else◌ : {A B : Type 0} → Reader A → (A → Reading B) → Reading B → Reading B
 with◌then◌else◌ first later other ws = with_some (first ws) (other ws) (λ x. later x.0 x.1)
 
+-- one way to go on where the lexemes begin so, and another one otherwise
+infix 5 when◌then◌else◌
+abbrev pub when◌then◌else◌ : {B : Type 0} → (List Lexeme → Bool) → Reading B → Reading B → Reading B
+when◌then◌else◌ begins later other ws = if begins ws then later ws else other ws
+
 -- this, with nothing more read
 abbrev pub done : {A : Type 0} → A → Reader A
 done x ws = Some (x, ws)
@@ -54,6 +59,11 @@ done x ws = Some (x, ws)
 -- this, if it is something, with nothing more read
 abbrev pub given : {A : Type 0} → Option A → Reader A
 given found ws = and_then found (λ x. Some (x, ws))
+
+-- whether there is something
+abbrev pub is_there : {A : Type 0} → Option A → Bool
+is_there None = false
+is_there (Some x) = true
 
 -- nothing
 abbrev pub refused : {A : Type 0} → Reader A

@@ -20,10 +20,11 @@ use Rattle.filter_parser.specs.declared.tree.op.Suffix.{Suffix}
 use Rattle.filter_parser.specs.declared.tree.op.Suffix.TheVariants as suffix
 use Rattle.filter_parser.specs.declared.tree.set.Set.{Set}
 use Rattle.filter_parser.specs.declared.tree.set.SetPattern.{SetPattern}
+use Rattle.filter_parser.specs.declared.tree.set.SetRange.{SetRange}
 use Rattle.filter_parser.specs.Readers.{Reader, Turn, ◌>>=◌, ◌>>◌, after◌then◌else◌, with◌then◌else◌, done, given, refused, again, stop}
 use Rattle.filter_parser.specs.Readers.{turns, symbol, word, a_number, a_prefix}
 use Rattle.filter_parser.specs.Steps.{remaining}
-use Rattle.filter_parser.specs.Syntax.{SetPatternView, ExprView, view, view_set_pattern}
+use Rattle.filter_parser.specs.Syntax.{SetPatternView, RangeView, SetView, ExprView, view, view_members, view_range, view_set_pattern}
 
 -- what the program read, as the reading functions answer it
 abbrev pub read_of : Expr × Input → ExprView × List Lexeme
@@ -37,9 +38,21 @@ set_pattern_read_of x = (view_set_pattern x.0, remaining x.1)
 abbrev pub set_patterns_read_of : Vec SetPattern Global × Input → List SetPatternView × List Lexeme
 set_patterns_read_of x = (map view_set_pattern x.0.items, remaining x.1)
 
--- the patterns of a set of the program
-abbrev pub set_view : Set → List SetPatternView
-set_view set = map view_set_pattern set.patterns.items
+-- a range that the program read
+abbrev pub range_read_of : SetRange × Input → RangeView × List Lexeme
+range_read_of x = (view_range x.0, remaining x.1)
+
+-- ranges that the program read
+abbrev pub ranges_read_of : Vec SetRange Global × Input → List RangeView × List Lexeme
+ranges_read_of x = (map view_range x.0.items, remaining x.1)
+
+-- a set of the program
+abbrev pub set_view : Set → SetView
+set_view set = view_members set.members
+
+-- a set that the program read
+abbrev pub set_read_of : Set × Input → SetView × List Lexeme
+set_read_of x = (set_view x.0, remaining x.1)
 
 -- the attribute that a keyword names
 abbrev pub attribute_of : Symbol → Option Attribute
@@ -165,18 +178,67 @@ adds_set_pattern xs =
 abbrev pub set_patterns_from : List SetPatternView → Reader (List SetPatternView)
 set_patterns_from xs ws = turns adds_set_pattern (length ws) xs ws
 
--- a set, after its first pattern
-abbrev pub set_after_first : SetPatternView → Reader (List SetPatternView)
+-- a set of prefixes, after its first pattern
+abbrev pub set_after_first : SetPatternView → Reader SetView
 set_after_first first = do
   xs ← set_patterns_from (first ∷ [])
   symbol symbols.RightBracket
-  done xs
+  done (SetView.of_patterns xs)
 
--- a set, after its `[`
-abbrev pub set_of : Reader (List SetPatternView)
-set_of = do
+-- a set of prefixes, after its `[`
+abbrev pub pattern_set_of : Reader SetView
+pattern_set_of = do
   first ← a_set_pattern
   set_after_first first
+
+-- the range from one int to another one, where these are in order
+abbrev pub from_to_of : ℕ → ℕ → Option RangeView
+from_to_of low high = if nat_le low high then Some (RangeView.from_to low high) else None
+
+-- a range, after its first int and `..`
+abbrev pub range_up_from : ℕ → Reader RangeView
+range_up_from low = do
+  high ← a_number
+  given (from_to_of low high)
+
+-- a range, after its first int
+abbrev pub range_from : ℕ → Reader RangeView
+range_from low = after symbol symbols.DotDot then range_up_from low else done (RangeView.one low)
+
+-- a range
+abbrev pub a_range : Reader RangeView
+a_range = do
+  low ← a_number
+  range_from low
+
+-- one more range
+abbrev pub adds_range : Turn (List RangeView)
+adds_range xs =
+    after symbol symbols.Comma then (do
+      x ← a_range
+      again (xs ++ (x ∷ [])))
+    else stop
+
+-- ranges, after the first
+abbrev pub more_ranges : List RangeView → Reader (List RangeView)
+more_ranges xs ws = turns adds_range (length ws) xs ws
+
+-- ranges, after the first int of the first one
+abbrev pub ranges_from : ℕ → Reader (List RangeView)
+ranges_from low = do
+  first ← range_from low
+  more_ranges (first ∷ [])
+
+-- a set of ints, after its first int
+abbrev pub range_set_from : ℕ → Reader SetView
+range_set_from low = do
+  xs ← ranges_from low
+  symbol symbols.RightBracket
+  done (SetView.of_ranges xs)
+
+-- a set, after its `[`
+abbrev pub set_of : Reader SetView
+set_of = with a_number then range_set_from else pattern_set_of
 
 -- what follows `defined`
 abbrev pub defined_of : Reader ExprView

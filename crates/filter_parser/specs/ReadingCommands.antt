@@ -1,6 +1,6 @@
 -- Reading commands, declarations and a filter from a list of lexemes: what is read first, and what is left. It follows the
 -- parser; nothing that is published cites it.
-use Rattle.std.specs.Prelude.{ℕ, zero, suc, Bool, true, false, List, [], ◌∷◌, ◌++◌, length, map, Option, Some, None, Vec}
+use Rattle.std.specs.Prelude.{ℕ, zero, suc, ◌&&◌, ◌||◌, Bool, true, false, List, [], ◌∷◌, ◌++◌, length, map, Option, Some, None, Vec}
 use Rattle.std.specs.declared.alloc.Global.{Global}
 use Rattle.filter_tokens.specs.Lexemes.{Lexeme, covered}
 use Rattle.filter_tokens.specs.declared.symbol.Symbol.{Symbol}
@@ -9,14 +9,16 @@ use Rattle.filter_tokens.specs.declared.token.Token.{Token}
 use Rattle.filter_parser.specs.declared.input.Input.{Input}
 use Rattle.filter_parser.specs.declared.parts.Parts.{Parts}
 use Rattle.filter_parser.specs.declared.tree.command.Command.{Command}
+use Rattle.filter_parser.specs.declared.tree.command.Label.{Label}
 use Rattle.filter_parser.specs.declared.tree.decl.Kind.{Kind}
 use Rattle.filter_parser.specs.declared.tree.decl.Kind.TheVariants as kind
-use Rattle.filter_parser.specs.Readers.{Reading, Reader, Turn, ◌>>=◌, ◌>>◌, after◌then◌else◌, with◌then◌else◌, done, given, refused}
-use Rattle.filter_parser.specs.Readers.{again, stop, turns, symbol, quote, a_name}
-use Rattle.filter_parser.specs.Reading.{expr_at}
+use Rattle.filter_parser.specs.Readers.{Reading, Reader, Skip, Turn, ◌>>=◌, ◌>>◌, after◌then◌else◌, with◌then◌else◌, when◌then◌else◌, done, given, is_there, refused}
+use Rattle.filter_parser.specs.Readers.{again, stop, turns, symbol, quote, a_name, a_number}
+use Rattle.filter_parser.specs.Reading.{expr_at, ranges_from}
 use Rattle.filter_parser.specs.Steps.{remaining}
 use Rattle.filter_parser.specs.Syntax.{ExprView, nesting_limit}
-use Rattle.filter_parser.specs.SyntaxCommands.{TargetView, CommandView, CommandsView, DeclView, commands_of, view_command, view_decl}
+use Rattle.filter_parser.specs.SyntaxCommands.{TargetView, CommandView, CommandsView, LabelView, PartsView, DeclView, commands_of, has_ranges, parts_of}
+use Rattle.filter_parser.specs.SyntaxCommands.{view_command, view_decl, view_label, view_part}
 
 -- a command that the program read, as the reading functions answer it
 abbrev pub command_read_of : Command × Input → CommandView × List Lexeme
@@ -25,6 +27,21 @@ command_read_of x = (view_command x.0, remaining x.1)
 -- commands of the program
 abbrev pub body_view : Vec Command Global → CommandsView
 body_view body = commands_of (map view_command body.items)
+
+-- a label that the program read
+abbrev pub label_read_of : Label × Input → LabelView × List Lexeme
+label_read_of x = (view_label x.0, remaining x.1)
+
+-- commands that the program read
+abbrev pub commands_read_of : Vec Command Global × Input → CommandsView × List Lexeme
+commands_read_of x = (body_view x.0, remaining x.1)
+
+-- parts of a `case` of the program
+abbrev pub parts_view : Vec (Label × Vec Command Global) Global → PartsView
+parts_view parts = parts_of (map view_part parts.items)
+
+abbrev pub parts_read_of : Vec (Label × Vec Command Global) Global × Input → PartsView × List Lexeme
+parts_read_of x = (parts_view x.0, remaining x.1)
 
 -- the text, if there is one, and the `;`
 abbrev pub end_of : Reader Bool
@@ -44,16 +61,39 @@ assign_with expr target = do
 abbrev pub target_of : List ℕ → Token → TargetView
 target_of text token = TargetView.to_name (covered text token)
 
--- commands up to a `}`, at most this many
+-- a command begins with this symbol
+abbrev pub symbol_begins : Symbol → Bool
+symbol_begins symbols.Semicolon = true
+symbol_begins symbols.LeftBrace = true
+symbol_begins symbols.If = true
+symbol_begins symbols.Case = true
+symbol_begins symbols.Accept = true
+symbol_begins symbols.Reject = true
+symbol_begins symbols.RipMetric = true
+symbol_begins symbols.Net = true
+symbol_begins _ = false
+
+-- a command begins here
+abbrev pub command_begins : List Lexeme → Bool
+command_begins [] = false
+command_begins (Lexeme.name text ∷ ws) = true
+command_begins (Lexeme.symbol k ∷ ws) = symbol_begins k
+command_begins (Lexeme.number n ∷ ws) = false
+command_begins (Lexeme.address a ∷ ws) = false
+command_begins (Lexeme.prefix bits ∷ ws) = false
+command_begins (Lexeme.quote ∷ ws) = false
+
+-- commands as long as one begins, at most this many
 abbrev pub commands_from : Reader CommandView → ℕ → Reader CommandsView
 commands_from command zero = refused
 commands_from command (suc n) =
-    after symbol symbols.RightBrace then done CommandsView.no_commands else do
+    when command_begins then (do
       first ← command
       more ← commands_from command n
-      done (CommandsView.command_then first more)
+      done (CommandsView.command_then first more))
+    else done CommandsView.no_commands
 
--- commands up to a `}`
+-- commands as long as one begins
 unfoldable pub commands_with : Reader CommandView → Reader CommandsView
 commands_with command ws = commands_from command (suc (length ws)) ws
 
@@ -61,12 +101,72 @@ commands_with command ws = commands_from command (suc (length ws)) ws
 abbrev pub block_with : Reader CommandView → Reader CommandView
 block_with command = do
   body ← commands_with command
+  symbol symbols.RightBrace
   done (CommandView.block body)
+
+-- a part of a `case` begins here
+abbrev pub part_begins : List Lexeme → Bool
+part_begins ws = is_there (a_number ws) || is_there (symbol symbols.Else ws)
+
+-- a label of ranges after the first int, and its `:`
+abbrev pub ranges_label_from : ℕ → Reader LabelView
+ranges_label_from low = do
+  ranges ← ranges_from low
+  symbol symbols.Colon
+  done (LabelView.ranges_label ranges)
+
+-- `else` and `:`, where no part before it is the `else` part
+abbrev pub else_label_of : Bool → Reader LabelView
+else_label_of true = do
+  symbol symbols.Else
+  symbol symbols.Colon
+  done LabelView.else_label
+else_label_of false = refused
+
+-- a label and its `:`
+abbrev pub label_of : Bool → Reader LabelView
+label_of is_first = with a_number then ranges_label_from else else_label_of is_first
+
+-- a part of a `case`
+abbrev pub part_of : Reader CommandsView → Bool → Reader (LabelView × CommandsView)
+part_of commands is_first = do
+  label ← label_of is_first
+  body ← commands
+  done (label, body)
+
+-- parts of a `case` as long as one begins, at most this many; whether none before is the `else` part
+abbrev pub parts_from : Reader CommandsView → ℕ → Bool → Reader PartsView
+parts_from commands zero is_first = refused
+parts_from commands (suc n) is_first =
+    when part_begins then (do
+      part ← part_of commands is_first
+      more ← parts_from commands n (is_first && has_ranges part.0)
+      done (PartsView.part_then part.0 part.1 more))
+    else done PartsView.no_parts
+
+-- the parts of a `case`
+unfoldable pub parts_with : Reader CommandsView → Reader PartsView
+parts_with commands ws = parts_from commands (suc (length ws)) true ws
+
+-- a `case`, after that word
+abbrev pub case_with : Reader ExprView → Reader CommandView → Reader CommandView
+case_with expr command = do
+  argument ← expr
+  symbol symbols.LeftBrace
+  parts ← parts_with (commands_with command)
+  symbol symbols.RightBrace
+  done (CommandView.case argument parts)
+
+-- the `else` of an `if`: no `:` follows it
+abbrev pub an_else : Skip
+an_else = do
+  symbol symbols.Else
+  after symbol symbols.Colon then (λ ws. None) else (λ ws. Some ws)
 
 -- what follows the first command of an `if`
 abbrev pub else_with : Reader CommandView → ExprView → CommandView → Reader CommandView
 else_with command test chosen =
-    after symbol symbols.Else then (do
+    after an_else then (do
       other ← command
       done (CommandView.if_else test chosen other))
     else done (CommandView.if_then test chosen)
@@ -92,30 +192,32 @@ rejects = do
   done (CommandView.reject has_text)
 
 -- a command that a symbol begins
-abbrev pub command_by : Reader ExprView → Reader CommandView → Reader CommandView → Symbol → Reader CommandView
-command_by expr block if_then symbols.Semicolon = done CommandView.empty
-command_by expr block if_then symbols.LeftBrace = block
-command_by expr block if_then symbols.If = if_then
-command_by expr block if_then symbols.Accept = accepts
-command_by expr block if_then symbols.Reject = rejects
-command_by expr block if_then symbols.RipMetric = assign_with expr TargetView.to_metric
-command_by expr block if_then symbols.Net = assign_with expr TargetView.to_net
-command_by expr block if_then _ = refused
+abbrev pub command_by : Reader ExprView → Reader CommandView → Reader CommandView → Reader CommandView → Symbol → Reader CommandView
+command_by expr block if_then cases symbols.Semicolon = done CommandView.empty
+command_by expr block if_then cases symbols.LeftBrace = block
+command_by expr block if_then cases symbols.If = if_then
+command_by expr block if_then cases symbols.Case = cases
+command_by expr block if_then cases symbols.Accept = accepts
+command_by expr block if_then cases symbols.Reject = rejects
+command_by expr block if_then cases symbols.RipMetric = assign_with expr TargetView.to_metric
+command_by expr block if_then cases symbols.Net = assign_with expr TargetView.to_net
+command_by expr block if_then cases _ = refused
 
 -- a command, by its first lexeme
-abbrev pub command_with : Reader ExprView → Reader CommandView → Reader CommandView → Reader CommandView
-command_with expr block if_then [] = None
-command_with expr block if_then (Lexeme.name text ∷ ws) = assign_with expr (TargetView.to_name text) ws
-command_with expr block if_then (Lexeme.number n ∷ ws) = None
-command_with expr block if_then (Lexeme.address a ∷ ws) = None
-command_with expr block if_then (Lexeme.prefix bits ∷ ws) = None
-command_with expr block if_then (Lexeme.quote ∷ ws) = None
-command_with expr block if_then (Lexeme.symbol k ∷ ws) = command_by expr block if_then k ws
+abbrev pub command_with : Reader ExprView → Reader CommandView → Reader CommandView → Reader CommandView → Reader CommandView
+command_with expr block if_then cases [] = None
+command_with expr block if_then cases (Lexeme.name text ∷ ws) = assign_with expr (TargetView.to_name text) ws
+command_with expr block if_then cases (Lexeme.number n ∷ ws) = None
+command_with expr block if_then cases (Lexeme.address a ∷ ws) = None
+command_with expr block if_then cases (Lexeme.prefix bits ∷ ws) = None
+command_with expr block if_then cases (Lexeme.quote ∷ ws) = None
+command_with expr block if_then cases (Lexeme.symbol k ∷ ws) = command_by expr block if_then cases k ws
 
 -- a command where this many more levels may nest
 unfoldable pub command_at : ℕ → Reader CommandView
-command_at zero = command_with (expr_at zero) refused refused
+command_at zero = command_with (expr_at zero) refused refused refused
 command_at (suc depth) = command_with (expr_at (suc depth)) (block_with (command_at depth)) (if_with (expr_at depth) (command_at depth))
+    (case_with (expr_at depth) (command_at depth))
 
 -- a block where this many more levels may nest, this one included
 abbrev pub block_at : ℕ → Reader CommandView
@@ -126,6 +228,11 @@ block_at (suc depth) = block_with (command_at depth)
 abbrev pub if_at : ℕ → Reader CommandView
 if_at zero = refused
 if_at (suc depth) = if_with (expr_at depth) (command_at depth)
+
+-- a `case` where this many more levels may nest, this one included
+abbrev pub case_at : ℕ → Reader CommandView
+case_at zero = refused
+case_at (suc depth) = case_with (expr_at depth) (command_at depth)
 
 -- the kind that a keyword names
 abbrev pub kind_of : Symbol → Option Kind
@@ -161,7 +268,7 @@ unfoldable pub decls_after : List DeclView → Reader (List DeclView)
 decls_after front ws = turns decl_turn (length ws) front ws
 
 -- what a filter says: its name, its declarations and its commands
-pub record PartsView : Type 0 where
+pub record SaidView : Type 0 where
   pub name : List ℕ
   pub decls : List DeclView
   pub body : CommandsView
@@ -172,15 +279,16 @@ nothing_after x [] = Some x
 nothing_after x (w ∷ ws) = None
 
 -- a body from its `{` on, after a name and declarations, and nothing after it
-abbrev pub body_of : List ℕ → List DeclView → Reading PartsView
+abbrev pub body_of : List ℕ → List DeclView → Reading SaidView
 body_of name head = do
   symbol symbols.LeftBrace
   decls ← decls_after head
   body ← commands_with (command_at nesting_limit)
+  symbol symbols.RightBrace
   nothing_after (record { name = name; decls = decls; body = body })
 
 -- a filter, and nothing after it
-abbrev pub filter_of : Reading PartsView
+abbrev pub filter_of : Reading SaidView
 filter_of = do
   symbol symbols.Filter
   name ← a_name
@@ -188,5 +296,5 @@ filter_of = do
   body_of name head
 
 -- what the program's parts of a filter say
-abbrev pub view_parts : Parts → PartsView
+abbrev pub view_parts : Parts → SaidView
 view_parts x = record { name = x.name.items; decls = map view_decl x.decls.items; body = commands_of (map view_command x.body.items) }

@@ -4,6 +4,7 @@ use Rattle.std.specs.Prelude.{◌≢◌, ℕ, zero, suc, ◌≤◌, Bool, true, 
 use Rattle.filter_tokens.specs.Lexemes.{Lexeme}
 use Rattle.filter_tokens.specs.declared.symbol.Symbol.{Symbol}
 use Rattle.filter_tokens.specs.declared.symbol.Symbol.TheVariants as symbols
+use Rattle.int_sets.specs.Holding.{NumberRange}
 use Rattle.prefix_patterns.specs.Matching.{PrefixPattern, HasOrderedLengths}
 use Rattle.filter_parser.specs.declared.tree.expr.Attribute.{Attribute}
 use Rattle.filter_parser.specs.declared.tree.expr.Attribute.TheVariants as attributes
@@ -16,8 +17,12 @@ use Rattle.filter_parser.specs.declared.tree.op.Op.{Op}
 use Rattle.filter_parser.specs.declared.tree.op.Op.TheVariants as o
 use Rattle.filter_parser.specs.declared.tree.op.Suffix.{Suffix}
 use Rattle.filter_parser.specs.declared.tree.op.Suffix.TheVariants as suffix
+use Rattle.filter_parser.specs.declared.tree.set.Members.{Members}
+use Rattle.filter_parser.specs.declared.tree.set.Members.TheVariants as members
 use Rattle.filter_parser.specs.declared.tree.set.SetPattern.{SetPattern}
 use Rattle.filter_parser.specs.declared.tree.set.SetPattern.TheVariants as written
+use Rattle.filter_parser.specs.declared.tree.set.SetRange.{SetRange}
+use Rattle.filter_parser.specs.declared.tree.set.SetRange.TheVariants as range
 
 -- a pattern as a set has it: `a/len`, `a/len+`, `a/len-`, `a/len{low,high}`
 pub data SetPatternView : Type 0 where
@@ -25,6 +30,16 @@ pub data SetPatternView : Type 0 where
   or_longer : (bits : List Bool) → SetPatternView
   or_shorter : (bits : List Bool) → SetPatternView
   between : (bits : List Bool) (low high : ℕ) → SetPatternView
+
+-- ints as a set or a label has them: `n`, `low..high`
+pub data RangeView : Type 0 where
+  one : (n : ℕ) → RangeView
+  from_to : (low high : ℕ) → RangeView
+
+-- a set of prefixes or of ints
+pub data SetView : Type 0 where
+  of_patterns : (patterns : List SetPatternView) → SetView
+  of_ranges : (ranges : List RangeView) → SetView
 
 -- an expression; parentheses are a part of the tree
 pub data ExprView : Type 0 where
@@ -38,7 +53,7 @@ pub data ExprView : Type 0 where
   group : (inner : ExprView) → ExprView
   negation : (inner : ExprView) → ExprView
   binary : (op : Op) (left right : ExprView) → ExprView
-  member : (op : Membership) (left : ExprView) (set : List SetPatternView) → ExprView
+  member : (op : Membership) (left : ExprView) (set : SetView) → ExprView
   suffixed : (inner : ExprView) (s : Suffix) → ExprView
 
 -- a set's pattern without its place
@@ -47,6 +62,16 @@ view_set_pattern (written.Exact at bits) = exact bits
 view_set_pattern (written.OrLonger at bits) = or_longer bits
 view_set_pattern (written.OrShorter at bits) = or_shorter bits
 view_set_pattern (written.Between at pattern) = between pattern.bits pattern.low pattern.high
+
+-- a range without its place
+abbrev pub view_range : SetRange → RangeView
+view_range (range.One at n) = one n
+view_range (range.FromTo at r) = from_to r.low r.high
+
+-- a set's members without their places
+abbrev pub view_members : Members → SetView
+view_members (members.Patterns patterns) = of_patterns (map view_set_pattern patterns.items)
+view_members (members.Ranges ranges) = of_ranges (map view_range ranges.items)
 
 -- a chain from the left, whatever the places of its operators: `a op b op c` is `(a op b) op c`
 abbrev pub chain_of : ExprView → List (ℕ × Op × ExprView) → ExprView
@@ -70,7 +95,7 @@ view_expr_step (Expr-F.Defined at a) = defined a
 view_expr_step (Expr-F.Group at inner) = group inner.value
 view_expr_step (Expr-F.Not at inner) = negation inner.value
 view_expr_step (Expr-F.Chain first more) = chain_of first.value more.items
-view_expr_step (Expr-F.Member op left set) = member op left.value (map view_set_pattern set.patterns.items)
+view_expr_step (Expr-F.Member op left set) = member op left.value (view_members set.members)
 view_expr_step (Expr-F.Suffixed inner suffixes) = suffixes_of inner.value suffixes.items
 
 -- an expression without its places
@@ -87,6 +112,11 @@ pattern_of (exact p) = record { bits = p; low = length p; high = length p }
 pattern_of (or_longer p) = record { bits = p; low = length p; high = 32 }
 pattern_of (or_shorter p) = record { bits = p; low = 0; high = length p }
 pattern_of (between p l h) = record { bits = p; low = l; high = h }
+
+-- the range that is meant
+abbrev pub range_of : RangeView → NumberRange
+range_of (one n) = record { low = n; high = n }
+range_of (from_to l h) = record { low = l; high = h }
 
 -- the symbol of an operator
 abbrev pub op_symbol : Op → Symbol
@@ -140,10 +170,26 @@ abbrev pub spelling_set_patterns : List SetPatternView → List Lexeme
 spelling_set_patterns [] = Lexeme.symbol symbols.RightBracket ∷ []
 spelling_set_patterns (x ∷ xs) = Lexeme.symbol symbols.Comma ∷ (spelling_set_pattern x ++ spelling_set_patterns xs)
 
--- a set in its brackets; a set without a pattern has no spelling that fits
-abbrev pub spelling_set : List SetPatternView → List Lexeme
-spelling_set [] = Lexeme.symbol symbols.LeftBracket ∷ Lexeme.symbol symbols.RightBracket ∷ []
-spelling_set (x ∷ xs) = Lexeme.symbol symbols.LeftBracket ∷ (spelling_set_pattern x ++ spelling_set_patterns xs)
+-- a range: an int, and after `..` another one
+abbrev pub spelling_range : RangeView → List Lexeme
+spelling_range (one n) = Lexeme.number n ∷ []
+spelling_range (from_to l h) = Lexeme.number l ∷ Lexeme.symbol symbols.DotDot ∷ Lexeme.number h ∷ []
+
+-- ranges after a first one, each after a comma
+abbrev pub spelling_more_ranges : List RangeView → List Lexeme
+spelling_more_ranges [] = []
+spelling_more_ranges (x ∷ xs) = Lexeme.symbol symbols.Comma ∷ (spelling_range x ++ spelling_more_ranges xs)
+
+-- ranges with commas between them
+abbrev pub spelling_ranges : List RangeView → List Lexeme
+spelling_ranges [] = []
+spelling_ranges (x ∷ xs) = spelling_range x ++ spelling_more_ranges xs
+
+-- a set in its brackets; a set without a member has no spelling that fits
+abbrev pub spelling_set : SetView → List Lexeme
+spelling_set (of_patterns []) = Lexeme.symbol symbols.LeftBracket ∷ Lexeme.symbol symbols.RightBracket ∷ []
+spelling_set (of_patterns (x ∷ xs)) = Lexeme.symbol symbols.LeftBracket ∷ (spelling_set_pattern x ++ spelling_set_patterns xs)
+spelling_set (of_ranges xs) = Lexeme.symbol symbols.LeftBracket ∷ (spelling_ranges xs ++ Lexeme.symbol symbols.RightBracket ∷ [])
 
 -- the lexemes of an expression
 abbrev pub spelling : ExprView → List Lexeme
@@ -233,12 +279,28 @@ abbrev pub FitsSetPatterns : List SetPatternView → Type 0
 FitsSetPatterns [] = Unit {0}
 FitsSetPatterns (x ∷ xs) = FitsSetPattern x × FitsSetPatterns xs
 
--- a set has at least one pattern
-abbrev pub FitsSet : List SetPatternView → Type 0
-FitsSet [] = ⊥
-FitsSet (x ∷ xs) = FitsSetPattern x × FitsSetPatterns xs
+-- the ints of a range are in order
+abbrev pub FitsRange : RangeView → Type 0
+FitsRange (one n) = Unit {0}
+FitsRange (from_to l h) = l ≤ h
 
--- how deep blocks, parentheses, `!` and `if` may nest in a filter (this project's own choice)
+-- each of these ranges fits
+abbrev pub FitsMoreRanges : List RangeView → Type 0
+FitsMoreRanges [] = Unit {0}
+FitsMoreRanges (x ∷ xs) = FitsRange x × FitsMoreRanges xs
+
+-- there is at least one range, and each fits
+abbrev pub FitsRanges : List RangeView → Type 0
+FitsRanges [] = ⊥
+FitsRanges (x ∷ xs) = FitsRange x × FitsMoreRanges xs
+
+-- a set has at least one member
+abbrev pub FitsSet : SetView → Type 0
+FitsSet (of_patterns []) = ⊥
+FitsSet (of_patterns (x ∷ xs)) = FitsSetPattern x × FitsSetPatterns xs
+FitsSet (of_ranges xs) = FitsRanges xs
+
+-- how deep blocks, parentheses, `!`, `if` and `case` may nest in a filter (this project's own choice)
 abbrev pub nesting_limit : ℕ
 nesting_limit = 32
 

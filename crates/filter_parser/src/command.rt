@@ -1,21 +1,22 @@
 //! Commands.
 
-ghost use Rattle.std.specs.Prelude.{◌≡◌, ◌≢◌, ◌∷◌, ◌++◌, ℕ, ◌<◌, ◌≤◌, [], length, map, Some, None, IfOk, MatchResult};
+ghost use Rattle.std.specs.Prelude.{◌≡◌, ◌≢◌, ◌∷◌, ◌++◌, ℕ, ◌<◌, ◌≤◌, [], length, map, Some, None, IfOk, IfSome, MatchResult};
 ghost use Rattle.filter_parser.specs.declared.fault.ParseFault.TheVariants.{Memory};
 ghost use Rattle.filter_parser.specs.Codes.{LiesWithin};
 ghost use Rattle.filter_parser.specs.ReadingCommands as spec;
-ghost use Rattle.filter_parser.specs.Placed.{command_kept, end_kept, expr_kept, joined};
+ghost use Rattle.filter_parser.specs.Placed.{command_kept, end_kept, expr_kept, joined, part_kept};
 ghost use Rattle.filter_parser.specs.Reading.{expr_at};
-ghost use Rattle.filter_parser.specs.Steps.{Reads, ReadsOn, Continues, IsWithin, ReadsAs, StaysWithinAfter, remaining};
+ghost use Rattle.filter_parser.specs.Steps.{Reads, ReadsOn, Continues, Finds, Follows, IsWithin, ReadsAs, Spans, StaysWithin, StaysWithinAfter, first_place, remaining};
 ghost use Rattle.filter_parser.specs.Syntax.{view};
-ghost use Rattle.filter_parser.specs.SyntaxCommands.{view_command, view_target};
+ghost use Rattle.filter_parser.specs.SyntaxCommands.{view_command, view_part, view_target};
 ghost use Rattle.filter_parser.specs.SyntaxCommands.CommandView.{if_then, if_else};
 
+use crate::case_label::{begins_part, parse_label, stays_first};
 use crate::expected::Expected;
 use crate::expr::parse_expr;
 use crate::fault::ParseFault;
 use crate::input::Input;
-use crate::tree::{Command, Expr, Target};
+use crate::tree::{Command, Expr, Label, Target};
 use filter_tokens::{Symbol, Token, TokenKind};
 use std::alloc::{AllocError, Global};
 
@@ -77,6 +78,20 @@ fn if_else_command(
     ))
 }
 
+/// The `else` of an `if`, if it comes first: a `:` after it makes it the label of a part of a `case`.
+fn eat_else<'a>(input: Input<'a>) -> Option<Input<'a>>
+    ensures found { Finds remaining result (spec.an_else (remaining input.entry)) }
+    ensures placed { IfSome result (λ rest. Spans (Some (first_place input.entry) ∷ []) input.entry rest) }
+    ensures within { IfSome result (Follows input.entry) }
+    ensures shorter { IfSome result (λ rest. length (remaining rest) < length (remaining input.entry)) }
+{
+    let rest = input.eat(Symbol::Else)?;
+    match rest.eat(Symbol::Colon) {
+        Some(_) => None,
+        None => Some(rest),
+    }
+}
+
 /// What follows the first command of an `if`.
 #[cycle(command)]
 fn parse_else<'a>(
@@ -90,10 +105,10 @@ fn parse_else<'a>(
     ensures { ReadsOn 0 (Some at ∷ (expr_kept test ++ None ∷ command_kept chosen)) view_command command_kept
         (spec.else_with (spec.command_at depth) (view test) (view_command chosen)) input.entry result }
 {
-    match input.eat(Symbol::Else) {
+    match eat_else(input) {
         None => Ok((if_command(alloc, at, test, chosen)?, input)),
         Some(rest) => {
-            let (other, rest) = parse_command(alloc, depth, Expected::Command, rest)?;
+            let (other, rest) = parse_command(alloc, depth, rest)?;
             Ok((if_else_command(alloc, at, test, chosen, other)?, rest))
         }
     }
@@ -118,27 +133,58 @@ fn parse_if<'a>(
     }
     let (test, rest) = parse_expr(alloc, depth - 1, input)?;
     let rest = rest.expect(Symbol::Then, Expected::Then)?;
-    let (chosen, rest) = parse_command(alloc, depth - 1, Expected::Command, rest)?;
+    let (chosen, rest) = parse_command(alloc, depth - 1, rest)?;
     parse_else(alloc, depth - 1, at, test, chosen, rest)
 }
 
-/// Commands up to their `}`.
+/// Whether a command begins with this symbol.
+fn symbol_begins(symbol: Symbol) -> bool
+    ensures { result ≡ spec.symbol_begins symbol }
+{
+    match symbol {
+        Symbol::Semicolon => true,
+        Symbol::LeftBrace => true,
+        Symbol::If => true,
+        Symbol::Case => true,
+        Symbol::Accept => true,
+        Symbol::Reject => true,
+        Symbol::RipMetric => true,
+        Symbol::Net => true,
+        _ => false,
+    }
+}
+
+/// Whether a command begins here.
+fn begins_command(input: Input) -> bool
+    ensures { result ≡ spec.command_begins (remaining input.entry) }
+{
+    let Some((first, _)) = input.next() else {
+        return false;
+    };
+    match &first.kind {
+        TokenKind::Name => true,
+        TokenKind::Symbol(symbol) => symbol_begins(*symbol),
+        _ => false,
+    }
+}
+
+/// Commands as long as one begins.
 #[cycle(command)]
 pub fn parse_commands<'a>(
     alloc: Global,
     depth: usize,
     input: Input<'a>,
 ) -> Result<(Vec<Command>, Input<'a>), ParseFault>
-    ensures { Reads spec.body_view (λ x. joined (map command_kept x.items) ++ None ∷ [])
-        (spec.commands_with (spec.command_at depth)) input.entry result }
+    ensures reads { ReadsAs spec.commands_read_of result
+        (spec.commands_with (spec.command_at depth) (remaining input.entry)) }
+    ensures shorter { IfOk result (λ x. length (remaining x.1) ≤ length (remaining input.entry)) }
+    ensures placed { IfOk result (λ x. Spans (joined (map command_kept x.0.items)) input.entry x.1) }
+    ensures within { StaysWithin input.entry result }
 {
     let mut commands = Vec::new(alloc);
     let mut rest = input;
-    loop {
-        if let Some(after) = rest.eat(Symbol::RightBrace) {
-            return Ok((commands, after));
-        }
-        match parse_command(alloc, depth, Expected::CommandOrEnd, rest) {
+    while begins_command(rest) {
+        match parse_command(alloc, depth, rest) {
             Ok((command, after)) => {
                 commands.push(command)?;
                 rest = after;
@@ -146,6 +192,76 @@ pub fn parse_commands<'a>(
             Err(fault) => return Err(fault),
         }
     }
+    Ok((commands, rest))
+}
+
+/// A part of a `case`. Whether no part before it is the `else` part.
+#[cycle(command)]
+fn parse_part<'a>(
+    alloc: Global,
+    depth: usize,
+    is_first: bool,
+    input: Input<'a>,
+) -> Result<((Label, Vec<Command>), Input<'a>), ParseFault>
+    ensures { Reads view_part part_kept
+        (spec.part_of (spec.commands_with (spec.command_at depth)) is_first) input.entry result }
+{
+    let (label, rest) = parse_label(alloc, is_first, input)?;
+    let (commands, rest) = parse_commands(alloc, depth, rest)?;
+    Ok(((label, commands), rest))
+}
+
+/// Parts of a `case` as long as one begins.
+#[cycle(command)]
+fn parse_parts<'a>(
+    alloc: Global,
+    depth: usize,
+    input: Input<'a>,
+) -> Result<(Vec<(Label, Vec<Command>)>, Input<'a>), ParseFault>
+    ensures reads { ReadsAs spec.parts_read_of result
+        (spec.parts_with (spec.commands_with (spec.command_at depth)) (remaining input.entry)) }
+    ensures shorter { IfOk result (λ x. length (remaining x.1) ≤ length (remaining input.entry)) }
+    ensures placed { IfOk result (λ x. Spans (joined (map part_kept x.0.items)) input.entry x.1) }
+    ensures within { StaysWithin input.entry result }
+{
+    let mut parts = Vec::new(alloc);
+    let mut is_first = true;
+    let mut rest = input;
+    while begins_part(rest) {
+        match parse_part(alloc, depth, is_first, rest) {
+            Ok((part, after)) => {
+                is_first = stays_first(is_first, &part.0);
+                parts.push(part)?;
+                rest = after;
+            }
+            Err(fault) => return Err(fault),
+        }
+    }
+    Ok((parts, rest))
+}
+
+/// A `case`, after that word.
+#[cycle(command)]
+#[tactic(auto, using(crate::proofs::Bodies::case_is))]
+fn parse_case<'a>(
+    alloc: Global,
+    depth: usize,
+    at: usize,
+    input: Input<'a>,
+) -> Result<(Command, Input<'a>), ParseFault>
+    ensures reads { ReadsAs spec.command_read_of result (spec.case_at depth (remaining input.entry)) }
+    ensures shorter { IfOk result (λ x. length (remaining x.1) < length (remaining input.entry)) }
+    ensures placed { IfOk result (λ x. Continues (Some at ∷ []) (command_kept x.0) input.entry x.1) }
+    ensures within { StaysWithinAfter at input.entry result }
+{
+    if depth == 0 {
+        return Err(ParseFault::TooDeep(at));
+    }
+    let (argument, rest) = parse_expr(alloc, depth - 1, input)?;
+    let rest = rest.expect(Symbol::LeftBrace, Expected::LeftBrace)?;
+    let (parts, rest) = parse_parts(alloc, depth - 1, rest)?;
+    let rest = rest.expect(Symbol::RightBrace, Expected::CommandOrPart)?;
+    Ok((Command::Case(at, argument, parts), rest))
 }
 
 /// A block, after its `{`.
@@ -165,6 +281,7 @@ fn parse_block<'a>(
         return Err(ParseFault::TooDeep(at));
     }
     let (commands, rest) = parse_commands(alloc, depth - 1, input)?;
+    let rest = rest.expect(Symbol::RightBrace, Expected::CommandOrEnd)?;
     Ok((Command::Block(at, commands), rest))
 }
 
@@ -211,7 +328,7 @@ fn parse_command_by<'a>(
 ) -> Result<(Command, Input<'a>), ParseFault>
     requires { other ≢ Memory }
     ensures reads { ReadsAs spec.command_read_of result
-        (spec.command_by (expr_at depth) (spec.block_at depth) (spec.if_at depth) symbol (remaining rest.entry)) }
+        (spec.command_by (expr_at depth) (spec.block_at depth) (spec.if_at depth) (spec.case_at depth) symbol (remaining rest.entry)) }
     ensures shorter { IfOk result (λ x. length (remaining x.1) ≤ length (remaining rest.entry)) }
     ensures placed { IfOk result (λ x. Continues (Some at ∷ []) (command_kept x.0) rest.entry x.1) }
     ensures within { (len : ℕ) → at < len → LiesWithin len other → IsWithin len rest.entry
@@ -221,6 +338,7 @@ fn parse_command_by<'a>(
         Symbol::Semicolon => Ok((Command::Empty(at), rest)),
         Symbol::LeftBrace => parse_block(alloc, depth, at, rest),
         Symbol::If => parse_if(alloc, depth, at, rest),
+        Symbol::Case => parse_case(alloc, depth, at, rest),
         Symbol::Accept => parse_accept(at, rest),
         Symbol::Reject => parse_reject(at, rest),
         Symbol::RipMetric => parse_assignment(alloc, depth, at, Target::RipMetric, rest),
@@ -229,18 +347,17 @@ fn parse_command_by<'a>(
     }
 }
 
-/// A command, where this many more levels may nest, and what to say is expected where there is none.
+/// A command, where this many more levels may nest.
 #[cycle(command)]
 #[tactic(auto, using(crate::proofs::Bodies::command_is))]
 pub fn parse_command<'a>(
     alloc: Global,
     depth: usize,
-    expected: Expected,
     input: Input<'a>,
 ) -> Result<(Command, Input<'a>), ParseFault>
     ensures { Reads view_command command_kept (spec.command_at depth) input.entry result }
 {
-    let other = input.unexpected(expected);
+    let other = input.unexpected(Expected::Command);
     let Some((first, rest)) = input.next() else {
         return Err(other);
     };

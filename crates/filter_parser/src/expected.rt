@@ -35,6 +35,18 @@ pub enum Expected {
     Number,
     /// `net` or `rip_metric`.
     Attribute,
+    /// A number or a prefix, with which a set begins.
+    Member,
+    /// The `{` after the argument of `case`.
+    LeftBrace,
+    /// A command, a number or `else`, with which a part of `case` begins, or the `}` that ends the parts.
+    CommandOrPart,
+    /// A command, a number, or the `}` that ends the parts of a `case`, where its `else` part was.
+    CommandOrRange,
+    /// A `,` or a `:` after a range of a label.
+    CommaOrColon,
+    /// The `:` after `else`.
+    Colon,
     /// A prefix, with which a pattern begins.
     Prefix,
     /// A `,` between two lengths.
@@ -66,6 +78,12 @@ impl fmt::Display for Expected {
             Expected::Part => "`ip`, `len` or `mask`",
             Expected::Number => "a number",
             Expected::Attribute => "`net` or `rip_metric`",
+            Expected::Member => "a number or a prefix",
+            Expected::LeftBrace => "`{`",
+            Expected::CommandOrPart => "a command, a number, `else` or `}`",
+            Expected::CommandOrRange => "a command, a number or `}`",
+            Expected::CommaOrColon => "`,` or `:`",
+            Expected::Colon => "`:`",
             Expected::Prefix => "a prefix",
             Expected::Comma => "`,`",
             Expected::RightBrace => "`}`",

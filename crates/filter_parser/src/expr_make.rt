@@ -1,6 +1,6 @@
 ghost use Rattle.std.specs.Prelude.{◌≡◌, ◌∷◌, ◌++◌, [], Some, None, IfOk, map};
 ghost use Rattle.filter_parser.specs.Placed.{expr_kept, joined, kept_more, operand_kept, set_kept, suffix_kept};
-ghost use Rattle.filter_parser.specs.Syntax.{ExprView, chain_of, suffixes_of, view, view_set_pattern, view_more};
+ghost use Rattle.filter_parser.specs.Syntax.{ExprView, chain_of, suffixes_of, view, view_members, view_more};
 
 use crate::tree::{Expr, Membership, Op, Set, Suffix};
 use std::alloc::{AllocError, Global};
@@ -44,7 +44,7 @@ pub fn binary(alloc: Global, at: usize, op: Op, left: Expr, right: Expr) -> Resu
 
 /// An operand and a set.
 pub fn member(alloc: Global, op: Membership, left: Expr, set: Set) -> Result<Expr, AllocError>
-    ensures is { IfOk result (λ t. view t ≡ ExprView.member op (view left) (map view_set_pattern set.patterns.items)) }
+    ensures is { IfOk result (λ t. view t ≡ ExprView.member op (view left) (view_members set.members)) }
     ensures placed { IfOk result (λ t. expr_kept t ≡ expr_kept left ++ None ∷ set_kept set) }
 {
     Ok(Expr::Member(op, Box::new(alloc, left)?, set))

@@ -26,6 +26,9 @@ pub enum ParseFault {
     /// P4: the lengths of a pattern, whose `{` is at this place, are not `low <= high <= 32`.
     #[error("the lengths at byte {0} are not low <= high <= 32")]
     PatternLengths(usize),
+    /// P4: the range at this place has its greater int first.
+    #[error("the range at byte {0} is not low..high with low <= high")]
+    RangeOrder(usize),
     /// P5: what opens at this place would be nested in 32 others.
     #[error("nesting deeper than 32 levels at byte {0}")]
     TooDeep(usize),
@@ -41,9 +44,6 @@ pub enum ParseFault {
     /// P10: the text in quotes at this place does not follow `accept` or `reject`.
     #[error("unexpected text at byte {0}: only `accept` and `reject` take one")]
     TextElsewhere(usize),
-    /// P10: the number at this place begins a set of numbers.
-    #[error("sets of numbers, as at byte {0}, are not supported")]
-    NumberSet(usize),
     /// P11: memory was refused.
     #[error("out of memory")]
     Memory,
@@ -59,12 +59,14 @@ impl ParseFault {
         match self {
             ParseFault::Token(fault) => fault.code(),
             ParseFault::Unexpected(_, _) => "P2",
-            ParseFault::MaskOverLimit(_) | ParseFault::PatternLengths(_) => "P4",
+            ParseFault::MaskOverLimit(_)
+            | ParseFault::PatternLengths(_)
+            | ParseFault::RangeOrder(_) => "P4",
             ParseFault::TooDeep(_) => "P5",
             ParseFault::MixedOperators(_) => "P6",
             ParseFault::TooLong => "P7",
             ParseFault::EndsEarly(_) => "P9",
-            ParseFault::TextElsewhere(_) | ParseFault::NumberSet(_) => "P10",
+            ParseFault::TextElsewhere(_) => "P10",
             ParseFault::Memory => "P11",
         }
     }
@@ -78,11 +80,11 @@ impl ParseFault {
             ParseFault::Unexpected(at, _)
             | ParseFault::MaskOverLimit(at)
             | ParseFault::PatternLengths(at)
+            | ParseFault::RangeOrder(at)
             | ParseFault::TooDeep(at)
             | ParseFault::MixedOperators(at)
             | ParseFault::EndsEarly(at)
-            | ParseFault::TextElsewhere(at)
-            | ParseFault::NumberSet(at) => at,
+            | ParseFault::TextElsewhere(at) => at,
             ParseFault::TooLong => TEXT_LIMIT,
             ParseFault::Memory => 0,
         }

@@ -49,6 +49,7 @@ fn parse_body<'a>(
     let rest = input.expect(Symbol::LeftBrace, Expected::Body)?;
     let (decls, rest) = parse_declarations(alloc, head, rest)?;
     let (body, rest) = parse_commands(alloc, NESTING_LIMIT, rest)?;
+    let rest = rest.expect(Symbol::RightBrace, Expected::CommandOrEnd)?;
     nothing_after(Parts { name, decls, body }, rest)
 }
 

@@ -158,6 +158,20 @@ impl<'a> Input<'a> {
         }
     }
 
+    /// A number, if one comes first, and what is left after it.
+    pub fn eat_number(self) -> Option<(u32, Input<'a>)>
+        ensures found { Finds (λ x. (x.0, remaining x.1)) result (readers.a_number (remaining self.entry)) }
+        ensures shorter { IfSome result (λ x. length (remaining x.1) < length (remaining self.entry)) }
+        ensures placed { IfSome result (λ x. Spans (Some (first_place self.entry) ∷ []) self.entry x.1) }
+        ensures within { IfSome result (λ x. Follows self.entry x.1) }
+    {
+        let (first, rest) = self.next()?;
+        match &first.kind {
+            TokenKind::Number(n) => Some((*n, rest)),
+            _ => None,
+        }
+    }
+
     /// A number that has to come first, and what is left after it.
     pub fn expect_number(self) -> Result<(u32, Input<'a>), ParseFault>
         ensures reads { ReadsAs (λ x. (x.0, remaining x.1)) result (readers.a_number (remaining self.entry)) }
@@ -181,6 +195,7 @@ impl<'a> Input<'a> {
         ensures shorter { IfOk result (λ x. length (remaining x.1) < length (remaining self.entry)) }
         ensures placed { IfOk result (λ x. Spans (Some (first_place self.entry) ∷ []) self.entry x.1) }
         ensures refusal { IfErr result (λ why. why ≡ spec.unexpected self.entry Expected.Prefix) }
+        ensures not_memory { IfErr result (λ why. why ≢ Memory) }
         ensures within { StaysWithin self.entry result }
     {
         let Some((first, rest)) = self.next() else {

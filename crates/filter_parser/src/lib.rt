@@ -1,6 +1,7 @@
 //! The parser of filters: a filter's text becomes a tree if and only if the grammar has one.
 #![tactic(auto)]
 
+mod case_label;
 mod command;
 mod decl;
 mod expected;
@@ -12,6 +13,7 @@ mod fault;
 mod filter;
 mod input;
 mod parts;
+mod range_reader;
 mod set_reader;
 mod text;
 mod tree;
@@ -20,6 +22,6 @@ pub use expected::Expected;
 pub use fault::{ParseFault, TEXT_LIMIT};
 pub use text::parse;
 pub use tree::{
-    Attribute, Command, Decl, Expr, Filter, Kind, MaskLength, Membership, Op, Set, SetPattern,
-    Suffix, Target,
+    Attribute, Command, Decl, Expr, Filter, Kind, Label, MaskLength, Members, Membership, Op, Set,
+    SetPattern, SetRange, Suffix, Target,
 };

@@ -1,13 +1,15 @@
 ghost use Rattle.std.specs.Prelude.{◌∷◌, ◌<◌, ◌≤◌, [], Some, None, IfOk, length, map};
 ghost use Rattle.filter_parser.specs.Placed.{next_pattern_kept, set_kept, set_pattern_kept};
 ghost use Rattle.filter_parser.specs.Reading as spec;
-ghost use Rattle.filter_parser.specs.Steps.{Reads, ReadsOn, Continues, Finds, Grown, ReadsAs, StaysWithin, StaysWithinAfter, remaining};
+ghost use Rattle.filter_parser.specs.Steps.{Reads, ReadsOn, Continues, Finds, Grown, ReadsAs, Spans, StaysWithin, StaysWithinAfter, remaining};
 ghost use Rattle.filter_parser.specs.Syntax.{SetPatternView, view_set_pattern};
+ghost use Rattle.filter_parser.specs.declared.input.Input.{Input as TheInput};
 
 use crate::expected::Expected;
 use crate::fault::ParseFault;
 use crate::input::Input;
-use crate::tree::{Set, SetPattern};
+use crate::range_reader::parse_ranges_from;
+use crate::tree::{Members, Set, SetPattern};
 use filter_tokens::Symbol;
 use prefix_patterns::{ADDRESS_LENGTH, Pattern, Prefix};
 use std::alloc::Global;
@@ -100,16 +102,6 @@ fn parse_set_patterns<'a>(
     Ok((all, rest))
 }
 
-/// The first pattern of a set. A number there begins a set of numbers, which is left out.
-fn parse_first_pattern<'a>(input: Input<'a>) -> Result<(SetPattern, Input<'a>), ParseFault>
-    ensures { Reads view_set_pattern set_pattern_kept spec.a_set_pattern input.entry result }
-{
-    match input.expect_number() {
-        Ok(_) => Err(ParseFault::NumberSet(input.at())),
-        Err(_) => parse_set_pattern(input),
-    }
-}
-
 /// The patterns of a set from the second on, and its `]`. The set's place is `at`.
 fn parse_set_after_first<'a>(
     alloc: Global,
@@ -125,7 +117,56 @@ fn parse_set_after_first<'a>(
     match parse_set_patterns(patterns, input) {
         Ok((patterns, rest)) => {
             let rest = rest.expect(Symbol::RightBracket, Expected::CommaOrBracket)?;
-            Ok((Set { at, patterns }, rest))
+            let members = Members::Patterns(patterns);
+            Ok((Set { at, members }, rest))
+        }
+        Err(fault) => Err(fault),
+    }
+}
+
+/// The first pattern of a set, where no number is.
+fn parse_first_pattern<'a>(input: Input<'a>) -> Result<(SetPattern, Input<'a>), ParseFault>
+    ensures { Reads view_set_pattern set_pattern_kept spec.a_set_pattern input.entry result }
+{
+    match input.expect_prefix() {
+        Ok((prefix, rest)) => parse_lengths(input.at(), prefix, rest),
+        Err(_) => Err(input.unexpected(Expected::Member)),
+    }
+}
+
+/// A set of prefixes, after its `[`, which has the place `at`.
+fn parse_pattern_set<'a>(
+    alloc: Global,
+    at: usize,
+    input: Input<'a>,
+) -> Result<(Set, Input<'a>), ParseFault>
+    ensures { ReadsOn 1 (Some at ∷ []) spec.set_view set_kept spec.pattern_set_of input.entry result }
+{
+    match parse_first_pattern(input) {
+        Ok((first, rest)) => parse_set_after_first(alloc, at, first, rest),
+        Err(fault) => Err(fault),
+    }
+}
+
+/// A set of ints, whose place is `at`, after its first int, which has the place `first`.
+fn parse_range_set<'a>(
+    alloc: Global,
+    at: usize,
+    first: usize,
+    low: u32,
+    input: Input<'a>,
+) -> Result<(Set, Input<'a>), ParseFault>
+    ensures reads { ReadsAs spec.set_read_of result (spec.range_set_from low (remaining input.entry)) }
+    ensures shorter { IfOk result (λ x. length (remaining x.1) < length (remaining input.entry)) }
+    ensures placed { IfOk result (λ x. (start middle : TheInput) → Spans (Some at ∷ []) start middle
+        → Spans (Some first ∷ []) middle input.entry → Spans (set_kept x.0) start x.1) }
+    ensures within { StaysWithinAfter first input.entry result }
+{
+    match parse_ranges_from(alloc, first, low, input) {
+        Ok((ranges, rest)) => {
+            let rest = rest.expect(Symbol::RightBracket, Expected::CommaOrBracket)?;
+            let members = Members::Ranges(ranges);
+            Ok((Set { at, members }, rest))
         }
         Err(fault) => Err(fault),
     }
@@ -139,8 +180,8 @@ pub fn parse_set<'a>(
 ) -> Result<(Set, Input<'a>), ParseFault>
     ensures { ReadsOn 1 (Some at ∷ []) spec.set_view set_kept spec.set_of input.entry result }
 {
-    match parse_first_pattern(input) {
-        Ok((first, rest)) => parse_set_after_first(alloc, at, first, rest),
-        Err(fault) => Err(fault),
+    match input.eat_number() {
+        Some((low, rest)) => parse_range_set(alloc, at, input.at(), low, rest),
+        None => parse_pattern_set(alloc, at, input),
     }
 }

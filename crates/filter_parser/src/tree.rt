@@ -7,10 +7,10 @@ mod mask_length;
 mod op;
 mod set;
 
-pub use command::{Command, Target};
+pub use command::{Command, Label, Target};
 pub use decl::{Decl, Kind};
 pub use expr::{Attribute, Expr};
 pub use filter::Filter;
 pub use mask_length::MaskLength;
 pub use op::{Membership, Op, Suffix};
-pub use set::{Set, SetPattern};
+pub use set::{Members, Set, SetPattern, SetRange};

@@ -1,18 +1,51 @@
--- A text that is not parsed is refused for spelling no filter.
-use Rattle.std.proofs.Common.{◌≡◌, ℕ, List, Result, Ok, Err, IfErr, sym, subst}
+-- A text that is not parsed is refused for spelling no filter, one whose translation is over a limit for that, and so is a code that the
+-- older form of a file has not.
+use Rattle.std.proofs.Common.{◌≡◌, ◌⊎◌, ℕ, Bool, true, List, Result, Ok, Err, IfErr, inl, inr, refl, sym, subst}
 use Rattle.std.specs.Prelude.{◌≢◌, IsErrAnd}
+use Rattle.code_file.specs.Spelling.{needs_int_sets}
+use Rattle.code_file.specs.declared.fault.FileFault.{FileFault}
+use Rattle.code_file.specs.declared.fault.FileFault.TheVariants as file
+use Rattle.filter_code.specs.CodeView.{CodeView}
+use Rattle.filter_compiler.specs.Limits.{HasTooMany, IsTooLong}
+use Rattle.filter_compiler.specs.Translation.{code_of}
+use Rattle.filter_compiler.specs.declared.fault.CompileFault.{CompileFault}
+use Rattle.filter_compiler.specs.declared.fault.CompileFault.TheVariants as compile
 use Rattle.filter_parser.specs.SyntaxText.{FilterView, IsText}
 use Rattle.filter_parser.specs.declared.fault.ParseFault.{ParseFault}
 use Rattle.filter_parser.specs.declared.fault.ParseFault.TheVariants as parse
-use Rattle.filter_source.specs.Failures.{OnRefusal, of_parse}
-use Rattle.filter_source.specs.Sources.{IsRefusedText}
+use Rattle.filter_types.specs.Kinds.{IsTyped}
+use Rattle.filter_source.specs.Failures.{OnRefusal, of_compile, of_file, of_parse}
+use Rattle.filter_source.specs.Sources.{IsRefusedText, IsUnwritten}
 
 pub no_filter : (text : List ℕ) (why : ParseFault) → (why ≢ parse.Memory → (filter : FilterView) → IsText text filter → ⊥)
     → OnRefusal (IsRefusedText text) (of_parse why)
 no_filter text parse.Memory h = tt
 no_filter text why h = let other : why ≢ parse.Memory = λ e. cc in (other, h other)
 
+-- a filter whose names and kinds fit has no code where its translation is over a limit; of refused memory nothing is said
+pub over_limit : (text : List ℕ) (filter : FilterView) (why : CompileFault) → IsText text filter → IsTyped filter
+    → (why ≡ compile.TooManyInstructions → IsTooLong (code_of filter))
+    → (why ≡ compile.TooManySets → ¬ IsTooLong (code_of filter) × HasTooMany (code_of filter))
+    → OnRefusal (IsRefusedText text) (of_compile why)
+over_limit text filter compile.TooManyInstructions spelled typed long many = (filter, spelled, typed, long refl)
+over_limit text filter compile.TooManySets spelled typed long many = (filter, spelled, typed, many refl)
+over_limit text filter compile.Memory spelled typed long many = tt
+
 -- what holds of the error that a result is holds of its error
 pub of_error : {A E : Type 0} (r : Result A E) (P : E → Type 0) (e : E) → IsErrAnd r (λ x. x ≡ e) → P e → IfErr r P
 of_error (Ok a) P e is h = tt
 of_error (Err x) P e is h = subst P (sym is) h
+
+-- the newer form is refused memory alone
+pub only_memory : (is_old : Bool) (program : CodeView) (why : FileFault) → why ≡ file.Memory
+    → OnRefusal (IsUnwritten is_old program) (of_file why)
+only_memory is_old program why memory =
+    subst (λ (w : FileFault). OnRefusal (IsUnwritten is_old program) (of_file w)) (sym memory) tt
+
+-- what refuses the older form of a file is that its code needs sets of ints; of refused memory nothing is said
+pub unwritten : (is_old : Bool) (program : CodeView) (why : FileFault) → is_old ≡ true
+    → (why ≡ file.OldForm → needs_int_sets program ≡ true) → (why ≡ file.OldForm) ⊎ (why ≡ file.Memory)
+    → OnRefusal (IsUnwritten is_old program) (of_file why)
+unwritten is_old program why chosen needs (inl old) =
+    subst (λ (w : FileFault). OnRefusal (IsUnwritten is_old program) (of_file w)) (sym old) (chosen, refl, needs old)
+unwritten is_old program why chosen needs (inr memory) = only_memory is_old program why memory

@@ -1,9 +1,13 @@
 -- Which code a source gives, and when it is refused. (This project's own choice.)
-use Rattle.std.specs.Prelude.{◌≡◌, ◌≢◌, ℕ, List, Some, Result, Ok, Err}
+use Rattle.std.specs.Prelude.{◌≡◌, ◌≢◌, ℕ, Bool, true, false, List, Some, Result, Ok, Err}
 use Rattle.hex.specs.Hex.{decode_of}
 use Rattle.hex.specs.declared.error.FromHexError.{FromHexError}
 use Rattle.code_file.specs.Reading.{file_of}
+use Rattle.code_file.specs.Spelling.{needs_int_sets}
 use Rattle.code_file.specs.declared.fault.FileFault.{FileFault}
+use Rattle.code_file.specs.declared.fault.FileFault.TheVariants as file
+use Rattle.code_file.specs.declared.version.Version.{Version}
+use Rattle.code_file.specs.declared.version.Version.TheVariants as version
 use Rattle.filter_code.specs.CodeView.{CodeView}
 use Rattle.filter_compiler.specs.Limits.{HasTooMany, IsTooLong}
 use Rattle.filter_compiler.specs.Same.{MeansTheSame}
@@ -63,6 +67,15 @@ code_in_bytes (Err why) = Err Hexadecimal
 
 abbrev pub code_in_hexadecimal : List ℕ → Result CodeView Refusal
 code_in_hexadecimal digits = code_in_bytes (decode_of digits)
+
+-- the version of the older form of a code file, and of the newer one
+abbrev pub version_for : Bool → Version
+version_for true = version.One
+version_for false = version.Two
+
+-- A code has no file of a version: only the older one has not all codes.
+abbrev pub IsUnwritten : Bool → CodeView → Refusal → Type 0
+IsUnwritten is_old program why = (is_old ≡ true) × (why ≡ File file.OldForm) × (needs_int_sets program ≡ true)
 
 -- the first thing that is not known of the code, and nothing else, refuses it
 abbrev pub IsUnsafe : CodeView → ℕ → Refusal → Type 0

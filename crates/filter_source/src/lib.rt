@@ -15,6 +15,6 @@ pub use laws::one_translation;
 pub use refusal::Refusal;
 pub use source::{
     SOURCE_LIMIT, check_length, compile_text, compile_text_mapped, read_file, read_hexadecimal,
-    verify_code, verify_mapped,
+    verify_code, verify_mapped, write_file,
 };
 pub use verified_line::push_verified;

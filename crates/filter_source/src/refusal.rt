@@ -19,13 +19,13 @@ pub enum Refusal {
     /// O3: the digits of a code file are not hexadecimal.
     #[error("not an even number of hexadecimal digits")]
     Hexadecimal,
-    /// C1 to C6: the bytes are no code file.
+    /// C1 to C6: the bytes are no code file; C8: its code has no file in the older form.
     #[error(transparent)]
     File(FileFault),
     /// P1 to P10: the text spells no filter.
     #[error(transparent)]
     Parse(ParseFault),
-    /// Y1 to Y5: the filter's names and kinds do not fit.
+    /// Y1 to Y5, Y7: the filter's names and kinds, or its labels, do not fit.
     #[error(transparent)]
     Typing(TypeFault),
     /// G1 or G2: the filter's code would be over a limit.

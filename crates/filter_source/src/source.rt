@@ -1,5 +1,6 @@
 //! A filter's text, or a code file, becomes code, and code is verified.
 ghost use Rattle.std.specs.Prelude.{◌≡◌, ◌<◌, ◌≤◌, ◌↔◌, [], Ok, Err, Some, None, false, IfOk, IfErr, MatchResult, OnOk, length};
+ghost use Rattle.code_file.specs.Spelling.{IsCodeIn, spelling_in};
 ghost use Rattle.filter_parser.specs.SyntaxText.{FilterView};
 ghost use Rattle.filter_verifier.specs.FirstFault.{is_size, the_fault};
 ghost use Rattle.filter_verifier.specs.Safe.{IsSafe};
@@ -15,7 +16,7 @@ ghost use Rattle.filter_source.specs.declared.refusal.Refusal.TheVariants as ref
 use crate::diagnosis::Diagnosis;
 use crate::failure::Failure;
 use crate::refusal::Refusal;
-use code_file::read_code;
+use code_file::{read_code, write_code, write_old};
 use filter_code::Code;
 use filter_compiler::{MappedCode, compile_mapped};
 use filter_parser::parse;
@@ -66,6 +67,20 @@ pub fn read_file(alloc: Global, bytes: &[u8]) -> Result<Code, Failure>
     ensures told { IfErr result IsOfSource }
 {
     Ok(read_code(alloc, bytes)?)
+}
+
+/// The file of a code in the newer form, or in the older one. In the older form a code without sets of ints has a file.
+pub fn write_file(alloc: Global, code: &Code, is_old: bool) -> Result<Vec<u8>, Failure>
+    ensures written { IfOk result (λ bytes. IsCodeIn (spec.version_for is_old) code.now
+        × (bytes.items ≡ spelling_in (spec.version_for is_old) code.now)) }
+    ensures refused { IfErr result (OnRefusal (spec.IsUnwritten is_old code.now)) }
+    ensures told { IfErr result IsOfSource }
+{
+    if is_old {
+        Ok(write_old(alloc, code)?)
+    } else {
+        Ok(write_code(alloc, code)?)
+    }
 }
 
 /// The code of a code file in hexadecimal, in letters of either case.

@@ -22,10 +22,11 @@ record BeginsNoPair (byte : ℕ) : Type 0 where
   not : (eqb byte 33 ≡ false) × (eqb 33 byte ≡ false)
   less : (eqb byte 60 ≡ false) × (eqb 60 byte ≡ false)
   greater : (eqb byte 62 ≡ false) × (eqb 62 byte ≡ false)
+  dot : (eqb byte 46 ≡ false) × (eqb 46 byte ≡ false)
 
 no_pair : (first : ℕ) (others : List ℕ) → BeginsNoPair first → pair first others ≡ None
 no_pair first [] none = refl
-no_pair first (second ∷ rest) none = simp (none.and.0, none.or.0, none.not.0, none.less.0, none.greater.0)
+no_pair first (second ∷ rest) none = simp (none.and.0, none.or.0, none.not.0, none.less.0, none.greater.0, none.dot.0)
 
 -- the longest punctuator is then that of the first byte
 single-by : (first : ℕ) (others : List ℕ) → BeginsNoPair first → punctuator_in (first ∷ others) ≡ single first
@@ -40,7 +41,7 @@ single-by first others none =
     at_byte first 93 P refl (λ a93 b93.
     at_byte first 59 P refl (λ a59 b59.
     at_byte first 44 P refl (λ a44 b44.
-    at_byte first 46 P refl (λ a46 b46.
+    at_byte first 58 P refl (λ a58 b58.
     at_byte first 61 P refl (λ a61 b61.
     at_byte first 126 P refl (λ a126 b126.
     at_byte first 43 P refl (λ a43 b43.
@@ -56,6 +57,8 @@ single-by first others none =
       none.less.1,
       none.greater.0,
       none.greater.1,
+      none.dot.0,
+      none.dot.1,
       a40,
       b40,
       a41,
@@ -72,8 +75,8 @@ single-by first others none =
       b59,
       a44,
       b44,
-      a46,
-      b46,
+      a58,
+      b58,
       a61,
       b61,
       a126,
@@ -119,6 +122,11 @@ unfolding punctuator_in
 begun_by_greater [] = refl
 begun_by_greater (second ∷ rest) = at_byte second 61 (λ byte. IsChosen 62 (byte ∷ rest)) refl (λ a61 b61. simp (a61, b61))
 
+begun_by_dot : (others : List ℕ) → IsChosen 46 others
+unfolding punctuator_in
+begun_by_dot [] = refl
+begun_by_dot (second ∷ rest) = at_byte second 46 (λ byte. IsChosen 46 (byte ∷ rest)) refl (λ a46 b46. simp (a46, b46))
+
 -- the longest punctuator, by the first byte and the next
 pub punctuator-by : (first : ℕ) (others : List ℕ) → punctuator_in (first ∷ others) ≡ pair_or (pair first others) (single first)
 punctuator-by first others =
@@ -128,8 +136,16 @@ punctuator-by first others =
     at_byte first 33 P (begun_by_not others) (λ a33 b33.
     at_byte first 60 P (begun_by_less others) (λ a60 b60.
     at_byte first 62 P (begun_by_greater others) (λ a62 b62.
-    let none : BeginsNoPair first = record { and = (a38, b38); or = (a124, b124); not = (a33, b33); less = (a60, b60); greater = (a62, b62) } in
-    single-by first others none ∙ ap (λ both. pair_or both (single first)) (sym (no_pair first others none)))))))
+    at_byte first 46 P (begun_by_dot others) (λ a46 b46.
+    let none : BeginsNoPair first = record {
+      and = (a38, b38);
+      or = (a124, b124);
+      not = (a33, b33);
+      less = (a60, b60);
+      greater = (a62, b62);
+      dot = (a46, b46);
+    } in
+    single-by first others none ∙ ap (λ both. pair_or both (single first)) (sym (no_pair first others none))))))))
 
 -- whether one of the things that are made from others passes
 pub any_of_map : {X Y : Type 0} (p : Y → Bool) (made : X → Y) (xs : List X) → list_any (λ x. p (made x)) xs ≡ list_any p (map made xs)
@@ -143,6 +159,7 @@ keyword-by first others =
     let P : ℕ → Type 0 = λ byte. keyword_in (byte ∷ others) ≡ find (is_spelled (byte ∷ others)) (keywords_with byte) in
     at_byte first 97 P refl (λ a97 b97.
     at_byte first 98 P refl (λ a98 b98.
+    at_byte first 99 P refl (λ a99 b99.
     at_byte first 100 P refl (λ a100 b100.
     at_byte first 101 P refl (λ a101 b101.
     at_byte first 102 P refl (λ a102 b102.
@@ -151,7 +168,7 @@ keyword-by first others =
     at_byte first 112 P refl (λ a112 b112.
     at_byte first 114 P refl (λ a114 b114.
     at_byte first 116 P refl (λ a116 b116.
-    simp (a97, b97, a98, b98, a100, b100, a101, b101, a102, b102, a105, b105, a110, b110, a112, b112, a114, b114, a116, b116)))))))))))
+    simp (a97, b97, a98, b98, a99, b99, a100, b100, a101, b101, a102, b102, a105, b105, a110, b110, a112, b112, a114, b114, a116, b116))))))))))))
 
 -- whether a word is left out, by those with the same first byte
 pub left_out-by : (first : ℕ) (others : List ℕ)

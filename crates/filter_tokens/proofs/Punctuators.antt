@@ -48,6 +48,7 @@ punctuator_positive symbol.NotEqual is = lit< tt
 punctuator_positive symbol.NotMatch is = lit< tt
 punctuator_positive symbol.LessEqual is = lit< tt
 punctuator_positive symbol.GreaterEqual is = lit< tt
+punctuator_positive symbol.DotDot is = lit< tt
 punctuator_positive symbol.LeftParen is = lit< tt
 punctuator_positive symbol.RightParen is = lit< tt
 punctuator_positive symbol.LeftBrace is = lit< tt
@@ -55,6 +56,7 @@ punctuator_positive symbol.RightBrace is = lit< tt
 punctuator_positive symbol.LeftBracket is = lit< tt
 punctuator_positive symbol.RightBracket is = lit< tt
 punctuator_positive symbol.Semicolon is = lit< tt
+punctuator_positive symbol.Colon is = lit< tt
 punctuator_positive symbol.Comma is = lit< tt
 punctuator_positive symbol.Dot is = lit< tt
 punctuator_positive symbol.Equal is = lit< tt
@@ -74,6 +76,7 @@ punctuator_positive symbol.Prefix is = absurd cc
 punctuator_positive symbol.If is = absurd cc
 punctuator_positive symbol.Then is = absurd cc
 punctuator_positive symbol.Else is = absurd cc
+punctuator_positive symbol.Case is = absurd cc
 punctuator_positive symbol.Accept is = absurd cc
 punctuator_positive symbol.Reject is = absurd cc
 punctuator_positive symbol.True is = absurd cc
@@ -91,6 +94,7 @@ punctuator-itself symbol.NotEqual is = refl
 punctuator-itself symbol.NotMatch is = refl
 punctuator-itself symbol.LessEqual is = refl
 punctuator-itself symbol.GreaterEqual is = refl
+punctuator-itself symbol.DotDot is = refl
 punctuator-itself symbol.LeftParen is = refl
 punctuator-itself symbol.RightParen is = refl
 punctuator-itself symbol.LeftBrace is = refl
@@ -98,6 +102,7 @@ punctuator-itself symbol.RightBrace is = refl
 punctuator-itself symbol.LeftBracket is = refl
 punctuator-itself symbol.RightBracket is = refl
 punctuator-itself symbol.Semicolon is = refl
+punctuator-itself symbol.Colon is = refl
 punctuator-itself symbol.Comma is = refl
 punctuator-itself symbol.Dot is = refl
 punctuator-itself symbol.Equal is = refl
@@ -117,6 +122,7 @@ punctuator-itself symbol.Prefix is = absurd cc
 punctuator-itself symbol.If is = absurd cc
 punctuator-itself symbol.Then is = absurd cc
 punctuator-itself symbol.Else is = absurd cc
+punctuator-itself symbol.Case is = absurd cc
 punctuator-itself symbol.Accept is = absurd cc
 punctuator-itself symbol.Reject is = absurd cc
 punctuator-itself symbol.True is = absurd cc
@@ -135,7 +141,7 @@ two_bytes : (punctuator : Symbol) (rest : List ℕ) → punctuator_in (symbol_te
 two_bytes punctuator rest e = record { longest = punctuator; found = e; covers = omega arith }
 
 -- a punctuator of one byte: something is found, and no punctuator is shorter
-one_byte : (punctuator : Symbol) (rest : List ℕ) (k : ℕ) → length (symbol_text punctuator) ≡ 1 → k < 24
+one_byte : (punctuator : Symbol) (rest : List ℕ) (k : ℕ) → length (symbol_text punctuator) ≡ 1 → k < 26
     → begins_with_symbol (symbol_text punctuator ++ rest) (get_or punctuators k punctuator) ≡ true
     → Covers punctuator (symbol_text punctuator ++ rest)
 unfolding punctuator_in
@@ -153,24 +159,26 @@ punctuator-covers symbol.NotEqual rest is = two_bytes symbol.NotEqual rest refl
 punctuator-covers symbol.NotMatch rest is = two_bytes symbol.NotMatch rest refl
 punctuator-covers symbol.LessEqual rest is = two_bytes symbol.LessEqual rest refl
 punctuator-covers symbol.GreaterEqual rest is = two_bytes symbol.GreaterEqual rest refl
-punctuator-covers symbol.LeftParen rest is = one_byte symbol.LeftParen rest 6 refl (lit< tt) refl
-punctuator-covers symbol.RightParen rest is = one_byte symbol.RightParen rest 7 refl (lit< tt) refl
-punctuator-covers symbol.LeftBrace rest is = one_byte symbol.LeftBrace rest 8 refl (lit< tt) refl
-punctuator-covers symbol.RightBrace rest is = one_byte symbol.RightBrace rest 9 refl (lit< tt) refl
-punctuator-covers symbol.LeftBracket rest is = one_byte symbol.LeftBracket rest 10 refl (lit< tt) refl
-punctuator-covers symbol.RightBracket rest is = one_byte symbol.RightBracket rest 11 refl (lit< tt) refl
-punctuator-covers symbol.Semicolon rest is = one_byte symbol.Semicolon rest 12 refl (lit< tt) refl
-punctuator-covers symbol.Comma rest is = one_byte symbol.Comma rest 13 refl (lit< tt) refl
-punctuator-covers symbol.Dot rest is = one_byte symbol.Dot rest 14 refl (lit< tt) refl
-punctuator-covers symbol.Equal rest is = one_byte symbol.Equal rest 15 refl (lit< tt) refl
-punctuator-covers symbol.Less rest is = one_byte symbol.Less rest 16 refl (lit< tt) refl
-punctuator-covers symbol.Greater rest is = one_byte symbol.Greater rest 17 refl (lit< tt) refl
-punctuator-covers symbol.Match rest is = one_byte symbol.Match rest 18 refl (lit< tt) refl
-punctuator-covers symbol.Not rest is = one_byte symbol.Not rest 19 refl (lit< tt) refl
-punctuator-covers symbol.Plus rest is = one_byte symbol.Plus rest 20 refl (lit< tt) refl
-punctuator-covers symbol.Minus rest is = one_byte symbol.Minus rest 21 refl (lit< tt) refl
-punctuator-covers symbol.Times rest is = one_byte symbol.Times rest 22 refl (lit< tt) refl
-punctuator-covers symbol.Divide rest is = one_byte symbol.Divide rest 23 refl (lit< tt) refl
+punctuator-covers symbol.DotDot rest is = two_bytes symbol.DotDot rest refl
+punctuator-covers symbol.LeftParen rest is = one_byte symbol.LeftParen rest 7 refl (lit< tt) refl
+punctuator-covers symbol.RightParen rest is = one_byte symbol.RightParen rest 8 refl (lit< tt) refl
+punctuator-covers symbol.LeftBrace rest is = one_byte symbol.LeftBrace rest 9 refl (lit< tt) refl
+punctuator-covers symbol.RightBrace rest is = one_byte symbol.RightBrace rest 10 refl (lit< tt) refl
+punctuator-covers symbol.LeftBracket rest is = one_byte symbol.LeftBracket rest 11 refl (lit< tt) refl
+punctuator-covers symbol.RightBracket rest is = one_byte symbol.RightBracket rest 12 refl (lit< tt) refl
+punctuator-covers symbol.Semicolon rest is = one_byte symbol.Semicolon rest 13 refl (lit< tt) refl
+punctuator-covers symbol.Colon rest is = one_byte symbol.Colon rest 14 refl (lit< tt) refl
+punctuator-covers symbol.Comma rest is = one_byte symbol.Comma rest 15 refl (lit< tt) refl
+punctuator-covers symbol.Dot rest is = one_byte symbol.Dot rest 16 refl (lit< tt) refl
+punctuator-covers symbol.Equal rest is = one_byte symbol.Equal rest 17 refl (lit< tt) refl
+punctuator-covers symbol.Less rest is = one_byte symbol.Less rest 18 refl (lit< tt) refl
+punctuator-covers symbol.Greater rest is = one_byte symbol.Greater rest 19 refl (lit< tt) refl
+punctuator-covers symbol.Match rest is = one_byte symbol.Match rest 20 refl (lit< tt) refl
+punctuator-covers symbol.Not rest is = one_byte symbol.Not rest 21 refl (lit< tt) refl
+punctuator-covers symbol.Plus rest is = one_byte symbol.Plus rest 22 refl (lit< tt) refl
+punctuator-covers symbol.Minus rest is = one_byte symbol.Minus rest 23 refl (lit< tt) refl
+punctuator-covers symbol.Times rest is = one_byte symbol.Times rest 24 refl (lit< tt) refl
+punctuator-covers symbol.Divide rest is = one_byte symbol.Divide rest 25 refl (lit< tt) refl
 punctuator-covers symbol.Filter rest is = absurd cc
 punctuator-covers symbol.Int rest is = absurd cc
 punctuator-covers symbol.Bool rest is = absurd cc
@@ -179,6 +187,7 @@ punctuator-covers symbol.Prefix rest is = absurd cc
 punctuator-covers symbol.If rest is = absurd cc
 punctuator-covers symbol.Then rest is = absurd cc
 punctuator-covers symbol.Else rest is = absurd cc
+punctuator-covers symbol.Case rest is = absurd cc
 punctuator-covers symbol.Accept rest is = absurd cc
 punctuator-covers symbol.Reject rest is = absurd cc
 punctuator-covers symbol.True rest is = absurd cc
@@ -206,6 +215,7 @@ keyword-there symbol.NotEqual is = absurd (let never : false ≡ true = is.0 in 
 keyword-there symbol.NotMatch is = absurd (let never : false ≡ true = is.0 in cc)
 keyword-there symbol.LessEqual is = absurd (let never : false ≡ true = is.0 in cc)
 keyword-there symbol.GreaterEqual is = absurd (let never : false ≡ true = is.0 in cc)
+keyword-there symbol.DotDot is = absurd (let never : false ≡ true = is.0 in cc)
 keyword-there symbol.LeftParen is = absurd (let never : false ≡ true = is.0 in cc)
 keyword-there symbol.RightParen is = absurd (let never : false ≡ true = is.0 in cc)
 keyword-there symbol.LeftBrace is = absurd (let never : false ≡ true = is.0 in cc)
@@ -213,6 +223,7 @@ keyword-there symbol.RightBrace is = absurd (let never : false ≡ true = is.0 i
 keyword-there symbol.LeftBracket is = absurd (let never : false ≡ true = is.0 in cc)
 keyword-there symbol.RightBracket is = absurd (let never : false ≡ true = is.0 in cc)
 keyword-there symbol.Semicolon is = absurd (let never : false ≡ true = is.0 in cc)
+keyword-there symbol.Colon is = absurd (let never : false ≡ true = is.0 in cc)
 keyword-there symbol.Comma is = absurd (let never : false ≡ true = is.0 in cc)
 keyword-there symbol.Dot is = absurd (let never : false ≡ true = is.0 in cc)
 keyword-there symbol.Equal is = absurd (let never : false ≡ true = is.0 in cc)
@@ -232,6 +243,7 @@ keyword-there symbol.Prefix is = refl
 keyword-there symbol.If is = refl
 keyword-there symbol.Then is = refl
 keyword-there symbol.Else is = refl
+keyword-there symbol.Case is = refl
 keyword-there symbol.Accept is = refl
 keyword-there symbol.Reject is = refl
 keyword-there symbol.True is = refl

@@ -47,6 +47,18 @@ dot_between =
     let parts = part.Token (kind.Number 1) 1 ∷ part.Token (kind.Symbol symbol.Dot) 1 ∷ part.Token (kind.Number 255) 4 ∷ [] in
     record { parts = parts; cut = are_parts parts (codes "1.0xfF") (refl, (refl, (refl, refl))); among = refl }
 
+-- a range of numbers, its colon and the keyword of cases
+range_label : IsTokenization (record { kind = kind.Symbol symbol.Case; from = 0; to = 4 } ∷ record { kind = kind.Number 1; from = 5; to = 6 }
+    ∷ record { kind = kind.Symbol symbol.DotDot; from = 6; to = 8 } ∷ record { kind = kind.Number 3; from = 8; to = 9 }
+    ∷ record { kind = kind.Symbol symbol.Colon; from = 9; to = 10 } ∷ []) 0 (codes "case 1..3:")
+unfolding part_in gap_len token_in longest_shape digits_shape after_prefix after_address after_digits after_hexadecimal punctuator_shape
+    punctuator_in number_in decimal_value word_in keyword_in
+range_label =
+    let parts =
+    part.Token (kind.Symbol symbol.Case) 4 ∷ part.Gap 1 ∷ part.Token (kind.Number 1) 1 ∷ part.Token (kind.Symbol symbol.DotDot) 2
+    ∷ part.Token (kind.Number 3) 1 ∷ part.Token (kind.Symbol symbol.Colon) 1 ∷ [] in
+    record { parts = parts; cut = are_parts parts (codes "case 1..3:") (refl, (refl, (refl, (refl, (refl, (refl, refl)))))); among = refl }
+
 -- an address with a length is one token
 ten_net : IsTokenization (record { kind = kind.Prefix (false ∷ false ∷ false ∷ false ∷ true ∷ false ∷ true ∷ false ∷ []); from = 0; to = 10 } ∷ []) 0
     (codes "10.0.0.0/8")
@@ -87,6 +99,6 @@ unfolding part_in gap_len token_in longest_shape digits_shape after_prefix after
 group_over = none_cut (codes "1.2.3.256") refl (lit< tt)
 
 -- nor a word that is left out
-left_out_word : (tokens : List Token) → IsTokenization tokens 0 (codes "case") → ⊥
+left_out_word : (tokens : List Token) → IsTokenization tokens 0 (codes "from") → ⊥
 unfolding part_in gap_len token_in longest_shape word_in keyword_in is_left_out
-left_out_word = none_cut (codes "case") refl (lit< tt)
+left_out_word = none_cut (codes "from") refl (lit< tt)

@@ -96,8 +96,8 @@ digits_shape text =
 -- the punctuators, longer ones first
 abbrev pub punctuators : List Symbol
 punctuators =
-    symbol.And ∷ symbol.Or ∷ symbol.NotEqual ∷ symbol.NotMatch ∷ symbol.LessEqual ∷ symbol.GreaterEqual ∷ symbol.LeftParen ∷
-    symbol.RightParen ∷ symbol.LeftBrace ∷ symbol.RightBrace ∷ symbol.LeftBracket ∷ symbol.RightBracket ∷ symbol.Semicolon ∷
+    symbol.And ∷ symbol.Or ∷ symbol.NotEqual ∷ symbol.NotMatch ∷ symbol.LessEqual ∷ symbol.GreaterEqual ∷ symbol.DotDot ∷ symbol.LeftParen ∷
+    symbol.RightParen ∷ symbol.LeftBrace ∷ symbol.RightBrace ∷ symbol.LeftBracket ∷ symbol.RightBracket ∷ symbol.Semicolon ∷ symbol.Colon ∷
     symbol.Comma ∷ symbol.Dot ∷ symbol.Equal ∷ symbol.Less ∷ symbol.Greater ∷ symbol.Match ∷ symbol.Not ∷ symbol.Plus ∷ symbol.Minus ∷
     symbol.Times ∷ symbol.Divide ∷ []
 
@@ -118,7 +118,8 @@ pair_of first second =
     else (if first == 33 && second == 126 then Some symbol.NotMatch
     else (if first == 60 && second == 61 then Some symbol.LessEqual
     else (if first == 62 && second == 61 then Some symbol.GreaterEqual
-    else None)))))
+    else (if first == 46 && second == 46 then Some symbol.DotDot
+    else None))))))
 
 -- the punctuator of two bytes that begins with this byte and goes on as the text does
 abbrev pub pair : ℕ → List ℕ → Option Symbol
@@ -135,6 +136,7 @@ single byte =
     else (if byte == 91 then Some symbol.LeftBracket
     else (if byte == 93 then Some symbol.RightBracket
     else (if byte == 59 then Some symbol.Semicolon
+    else (if byte == 58 then Some symbol.Colon
     else (if byte == 44 then Some symbol.Comma
     else (if byte == 46 then Some symbol.Dot
     else (if byte == 61 then Some symbol.Equal
@@ -146,7 +148,7 @@ single byte =
     else (if byte == 45 then Some symbol.Minus
     else (if byte == 42 then Some symbol.Times
     else (if byte == 47 then Some symbol.Divide
-    else None)))))))))))))))))
+    else None))))))))))))))))))
 
 -- a punctuator of two bytes where there is one, and otherwise one of one byte
 abbrev pub pair_or : Option Symbol → Option Symbol → Option Symbol
@@ -169,7 +171,7 @@ longest_shape (first ∷ others) =
 -- the keywords
 abbrev pub keywords : List Symbol
 keywords =
-    symbol.Filter ∷ symbol.Int ∷ symbol.Bool ∷ symbol.Ip ∷ symbol.Prefix ∷ symbol.If ∷ symbol.Then ∷ symbol.Else ∷ symbol.Accept ∷
+    symbol.Filter ∷ symbol.Int ∷ symbol.Bool ∷ symbol.Ip ∷ symbol.Prefix ∷ symbol.If ∷ symbol.Then ∷ symbol.Else ∷ symbol.Case ∷ symbol.Accept ∷
     symbol.Reject ∷ symbol.True ∷ symbol.False ∷ symbol.Defined ∷ symbol.Net ∷ symbol.RipMetric ∷ []
 
 -- whether a symbol is written so
@@ -185,6 +187,7 @@ abbrev pub keywords_with : ℕ → List Symbol
 keywords_with first =
     if first == 97 then symbol.Accept ∷ []
     else (if first == 98 then symbol.Bool ∷ []
+    else (if first == 99 then symbol.Case ∷ []
     else (if first == 100 then symbol.Defined ∷ []
     else (if first == 101 then symbol.Else ∷ []
     else (if first == 102 then symbol.Filter ∷ symbol.False ∷ []
@@ -193,7 +196,7 @@ keywords_with first =
     else (if first == 112 then symbol.Prefix ∷ []
     else (if first == 114 then symbol.Reject ∷ symbol.RipMetric ∷ []
     else (if first == 116 then symbol.Then ∷ symbol.True ∷ []
-    else [])))))))))
+    else []))))))))))
 
 -- whether the language leaves a word out
 unfoldable pub is_left_out : List ℕ → Bool
@@ -203,7 +206,7 @@ is_left_out bytes = list_any (λ word. bytes_eq word bytes) left_out
 abbrev pub left_out_with : ℕ → List (List ℕ)
 left_out_with first =
     if first == 98 then codes "bgppath" ∷ codes "bgpmask" ∷ []
-    else (if first == 99 then codes "case" ∷ codes "clist" ∷ []
+    else (if first == 99 then codes "clist" ∷ []
     else (if first == 100 then codes "define" ∷ []
     else (if first == 101 then codes "ec" ∷ codes "eclist" ∷ []
     else (if first == 102 then codes "function" ∷ codes "from" ∷ []

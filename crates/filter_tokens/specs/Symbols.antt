@@ -11,6 +11,7 @@ symbol_text symbol.NotEqual = codes "!="
 symbol_text symbol.NotMatch = codes "!~"
 symbol_text symbol.LessEqual = codes "<="
 symbol_text symbol.GreaterEqual = codes ">="
+symbol_text symbol.DotDot = codes ".."
 symbol_text symbol.LeftParen = codes "("
 symbol_text symbol.RightParen = codes ")"
 symbol_text symbol.LeftBrace = codes "{"
@@ -18,6 +19,7 @@ symbol_text symbol.RightBrace = codes "}"
 symbol_text symbol.LeftBracket = codes "["
 symbol_text symbol.RightBracket = codes "]"
 symbol_text symbol.Semicolon = codes ";"
+symbol_text symbol.Colon = codes ":"
 symbol_text symbol.Comma = codes ","
 symbol_text symbol.Dot = codes "."
 symbol_text symbol.Equal = codes "="
@@ -37,6 +39,7 @@ symbol_text symbol.Prefix = codes "prefix"
 symbol_text symbol.If = codes "if"
 symbol_text symbol.Then = codes "then"
 symbol_text symbol.Else = codes "else"
+symbol_text symbol.Case = codes "case"
 symbol_text symbol.Accept = codes "accept"
 symbol_text symbol.Reject = codes "reject"
 symbol_text symbol.True = codes "true"
@@ -55,6 +58,7 @@ is_punctuator symbol.Prefix = false
 is_punctuator symbol.If = false
 is_punctuator symbol.Then = false
 is_punctuator symbol.Else = false
+is_punctuator symbol.Case = false
 is_punctuator symbol.Accept = false
 is_punctuator symbol.Reject = false
 is_punctuator symbol.True = false
@@ -67,6 +71,6 @@ is_punctuator punctuator = true
 -- words of BIRD's filters that are neither names nor keywords here (this project's own choice)
 abbrev pub left_out : List (List ℕ)
 left_out =
-    codes "case" ∷ codes "function" ∷ codes "define" ∷ codes "print" ∷ codes "printn" ∷ codes "return" ∷ codes "include" ∷
+    codes "function" ∷ codes "define" ∷ codes "print" ∷ codes "printn" ∷ codes "return" ∷ codes "include" ∷
     codes "string" ∷ codes "pair" ∷ codes "quad" ∷ codes "ec" ∷ codes "lc" ∷ codes "bgppath" ∷ codes "bgpmask" ∷ codes "clist" ∷
     codes "eclist" ∷ codes "lclist" ∷ codes "set" ∷ codes "from" ∷ codes "proto" ∷ codes "preference" ∷ codes "source" ∷ []

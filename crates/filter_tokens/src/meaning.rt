@@ -67,6 +67,7 @@ fn keywords_with(first: u8) -> &'static [Symbol]
     match first {
         b'a' => &[Symbol::Accept],
         b'b' => &[Symbol::Bool],
+        b'c' => &[Symbol::Case],
         b'd' => &[Symbol::Defined],
         b'e' => &[Symbol::Else],
         b'f' => &[Symbol::Filter, Symbol::False],
@@ -108,7 +109,7 @@ fn left_out_with(first: u8) -> &'static [&'static str]
 {
     match first {
         b'b' => &["bgppath", "bgpmask"],
-        b'c' => &["case", "clist"],
+        b'c' => &["clist"],
         b'd' => &["define"],
         b'e' => &["ec", "eclist"],
         b'f' => &["function", "from"],

@@ -156,6 +156,7 @@ fn pair(first: u8, others: &[u8]) -> Option<Symbol>
         (b'!', b'~') => Some(Symbol::NotMatch),
         (b'<', b'=') => Some(Symbol::LessEqual),
         (b'>', b'=') => Some(Symbol::GreaterEqual),
+        (b'.', b'.') => Some(Symbol::DotDot),
         _ => None,
     }
 }
@@ -172,6 +173,7 @@ fn single(byte: u8) -> Option<Symbol>
         b'[' => Some(Symbol::LeftBracket),
         b']' => Some(Symbol::RightBracket),
         b';' => Some(Symbol::Semicolon),
+        b':' => Some(Symbol::Colon),
         b',' => Some(Symbol::Comma),
         b'.' => Some(Symbol::Dot),
         b'=' => Some(Symbol::Equal),

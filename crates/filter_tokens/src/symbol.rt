@@ -15,6 +15,8 @@ pub enum Symbol {
     LessEqual,
     /// `>=`
     GreaterEqual,
+    /// `..`
+    DotDot,
     /// `(`
     LeftParen,
     /// `)`
@@ -29,6 +31,8 @@ pub enum Symbol {
     RightBracket,
     /// `;`
     Semicolon,
+    /// `:`
+    Colon,
     /// `,`
     Comma,
     /// `.`
@@ -67,6 +71,8 @@ pub enum Symbol {
     Then,
     /// `else`
     Else,
+    /// `case`
+    Case,
     /// `accept`
     Accept,
     /// `reject`
@@ -97,6 +103,7 @@ impl Symbol {
             Symbol::NotMatch => "!~",
             Symbol::LessEqual => "<=",
             Symbol::GreaterEqual => ">=",
+            Symbol::DotDot => "..",
             Symbol::LeftParen => "(",
             Symbol::RightParen => ")",
             Symbol::LeftBrace => "{",
@@ -104,6 +111,7 @@ impl Symbol {
             Symbol::LeftBracket => "[",
             Symbol::RightBracket => "]",
             Symbol::Semicolon => ";",
+            Symbol::Colon => ":",
             Symbol::Comma => ",",
             Symbol::Dot => ".",
             Symbol::Equal => "=",
@@ -123,6 +131,7 @@ impl Symbol {
             Symbol::If => "if",
             Symbol::Then => "then",
             Symbol::Else => "else",
+            Symbol::Case => "case",
             Symbol::Accept => "accept",
             Symbol::Reject => "reject",
             Symbol::True => "true",

@@ -48,12 +48,16 @@ abbrev pub number_text : Option ℕ → List ℕ
 number_text None = []
 number_text (Some number) = 58 ∷ decimal number
 
--- what is said of a refusal in some words, by the byte of the text at which it stands
-abbrev pub explanation : List ℕ → Option ℕ → List ℕ → List ℕ → Refusal → Option ℕ → List ℕ
-explanation name number text words why None = shown name ++ number_text number ++ message words (refusal_code why)
-explanation name number text words why (Some at) =
-    shown name ++ position (unwrap_or number (line_at text at)) (column_at text at) ++ message words (refusal_code why)
+-- what is said in some words under a code, by the byte of the text at which it stands
+abbrev pub told_at : List ℕ → Option ℕ → List ℕ → List ℕ → List ℕ → Option ℕ → List ℕ
+told_at name number text words code None = shown name ++ number_text number ++ message words code
+told_at name number text words code (Some at) =
+    shown name ++ position (unwrap_or number (line_at text at)) (column_at text at) ++ message words code
     ++ excerpt (behind_last_feed (take at text)) (before_first_feed (drop at text))
+
+-- the same of a refusal
+abbrev pub explanation : List ℕ → Option ℕ → List ℕ → List ℕ → Refusal → Option ℕ → List ℕ
+explanation name number text words why byte = told_at name number text words (refusal_code why) byte
 
 -- what people are told of a refusal of a source: words that end with the range which is told, where the refusal is shown
 abbrev pub IsExplanation : List ℕ → List ℕ → Diagnosis → List ℕ → Type 0

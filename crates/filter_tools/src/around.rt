@@ -25,6 +25,14 @@ pub(crate) fn is_kind(kind: TokenKind) -> bool {
     )
 }
 
+/// Whether a token is this keyword or punctuator.
+pub(crate) fn is_symbol(token: Option<Token>, symbol: Symbol) -> bool {
+    match token {
+        Some(token) => token.kind == TokenKind::Symbol(symbol),
+        None => false,
+    }
+}
+
 /// The bytes of a text from one place to another, if they are a text that is short enough to be quoted.
 pub(crate) fn quoted(text: &[u8], from: usize, to: usize) -> Option<&str> {
     let bytes = text.get(from..to)?;

@@ -1,7 +1,7 @@
 //! A refusal in words for people, at its line and column where it has one.
 ghost use Rattle.std.specs.Prelude.{◌≡◌, ◌++◌, None, Some, IfOk, OnOk, unwrap_or};
 ghost use Rattle.std.specs.Option.{option_map};
-ghost use Rattle.filter_tools.specs.Explanations.{IsExplanation, IsLineExplanation, blanks_for, byte_of_line, dots_for, excerpt, excerpt_of};
+ghost use Rattle.filter_tools.specs.Explanations.{IsExplanation, IsLineExplanation, blanks_for, byte_of_line, dots_for, excerpt, excerpt_of, told_at};
 ghost use Rattle.filter_tools.specs.Explanations.{explanation, first_of, last_of, message, number_text, position};
 
 use crate::finding::find;
@@ -121,8 +121,38 @@ fn push_number(out: &mut Vec<u8>, number: Option<u32>) -> Result<(), AllocError>
     }
 }
 
-/// What is said of a refusal in these words, where it stands at this byte. The number of its line is that of a script's line if it is
-/// known.
+/// What is said in these words under a code, for people: `NAME:NUMBER: WORDS (CODE)`, or without the number where it is not known. Where
+/// it stands at a byte of the text, the line and the column are behind the name, and the line with a caret under the place follows. The
+/// number is that of a script's line, if it is known. The name and the text are shown, and the words and the code are taken as they are.
+pub fn tell_at(
+    alloc: Global,
+    name: &[u8],
+    number: Option<u32>,
+    text: &[u8],
+    words: &[u8],
+    code: &str,
+    byte: Option<usize>,
+) -> Result<Vec<u8>, AllocError>
+    ensures { IfOk result (λ out. out.items ≡ told_at name.now number text.now words.now code.now byte) }
+{
+    let mut out = Vec::new(alloc);
+    push_shown(alloc, &mut out, name)?;
+    match byte {
+        None => {
+            push_number(&mut out, number)?;
+            push_message(&mut out, words, code)?;
+        }
+        Some(at) => {
+            let place = place_in(text, at);
+            push_position(&mut out, line_in(number, place.line), place.column)?;
+            push_message(&mut out, words, code)?;
+            push_excerpt(alloc, &mut out, place.before, place.behind)?;
+        }
+    }
+    Ok(out)
+}
+
+/// What is said of a refusal in these words, where it stands at this byte.
 fn explain_in(
     alloc: Global,
     name: &[u8],
@@ -134,21 +164,7 @@ fn explain_in(
 ) -> Result<Vec<u8>, AllocError>
     ensures { IfOk result (λ out. out.items ≡ explanation name.now number text.now words.now why byte) }
 {
-    let mut out = Vec::new(alloc);
-    push_shown(alloc, &mut out, name)?;
-    match byte {
-        None => {
-            push_number(&mut out, number)?;
-            push_message(&mut out, words, why.code())?;
-        }
-        Some(at) => {
-            let place = place_in(text, at);
-            push_position(&mut out, line_in(number, place.line), place.column)?;
-            push_message(&mut out, words, why.code())?;
-            push_excerpt(alloc, &mut out, place.before, place.behind)?;
-        }
-    }
-    Ok(out)
+    tell_at(alloc, name, number, text, words, why.code(), byte)
 }
 
 /// The number of a line, where it is known, or another one.

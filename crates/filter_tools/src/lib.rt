@@ -16,10 +16,11 @@ mod route_of_size;
 mod shown;
 mod words;
 
-pub use explanation::{explain, explain_line};
+pub use explanation::{explain, explain_line, tell_at};
 pub use filter::{Filtered, filter_lines};
 pub use laws::shown_is_harmless;
 pub use listing::write_listing;
 pub use named::{check_named, list_named, tell};
+pub use nearest::nearest_word;
 pub use place::{Place, place_in};
 pub use shown::push_shown;

@@ -12,7 +12,7 @@ struct Near<'a> {
 
 /// The known word to which the fewest edits lead, if they are at most a third of the word's letters. Two letters that changed places are
 /// one edit.
-pub(crate) fn nearest<'a>(
+pub fn nearest_word<'a>(
     alloc: Global,
     word: &str,
     known: &[&'a str],

@@ -1,6 +1,6 @@
 //! What to write in place of what this language has not.
 
-use crate::around::{Around, is_kind};
+use crate::around::{Around, is_kind, is_symbol};
 use filter_parser::Expected;
 use filter_tokens::{Symbol, Token, TokenKind};
 
@@ -11,7 +11,6 @@ pub(crate) const IPV6: &str = "IPv6 is not supported: write prefixes of IPv4, as
 pub(crate) fn in_place_of(word: &str) -> &'static str {
     match word {
         "define" => "write the value or the set where it is used",
-        "case" => "write `if .. then .. else ..`",
         "function" | "return" => "write the commands where the function is called",
         "print" | "printn" => "leave it out, or write the text after `accept` or `reject`",
         "include" => "write the text of the file in its place",
@@ -37,22 +36,12 @@ pub(crate) fn in_place_of_name(name: &str) -> Option<&'static str> {
 
 /// What to write in place of a character that begins no token.
 pub(crate) fn in_place_of_character(rest: &[u8]) -> Option<&'static str> {
-    if rest.starts_with(b":=") {
-        Some("assign by `=`")
-    } else if rest.starts_with(b"&") {
+    if rest.starts_with(b"&") {
         Some("write `&&`")
     } else if rest.starts_with(b"|") {
         Some("write `||`")
     } else {
         None
-    }
-}
-
-/// Whether a token is this keyword or punctuator.
-fn is(token: Option<Token>, symbol: Symbol) -> bool {
-    match token {
-        Some(token) => token.kind == TokenKind::Symbol(symbol),
-        None => false,
     }
 }
 
@@ -66,7 +55,7 @@ fn begins_declaration(token: Option<Token>) -> bool {
 
 /// What to write where the `;` of a command is missing.
 fn in_place_of_semicolon(around: Around) -> Option<&'static str> {
-    if is(around.found, Symbol::Equal) && begins_declaration(around.earlier) {
+    if is_symbol(around.found, Symbol::Equal) && begins_declaration(around.earlier) {
         Some("declare the variable first, and assign to it in a command")
     } else {
         None
@@ -75,8 +64,17 @@ fn in_place_of_semicolon(around: Around) -> Option<&'static str> {
 
 /// What to write where a value is missing.
 fn in_place_of_operand(around: Around) -> Option<&'static str> {
-    if is(around.found, Symbol::Equal) && is(around.last, Symbol::Equal) {
+    if is_symbol(around.found, Symbol::Equal) && is_symbol(around.last, Symbol::Equal) {
         Some("compare by a single `=`")
+    } else {
+        None
+    }
+}
+
+/// What to write where the `=` of an assignment is missing.
+fn in_place_of_assign(around: Around) -> Option<&'static str> {
+    if is_symbol(around.found, Symbol::Colon) {
+        Some("assign by `=`")
     } else {
         None
     }
@@ -84,20 +82,39 @@ fn in_place_of_operand(around: Around) -> Option<&'static str> {
 
 /// What to write where the text goes on behind the filter.
 fn in_place_of_end(around: Around) -> Option<&'static str> {
-    if is(around.found, Symbol::Semicolon) {
+    if is_symbol(around.found, Symbol::Semicolon) {
         Some("take it out")
-    } else if is(around.found, Symbol::Filter) {
+    } else if is_symbol(around.found, Symbol::Filter) {
         Some("a text is one filter")
     } else {
         None
     }
 }
 
+/// What a set has.
+const ONE_KIND: &str = "a set has prefixes or numbers, and not both";
+
 /// What to write in place of a token where the prefix of a pattern is missing.
 fn in_place_of_prefix(kind: TokenKind) -> Option<&'static str> {
     match kind {
         TokenKind::Address(_) => Some("write an address as a prefix of length 32"),
-        TokenKind::Symbol(Symbol::RightBracket) => Some("a set has one prefix at least"),
+        TokenKind::Number(_) => Some(ONE_KIND),
+        _ => None,
+    }
+}
+
+/// What to write in place of a token where the first member of a set is missing.
+fn in_place_of_member(kind: TokenKind) -> Option<&'static str> {
+    match kind {
+        TokenKind::Symbol(Symbol::RightBracket) => Some("a set has one member at least"),
+        _ => in_place_of_prefix(kind),
+    }
+}
+
+/// What to write in place of a token where a number is missing.
+fn in_place_of_number(kind: TokenKind) -> Option<&'static str> {
+    match kind {
+        TokenKind::Prefix(_) => Some(ONE_KIND),
         _ => None,
     }
 }
@@ -108,12 +125,17 @@ pub(crate) fn in_place_of_found(expected: Expected, around: Around) -> Option<&'
         Expected::Semicolon => in_place_of_semicolon(around),
         Expected::Operand | Expected::OperandOrSet => in_place_of_operand(around),
         Expected::End => in_place_of_end(around),
+        Expected::Assign => in_place_of_assign(around),
+        Expected::Member => in_place_of_member(around.found?.kind),
         Expected::Prefix => in_place_of_prefix(around.found?.kind),
+        Expected::Number => in_place_of_number(around.found?.kind),
         Expected::CommandOrEnd if begins_declaration(around.found) => {
             Some("declare variables before the first command")
         }
         Expected::FilterWord => Some("a text is one filter, `filter NAME { .. }`"),
-        Expected::Name if is(around.found, Symbol::LeftBrace) => Some("give the filter a name"),
+        Expected::Name if is_symbol(around.found, Symbol::LeftBrace) => Some(
+            "give the filter a name",
+        ),
         _ => None,
     }
 }

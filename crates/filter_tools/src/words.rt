@@ -1,22 +1,26 @@
 //! What is wrong with a refused source, in words.
 
-use crate::around::{Around, declared, is_ipv6, name_of, quoted, tokens_around, word_at};
+use crate::around::{
+    Around, declared, is_ipv6, is_symbol, name_of, quoted, tokens_around, word_at,
+};
 use crate::head_word::Word;
-use crate::nearest::nearest;
+use crate::nearest::nearest_word;
 use crate::remedies::{
     IPV6, in_place_of, in_place_of_character, in_place_of_found, in_place_of_name,
 };
 use filter_compiler::CompileFault;
 use filter_parser::{Expected, ParseFault};
 use filter_source::{Diagnosis, Refusal};
-use filter_tokens::{Token, TokenFault, TokenKind, lex};
+use filter_tokens::{Symbol, Token, TokenFault, TokenKind, lex};
 use filter_types::{ExpectedKind, TypeFault};
 use filter_verifier::VerifyFault;
 use prefix_patterns::read_ip;
 use std::alloc::{AllocError, Global};
 
 /// The words with which a command begins.
-const HEADS: [&str; 7] = ["accept", "reject", "if", "else", "int", "bool", "prefix"];
+const HEADS: [&str; 8] = [
+    "accept", "reject", "if", "else", "case", "int", "bool", "prefix",
+];
 
 /// What a name may mean that is no variable's.
 const VALUES: [&str; 4] = ["net", "rip_metric", "true", "false"];
@@ -41,7 +45,6 @@ fn parse_words(alloc: Global, text: &[u8], fault: ParseFault) -> Result<String, 
             let lexed = lex(alloc, text)?;
             unexpected(alloc, text, lexed.tokens.as_slice(), at, expected)
         }
-        ParseFault::NumberSet(at) => String::from_str(alloc, number_words(text, at)),
         _ => String::from_str(alloc, plain_words(fault)),
     }
 }
@@ -52,23 +55,13 @@ fn plain_words(fault: ParseFault) -> &'static str {
         ParseFault::MaskOverLimit(_) => "the argument of `mask` exceeds 32",
         ParseFault::PatternLengths(_) =>
             "the lengths of a pattern must be in order, and at most 32",
+        ParseFault::RangeOrder(_) => "the lower number of a range comes first",
         ParseFault::TooDeep(_) => "nesting deeper than 32 levels",
         ParseFault::MixedOperators(_) => "`&&` and `||` are mixed: add parentheses",
         ParseFault::TooLong => "the filter is longer than 65536 bytes",
         ParseFault::EndsEarly(_) => "unexpected end of the text",
         ParseFault::TextElsewhere(_) => "unexpected text: only `accept` and `reject` take one",
         _ => "the text is no filter",
-    }
-}
-
-/// The words of a set that begins with a number.
-fn number_words(text: &[u8], at: usize) -> &'static str {
-    if is_ipv6(text, at) {
-        IPV6
-    } else if is_short_prefix(text, at) {
-        "a prefix has four numbers before its `/`, as 10.0.0.0/8"
-    } else {
-        "sets of numbers are not supported: write comparisons, as `net.len >= 8 && net.len <= 24`"
     }
 }
 
@@ -201,6 +194,39 @@ fn remedy_for(
     }
 }
 
+/// Whether an address of IPv6 seems to stand where a prefix may, or a colon that was not expected.
+fn is_foreign_address(text: &[u8], expected: Expected, found: Option<Token>, at: usize) -> bool {
+    match expected {
+        Expected::Member | Expected::Prefix => is_ipv6(text, at),
+        _ => is_symbol(found, Symbol::Colon) && is_ipv6(text, at),
+    }
+}
+
+/// Whether a member of a set is an address of fewer than four numbers and a `/`.
+fn is_short_member(text: &[u8], expected: Expected, last: Option<Token>) -> bool {
+    match last {
+        Some(token) => expected == Expected::CommaOrBracket && is_short_prefix(text, token.from),
+        None => false,
+    }
+}
+
+/// What is wrong where a prefix was meant: an address of IPv6, or one of fewer than four numbers in a set.
+fn prefix_words(
+    text: &[u8],
+    expected: Expected,
+    found: Option<Token>,
+    last: Option<Token>,
+    at: usize,
+) -> Option<&'static str> {
+    if is_foreign_address(text, expected, found, at) {
+        return Some(IPV6);
+    }
+    if is_short_member(text, expected, last) {
+        return Some("a prefix has four numbers before its `/`, as 10.0.0.0/8");
+    }
+    None
+}
+
 /// What was expected in place of the token at a byte.
 fn unexpected(
     alloc: Global,
@@ -209,10 +235,10 @@ fn unexpected(
     at: usize,
     expected: Expected,
 ) -> Result<String, AllocError> {
-    if expected == Expected::Prefix && is_ipv6(text, at) {
-        return String::from_str(alloc, IPV6);
-    }
     let around = tokens_around(tokens, at);
+    if let Some(words) = prefix_words(text, expected, around.found, around.last, at) {
+        return String::from_str(alloc, words);
+    }
     let found = found_words(alloc, text, around.found)?;
     let variables = declared(alloc, text, tokens)?;
     match remedy_for(text, expected, around, variables.as_slice()) {
@@ -244,7 +270,7 @@ fn no_command(alloc: Global, name: &str, plain: &str) -> Result<String, AllocErr
     if let Some(remedy) = in_place_of_name(name) {
         return format!(in alloc; "`{name}` is no command: {remedy}");
     }
-    match nearest(alloc, name, HEADS.as_slice())? {
+    match nearest_word(alloc, name, HEADS.as_slice())? {
         Some(near) => format!(in alloc; "`{name}` is no command; did you mean `{near}`?"),
         None => format!(in alloc; "`{name}` is no command: {plain}"),
     }
@@ -269,6 +295,10 @@ fn kind_words(alloc: Global, text: &[u8], fault: TypeFault) -> Result<String, Al
         TypeFault::TooManyVariables(_) => {
             String::from_str(alloc, "a filter has at most 16 variables")
         }
+        TypeFault::SharedLabel(_) => String::from_str(
+            alloc,
+            "an earlier label of this `case` has a number of this label",
+        ),
         TypeFault::Memory => String::from_str(alloc, "out of memory"),
     }
 }
@@ -278,7 +308,7 @@ fn name_words(alloc: Global, text: &[u8], name: &str) -> Result<String, AllocErr
     let lexed = lex(alloc, text)?;
     let mut known = declared(alloc, text, lexed.tokens.as_slice())?;
     known.extend_from_slice(VALUES.as_slice())?;
-    match nearest(alloc, name, known.as_slice())? {
+    match nearest_word(alloc, name, known.as_slice())? {
         Some(near) => {
             format!(in alloc; "`{name}` is no variable and no attribute; did you mean `{near}`?")
         }
@@ -292,7 +322,9 @@ fn name_words(alloc: Global, text: &[u8], name: &str) -> Result<String, AllocErr
 fn compile_words(fault: CompileFault) -> &'static str {
     match fault {
         CompileFault::TooManyInstructions => "the compiled filter exceeds 1024 instructions",
-        CompileFault::TooManySets => "more than 64 sets, or more than 1024 patterns in one set",
+        CompileFault::TooManySets => {
+            "more than 64 sets of patterns or of ints, or more than 1024 patterns or ranges in one"
+        }
         CompileFault::Memory => "out of memory",
     }
 }

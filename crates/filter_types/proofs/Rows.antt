@@ -1,8 +1,8 @@
 -- Worked rows: the definitions say of these filters what they should.
 use Rattle.std.proofs.Common.{◌≡◌, ℕ, true, false, Some, None, List, [], ◌∷◌, refl, arith}
 use Rattle.std.specs.Prelude.{codes}
-use Rattle.filter_parser.specs.Syntax.{ExprView}
-use Rattle.filter_parser.specs.SyntaxCommands.{CommandView, CommandsView, TargetView, DeclView}
+use Rattle.filter_parser.specs.Syntax.{ExprView, RangeView, SetView}
+use Rattle.filter_parser.specs.SyntaxCommands.{CommandView, CommandsView, LabelView, PartsView, TargetView, DeclView}
 use Rattle.filter_parser.specs.SyntaxText.{FilterView}
 use Rattle.filter_parser.specs.declared.tree.decl.Kind.TheVariants as kind
 use Rattle.filter_parser.specs.declared.tree.expr.Attribute.TheVariants as attributes
@@ -47,11 +47,24 @@ in_an_ip = refl
 pub in_a_prefix : kind_in variables (ExprView.binary o.Match (named (codes "b")) (ExprView.attribute attributes.Net)) ≡ Some kind.Bool
 in_a_prefix = refl
 
-pub ip_in_a_set : kind_in variables (ExprView.member membership.In (named (codes "b")) []) ≡ None
+pub ip_in_a_set : kind_in variables (ExprView.member membership.In (named (codes "b")) (SetView.of_patterns [])) ≡ None
 ip_in_a_set = refl
 
-pub prefix_in_a_set : kind_in variables (ExprView.member membership.In (ExprView.attribute attributes.Net) []) ≡ Some kind.Bool
+pub prefix_in_a_set : kind_in variables (ExprView.member membership.In (ExprView.attribute attributes.Net) (SetView.of_patterns [])) ≡ Some kind.Bool
 prefix_in_a_set = refl
+
+-- `a ~ [2, 4..6]` is a bool, `net ~ [2, 4..6]` and `a ~ [..]` of prefixes nothing
+abbrev of_ints : SetView
+of_ints = SetView.of_ranges (RangeView.one 2 ∷ RangeView.from_to 4 6 ∷ [])
+
+pub int_in_a_set : kind_in variables (ExprView.member membership.In (named (codes "a")) of_ints) ≡ Some kind.Bool
+int_in_a_set = refl
+
+pub prefix_in_ints : kind_in variables (ExprView.member membership.In (ExprView.attribute attributes.Net) of_ints) ≡ None
+prefix_in_ints = refl
+
+pub int_in_prefixes : kind_in variables (ExprView.member membership.NotIn (named (codes "a")) (SetView.of_patterns [])) ≡ None
+int_in_prefixes = refl
 
 -- `!a` is nothing, `!defined(net)` a bool
 pub no_negation : kind_in variables (ExprView.negation (named (codes "a"))) ≡ None
@@ -97,6 +110,23 @@ metric_of_a_bool h = let p : Some kind.Int ≡ Some h.0 = h.1 in let q : Some ki
 -- `if a then accept;` does not fit
 pub if_of_an_int : KindsFit variables (CommandView.if_then (named (codes "a")) (CommandView.accept false)) → ⊥
 if_of_an_int h = let p : Some kind.Int ≡ Some kind.Bool = h.0 in cc
+
+-- `case a { 1..3: 2: }` does not fit, nor does `case b { }`; `case a { 1, 1: }` does
+abbrev a_part : List RangeView → PartsView → PartsView
+a_part ranges more = PartsView.part_then (LabelView.ranges_label ranges) CommandsView.no_commands more
+
+pub label_shared : KindsFit variables (CommandView.case (named (codes "a"))
+    (a_part (RangeView.from_to 1 3 ∷ []) (a_part (RangeView.one 2 ∷ []) PartsView.no_parts))) → ⊥
+label_shared h =
+    h.1 0 1 [] (omega arith) (omega arith) 2
+    (0, record { low = 1; high = 3 }, omega arith, refl, record { low = omega arith; high = omega arith })
+    (0, record { low = 2; high = 2 }, omega arith, refl, record { low = omega arith; high = omega arith })
+
+pub case_of_an_ip : KindsFit variables (CommandView.case (named (codes "b")) PartsView.no_parts) → ⊥
+case_of_an_ip h = let p : Some kind.Ip ≡ Some kind.Int = h.0 in cc
+
+pub in_one_label : KindsFit variables (CommandView.case (named (codes "a")) (a_part (RangeView.one 1 ∷ RangeView.one 1 ∷ []) PartsView.no_parts))
+in_one_label = (refl, (λ i j d before inside. absurd (omega (arith, before, inside))), (tt, tt))
 
 -- `filter q { int a; int a; }` does not fit
 abbrev twice : FilterView

@@ -15,6 +15,7 @@ fault_code (fault.WrongKind at expected found) = codes "Y3"
 fault_code (fault.NetAssigned at) = codes "Y4"
 fault_code (fault.TooManyVariables at) = codes "Y5"
 fault_code fault.Memory = codes "Y6"
+fault_code (fault.SharedLabel at) = codes "Y7"
 
 -- the place; refused memory has none, which is 0
 abbrev pub fault_place : TypeFault → ℕ
@@ -24,6 +25,7 @@ fault_place (fault.WrongKind at expected found) = at
 fault_place (fault.NetAssigned at) = at
 fault_place (fault.TooManyVariables at) = at
 fault_place fault.Memory = 0
+fault_place (fault.SharedLabel at) = at
 
 -- what a place takes that takes operands of one kind
 abbrev pub expected_of : Kind → ExpectedKind

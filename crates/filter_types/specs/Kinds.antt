@@ -1,19 +1,22 @@
 -- Where a filter's names and kinds fit: a variable is declared once and before it is used, there are not more of them than the
--- limit, `net` is not assigned, and each form has operands of the kinds that the table says. As in the BIRD 2.0 User's
--- Guide on filters; the limit, and that `net` is not assigned, are this project's own choice.
+-- limit, `net` is not assigned, each form has operands of the kinds that the table says, and no two labels of a `case` share a
+-- number. As in the BIRD 2.0 User's Guide on filters; the limit, that `net` is not assigned and what is said of labels are this
+-- project's own choice.
 use Rattle.std.specs.Prelude.{◌≡◌, ◌≢◌, ℕ, ◌≤◌, Option, Some, None, List, length, AllPairs}
 use Rattle.std.specs.List.{position_or_len, find}
 use Rattle.std.specs.Option.{option_map}
 use Rattle.std.specs.Str.{bytes_eq}
 use Rattle.filter_parser.specs.Syntax.{ExprView, number, address, prefix, truth, name, attribute, defined}
 use Rattle.filter_parser.specs.Syntax.{group, negation, binary, member, suffixed}
-use Rattle.filter_parser.specs.SyntaxCommands.{CommandView, CommandsView, TargetView, DeclView, to_name, to_metric, to_net}
-use Rattle.filter_parser.specs.SyntaxCommands.{empty, block, if_then, if_else, assign, accept, reject, no_commands, command_then}
+use Rattle.filter_parser.specs.SyntaxCommands.{CommandView, CommandsView, PartsView, TargetView, DeclView, to_name, to_metric, to_net}
+use Rattle.filter_parser.specs.SyntaxCommands.{empty, block, if_then, if_else, case, assign, accept, reject, no_commands, command_then}
+use Rattle.filter_parser.specs.SyntaxCommands.{no_parts, part_then}
 use Rattle.filter_parser.specs.SyntaxText.{FilterView}
 use Rattle.filter_parser.specs.declared.tree.decl.Kind.{Kind}
 use Rattle.filter_parser.specs.declared.tree.decl.Kind.TheVariants as kind
 use Rattle.filter_parser.specs.declared.tree.expr.Attribute.TheVariants as attributes
-use Rattle.filter_types.specs.Table.{operator, negated, in_set, suffixed_by, attribute_kind, condition_kind}
+use Rattle.filter_types.specs.Labels.{AreAllApart, labels_of}
+use Rattle.filter_types.specs.Table.{operator, negated, in_set, suffixed_by, attribute_kind, condition_kind, argument_kind}
 
 -- the greatest number of variables in a filter
 abbrev pub variable_limit : ℕ
@@ -48,7 +51,7 @@ kind_in variables (defined a) = Some kind.Bool
 kind_in variables (group inner) = kind_in variables inner
 kind_in variables (negation inner) = of_one negated (kind_in variables inner)
 kind_in variables (binary op left right) = of_two (operator op) (kind_in variables left) (kind_in variables right)
-kind_in variables (member op left set) = of_one in_set (kind_in variables left)
+kind_in variables (member op left set) = of_one (in_set set) (kind_in variables left)
 kind_in variables (suffixed inner s) = of_one (suffixed_by s) (kind_in variables inner)
 
 -- the kind of what an assignment sets; `net` is not assigned
@@ -61,7 +64,7 @@ target_kind variables to_net = None
 abbrev pub HasSameKind : Option Kind → Option Kind → Type 0
 HasSameKind target value = (k : Kind) × (target ≡ Some k) × (value ≡ Some k)
 
--- the names and kinds of a command fit, and those of commands one after another
+-- the names and kinds of a command fit, and those of commands one after another and of the parts of a `case`
 abbrev mutual
   pub KindsFit : List DeclView → CommandView → Type 0
   KindsFit variables empty = Unit {0}
@@ -69,6 +72,8 @@ abbrev mutual
   KindsFit variables (if_then test chosen) = (kind_in variables test ≡ Some condition_kind) × KindsFit variables chosen
   KindsFit variables (if_else test chosen other) =
       (kind_in variables test ≡ Some condition_kind) × KindsFit variables chosen × KindsFit variables other
+  KindsFit variables (case argument parts) =
+      (kind_in variables argument ≡ Some argument_kind) × AreAllApart (labels_of parts) × KindsFitParts variables parts
   KindsFit variables (assign target value) = HasSameKind (target_kind variables target) (kind_in variables value)
   KindsFit variables (accept has_text) = Unit {0}
   KindsFit variables (reject has_text) = Unit {0}
@@ -76,6 +81,10 @@ abbrev mutual
   pub KindsFitAll : List DeclView → CommandsView → Type 0
   KindsFitAll variables no_commands = Unit {0}
   KindsFitAll variables (command_then first more) = KindsFit variables first × KindsFitAll variables more
+
+  pub KindsFitParts : List DeclView → PartsView → Type 0
+  KindsFitParts variables no_parts = Unit {0}
+  KindsFitParts variables (part_then label commands more) = KindsFitAll variables commands × KindsFitParts variables more
 
 -- no two variables have one name
 abbrev pub AreDeclaredOnce : List DeclView → Type 0

@@ -1,8 +1,10 @@
 -- What callers cite.
 pub mod Codes
 pub mod Kinds
+pub mod Labels
 pub mod Table
 -- What only the bodies of this crate are proved against.
 pub mod Answers
 pub mod Refusals
+pub mod Sweep
 pub mod Turns

@@ -1,14 +1,18 @@
 -- What the kinds table says of operands that it does not take: which of them is blamed, and what is expected there. The left
 -- operand is judged first; where each would do alone but the two differ, the right one is blamed. (This project's own choice.)
-use Rattle.std.specs.Prelude.{Bool, true, false, if◌then◌else◌}
-use Rattle.filter_parser.specs.Places.{expr_place}
+use Rattle.std.specs.Prelude.{ℕ, Bool, true, false, if◌then◌else◌, List, [], ◌∷◌}
+use Rattle.filter_parser.specs.Places.{expr_place, range_place}
+use Rattle.filter_parser.specs.Syntax.{SetView}
+use Rattle.filter_parser.specs.declared.tree.command.Label.{Label}
+use Rattle.filter_parser.specs.declared.tree.command.Label.TheVariants as label
 use Rattle.filter_parser.specs.declared.tree.decl.Kind.{Kind}
 use Rattle.filter_parser.specs.declared.tree.decl.Kind.TheVariants as kind
 use Rattle.filter_parser.specs.declared.tree.op.Op.{Op}
 use Rattle.filter_parser.specs.declared.tree.op.Suffix.{Suffix}
 use Rattle.filter_parser.specs.declared.tree.op.Suffix.TheVariants as suffix
+use Rattle.filter_parser.specs.declared.tree.set.SetRange.{SetRange}
 use Rattle.filter_types.specs.Codes.{expected_of}
-use Rattle.filter_types.specs.Table.{OperatorRow, row_of}
+use Rattle.filter_types.specs.Table.{OperatorRow, row_of, member_kind}
 use Rattle.filter_types.specs.Table.OperatorRow.{Arithmetic, Equality, Order, Within, Logic}
 use Rattle.filter_types.specs.declared.fault.ExpectedKind.{ExpectedKind}
 use Rattle.filter_types.specs.declared.fault.ExpectedKind.TheVariants as expected
@@ -70,6 +74,19 @@ row_refusal Logic = logic_refusal
 -- an operator between two operands
 abbrev pub operator_refusal : Op → Operand → Operand → TypeFault
 operator_refusal op = row_refusal (row_of op)
+
+-- `~ !~` with a set
+abbrev pub member_refusal : SetView → Operand → TypeFault
+member_refusal set operand = wrong_kind operand (expected_of (member_kind set))
+
+-- the place of a label, and 0 for one without ranges, which no filter has
+abbrev pub first_place : List SetRange → ℕ
+first_place [] = 0
+first_place (x ∷ xs) = range_place x
+
+abbrev pub label_place : Label → ℕ
+label_place (label.Ranges ranges) = first_place ranges.items
+label_place (label.Else at) = at
 
 -- `.ip`, `.len` and `.mask(n)`
 abbrev pub suffix_refusal : Suffix → Operand → TypeFault

@@ -1,6 +1,7 @@
 -- The kinds table: which kinds of operands each form takes, and which kind it gives. It is None where the form does not
 -- take them. As in the BIRD 2.0 User's Guide on filters; what is left out is this project's own choice.
 use Rattle.std.specs.Prelude.{Option, Some, None}
+use Rattle.filter_parser.specs.Syntax.{SetView, of_patterns, of_ranges}
 use Rattle.filter_parser.specs.declared.tree.decl.Kind.{Kind}
 use Rattle.filter_parser.specs.declared.tree.decl.Kind.TheVariants as kind
 use Rattle.filter_parser.specs.declared.tree.expr.Attribute.{Attribute}
@@ -82,10 +83,16 @@ abbrev pub negated : Kind → Option Kind
 negated kind.Bool = Some kind.Bool
 negated _ = None
 
--- `~ !~` with a set: a prefix gives a bool
-abbrev pub in_set : Kind → Option Kind
-in_set kind.Prefix = Some kind.Bool
-in_set _ = None
+-- the kind of a set's members
+abbrev pub member_kind : SetView → Kind
+member_kind (of_patterns patterns) = kind.Prefix
+member_kind (of_ranges ranges) = kind.Int
+
+-- `~ !~` with a set: one of the kind of its members gives a bool
+abbrev pub in_set : SetView → Kind → Option Kind
+in_set (of_patterns patterns) kind.Prefix = Some kind.Bool
+in_set (of_ranges ranges) kind.Int = Some kind.Bool
+in_set _ _ = None
 
 -- `.ip` and `.len` of a prefix give an ip and an int, `.mask(n)` of an ip gives an ip
 abbrev pub suffixed_by : Suffix → Kind → Option Kind
@@ -102,3 +109,7 @@ attribute_kind attributes.RipMetric = kind.Int
 -- what an `if` takes
 abbrev pub condition_kind : Kind
 condition_kind = kind.Bool
+
+-- what a `case` takes
+abbrev pub argument_kind : Kind
+argument_kind = kind.Int

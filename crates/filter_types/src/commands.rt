@@ -2,16 +2,18 @@
 
 ghost use Rattle.std.specs.Prelude.{◌≡◌, Some, map};
 ghost use Rattle.filter_parser.specs.Syntax.{view};
-ghost use Rattle.filter_parser.specs.SyntaxCommands.{commands_of, view_command, view_decl, view_target};
-ghost use Rattle.filter_types.specs.Answers.{AnswersKind, Judges};
+ghost use Rattle.filter_parser.specs.SyntaxCommands.{commands_of, parts_of, view_command, view_decl, view_part, view_target};
+ghost use Rattle.filter_types.specs.Answers.{AnswersKind, DoPartsFit, Judges};
 ghost use Rattle.filter_types.specs.Kinds.{KindsFit, KindsFitAll, HasSameKind, target_kind, kind_in};
-ghost use Rattle.filter_types.specs.Table.{condition_kind};
+ghost use Rattle.filter_types.specs.Table.{argument_kind, condition_kind};
 
 use crate::fault::{ExpectedKind, TypeFault};
 use crate::kinds::kind_of;
+use crate::parts::{first_shared_label, shared_label};
 use crate::table::{Operand, attribute_kind};
 use crate::variables::resolve;
-use filter_parser::{Attribute, Command, Decl, Expr, Kind, Target};
+use filter_parser::{Attribute, Command, Decl, Expr, Kind, Label, Target};
+use std::alloc::Global;
 
 /// The kind of what an assignment sets.
 fn target_kind(at: usize, target: &Target, variables: &[Decl]) -> Result<Kind, TypeFault>
@@ -58,32 +60,73 @@ fn check_assignment(
     check_kind(Operand { expr: value, kind }, expected)
 }
 
+/// Judges the argument of a `case`.
+fn check_argument(argument: &Expr, variables: &[Decl]) -> Result<(), TypeFault>
+    ensures { Judges result (kind_in (map view_decl variables.now) (view argument.now) ≡ Some argument_kind) }
+{
+    let kind = kind_of(argument, variables)?;
+    check_kind(
+        Operand {
+            expr: argument,
+            kind,
+        },
+        Kind::Int,
+    )
+}
+
 /// Judges commands one after another.
 #[cycle(command)]
-pub(crate) fn check_commands(commands: &[Command], variables: &[Decl]) -> Result<(), TypeFault>
+pub(crate) fn check_commands(
+    alloc: Global,
+    commands: &[Command],
+    variables: &[Decl],
+) -> Result<(), TypeFault>
     ensures { Judges result (KindsFitAll (map view_decl variables.now) (commands_of (map view_command commands.now))) }
 {
     for command in commands {
-        check_command(command, variables)?;
+        check_command(alloc, command, variables)?;
+    }
+    Ok(())
+}
+
+/// Judges the parts of a `case`, of each its label and then its commands.
+#[cycle(command)]
+fn check_parts(
+    alloc: Global,
+    parts: &[(Label, Vec<Command>)],
+    variables: &[Decl],
+) -> Result<(), TypeFault>
+    ensures { Judges result (DoPartsFit (map view_decl variables.now) (parts_of (map view_part parts.now))) }
+{
+    let shared = first_shared_label(alloc, parts)?;
+    for (number, (label, commands)) in parts.iter().enumerate() {
+        if number == shared {
+            return Err(shared_label(label));
+        }
+        check_commands(alloc, commands, variables)?;
     }
     Ok(())
 }
 
 /// Judges a command.
 #[cycle(command)]
-fn check_command(command: &Command, variables: &[Decl]) -> Result<(), TypeFault>
+fn check_command(alloc: Global, command: &Command, variables: &[Decl]) -> Result<(), TypeFault>
     ensures { Judges result (KindsFit (map view_decl variables.now) (view_command command.now)) }
 {
     match command {
         Command::Empty(_) | Command::Accept(_, _) | Command::Reject(_, _) => Ok(()),
-        Command::Block(_, body) => check_commands(body, variables),
+        Command::Block(_, body) => check_commands(alloc, body, variables),
         Command::If(_, test, chosen, other) => {
             check_test(test, variables)?;
-            check_command(chosen, variables)?;
+            check_command(alloc, chosen, variables)?;
             match other {
                 None => Ok(()),
-                Some(other) => check_command(other, variables),
+                Some(other) => check_command(alloc, other, variables),
             }
+        }
+        Command::Case(_, argument, parts) => {
+            check_argument(argument, variables)?;
+            check_parts(alloc, parts, variables)
         }
         Command::Assign(at, target, value) => check_assignment(*at, target, value, variables),
     }

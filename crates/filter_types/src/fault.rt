@@ -75,12 +75,15 @@ pub enum TypeFault {
     /// Y6: memory was refused.
     #[error("out of memory")]
     Memory,
+    /// Y7: the label at this place shares a number with an earlier label of its `case`.
+    #[error("the label at byte {0} shares a number with an earlier label of its `case`")]
+    SharedLabel(usize),
 }
 
 impl TypeFault {
     ghost use Rattle.filter_types.specs.Codes.{fault_code, fault_place};
 
-    /// The fault's code, `Y1` to `Y6`.
+    /// The fault's code, `Y1` to `Y7`.
     pub fn code(self) -> &'static str
         ensures { result.now ≡ fault_code self }
     {
@@ -91,6 +94,7 @@ impl TypeFault {
             TypeFault::NetAssigned(_) => "Y4",
             TypeFault::TooManyVariables(_) => "Y5",
             TypeFault::Memory => "Y6",
+            TypeFault::SharedLabel(_) => "Y7",
         }
     }
 
@@ -103,7 +107,8 @@ impl TypeFault {
             | TypeFault::DeclaredTwice(at)
             | TypeFault::WrongKind(at, _, _)
             | TypeFault::NetAssigned(at)
-            | TypeFault::TooManyVariables(at) => at,
+            | TypeFault::TooManyVariables(at)
+            | TypeFault::SharedLabel(at) => at,
             TypeFault::Memory => 0,
         }
     }

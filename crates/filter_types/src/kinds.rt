@@ -72,9 +72,9 @@ pub(crate) fn kind_of(expr: &Expr, variables: &[Decl]) -> Result<Kind, TypeFault
             let kind = kind_of(first, variables)?;
             kind_of_chain(more, Operand { expr: first, kind }, variables)
         }
-        Expr::Member(_, left, _) => {
+        Expr::Member(_, left, set) => {
             let kind = kind_of(left, variables)?;
-            in_set(Operand { expr: left, kind })
+            in_set(&set.members, Operand { expr: left, kind })
         }
         Expr::Suffixed(inner, suffixes) => {
             let kind = kind_of(inner, variables)?;

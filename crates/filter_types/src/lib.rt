@@ -7,6 +7,8 @@
 mod commands;
 mod fault;
 mod kinds;
+mod labels;
+mod parts;
 mod table;
 mod typed;
 mod variables;

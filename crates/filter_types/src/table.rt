@@ -2,13 +2,14 @@
 
 ghost use Rattle.std.specs.Prelude.{◌≡◌, IfErr};
 ghost use Rattle.filter_types.specs.Answers.{AnswersKind};
-ghost use Rattle.filter_types.specs.Refusals.{arithmetic_refusal, equality_refusal, logic_refusal, operator_refusal};
+ghost use Rattle.filter_parser.specs.Syntax.{view_members};
+ghost use Rattle.filter_types.specs.Refusals.{arithmetic_refusal, equality_refusal, logic_refusal, member_refusal, operator_refusal};
 ghost use Rattle.filter_types.specs.Refusals.{order_refusal, suffix_refusal, within_refusal, wrong_kind};
 ghost use Rattle.filter_types.specs.Table.{arithmetic, attribute_kind, equality, in_set, logic};
 ghost use Rattle.filter_types.specs.Table.{negated, operator, order, suffixed_by, within};
 
 use crate::fault::{ExpectedKind, TypeFault};
-use filter_parser::{Attribute, Expr, Kind, Op, Suffix};
+use filter_parser::{Attribute, Expr, Kind, Members, Op, Suffix};
 
 /// An operand whose kind is known.
 #[derive(Clone, Copy)]
@@ -114,13 +115,14 @@ pub(crate) fn negated(operand: Operand) -> Result<Kind, TypeFault>
 }
 
 /// `~ !~` with a set
-pub(crate) fn in_set(operand: Operand) -> Result<Kind, TypeFault>
-    ensures kind { AnswersKind result (in_set operand.entry.kind) }
-    ensures refusal { IfErr result (λ why. why ≡ wrong_kind operand.entry ExpectedKind.Prefix) }
+pub(crate) fn in_set(members: &Members, operand: Operand) -> Result<Kind, TypeFault>
+    ensures kind { AnswersKind result (in_set (view_members members.now) operand.entry.kind) }
+    ensures refusal { IfErr result (λ why. why ≡ member_refusal (view_members members.now) operand.entry) }
 {
-    match operand.kind {
-        Kind::Prefix => Ok(Kind::Bool),
-        _ => Err(operand.wrong_kind(ExpectedKind::Prefix)),
+    match (members, operand.kind) {
+        (Members::Patterns(_), Kind::Prefix) | (Members::Ranges(_), Kind::Int) => Ok(Kind::Bool),
+        (Members::Patterns(_), _) => Err(operand.wrong_kind(ExpectedKind::Prefix)),
+        (Members::Ranges(_), _) => Err(operand.wrong_kind(ExpectedKind::Int)),
     }
 }
 

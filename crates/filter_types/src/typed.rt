@@ -56,12 +56,12 @@ impl Typed {
 /// A filter, if its names and kinds fit. A refused filter is dropped.
 ///
 /// A fault is the first one in the order of the text, operands before their operator.
-pub fn check(_alloc: Global, filter: Filter) -> Result<Typed, TypeFault>
+pub fn check(alloc: Global, filter: Filter) -> Result<Typed, TypeFault>
     ensures same { IfOk result (λ typed. typed ≡ filter) }
     ensures typed { IfOk result (λ _. IsTyped (view_filter filter)) }
     ensures refused { IfErr result (λ why. why ≢ fault.Memory → IsTyped (view_filter filter) → ⊥) }
 {
     check_variables(filter.decls())?;
-    check_commands(filter.body(), filter.decls())?;
+    check_commands(alloc, filter.body(), filter.decls())?;
     Ok(Typed { filter })
 }

@@ -9,10 +9,10 @@ use Rattle.filter_verifier.specs.FirstFault.{first_fault, the_fault}
 use Rattle.filter_verifier.specs.InStates.{incoming}
 use Rattle.filter_verifier.specs.Bounds.{cost, peak}
 
--- the fault of instructions with one local variable and one empty set, in a domain of a size
+-- the fault of instructions with one local variable and one empty set of patterns, in a domain of a size
 abbrev fault_at : ℕ → List Instr → Option VerifyFault
 fault_at size instrs =
-    let program : CodeView = record { locals = 1; sets = [] ∷ []; instrs = instrs } in
+    let program : CodeView = record { locals = 1; sets = [] ∷ []; int_sets = []; instrs = instrs } in
     the_fault program size
 
 -- the metric times a number

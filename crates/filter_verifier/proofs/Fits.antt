@@ -6,9 +6,10 @@ use Rattle.filter_code.specs.declared.outcome.FaultKind.{FaultKind}
 use Rattle.filter_code.specs.declared.value.Kind.{Kind}
 use Rattle.filter_code.specs.declared.value.Value.{Value}
 use Rattle.filter_code.specs.declared.value.Value.TheVariants as value
+use Rattle.filter_code.specs.CodeView.{CodeView}
 use Rattle.filter_code.specs.Table.{Frame, Source, Nowhere, Top, TopTwo, Local, Operands, Zero, One, Two, Drawn, Bad, Good}
 use Rattle.filter_code.specs.Table.{Taking, Any, Each, Both, each_is, both_are, has_kinds, signature}
-use Rattle.filter_code.specs.Table.{fits_kinds, names_exist, one_of, two_of, value_in, taken, passing, source_of, draw}
+use Rattle.filter_code.specs.Table.{fits_kinds, name_exists, names_in, one_of, two_of, value_in, taken, passing, source_of, draw}
 use Rattle.filter_code.specs.Values.{kind_of}
 use Rattle.filter_verifier.specs.declared.fact.Fact.{Fact}
 use Rattle.filter_verifier.specs.declared.fact.Fact.TheVariants as fact
@@ -145,10 +146,10 @@ passed_are received i (Good operands left) (Good facts rest) p =
     (both_pass received (fits_kinds kind_of_fact i facts) _ _ (Good operands left) (Good facts rest) p)
 
 -- the operands of an instruction are as is known of them
-pub drawn_are : (received sets : ℕ) (i : Instr) (frame : Frame Value) (facts : Frame Fact) → FrameIsAs received frame facts →
-    DrawnAre received (draw kind_of sets i frame) (draw kind_of_fact sets i facts)
-drawn_are received sets i frame facts p =
+pub drawn_are : (received : ℕ) (program : CodeView) (i : Instr) (frame : Frame Value) (facts : Frame Fact) → FrameIsAs received frame facts →
+    DrawnAre received (draw kind_of program i frame) (draw kind_of_fact program i facts)
+drawn_are received program i frame facts p =
     rw (pairwise_length (PlaceIsAs received) frame.locals facts.locals p.in_locals)
-    (both_pass received (names_exist (length facts.locals) sets i) _ _ (passing (fits_kinds kind_of i) (taken (source_of i) frame))
+    (both_pass received (name_exists i (names_in program facts.locals)) _ _ (passing (fits_kinds kind_of i) (taken (source_of i) frame))
     (passing (fits_kinds kind_of_fact i) (taken (source_of i) facts))
     (passed_are received i (taken (source_of i) frame) (taken (source_of i) facts) (taken_are received (source_of i) frame facts p)))

@@ -153,6 +153,8 @@ module _ (program : CodeView) (route : RouteView) (size metric : ℕ) (of_size :
       (bits_are route.metric) (nets_are route.metric) lies_within operands facts p
   given_is (instr.Member s) operands facts literal none p =
       of_net (λ bits. value.Bool (matches_any bits (unwrap_or (slice_get program.sets s) []))) fact.Bool (λ bits short. tt) operands facts p
+  given_is (instr.InSet s) operands facts literal none p =
+      one_alike route.metric (LiesIn route.metric) (IsAs route.metric) int_of range_of _ _ (ints_are route.metric) (λ n t q. tt) operands facts p
   given_is _ operands facts literal none p = tt
 
 -- a divisor that is known not to be 0 is not

@@ -12,7 +12,7 @@ use Rattle.filter_code.specs.Machine.{on_one, on_two, whole, overfills, with_giv
 use Rattle.filter_code.specs.CodeView.{CodeView}
 use Rattle.filter_code.specs.Table.{Frame, Source, Nowhere, Top, TopTwo, Local, Operands, Zero, One, Two, Drawn, Bad, Good}
 use Rattle.filter_code.specs.Table.{each_is, both_are, is_int, is_bool, is_ip, is_prefix, are_ordered, are_nested, fits_kinds}
-use Rattle.filter_code.specs.Table.{names_exist, one_of, two_of, value_in, taken, passing, source_of, draw, taken_off, gives}
+use Rattle.filter_code.specs.Table.{name_exists, names_in, one_of, two_of, value_in, taken, passing, source_of, draw, taken_off, gives}
 use Rattle.filter_code.specs.Table.{height_after}
 use Rattle.filter_verifier.specs.declared.fact.Fact.{Fact}
 use Rattle.filter_verifier.specs.declared.fact.Fact.TheVariants as fact
@@ -98,6 +98,13 @@ prefix_gives given (One fact.Prefix) t e = tt
 prefix_gives given (One a) t e = cc
 prefix_gives given (Two a b) t e = absurd t
 
+int_gives : (operands : Operands Fact) → IsTakenFrom Top operands → each_is (λ x. is_int (kind_of_fact x)) operands ≡ true →
+    IsThere (on_one range_of (λ v. fact.Bool) operands)
+int_gives Zero t e = absurd t
+int_gives (One (fact.Int span)) t e = tt
+int_gives (One a) t e = cc
+int_gives (Two a b) t e = absurd t
+
 one_more : (given : Option Fact) (rest : List Fact) → IsThere given → length (with_given given rest) ≡ length rest + 1
 one_more None rest there = absurd there
 one_more (Some f) rest there = omega arith
@@ -131,6 +138,7 @@ given_count size (instr.Mask n) operands rest t e = one_more (fact_given size (i
 given_count size instr.Within operands rest t e = one_more (fact_given size instr.Within operands) rest (nested_give operands t e)
 given_count size (instr.Member s) operands rest t e =
     one_more (fact_given size (instr.Member s) operands) rest (prefix_gives _ operands t e)
+given_count size (instr.InSet s) operands rest t e = one_more (fact_given size (instr.InSet s) operands) rest (int_gives operands t e)
 given_count size _ operands rest t e = none_more rest
 
 -- what is drawn is as many operands as the source has, off the stack
@@ -173,9 +181,9 @@ passed_for i stack (Good operands rest) p =
     cond_both (fits_kinds kind_of_fact i operands) (Good operands rest) (Bad fault.WrongKind) (IsDrawnFor i stack) (λ e. (p.0, p.1, e))
     (λ e. tt)
 
-drawn_for : (sets : ℕ) (i : Instr) (frame : Frame Fact) → IsDrawnFor i frame.stack (draw kind_of_fact sets i frame)
-drawn_for sets i frame =
-    cond_both (names_exist (length frame.locals) sets i) (passing (fits_kinds kind_of_fact i) (taken (source_of i) frame))
+drawn_for : (program : CodeView) (i : Instr) (frame : Frame Fact) → IsDrawnFor i frame.stack (draw kind_of_fact program i frame)
+drawn_for program i frame =
+    cond_both (name_exists i (names_in program frame.locals)) (passing (fits_kinds kind_of_fact i) (taken (source_of i) frame))
     (Bad fault.UnknownName) (IsDrawnFor i frame.stack)
     (λ e. passed_for i frame.stack (taken (source_of i) frame) (taken_from (source_of i) frame)) (λ e. tt)
 
@@ -219,8 +227,8 @@ passes_known : (program : CodeView) (size at : ℕ) (locals : List (Option Fact)
 passes_known program size at locals stack None = tt
 passes_known program size at locals stack (Some i) =
     let frame : Frame Fact = record { stack = stack; locals = locals } in
-    passes_judged (length program.instrs) size at locals stack i (draw kind_of_fact (length program.sets) i frame)
-    (drawn_for (length program.sets) i frame)
+    passes_judged (length program.instrs) size at locals stack i (draw kind_of_fact program i frame)
+    (drawn_for program i frame)
 
 -- the facts of places are as many
 abbrev HasLength : ℕ → Option (List Fact) → Type 0

@@ -1,7 +1,6 @@
 -- What passes is propagated to instructions of the code alone.
 use Rattle.std.proofs.Common.{◌≡◌, ℕ, Bool, true, false, Option, Some, None, List, ◌++◌, length, map, take, refl, ap, sym, subst, ◌∙◌}
 use Rattle.std.proofs.Math.Seq.{take-append_seam}
-use Rattle.prefix_patterns.specs.Matching.{PrefixPattern}
 use Rattle.std.specs.Prelude.{slice_get}
 use Rattle.filter_code.specs.declared.instruction.Instr.{Instr}
 use Rattle.filter_code.specs.declared.outcome.FaultKind.{FaultKind}
@@ -40,9 +39,9 @@ known_inside : (program : CodeView) (size at : ℕ) (locals : List (Option Fact)
 known_inside program size at locals stack None i next is e = cc
 known_inside program size at locals stack (Some j) i next is e =
     let same : j ≡ i = cc in
-    judged_inside (length program.instrs) size at locals i (draw kind_of_fact (length program.sets) i (frame_of stack locals)) next
+    judged_inside (length program.instrs) size at locals i (draw kind_of_fact program i (frame_of stack locals)) next
     (sym (ap (λ (x : Instr). judge (length program.instrs) size at locals x
-    (draw kind_of_fact (length program.sets) x (frame_of stack locals))) same) ∙ e)
+    (draw kind_of_fact program x (frame_of stack locals))) same) ∙ e)
 
 placed_inside : (program : CodeView) (size at : ℕ) (locals : List (Option Fact)) (known : Option (List Fact))
     (i : Instr) (next : AbstractFrameView) → slice_get program.instrs at ≡ Some i →
@@ -64,7 +63,7 @@ passes_from : (program : CodeView) (size at : ℕ) (locals after : List (Option 
     slice_get program.instrs at ≡ Some i →
     leads_below at (length program.instrs) (leads i) ≡ true →
     judge (length program.instrs) size at locals i
-    (draw kind_of_fact (length program.sets) i (frame_of stack locals))
+    (draw kind_of_fact program i (frame_of stack locals))
     ≡ transferred (length program.instrs) at i above after →
     places ≡ record { stack = map (λ f. Some f) above; locals = after } →
     Passed places ≡ out_state_of_known program size at locals stack (slice_get program.instrs at)
@@ -73,21 +72,19 @@ passes_from program size at locals after stack above i places is inside judged l
     ∙ sym (ap (out_state_of_known program size at locals stack) is
     ∙ (judged ∙ ap (λ (b : Bool). if_inside b at (Passed (record { stack = map (λ f. Some f) above; locals = after }))) inside))
 
--- the same with what the code holds: a copy of the local variables, the sets, and the variables as a part of a list
+-- the same with what is held: a copy of the local variables, and after the instruction the variables as a part of a list
 pub passes_known : (program : CodeView) (size at width : ℕ) (locals held after more : List (Option Fact))
-    (stack above : List Fact) (sets : List (List PrefixPattern)) (i : Instr) (places : AbstractFrameView) →
-    held ≡ locals → sets ≡ program.sets → width ≡ length after →
+    (stack above : List Fact) (i : Instr) (places : AbstractFrameView) →
+    held ≡ locals → width ≡ length after →
     slice_get program.instrs at ≡ Some i →
     leads_below at (length program.instrs) (leads i) ≡ true →
-    judge (length program.instrs) size at held i (draw kind_of_fact (length sets) i (frame_of stack held))
+    judge (length program.instrs) size at held i (draw kind_of_fact program i (frame_of stack held))
     ≡ transferred (length program.instrs) at i above after →
     places ≡ record { stack = map (λ f. Some f) above; locals = take width (after ++ more) } →
     Passed places ≡ out_state_of_known program size at locals stack (slice_get program.instrs at)
-passes_known program size at width locals held after more stack above sets i places same same_sets wide is inside judged laid =
+passes_known program size at width locals held after more stack above i places same wide is inside judged laid =
     let P : List (Option Fact) → Type 0 = λ l. judge (length program.instrs) size at l i
-    (draw kind_of_fact (length sets) i (frame_of stack l)) ≡ transferred (length program.instrs) at i above after in
-    let Q : List (List PrefixPattern) → Type 0 = λ s. judge (length program.instrs) size at locals i
-    (draw kind_of_fact (length s) i (frame_of stack locals)) ≡ transferred (length program.instrs) at i above after in
+    (draw kind_of_fact program i (frame_of stack l)) ≡ transferred (length program.instrs) at i above after in
     let front : take width (after ++ more) ≡ after = rw wide (take-append_seam after more) in
     let L : List (Option Fact) → AbstractFrameView = λ l. record { stack = map (λ f. Some f) above; locals = l } in
-    passes_from program size at locals after stack above i places is inside (subst Q same_sets (subst P same judged)) (laid ∙ ap L front)
+    passes_from program size at locals after stack above i places is inside (subst P same judged) (laid ∙ ap L front)

@@ -75,7 +75,7 @@ wide_known : (width : ℕ) (program : CodeView) (size at : ℕ) (locals : List (
 wide_known width program size at locals stack None w = tt
 wide_known width program size at locals stack (Some i) w =
     let frame : Frame Fact = record { stack = stack; locals = locals } in
-    wide_judged width (length program.instrs) size at locals i (draw kind_of_fact (length program.sets) i frame) w
+    wide_judged width (length program.instrs) size at locals i (draw kind_of_fact program i frame) w
 
 wide_places : (width : ℕ) (program : CodeView) (size at : ℕ) (locals : List (Option Fact)) (known : Option (List Fact)) →
     length locals ≡ width → WideVisit width (out_state_of_frame program size at locals known)

@@ -12,7 +12,7 @@ use Rattle.filter_verifier.specs.Bounds.{cost, peak}
 -- the fault of instructions with some local variables and without sets, in a domain of a size
 abbrev fault_of : ℕ → List Instr → ℕ → Option VerifyFault
 fault_of locals instrs size =
-    let program : CodeView = record { locals = locals; sets = []; instrs = instrs } in
+    let program : CodeView = record { locals = locals; sets = []; int_sets = []; instrs = instrs } in
     the_fault program size
 
 -- the metric raised by 2 is known to be at least the one received
@@ -179,3 +179,22 @@ branching_peak = refl
 -- thirty-two operands: nothing outside of the code is taken for a peak
 pub full : peak (replicate 32 instr.Metric ++ instr.Accept ∷ []) 0 0 ≡ 32
 full = refl
+
+-- the fault of instructions with one set of patterns and two of ints, all empty, in a domain of 8
+abbrev fault_with_sets : List Instr → Option VerifyFault
+fault_with_sets instrs =
+    let program : CodeView = record { locals = 0; sets = [] ∷ []; int_sets = [] ∷ ([] ∷ []); instrs = instrs } in
+    the_fault program 8
+
+-- sets of ints are numbered by themselves, and what is asked about is an int
+pub asks : fault_with_sets (instr.Metric ∷ (instr.InSet 1 ∷ (instr.JumpIfNot 1 ∷ (instr.Accept ∷ (instr.Reject ∷ []))))) ≡ None
+unfolding incoming first_fault
+asks = refl
+
+pub no_such_set : fault_with_sets (instr.Metric ∷ (instr.InSet 2 ∷ (instr.Accept ∷ []))) ≡ Some (refusal.UnknownName 1)
+unfolding incoming first_fault
+no_such_set = refl
+
+pub set_of_a_prefix : fault_with_sets (instr.Net ∷ (instr.InSet 1 ∷ (instr.Accept ∷ []))) ≡ Some (refusal.WrongKind 1)
+unfolding incoming first_fault
+set_of_a_prefix = refl

@@ -65,7 +65,7 @@ known_at_place : (program : CodeView) (size at : ℕ) (locals : List (Option Fac
     (found : Option Instr) → VisitAtPlace (out_state_of_known program size at locals stack found)
 known_at_place program size at locals stack None = tt
 known_at_place program size at locals stack (Some i) = judged_at_place (length program.instrs) size at locals i
-    (draw kind_of_fact (length program.sets) i (frame_of stack locals))
+    (draw kind_of_fact program i (frame_of stack locals))
 
 places_at_place : (program : CodeView) (size at : ℕ) (locals : List (Option Fact)) (known : Option (List Fact)) →
     VisitAtPlace (out_state_of_frame program size at locals known)

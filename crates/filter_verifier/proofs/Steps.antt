@@ -188,9 +188,9 @@ module _ (program : CodeView) (route : RouteView) (size : ℕ) (of_size : IsRout
   known_step c at locals stack None literal on_stack in_locals here = tt
   known_step c at locals stack (Some i) literal on_stack in_locals here =
       let frame : Frame Fact = record { stack = stack; locals = locals } in
-      judged_step c at locals i (draw kind_of (length program.sets) i c.frame) (draw kind_of_fact (length program.sets) i frame)
+      judged_step c at locals i (draw kind_of program i c.frame) (draw kind_of_fact program i frame)
       (literal i refl) in_locals here
-      (drawn_are route.metric (length program.sets) i c.frame frame (record { on_stack = on_stack; in_locals = in_locals }))
+      (drawn_are route.metric program i c.frame frame (record { on_stack = on_stack; in_locals = in_locals }))
 
   -- the places of a stack, where something is known of each
   abbrev KnownIs : List Value → Option (List Fact) → Type 0

@@ -134,7 +134,7 @@ known_is_at : (program : CodeView) (size at : ℕ) (locals : List (Option Fact))
     (found : Option Instr) → VisitIsAt at (out_state_of_known program size at locals stack found)
 known_is_at program size at locals stack None = refl
 known_is_at program size at locals stack (Some i) = judged_is_at (length program.instrs) size at locals i
-    (draw kind_of_fact (length program.sets) i (frame_of stack locals))
+    (draw kind_of_fact program i (frame_of stack locals))
 
 places_are_at : (program : CodeView) (size at : ℕ) (locals : List (Option Fact)) (known : Option (List Fact)) →
     VisitIsAt at (out_state_of_frame program size at locals known)

@@ -73,6 +73,7 @@ fact_given size instr.Len = on_one known_prefix (λ p. fact.Int (range_of_length
 fact_given size (instr.Mask n) = on_one known_ip (λ a. fact.Ip)
 fact_given size instr.Within = on_two known_bits known_prefix (λ a p. fact.Bool)
 fact_given size (instr.Member s) = on_one known_prefix (λ p. fact.Bool)
+fact_given size (instr.InSet s) = on_one range_of (λ v. fact.Bool)
 fact_given size _ = λ _. None
 
 -- the fault that operands of the right kinds may cause

@@ -55,7 +55,7 @@ abbrev pub out_state_of_known : CodeView → ℕ → ℕ → List (Option Fact) 
 out_state_of_known program size at locals stack None = Refused (refusal.OutsideCode at)
 out_state_of_known program size at locals stack (Some i) =
     let frame : Frame Fact = record { stack = stack; locals = locals } in
-    judge (length program.instrs) size at locals i (draw kind_of_fact (length program.sets) i frame)
+    judge (length program.instrs) size at locals i (draw kind_of_fact program i frame)
 
 -- the out-state of an instruction that a path leads to; a stack with an unknown place is refused
 abbrev pub out_state_of_frame : CodeView → ℕ → ℕ → List (Option Fact) → Option (List Fact) → OutStateView

@@ -57,7 +57,7 @@ fn out_state_of_known(
     let instrs = code.instrs();
     let instr = instrs[at];
     let mut locals = Vec::from_slice(alloc, locals)?;
-    if let Err(why) = transfer(instr, size, code.sets().len(), &mut stack, &mut locals) {
+    if let Err(why) = transfer(instr, size, code, &mut stack, &mut locals) {
         return Ok(OutState::Refused(refusal_of(why, at)));
     }
     if !Successors::of(instr).are_below(at, instrs.len()) {

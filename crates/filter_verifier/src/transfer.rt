@@ -15,7 +15,7 @@ ghost use Rattle.filter_verifier.specs.Faults.{refusal_of};
 
 use crate::fact::Fact;
 use crate::range::Range;
-use filter_code::{FaultKind, Instr, Stack};
+use filter_code::{Code, FaultKind, Instr, Stack};
 
 /// Pops an int.
 fn take_int(stack: &mut Stack<Fact>) -> Result<Range, FaultKind>
@@ -176,17 +176,17 @@ fn load(locals: &[Option<Fact>], local: u8) -> Result<Fact, FaultKind>
     }
 }
 
-/// Applies one instruction to what is known, in a domain of a size and with a number of sets.
+/// Applies one instruction of a code to what is known, in a domain of a size.
 /// After a fault the stack and the local variables are unspecified.
 pub fn transfer(
     instr: Instr,
     size: u32,
-    sets: usize,
+    code: &Code,
     stack: &mut Stack<Fact>,
     locals: &mut [Option<Fact>],
 ) -> Result<(), FaultKind>
     ensures { (count at : ℕ) →
-        let out_state = judge count size at locals.old instr (draw kind_of_fact sets instr (frame_of stack.old locals.old)) in
+        let out_state = judge count size at locals.old instr (draw kind_of_fact code.now instr (frame_of stack.old locals.old)) in
         MatchResult result
         (λ _. out_state ≡ transferred count at instr stack.new locals.new)
         (λ why. out_state ≡ Refused (refusal_of why at)) }
@@ -217,8 +217,13 @@ pub fn transfer(
         Instr::Mask(_) => give(take_ip(stack, Fact::Ip)?, stack)?,
         Instr::Within => give(within(stack.take_two()?)?, stack)?,
         Instr::Member(set) => {
-            check_name(set, sets)?;
+            check_name(set, code.sets().len())?;
             give(take_prefix(stack, Fact::Bool)?, stack)?;
+        }
+        Instr::InSet(set) => {
+            check_name(set, code.int_sets().len())?;
+            take_int(stack)?;
+            give(Fact::Bool, stack)?;
         }
         Instr::JumpIfNot(_) => {
             take_bool(stack, Fact::Bool)?;

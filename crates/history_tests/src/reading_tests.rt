@@ -20,8 +20,11 @@ static ENTRIES: [(&str, Want); 27] = [
         "0 take 7 65535 refused N3\n1 down 4294967295 refused N3\n",
         Ok((2, 0)),
     ),
-    ("0 import 1 2 4e4346310000000170 done 0\n", Ok((1, 0))),
-    ("0 export 1 250 4e4346310000000170 refused N6\n", Ok((1, 0))),
+    ("0 import 1 2 4e434632000000000170 done 0\n", Ok((1, 0))),
+    (
+        "0 export 1 250 4e434632000000000170 refused N6\n",
+        Ok((1, 0)),
+    ),
     ("0 take 1 2 messages\n", Ok((1, 0))),
     ("0 take 1 2 messages 0:0 1:2\n", Ok((1, 0))),
     // A reply that is not the right one is for a replay to find.
@@ -60,7 +63,7 @@ static ENTRIES: [(&str, Want); 27] = [
         Err(HistoryFault::Line(2)),
     ),
     (
-        "0 import 1 2 4e4346310000000133 done 0\n",
+        "0 import 1 2 4e434632000000000133 done 0\n",
         Err(HistoryFault::Line(2)),
     ),
 ];

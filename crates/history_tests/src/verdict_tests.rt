@@ -12,7 +12,10 @@ static ROWS: [(&str, &str); 10] = [
         "0 up 1 opened 1\n1 recv 1 1 0 done 1\n2 show 1 route 1 via 1\n",
         "replay ok 3\n",
     ),
-    ("0 import 1 2 4e4346310000000170 done 0\n", "replay ok 1\n"),
+    (
+        "0 import 1 2 4e434632000000000170 done 0\n",
+        "replay ok 1\n",
+    ),
     (
         "0 up 1 opened 1\n1 recv 1 1 0 done 0\n2 show 1 route 1 via 1\n",
         "differs 1 saved done 0 right done 1\n",

@@ -10,15 +10,15 @@ use std::sync::Arc;
 use std::test::Fail;
 
 /// The code file of a filter that accepts all routes.
-const ACCEPT: &[u8] = b"4e4346310000000170";
+const ACCEPT: &[u8] = b"4e434632000000000170";
 
 /// The text of the history that is told here.
 const TEXT: &str = "NCH1 4 0 100 10.0.0.0/16 10.1.0.0/16 10.2.0.0/16 10.3.0.0/16
 0 up 1 opened 1
 1 recv 1 1 0 done 1
 2 take 1 65535 messages 0:0 1:4 2:4 3:4 1:1
-3 import 1 4 4e4346310000000170 done 0
-4 export 2 4 4e4346310000000170 done 0
+3 import 1 4 4e434632000000000170 done 0
+4 export 2 4 4e434632000000000170 done 0
 5 show 1 route 1 via 1
 6 show 0 route 0 local
 7 show 3 route 4 none

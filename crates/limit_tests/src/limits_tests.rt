@@ -1,7 +1,7 @@
 //! A filter at all limits at once, and a code file at all limits at once: 16 variables, 64 sets, 1,024 patterns in a set and
-//! 1,024 instructions.
+//! 1,024 instructions; and the same with as many sets of ints, which no line has room for.
 
-use code_file::{FileFault, read_code, write_code};
+use code_file::{FileFault, read_code, write_code, write_old};
 use filter_code::{Code, Route, run_counted};
 use filter_commands::{check_text, eval_lines};
 use filter_machine::{Ran, Verdict, run};
@@ -33,12 +33,27 @@ fn push_tests(bytes: &mut Vec<u8>) -> Result<(), AllocError> {
     Ok(())
 }
 
-/// A code file at all limits. After the tests of the sets comes ACCEPT, and 767 times PREFIX 10.0.0.0/8.
-fn full_file(alloc: Global) -> Result<Vec<u8>, Fail> {
-    let mut bytes = Vec::from_slice(alloc, b"NCF1\x10\x40")?;
+/// The bytes of 1,024 ranges: from each number below 1,024 to the greatest int.
+fn push_ranges(bytes: &mut Vec<u8>) -> Result<(), AllocError> {
+    for low in 0..1024u32 {
+        bytes.extend_from_slice(&low.to_be_bytes())?;
+        bytes.extend_from_slice(&[255, 255, 255, 255])?;
+    }
+    Ok(())
+}
+
+/// A code file at all limits, with so many sets of ints. After the tests of the sets of patterns comes ACCEPT, and 767 times
+/// PREFIX 10.0.0.0/8.
+fn full_file(alloc: Global, int_sets: u8) -> Result<Vec<u8>, Fail> {
+    let mut bytes = Vec::from_slice(alloc, b"NCF2\x10\x40")?;
     for set in 0..64u8 {
         bytes.extend_from_slice(&[4, 0])?;
         push_patterns(&mut bytes, set)?;
+    }
+    bytes.push(int_sets)?;
+    for _ in 0..int_sets {
+        bytes.extend_from_slice(&[4, 0])?;
+        push_ranges(&mut bytes)?;
     }
     bytes.extend_from_slice(&[4, 0])?;
     push_tests(&mut bytes)?;
@@ -81,8 +96,8 @@ fn checked(alloc: Global, input: &[u8], is_code: bool) -> Result<Vec<u8>, Fail> 
 #[test]
 fn a_code_file_at_all_limits(rt: HostRuntime) -> Result<(), Fail> {
     let alloc = rt.alloc();
-    let bytes = full_file(alloc)?;
-    assert_eq!(&rt; bytes.len(), 463_939);
+    let bytes = full_file(alloc, 0)?;
+    assert_eq!(&rt; bytes.len(), 463_940);
     let code = read_code(alloc, &bytes)?;
     expect_full(&rt, &code, 1024);
     let mut written = write_code(alloc, &code)?;
@@ -90,7 +105,7 @@ fn a_code_file_at_all_limits(rt: HostRuntime) -> Result<(), Fail> {
     written.push(0)?;
     assert_eq!(&rt;
         read_code(alloc, &written).err(),
-        Some(FileFault::BytesAfterEnd(463_939))
+        Some(FileFault::BytesAfterEnd(463_940))
     );
     let digits = hex::encode(alloc, &bytes)?;
     let lines = checked(alloc, digits.as_bytes(), true)?;
@@ -101,6 +116,34 @@ fn a_code_file_at_all_limits(rt: HostRuntime) -> Result<(), Fail> {
     assert_eq!(&rt;
         answers.as_slice(),
         b"reject\naccept 3\nreject\naccept 3\n".as_slice()
+    );
+    Ok(())
+}
+
+#[test]
+fn a_code_file_at_all_limits_with_sets_of_ints(rt: HostRuntime) -> Result<(), Fail> {
+    let alloc = rt.alloc();
+    let bytes = full_file(alloc, 64)?;
+    assert_eq!(&rt; bytes.len(), 988_356);
+    let code = read_code(alloc, &bytes)?;
+    expect_full(&rt, &code, 1024);
+    assert_eq!(&rt; code.int_sets().len(), 64);
+    assert_eq!(&rt;
+        code.int_sets().last().map(|set| set.ranges().len()),
+        Some(1024)
+    );
+    let mut written = write_code(alloc, &code)?;
+    assert!(&rt; written.as_slice() == bytes.as_slice());
+    assert_eq!(&rt; write_old(alloc, &code).err(), Some(FileFault::OldForm));
+    written.push(0)?;
+    assert_eq!(&rt;
+        read_code(alloc, &written).err(),
+        Some(FileFault::BytesAfterEnd(988_356))
+    );
+    let digits = hex::encode(alloc, &bytes)?;
+    assert_eq!(&rt;
+        checked(alloc, digits.as_bytes(), true)?.as_slice(),
+        b"refused O7 1\n".as_slice()
     );
     Ok(())
 }

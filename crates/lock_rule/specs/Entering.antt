@@ -38,6 +38,13 @@ EntersNot fault.Full m w = (w ≡ (seeing m.0 (noted m.0) m.0.own.mine, []))
     × ((opening : OpeningView) (limit : ℕ) → m.0.about ≡ Some (opening, limit) → length (noted m.0) ≡ limit)
 EntersNot fault.Memory m w = w ≡ (unnoted m.0, [])
 
+-- the observer saw the history taken, of the journal that the seat had; nothing is entered
+pub record Shows {Seer : Type 0} (sees : Seer → JournalView → Seer → Type 0) (m : Seated) (before after : Seer) (w : Seated) : Type 0 where
+  pub taken : JournalView
+  pub slots : m.1 ≡ (0, taken) ∷ []
+  pub saw : sees before taken after
+  pub now : w ≡ (seeing m.0 taken.entries m.0.own.mine, [])
+
 -- two seats after they met: each has seen the longer history
 pub record IsMet (m v w u : Seated) : Type 0 where
   pub first : w ≡ (record m.0 { own = showing m.0.own (longer m.0.own.seen v.0.own.seen); guest = idle }, m.1)

@@ -2,12 +2,13 @@
 
 ghost use Rattle.std.specs.Prelude.{◌≡◌, ◌≢◌, ◌<◌, IfErr, IfNone, IfOk, IfSome, MatchBool, None, []};
 ghost use Rattle.lock_rule.specs.Closing.{Closed};
-ghost use Rattle.lock_rule.specs.Entering.{Enters, EntersNot, IsHolding, IsMet};
+ghost use Rattle.lock_rule.specs.Entering.{Enters, EntersNot, IsHolding, IsMet, Shows};
 ghost use Rattle.lock_rule.specs.Steps.{Absorbs, Missed, Took};
 ghost use Rattle.lock_rule.specs.Views.{all_shares, cut_left, cut_right, idle, newcomer, shares_of, united};
 
+use crate::observer::Observer;
 use crate::rule::{LockSeat, LockTable};
-use crate::steps::{absorb, compare, cut, enter, take, take_apart};
+use crate::steps::{absorb, compare, cut, enter, show, take, take_apart};
 use netchange_core::{Event, Reply};
 use route_history::{CallFault, Journal};
 use std::alloc::{AllocError, Global};
@@ -105,6 +106,16 @@ impl Desk {
         ensures refused { IfErr result (λ f. EntersNot f place.old.me place.new.me) }
     {
         enter(&self.table, &mut place.seat, event)
+    }
+
+    /// Shows the journal that the place has to an observer, and gives the journal back as it was.
+    pub fn show<O: Observer>(&self, place: &mut Place, observer: &mut O)
+        requires at { place.old.table ≡ self.now.table }
+        requires holding { IsHolding place.old.me }
+        ensures at { place.new.table ≡ place.old.table }
+        ensures shown { Shows O.sees place.old.me observer.old observer.new place.new.me }
+    {
+        show(&self.table, &mut place.seat, observer);
     }
 
     /// Divides a place: the new one has this many of its shares.

@@ -2,8 +2,10 @@
 #![tactic(auto)]
 
 mod desk;
+mod observer;
 mod rule;
 mod steps;
 
 pub use desk::{Desk, Place};
+pub use observer::Observer;
 pub use rule::{Part, View};

@@ -4,10 +4,11 @@
 ghost use Rattle.std.specs.Prelude.{◌≡◌, ◌≢◌, ◌<◌, IfErr, IfNone, IfOk, IfSome, MatchBool, None, []};
 ghost use Rattle.lock_rule.specs.Closing.{Closed};
 ghost use Rattle.lock_rule.specs.Desk.{router_view};
-ghost use Rattle.lock_rule.specs.Entering.{Enters, EntersNot, IsAtDesk, IsHolding, IsMet};
+ghost use Rattle.lock_rule.specs.Entering.{Enters, EntersNot, IsAtDesk, IsHolding, IsMet, Shows};
 ghost use Rattle.lock_rule.specs.Steps.{Absorbs, Missed, Took};
 ghost use Rattle.lock_rule.specs.Views.{all_shares, cut_left, cut_right, idle, shares_of, united};
 
+use crate::observer::Observer;
 use crate::rule::{
     Absorb, Amount, Compare, Cut, Give, Leave, LockSeat, LockTable, Separate, Show, Take, Unite,
 };
@@ -51,6 +52,21 @@ pub(crate) fn enter(
             Err(CallFault::Memory)
         }
     }
+}
+
+/// Shows the journal that the seat has to an observer, and gives the journal back as it was.
+pub(crate) fn show<O: Observer>(desk: &LockTable, seat: &mut LockSeat, observer: &mut O)
+    requires desk { IsAtDesk desk.now.shared.table_id seat.old.table_id }
+    requires holding { IsHolding seat.old.me }
+    ensures same { (seat.new.table_id ≡ seat.old.table_id) × (seat.new.id ≡ seat.old.id) }
+    ensures shown { Shows O.sees seat.old.me observer.old observer.new seat.new.me }
+{
+    let table = &desk.shared;
+    let shown = seat.slot_mut(table, 0);
+    // What a journal says of its entries, it says of those that are shown.
+    let _entries = shown.entries();
+    observer.see(shown);
+    table.store::<Show>(seat, 0, 0);
 }
 
 /// Divides a seat: the new one has this many of its shares.

@@ -8,9 +8,10 @@ use std::alloc::Global;
 use std::process::Abort;
 use std::test::Fail;
 
-/// A set of two patterns, and nine instructions that use it: two more for the nets that match, and no others.
-const FILE: [u8; 40] =
-    *b"NCF1\x01\x01\0\x02\x0a\0\0\0\x08\x08\x10\x0b\0\0\0\x08\x08\x08\0\x09\x12\x51\0\x61\0\x05\x13\x01\0\0\0\x02\x20\x15\x70\x71";
+/// A set of two patterns, a set of one range of ints, and nine instructions that use the first: two more for the nets that match,
+/// and no others.
+const FILE: [u8; 51] =
+    *b"NCF2\x01\x01\0\x02\x0a\0\0\0\x08\x08\x10\x0b\0\0\0\x08\x08\x08\x01\0\x01\0\0\0\x02\0\0\0\x05\0\x09\x12\x51\0\x61\0\x05\x13\x01\0\0\0\x02\x20\x15\x70\x71";
 
 /// The set's patterns: 10.0.0.0/8 with lengths from 8 to 16, and 11.0.0.0/8 alone.
 fn patterns() -> Option<[Pattern; 2]> {
@@ -36,6 +37,10 @@ fn expect_code(rt: &impl Abort, code: &Code, patterns: &[Pattern]) {
     assert!(rt; code.sets().len() == 1);
     for set in code.sets() {
         assert!(rt; set.patterns() == patterns);
+    }
+    assert!(rt; code.int_sets().len() == 1);
+    for set in code.int_sets() {
+        assert!(rt; set.ranges().len() == 1 && set.holds(2) && set.holds(5) && !set.holds(6));
     }
     assert!(rt; code.instrs() == instrs.as_slice());
 }

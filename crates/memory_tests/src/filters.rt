@@ -4,7 +4,7 @@ use crate::refusals::answered;
 use filter_code::{Code, Instr};
 use filter_compiler::{CompileFault, compile, compile_mapped};
 use filter_parser::{Filter, ParseFault, parse};
-use filter_types::{Typed, check};
+use filter_types::{TypeFault, Typed, check};
 use prefix_patterns::{Ip, Pattern, Prefix};
 use std::fmt::{self, Write};
 use std::process::Abort;
@@ -15,14 +15,17 @@ use std::test::Fail;
 const TEXT: &str =
     "filter f { int a; a = 1 + net.len; if !(a > 9) then if net ~ [10.0.0.0/8+] then { accept; } else reject; }";
 
-/// The variable of that text, as the tree is shown. Numbers in front are places in the text.
+/// Has labels of a `case`, which are judged together.
+const CASE: &str = "filter c { case rip_metric { 1, 3..5: accept; else: reject; } }";
+
+/// The variable of the text `TEXT`, as the tree is shown. Numbers in front are places in the text.
 const DECLS: &str = "[Decl { at: 15, kind: Int, name: [97] }]";
 
 /// The commands of that text.
 const BODY: &str =
     "[Assign(18, Name([97]), Chain(Number(22, 1), [(24, Add, Suffixed(Attribute(26, Net), [Len]))])), \
     If(35, Not(38, Group(39, Chain(Name(40, [97]), [(42, Greater, Number(44, 9))]))), \
-    If(52, Member(In, Attribute(55, Net), Set { at: 61, patterns: [OrLonger(62, Prefix { address: 167772160, len: 8 })] }), \
+    If(52, Member(In, Attribute(55, Net), Set { at: 61, members: Patterns([OrLonger(62, Prefix { address: 167772160, len: 8 })]) }), \
     Block(80, [Accept(82, false)]), Some(Reject(97, false))), None)]";
 
 /// Where the instructions of that text come from.
@@ -135,6 +138,21 @@ fn a_filter_is_judged_without_memory(rt: HostRuntime) -> Result<(), Fail> {
     assert!(rt; judged.is_ok());
     expect_typed(&rt, &judged?)?;
     Ok(())
+}
+
+#[test]
+fn labels_are_judged_or_y6(rt: HostRuntime) -> Result<(), Fail> {
+    match check(rt.alloc(), parse(rt.alloc(), CASE.as_bytes())?) {
+        Ok(typed) => {
+            assert!(rt; typed.number_of(b"c") == 0);
+            Ok(())
+        }
+        Err(fault) => {
+            assert!(rt; fault == TypeFault::Memory);
+            assert!(rt; fault.code() == "Y6" && fault.at() == 0);
+            Err(answered("check", "Y6"))
+        }
+    }
 }
 
 #[test]

@@ -1,6 +1,6 @@
 //! Tests of each call that asks for memory, where it is refused.
 //!
-//! `scripts/refuse_memory.sh` runs them with one allocation refused at a time. A test passes with ample memory by
+//! `scripts/check_memory.py` runs them with one allocation refused at a time. A test passes with ample memory by
 //! comparing the answer; where a call was refused, the test looks at what is left, and then ends with what the call answered.
 #![tactic(auto)]
 

@@ -3,7 +3,7 @@
 use std::test::Fail;
 
 /// The failure of a test, which tells that a call answered refused memory as it should, and what the answer was.
-/// `scripts/refuse_memory.sh` counts these by the call.
+/// `scripts/check_memory.py` counts these by the call.
 pub fn answered(call: &str, answer: &str) -> Fail {
     Fail::new(format_args!("{call} answered {answer}"))
 }

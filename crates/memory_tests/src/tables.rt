@@ -18,7 +18,13 @@ fn opening(alloc: Global) -> Result<Opening, Fail> {
 
 /// A filter that rejects every route.
 fn rejecting(alloc: Global) -> Result<Arc<Verified>, Fail> {
-    let code = Code::new(0, Vec::new(alloc), [Instr::Reject].to_vec(alloc)?).ok_or("a code")?;
+    let code = Code::new(
+        0,
+        Vec::new(alloc),
+        Vec::new(alloc),
+        [Instr::Reject].to_vec(alloc)?,
+    )
+    .ok_or("a code")?;
     match verify(alloc, code, 3) {
         Ok(verified) => Ok(Arc::new(alloc, verified)?),
         Err((_, fault)) => Err(Fail::from(fault)),

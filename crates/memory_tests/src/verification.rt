@@ -29,7 +29,9 @@ fn pattern() -> Option<Pattern> {
 fn made(alloc: Global) -> Result<Code, Fail> {
     let pattern = pattern().ok_or("a pattern")?;
     let sets = vec![in alloc; PatternSet::build(alloc, &[pattern])?]?;
-    Ok(Code::new(1, sets, INSTRS.to_vec(alloc)?).ok_or("a code within the limits")?)
+    Ok(Code::new(1, sets, Vec::new(alloc), INSTRS.to_vec(alloc)?).ok_or(
+        "a code within the limits",
+    )?)
 }
 
 /// Asserts that a code is that one.

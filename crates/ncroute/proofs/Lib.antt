@@ -1,3 +1,5 @@
 pub mod Sources
 pub mod Tried
 pub mod Untold
+mod FiltersRead
+mod JoinedRead

@@ -1,5 +1,5 @@
 -- How checks of sources follow one another.
-use Rattle.std.proofs.Common.{◌≡◌, ℕ, zero, suc, ◌+◌, ◌||◌, Bool, false, List, Option, Some, Result, refl, add-one}
+use Rattle.std.proofs.Common.{◌≡◌, ℕ, ◌+◌, ◌||◌, Bool, false, List, Option, Some, Result, refl, add-one}
 use Rattle.std.specs.Prelude.{slice_get}
 use Rattle.std.specs.declared.io.Error.{Error}
 use Rattle.line_protocol.specs.declared.faults.StreamFault.{StreamFault}

@@ -1,5 +1,5 @@
 -- How a filter that was tried on routes is told.
-use Rattle.std.proofs.Common.{◌≡◌, ◌⊎◌, ℕ, Bool, false, List, Result, Ok, Err, IfOk, IfErr, IfSome, inr, subst}
+use Rattle.std.proofs.Common.{◌≡◌, ℕ, Bool, List, Result, Ok, Err, IfOk, IfErr, IfSome, inr, subst}
 use Rattle.filter_commands.specs.Faults.{stream_fault}
 use Rattle.filter_commands.specs.declared.fault.ProgramFault.{ProgramFault}
 use Rattle.filter_source.specs.declared.diagnosis.Diagnosis.{Diagnosis}

@@ -1,4 +1,4 @@
--- What the program does for a router's script whose history is kept, or that ends at its first refused line. (This project's own choice.)
+-- What the program does for a router's script whose history is kept, that is started with filters, or that ends at its first refused line. (This project's own choice.)
 use Rattle.std.specs.Prelude.{◌≡◌, ◌⊎◌, ◌||◌, ℕ, List, Option, Some, None, IfSome, Result, Ok, Err, string_bytes, ⊤}
 use Rattle.std.specs.Io.KnownBytes.{Appends}
 use Rattle.std.specs.declared.io.Error.{Error}
@@ -8,27 +8,53 @@ use Rattle.filter_commands.specs.Evaluation.{IsCut}
 use Rattle.line_protocol.specs.Limits.{input_limit}
 use Rattle.line_protocol.specs.declared.faults.StreamFault.{StreamFault}
 use Rattle.script_runs.specs.Running.{IsSaved, IsSavedInPart}
+use Rattle.script_runs.specs.declared.naming.NamedFilter.{NamedFilter}
+use Rattle.script_runs.specs.declared.naming.Unfit.{Unfit}
 use Rattle.command_line.specs.declared.aid_words.Running.{Running}
 use Rattle.command_line.specs.declared.aid_words.Source.{Source}
 use Rattle.command_line.specs.declared.aid_words.Source.TheVariants.{Input, File}
+use Rattle.ncroute.specs.Filters.{IsCutUnfit, ReadsFilters, StopsAtFilter, TellsUnfit}
 use Rattle.ncroute.specs.Reading.{IsRead, IsUnread, StopsTelling, TellsUnread, unmade_line}
 use Rattle.ncroute.specs.Scripts.{IsQuiet}
 use Rattle.ncroute.specs.Serving.{status_of}
 use Rattle.ncroute.specs.Streaming.{Streams}
 use Rattle.ncroute.specs.declared.texts.Unread.{Unread}
 
--- A script was carried out, and the exit status says whether a line was refused. `kept` and `keeps` are what the saver held before and
--- holds now. Standard error is told nothing where people asked for no words, and the script does not end at a refused line.
-pub record RunsSaved (how : Running) (kept keeps : Option (List ℕ)) (before after : Streams) (status : ℕ) : Type 0 where
+-- A script that was started with these filters was carried out, and the exit status says whether a line was refused. `kept` and `keeps`
+-- are what the saver held before and holds now. Standard error is told nothing where people asked for no words, and the script does not end
+-- at a refused line; at last it is told of the filter that is refused, if one is.
+pub record RunsSaved (how : Running) (filters : List NamedFilter) (kept keeps : Option (List ℕ)) (before after : Streams) (status : ℕ)
+    : Type 0 where
   pub refused : ℕ
-  pub carried_out : IfSome before.reads (λ input. IsSaved how.stops input after.reads before.holds after.holds refused kept keeps)
-  pub quiet : IsQuiet (how.is_explained || how.stops) before.tells after.tells
+  pub unfit : Option Unfit
+  pub mid : Option (List ℕ)
+  pub carried_out : IfSome before.reads (λ input.
+      IsSaved how.stops filters input after.reads before.holds after.holds refused kept keeps unfit)
+  pub quiet : IsQuiet (how.is_explained || how.stops) before.tells mid
+  pub told : TellsUnfit filters unfit mid after.tells
   pub ends : status ≡ status_of refused
 
 -- A fault broke it off.
-pub record StopsSaved (fault : StreamFault) (how : Running) (kept keeps : Option (List ℕ)) (before after : Streams) : Type 0 where
-  pub left_off : IfSome before.reads (λ input. IsSavedInPart fault how.stops input after.reads before.holds after.holds kept keeps)
+pub record BreaksSaved (fault : StreamFault) (how : Running) (filters : List NamedFilter) (kept keeps : Option (List ℕ))
+    (before after : Streams) : Type 0 where
+  pub left_off : IfSome before.reads (λ input.
+      IsSavedInPart fault how.stops filters input after.reads before.holds after.holds kept keeps)
   pub quiet : IsQuiet (how.is_explained || how.stops) before.tells after.tells
+
+-- A fault cut what was told of the filter that is refused.
+pub record CutsSaved (fault : StreamFault) (how : Running) (filters : List NamedFilter) (kept keeps : Option (List ℕ))
+    (before after : Streams) : Type 0 where
+  pub refused : ℕ
+  pub unfit : Option Unfit
+  pub mid : Option (List ℕ)
+  pub carried_out : IfSome before.reads (λ input.
+      IsSaved how.stops filters input after.reads before.holds after.holds refused kept keeps unfit)
+  pub quiet : IsQuiet (how.is_explained || how.stops) before.tells mid
+  pub cut : IsCutUnfit fault filters unfit mid after.tells
+
+abbrev pub StopsSaved : StreamFault → Running → List NamedFilter → Option (List ℕ) → Option (List ℕ) → Streams → Streams → Type 0
+StopsSaved fault how filters kept keeps before after =
+    BreaksSaved fault how filters kept keeps before after ⊎ CutsSaved fault how filters kept keeps before after
 
 -- `creates name` says what may come of making a file of this name: what it holds at first, or why there is none.
 module _ (creates : List ℕ → Result (Option (List ℕ)) Error → Type 0) where
@@ -44,37 +70,55 @@ module _ (creates : List ℕ → Result (Option (List ℕ)) Error → Type 0) wh
 
   -- A script was carried out, and its history saved; or the file of the history was not made, which standard error was told, and no line
   -- was answered.
-  abbrev pub GuidesScript : Running → Streams → Streams → ℕ → Type 0
-  GuidesScript how before after status =
-      ((kept : Option (List ℕ)) × (keeps : Option (List ℕ)) × IsSaver how.save kept × RunsSaved how kept keeps before after status)
+  abbrev pub GuidesScript : Running → List NamedFilter → Streams → Streams → ℕ → Type 0
+  GuidesScript how filters before after status =
+      ((kept : Option (List ℕ)) × (keeps : Option (List ℕ)) × IsSaver how.save kept
+      × RunsSaved how filters kept keeps before after status)
       ⊎ ((name : List ℕ) × (words : List ℕ) × IsUnmade how.save name words × Appends before.tells after.tells (unmade_line name words)
       × (after.reads ≡ before.reads) × (after.holds ≡ before.holds) × (status ≡ 1))
 
   -- A fault ended it.
-  abbrev pub StopsGuided : StreamFault → Running → Streams → Streams → Type 0
-  StopsGuided fault how before after =
-      ((kept : Option (List ℕ)) × (keeps : Option (List ℕ)) × IsSaver how.save kept × StopsSaved fault how kept keeps before after)
+  abbrev pub StopsGuided : StreamFault → Running → List NamedFilter → Streams → Streams → Type 0
+  StopsGuided fault how filters before after =
+      ((kept : Option (List ℕ)) × (keeps : Option (List ℕ)) × IsSaver how.save kept
+      × StopsSaved fault how filters kept keeps before after)
       ⊎ ((name : List ℕ) × (words : List ℕ) × IsUnmade how.save name words × IsCut fault before.tells after.tells (unmade_line name words)
       × (after.reads ≡ before.reads) × (after.holds ≡ before.holds))
 
   -- `opens name` says what may come of opening a file of this name.
   module _ (opens : List ℕ → Result (Option (List ℕ)) Error → Type 0) where
     -- The script of standard input was carried out line by line, or that of a file, which was read first; or the file was not read.
-    abbrev pub RunsGuided : Running → Source → Streams → Streams → ℕ → Type 0
-    RunsGuided how Input before after status = GuidesScript how before after status
-    RunsGuided how (File name) before after status =
+    abbrev pub RunsNamed : Running → List NamedFilter → Source → Streams → Streams → ℕ → Type 0
+    RunsNamed how filters Input before after status = GuidesScript how filters before after status
+    RunsNamed how filters (File name) before after status =
         ((script : List ℕ) × (left : Option (List ℕ)) × IsRead opens input_limit (File name) script before.reads after.reads
-        × GuidesScript how (record { reads = Some script; holds = before.holds; tells = before.tells })
+        × GuidesScript how filters (record { reads = Some script; holds = before.holds; tells = before.tells })
         (record { reads = left; holds = after.holds; tells = after.tells }) status)
         ⊎ ((why : Unread) × IsUnread opens input_limit (File name) why before.reads after.reads
         × TellsUnread (File name) why before.tells after.tells × (after.holds ≡ before.holds) × (status ≡ 1))
 
     -- A fault ended it.
-    abbrev pub StopsRun : StreamFault → Running → Source → Streams → Streams → Type 0
-    StopsRun fault how Input before after = StopsGuided fault how before after
-    StopsRun fault how (File name) before after =
+    abbrev pub StopsNamed : StreamFault → Running → List NamedFilter → Source → Streams → Streams → Type 0
+    StopsNamed fault how filters Input before after = StopsGuided fault how filters before after
+    StopsNamed fault how filters (File name) before after =
         ((script : List ℕ) × (left : Option (List ℕ)) × IsRead opens input_limit (File name) script before.reads after.reads
-        × StopsGuided fault how (record { reads = Some script; holds = before.holds; tells = before.tells })
+        × StopsGuided fault how filters (record { reads = Some script; holds = before.holds; tells = before.tells })
         (record { reads = left; holds = after.holds; tells = after.tells }))
         ⊎ ((why : Unread) × IsUnread opens input_limit (File name) why before.reads after.reads
         × StopsTelling fault (File name) why before.tells after.tells × (after.holds ≡ before.holds))
+
+    -- The filters were read, in order, and then the script was carried out; or one of them was not read, and no line was answered.
+    abbrev pub RunsGuided : Running → Source → Streams → Streams → ℕ → Type 0
+    RunsGuided how source before after status =
+        ((filters : List NamedFilter) × (left : Option (List ℕ)) × ReadsFilters opens how.filters.items filters before.reads left
+        × RunsNamed how filters source (record { reads = left; holds = before.holds; tells = before.tells }) after status)
+        ⊎ ((unread : Source) × (why : Unread) × StopsAtFilter opens how.filters.items unread why before.reads after.reads
+        × TellsUnread unread why before.tells after.tells × (after.holds ≡ before.holds) × (status ≡ 1))
+
+    -- A fault ended it.
+    abbrev pub StopsRun : StreamFault → Running → Source → Streams → Streams → Type 0
+    StopsRun fault how source before after =
+        ((filters : List NamedFilter) × (left : Option (List ℕ)) × ReadsFilters opens how.filters.items filters before.reads left
+        × StopsNamed fault how filters source (record { reads = left; holds = before.holds; tells = before.tells }) after)
+        ⊎ ((unread : Source) × (why : Unread) × StopsAtFilter opens how.filters.items unread why before.reads after.reads
+        × StopsTelling fault unread why before.tells after.tells × (after.holds ≡ before.holds))

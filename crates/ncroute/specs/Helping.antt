@@ -1,6 +1,6 @@
 -- What the program does for people, and its exit status. (This project's own choice.)
-use Rattle.std.specs.Prelude.{◌≡◌, ◌⊎◌, ◌||◌, ℕ, zero, suc, Bool, true, false, if◌then◌else◌, List, Option, Some, None, IfSome, Result}
-use Rattle.std.specs.Prelude.{is_some, length, slice_get, string_bytes}
+use Rattle.std.specs.Prelude.{◌≡◌, ◌⊎◌, ◌||◌, ◌≤◌, ℕ, zero, suc, Bool, true, false, if◌then◌else◌, List, Option, Some, None, IfSome, Result}
+use Rattle.std.specs.Prelude.{is_some, length, slice_get, string_bytes, ⊤}
 use Rattle.std.specs.Io.KnownBytes.{Appends}
 use Rattle.std.specs.declared.io.Error.{Error}
 use Rattle.filter_source.specs.Limits.{source_limit}
@@ -17,6 +17,7 @@ use Rattle.line_protocol.specs.Runs.{AppendsFront}
 use Rattle.line_protocol.specs.declared.faults.StreamFault.{StreamFault}
 use Rattle.line_protocol.specs.Limits.{input_limit}
 use Rattle.ncroute.specs.Guiding.{RunsGuided, StopsRun}
+use Rattle.ncroute.specs.Marking.{ChecksLines, CutsLines}
 use Rattle.ncroute.specs.Reading.{IsRead, IsUnread, StopsTelling, TellsUnread, name_of}
 use Rattle.ncroute.specs.Replaying.{CutsReplay, ReplaysText, replay_limit}
 use Rattle.ncroute.specs.Scripts.{RunsScript, StopsScript, script_fault}
@@ -32,10 +33,28 @@ use Rattle.command_line.specs.declared.aid_words.Source.TheVariants.{Input, File
 
 -- The report on a text was written and told, under a name, and it is said whether it refuses the text. `held` and `holds` are what the
 -- writer held before and holds now, `told` and `tells` the same of standard error.
-pub record ChecksText (how : Checking) (name text : List ℕ) (held holds told tells : Option (List ℕ)) (is_refused : Bool) : Type 0 where
+pub record ChecksWhole (how : Checking) (name text : List ℕ) (held holds told tells : Option (List ℕ)) (is_refused : Bool) : Type 0 where
   pub why : Option Diagnosis
   pub checked : ChecksNamed how.size how.is_code how.is_explained name text held holds told tells why
   pub judged : is_refused ≡ is_some why
+
+-- The same, where the lines may begin with the source's name, or only refusals be written.
+abbrev pub ChecksBy : Bool → Checking → List ℕ → List ℕ → Option (List ℕ) → Option (List ℕ) → Option (List ℕ) → Option (List ℕ) → Bool → Type 0
+ChecksBy true how name text held holds told tells is_refused = ChecksLines how name text held holds told tells is_refused
+ChecksBy false how name text held holds told tells is_refused = ChecksWhole how name text held holds told tells is_refused
+
+abbrev pub ChecksText : Checking → List ℕ → List ℕ → Option (List ℕ) → Option (List ℕ) → Option (List ℕ) → Option (List ℕ) → Bool → Type 0
+ChecksText how name text held holds told tells is_refused =
+    ChecksBy (how.has_names || how.is_quiet) how name text held holds told tells is_refused
+
+-- A fault cut it.
+abbrev pub CutsBy : Bool → StreamFault → Checking → List ℕ → List ℕ → Option (List ℕ) → Option (List ℕ) → Option (List ℕ) → Option (List ℕ) → Type 0
+CutsBy true fault how name text held holds told tells = CutsLines fault how name text held holds told tells
+CutsBy false fault how name text held holds told tells =
+    ChecksNamedOff fault how.size how.is_code how.is_explained name text held holds told tells
+
+abbrev pub CutsText : StreamFault → Checking → List ℕ → List ℕ → Option (List ℕ) → Option (List ℕ) → Option (List ℕ) → Option (List ℕ) → Type 0
+CutsText fault how name text held holds told tells = CutsBy (how.has_names || how.is_quiet) fault how name text held holds told tells
 
 -- the refusal of a filter that is told in words
 abbrev pub told_refusal : Bool → Filtered → Option Diagnosis
@@ -76,10 +95,12 @@ pub record ListsText (size : Option ℕ) (is_code is_explained : Bool) (name tex
 abbrev pub fault_status : Aid → ℕ
 fault_status (aid.Check how sources) = 1
 fault_status (aid.Explain page) = 1
+fault_status (aid.Import how source) = 1
 fault_status (aid.List size is_code source is_explained) = 3
 fault_status (aid.Filter size source is_explained) = 3
 fault_status (aid.Replay source) = 3
 fault_status (aid.Run how source) = 1
+fault_status (aid.RunJoined how sources) = 1
 fault_status (aid.Script engine source is_explained) = script_fault engine
 
 -- `opens name` says what may come of opening a file of this name.
@@ -112,7 +133,7 @@ module _ (opens : List ℕ → Result (Option (List ℕ)) Error → Type 0) wher
   abbrev pub IsCutOne : StreamFault → Checking → Source → Streams → Streams → Type 0
   IsCutOne fault how source before after = StopsReading fault source_limit source before after
       ⊎ ((text : List ℕ) × IsRead opens source_limit source text before.reads after.reads
-      × ChecksNamedOff fault how.size how.is_code how.is_explained (name_of source) text before.holds after.holds before.tells after.tells)
+      × CutsText fault how (name_of source) text before.holds after.holds before.tells after.tells)
 
   -- A fault ended the checks behind the first of the sources.
   pub record ChecksSome (fault : StreamFault) (how : Checking) (sources : List Source) (before after : Streams) : Type 0 where
@@ -190,16 +211,19 @@ module _ (opens : List ℕ → Result (Option (List ℕ)) Error → Type 0) wher
 
   -- `creates name` says what may come of making a file of this name: what it holds at first, or why there is none.
   module _ (creates : List ℕ → Result (Option (List ℕ)) Error → Type 0) where
-    -- What people asked for was done to its end, with this exit status.
+    -- What people asked for was done to its end, with this exit status. Of an import nothing more is said, and
+    -- of the script that several sources are nothing yet.
     abbrev pub Helps : Aid → Streams → Streams → ℕ → Type 0
     Helps (aid.Check how sources) before after status = (refused : Bool)
         × ChecksFirst how sources.items (length sources.items) before after refused × (status ≡ (if refused then 1 else 0))
     Helps (aid.Explain page) before after status =
         Appends before.holds after.holds (string_bytes page) × (after.reads ≡ before.reads) × (after.tells ≡ before.tells) × (status ≡ 0)
+    Helps (aid.Import how source) before after status = status ≤ 1
     Helps (aid.List size is_code source is_explained) before after status = ListsSource size is_code is_explained source before after status
     Helps (aid.Filter size source is_explained) before after status = TriesFilter size source is_explained before after status
     Helps (aid.Replay source) before after status = ReplaysSource source before after status
     Helps (aid.Run how source) before after status = RunsGuided creates opens how source before after status
+    Helps (aid.RunJoined how sources) before after status = ⊤
     Helps (aid.Script engine source is_explained) before after status = RunsSource engine source is_explained before after status
 
     -- A fault ended it.
@@ -207,10 +231,12 @@ module _ (opens : List ℕ → Result (Option (List ℕ)) Error → Type 0) wher
     StopsHelp fault (aid.Check how sources) before after = ChecksSome fault how sources.items before after
     StopsHelp fault (aid.Explain page) before after =
         IsCut fault before.holds after.holds (string_bytes page) × (after.reads ≡ before.reads) × (after.tells ≡ before.tells)
+    StopsHelp fault (aid.Import how source) before after = ⊤
     StopsHelp fault (aid.List size is_code source is_explained) before after = StopsListing fault size is_code source before after
     StopsHelp fault (aid.Filter size source is_explained) before after = StopsFilter fault size source before after
     StopsHelp fault (aid.Replay source) before after = StopsReplay fault source before after
     StopsHelp fault (aid.Run how source) before after = StopsRun creates opens fault how source before after
+    StopsHelp fault (aid.RunJoined how sources) before after = ⊤
     StopsHelp fault (aid.Script engine source is_explained) before after = StopsSource fault engine source is_explained before after
 
     -- What people asked for ended with this exit status: it was done to its end; or a fault ended it, which standard error was told,

@@ -1,5 +1,8 @@
+pub mod Filters
 pub mod Guiding
 pub mod Helping
+pub mod Joining
+pub mod Marking
 pub mod Networking
 pub mod Reading
 pub mod Replaying

@@ -23,6 +23,13 @@ name_of (File name) = string_bytes name
 abbrev pub unread_line : Source → List ℕ → List ℕ
 unread_line source words = shown (name_of source) ++ codes ": " ++ words ++ codes " (E1)" ++ 10 ∷ []
 
+-- the line that tells that the text of a filter is longer than its limit
+unfoldable pub long_words : List ℕ
+long_words = codes ": longer than 1048576 bytes (E4)" ++ 10 ∷ []
+
+abbrev pub long_line : Source → List ℕ
+long_line source = shown (name_of source) ++ long_words
+
 -- the line that tells that a file was not made, with its name as it is shown and the words of the reason
 abbrev pub unmade_line : List ℕ → List ℕ → List ℕ
 unmade_line name words = shown name ++ codes ": " ++ words ++ codes " (E2)" ++ 10 ∷ []
@@ -40,30 +47,35 @@ abbrev pub IsCause : Error → Unread → Type 0
 IsCause error (unread.Broken reason) = (reason ≡ error) × (error_kind error ≡ OutOfMemory → ⊥)
 IsCause error unread.Input = ⊥
 IsCause error unread.Memory = error_kind error ≡ OutOfMemory
+IsCause error unread.TooLong = ⊥
 
 -- a fault of a file: it has a reason, or it is want of memory
 abbrev pub IsOfFile : Unread → Type 0
 IsOfFile (unread.Broken reason) = ⊤
 IsOfFile unread.Input = ⊥
 IsOfFile unread.Memory = ⊤
+IsOfFile unread.TooLong = ⊥
 
 -- Standard input was not read to its end: a read failed, or memory was refused.
 abbrev pub LeavesInput : ℕ → Unread → Option (List ℕ) → Option (List ℕ) → Type 0
 LeavesInput limit (unread.Broken reason) known left = ⊥
 LeavesInput limit unread.Input known left = ConsumesAtMost (limit + 1) known left
 LeavesInput limit unread.Memory known left = ConsumesAtMost (limit + 1) known left
+LeavesInput limit unread.TooLong known left = ⊥
 
--- Standard error was told that a source was not read: of a file with a reason. `told` is what it held, `tells` what it holds now.
+-- Standard error was told that a source was not read: of a file with a reason, and of a filter that is too long with its limit. `told` is what it held, `tells` what it holds now.
 abbrev pub TellsUnread : Source → Unread → Option (List ℕ) → Option (List ℕ) → Type 0
 TellsUnread source (unread.Broken reason) told tells = (words : List ℕ) × Appends told tells (unread_line source words)
 TellsUnread source unread.Input told tells = ⊥
 TellsUnread source unread.Memory told tells = ⊥
+TellsUnread source unread.TooLong told tells = Appends told tells (long_line source)
 
 -- It was not told, or not whole, and this is the fault that comes of it: standard input that fails is E1, and refused memory is E3.
 abbrev pub StopsTelling : StreamFault → Source → Unread → Option (List ℕ) → Option (List ℕ) → Type 0
 StopsTelling ended source (unread.Broken reason) told tells = (words : List ℕ) × IsCut ended told tells (unread_line source words)
 StopsTelling ended source unread.Input told tells = (ended ≡ fault.Read) × (tells ≡ told)
 StopsTelling ended source unread.Memory told tells = (ended ≡ fault.Memory) × (tells ≡ told)
+StopsTelling ended source unread.TooLong told tells = IsCut ended told tells (long_line source)
 
 -- `opens name` says what may come of opening a file of this name: what it has to read, or why there is none.
 module _ (opens : List ℕ → Result (Option (List ℕ)) Error → Type 0) where

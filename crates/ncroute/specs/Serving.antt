@@ -5,23 +5,26 @@ use Rattle.filter_commands.specs.Checking.{Checks, ChecksOff}
 use Rattle.filter_commands.specs.Evaluation.{Breaks, Evaluates}
 use Rattle.filter_commands.specs.Faults.{program_code, stream_fault}
 use Rattle.filter_commands.specs.declared.fault.ProgramFault.{ProgramFault}
+use Rattle.filter_commands.specs.Rewriting.{Rewrites, RewritesOff}
 use Rattle.line_protocol.specs.Runs.{AppendsFront}
 use Rattle.line_protocol.specs.declared.faults.StreamFault.{StreamFault}
 use Rattle.operator_cmds.specs.Running.{IsBrokenOff, IsCarriedOut}
 use Rattle.command_line.specs.declared.words.Request.{Request}
-use Rattle.command_line.specs.declared.words.Request.TheVariants.{Eval, Check, Run}
+use Rattle.command_line.specs.declared.words.Request.TheVariants.{Eval, Check, Rewrite, Run}
 
 -- A request was answered to its end, with so many refused lines. `input` is all that the reader had, `left` what it has now;
 -- `held` and `holds` are what the writer held before and holds now.
 abbrev pub Does : Request → List ℕ → Option (List ℕ) → Option (List ℕ) → Option (List ℕ) → ℕ → Type 0
 Does Eval input left held holds refused = Evaluates input left held holds refused
 Does (Check size is_code) input left held holds refused = Checks size is_code input left held holds refused
+Does (Rewrite is_old) input left held holds refused = Rewrites is_old input left held holds refused
 Does Run input left held holds refused = IsCarriedOut input left held holds refused
 
 -- A fault broke it off.
 abbrev pub BreaksOff : Request → StreamFault → List ℕ → Option (List ℕ) → Option (List ℕ) → Option (List ℕ) → Type 0
 BreaksOff Eval fault input left held holds = Breaks fault input left held holds
 BreaksOff (Check size is_code) fault input left held holds = ChecksOff fault size is_code input left held holds
+BreaksOff (Rewrite is_old) fault input left held holds = RewritesOff fault is_old input left held holds
 BreaksOff Run fault input left held holds = IsBrokenOff fault input left held holds
 
 -- the exit status by the number of refused lines

@@ -7,12 +7,15 @@ ghost use Rattle.filter_tools.specs.Naming.{ChecksNamedOff, ListsNamedOff};
 ghost use Rattle.filter_source.specs.declared.diagnosis.Diagnosis.{Diagnosis as TheDiagnosis};
 ghost use Rattle.filter_tools.specs.Telling.{Explains, IsCutExplanation};
 ghost use Rattle.filter_tools.specs.declared.filter.Filtered.TheVariants.{Refused};
-ghost use Rattle.ncroute.specs.Helping.{ChecksFirst, ChecksOne, ChecksSome, ChecksText, FailsToTell, Helps, IsCutOne, ListsSource, ListsText};
+ghost use Rattle.ncroute.specs.Helping.{ChecksBy, ChecksFirst, ChecksOne, ChecksSome, ChecksText, ChecksWhole, CutsBy, CutsText, FailsToTell, Helps, IsCutOne, ListsSource, ListsText};
 ghost use Rattle.ncroute.specs.Helping.{ReplaysSource, RunsFile, RunsSource, ServesPeople, StopsFile, StopsFilter, StopsHelp, StopsListing};
 ghost use Rattle.ncroute.specs.Helping.{StopsReplay, StopsSource, StopsTrying, TriesFilter, TriesText, fault_status, status_of_filter, told_refusal};
 ghost use Rattle.ncroute.specs.Reading.{name_of};
 
 use crate::guided::guide_source;
+use crate::importing::import_source;
+use crate::joined::guide_sources;
+use crate::lines::check_lines;
 use crate::replay::{REPLAY_LIMIT, replay_text};
 use crate::script::{FAULT, carry_out, script_fault};
 use crate::serve::{FAILED, report_fault};
@@ -25,8 +28,8 @@ use line_protocol::{INPUT_LIMIT, StreamFault, write_text};
 use std::alloc::Global;
 use std::io::{Read, Write};
 
-/// Checks the text of a source. Returns whether it is refused.
-fn check_read<W: Write, E: Write>(
+/// Writes the whole report on the text of a source. Returns whether it is refused.
+fn check_whole<W: Write, E: Write>(
     alloc: Global,
     how: Checking,
     name: &[u8],
@@ -34,7 +37,7 @@ fn check_read<W: Write, E: Write>(
     writer: &mut W,
     errors: &mut E,
 ) -> Result<bool, ProgramFault>
-    ensures finished { IfOk result (ChecksText how name.now text.now
+    ensures finished { IfOk result (ChecksWhole how name.now text.now
         (W.contents writer.old) (W.contents writer.new) (E.contents errors.old) (E.contents errors.new)) }
     ensures cut { IfErr result (λ fault. ChecksNamedOff (stream_fault fault) how.size how.is_code how.is_explained name.now text.now
         (W.contents writer.old) (W.contents writer.new) (E.contents errors.old) (E.contents errors.new)) }
@@ -50,6 +53,52 @@ fn check_read<W: Write, E: Write>(
         how.is_explained,
     )?;
     Ok(why.is_some())
+}
+
+/// Whether a report is written by its lines: they begin with the name of the source, or only refusals are written.
+fn is_by_lines(how: Checking) -> bool
+    ensures { result ≡ (how.has_names || how.is_quiet) }
+{
+    how.has_names || how.is_quiet
+}
+
+/// Checks the text of a source, and writes the report on it by its lines or whole. Returns whether it is refused.
+fn check_by<W: Write, E: Write>(
+    alloc: Global,
+    is_by_lines: bool,
+    how: Checking,
+    name: &[u8],
+    text: &[u8],
+    writer: &mut W,
+    errors: &mut E,
+) -> Result<bool, ProgramFault>
+    ensures finished { IfOk result (ChecksBy is_by_lines how name.now text.now
+        (W.contents writer.old) (W.contents writer.new) (E.contents errors.old) (E.contents errors.new)) }
+    ensures cut { IfErr result (λ fault. CutsBy is_by_lines (stream_fault fault) how name.now text.now
+        (W.contents writer.old) (W.contents writer.new) (E.contents errors.old) (E.contents errors.new)) }
+{
+    if is_by_lines {
+        check_lines(alloc, how, name, text, writer, errors)
+    } else {
+        check_whole(alloc, how, name, text, writer, errors)
+    }
+}
+
+/// Checks the text of a source. Returns whether it is refused.
+fn check_read<W: Write, E: Write>(
+    alloc: Global,
+    how: Checking,
+    name: &[u8],
+    text: &[u8],
+    writer: &mut W,
+    errors: &mut E,
+) -> Result<bool, ProgramFault>
+    ensures finished { IfOk result (ChecksText how name.now text.now
+        (W.contents writer.old) (W.contents writer.new) (E.contents errors.old) (E.contents errors.new)) }
+    ensures cut { IfErr result (λ fault. CutsText (stream_fault fault) how name.now text.now
+        (W.contents writer.old) (W.contents writer.new) (E.contents errors.old) (E.contents errors.new)) }
+{
+    check_by(alloc, is_by_lines(how), how, name, text, writer, errors)
 }
 
 /// Checks one source. Returns whether it is refused; a file that cannot be read is.
@@ -436,9 +485,16 @@ fn help<F: Folder, R: Read, W: Write, E: Write>(
             writer,
             errors,
         ),
+        Aid::Import { how, source } => {
+            import_source(files, alloc, how, source, reader, writer, errors)
+        }
         Aid::Replay { source } => replay_source(files, alloc, source, reader, writer, errors),
         Aid::Run { how, source } => {
             guide_source(files, alloc, how, source, reader, writer, errors)
+        }
+        Aid::RunJoined { how, sources } => {
+            let sources = sources.as_slice();
+            guide_sources(files, alloc, how, sources, reader, writer, errors)
         }
         Aid::Script {
             engine,
@@ -462,7 +518,11 @@ pub fn fault_status(aid: &Aid) -> u8
     ensures { result ≡ fault_status aid.now }
 {
     match aid {
-        Aid::Check { .. } | Aid::Explain { .. } | Aid::Run { .. } => FAILED,
+        Aid::Check { .. }
+        | Aid::Explain { .. }
+        | Aid::Import { .. }
+        | Aid::Run { .. }
+        | Aid::RunJoined { .. } => FAILED,
         Aid::List { .. } | Aid::Filter { .. } | Aid::Replay { .. } => FAULT,
         Aid::Script { engine, .. } => script_fault(*engine),
     }

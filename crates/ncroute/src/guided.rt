@@ -1,50 +1,53 @@
-//! The script of a router whose history is kept in a file, or that ends at its first refused line.
+//! The script of a router whose history is kept in a file, that is started with filters, or that ends at its first refused line.
 ghost use Rattle.std.specs.Prelude.{◌≡◌, ◌||◌, IfErr, IfOk, IfSome};
 ghost use Rattle.filter_commands.specs.Faults.{stream_fault};
-ghost use Rattle.ncroute.specs.Guiding.{GuidesScript, RunsGuided, RunsSaved, StopsGuided, StopsRun, StopsSaved};
+ghost use Rattle.ncroute.specs.Guiding.{GuidesScript, RunsGuided, RunsNamed, RunsSaved, StopsGuided, StopsNamed, StopsRun, StopsSaved};
 ghost use Rattle.ncroute.specs.Scripts.{IsQuiet};
 ghost use Rattle.script_runs.specs.Running.{IsSaved, IsSavedInPart};
 
+use crate::filters::{read_filters, tell_unfit};
 use crate::serve::{FAILED, status_of};
 use crate::texts::{Folder, name_of, read_source, tell_unmade, tell_unread};
-use crate::watcher::Guide;
+use crate::watcher::{Guide, Part, whole};
 use command_line::{Running, Source};
 use filter_commands::ProgramFault;
 use line_protocol::{INPUT_LIMIT, StreamFault};
 use operator_cmds::Nobody;
-use script_runs::run_saved_script;
+use script_runs::{NamedFilter, Unfit, run_saved_script};
 use std::alloc::Global;
 use std::io::{self, Read, Write};
 
-/// Answers the lines of a script that people know by a name, and saves its history. Returns the number of refused lines, and the saver.
+/// Answers the lines of a script that has these parts, and saves its history. Returns the number of refused lines, the saver, and
+/// the filter that is refused, if one is.
 fn answer<R: Read, W: Write, V: Write + Drop, E: Write>(
     alloc: Global,
     how: &Running,
-    name: &[u8],
+    parts: &[Part<'_>],
+    filters: &[NamedFilter],
     saver: V,
     reader: &mut R,
     writer: &mut W,
     errors: &mut E,
-) -> (Result<u32, StreamFault>, V)
+) -> (Result<u32, StreamFault>, V, Option<Unfit>)
     ensures finished { IfOk result.0 (λ refused. IfSome (R.remaining reader.old) (λ input.
-        IsSaved how.now.stops input (R.remaining reader.new) (W.contents writer.old) (W.contents writer.new) refused
-        (V.contents saver) (V.contents result.1))) }
+        IsSaved how.now.stops filters.now input (R.remaining reader.new) (W.contents writer.old) (W.contents writer.new) refused
+        (V.contents saver) (V.contents result.1) result.2)) }
     ensures left_off { IfErr result.0 (λ fault. IfSome (R.remaining reader.old) (λ input.
-        IsSavedInPart fault how.now.stops input (R.remaining reader.new) (W.contents writer.old) (W.contents writer.new)
+        IsSavedInPart fault how.now.stops filters.now input (R.remaining reader.new) (W.contents writer.old) (W.contents writer.new)
         (V.contents saver) (V.contents result.1))) }
     ensures quiet { IsQuiet (how.now.is_explained || how.now.stops) (E.contents errors.old) (E.contents errors.new) }
 {
     let (is_explained, stops) = (how.is_explained, how.stops);
     if is_explained || stops {
         let guide = Guide {
-            name,
+            parts,
             errors,
             is_explained,
             stops,
         };
-        run_saved_script(alloc, reader, writer, saver, guide, stops)
+        run_saved_script(alloc, reader, writer, saver, guide, filters, stops)
     } else {
-        run_saved_script(alloc, reader, writer, saver, Nobody, stops)
+        run_saved_script(alloc, reader, writer, saver, Nobody, filters, stops)
     }
 }
 
@@ -52,57 +55,128 @@ fn answer<R: Read, W: Write, V: Write + Drop, E: Write>(
 fn save_to<R: Read, W: Write, V: Write + Drop, E: Write>(
     alloc: Global,
     how: &Running,
-    name: &[u8],
+    parts: &[Part<'_>],
+    filters: &[NamedFilter],
     saver: V,
     reader: &mut R,
     writer: &mut W,
     errors: &mut E,
 ) -> (Result<u8, ProgramFault>, V)
-    ensures finished { IfOk result.0 (RunsSaved how.now (V.contents saver) (V.contents result.1)
+    ensures finished { IfOk result.0 (RunsSaved how.now filters.now (V.contents saver) (V.contents result.1)
         (record { reads = R.remaining reader.old; holds = W.contents writer.old; tells = E.contents errors.old })
         (record { reads = R.remaining reader.new; holds = W.contents writer.new; tells = E.contents errors.new })) }
-    ensures stopped { IfErr result.0 (λ fault. StopsSaved (stream_fault fault) how.now (V.contents saver) (V.contents result.1)
+    ensures stopped { IfErr result.0 (λ fault. StopsSaved (stream_fault fault) how.now filters.now (V.contents saver) (V.contents result.1)
         (record { reads = R.remaining reader.old; holds = W.contents writer.old; tells = E.contents errors.old })
         (record { reads = R.remaining reader.new; holds = W.contents writer.new; tells = E.contents errors.new })) }
 {
-    let (ended, saver) = answer(alloc, how, name, saver, reader, writer, errors);
+    let (ended, saver, unfit) = answer(alloc, how, parts, filters, saver, reader, writer, errors);
     match ended {
-        Ok(refused) => (Ok(status_of(refused)), saver),
+        Ok(refused) => match tell_unfit(alloc, errors, filters, &unfit) {
+            Ok(()) => (Ok(status_of(refused)), saver),
+            Err(fault) => (Err(fault), saver),
+        },
         Err(fault) => (Err(ProgramFault::Stream(fault)), saver),
     }
 }
 
-/// Carries out a script that people know by a name, and keeps its history in a new file where one is named. Returns the exit status.
-fn guide_script<F: Folder, R: Read, W: Write, E: Write>(
+/// Carries out a script that has these parts, and keeps its history in a new file where one is named. Returns the exit status.
+pub fn guide_script<F: Folder, R: Read, W: Write, E: Write>(
     files: &F,
     alloc: Global,
     how: &Running,
-    name: &[u8],
+    parts: &[Part<'_>],
+    filters: &[NamedFilter],
     reader: &mut R,
     writer: &mut W,
     errors: &mut E,
 ) -> Result<u8, ProgramFault>
-    ensures finished { IfOk result (GuidesScript (F.creates files.now) how.now
+    ensures finished { IfOk result (GuidesScript (F.creates files.now) how.now filters.now
         (record { reads = R.remaining reader.old; holds = W.contents writer.old; tells = E.contents errors.old })
         (record { reads = R.remaining reader.new; holds = W.contents writer.new; tells = E.contents errors.new })) }
-    ensures stopped { IfErr result (λ fault. StopsGuided (F.creates files.now) (stream_fault fault) how.now
+    ensures stopped { IfErr result (λ fault. StopsGuided (F.creates files.now) (stream_fault fault) how.now filters.now
         (record { reads = R.remaining reader.old; holds = W.contents writer.old; tells = E.contents errors.old })
         (record { reads = R.remaining reader.new; holds = W.contents writer.new; tells = E.contents errors.new })) }
 {
     match &how.save {
         Some(file) => match files.create(file.as_str()) {
-            Ok(saver) => save_to(alloc, how, name, saver, reader, writer, errors).0,
+            Ok(saver) => save_to(alloc, how, parts, filters, saver, reader, writer, errors).0,
             Err(error) => {
                 tell_unmade(alloc, errors, file.as_str(), &error)?;
                 Ok(FAILED)
             }
         },
-        None => save_to(alloc, how, name, io::sink(), reader, writer, errors).0,
+        None => save_to(
+            alloc,
+            how,
+            parts,
+            filters,
+            io::sink(),
+            reader,
+            writer,
+            errors,
+        )
+        .0,
     }
 }
 
 /// Carries out the script of a source, and returns the exit status. The lines of standard input are answered as they come, and a file is
 /// read before its first line is answered.
+fn guide_named<F: Folder, R: Read, W: Write, E: Write>(
+    files: &F,
+    alloc: Global,
+    how: &Running,
+    filters: &[NamedFilter],
+    source: &Source,
+    reader: &mut R,
+    writer: &mut W,
+    errors: &mut E,
+) -> Result<u8, ProgramFault>
+    ensures finished { IfOk result (RunsNamed (F.creates files.now) (F.opens files.now) how.now filters.now source.now
+        (record { reads = R.remaining reader.old; holds = W.contents writer.old; tells = E.contents errors.old })
+        (record { reads = R.remaining reader.new; holds = W.contents writer.new; tells = E.contents errors.new })) }
+    ensures stopped { IfErr result (λ fault. StopsNamed (F.creates files.now) (F.opens files.now) (stream_fault fault) how.now filters.now
+        source.now
+        (record { reads = R.remaining reader.old; holds = W.contents writer.old; tells = E.contents errors.old })
+        (record { reads = R.remaining reader.new; holds = W.contents writer.new; tells = E.contents errors.new })) }
+{
+    match source {
+        Source::Input => {
+            let parts = [whole(name_of(source))];
+            guide_script(
+                files,
+                alloc,
+                how,
+                parts.as_slice(),
+                filters,
+                reader,
+                writer,
+                errors,
+            )
+        }
+        Source::File(_) => match read_source(files, alloc, source, INPUT_LIMIT, reader) {
+            Ok(text) => {
+                let mut script = text.as_slice();
+                let parts = [whole(name_of(source))];
+                guide_script(
+                    files,
+                    alloc,
+                    how,
+                    parts.as_slice(),
+                    filters,
+                    &mut script,
+                    writer,
+                    errors,
+                )
+            }
+            Err(why) => {
+                tell_unread(alloc, errors, source, why)?;
+                Ok(FAILED)
+            }
+        },
+    }
+}
+
+/// Reads the filters that a script is started with, carries the script out, and returns the exit status.
 pub fn guide_source<F: Folder, R: Read, W: Write, E: Write>(
     files: &F,
     alloc: Global,
@@ -119,25 +193,14 @@ pub fn guide_source<F: Folder, R: Read, W: Write, E: Write>(
         (record { reads = R.remaining reader.old; holds = W.contents writer.old; tells = E.contents errors.old })
         (record { reads = R.remaining reader.new; holds = W.contents writer.new; tells = E.contents errors.new })) }
 {
-    match source {
-        Source::Input => guide_script(files, alloc, how, name_of(source), reader, writer, errors),
-        Source::File(_) => match read_source(files, alloc, source, INPUT_LIMIT, reader) {
-            Ok(text) => {
-                let mut script = text.as_slice();
-                guide_script(
-                    files,
-                    alloc,
-                    how,
-                    name_of(source),
-                    &mut script,
-                    writer,
-                    errors,
-                )
-            }
-            Err(why) => {
-                tell_unread(alloc, errors, source, why)?;
-                Ok(FAILED)
-            }
-        },
+    match read_filters(files, alloc, how.filters.as_slice(), reader) {
+        Ok(filters) => {
+            let filters = filters.as_slice();
+            guide_named(files, alloc, how, filters, source, reader, writer, errors)
+        }
+        Err(unread) => {
+            tell_unread(alloc, errors, unread.source, unread.why)?;
+            Ok(FAILED)
+        }
     }
 }

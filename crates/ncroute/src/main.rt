@@ -3,12 +3,18 @@
 #![tactic(auto)]
 
 mod aid;
+mod filters;
 mod guided;
+mod importing;
+mod joined;
+mod lines;
 mod network;
 mod replay;
 mod respond;
 mod script;
 mod serve;
+#[cfg(test)]
+mod several_tests;
 #[cfg(test)]
 mod tests;
 mod texts;

@@ -48,14 +48,22 @@ fn answer<R: Read, W: Write, E: Write>(
             alloc,
             reader,
             writer,
-            Teller { name, errors },
+            Teller {
+                engine,
+                name,
+                errors,
+            },
         ),
         (Engine::Router, false) => run_script(alloc, reader, writer),
         (Engine::Domain, true) => run_watched_domain(
             alloc,
             reader,
             writer,
-            Teller { name, errors },
+            Teller {
+                engine,
+                name,
+                errors,
+            },
         ),
         (Engine::Domain, false) => run_domain(alloc, reader, writer),
     }

@@ -6,7 +6,7 @@ ghost use Rattle.line_protocol.specs.Runs.{AppendsFront};
 ghost use Rattle.ncroute.specs.Serving.{BreaksOff, Does, FailsToReport, Serves, fault_line, status_of};
 
 use command_line::Request;
-use filter_commands::{ProgramFault, check_text, eval_lines};
+use filter_commands::{ProgramFault, check_text, eval_lines, rewrite_text};
 use line_protocol::{StreamFault, write_text};
 use operator_cmds::run_script;
 use std::alloc::Global;
@@ -31,6 +31,7 @@ fn answer<R: Read, W: Write>(
     match request {
         Request::Eval => eval_lines(alloc, reader, writer),
         Request::Check { size, is_code } => check_text(alloc, reader, writer, size, is_code),
+        Request::Rewrite { is_old } => rewrite_text(alloc, reader, writer, is_old),
         Request::Run => Ok(run_script(alloc, reader, writer)?),
     }
 }

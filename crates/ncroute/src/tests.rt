@@ -5,7 +5,8 @@ use crate::aid::{fault_status, serve_people};
 use crate::serve::serve;
 use crate::texts::Folder;
 use command_line::{
-    Aid, Checking, Engine, Request, Running, Source, Terminals, Words, request_of, waits_for_people,
+    Aid, Checking, Engine, NamedFile, Request, Running, Source, Terminals, Words, request_of,
+    waits_for_people,
 };
 use line_protocol::StreamFault;
 use std::io;
@@ -19,7 +20,7 @@ const NO_TERMINAL: Terminals = Terminals {
 
 #[test]
 fn reads_words(rt: HostRuntime) -> Result<(), Fail> {
-    let rows: [(&[&str], Words); 19] = [
+    let rows: [(&[&str], Words); 22] = [
         (&["ncroute", "eval"], Words::Asked(Request::Eval)),
         (&["ncroute"], Words::Shown(2)),
         (&["ncroute", "check"], Words::Shown(2)),
@@ -48,7 +49,16 @@ fn reads_words(rt: HostRuntime) -> Result<(), Fail> {
         (&["ncroute", "eval", "more"], Words::Shown(2)),
         (&["ncroute", "eval", "--size"], Words::Shown(2)),
         (&["ncroute", "run"], Words::Asked(Request::Run)),
-        (&["ncroute", "run", "a", "b"], Words::Shown(2)),
+        (&["ncroute", "domain", "a", "b"], Words::Shown(2)),
+        (
+            &["ncroute", "rewrite"],
+            Words::Asked(Request::Rewrite { is_old: false }),
+        ),
+        (
+            &["ncroute", "rewrite", "--old"],
+            Words::Asked(Request::Rewrite { is_old: true }),
+        ),
+        (&["ncroute", "rewrite", "more"], Words::Shown(2)),
         (&["ncroute", "net"], Words::Network),
         (&["ncroute", "net", "more"], Words::Shown(2)),
         (
@@ -74,6 +84,8 @@ fn reads_words_of_aids(rt: HostRuntime) -> Result<(), Fail> {
         size: 16,
         is_code: false,
         is_explained: true,
+        has_names: false,
+        is_quiet: false,
     };
     let sources = vec![in rt.alloc(); Source::Input]?;
     let want = Words::Aided(Aid::Check { how, sources });
@@ -83,6 +95,8 @@ fn reads_words_of_aids(rt: HostRuntime) -> Result<(), Fail> {
         size: 16,
         is_code: true,
         is_explained: true,
+        has_names: false,
+        is_quiet: false,
     };
     let first = Source::File(String::from_str(rt.alloc(), "a")?);
     let sources = vec![in rt.alloc(); first, Source::Input]?;
@@ -148,6 +162,7 @@ fn reads_words_of_histories(rt: HostRuntime) -> Result<(), Fail> {
             is_explained: true,
             stops: false,
             save: Some(String::from_str(rt.alloc(), "night.log")?),
+            filters: Vec::new(rt.alloc()),
         },
         source: Source::File(String::from_str(rt.alloc(), "a.script")?),
     });
@@ -158,11 +173,50 @@ fn reads_words_of_histories(rt: HostRuntime) -> Result<(), Fail> {
             is_explained: false,
             stops: true,
             save: None,
+            filters: Vec::new(rt.alloc()),
         },
         source: Source::Input,
     });
     assert_eq!(&rt; request_of(&rt, rt.alloc(), words, NO_TERMINAL)?, want);
     let words: &[&str] = &["ncroute", "run", "--save"];
+    assert_eq!(&rt;
+        request_of(&rt, rt.alloc(), words, NO_TERMINAL)?,
+        Words::Shown(2)
+    );
+    Ok(())
+}
+
+/// A script that is started with filters.
+#[test]
+fn reads_words_of_filters(rt: HostRuntime) -> Result<(), Fail> {
+    let words: &[&str] = &["ncroute", "run", "--filter", "a=b=c", "--filter=A_1=-"];
+    let mut filters = Vec::new(rt.alloc());
+    filters.push(NamedFile {
+        name: String::from_str(rt.alloc(), "a")?,
+        source: Source::File(String::from_str(rt.alloc(), "b=c")?),
+    })?;
+    filters.push(NamedFile {
+        name: String::from_str(rt.alloc(), "A_1")?,
+        source: Source::Input,
+    })?;
+    let want = Words::Aided(Aid::Run {
+        how: Running {
+            is_explained: false,
+            stops: false,
+            save: None,
+            filters,
+        },
+        source: Source::Input,
+    });
+    assert_eq!(&rt; request_of(&rt, rt.alloc(), words, NO_TERMINAL)?, want);
+    for wrong in ["a", "=b", "1a=b", "a.b=c", "a b=c"] {
+        let words: &[&str] = &["ncroute", "run", "--filter", wrong];
+        assert_eq!(&rt;
+            request_of(&rt, rt.alloc(), words, NO_TERMINAL)?,
+            Words::Shown(2)
+        );
+    }
+    let words: &[&str] = &["ncroute", "run", "--filter", "a=b", "--filter", "a=b"];
     assert_eq!(&rt;
         request_of(&rt, rt.alloc(), words, NO_TERMINAL)?,
         Words::Shown(2)
@@ -233,7 +287,9 @@ fn explanations_are_for_terminals(rt: HostRuntime) -> Result<(), Fail> {
 /// People are told to type where standard input is a terminal and is read.
 #[test]
 fn input_that_people_type_is_waited_for(rt: HostRuntime) -> Result<(), Fail> {
-    let rows: [(&[&str], bool); 14] = [
+    let rows: [(&[&str], bool); 16] = [
+        (&["ncroute", "run", "--filter", "a=b", "a"], false),
+        (&["ncroute", "run", "--filter", "a=-", "a"], true),
         (&["ncroute", "domain"], true),
         (&["ncroute", "domain", "a"], false),
         (&["ncroute", "replay"], true),
@@ -269,7 +325,7 @@ fn requests_end_with_their_status(rt: HostRuntime) -> Result<(), Fail> {
         size: 8,
         is_code: false,
     };
-    let rows: [(Request, &str, &str, u8); 7] = [
+    let rows: [(Request, &str, &str, u8); 9] = [
         (
             Request::Eval,
             "4e4346310000000170\n10.0.0.0/8 3 8\n",
@@ -286,10 +342,22 @@ fn requests_end_with_their_status(rt: HostRuntime) -> Result<(), Fail> {
         (
             check,
             "filter a { accept; }",
-            "code 4e434631000000027071\nverified 1 0\n",
+            "code 4e43463200000000027071\nverified 1 0\n",
             0,
         ),
         (check, "filter a { accept }", "refused P2 18\n", 1),
+        (
+            Request::Rewrite { is_old: false },
+            "4e4346310000000170\n",
+            "4e434632000000000170\n",
+            0,
+        ),
+        (
+            Request::Rewrite { is_old: true },
+            "4e4346320000000002520070",
+            "refused C8 0\n",
+            1,
+        ),
         (Request::Run, "network 4 0\nup 1\n", "ok\nopened 1\n", 0),
         (Request::Run, "up 1\n", "refused O4 1\n", 1),
     ];
@@ -510,7 +578,7 @@ fn files_that_are_missing_are_named(rt: HostRuntime) -> Result<(), Fail> {
         (
             &["ncroute", "check", "--size=8", "lost", "good"],
             "",
-            "code 4e434631000000027071\nverified 1 0\n",
+            "code 4e43463200000000027071\nverified 1 0\n",
             "lost: No such file or directory (E1)\n",
             1,
         ),
@@ -531,7 +599,7 @@ fn files_that_are_missing_are_named(rt: HostRuntime) -> Result<(), Fail> {
         (
             &["ncroute", "check", "--size=8", "good", "-"],
             "filter a { accept; }",
-            "code 4e434631000000027071\nverified 1 0\ncode 4e434631000000027071\nverified 1 0\n",
+            "code 4e43463200000000027071\nverified 1 0\ncode 4e43463200000000027071\nverified 1 0\n",
             "",
             0,
         ),
@@ -659,6 +727,65 @@ fn scripts_end_where_they_are_to(rt: HostRuntime) -> Result<(), Fail> {
             "",
             "",
             "no: No such file or directory (E1)\n",
+            1,
+        ),
+    ];
+    for (words, input, output, told, status) in rows {
+        assert_eq!(&rt;
+            said_by(&rt, words, input)?,
+            wanted(&rt, output, told, status)?
+        );
+    }
+    Ok(())
+}
+
+/// A script finds the filters that it is started with; one that is refused is told in words, and ends it.
+#[test]
+fn scripts_are_started_with_filters(rt: HostRuntime) -> Result<(), Fail> {
+    let words =
+        "bad:1:19: expected a text or `;`, found `}` (P2)\nfilter a { accept }\n                  ^\n";
+    let rows: [(&[&str], &str, &str, &str, u8); 5] = [
+        (
+            &["ncroute", "run", "--filter", "a=good"],
+            "import 1 a\nnetwork 4 0\nimport 1 a\nimport 1 b\n",
+            "refused O4 1\nok\ndone 0\nrefused O6 4\n",
+            "",
+            1,
+        ),
+        (
+            &["ncroute", "run", "--filter", "a=-", "script"],
+            "filter a { accept; }",
+            "ok\nrefused N3 0\nroute 0 local\n",
+            "",
+            1,
+        ),
+        (
+            &[
+                "ncroute",
+                "run",
+                "--explain=never",
+                "--filter",
+                "a=good",
+                "--filter",
+                "b=bad",
+            ],
+            "up 1\nnetwork 4 0\nup 1\n",
+            "refused O4 1\n",
+            words,
+            1,
+        ),
+        (
+            &["ncroute", "run", "--filter", "b=bad"],
+            "up 1\n",
+            "refused O4 1\n",
+            "",
+            1,
+        ),
+        (
+            &["ncroute", "run", "--filter", "a=good", "--filter", "b=lost"],
+            "network 4 0\n",
+            "",
+            "lost: No such file or directory (E1)\n",
             1,
         ),
     ];

@@ -5,7 +5,7 @@ ghost use Rattle.std.specs.declared.io.Error.{Error as TheError};
 ghost use Rattle.filter_commands.specs.Evaluation.{IsCut};
 ghost use Rattle.filter_commands.specs.Faults.{stream_fault};
 ghost use Rattle.ncroute.specs.Reading.{IsCause, IsOfFile, IsRead, IsUnread, LeavesFile, LeavesInput, ReadsFile, ReadsInput, ReadsWhole};
-ghost use Rattle.ncroute.specs.Reading.{StopsTelling, TellsUnread, name_of, unmade_line, unread_line};
+ghost use Rattle.ncroute.specs.Reading.{StopsTelling, TellsUnread, long_line, long_words, name_of, unmade_line, unread_line};
 
 use command_line::Source;
 use filter_commands::ProgramFault;
@@ -69,6 +69,8 @@ pub enum Unread {
     Input,
     /// E3: memory was refused.
     Memory,
+    /// E4: the text of a filter is longer than its limit.
+    TooLong,
 }
 
 /// Why a file with this error was not read.
@@ -222,6 +224,34 @@ fn write_line<E: Write>(errors: &mut E, line: &[u8]) -> Result<(), ProgramFault>
     Ok(())
 }
 
+/// What the line that tells that the text of a filter is longer than its limit says behind the name.
+#[tactic(auto, unfolding(crate::specs::Reading::long_words))]
+fn long_words() -> &'static [u8]
+    ensures { result.now ≡ long_words }
+{
+    b": longer than 1048576 bytes (E4)\n"
+}
+
+/// The line that tells that the text of a filter is longer than its limit.
+fn long_line(alloc: Global, source: &Source) -> Result<Vec<u8>, AllocError>
+    ensures { IfOk result (λ line. line.items ≡ long_line source.now) }
+{
+    let mut line = Vec::new(alloc);
+    push_shown(alloc, &mut line, name_of(source))?;
+    line.extend_from_slice(long_words())?;
+    Ok(line)
+}
+
+/// Tells that the text of a filter is longer than its limit.
+fn tell_long<E: Write>(alloc: Global, errors: &mut E, source: &Source) -> Result<(), ProgramFault>
+    ensures ok { OnOk result (Appends (E.contents errors.old) (E.contents errors.new) (long_line source.now)) }
+    ensures err { IfErr result (λ fault.
+        IsCut (stream_fault fault) (E.contents errors.old) (E.contents errors.new) (long_line source.now)) }
+{
+    let line = long_line(alloc, source)?;
+    write_line(errors, line.as_slice())
+}
+
 /// Tells that a file was not read, with the words of the reason.
 fn tell_words<E: Write>(
     alloc: Global,
@@ -299,5 +329,6 @@ pub fn tell_unread<E: Write>(
         Unread::Broken(reason) => tell_reason(alloc, errors, source, &reason),
         Unread::Input => Err(ProgramFault::Stream(StreamFault::Read)),
         Unread::Memory => Err(ProgramFault::MEMORY),
+        Unread::TooLong => tell_long(alloc, errors, source),
     }
 }

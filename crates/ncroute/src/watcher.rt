@@ -1,13 +1,18 @@
-//! Who watches a script: people are told in words why a filter is refused, and where a script ends.
-use filter_tools::{explain_line, push_shown};
+//! Who watches a script: people are told in words why a line is refused, and where a script ends.
+use command_line::Engine;
+use filter_tools::push_shown;
 use line_protocol::{push_decimal, write_text};
-use operator_cmds::{Watch, refused_filter};
+use operator_cmds::{RefusedLine, Watch};
+use script_words::{ScriptKind, explain_refused};
 use std::alloc::{AllocError, Global};
 use std::io::Write;
 
-/// Tells people on `errors`. Where these take no text, or memory is refused, people are not told: the answer on standard output stays.
+/// Tells people on `errors` why a line is refused. Where these take no text, or memory is refused, people are not told: the answer on
+/// standard output stays.
 #[derive(Drop)]
 pub struct Teller<'a, E: Write> {
+    /// Whose script it is.
+    pub engine: Engine,
     /// The name by which people know the script.
     pub name: &'a [u8],
     /// What people read.
@@ -15,55 +20,80 @@ pub struct Teller<'a, E: Write> {
 }
 
 impl<'a, E: Write> Watch for Teller<'a, E> {
-    fn see_refused(&mut self, alloc: Global, number: u32, line: &[u8], size: Option<u16>) {
-        if let Some(words) = filter_words(alloc, self.name, number, line, size) {
-            let _ = write_text(self.errors, words.as_slice());
+    fn see_refused(&mut self, alloc: Global, refused: &RefusedLine<'_>) {
+        let kind = kind_of(self.engine);
+        tell_refused(alloc, kind, self.name, refused, self.errors);
+    }
+}
+
+/// Tells why a line is refused, if there is memory for the words.
+fn tell_refused<E: Write>(
+    alloc: Global,
+    kind: ScriptKind,
+    name: &[u8],
+    refused: &RefusedLine<'_>,
+    errors: &mut E,
+) {
+    if let Ok(Some(words)) = explain_refused(alloc, kind, name, refused) {
+        let _ = write_text(errors, words.as_slice());
+    }
+}
+
+/// The kind of the scripts that a router or a domain carries out.
+fn kind_of(engine: Engine) -> ScriptKind {
+    match engine {
+        Engine::Router => ScriptKind::Router,
+        Engine::Domain => ScriptKind::Domain,
+    }
+}
+
+/// A part of a script that comes from one source.
+#[derive(Clone, Copy)]
+pub struct Part<'a> {
+    /// The name by which people know the source.
+    pub name: &'a [u8],
+    /// The number of lines of the script before it.
+    pub before: u32,
+}
+
+/// A script that people know by one name.
+pub fn whole(name: &[u8]) -> Part<'_> {
+    Part { name, before: 0 }
+}
+
+/// The part that has the line of a number, and the line's number in it. The parts are in order, and there is one.
+fn place_of<'a>(parts: &[Part<'a>], number: u32) -> (&'a [u8], u32) {
+    let mut place: (&'a [u8], u32) = (b"", number);
+    for part in parts {
+        if part.before < number {
+            place = (part.name, number.saturating_sub(part.before));
         }
     }
+    place
 }
 
-/// Why the filter that a line gives is refused, if it gives one that is. `None` also where memory is refused.
-fn filter_words(
-    alloc: Global,
-    name: &[u8],
-    number: u32,
-    line: &[u8],
-    size: Option<u16>,
-) -> Option<Vec<u8>> {
-    let Some(size) = size else {
-        return None;
-    };
-    let Some(filter) = refused_filter(alloc, line, size) else {
-        return None;
-    };
-    match explain_line(alloc, name, number, line, filter.source, &filter.told) {
-        Ok(words) => Some(words),
-        Err(_) => None,
-    }
-}
-
-/// Tells people on `errors` why a filter is refused, and where the script ends.
+/// Tells people on `errors` why a line of a router's script is refused, and where the script ends.
 #[derive(Drop)]
 pub struct Guide<'a, E: Write> {
-    /// The name by which people know the script.
-    pub name: &'a [u8],
+    /// The parts of the script.
+    pub parts: &'a [Part<'a>],
     /// What people read.
     pub errors: &'a mut E,
-    /// Why a filter is refused is told.
+    /// Why a line is refused is told.
     pub is_explained: bool,
     /// The script ends at its first refused line.
     pub stops: bool,
 }
 
 impl<'a, E: Write> Watch for Guide<'a, E> {
-    fn see_refused(&mut self, alloc: Global, number: u32, line: &[u8], size: Option<u16>) {
+    fn see_refused(&mut self, alloc: Global, refused: &RefusedLine<'_>) {
+        let (name, number) = place_of(self.parts, refused.number);
         if self.is_explained {
-            if let Some(words) = filter_words(alloc, self.name, number, line, size) {
-                let _ = write_text(self.errors, words.as_slice());
-            }
+            let placed = RefusedLine { number, ..*refused };
+            tell_refused(alloc, ScriptKind::Router, name, &placed, self.errors);
         }
         if self.stops {
-            if let Ok(words) = stopped_line(alloc, self.name, number) {
+            if let Ok(words) = stopped_line(alloc, name, number) {
                 let _ = write_text(self.errors, words.as_slice());
             }
         }

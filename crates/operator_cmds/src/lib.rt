@@ -20,12 +20,15 @@ pub use command::{Command, Look};
 pub use fault::CommandFault;
 pub use filter::{verify_file, verify_text};
 pub use laws::one_line_one_entry;
+pub use look::{answer_history, answer_look};
 pub use name::is_name;
 pub use read::{read_command, read_small};
-pub use reply::{confirm, push_via, refuse};
+pub use reply::{answer_reply, confirm, push_via, refuse};
 pub use script::{Script, ScriptFault, run_script};
 pub use stage::default_prefixes;
-pub use watch::{Nobody, RefusedFilter, Watch, refused_filter, run_watched_script};
+pub use watch::{
+    NamedFilters, Nobody, RefusedFilter, RefusedLine, Watch, refused_filter, run_watched_script,
+};
 pub use words::{cut_word, one_word, three_words, two_words};
 
 /// A number of a command, the limit of a history excepted, is at most this.

@@ -10,7 +10,7 @@ use crate::look::{answer_history, answer_look};
 use crate::read::read_command;
 use crate::reply::{confirm, refuse};
 use crate::stage::{Setup, Stage};
-use crate::watch::{Nobody, run_watched_script};
+use crate::watch::{NamedFilters, Nobody, RefusedLine, run_watched_script};
 use filter_source::{Failure, push_verified};
 use filter_verifier::Verified;
 use line_protocol::{Reply, Service, StreamFault};
@@ -31,7 +31,7 @@ pub struct Script {
     /// How far it has come.
     stage: Stage,
     /// The filter of each name, in the names' order: no choice of names makes it slow to find one.
-    filters: BTreeMap<Vec<u8>, Arc<Verified>>,
+    filters: NamedFilters,
 }
 
 impl Service for Script {
@@ -97,6 +97,28 @@ impl Script {
         match &self.stage {
             Stage::Open(journal) => Some(journal),
             Stage::Empty | Stage::Setting(_) => None,
+        }
+    }
+
+    /// A line that this script refused, and what the script knows.
+    pub fn refused_line<'a>(
+        &'a self,
+        number: u32,
+        line: &'a [u8],
+        answer: &'a [u8],
+    ) -> RefusedLine<'a>
+        ensures line { result.line.now ≡ line.now }
+        ensures answer { result.answer.now ≡ answer.now }
+        ensures number { result.number ≡ number }
+        ensures size { result.size ≡ size_in (script_of self.now).stage }
+        ensures filters { IfSome result.filters (λ filters. filter_at filters.now ≡ (script_of self.now).filters) }
+    {
+        RefusedLine {
+            number,
+            line,
+            answer,
+            size: self.size(),
+            filters: Some(&self.filters),
         }
     }
 

@@ -8,9 +8,12 @@ use crate::read::read_command;
 use crate::script::{Script, ScriptFault};
 use crate::words::three_words;
 use filter_source::{Diagnosis, Failure};
+use filter_verifier::Verified;
 use line_protocol::{Reply, Service, answer_lines};
 use std::alloc::{AllocError, Global};
+use std::collections::BTreeMap;
 use std::io::{Read, Write};
+use std::sync::Arc;
 
 /// A filter that a line of a script gives, and that is refused.
 #[derive(Clone, Copy, Debug)]
@@ -21,10 +24,28 @@ pub struct RefusedFilter<'a> {
     pub told: Diagnosis,
 }
 
+/// The filters of a script by their names, in the names' order.
+pub type NamedFilters = BTreeMap<Vec<u8>, Arc<Verified>>;
+
+/// A line of a script that is refused, and what the script knows.
+#[derive(Clone, Copy)]
+pub struct RefusedLine<'a> {
+    /// Its number, from 1.
+    pub number: u32,
+    /// The line.
+    pub line: &'a [u8],
+    /// The line that answers it, with the line feed. It is written later.
+    pub answer: &'a [u8],
+    /// The number of nodes of the domain, if one is set up.
+    pub size: Option<u16>,
+    /// The filters that have names, if there can be any yet.
+    pub filters: Option<&'a NamedFilters>,
+}
+
 /// Somebody who watches a script.
 pub trait Watch {
-    /// Is shown a line that is refused, and the number of nodes of the domain, if one is set up. The answer is written later.
-    fn see_refused(&mut self, alloc: Global, number: u32, line: &[u8], size: Option<u16>);
+    /// Is shown a line that is refused.
+    fn see_refused(&mut self, alloc: Global, refused: &RefusedLine<'_>);
 }
 
 /// Nobody watches.
@@ -32,7 +53,7 @@ pub trait Watch {
 pub struct Nobody;
 
 impl Watch for Nobody {
-    fn see_refused(&mut self, _alloc: Global, _number: u32, _line: &[u8], _size: Option<u16>) {}
+    fn see_refused(&mut self, _alloc: Global, _refused: &RefusedLine<'_>) {}
 }
 
 /// The code file that a line gives, where it is refused.
@@ -85,10 +106,12 @@ impl<S: Watch + Drop> Service for Watched<S> {
         line: &[u8],
         out: &mut Vec<u8>,
     ) -> Result<Reply, AllocError> {
+        let begun = out.len();
         let reply = self.script.answer(alloc, number, line, out)?;
         if reply == Reply::Refused {
+            let answer = out.as_slice().get(begun..).unwrap_or(&[]);
             self.watcher
-                .see_refused(alloc, number, line, self.script.size());
+                .see_refused(alloc, &self.script.refused_line(number, line, answer));
         }
         Ok(reply)
     }

@@ -27,7 +27,9 @@ fn open(alloc: Global, limit: u32) -> Result<Journal, Fail> {
 
 /// A filter of these instructions, for domains of a size.
 fn filter(alloc: Global, instrs: &[Instr], size: u32) -> Result<Arc<Verified>, Fail> {
-    let code = Code::new(0, Vec::new(alloc), instrs.to_vec(alloc)?).ok_or("a code")?;
+    let code = Code::new(0, Vec::new(alloc), Vec::new(alloc), instrs.to_vec(alloc)?).ok_or(
+        "a code",
+    )?;
     match verify(alloc, code, size) {
         Ok(verified) => Ok(Arc::new(alloc, verified)?),
         Err((_, fault)) => Err(Fail::from(fault)),

@@ -1,6 +1,6 @@
 //! Code that the verifier takes runs without a fault, within its budget and its depth, to no smaller distance.
 
-use filter_code::{Code, Instr, Outcome, Route, run_checked, run_counted};
+use filter_code::{Code, Instr, IntSet, Outcome, Route, run_checked, run_counted};
 use filter_machine::{Verdict, run};
 use filter_verifier::{Verified, VerifyFault, verify};
 use prefix_patterns::PatternSet;
@@ -72,10 +72,14 @@ fn raised(alloc: Global, verified: &Verified) -> Result<Option<Code>, Fail> {
     for set in code.sets() {
         sets.push(PatternSet::build(alloc, set.patterns())?)?;
     }
+    let mut int_sets = Vec::new(alloc);
+    for set in code.int_sets() {
+        int_sets.push(IntSet::build(alloc, set.ranges())?)?;
+    }
     let mut instrs = Vec::new(alloc);
     for _ in verified.depth()..32 {
         instrs.push(Instr::Int(0))?;
     }
     instrs.extend_from_slice(code.instrs())?;
-    Ok(Code::new(code.locals(), sets, instrs))
+    Ok(Code::new(code.locals(), sets, int_sets, instrs))
 }

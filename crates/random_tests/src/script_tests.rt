@@ -8,7 +8,7 @@ use std::test::Fail;
 use worked_rows::Numbers;
 
 /// Lines of a script.
-const LINES: [&str; 24] = [
+const LINES: [&str; 26] = [
     "up 1\n",
     "up 2\n",
     "up 7\n",
@@ -29,6 +29,8 @@ const LINES: [&str; 24] = [
     "load G filter g { rip_metric = rip_metric + 1; accept; }\n",
     "load F filter f { rip_metric = 1 / rip_metric; }\n",
     "code H 4e4346310000000170\n",
+    "code I 4e4346320000010001000000020000000400051352006100017071\n",
+    "load J filter j { case rip_metric { 0, 1: accept; else: rip_metric = rip_metric + 1; accept; } }\n",
     "import 1 F\n",
     "export 2 G\n",
     "# nothing\n",

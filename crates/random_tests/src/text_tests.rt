@@ -13,7 +13,7 @@ use std::test::Fail;
 use worked_rows::{FILTERS, Numbers};
 
 /// Parts of filters, most of them whole.
-const PARTS: [&str; 20] = [
+const PARTS: [&str; 25] = [
     "a = a + rip_metric; ",
     "a = 7 / (a + 1); ",
     "a = a * 3 - net.len; ",
@@ -34,6 +34,11 @@ const PARTS: [&str; 20] = [
     "accept \"near\"; ",
     "reject; ",
     "a = 1 / a; ",
+    "if rip_metric ~ [0, 2..5] then ",
+    "if a !~ [7, 4..4294967295] then ",
+    "case net.len { 0..9: accept; else: a = a + 1; 24: } ",
+    "case a { else: if b then reject; 1, 3..5: { } b = rip_metric ~ [2]; } ",
+    "case rip_metric { 0: if b then ; else ; else: p = net; } ",
 ];
 
 /// A text: some parts of filters in any order, or that of a worked filter, damaged.
@@ -43,7 +48,7 @@ fn random_text(alloc: Global, numbers: &mut Numbers) -> Result<Vec<u8>, AllocErr
         let count = numbers.below(14);
         return joined(alloc, numbers, first, &PARTS, count, "accept; }");
     }
-    let text = FILTERS[numbers.place(10)].text;
+    let text = FILTERS[numbers.place(FILTERS.len())].text;
     damaged(alloc, numbers, text.as_bytes(), 4)
 }
 

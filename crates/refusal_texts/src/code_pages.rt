@@ -2,14 +2,14 @@
 use crate::page::Page;
 
 /// A page for each code.
-pub static CODE_PAGES: [Page; 24] = [
+pub static CODE_PAGES: [Page; 25] = [
     Page {
         code: "V1",
         text: "\
 V1: too few operands
 Place: the instruction
 
-    $ echo 4e434631000000022070 | ncroute check --size 16 --code | tail -n 1
+    $ echo 4e43463200000000022070 | ncroute check --size 16 --code | tail -n 1
     refused V1 0
 
 Only code that was written by hand has this fault. `ncroute list` shows what is known before each instruction.
@@ -22,7 +22,7 @@ V2: an instruction where paths meet whose stacks differ in kind at some place
     an operand of the wrong kind, or LOAD of a local variable that may be empty
 Place: the instruction
 
-    $ echo 4e4346310000000302011570 | ncroute check --size 16 --code | tail -n 1
+    $ echo 4e434632000000000302011570 | ncroute check --size 16 --code | tail -n 1
     refused V2 1
 
 Only code that was written by hand has this fault. `ncroute list` shows what is known before each instruction.
@@ -47,7 +47,7 @@ conditions are not followed. `ncroute list --size N` shows the range.
 V4: an instruction with a successor outside the code; code without instructions, at 0
 Place: the instruction
 
-    $ echo 4e4346310000000113 | ncroute check --size 16 --code | tail -n 1
+    $ echo 4e434632000000000113 | ncroute check --size 16 --code | tail -n 1
     refused V4 0
 
 End each path with ACCEPT or REJECT. The code of a filter does.
@@ -71,7 +71,7 @@ Parentheses to the right hold an operand for each level. Assign an inner part to
 V6: SETMETRIC of an int that may be lower than the metric received
 Place: the instruction
 
-    $ echo 4e4346310000000301000000001570 | ncroute check --size 16 --code | tail -n 1
+    $ echo 4e434632000000000301000000001570 | ncroute check --size 16 --code | tail -n 1
     refused V6 1
 
 Take MAX of RECEIVED and the number before SETMETRIC. The code of a filter does.
@@ -80,10 +80,10 @@ Take MAX of RECEIVED and the number before SETMETRIC. The code of a filter does.
     Page {
         code: "V7",
         text: "\
-V7: a local variable or a set that the code does not have
+V7: a local variable, a set of patterns or a set of ints that the code does not have
 Place: the instruction
 
-    $ echo 4e43463100000002100070 | ncroute check --size 16 --code | tail -n 1
+    $ echo 4e4346320000000002100070 | ncroute check --size 16 --code | tail -n 1
     refused V7 0
 
 Only code that was written by hand has this fault. `ncroute list` shows what is known before each instruction.
@@ -107,7 +107,7 @@ Give the number of nodes of the routing domain, 2 to 250, to `--size`.
 V9: an instruction where paths meet whose stacks differ in depth
 Place: the instruction
 
-    $ echo 4e4346310000000402016100011370 | ncroute check --size 16 --code | tail -n 1
+    $ echo 4e434632000000000402016100011370 | ncroute check --size 16 --code | tail -n 1
     refused V9 3
 
 Only code that was written by hand has this fault. `ncroute list` shows what is known before each instruction.
@@ -128,7 +128,7 @@ Give the process more memory. `ncroute` answers E3 in its place.
 K1: the stack holds too few operands
 Place: the instruction
 
-    $ printf '%s\\n' 4e434631000000022070 '10.0.0.0/8 3 8' | ncroute eval
+    $ printf '%s\\n' 4e43463200000000022070 '10.0.0.0/8 3 8' | ncroute eval
     fault K1 0
 
 Run verified code only: `ncroute check --size N --code` refuses this one.
@@ -140,7 +140,7 @@ Run verified code only: `ncroute check --size N --code` refuses this one.
 K2: an operand has the wrong kind, or LOAD names an empty local variable
 Place: the instruction
 
-    $ printf '%s\\n' 4e4346310000000302011570 '10.0.0.0/8 3 8' | ncroute eval
+    $ printf '%s\\n' 4e434632000000000302011570 '10.0.0.0/8 3 8' | ncroute eval
     fault K2 1
 
 Run verified code only: `ncroute check --size N --code` refuses this one.
@@ -152,7 +152,7 @@ Run verified code only: `ncroute check --size N --code` refuses this one.
 K3: a divisor is zero
 Place: the instruction
 
-    $ printf '%s\\n' 4e43463100000004010000000101000000002370 '10.0.0.0/8 3 8' | ncroute eval
+    $ printf '%s\\n' 4e4346320000000004010000000101000000002370 '10.0.0.0/8 3 8' | ncroute eval
     fault K3 2
 
 Run verified code only: `ncroute check --size N --code` refuses this one.
@@ -165,7 +165,7 @@ Verified code has it too, where the route's size is another than the one it was 
 K4: the place is not an instruction of the code
 Place: the instruction
 
-    $ printf '%s\\n' 4e43463100000001600007 '10.0.0.0/8 3 8' | ncroute eval
+    $ printf '%s\\n' 4e4346320000000001600007 '10.0.0.0/8 3 8' | ncroute eval
     fault K4 8
 
 Run verified code only: `ncroute check --size N --code` refuses this one.
@@ -189,7 +189,7 @@ Run verified code only: `ncroute check --size N --code` refuses this one.
 K6: SETMETRIC of an operand smaller than the metric that was received
 Place: the instruction
 
-    $ printf '%s\\n' 4e43463100000005130100000002211570 '10.0.0.0/8 3 8' | ncroute eval
+    $ printf '%s\\n' 4e4346320000000005130100000002211570 '10.0.0.0/8 3 8' | ncroute eval
     fault K6 3
 
 Run verified code only: `ncroute check --size N --code` refuses this one.
@@ -198,10 +198,10 @@ Run verified code only: `ncroute check --size N --code` refuses this one.
     Page {
         code: "K7",
         text: "\
-K7: the instruction names a local variable or a set that the code does not have
+K7: the instruction names a local variable, a set of patterns or a set of ints that the code does not have
 Place: the instruction
 
-    $ printf '%s\\n' 4e43463100000002100070 '10.0.0.0/8 3 8' | ncroute eval
+    $ printf '%s\\n' 4e4346320000000002100070 '10.0.0.0/8 3 8' | ncroute eval
     fault K7 0
 
 Run verified code only: `ncroute check --size N --code` refuses this one.
@@ -213,10 +213,10 @@ Run verified code only: `ncroute check --size N --code` refuses this one.
 C1: a byte of the mark is wrong
 Place: that byte
 
-    $ echo 4e434632 | ncroute check --size 16 --code
+    $ echo 4e434633 | ncroute check --size 16 --code
     refused C1 3
 
-A code file begins with 4e434631. Give the whole line that `ncroute check` wrote, without the word `code`.
+A code file begins with 4e434632, or with 4e434631 if it is of the older form. Give the whole line that `ncroute check` wrote, without the word `code`.
 ",
     },
     Page {
@@ -234,7 +234,7 @@ The line was cut. Give the whole line that `ncroute check` wrote, without the wo
     Page {
         code: "C3",
         text: "\
-C3: unknown opcode
+C3: unknown opcode; in a file of the older form, INSET
 Place: the opcode
 
     $ echo 4e4346310000000172 | ncroute check --size 16 --code
@@ -246,11 +246,11 @@ docs/MACHINE.md has the opcodes. Give the whole line that `ncroute check` wrote,
     Page {
         code: "C4",
         text: "\
-C4: invalid operand or pattern
+C4: invalid operand, pattern or range
 Place: its first byte
 
-    $ echo 4e43463100000002020270 | ncroute check --size 16 --code
-    refused C4 9
+    $ echo 4e4346320000000002020270 | ncroute check --size 16 --code
+    refused C4 10
 
 docs/CODE_FILE.md says which operands are valid. Give the whole line that `ncroute check` wrote, without the word `code`.
 ",
@@ -261,10 +261,11 @@ docs/CODE_FILE.md says which operands are valid. Give the whole line that `ncrou
 C5: a number over its limit
 Place: the number's first byte
 
-    $ echo 4e4346311100000170 | ncroute check --size 16 --code
+    $ echo 4e434632110000000170 | ncroute check --size 16 --code
     refused C5 4
 
-There are at most 16 local variables, 64 sets, 1,024 patterns in one and 1,024 instructions.
+There are at most 16 local variables, 64 sets of patterns, 1,024 patterns in one, 64 sets of ints, 1,024 ranges in
+one, and 1,024 instructions.
 ",
     },
     Page {
@@ -286,6 +287,18 @@ C7: memory was refused (`ncroute` answers E3 instead)
 Place: none, shown as 0
 
 Give the process more memory. `ncroute` answers E3 in its place.
+",
+    },
+    Page {
+        code: "C8",
+        text: "\
+C8: the code has a set of ints or an INSET, and an `NCF1` file is asked for (comes before C7)
+Place: none, shown as 0
+
+    $ echo 4e4346320000010001000000020000000200051352006100017071 | ncroute rewrite --old
+    refused C8 0
+
+Keep the file as it is: only programs that read NCF1 alone need the older form.
 ",
     },
 ];

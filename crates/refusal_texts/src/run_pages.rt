@@ -34,7 +34,7 @@ O3: HEX is not hexadecimal, or has an odd number of digits
     with `--code`: not hexadecimal, or an odd number of digits
 Place: the number of the line
 
-    $ echo 'code 4e4346310000000170' | ncroute check --size 16 --code
+    $ echo 'code 4e434632000000000170' | ncroute check --size 16 --code
     refused O3 1
 
 Give the digits alone, without the word `code` before them.
@@ -97,7 +97,7 @@ No filter, code file or route is that long: look at what is given as the input.
 O8: PREFIX is not a prefix
 Place: the number of the line
 
-    $ printf '%s\\n' 4e4346310000000170 '10.0.0.0/33 3 8' | ncroute eval
+    $ printf '%s\\n' 4e434632000000000170 '10.0.0.0/33 3 8' | ncroute eval
     refused O8 2
 
 A prefix is four numbers up to 255 joined by dots, `/` and a length up to 32.
@@ -140,7 +140,7 @@ E4: the input is longer than 16,777,216 bytes: about a million routes of 16 byte
 
 `filter` takes 4,000,000,000 bytes of routes.
 
-    $ (echo 4e4346310000000170; head -c 17000000 /dev/zero | tr '\\0' '\\n') | ncroute eval 2>&1
+    $ (echo 4e434632000000000170; head -c 17000000 /dev/zero | tr '\\0' '\\n') | ncroute eval 2>&1
     ncroute: E4
 
 Cut the input, and give each part to a run of its own with the same first line.

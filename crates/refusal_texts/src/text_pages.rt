@@ -2,7 +2,7 @@
 use crate::page::Page;
 
 /// A page for each code.
-pub static TEXT_PAGES: [Page; 20] = [
+pub static TEXT_PAGES: [Page; 21] = [
     Page {
         code: "P1",
         text: "\
@@ -46,18 +46,20 @@ Write a number of 32 bits. No metric is over 250.
 P4: an address with a group over 255, a prefix with a length over 32
     an argument of `mask` over 32
     a pattern whose lengths are out of order or over 32
-Place: its first byte; the number's first byte; its `{`
+    a range whose first int is the greater one
+Place: its first byte; the number's first byte; its `{`; its first byte
 
     $ echo 'filter q { if net ~ [1.0.0.0/33] then ; }' | ncroute check --size 16
     refused P4 21
 
-Correct the group or the length. In `{low,high}` the lengths are 0 to 32, the lower one first.
+Correct the group or the length. In `{low,high}` the lengths are 0 to 32, the lower one first, and so are the
+numbers of a range: `4..6`.
 ",
     },
     Page {
         code: "P5",
         text: "\
-P5: the 33rd block, parenthesis, `!` or `if` inside one another
+P5: the 33rd block, parenthesis, `!`, `if` or `case` inside one another
 Place: the token that opens it
 
     $ printf 'filter q { rip_metric = %s' \"$(printf '(%.0s' $(seq 33))\" | ncroute check --size 16
@@ -125,9 +127,9 @@ Place: its first byte
     refused P10 11
 
 The word belongs to a part of BIRD's language that is not read here. In place of `define` or `set` write the
-value or the set where it is used; of `case`, `if .. then .. else ..`; of `function`, its commands where it is
-called; of `print`, nothing. A variable is an int, a bool, an ip or a prefix, and a route has only `net` and
-`rip_metric`. A set of numbers is two comparisons, and there is no IPv6. `--explain always` names the word.
+value or the set where it is used; of `function`, its commands where it is called; of `print`, nothing. A
+variable is an int, a bool, an ip or a prefix, and a route has only `net` and `rip_metric`. `--explain always`
+names the word.
 ",
     },
     Page {
@@ -209,6 +211,18 @@ Give the process more memory. `ncroute` answers E3 in its place.
 ",
     },
     Page {
+        code: "Y7",
+        text: "\
+Y7: a label that shares a number with an earlier label of the same `case`
+Place: the later label's first byte
+
+    $ echo 'filter q { case rip_metric { 1..3: accept; 3: reject; } }' | ncroute check --size 16
+    refused Y7 43
+
+Take the number out of one of the labels. Ranges of one label may overlap.
+",
+    },
+    Page {
         code: "G1",
         text: "\
 G1: the code would have more than 1,024 instructions
@@ -223,13 +237,15 @@ Shorten the filter. A set of many patterns is one instruction, a chain of compar
     Page {
         code: "G2",
         text: "\
-G2: more than 64 sets, or more than 1,024 patterns in one set
+G2: more than 64 sets of patterns, or more than 1,024 patterns in one set
+    more than 64 sets of ints, or more than 1,024 ranges in one set; a label of a `case` is such a set
 Place: none, shown as 0
 
     $ printf 'filter q { %s }' \"$(printf 'if net ~ [1.0.0.0/8] then ;%.0s' $(seq 65))\" | ncroute check --size 16
     refused G2 0
 
-Join sets, or cover several prefixes by one pattern, as `10.0.0.0/8{16,24}`.
+Join sets, or cover several prefixes by one pattern, as `10.0.0.0/8{16,24}`, and several numbers by one range, as
+`8..24`.
 ",
     },
     Page {

@@ -1,5 +1,6 @@
 //! Gates: when a session may take its next turn.
 
+use slot_lock::Answer;
 use std::rt::Clock;
 use std::sync::Wait;
 
@@ -16,4 +17,8 @@ pub trait Gate {
     /// uses up the turn.
     fn may_go<R: Wait + Clock>(&self, rt: &R, job: u32, turn: u32) -> bool
         ensures { may_answer self.now job turn result };
+
+    /// Is told of the answer to each call of a job, before the job asks for its next turn: a reader's calls are Receives, a writer's
+    /// Takes. So a gate can let a writer sleep until something is queued for it.
+    fn answered<R: Wait + Clock>(&self, _rt: &R, _job: u32, _answer: &Answer) {}
 }

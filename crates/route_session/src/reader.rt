@@ -57,6 +57,7 @@ pub fn read_session<R: Wait + Clock, L: Link, G: Gate>(
         match router.call(rt, pass, event) {
             Ok(answer) => {
                 entered += 1;
+                gate.answered(rt, job, &answer);
                 if is_stale(&answer.reply) {
                     return ended(Cause::Stale, entered, None);
                 }

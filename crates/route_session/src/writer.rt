@@ -53,6 +53,7 @@ pub fn write_session<R: Wait + Clock, L: Link, G: Gate>(
             Err(CallFault::Full) => return ended(alloc, Cause::Full, sent),
             Err(CallFault::Memory) => return ended(alloc, Cause::Memory, sent),
         };
+        gate.answered(rt, job, &answer);
         if is_stale(&answer.reply) {
             return ended(alloc, Cause::Stale, sent);
         }

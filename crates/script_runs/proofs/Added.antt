@@ -8,14 +8,16 @@ use Rattle.history_file.proofs.Whole.{text_push}
 use Rattle.line_protocol.specs.Answers.{Answer}
 use Rattle.netchange_core.specs.OpeningView.{OpeningView}
 use Rattle.operator_cmds.specs.Entries.{GoesOn, GrowsByOne, StaysOpen, entries_in}
-use Rattle.operator_cmds.specs.Script.{AnswersLine, ScriptView}
-use Rattle.operator_cmds.specs.Stages.{StageView, Empty, Setting, Open}
+use Rattle.operator_cmds.specs.Script.{ScriptView}
+use Rattle.operator_cmds.specs.Stages.{StageView, Empty, Setting, Open, size_in}
 use Rattle.operator_cmds.proofs.Going.{goes_on}
 use Rattle.route_history.specs.JournalView.{JournalView}
 use Rattle.route_history.specs.declared.entry.Entry.{Entry}
+use Rattle.script_runs.specs.Naming.{AnswersPrepared, Prepares, PreparedView, size_set_up}
 use Rattle.script_runs.specs.News.{count_in, line_of, news}
 use Rattle.script_runs.specs.Saved.{AnswersSaved, saved_text}
 use Rattle.script_runs.specs.Stopping.{answer_where}
+use Rattle.script_runs.proofs.Named.{naming_keeps}
 
 get_end : {X : Type 0} (xs : List X) → slice_get xs (length xs) ≡ None
 get_end [] = refl
@@ -87,21 +89,34 @@ adds (Setting p l) (Setting o limit) h = refl
 adds (Setting p l) (Open j) h = opened j.opening j.limit j.entries h.entries
 adds (Open b) after h = by_open b after h.opening h.entries
 
+-- names change no stage, so a line goes on as it did without them
+prepared_keeps : (set_up : Option ℕ) (before : PreparedView) (mid : ScriptView) (told answer : Answer) (after : PreparedView)
+    → Prepares set_up before mid told answer after → after.script.stage ≡ mid.stage
+prepared_keeps None before mid told answer after h = ap (λ (v : ScriptView). v.stage) h.0
+prepared_keeps (Some size) before mid told answer after h = naming_keeps size before.filters after.unfit mid after.script h.0
+
+prepared_goes_on : (before after : PreparedView) (number : ℕ) (line : List ℕ) (answer : Answer)
+    → AnswersPrepared before number line answer after → GoesOn before.script.stage after.script.stage
+prepared_goes_on before after number line answer h =
+    subst (GoesOn before.script.stage)
+    (sym (prepared_keeps (size_set_up (size_in before.script.stage) (size_in h.mid.stage)) before h.mid h.told answer after h.prepares))
+    (goes_on before.script h.mid number line h.told h.answers)
+
 -- a line is answered, and its news is written
-pub answered : (before told mid after : ScriptView) (held holds : Option (List ℕ)) (stops still : Bool) (saved : Option ℕ) (number : ℕ)
-    (line : List ℕ) (first answer : Answer) → saved ≡ count_in before.stage → AnswersLine before number line first told → mid ≡ told
-    → after ≡ mid → Appends held holds (news saved told.stage) → answer ≡ answer_where stops first → still ≡ stops
+pub answered : (before told mid after : PreparedView) (held holds : Option (List ℕ)) (stops still : Bool) (saved : Option ℕ) (number : ℕ)
+    (line : List ℕ) (first answer : Answer) → saved ≡ count_in before.script.stage → AnswersPrepared before number line first told
+    → mid ≡ told → after ≡ mid → Appends held holds (news saved told.script.stage) → answer ≡ answer_where stops first → still ≡ stops
     → AnswersSaved (record { script = before; holds = held; stops = stops }) number line answer
     (record { script = after; holds = holds; stops = still })
 answered before told mid after held holds stops still saved number line first answer count h same then_same p is_answer on =
-    let text = saved_text before.stage in
-    let grows = adds before.stage told.stage (goes_on before told number line first h)
-    ∙ ap (λ (s : Option ℕ). text ++ news s told.stage) (sym count) in
+    let text = saved_text before.script.stage in
+    let grows = adds before.script.stage told.script.stage (prepared_goes_on before told number line first h)
+    ∙ ap (λ (s : Option ℕ). text ++ news s told.script.stage) (sym count) in
     let all_same = then_same ∙ same in (
-      (first, subst (λ (v : ScriptView). AnswersLine before number line first v) (sym all_same) h, is_answer),
+      (first, subst (λ (v : PreparedView). AnswersPrepared before number line first v) (sym all_same) h, is_answer),
       (
-        news saved told.stage,
-        subst (λ (v : ScriptView). saved_text v.stage ≡ text ++ news saved told.stage) (sym all_same) grows,
+        news saved told.script.stage,
+        subst (λ (v : PreparedView). saved_text v.script.stage ≡ text ++ news saved told.script.stage) (sym all_same) grows,
         p,
       ),
       on,

@@ -9,12 +9,14 @@ use Rattle.line_protocol.specs.Limits.{input_limit}
 use Rattle.line_protocol.specs.Runs.{Finishes, Reaches, Runs, RunsFront, Stops}
 use Rattle.line_protocol.specs.declared.faults.StreamFault.{StreamFault}
 use Rattle.line_protocol.specs.declared.faults.StreamFault.TheVariants.{Read, Write, Memory, TooLong}
-use Rattle.operator_cmds.specs.Script.{ScriptView, fresh}
 use Rattle.operator_cmds.proofs.Viewed.{if_known}
+use Rattle.script_runs.specs.Naming.{PreparedView, fresh_with}
 use Rattle.script_runs.specs.News.{IsToldOf}
 use Rattle.script_runs.specs.Running.{IsSaved, IsSavedInPart, IsSavedUntil}
 use Rattle.script_runs.specs.Saved.{AnswersSaved, SavedView, SavesMore, saved_text}
 use Rattle.script_runs.specs.Stopping.{AnswersStopping}
+use Rattle.script_runs.specs.declared.naming.NamedFilter.{NamedFilter}
+use Rattle.script_runs.specs.declared.naming.Unfit.{Unfit}
 
 either : (b : Bool) {P Q R : Type 0} → (P → R) → (Q → R) → MatchBool b P Q → R
 either true f g h = f h
@@ -48,11 +50,11 @@ front s (l ∷ ls) (a ∷ more) after (mid, (told, saved, same), rest) = (
 )
 
 nothing : (s : SavedView) → SavesMore s s
-nothing s = ([], sym (append-nil (saved_text s.script.stage)), Appends-nil s.holds)
+nothing s = ([], sym (append-nil (saved_text s.script.script.stage)), Appends-nil s.holds)
 
 together : (a b c : SavedView) → SavesMore a b → SavesMore b c → SavesMore a c
 together a b c (x, first, p) (y, second, q) =
-    (x ++ y, second ∙ ap (λ t. t ++ y) first ∙ append_assoc (saved_text a.script.stage) x y, Appends-trans _ _ _ x y p q)
+    (x ++ y, second ∙ ap (λ t. t ++ y) first ∙ append_assoc (saved_text a.script.script.stage) x y, Appends-trans _ _ _ x y p q)
 
 -- after any lines the saver has got what they added
 saves : (s : SavedView) (lines : List (ℕ × List ℕ)) (given : List Answer) (after : SavedView) → Runs AnswersSaved s lines given after
@@ -65,13 +67,15 @@ saves s (l ∷ ls) (a ∷ more) after (mid, (told, saved, same), rest) =
     (either (is_end a.reply) (λ p. subst (SavesMore mid) (sym p.1) (nothing mid)) (λ q. saves mid ls more after q) rest)
 
 -- a fresh script has no text, so what was added is the whole text
-all_saved : (s after : SavedView) → s.script ≡ fresh → SavesMore s after → Appends s.holds after.holds (saved_text after.script.stage)
-all_saved s after e (more, text, p) =
-    subst (Appends s.holds after.holds) (sym (text ∙ ap (λ (v : ScriptView). saved_text v.stage ++ more) e)) p
+all_saved : (filters : List NamedFilter) (s after : SavedView) → s.script ≡ fresh_with filters → SavesMore s after
+    → Appends s.holds after.holds (saved_text after.script.script.stage)
+all_saved filters s after e (more, text, p) =
+    subst (Appends s.holds after.holds) (sym (text ∙ ap (λ (v : PreparedView). saved_text v.script.stage ++ more) e)) p
 
-pub ends : (s after : SavedView) (input : List ℕ) (left held holds : Option (List ℕ)) (n : ℕ) → s.script ≡ fresh
-    → Finishes AnswersSaved input_limit s after input left held holds n → IsSaved s.stops input left held holds n s.holds after.holds
-ends s after input left held holds n e f =
+pub ends : (filters : List NamedFilter) (s after : SavedView) (input : List ℕ) (left held holds : Option (List ℕ)) (n : ℕ)
+    → s.script ≡ fresh_with filters → Finishes AnswersSaved input_limit s after input left held holds n
+    → IsSaved s.stops filters input left held holds n s.holds after.holds after.script.unfit
+ends filters s after input left held holds n e f =
     let seen : Finishes (AnswersStopping s.stops) input_limit s.script after.script input left held holds n =
     record {
       given = f.given;
@@ -85,8 +89,9 @@ ends s after input left held holds n e f =
     } in
     record {
       after = after.script;
-      finishes = subst (λ (v : ScriptView). Finishes (AnswersStopping s.stops) input_limit v after.script input left held holds n) e seen;
-      saved = all_saved s after e (saves s (numbered input) f.given after f.run);
+      finishes = subst (λ (v : PreparedView). Finishes (AnswersStopping s.stops) input_limit v after.script input left held holds n) e seen;
+      saved = all_saved filters s after e (saves s (numbered input) f.given after f.run);
+      unfit_is = refl;
     }
 
 reaches : (fault : StreamFault) (s now : SavedView) (read : List ℕ) (given : List Answer) (after : SavedView)
@@ -97,18 +102,20 @@ reaches Write s now read given after h = inr tt
 reaches Memory s now read given after h = inr tt
 reaches TooLong s now read given after h = (h.0, ap (λ (v : SavedView). v.script) h.1, whole s _ given after h.2)
 
-until : (fault : StreamFault) (s now : SavedView) (read : List ℕ) (given : List Answer) (after : SavedView) → s.script ≡ fresh
-    → Reaches AnswersSaved (λ _ _. ⊤) input_limit fault s now read given after → IsSavedUntil fault s.holds now.holds (saved_text now.script.stage)
-until Read s now read given after e h =
-    all_saved s now e (subst (SavesMore s) (sym h.0) (saves s _ given after h.1))
-until Write s now read given after e h = tt
-until Memory s now read given after e h = tt
-until TooLong s now read given after e h =
-    all_saved s now e (subst (SavesMore s) (sym h.1) (saves s _ given after h.2))
+until : (fault : StreamFault) (filters : List NamedFilter) (s now : SavedView) (read : List ℕ) (given : List Answer) (after : SavedView)
+    → s.script ≡ fresh_with filters → Reaches AnswersSaved (λ _ _. ⊤) input_limit fault s now read given after
+    → IsSavedUntil fault s.holds now.holds (saved_text now.script.script.stage)
+until Read filters s now read given after e h =
+    all_saved filters s now e (subst (SavesMore s) (sym h.0) (saves s _ given after h.1))
+until Write filters s now read given after e h = tt
+until Memory filters s now read given after e h = tt
+until TooLong filters s now read given after e h =
+    all_saved filters s now e (subst (SavesMore s) (sym h.1) (saves s _ given after h.2))
 
-pub breaks : (fault : StreamFault) (s now : SavedView) (input : List ℕ) (left held holds : Option (List ℕ)) → s.script ≡ fresh
-    → Stops AnswersSaved (λ _ _. ⊤) input_limit fault s now input left held holds → IsSavedInPart fault s.stops input left held holds s.holds now.holds
-breaks fault s now input left held holds e f =
+pub breaks : (fault : StreamFault) (filters : List NamedFilter) (s now : SavedView) (input : List ℕ) (left held holds : Option (List ℕ))
+    → s.script ≡ fresh_with filters → Stops AnswersSaved (λ _ _. ⊤) input_limit fault s now input left held holds
+    → IsSavedInPart fault s.stops filters input left held holds s.holds now.holds
+breaks fault filters s now input left held holds e f =
     let seen : Stops (AnswersStopping s.stops) (λ _ _. ⊤) input_limit fault s.script now.script input left held holds =
     record {
       given = f.given;
@@ -121,14 +128,14 @@ breaks fault s now input left held holds e f =
     } in
     record {
       after = now.script;
-      broken_off = subst (λ (v : ScriptView). Stops (AnswersStopping s.stops) (λ _ _. ⊤) input_limit fault v now.script input left held holds) e seen;
-      saved = until fault s now f.read f.given f.after e f.reach;
+      broken_off = subst (λ (v : PreparedView). Stops (AnswersStopping s.stops) (λ _ _. ⊤) input_limit fault v now.script input left held holds) e seen;
+      saved = until fault filters s now f.read f.given f.after e f.reach;
     }
 
 -- where memory was refused the writer got whole answers, as it may where a write failed
-failed_write : (stops : Bool) (input : List ℕ) (left held holds kept keeps : Option (List ℕ))
-    → IsSavedInPart Memory stops input left held holds kept keeps → IsSavedInPart Write stops input left held holds kept keeps
-failed_write stops input left held holds kept keeps h =
+failed_write : (stops : Bool) (filters : List NamedFilter) (input : List ℕ) (left held holds kept keeps : Option (List ℕ))
+    → IsSavedInPart Memory stops filters input left held holds kept keeps → IsSavedInPart Write stops filters input left held holds kept keeps
+failed_write stops filters input left held holds kept keeps h =
     let f = h.broken_off in
     let text = text_of f.given in
     record {
@@ -149,14 +156,14 @@ pub told_ok : (P : ℕ → Type 0) (ended told : Result ℕ StreamFault) → IsT
 told_ok P ended told (inl same) h = subst (λ (r : Result ℕ StreamFault). IfOk r P) (sym same) h
 told_ok P ended told (inr (memory, write)) h = subst (λ (r : Result ℕ StreamFault). IfOk r P) (sym write) tt
 
-pub told_err : (stops : Bool) (known left held holds kept keeps : Option (List ℕ)) (ended told : Result ℕ StreamFault) → IsToldOf ended told
-    → IfErr ended (λ fault. IfSome known (λ input. IsSavedInPart fault stops input left held holds kept keeps))
-    → IfErr told (λ fault. IfSome known (λ input. IsSavedInPart fault stops input left held holds kept keeps))
-told_err stops known left held holds kept keeps ended told (inl same) h =
-    subst (λ (r : Result ℕ StreamFault). IfErr r (λ fault. IfSome known (λ input. IsSavedInPart fault stops input left held holds kept keeps)))
+pub told_err : (stops : Bool) (filters : List NamedFilter) (known left held holds kept keeps : Option (List ℕ)) (ended told : Result ℕ StreamFault) → IsToldOf ended told
+    → IfErr ended (λ fault. IfSome known (λ input. IsSavedInPart fault stops filters input left held holds kept keeps))
+    → IfErr told (λ fault. IfSome known (λ input. IsSavedInPart fault stops filters input left held holds kept keeps))
+told_err stops filters known left held holds kept keeps ended told (inl same) h =
+    subst (λ (r : Result ℕ StreamFault). IfErr r (λ fault. IfSome known (λ input. IsSavedInPart fault stops filters input left held holds kept keeps)))
     (sym same) h
-told_err stops known left held holds kept keeps ended told (inr (memory, write)) h =
+told_err stops filters known left held holds kept keeps ended told (inr (memory, write)) h =
     let P : Result ℕ StreamFault → Type 0 =
-    λ r. IfErr r (λ fault. IfSome known (λ input. IsSavedInPart fault stops input left held holds kept keeps)) in
+    λ r. IfErr r (λ fault. IfSome known (λ input. IsSavedInPart fault stops filters input left held holds kept keeps)) in
     subst P (sym write)
-    (if_known known (λ input p. failed_write stops input left held holds kept keeps p) (subst P memory h))
+    (if_known known (λ input p. failed_write stops filters input left held holds kept keeps p) (subst P memory h))

@@ -1,6 +1,8 @@
 -- What callers cite.
+pub mod Naming
 pub mod Stopping
 pub mod Saved
 pub mod Running
 -- What only bodies are proved against.
+pub mod State
 pub mod News

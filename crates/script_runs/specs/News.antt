@@ -1,12 +1,17 @@
--- What a line added to the text of a history.
-use Rattle.std.specs.Prelude.{◌≡◌, ◌⊎◌, ℕ, List, [], ◌∷◌, ◌++◌, length, Option, Some, None, Result, Ok, Err, slice_get}
+-- What a line added to the text of a history, and what is told of its end.
+use Rattle.std.specs.Prelude.{◌≡◌, ◌⊎◌, ℕ, List, [], ◌∷◌, ◌++◌, length, Option, Some, None, Result, Ok, Err, slice_get, take}
+use Rattle.filter_source.specs.declared.failure.Failure.{Failure}
+use Rattle.filter_source.specs.declared.failure.Failure.TheVariants as failure
 use Rattle.history_file.specs.Text.{entry_line, opening_line}
 use Rattle.history_file.specs.Views.{entry_view}
+use Rattle.line_protocol.specs.declared.answers.Reply.{Reply}
+use Rattle.line_protocol.specs.declared.answers.Reply.TheVariants.{Ended}
 use Rattle.line_protocol.specs.declared.faults.StreamFault.{StreamFault}
 use Rattle.line_protocol.specs.declared.faults.StreamFault.TheVariants.{Write, Memory}
 use Rattle.operator_cmds.specs.Stages.{StageView, Empty, Setting, Open}
 use Rattle.route_history.specs.JournalView.{JournalView}
 use Rattle.route_history.specs.declared.entry.Entry.{Entry}
+use Rattle.script_runs.specs.declared.naming.Unfit.{Unfit}
 
 -- how many entries there are, if the journal is open
 abbrev pub count_in : StageView → Option ℕ
@@ -33,3 +38,13 @@ news saved (Open journal) = next_lines saved journal
 -- what is told of the end of a run: a saver that failed is a failed write
 abbrev pub IsToldOf : Result ℕ StreamFault → Result ℕ StreamFault → Type 0
 IsToldOf ended told = (told ≡ ended) ⊎ ((ended ≡ Err Memory) × (told ≡ Err Write))
+
+-- what becomes of an answer that was written behind the first `begun` bytes: where a filter is refused it is taken back, and the script ends
+abbrev pub Tells : Option Unfit → ℕ → Reply → List ℕ → List ℕ → Reply → Type 0
+Tells None begun reply before after given = (after ≡ before) × (given ≡ reply)
+Tells (Some unfit) begun reply before after given = (after ≡ take begun before) × (given ≡ Ended)
+
+-- the filter at a place that was not verified is refused; refused memory is no refusal
+abbrev pub IsFailureAt : ℕ → Failure → Option Unfit → Type 0
+IsFailureAt index (failure.Refused told) unfit = unfit ≡ Some (record { index = index; told = told })
+IsFailureAt index failure.Memory unfit = ⊥

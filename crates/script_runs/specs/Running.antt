@@ -1,22 +1,26 @@
 -- How a script whose history is saved goes and ends. (This project's own choice.)
-use Rattle.std.specs.Prelude.{ℕ, Bool, List, Option, ⊤}
+use Rattle.std.specs.Prelude.{◌≡◌, ℕ, Bool, List, Option, ⊤}
 use Rattle.std.specs.Io.KnownBytes.{Appends}
 use Rattle.line_protocol.specs.Limits.{input_limit}
 use Rattle.line_protocol.specs.Runs.{Finishes, Stops}
 use Rattle.line_protocol.specs.declared.faults.StreamFault.{StreamFault}
 use Rattle.line_protocol.specs.declared.faults.StreamFault.TheVariants.{Read, Write, Memory, TooLong}
-use Rattle.operator_cmds.specs.Script.{ScriptView, fresh}
+use Rattle.script_runs.specs.Naming.{PreparedView, fresh_with}
 use Rattle.script_runs.specs.Saved.{saved_text}
 use Rattle.script_runs.specs.Stopping.{AnswersStopping}
+use Rattle.script_runs.specs.declared.naming.NamedFilter.{NamedFilter}
+use Rattle.script_runs.specs.declared.naming.Unfit.{Unfit}
 
--- A script was answered to its end, or to the refused line that ended it, and what its saver got is the text of the whole history.
+-- A script that was started with filters was answered to its end, or to the refused line that ended it, or to the line that set up a domain
+-- for which one of the filters is refused; `unfit` is that filter. What its saver got is the text of the whole history.
 -- `input` is all that the reader had, `left` what it has now; `held` and `holds` are what the writer held before and holds now, `kept`
 -- and `keeps` the same of the saver; `refused` is the number that was returned.
-pub record IsSaved (stops : Bool) (input : List ℕ) (left held holds : Option (List ℕ)) (refused : ℕ) (kept keeps : Option (List ℕ))
-    : Type 0 where
-  pub after : ScriptView
-  pub finishes : Finishes (AnswersStopping stops) input_limit fresh after input left held holds refused
-  pub saved : Appends kept keeps (saved_text after.stage)
+pub record IsSaved (stops : Bool) (filters : List NamedFilter) (input : List ℕ) (left held holds : Option (List ℕ)) (refused : ℕ)
+    (kept keeps : Option (List ℕ)) (unfit : Option Unfit) : Type 0 where
+  pub after : PreparedView
+  pub finishes : Finishes (AnswersStopping stops) input_limit (fresh_with filters) after input left held holds refused
+  pub saved : Appends kept keeps (saved_text after.script.stage)
+  pub unfit_is : after.unfit ≡ unfit
 
 -- What a saver got of a text where a fault ended the script: all of it where the input could not be read or is too long. Of what it
 -- got where a write failed or memory was refused nothing is said.
@@ -27,8 +31,8 @@ IsSavedUntil Write kept keeps text = ⊤
 IsSavedUntil Memory kept keeps text = ⊤
 
 -- A fault ended a script: its first lines are answered, and the history that they made is saved. The names are those of `IsSaved`.
-pub record IsSavedInPart (fault : StreamFault) (stops : Bool) (input : List ℕ) (left held holds kept keeps : Option (List ℕ))
-    : Type 0 where
-  pub after : ScriptView
-  pub broken_off : Stops (AnswersStopping stops) (λ _ _. ⊤) input_limit fault fresh after input left held holds
-  pub saved : IsSavedUntil fault kept keeps (saved_text after.stage)
+pub record IsSavedInPart (fault : StreamFault) (stops : Bool) (filters : List NamedFilter) (input : List ℕ)
+    (left held holds kept keeps : Option (List ℕ)) : Type 0 where
+  pub after : PreparedView
+  pub broken_off : Stops (AnswersStopping stops) (λ _ _. ⊤) input_limit fault (fresh_with filters) after input left held holds
+  pub saved : IsSavedUntil fault kept keeps (saved_text after.script.stage)

@@ -4,9 +4,9 @@ use Rattle.std.specs.Io.KnownBytes.{Appends}
 use Rattle.history_file.specs.Text.{history_text}
 use Rattle.history_file.specs.Views.{HistoryView, entry_view}
 use Rattle.line_protocol.specs.Answers.{Answer}
-use Rattle.operator_cmds.specs.Script.{ScriptView}
 use Rattle.operator_cmds.specs.Stages.{StageView, Empty, Setting, Open}
 use Rattle.route_history.specs.JournalView.{JournalView}
+use Rattle.script_runs.specs.Naming.{PreparedView}
 use Rattle.script_runs.specs.Stopping.{AnswersStopping}
 
 -- a journal's history, as its text shows it
@@ -21,13 +21,13 @@ saved_text (Open journal) = history_text (history_of journal)
 
 -- a script, what its saver holds where that is known, and whether it ends at its first refused line
 pub record SavedView : Type 0 where
-  pub script : ScriptView
+  pub script : PreparedView
   pub holds : Option (List ℕ)
   pub stops : Bool
 
 -- the saver got what was added to the text, and nothing else
 abbrev pub SavesMore : SavedView → SavedView → Type 0
-SavesMore before after = (more : List ℕ) × (saved_text after.script.stage ≡ saved_text before.script.stage ++ more)
+SavesMore before after = (more : List ℕ) × (saved_text after.script.script.stage ≡ saved_text before.script.script.stage ++ more)
     × Appends before.holds after.holds more
 
 -- a line is answered as such a script answers it, and what it added to the history is saved

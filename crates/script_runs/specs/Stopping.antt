@@ -3,7 +3,7 @@ use Rattle.std.specs.Prelude.{◌≡◌, ℕ, Bool, true, false, List}
 use Rattle.line_protocol.specs.Answers.{Answer}
 use Rattle.line_protocol.specs.declared.answers.Reply.{Reply}
 use Rattle.line_protocol.specs.declared.answers.Reply.TheVariants.{Answered, Refused, Ended}
-use Rattle.operator_cmds.specs.Script.{AnswersLine, ScriptView}
+use Rattle.script_runs.specs.Naming.{AnswersPrepared, PreparedView}
 
 -- what a reply means for the stream, where a refused line may be the last
 abbrev pub reply_where : Bool → Reply → Reply
@@ -16,7 +16,7 @@ reply_where false reply = reply
 abbrev pub answer_where : Bool → Answer → Answer
 answer_where stops answer = record { text = answer.text; reply = reply_where stops answer.reply }
 
--- A line is answered as any script answers it, and the answer ends the script where it is refused and `stops` says so.
-abbrev pub AnswersStopping : Bool → ScriptView → ℕ → List ℕ → Answer → ScriptView → Type 0
+-- A line is answered as any script with these filters answers it, and the answer ends the script where it is refused and `stops` says so.
+abbrev pub AnswersStopping : Bool → PreparedView → ℕ → List ℕ → Answer → PreparedView → Type 0
 AnswersStopping stops before number line answer after =
-    (told : Answer) × AnswersLine before number line told after × (answer ≡ answer_where stops told)
+    (told : Answer) × AnswersPrepared before number line told after × (answer ≡ answer_where stops told)

@@ -1,6 +1,8 @@
 //! Runs of an operator's script that leave something behind: the text of the router's history.
 #![tactic(auto)]
 
+mod naming;
 mod saving;
 
+pub use naming::{NamedFilter, Unfit};
 pub use saving::run_saved_script;

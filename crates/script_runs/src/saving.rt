@@ -5,8 +5,10 @@ ghost use Rattle.std.specs.Io.KnownBytes.{Appends};
 ghost use Rattle.operator_cmds.specs.State.{script_of};
 ghost use Rattle.script_runs.specs.News as spec;
 ghost use Rattle.script_runs.specs.Running.{IsSaved, IsSavedInPart};
+ghost use Rattle.script_runs.specs.State.{prepared_of};
 ghost use Rattle.script_runs.specs.Stopping as stopping;
 
+use crate::naming::{NamedFilter, Prepared, Unfit};
 use history_file::{write_entry, write_opening};
 use line_protocol::{Reply, Service, StreamFault, answer_lines, write_text};
 use operator_cmds::{Script, ScriptFault, Watch};
@@ -77,9 +79,9 @@ fn unsaved(alloc: Global, script: &Script, saved: Option<usize>) -> Result<Vec<u
 
 /// A script, where its history is saved, and who watches it.
 #[derive(Drop)]
-struct Saving<V: Write + Drop, S: Watch + Drop> {
-    /// The script.
-    script: Script,
+struct Saving<'a, V: Write + Drop, S: Watch + Drop> {
+    /// The script, with the filters that it is started with.
+    prepared: Prepared<'a>,
     /// Where its history is saved.
     saver: V,
     /// The saver failed.
@@ -90,13 +92,13 @@ struct Saving<V: Write + Drop, S: Watch + Drop> {
     stops: bool,
 }
 
-impl<V: Write + Drop, S: Watch + Drop> Service for Saving<V, S> {
+impl<'a, V: Write + Drop, S: Watch + Drop> Service for Saving<'a, V, S> {
     ghost use Rattle.std.specs.Prelude.{⊤};
     ghost use Rattle.script_runs.specs.Saved.{AnswersSaved};
 
     ghost answers = { λ before number line answer after. AnswersSaved
-        (record { script = script_of before.script; holds = V.contents before.saver; stops = before.stops }) number line answer
-        (record { script = script_of after.script; holds = V.contents after.saver; stops = after.stops }) };
+        (record { script = prepared_of before.prepared; holds = V.contents before.saver; stops = before.stops }) number line answer
+        (record { script = prepared_of after.prepared; holds = V.contents after.saver; stops = after.stops }) };
 
     ghost refuses = { λ _ _. ⊤ };
 
@@ -107,17 +109,19 @@ impl<V: Write + Drop, S: Watch + Drop> Service for Saving<V, S> {
         line: &[u8],
         out: &mut Vec<u8>,
     ) -> Result<Reply, AllocError> {
-        let saved = count_entries(&self.script);
-        let reply = self.script.answer(alloc, number, line, out)?;
+        let begun = out.len();
+        let saved = count_entries(&self.prepared.script);
+        let reply = self.prepared.answer(alloc, number, line, out)?;
         self.save(alloc, saved)?;
-        Ok(self.end(alloc, number, line, reply))
+        let told = out.as_slice().get(begun..).unwrap_or(&[]);
+        Ok(self.end(alloc, number, line, told, reply))
     }
 }
 
-impl<V: Write + Drop, S: Watch + Drop> Saving<V, S> {
-    /// Shows a line that is refused to who watches, and makes it the last one where the script ends there.
-    fn end(&mut self, alloc: Global, number: u32, line: &[u8], reply: Reply) -> Reply
-        ensures script { script_of self.new.script ≡ script_of self.old.script }
+impl<'a, V: Write + Drop, S: Watch + Drop> Saving<'a, V, S> {
+    /// Shows a line that is refused, with its answer, to who watches, and makes it the last one where the script ends there.
+    fn end(&mut self, alloc: Global, number: u32, line: &[u8], told: &[u8], reply: Reply) -> Reply
+        ensures script { prepared_of self.new.prepared ≡ prepared_of self.old.prepared }
         ensures saver { self.new.saver ≡ self.old.saver }
         ensures stops { self.new.stops ≡ self.old.stops }
         ensures reply { result ≡ stopping.reply_where self.old.stops reply }
@@ -125,19 +129,19 @@ impl<V: Write + Drop, S: Watch + Drop> Saving<V, S> {
         if reply != Reply::Refused {
             return reply;
         }
-        self.watcher
-            .see_refused(alloc, number, line, self.script.size());
+        let refused = self.prepared.script.refused_line(number, line, told);
+        self.watcher.see_refused(alloc, &refused);
         if self.stops { Reply::Ended } else { reply }
     }
 
     /// Saves what is not saved of the history, of which so many entries are.
     fn save(&mut self, alloc: Global, saved: Option<usize>) -> Result<(), AllocError>
-        ensures script { script_of self.new.script ≡ script_of self.old.script }
+        ensures script { prepared_of self.new.prepared ≡ prepared_of self.old.prepared }
         ensures stops { self.new.stops ≡ self.old.stops }
         ensures ok { OnOk result (Appends (V.contents self.old.saver) (V.contents self.new.saver)
-            (spec.news saved (script_of self.old.script).stage)) }
+            (spec.news saved (script_of self.old.prepared.script).stage)) }
     {
-        let text = unsaved(alloc, &self.script, saved)?;
+        let text = unsaved(alloc, &self.prepared.script, saved)?;
         match write_text(&mut self.saver, text.as_slice()) {
             Ok(()) => Ok(()),
             Err(_) => {
@@ -147,19 +151,20 @@ impl<V: Write + Drop, S: Watch + Drop> Saving<V, S> {
         }
     }
 
-    /// What is told of the end of the run, and the saver.
-    fn finish(self, ended: Result<u32, ScriptFault>) -> (Result<u32, ScriptFault>, V)
+    /// What is told of the end of the run, the saver, and the filter that was refused.
+    fn finish(self, ended: Result<u32, ScriptFault>) -> (Result<u32, ScriptFault>, V, Option<Unfit>)
         ensures told { spec.IsToldOf ended result.0 }
-        ensures saver { result.1 ≡ self.saver }
+        ensures saver { result.1 ≡ self.entry.saver }
+        ensures unfit { result.2 ≡ (prepared_of self.entry.prepared).unfit }
     {
         let Saving {
-            script: _script,
+            prepared,
             saver,
             is_broken,
             watcher: _watcher,
             stops: _stops,
         } = self;
-        (told_end(ended, is_broken), saver)
+        (told_end(ended, is_broken), saver, prepared.unfit)
     }
 }
 
@@ -178,6 +183,9 @@ fn told_end(ended: Result<u32, ScriptFault>, is_broken: bool) -> Result<u32, Scr
 /// is written. Where `stops` says so, the script ends at its first refused line: that line is answered, and none that follows. Gives
 /// the saver back.
 ///
+/// The line that sets the domain up also verifies each of `filters` for domains of that size, in order, and gives it its name, as `load`
+/// does. At the first of them that is refused the script ends, and that line is not answered; that filter is returned.
+///
 /// A write to the saver that fails is E2, and the line whose entry it was is not answered.
 pub fn run_saved_script<R: Read, W: Write, V: Write + Drop, S: Watch + Drop>(
     alloc: Global,
@@ -185,18 +193,19 @@ pub fn run_saved_script<R: Read, W: Write, V: Write + Drop, S: Watch + Drop>(
     writer: &mut W,
     saver: V,
     watcher: S,
+    filters: &[NamedFilter],
     stops: bool,
-) -> (Result<u32, ScriptFault>, V)
+) -> (Result<u32, ScriptFault>, V, Option<Unfit>)
     // The answers are those of `run_script`, up to the one that ends it, and what was saved is the text of the whole history.
     ensures finished { IfOk result.0 (λ refused. IfSome (R.remaining reader.old) (λ input.
-        IsSaved stops input (R.remaining reader.new) (W.contents writer.old) (W.contents writer.new) refused
-        (V.contents saver) (V.contents result.1))) }
+        IsSaved stops filters.now input (R.remaining reader.new) (W.contents writer.old) (W.contents writer.new) refused
+        (V.contents saver) (V.contents result.1) result.2)) }
     ensures broken_off { IfErr result.0 (λ fault. IfSome (R.remaining reader.old) (λ input.
-        IsSavedInPart fault stops input (R.remaining reader.new) (W.contents writer.old) (W.contents writer.new)
+        IsSavedInPart fault stops filters.now input (R.remaining reader.new) (W.contents writer.old) (W.contents writer.new)
         (V.contents saver) (V.contents result.1))) }
 {
     let mut service = Saving {
-        script: Script::new(alloc),
+        prepared: Prepared::new(alloc, filters),
         saver,
         is_broken: false,
         watcher,

@@ -1,6 +1,8 @@
-//! Tests of an operator's script: `read_command` and `run_script`.
+//! Tests of an operator's script: `read_command`, `run_script`, and what is told of refused lines.
 #![tactic(auto)]
 
+#[cfg(test)]
+mod filters_tests;
 #[cfg(test)]
 mod look_tests;
 #[cfg(test)]
@@ -11,3 +13,5 @@ mod run_script_tests;
 mod saved_tests;
 #[cfg(test)]
 mod streams_tests;
+#[cfg(test)]
+mod words_tests;

@@ -59,8 +59,8 @@ show 1\nhistory 0\nhistory 4\nhistory 6\nhistory 1000000\n",
         b"ok\nopened 1\nrefused N2 1\ndone 1\nroutes 0:0 1:1:1 2:4 3:4\nmessages 0:0 1:4 2:4 3:4 1:1\nverified 7 2\ndone 1
 route 3 via 1
 history 0 up 1 opened 1 | 1 up 1 refused N2 | 2 recv 1 1 0 done 1 | 3 take 1 65535 messages 0:0 1:4 2:4 3:4 1:1 | 4 import 1 4 \
-4e43463100000008130100000002201424157071 done 1 | 5 show 1 route 3 via 1
-history 4 import 1 4 4e43463100000008130100000002201424157071 done 1 | 5 show 1 route 3 via 1\nhistory\nhistory\n",
+4e4346320000000008130100000002201424157071 done 1 | 5 show 1 route 3 via 1
+history 4 import 1 4 4e4346320000000008130100000002201424157071 done 1 | 5 show 1 route 3 via 1\nhistory\nhistory\n",
         1,
     )?;
     Ok(())

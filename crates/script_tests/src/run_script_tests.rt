@@ -200,6 +200,22 @@ fn filters_are_loaded_as_code(rt: HostRuntime) -> Result<(), Fail> {
     Ok(())
 }
 
+/// A filter with `case`, and one with a set of ints in its code file, decide what is heard.
+#[test]
+fn filters_ask_for_ranges(rt: HostRuntime) -> Result<(), Fail> {
+    expect_answers(
+        &rt,
+        rt.alloc(),
+        b"network 16 0\nload C filter c { case rip_metric { 0: reject; 1, 3..5: accept; else: rip_metric = 7; accept; } }
+code I 4e43463200000100020000000200000002000000040000000600051352006100017071\nimport 1 C\nup 1\nrecv 1 2 1\nshow 2\nrecv 1 3 2
+show 3\nrecv 1 4 0\nshow 4\nimport 1 I\nshow 3\nload D filter d { case rip_metric { 1..3: ; 3: ; } }\n",
+        b"ok\nverified 11 2\nverified 4 1\ndone 0\nopened 1\ndone 1\nroute 2 via 1\ndone 1\nroute 8 via 1\ndone 0
+route 16 none\ndone 2\nroute 3 via 1\nrefused Y7 37\n",
+        1,
+    )?;
+    Ok(())
+}
+
 #[test]
 fn refused_filters(rt: HostRuntime) -> Result<(), Fail> {
     expect_answers(

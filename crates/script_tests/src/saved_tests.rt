@@ -26,12 +26,13 @@ fn saves_the_whole_history(rt: HostRuntime) {
     let alloc = rt.alloc();
     let mut reader = LINES;
     let mut writer = Vec::new(alloc);
-    let (result, saved) = run_saved_script(
+    let (result, saved, _) = run_saved_script(
         alloc,
         &mut reader,
         &mut writer,
         Vec::new(alloc),
         Nobody,
+        &[],
         false,
     );
     assert_eq!(&rt; result, Ok(4));
@@ -44,12 +45,13 @@ fn saves_nothing_before_the_first_event(rt: HostRuntime) {
     let alloc = rt.alloc();
     let mut reader: &[u8] = b"network 4 0\nroutes\nhistory 0\n";
     let mut writer = Vec::new(alloc);
-    let (result, saved) = run_saved_script(
+    let (result, saved, _) = run_saved_script(
         alloc,
         &mut reader,
         &mut writer,
         Vec::new(alloc),
         Nobody,
+        &[],
         false,
     );
     assert_eq!(&rt; result, Ok(0));
@@ -64,12 +66,13 @@ fn answers_no_line_whose_entry_is_not_saved(rt: HostRuntime) {
         let mut reader = LINES;
         let mut writer = Vec::new(alloc);
         let saver = FailingWriter::new(alloc, room);
-        let (result, saved) = run_saved_script(
+        let (result, saved, _) = run_saved_script(
             alloc,
             &mut reader,
             &mut writer,
             saver,
             Nobody,
+            &[],
             false,
         );
         assert_eq!(&rt; result, Err(ScriptFault::Write));
@@ -84,12 +87,13 @@ fn saves_what_was_answered_before_a_read_fault(rt: HostRuntime) {
     let alloc = rt.alloc();
     let mut reader = FailingReader::new(b"network 4 0 4\nup 1\nrec", ErrorKind::BrokenPipe);
     let mut writer = Vec::new(alloc);
-    let (result, saved) = run_saved_script(
+    let (result, saved, _) = run_saved_script(
         alloc,
         &mut reader,
         &mut writer,
         Vec::new(alloc),
         Nobody,
+        &[],
         false,
     );
     assert_eq!(&rt; result, Err(ScriptFault::Read));
@@ -103,12 +107,13 @@ fn stops_at_the_first_refused_line(rt: HostRuntime) {
     let alloc = rt.alloc();
     let mut reader = LINES;
     let mut writer = Vec::new(alloc);
-    let (result, saved) = run_saved_script(
+    let (result, saved, _) = run_saved_script(
         alloc,
         &mut reader,
         &mut writer,
         Vec::new(alloc),
         Nobody,
+        &[],
         true,
     );
     assert_eq!(&rt; result, Ok(1));

@@ -148,7 +148,9 @@ fn a_held_reader_goes_on_in_an_old_session(rt: HostRuntime) -> Result<(), Fail> 
 
 /// A filter for domains of 4 nodes that ends at once.
 fn filter(alloc: Global, instr: Instr) -> Result<Arc<Verified>, Fail> {
-    let code = Code::new(0, Vec::new(alloc), [instr].to_vec(alloc)?).ok_or("a code")?;
+    let code = Code::new(0, Vec::new(alloc), Vec::new(alloc), [instr].to_vec(alloc)?).ok_or(
+        "a code",
+    )?;
     match verify(alloc, code, 4) {
         Ok(verified) => Ok(Arc::new(alloc, verified)?),
         Err((_, fault)) => Err(Fail::from(fault)),

@@ -7,6 +7,7 @@ use Rattle.route_history.specs.declared.fault.CallFault.TheVariants as fault
 use Rattle.route_history.specs.Beginning.{Begins}
 use Rattle.route_history.specs.Calls.{entry}
 use Rattle.route_history.specs.History.{IsLegal}
+use Rattle.route_history.specs.JournalView.{JournalView}
 use Rattle.slot_lock.specs.declared.answer.Answer.{Answer}
 use Rattle.slot_lock.specs.declared.fault.TryFault.{TryFault}
 use Rattle.slot_lock.specs.declared.fault.TryFault.TheVariants as try_fault
@@ -54,6 +55,16 @@ TryRefused try_fault.Memory r old event new = new ≡ old
 abbrev pub Refused : CallFault → RouterView → PassView → PassView → Type 0
 Refused fault.Full r old new = IsAtLimit r old new
 Refused fault.Memory r old new = (n : ℕ) × (new ≡ missing n old)
+
+-- the observer saw a journal of the router, whose history goes on from what the pass had seen, and which the pass has seen now; none of
+-- the caller's calls was entered
+pub record Observed {Seer : Type 0} (sees : Seer → JournalView → Seer → Type 0) (r : RouterView) (old : PassView) (before after : Seer)
+    (new : PassView) : Type 0 where
+  pub begins : Begins old.part.seen new.part.seen
+  pub legal : IsLegal r.opening new.part.seen
+  pub room : length new.part.seen ≤ r.limit
+  pub saw : sees before (record { opening = r.opening; limit = r.limit; entries = new.part.seen }) after
+  pub mine : new.part.mine ≡ old.part.mine
 
 -- two passes in one: the shares and the tries that missed add up, the second's positions follow the first's, and the
 -- longer history is kept

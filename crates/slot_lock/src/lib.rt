@@ -11,5 +11,6 @@ mod waiting;
 pub use answer::Answer;
 pub use fault::{LockFault, TryFault};
 pub use laws::{counts_add_up, each_position_is_there, none_is_twice};
+pub use lock_rule::Observer;
 pub use pass::Pass;
 pub use router::{ALL_SHARES, Router};

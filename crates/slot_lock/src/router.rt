@@ -1,7 +1,7 @@
 //! A router that many threads call.
 
 ghost use Rattle.std.specs.Prelude.{◌≡◌, ◌≢◌, ◌-◌, ◌<◌, ◌≤◌, [], IfErr, IfOk, length};
-ghost use Rattle.slot_lock.specs.Calls.{Answered, Closed, Joined, Met, Refused, TryRefused};
+ghost use Rattle.slot_lock.specs.Calls.{Answered, Closed, Joined, Met, Observed, Refused, TryRefused};
 ghost use Rattle.slot_lock.specs.declared.fault.LockFault.TheVariants as lock_fault;
 ghost use Rattle.slot_lock.specs.Held.{IsFirst, IsOwn, IsPassOf};
 
@@ -9,7 +9,7 @@ use crate::answer::Answer;
 use crate::fault::{LockFault, TryFault};
 use crate::pass::Pass;
 use crate::waiting::take_in_the_end;
-use lock_rule::Desk;
+use lock_rule::{Desk, Observer};
 use netchange_core::Event;
 use route_history::{CallFault, Journal};
 use std::alloc::Global;
@@ -86,6 +86,19 @@ impl Router {
             Ok((at, reply)) => Ok(Answer { at, reply }),
             Err(fault) => Err(fault),
         }
+    }
+
+    /// Shows the journal to an observer, and adds no entry: tries until it has the lock. The pass has then seen all that the observer
+    /// saw. Other callers wait until the observer is done.
+    pub fn observe<R: Wait, O: Observer>(&self, rt: &R, pass: &mut Pass, observer: &mut O)
+        requires { IsPassOf self.now pass.old }
+        ensures pass { IsPassOf self.now pass.new × (pass.new.part.shares ≡ pass.old.part.shares) }
+        ensures own { IsOwn pass.new.part }
+        ensures missed { pass.old.part.missed ≤ pass.new.part.missed }
+        ensures observed { Observed O.sees self.now pass.old observer.old observer.new pass.new }
+    {
+        take_in_the_end::<R>(rt, &self.desk, &mut pass.place);
+        self.desk.show(&mut pass.place, observer);
     }
 
     /// Divides a pass: the new one has this many of its shares, has seen the same, and has made no calls.

@@ -49,8 +49,8 @@ const WORKED_ROWS: [Row; 13] = [
         0,
     ),
     ("filter q { accept; } ;", "P2", 21),
-    ("filter q { if 1 ~ [1..3] then accept; }", "P10", 19),
-    ("filter q { case rip_metric { } }", "P10", 11),
+    ("filter q { if 1 ~ [1..3] then accept; }", "tree", 0),
+    ("filter q { case rip_metric { } }", "tree", 0),
     ("filter q { rip_metric = 0x; }", "P1", 24),
     (
         "filter q { if net ~ [1.0.0.0/8{15,17}] then accept; }",
@@ -106,6 +106,74 @@ const AROUND_THE_BODY: [Row; 16] = [
 #[test]
 fn around_the_body(rt: HostRuntime) -> Result<(), ParseFault> {
     compare(&rt, rt.alloc(), &AROUND_THE_BODY)
+}
+
+const CASES: [Row; 32] = [
+    ("filter q { case 1 { } }", "tree", 0),
+    (
+        "filter q { case 1 { 1: 2..3, 5: ; else: accept; } }",
+        "tree",
+        0,
+    ),
+    (
+        "filter q { case 1 { 1: if true then ; else: ; } }",
+        "tree",
+        0,
+    ),
+    (
+        "filter q { case 1 { 1: if true then ; else ; else: ; } }",
+        "tree",
+        0,
+    ),
+    ("filter q { case 1 { else: ; 1: ; } }", "tree", 0),
+    (
+        "filter q { case 1 { 1: case 2 { else: ; } else: ; } }",
+        "tree",
+        0,
+    ),
+    ("filter q { case 1 { else: ; else: ; } }", "P2", 28),
+    ("filter q { case 1 { else: ; else ; } }", "P2", 28),
+    ("filter q { case 1 { else ; } }", "P2", 25),
+    ("filter q { case 1 { ; } }", "P2", 20),
+    ("filter q { case 1 { 1 ; } }", "P2", 22),
+    ("filter q { case 1 { 1, : ; } }", "P2", 23),
+    ("filter q { case 1 { 1, 3..2: ; } }", "P4", 23),
+    ("filter q { case 1 1: ; } }", "P2", 18),
+    ("filter q { case { } }", "P2", 16),
+    ("filter q { else: ; }", "P2", 11),
+    ("filter q { if true then ; else: ; }", "P2", 26),
+    (
+        "filter q { case 1 { 1: { if true then ; else: ; } } }",
+        "P2",
+        40,
+    ),
+    ("filter q { if 1 ~ [1, 2..3, 3..3] then ; }", "tree", 0),
+    ("filter q { if 1 !~ [0..4294967295] then ; }", "tree", 0),
+    ("filter q { if 1 ~ [1, 2.0.0.0/8] then ; }", "P2", 22),
+    ("filter q { if net ~ [2.0.0.0/8, 6..4] then ; }", "P2", 32),
+    ("filter q { if 1 ~ [6..4] then ; }", "P4", 19),
+    ("filter q { if 1 ~ [1..] then ; }", "P2", 22),
+    ("filter q { if 1 ~ [..3] then ; }", "P2", 19),
+    ("filter q { if 1 ~ [1 2] then ; }", "P2", 21),
+    ("filter q { if 1 ~ [1..2..3] then ; }", "P2", 23),
+    ("filter q { if 1 ~ [1,] then ; }", "P2", 21),
+    (
+        "filter q { case 1{1:case 1{1:case 1{1:case 1{1:case 1{1:case 1{1:case 1{1:case 1{1:case 1{1:case 1{1:case 1{1:case 1{1:case 1{1:case 1{1:case 1{1:case 1{1:case 1{1:case 1{1:case 1{1:case 1{1:case 1{1:case 1{1:case 1{1:case 1{1:case 1{1:case 1{1:case 1{1:case 1{1:case 1{1:case 1{1:case 1{1:case 1{1:;}}}}}}}}}}}}}}}}}}}}}}}}}}}}}}}} }",
+        "tree",
+        0,
+    ),
+    (
+        "filter q { case 1{1:case 1{1:case 1{1:case 1{1:case 1{1:case 1{1:case 1{1:case 1{1:case 1{1:case 1{1:case 1{1:case 1{1:case 1{1:case 1{1:case 1{1:case 1{1:case 1{1:case 1{1:case 1{1:case 1{1:case 1{1:case 1{1:case 1{1:case 1{1:case 1{1:case 1{1:case 1{1:case 1{1:case 1{1:case 1{1:case 1{1:case 1{1:case 1{}}}}}}}}}}}}}}}}}}}}}}}}}}}}}}}}} }",
+        "P5",
+        299,
+    ),
+    ("filter q { case 1 { 3..2", "P4", 20),
+    ("filter q { case 1 { 3..", "P9", 23),
+];
+
+#[test]
+fn cases_and_sets_of_ints(rt: HostRuntime) -> Result<(), ParseFault> {
+    compare(&rt, rt.alloc(), &CASES)
 }
 
 const COMMANDS: [Row; 24] = [
@@ -416,15 +484,15 @@ const LEFT_OUT: [Row; 20] = [
     ("filter q { a = 1 from 2; }", "P10", 17),
     ("filter q { if net ~ [proto] then accept; }", "P10", 21),
     ("filter q { int from; }", "P10", 15),
-    ("filter q { if 1 ~ [ /* */ 0x5 ] then accept; }", "P10", 26),
-    ("filter q { if 1 !~ [5", "P10", 20),
+    ("filter q { if 1 ~ [ /* */ 0x5 ] then accept; }", "tree", 0),
+    ("filter q { if 1 !~ [5", "P9", 21),
     ("filter q { if \"a\" then accept; }", "P10", 14),
     ("filter q { printer = setting; accept; }", "tree", 0),
     ("filter q { accept 'b'; }", "P10", 18),
     (
         "filter q { if net ~ [0x5, 1.0.0.0/8] then accept; }",
-        "P10",
-        21,
+        "P2",
+        26,
     ),
     ("filter q { define a = 1; }", "P10", 11),
 ];
@@ -624,8 +692,8 @@ fn the_texts_of_faults(rt: HostRuntime) -> Result<(), Fail> {
             "P10 15 unexpected text at byte 15: only `accept` and `reject` take one",
         ),
         (
-            ParseFault::NumberSet(19),
-            "P10 19 sets of numbers, as at byte 19, are not supported",
+            ParseFault::RangeOrder(19),
+            "P4 19 the range at byte 19 is not low..high with low <= high",
         ),
         (ParseFault::Memory, "P11 0 out of memory"),
     ];
@@ -655,6 +723,15 @@ fn what_is_expected(rt: HostRuntime) -> Result<(), Fail> {
         (Expected::Part, "`ip`, `len` or `mask`"),
         (Expected::Number, "a number"),
         (Expected::Attribute, "`net` or `rip_metric`"),
+        (Expected::Member, "a number or a prefix"),
+        (Expected::LeftBrace, "`{`"),
+        (
+            Expected::CommandOrPart,
+            "a command, a number, `else` or `}`",
+        ),
+        (Expected::CommandOrRange, "a command, a number or `}`"),
+        (Expected::CommaOrColon, "`,` or `:`"),
+        (Expected::Colon, "`:`"),
         (Expected::Prefix, "a prefix"),
         (Expected::Comma, "`,`"),
         (Expected::RightBrace, "`}`"),

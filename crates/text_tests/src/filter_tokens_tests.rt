@@ -118,10 +118,7 @@ fn addresses(rt: HostRuntime) -> Result<(), Fail> {
                 "1.2.3.",
                 "Number(1) 0 1, Symbol(Dot) 1 2, Number(2) 2 3, Symbol(Dot) 3 4, Number(3) 4 5, Symbol(Dot) 5 6, ",
             ),
-            (
-                "1..2",
-                "Number(1) 0 1, Symbol(Dot) 1 2, Symbol(Dot) 2 3, Number(2) 3 4, ",
-            ),
+            ("1..2", "Number(1) 0 1, Symbol(DotDot) 1 3, Number(2) 3 4, "),
             (
                 "1.2.3.4.5",
                 "Address(Ip(16909060)) 0 7, Symbol(Dot) 7 8, Number(5) 8 9, ",
@@ -216,6 +213,16 @@ fn signs_of_two_bytes(rt: HostRuntime) -> Result<(), Fail> {
                 "Symbol(Equal) 0 1, Symbol(Less) 1 2, Symbol(Greater) 2 3, ",
             ),
             ("&&||", "Symbol(And) 0 2, Symbol(Or) 2 4, "),
+            ("...", "Symbol(DotDot) 0 2, Symbol(Dot) 2 3, "),
+            (". ..", "Symbol(Dot) 0 1, Symbol(DotDot) 2 4, "),
+            (
+                "1.2.3..4",
+                "Number(1) 0 1, Symbol(Dot) 1 2, Number(2) 2 3, Symbol(Dot) 3 4, Number(3) 4 5, Symbol(DotDot) 5 7, Number(4) 7 8, ",
+            ),
+            (
+                "1.2.3.4..5",
+                "Address(Ip(16909060)) 0 7, Symbol(DotDot) 7 9, Number(5) 9 10, ",
+            ),
         ],
     )?;
     Ok(())
@@ -234,6 +241,10 @@ fn signs_of_one_byte(rt: HostRuntime) -> Result<(), Fail> {
             (
                 "[];,",
                 "Symbol(LeftBracket) 0 1, Symbol(RightBracket) 1 2, Symbol(Semicolon) 2 3, Symbol(Comma) 3 4, ",
+            ),
+            (
+                "1:2::",
+                "Number(1) 0 1, Symbol(Colon) 1 2, Number(2) 2 3, Symbol(Colon) 3 4, Symbol(Colon) 4 5, ",
             ),
             (
                 ".~+-",
@@ -270,7 +281,11 @@ fn words(rt: HostRuntime) -> Result<(), Fail> {
                 "defined net rip_metric",
                 "Symbol(Defined) 0 7, Symbol(Net) 8 11, Symbol(RipMetric) 12 22, ",
             ),
-            ("case", "P10 0"),
+            (
+                "case casee else:",
+                "Symbol(Case) 0 4, Name 5 10, Symbol(Else) 11 15, Symbol(Colon) 15 16, ",
+            ),
+            ("clist", "P10 0"),
             (
                 "filter q { print \"x\"; }",
                 "Symbol(Filter) 0 6, Name 7 8, Symbol(LeftBrace) 9 10, P10 11",

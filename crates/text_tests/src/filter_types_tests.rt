@@ -3,7 +3,7 @@
 use crate::texts::expect_text;
 use filter_parser::{Kind, parse};
 use filter_types::{ExpectedKind, TypeFault, check};
-use std::alloc::Global;
+use std::alloc::{AllocError, Global};
 use std::process::Abort;
 use std::test::Fail;
 
@@ -48,6 +48,10 @@ fn the_texts_of_faults(rt: HostRuntime) -> Result<(), Fail> {
             "more than 16 variables: one too many at byte 127",
         ),
         (TypeFault::Memory, "out of memory"),
+        (
+            TypeFault::SharedLabel(43),
+            "the label at byte 43 shares a number with an earlier label of its `case`",
+        ),
     ];
     for (fault, text) in rows {
         expect_text(&rt, rt.alloc(), &fault, text)?;
@@ -129,6 +133,61 @@ const REFUSED: &[(&str, &str, usize)] = &[
     ("filter q { net = zzz + true; b = 1; }", "Y4", 11),
     ("filter q { if true then net = net; }", "Y4", 24),
     ("filter q { int a; a = 1; { net = net; } }", "Y4", 27),
+    // Sets of ints and of prefixes.
+    ("filter c { if net ~ [1..3] then ; }", "Y3", 14),
+    ("filter c { if 1 ~ [1.0.0.0/8] then ; }", "Y3", 14),
+    ("filter c { if net.ip !~ [1] then ; }", "Y3", 14),
+    ("filter c { if true ~ [0] then ; }", "Y3", 14),
+    // Arguments of a `case`.
+    ("filter c { case net { 1: } }", "Y3", 16),
+    ("filter c { case (true) { 1: 1: } }", "Y3", 16),
+    ("filter c { case zzz { } }", "Y1", 16),
+    ("filter c { case net.ip { } }", "Y3", 16),
+];
+
+/// Filters with two labels of a `case` that share a number, each with the place of the later label, or of a fault before it.
+const SHARED: &[(&str, &str, usize)] = &[
+    (
+        "filter c { case rip_metric { 1..3: accept; 3: reject; } }",
+        "Y7",
+        43,
+    ),
+    (
+        "filter c { case rip_metric { 3: accept; 1..3: reject; } }",
+        "Y7",
+        40,
+    ),
+    (
+        "filter c { case rip_metric { 3: accept; 3..5: reject; } }",
+        "Y7",
+        40,
+    ),
+    ("filter c { case rip_metric { 2..4: 9, 1..2: } }", "Y7", 35),
+    (
+        "filter c { case rip_metric { 1, 5..9: else: 4: 7, 2: } }",
+        "Y7",
+        47,
+    ),
+    ("filter c { case rip_metric { 1: 3: 5: 0..9: } }", "Y7", 38),
+    ("filter c { case rip_metric { 1: 2: 3: 2: 1: } }", "Y7", 38),
+    ("filter c { case rip_metric { 1: 2: 3: 1: 2: } }", "Y7", 38),
+    (
+        "filter c { case rip_metric { 0..4294967295: else: 4294967295: } }",
+        "Y7",
+        50,
+    ),
+    ("filter c { case rip_metric { 1: b = 1; 1: } }", "Y1", 32),
+    ("filter c { case rip_metric { 1: 1: b = 1; } }", "Y7", 32),
+    (
+        "filter c { case rip_metric { 1: case rip_metric { 1: 1: } 1: } }",
+        "Y7",
+        53,
+    ),
+    (
+        "filter c { case rip_metric { 1: case rip_metric { 1: 2: } 1: } }",
+        "Y7",
+        58,
+    ),
 ];
 
 /// Sixteen declarations, of 112 bytes.
@@ -179,6 +238,17 @@ const TAKEN: &[(&str, &[(&str, u8)])] = &[
     ),
 ];
 
+/// Filters in which no two labels of one `case` share a number.
+const APART: &[&str] = &[
+    "filter c { case rip_metric { } }",
+    "filter c { case rip_metric { else: accept; } }",
+    "filter c { case rip_metric { 0: reject; 1, 3..5: accept; else: rip_metric = 7; accept; } }",
+    "filter c { case rip_metric { 1..3, 2..4, 3, 3: 5: 0: } }",
+    "filter c { case rip_metric { 9..11: 0..8: 12..4294967295: } }",
+    "filter c { case rip_metric { 1: case rip_metric { 1: 2: } 2: case net.len { 1: } } }",
+    "filter c { if rip_metric ~ [1..3, 2] && net.len !~ [24] then accept; }",
+];
+
 fn fault_of(alloc: Global, text: &[u8]) -> Result<(&'static str, usize), Fail> {
     match check(alloc, parse(alloc, text)?) {
         Ok(_) => Ok(("none", 0)),
@@ -206,6 +276,46 @@ fn the_first_fault_is_answered(rt: HostRuntime) -> Result<(), Fail> {
         expect_fault(&rt, rt.alloc(), text, code, *at)?;
     }
     Ok(())
+}
+
+#[test]
+fn labels_that_share_a_number_are_refused(rt: HostRuntime) -> Result<(), Fail> {
+    for (text, code, at) in SHARED {
+        expect_fault(&rt, rt.alloc(), text, code, *at)?;
+    }
+    Ok(())
+}
+
+#[test]
+fn labels_that_share_no_number_are_taken(rt: HostRuntime) -> Result<(), Fail> {
+    for text in APART {
+        expect_fault(&rt, rt.alloc(), text, "none", 0)?;
+    }
+    Ok(())
+}
+
+/// A filter with two labels of many ranges, of which the last one of the second is this.
+fn long_labels(alloc: Global, last: &str) -> Result<String, AllocError> {
+    let mut text = String::with_capacity(alloc, 65536)?;
+    text.push_str("filter c { case rip_metric { 0")?;
+    for _ in 0..16000 {
+        text.push_str(",2")?;
+    }
+    text.push_str(": 1")?;
+    for _ in 0..16000 {
+        text.push_str(",3")?;
+    }
+    text.push_str(last)?;
+    text.push_str(": } }")?;
+    Ok(text)
+}
+
+#[test]
+fn labels_of_many_ranges_are_judged(rt: HostRuntime) -> Result<(), Fail> {
+    let apart = long_labels(rt.alloc(), ",4")?;
+    expect_fault(&rt, rt.alloc(), apart.as_str(), "none", 0)?;
+    let shared = long_labels(rt.alloc(), ",0")?;
+    expect_fault(&rt, rt.alloc(), shared.as_str(), "Y7", 32032)
 }
 
 #[test]

@@ -1,8 +1,7 @@
 //! The words of BIRD's language that are left out.
 
 /// Each of them.
-pub const LEFT_OUT_WORDS: [&str; 22] = [
-    "case",
+pub const LEFT_OUT_WORDS: [&str; 21] = [
     "function",
     "define",
     "print",

@@ -107,7 +107,7 @@ const EXPECTED: [Row; 29] = [
     ),
     (
         "filter q { if net ~ [] then accept; }",
-        "P2 21 expected a prefix at byte 21",
+        "P2 21 expected a number or a prefix at byte 21",
     ),
     (
         "filter q { if net ~ [1.0.0.0/8{9}] then ; }",
@@ -200,8 +200,8 @@ const REFUSED: [Row; 17] = [
         "P10 15 unexpected text at byte 15: only `accept` and `reject` take one",
     ),
     (
-        "filter q { if 1 ~ [1..3] then accept; }",
-        "P10 19 sets of numbers, as at byte 19, are not supported",
+        "filter q { if 1 ~ [3..1] then accept; }",
+        "P4 19 the range at byte 19 is not low..high with low <= high",
     ),
 ];
 

@@ -83,12 +83,12 @@ fn texts_are_explained(rt: HostRuntime) -> Result<(), Fail> {
         ),
         (
             "filter d { if 8 / rip_metric = 2 then accept; }",
-            "code 4e43463100000008010000000813230100000002306100017071\nrefused V3 2\n",
+            "code 4e4346320000000008010000000813230100000002306100017071\nrefused V3 2\n",
             "f:1:17: the divisor may be 0: it is 0..16 here, whatever the conditions before it; see `ncroute explain V3` (V3)\nfilter d { if 8 / rip_metric = 2 then accept; }\n                ^\n",
         ),
         (
             "filter d { if\t/* \u{e9} */ 8 / rip_metric = 2 then accept; }",
-            "code 4e43463100000008010000000813230100000002306100017071\nrefused V3 2\n",
+            "code 4e4346320000000008010000000813230100000002306100017071\nrefused V3 2\n",
             "f:1:25: the divisor may be 0: it is 0..16 here, whatever the conditions before it; see `ncroute explain V3` (V3)\nfilter d { if\t/* \u{e9} */ 8 / rip_metric = 2 then accept; }\n             \t          ^\n",
         ),
     ];
@@ -101,7 +101,7 @@ fn texts_are_explained(rt: HostRuntime) -> Result<(), Fail> {
 /// Nothing is told of a filter that is verified.
 #[test]
 fn a_verified_filter_is_not_explained(rt: HostRuntime) -> Result<(), Fail> {
-    let answer = "code 4e434631000000027071\nverified 1 0\n";
+    let answer = "code 4e43463200000000027071\nverified 1 0\n";
     expect_told(&rt, rt.alloc(), b"filter a { accept; }", false, answer, "")
 }
 
@@ -111,7 +111,7 @@ fn code_files_are_explained(rt: HostRuntime) -> Result<(), Fail> {
     let rows: [(&str, &str, &str); 3] = [
         (
             "4e43463100000008010000000813230100000002306100017071",
-            "code 4e43463100000008010000000813230100000002306100017071\nrefused V3 2\n",
+            "code 4e4346320000000008010000000813230100000002306100017071\nrefused V3 2\n",
             "f: instruction 2: the divisor may be 0: it is 0..16 here, whatever the conditions before it; see `ncroute explain V3` (V3)\n",
         ),
         (

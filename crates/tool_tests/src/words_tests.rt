@@ -41,11 +41,15 @@ fn expect_rows(rt: &impl Abort, alloc: Global, rows: &[(&str, &str)]) -> Result<
 /// Characters, numbers and addresses that are no tokens, and what is never closed.
 #[test]
 fn tokens_are_told(rt: HostRuntime) -> Result<(), Fail> {
-    let rows: [(&str, &str); 13] = [
+    let rows: [(&str, &str); 14] = [
         ("filter q { $ }", "f:1:12: unexpected character `$` (P1)\n"),
         (
             "filter q { a := 1; }",
-            "f:1:14: unexpected character `:`: assign by `=` (P1)\n",
+            "f:1:12: `a` is no command: expected `=`, found `:`: assign by `=` (P2)\n",
+        ),
+        (
+            "filter q int a; { a := 1; }",
+            "f:1:19: expected `=`, found `:`: assign by `=` (P2)\n",
         ),
         (
             "filter q { if true & true then ; }",
@@ -99,9 +103,8 @@ fn words_left_out_are_named(rt: HostRuntime) -> Result<(), Fail> {
     let route = "a route has only `net` and `rip_metric`";
     let call = "write the commands where the function is called";
     let silent = "leave it out, or write the text after `accept` or `reject`";
-    let rows: [(&str, &str); 22] = [
+    let rows: [(&str, &str); 21] = [
         ("define", "write the value or the set where it is used"),
-        ("case", "write `if .. then .. else ..`"),
         ("function", call),
         ("return", call),
         ("print", silent),
@@ -132,13 +135,13 @@ fn words_left_out_are_named(rt: HostRuntime) -> Result<(), Fail> {
     Ok(())
 }
 
-/// IPv6, sets of numbers, and other texts of which more is known than what was expected.
+/// IPv6, sets, and other texts of which more is known than what was expected.
 #[test]
 fn sets_and_texts_are_told(rt: HostRuntime) -> Result<(), Fail> {
-    let rows: [(&str, &str); 14] = [
+    let rows: [(&str, &str); 18] = [
         (
             "filter q { if net ~ [ 2001:db8::/32+ ] then ; }",
-            "f:1:23: IPv6 is not supported: write prefixes of IPv4, as 10.0.0.0/8 (P10)\n",
+            "f:1:27: IPv6 is not supported: write prefixes of IPv4, as 10.0.0.0/8 (P2)\n",
         ),
         (
             "filter q { if net ~ [ fe80::/10 ] then ; }",
@@ -146,27 +149,43 @@ fn sets_and_texts_are_told(rt: HostRuntime) -> Result<(), Fail> {
         ),
         (
             "filter q { if net ~ [ ::/0 ] then ; }",
-            "f:1:23: IPv6 is not supported: write prefixes of IPv4, as 10.0.0.0/8 (P1)\n",
+            "f:1:23: IPv6 is not supported: write prefixes of IPv4, as 10.0.0.0/8 (P2)\n",
         ),
         (
             "filter q { if net ~ 2001:db8::/32 then ; }",
-            "f:1:25: IPv6 is not supported: write prefixes of IPv4, as 10.0.0.0/8 (P1)\n",
+            "f:1:25: IPv6 is not supported: write prefixes of IPv4, as 10.0.0.0/8 (P2)\n",
         ),
         (
-            "filter q { if net.len ~ [ 8..24 ] then ; }",
-            "f:1:27: sets of numbers are not supported: write comparisons, as `net.len >= 8 && net.len <= 24` (P10)\n",
+            "filter q { if net.len ~ [ 24..8 ] then ; }",
+            "f:1:27: the lower number of a range comes first (P4)\n",
+        ),
+        (
+            "filter q { if net.len ~ [ 8, 10.0.0.0/8 ] then ; }",
+            "f:1:30: expected a number, found `10.0.0.0/8`: a set has prefixes or numbers, and not both (P2)\n",
+        ),
+        (
+            "filter q { if net ~ [ 10.0.0.0/8, 8 ] then ; }",
+            "f:1:35: expected a prefix, found `8`: a set has prefixes or numbers, and not both (P2)\n",
+        ),
+        (
+            "filter q { case net.len { accept; } }",
+            "f:1:27: expected a command, a number, `else` or `}`, found `accept` (P2)\n",
+        ),
+        (
+            "filter q { case net.len { 8..9: ; 1, 9: ; } }",
+            "f:1:35: an earlier label of this `case` has a number of this label (Y7)\n",
         ),
         (
             "filter q { if net ~ [ 10.0.0/8+ ] then ; }",
-            "f:1:23: a prefix has four numbers before its `/`, as 10.0.0.0/8 (P10)\n",
+            "f:1:25: a prefix has four numbers before its `/`, as 10.0.0.0/8 (P2)\n",
         ),
         (
             "filter q { if net ~ [ ] then ; }",
-            "f:1:23: expected a prefix, found `]`: a set has one prefix at least (P2)\n",
+            "f:1:23: expected a number or a prefix, found `]`: a set has one member at least (P2)\n",
         ),
         (
             "filter q { if net ~ [ 10.0.0.1 ] then ; }",
-            "f:1:23: expected a prefix, found `10.0.0.1`: write an address as a prefix of length 32 (P2)\n",
+            "f:1:23: expected a number or a prefix, found `10.0.0.1`: write an address as a prefix of length 32 (P2)\n",
         ),
         (
             "filter q { if net ~ [ 10.0.0.0/8{24,8} ] then ; }",

@@ -102,7 +102,9 @@ fn expect_run(
     };
     let net = Prefix::new(Ip(0x0a00_0000), 8).ok_or("a prefix of 8 bits")?;
     let route = Route::new(net, metric, size).ok_or("a route within the limits")?;
-    let code = Code::new(0, Vec::new(alloc), instrs.to_vec(alloc)?).ok_or("a code")?;
+    let code = Code::new(0, Vec::new(alloc), Vec::new(alloc), instrs.to_vec(alloc)?).ok_or(
+        "a code",
+    )?;
     let (ran, outcome) = both(alloc, code, &route)?;
     let is_so = ran == Ran { verdict, steps } && outcome == outcome_of(verdict);
     expect(is_so, "the verdict and the steps")

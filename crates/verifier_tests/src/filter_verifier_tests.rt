@@ -1,7 +1,7 @@
 //! The verifier on short codes: budgets and depths, and each refusal with its place.
 
 use expectations::{expect, expect_fault, expect_str};
-use filter_code::{Code, Instr};
+use filter_code::{Code, Instr, IntRange, IntSet};
 use filter_verifier::{Verified, VerifyFault, verify};
 use prefix_patterns::{Ip, Pattern, PatternSet, Prefix};
 use std::alloc::Global;
@@ -19,10 +19,16 @@ fn sets(alloc: Global) -> Result<Vec<PatternSet>, Fail> {
     Ok(vec![in alloc; PatternSet::build(alloc, &[pattern])?]?)
 }
 
-/// The code of these instructions, with so many local variables and that set.
+/// Two sets: of 2 to 5, and of none.
+fn int_sets(alloc: Global) -> Result<Vec<IntSet>, Fail> {
+    let range = IntRange::new(2, 5).ok_or("a range")?;
+    Ok(vec![in alloc; IntSet::build(alloc, &[range])?, IntSet::build(alloc, &[])?]?)
+}
+
+/// The code of these instructions, with so many local variables, that set of patterns and those sets of ints.
 fn code(alloc: Global, locals: u8, instrs: &[Instr]) -> Result<Code, Fail> {
     let instrs = instrs.to_vec(alloc)?;
-    Ok(Code::new(locals, sets(alloc)?, instrs).ok_or("a code within the limits")?)
+    Ok(Code::new(locals, sets(alloc)?, int_sets(alloc)?, instrs).ok_or("a code within the limits")?)
 }
 
 /// What is said of verified code.
@@ -296,11 +302,22 @@ fn sets_and_prefixes(rt: HostRuntime) -> Result<(), Fail> {
         Instr::JumpIfNot(0),
         Instr::Reject,
     ];
+    let of_a_prefix = [Instr::Net, Instr::InSet(1), Instr::Accept];
+    let of_an_int = [
+        Instr::Metric,
+        Instr::InSet(1),
+        Instr::JumpIfNot(0),
+        Instr::Accept,
+    ];
     compare(
         rt.alloc(),
         &[
             (&each_kind, 0, 8, "verified 17 2"),
             (&[Instr::Member(1), Instr::Accept], 0, 8, "refused V7 0"),
+            (&[Instr::InSet(2), Instr::Accept], 0, 8, "refused V7 0"),
+            (&[Instr::InSet(1), Instr::Accept], 0, 8, "refused V1 0"),
+            (&of_a_prefix, 0, 8, "refused V2 1"),
+            (&of_an_int, 0, 8, "verified 4 1"),
         ],
     )
 }

@@ -1,7 +1,7 @@
 //! The machine for verified code beside the checked machine, on random verified code and random routes.
 
 use expectations::expect;
-use filter_code::{Code, Instr, Outcome, Route, run_counted};
+use filter_code::{Code, Instr, IntRange, IntSet, Outcome, Route, run_counted};
 use filter_machine::{Verdict, run};
 use filter_verifier::{Verified, verify};
 use prefix_patterns::{Ip, Pattern, PatternSet, Prefix};
@@ -13,7 +13,7 @@ use worked_rows::Numbers;
 const SIZE: u32 = 250;
 
 /// The instructions that take operands and give a value, and SETMETRIC.
-const OPERATIONS: [Instr; 18] = [
+const OPERATIONS: [Instr; 20] = [
     Instr::Add,
     Instr::Sub,
     Instr::Mul,
@@ -31,6 +31,8 @@ const OPERATIONS: [Instr; 18] = [
     Instr::Within,
     Instr::Member(0),
     Instr::Member(1),
+    Instr::InSet(0),
+    Instr::InSet(1),
     Instr::SetMetric,
 ];
 
@@ -58,7 +60,7 @@ fn piece(numbers: &mut Numbers) -> Option<[Option<Instr>; 3]> {
     Some(match numbers.below(20) {
         0..=5 => [Some(literal(numbers)?), None, None],
         6..=14 => [
-            OPERATIONS.get(numbers.below(18) as usize).copied(),
+            OPERATIONS.get(numbers.below(20) as usize).copied(),
             None,
             None,
         ],
@@ -102,9 +104,24 @@ fn sets(alloc: Global) -> Result<Vec<PatternSet>, Fail> {
     Ok(sets)
 }
 
+/// The sets of ints of each code: of the ints of four ranges, and of none.
+fn int_sets(alloc: Global) -> Result<Vec<IntSet>, Fail> {
+    let mut ranges = Vec::new(alloc);
+    for (low, high) in [(0, 0), (3, 9), (7, 120), (200, 4_294_967_295)] {
+        ranges.push(IntRange::new(low, high).ok_or("a range")?)?;
+    }
+    let mut sets = Vec::new(alloc);
+    for ranges in [ranges.as_slice(), &[]] {
+        sets.push(IntSet::build(alloc, ranges)?)?;
+    }
+    Ok(sets)
+}
+
 /// The code of these instructions, if it verifies.
 fn verified(alloc: Global, instrs: &[Instr]) -> Result<Option<Verified>, Fail> {
-    let code = Code::new(4, sets(alloc)?, instrs.to_vec(alloc)?).ok_or("a code within the limits")?;
+    let code = Code::new(4, sets(alloc)?, int_sets(alloc)?, instrs.to_vec(alloc)?).ok_or(
+        "a code within the limits",
+    )?;
     Ok(verify(alloc, code, SIZE).ok())
 }
 
@@ -180,8 +197,8 @@ fn run_both(alloc: Global, numbers: &mut Numbers, all: &mut Vec<Instr>) -> Resul
 }
 
 /// All opcodes.
-const OPCODES: [u8; 28] =
-    *b"\x01\x02\x03\x04\x10\x11\x12\x13\x14\x15\x20\x21\x22\x23\x24\x30\x31\x32\x33\x40\x41\x42\x50\x51\x60\x61\x70\x71";
+const OPCODES: [u8; 29] =
+    *b"\x01\x02\x03\x04\x10\x11\x12\x13\x14\x15\x20\x21\x22\x23\x24\x30\x31\x32\x33\x40\x41\x42\x50\x51\x52\x60\x61\x70\x71";
 
 #[test]
 fn random_code_runs_the_same(rt: HostRuntime) -> Result<(), Fail> {

@@ -9,8 +9,8 @@ mod streams;
 
 pub use code::{answer, code_of_file, listing, route_in};
 pub use filters::{
-    DIVIDED, ELSE, FILTERS, HALF, IN_SET, LOW, NEVER_DIVIDED, NOT_TOO_FAR, TRUE_OR, UP_TWO,
-    WRAPPED, WorkedFilter, WorkedRoute,
+    BY_CASE, DIVIDED, ELSE, FILTERS, HALF, IN_INT_SET, IN_SET, LOW, NEVER_DIVIDED, NOT_TOO_FAR,
+    TRUE_OR, UP_TWO, WRAPPED, WorkedFilter, WorkedRoute,
 };
 pub use numbers::Numbers;
 pub use streams::{FailingReader, FailingWriter, Terminal};

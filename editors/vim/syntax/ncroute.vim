@@ -3,11 +3,11 @@ if exists('b:current_syntax')
   finish
 endif
 
-syn keyword ncrouteStatement filter if then else accept reject
+syn keyword ncrouteStatement filter if then else case accept reject
 syn keyword ncrouteTruth true false
 syn keyword ncrouteRoute net rip_metric defined
 " Words of BIRD that are refused by name (P10).
-syn keyword ncrouteLeftOut case function define print printn return include string pair quad ec lc bgppath bgpmask clist eclist lclist set from proto
+syn keyword ncrouteLeftOut function define print printn return include string pair quad ec lc bgppath bgpmask clist eclist lclist set from proto
 syn keyword ncrouteLeftOut preference source
 
 " A match and no keyword, since `ip` is a part of a prefix behind a dot, and a keyword would come before that match.

@@ -2,6 +2,7 @@ ghost use Rattle.std.specs.Prelude.{◌≡◌};
 ghost use Rattle.filter_parser.specs.Places.{command_place};
 
 use crate::tree::expr::Expr;
+use crate::tree::set::SetRange;
 
 /// What an assignment sets.
 #[derive(Debug, Drop)]
@@ -14,6 +15,15 @@ pub enum Target {
     Net,
 }
 
+/// What chooses a part of a `case`.
+#[derive(Debug, Drop)]
+pub enum Label {
+    /// Ranges, at least one: the part is for the ints that one of them holds.
+    Ranges(Vec<SetRange>),
+    /// `else`, whose place this is: the part is for all other ints.
+    Else(usize),
+}
+
 /// A command. The number in front is the place of its first byte; that of an assignment is the place of its name.
 #[derive(Debug, Drop)]
 pub enum Command {
@@ -23,6 +33,8 @@ pub enum Command {
     Block(usize, Vec<Command>),
     /// `if e then c`, perhaps with `else d`.
     If(usize, Expr, Box<Command>, Option<Box<Command>>),
+    /// `case e { .. }`: its parts, each a label and the commands after it, in order.
+    Case(usize, Expr, Vec<(Label, Vec<Command>)>),
     /// `name = e;`
     Assign(usize, Target, Expr),
     /// `accept;`, and whether a text comes before the `;`. The text itself is dropped.
@@ -40,6 +52,7 @@ impl Command {
             Command::Empty(at) => *at,
             Command::Block(at, _) => *at,
             Command::If(at, _, _, _) => *at,
+            Command::Case(at, _, _) => *at,
             Command::Assign(at, _, _) => *at,
             Command::Accept(at, _) => *at,
             Command::Reject(at, _) => *at,

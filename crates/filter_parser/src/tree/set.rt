@@ -1,16 +1,57 @@
 ghost use Rattle.std.specs.Prelude.{◌≡◌};
-ghost use Rattle.filter_parser.specs.Places.{pattern_place};
-ghost use Rattle.filter_parser.specs.Syntax.{pattern_of, view_set_pattern};
+ghost use Rattle.filter_parser.specs.Places.{pattern_place, range_place};
+ghost use Rattle.filter_parser.specs.Syntax.{pattern_of, range_of, view_range, view_set_pattern};
 
+use int_sets::IntRange;
 use prefix_patterns::{ADDRESS_LENGTH, Pattern, Prefix};
 
-/// A set of prefixes in brackets, as `[10.0.0.0/8+, 20.0.0.0/8{9,24}]`.
+/// A set in brackets: of prefixes, as `[10.0.0.0/8+, 20.0.0.0/8{9,24}]`, or of ints, as `[2, 4..6]`.
 #[derive(Debug, Drop)]
 pub struct Set {
     /// The place of its `[`.
     pub at: usize,
-    /// Its patterns, at least one.
-    pub patterns: Vec<SetPattern>,
+    /// Its members.
+    pub members: Members,
+}
+
+/// The members of a set, at least one. All are of one kind.
+#[derive(Debug, Drop)]
+pub enum Members {
+    /// Those of a set of prefixes.
+    Patterns(Vec<SetPattern>),
+    /// Those of a set of ints.
+    Ranges(Vec<SetRange>),
+}
+
+/// Ints as they are written in a set or in the label of a `case`. The place is that of the first int.
+#[derive(Clone, Copy, Debug, PartialEq, Eq)]
+pub enum SetRange {
+    /// `n`: this int alone.
+    One(usize, u32),
+    /// `low..high`: the ints from `low` to `high`.
+    FromTo(usize, IntRange),
+}
+
+impl SetRange {
+    /// The place of the first int.
+    pub fn at(&self) -> usize
+        ensures { result ≡ range_place self.now }
+    {
+        match *self {
+            SetRange::One(at, _) => at,
+            SetRange::FromTo(at, _) => at,
+        }
+    }
+
+    /// The range that is meant.
+    pub fn range(&self) -> IntRange
+        ensures { result ≡ range_of (view_range self.now) }
+    {
+        match *self {
+            SetRange::One(_, number) => IntRange::new(number, number).unwrap(),
+            SetRange::FromTo(_, range) => range,
+        }
+    }
 }
 
 /// A pattern as it is written in a set. The place is that of its prefix.

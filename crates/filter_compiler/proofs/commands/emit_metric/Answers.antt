@@ -1,10 +1,10 @@
 use Rattle.filter_compiler.proofs.Notes.{then_notes}
-use Rattle.filter_compiler.proofs.Puts.{then_code}
+use Rattle.filter_compiler.proofs.Puts.{puts_then}
 use Rattle.filter_compiler.proofs.commands.emit_metric.Goals as goal
 
 pub returns-clause-code : goal.returns-clause-code
 returns-clause-code c =
-    then_code (then_code c.put.ensures.code c.put-2.ensures.code) c.put-3.ensures.code
+    puts_then (puts_then c.put.ensures.code c.put-2.ensures.code) c.put-3.ensures.code
 
 pub returns-clause-places : goal.returns-clause-places
 returns-clause-places c = then_notes (then_notes c.put.ensures.places c.put-2.ensures.places) c.put-3.ensures.places

@@ -1,6 +1,9 @@
-use Rattle.std.proofs.Common.{ap, ◌∙◌}
+use Rattle.std.proofs.Common.{Err, ap, ◌∙◌, sym, subst}
 use Rattle.filter_compiler.specs.InstructionPlaces.{places_of}
-use Rattle.filter_source.proofs.Refused.{no_filter, of_error}
+use Rattle.filter_parser.specs.SyntaxText.{view_filter}
+use Rattle.filter_compiler.specs.Limits.{HasTooMany, IsTooLong}
+use Rattle.filter_compiler.specs.Translation.{code_of}
+use Rattle.filter_source.proofs.Refused.{no_filter, of_error, over_limit}
 use Rattle.filter_source.proofs.source.compile_text_mapped.Goals as goal
 
 pub returns-in_err-filter-clause-refused : goal.returns-in_err-filter-clause-refused
@@ -15,3 +18,14 @@ returns-clause-places c = (
   c.in_ok-filter.ensures.placed,
   c.in_ok-compile_mapped.ensures.places ∙ ap places_of c.in_ok-typed.ensures.same,
 )
+
+pub returns-in_err-compile_mapped-clause-refused : goal.returns-in_err-compile_mapped-clause-refused
+returns-in_err-compile_mapped-clause-refused c =
+    let why = c.in_err-compile_mapped.field-0.0 in
+    let same = c.in_ok-typed.ensures.same in
+    let refused = c.in_err-compile_mapped.ensures in
+    of_error c.from_residual-in_err-compile_mapped.result _ _ c.from_residual-in_err-compile_mapped.ensures.1
+    (over_limit c.args.text.now (view_filter c.in_ok-filter.filter) why c.in_ok-filter.ensures.found c.in_ok-typed.ensures.typed
+    (λ e. subst (λ f. IsTooLong (code_of (view_filter f))) same (refused.too_long.0 (ap (λ w. Err w) e)))
+    (λ e. subst (λ f. ¬ IsTooLong (code_of (view_filter f)) × HasTooMany (code_of (view_filter f))) same
+    (refused.too_many.0 (ap (λ w. Err w) e))))

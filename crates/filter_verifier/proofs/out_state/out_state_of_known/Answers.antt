@@ -11,6 +11,6 @@ returns c =
     let wide : c.in_ok-locals.locals.len ≡ length c.transfer.new.locals = omega (arith, c.deref_mut.ensures.len, c.transfer.auto.locals) in
     passes_known c.args.code.now c.args.size c.args.at c.in_ok-locals.locals.len c.args.locals.now c.deref_mut.result.now c.transfer.new.locals
     (drop (length c.transfer.new.locals) c.in_ok-locals.locals.items) c.args.stack c.transfer.new.stack
-    c.sets.result.now c.index-instrs-at.result c.in_ok-of_facts.field-0
-    (c.deref_mut.ensures.value ∙ c.in_ok-locals.ensures.items) c.sets.ensures.value wide (rw c.instrs-instrs.ensures.value at is) inside
+    c.index-instrs-at.result c.in_ok-of_facts.field-0
+    (c.deref_mut.ensures.value ∙ c.in_ok-locals.ensures.items) wide (rw c.instrs-instrs.ensures.value at is) inside
     (c.in_default.ensures (length c.args.code.now.instrs) c.args.at) c.in_ok-of_facts.ensures

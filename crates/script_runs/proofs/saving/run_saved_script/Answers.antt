@@ -1,9 +1,9 @@
 -- Each end follows from how the lines were answered.
 use Rattle.std.proofs.Common.{false}
 use Rattle.std.proofs.lemmas.Result.{IfErr-weaker, IfOk-weaker}
-use Rattle.operator_cmds.specs.State.{script_of}
 use Rattle.operator_cmds.proofs.Viewed.{finishes, if_known, stops}
 use Rattle.script_runs.specs.Saved.{AnswersSaved, SavedView}
+use Rattle.script_runs.specs.State.{prepared_of}
 use Rattle.script_runs.proofs.Ended.{breaks, ends, told_err, told_ok}
 use Rattle.script_runs.proofs.saving.run_saved_script.Goals as goal
 
@@ -18,12 +18,12 @@ returns-clause-finished g c =
     let keeps = g.V.Write.contents after.saver in
     let ended = IfOk-weaker c.answer_lines-ended.result _ _
     (λ n h. if_known known
-    (λ input f. ends (record { script = script_of c.new.result; holds = kept; stops = c.args.stops }) (record { script = script_of after.script; holds = keeps; stops = after.stops })
+    (λ input f. ends c.args.filters.now (record { script = prepared_of c.new.result; holds = kept; stops = c.args.stops }) (record { script = prepared_of after.prepared; holds = keeps; stops = after.stops })
     input left held holds n c.new.ensures
-    (finishes (λ s. record { script = script_of s.script; holds = g.V.Write.contents s.saver; stops = s.stops }) AnswersSaved
-    (record { script = c.new.result; saver = c.args.saver; is_broken = false; watcher = c.args.watcher; stops = c.args.stops }) after input left held holds n f)) h)
+    (finishes (λ s. record { script = prepared_of s.prepared; holds = g.V.Write.contents s.saver; stops = s.stops }) AnswersSaved
+    (record { prepared = c.new.result; saver = c.args.saver; is_broken = false; watcher = c.args.watcher; stops = c.args.stops }) after input left held holds n f)) h)
     c.answer_lines-ended.ensures.ok in
-    rw c.finish.ensures.saver (told_ok _ c.answer_lines-ended.result c.finish.result.0 c.finish.ensures.told ended)
+    rw (c.finish.ensures.saver, c.finish.ensures.unfit) (told_ok _ c.answer_lines-ended.result c.finish.result.0 c.finish.ensures.told ended)
 
 pub returns-clause-broken_off : goal.returns-clause-broken_off
 returns-clause-broken_off g c =
@@ -36,10 +36,10 @@ returns-clause-broken_off g c =
     let keeps = g.V.Write.contents after.saver in
     let ended = IfErr-weaker c.answer_lines-ended.result _ _
     (λ fault h. if_known known
-    (λ input f. breaks fault (record { script = script_of c.new.result; holds = kept; stops = c.args.stops }) (record { script = script_of after.script; holds = keeps; stops = after.stops })
+    (λ input f. breaks fault c.args.filters.now (record { script = prepared_of c.new.result; holds = kept; stops = c.args.stops }) (record { script = prepared_of after.prepared; holds = keeps; stops = after.stops })
     input left held holds c.new.ensures
-    (stops (λ s. record { script = script_of s.script; holds = g.V.Write.contents s.saver; stops = s.stops }) AnswersSaved fault
-    (record { script = c.new.result; saver = c.args.saver; is_broken = false; watcher = c.args.watcher; stops = c.args.stops }) after input left held holds f)) h)
+    (stops (λ s. record { script = prepared_of s.prepared; holds = g.V.Write.contents s.saver; stops = s.stops }) AnswersSaved fault
+    (record { prepared = c.new.result; saver = c.args.saver; is_broken = false; watcher = c.args.watcher; stops = c.args.stops }) after input left held holds f)) h)
     c.answer_lines-ended.ensures.err in
     rw c.finish.ensures.saver
-    (told_err c.args.stops known left held holds kept keeps c.answer_lines-ended.result c.finish.result.0 c.finish.ensures.told ended)
+    (told_err c.args.stops c.args.filters.now known left held holds kept keeps c.answer_lines-ended.result c.finish.result.0 c.finish.ensures.told ended)

@@ -2,7 +2,7 @@
 use Rattle.std.proofs.Common.{Bool, ap, ◌∙◌}
 use Rattle.line_protocol.specs.Answers.{Answer}
 use Rattle.line_protocol.specs.declared.answers.Reply.{Reply}
-use Rattle.operator_cmds.specs.State.{script_of}
+use Rattle.script_runs.specs.State.{prepared_of}
 use Rattle.script_runs.specs.Stopping.{reply_where}
 use Rattle.script_runs.proofs.Added.{answered}
 use Rattle.script_runs.proofs.saving.SavingService.answer.Goals as goal
@@ -15,7 +15,7 @@ returns-clause-ok g c =
     let after = c.end.new.self in (
       text,
       grown,
-      answered (script_of before.script) (script_of c.answer.new.self) (script_of saved.script) (script_of after.script)
+      answered (prepared_of before.prepared) (prepared_of c.answer.new.self) (prepared_of saved.prepared) (prepared_of after.prepared)
           (g.V.Write.contents before.saver) (g.V.Write.contents after.saver) before.stops after.stops c.count_entries-saved.result
           c.args.number c.args.line.now (record { text = text; reply = c.in_ok-reply.reply }) (record { text = text; reply = c.end.result })
           c.count_entries-saved.ensures told c.save.ensures.script c.end.ensures.script

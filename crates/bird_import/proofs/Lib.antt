@@ -1,0 +1,3 @@
+mod Reached
+mod Spelled
+mod Splits

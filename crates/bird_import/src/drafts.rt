@@ -1,0 +1,396 @@
+//! The filters of a configuration, word by word.
+ghost use Rattle.std.specs.Prelude.{◌≡◌, [], ◌∷◌, List, IfOk, IfSome, OnOk, length};
+ghost use Rattle.bird_import.specs.Drafts.{BeginsAs, ComesOf, HasDraft, HaveDrafts, IfDrafted, IsDraft, kinds_of, words_of};
+ghost use Rattle.bird_import.specs.Steps.{Becomes};
+ghost use Rattle.bird_import.specs.declared.items.ItemKind.TheVariants as item_kind;
+ghost use Rattle.bird_import.specs.declared.word.Word.{Word as TheWord};
+ghost use Rattle.bird_import.specs.declared.word.WordKind.TheVariants as word_kind;
+ghost use Rattle.filter_tokens.specs.declared.symbol.Symbol.TheVariants as symbol;
+
+use crate::calls::{first_call, function_of, place_call, words_of_item};
+use crate::cases::plan_case;
+use crate::config::Config;
+use crate::declarations::{first_without_value, plan_declaration};
+use crate::defines::{plan_definition, push_after};
+use crate::items::{Item, ItemKind};
+use crate::operators::{plan_grouping, plan_semicolon, plan_type_test};
+use crate::printing::plan_printing;
+use crate::reason::{Reason, Why};
+use crate::set_variables::plan_sets;
+use crate::step::{Plan, apply, push_words};
+use crate::unknown::first_unknown;
+use crate::word::{Word, word_at};
+use filter_tokens::Symbol;
+use std::alloc::{AllocError, Global};
+
+/// The most words of a filter: each has a byte.
+const WORD_LIMIT: usize = 65_536;
+
+/// The most steps that are made for a filter.
+const STEP_LIMIT: usize = 65_536;
+
+/// How deep functions call functions at most.
+const CALL_DEPTH: u8 = 16;
+
+/// What becomes of a filter.
+#[derive(Drop)]
+pub enum Outcome<'a> {
+    /// Its words in this language.
+    Drafted(Vec<Word<'a>>),
+    /// It is left out.
+    LeftOut(Reason<'a>),
+}
+
+/// What a configuration's filter becomes.
+#[derive(Drop)]
+pub struct Draft<'a> {
+    /// Its name.
+    pub name: &'a [u8],
+    /// The place of its first word.
+    pub at: usize,
+    /// The place of its last word.
+    pub end: usize,
+    /// What becomes of it.
+    pub outcome: Outcome<'a>,
+}
+
+/// The first of the plans that has something to do.
+fn plan<'a>(
+    alloc: Global,
+    config: &Config<'a>,
+    words: &[Word<'a>],
+) -> Result<Plan<'a>, AllocError> {
+    let definition = plan_definition(alloc, config, words)?;
+    if !matches!(definition, Plan::Done) {
+        return Ok(definition);
+    }
+    plan_commands(alloc, words)
+}
+
+/// The same of the plans that look at the filter alone.
+fn plan_commands<'a>(alloc: Global, words: &[Word<'a>]) -> Result<Plan<'a>, AllocError> {
+    let semicolon = plan_semicolon(alloc, words)?;
+    if !matches!(semicolon, Plan::Done) {
+        return Ok(semicolon);
+    }
+    let printing = plan_printing(alloc, words)?;
+    if !matches!(printing, Plan::Done) {
+        return Ok(printing);
+    }
+    let sets = plan_sets(alloc, words)?;
+    if !matches!(sets, Plan::Done) {
+        return Ok(sets);
+    }
+    plan_forms(alloc, words)
+}
+
+/// The same of the plans that write one form as another.
+fn plan_forms<'a>(alloc: Global, words: &[Word<'a>]) -> Result<Plan<'a>, AllocError> {
+    let declaration = plan_declaration(alloc, words)?;
+    if !matches!(declaration, Plan::Done) {
+        return Ok(declaration);
+    }
+    let case = plan_case(alloc, words)?;
+    if !matches!(case, Plan::Done) {
+        return Ok(case);
+    }
+    let test = plan_type_test(alloc, words)?;
+    if !matches!(test, Plan::Done) {
+        return Ok(test);
+    }
+    plan_grouping(alloc, words)
+}
+
+/// The plan for the call at an index.
+#[cycle(rewriting)]
+fn plan_call<'a>(
+    alloc: Global,
+    config: &Config<'a>,
+    words: &[Word<'a>],
+    at: usize,
+    depth: u8,
+) -> Result<Plan<'a>, AllocError> {
+    let Some(word) = word_at(words, at) else {
+        return Ok(Plan::Done);
+    };
+    let item = match function_of(config, word) {
+        Ok(item) => item,
+        Err(reason) => return Ok(Plan::Stuck(reason)),
+    };
+    if depth == 0 {
+        return Ok(Plan::Stuck(Reason {
+            at: word.at,
+            why: Why::TooLong,
+        }));
+    }
+    let function = words_of_item(alloc, config, item)?;
+    match rewrite(alloc, config, function, depth - 1)? {
+        Outcome::Drafted(function) => place_call(alloc, words, at, function.as_slice()),
+        Outcome::LeftOut(reason) => Ok(Plan::Stuck(reason)),
+    }
+}
+
+/// The next step for some words.
+#[cycle(rewriting)]
+fn next_plan<'a>(
+    alloc: Global,
+    config: &Config<'a>,
+    words: &[Word<'a>],
+    depth: u8,
+) -> Result<Plan<'a>, AllocError> {
+    match first_call(words) {
+        Some(at) => plan_call(alloc, config, words, at, depth),
+        None => plan(alloc, config, words),
+    }
+}
+
+/// Makes all steps for some words.
+#[cycle(rewriting)]
+fn rewrite<'a>(
+    alloc: Global,
+    config: &Config<'a>,
+    words: Vec<Word<'a>>,
+    depth: u8,
+) -> Result<Outcome<'a>, AllocError>
+    ensures { IfOk result (IfDrafted (Becomes config.now.words.now words.entry.items)) }
+{
+    let mut words = words;
+    for _ in 0..STEP_LIMIT {
+        if words.len() > WORD_LIMIT {
+            break;
+        }
+        match next_plan(alloc, config, words.as_slice(), depth)? {
+            Plan::Step(step) => match apply(alloc, config.words, words.as_slice(), &step)? {
+                Some(after) => words = after,
+                None => break,
+            },
+            Plan::Stuck(reason) => return Ok(Outcome::LeftOut(reason)),
+            Plan::Done => return Ok(Outcome::Drafted(words)),
+        }
+    }
+    Ok(Outcome::LeftOut(Reason {
+        at: match words.first() {
+            Some(word) => word.at,
+            None => 0,
+        },
+        why: Why::TooLong,
+    }))
+}
+
+/// The words of a filter that has a name from its protocol.
+fn named_words<'a>(
+    alloc: Global,
+    all: &[Word<'a>],
+    name: &'a [u8],
+) -> Result<Vec<Word<'a>>, AllocError>
+    ensures { IfOk result (λ words. BeginsAs item_kind.Anonymous name.now all.now words.items) }
+{
+    let mut words = Vec::new(alloc);
+    // `import` or `export`, then `filter`, then the rest.
+    let Some((direction, others)) = all.split_first() else {
+        return Ok(words);
+    };
+    let Some((_, rest)) = others.split_first() else {
+        return Ok(words);
+    };
+    words.push(Word::made(Symbol::Filter, direction.at).after(direction.gap))?;
+    words.push(Word::named(name, direction.at))?;
+    push_words(&mut words, rest)?;
+    Ok(words)
+}
+
+/// The words with which a condition opens a body.
+fn condition_front<'a>(alloc: Global, at: usize) -> Result<Vec<Word<'a>>, AllocError>
+    ensures { IfOk result (λ words. kinds_of words.items ≡ word_kind.Symbol symbol.LeftBrace ∷ word_kind.Symbol symbol.If ∷ []) }
+{
+    let mut words = Vec::new(alloc);
+    words.push(Word::made(Symbol::LeftBrace, at))?;
+    words.push(Word::made(Symbol::If, at))?;
+    Ok(words)
+}
+
+/// The words behind a condition, up to the end of the body.
+fn condition_back<'a>(alloc: Global, at: usize) -> Result<Vec<Word<'a>>, AllocError>
+    ensures { IfOk result (λ words. kinds_of words.items ≡ word_kind.Symbol symbol.Then ∷ word_kind.Symbol symbol.Accept
+        ∷ word_kind.Symbol symbol.Semicolon ∷ word_kind.Symbol symbol.Reject ∷ word_kind.Symbol symbol.Semicolon
+        ∷ word_kind.Symbol symbol.RightBrace ∷ []) }
+{
+    let mut words = Vec::new(alloc);
+    words.push(Word::made(Symbol::Then, at))?;
+    words.push(Word::made(Symbol::Accept, at))?;
+    words.push(Word::made(Symbol::Semicolon, at).after(b""))?;
+    words.push(Word::made(Symbol::Reject, at))?;
+    words.push(Word::made(Symbol::Semicolon, at).after(b""))?;
+    words.push(Word::made(Symbol::RightBrace, at))?;
+    Ok(words)
+}
+
+/// The words of the filter that a condition stands for.
+fn condition_words<'a>(
+    alloc: Global,
+    all: &[Word<'a>],
+    name: &'a [u8],
+) -> Result<Vec<Word<'a>>, AllocError>
+    ensures { IfOk result (λ words. BeginsAs item_kind.Condition name.now all.now words.items) }
+{
+    let mut words = Vec::new(alloc);
+    let Some((direction, others)) = all.split_first() else {
+        return Ok(words);
+    };
+    let Some((_, condition)) = others.split_first() else {
+        return Ok(words);
+    };
+    let at = direction.at;
+    let (front, back) = (condition_front(alloc, at)?, condition_back(alloc, at)?);
+    words.push(Word::made(Symbol::Filter, at).after(direction.gap))?;
+    words.push(Word::named(name, at))?;
+    push_words(&mut words, front.as_slice())?;
+    push_words(&mut words, condition)?;
+    push_words(&mut words, back.as_slice())?;
+    Ok(words)
+}
+
+/// The words of an item.
+fn words_of_item_at<'a>(words: &'a [Word<'a>], item: &Item) -> Option<&'a [Word<'a>]>
+    ensures { IfSome result (λ all. all.now ≡ words_of words.now item.now) }
+{
+    let (_, rest) = words.split_at_checked(item.from)?;
+    let (all, _) = rest.split_at_checked(item.to.saturating_sub(item.from))?;
+    Some(all)
+}
+
+/// The words of a filter as the configuration has it, with its name.
+fn first_words<'a>(
+    alloc: Global,
+    all: &[Word<'a>],
+    item: &'a Item,
+) -> Result<Vec<Word<'a>>, AllocError>
+    ensures { IfOk result (λ words. BeginsAs item.now.kind item.now.name.items all.now words.items) }
+{
+    match item.kind {
+        ItemKind::Anonymous => named_words(alloc, all, item.name.as_slice()),
+        ItemKind::Condition => condition_words(alloc, all, item.name.as_slice()),
+        ItemKind::Filter | ItemKind::Function => copy_of(alloc, all),
+    }
+}
+
+/// A copy of words.
+fn copy_of<'a>(alloc: Global, all: &[Word<'a>]) -> Result<Vec<Word<'a>>, AllocError>
+    ensures { IfOk result (λ words. words.items ≡ all.now) }
+{
+    let mut words = Vec::new(alloc);
+    push_words(&mut words, all)?;
+    Ok(words)
+}
+
+/// Why an item cannot be a filter at all, if it cannot.
+fn reason_of<'a>(config: &Config<'a>, item: &Item, at: usize) -> Option<Reason<'a>> {
+    let why = if !item.is_closed {
+        Why::Unclosed
+    } else if item.is_ipv6 {
+        Why::Ipv6
+    } else if is_named_before(config, item) {
+        Why::SameName
+    } else {
+        return None;
+    };
+    Some(Reason { at, why })
+}
+
+/// Whether a filter before an item has its name.
+fn is_named_before(config: &Config<'_>, item: &Item) -> bool {
+    config.items.iter().any(|other| other.from < item.from
+        && other.kind != ItemKind::Function
+        && other.name.as_slice() == item.name.as_slice())
+}
+
+/// The words of a filter, unless one of them cannot be kept.
+fn kept<'a>(words: Vec<Word<'a>>) -> Outcome<'a>
+    ensures { IfDrafted (λ after. after ≡ words.entry.items) result }
+{
+    match first_unknown(words.as_slice()) {
+        Some(reason) => Outcome::LeftOut(reason),
+        None => Outcome::Drafted(words),
+    }
+}
+
+/// What becomes of the filter of an item.
+#[tactic(auto, using(crate::proofs::Reached::comes))]
+fn outcome_of<'a>(
+    alloc: Global,
+    config: &Config<'a>,
+    item: &'a Item,
+    at: usize,
+) -> Result<Outcome<'a>, AllocError>
+    ensures { IfOk result (IfDrafted (ComesOf config.now.words.now item.now)) }
+{
+    if let Some(reason) = reason_of(config, item, at) {
+        return Ok(Outcome::LeftOut(reason));
+    }
+    let Some(all) = words_of_item_at(config.words, item) else {
+        return Ok(Outcome::LeftOut(Reason {
+            at,
+            why: Why::Unclosed,
+        }));
+    };
+    let words = first_words(alloc, all, item)?;
+    if let Some(reason) = first_without_value(words.as_slice()) {
+        return Ok(Outcome::LeftOut(reason));
+    }
+    match rewrite(alloc, config, words, CALL_DEPTH)? {
+        Outcome::Drafted(words) => Ok(kept(words)),
+        Outcome::LeftOut(reason) => Ok(Outcome::LeftOut(reason)),
+    }
+}
+
+/// The place of the word at an index.
+fn place_of(config: &Config<'_>, index: usize) -> usize {
+    match config.words.get(index) {
+        Some(word) => word.at,
+        None => 0,
+    }
+}
+
+/// The draft of an item.
+fn draft_of<'a>(alloc: Global, config: &Config<'a>, item: &'a Item) -> Result<Draft<'a>, AllocError>
+    ensures { IfOk result (IsDraft config.now.words.now item.now) }
+{
+    let at = place_of(config, item.from);
+    Ok(Draft {
+        name: item.name.as_slice(),
+        at,
+        end: place_of(config, item.to.saturating_sub(1)),
+        outcome: outcome_of(alloc, config, item, at)?,
+    })
+}
+
+/// Puts the draft of an item behind those of the items before it, unless it is a function.
+fn push_draft<'a>(
+    alloc: Global,
+    config: &Config<'a>,
+    item: &'a Item,
+    drafts: &mut Vec<Draft<'a>>,
+) -> Result<(), AllocError>
+    ensures { OnOk result (HasDraft config.now.words.now item.now.kind item.now drafts.old.items drafts.new.items) }
+{
+    match item.kind {
+        ItemKind::Function => Ok(()),
+        ItemKind::Filter | ItemKind::Anonymous | ItemKind::Condition => {
+            drafts.push(draft_of(alloc, config, item)?)?;
+            Ok(())
+        }
+    }
+}
+
+/// What becomes of each filter of a configuration, in the order of its items.
+#[tactic(auto, using(crate::proofs::Reached::no_draft))]
+pub fn make_drafts<'a>(alloc: Global, config: &Config<'a>) -> Result<Vec<Draft<'a>>, AllocError>
+    // Each item that is no function has one draft, in order. The words that are drafted come of the item's, by steps that fit their rules.
+    ensures { IfOk result (λ drafts. HaveDrafts config.now.words.now config.now.items.now (length config.now.items.now) drafts.items) }
+{
+    let mut found = Vec::new(alloc);
+    for item in config.items {
+        push_draft(alloc, config, item, &mut found)?;
+    }
+    Ok(found)
+}

@@ -1,0 +1,57 @@
+//! Files that a configuration includes.
+
+use crate::word::{Word, WordKind, is_at};
+use filter_tokens::Symbol;
+use std::alloc::{AllocError, Global};
+
+/// A file that a configuration includes: `include "NAME";`, the bytes `from..to` of its text.
+#[derive(Clone, Copy, Debug)]
+pub struct Include<'a> {
+    /// The place of the word `include`.
+    pub from: usize,
+    /// The place behind the `;`, or behind the name where there is none.
+    pub to: usize,
+    /// The name.
+    pub name: &'a [u8],
+}
+
+/// What stands between the quotes of a text.
+fn between_quotes(bytes: &[u8]) -> &[u8] {
+    match bytes {
+        [b'"', inner @ .., b'"'] => inner,
+        _ => bytes,
+    }
+}
+
+/// The file that is included by the word at an index.
+fn include_at<'a>(words: &[Word<'a>], at: usize) -> Option<Include<'a>> {
+    let word = words.get(at)?;
+    let text = words.get(at.checked_add(1)?)?;
+    if !(word.is_foreign(b"include") && text.kind == WordKind::Text) {
+        return None;
+    }
+    let end = at.checked_add(2)?;
+    let to = match words.get(end) {
+        Some(word) if is_at(words, end, Symbol::Semicolon) => word.at.checked_add(1)?,
+        _ => text.at.checked_add(text.bytes.len())?,
+    };
+    Some(Include {
+        from: word.at,
+        to,
+        name: between_quotes(text.bytes),
+    })
+}
+
+/// The files that a configuration includes, in order.
+pub fn find_includes<'a>(
+    alloc: Global,
+    words: &[Word<'a>],
+) -> Result<Vec<Include<'a>>, AllocError> {
+    let mut found = Vec::new(alloc);
+    for at in 0..words.len() {
+        if let Some(include) = include_at(words, at) {
+            found.push(include)?;
+        }
+    }
+    Ok(found)
+}

@@ -1,0 +1,332 @@
+//! What a configuration consists of: its filters, functions and definitions.
+
+use crate::word::{Word, WordKind, closing, find_outside, is_at, is_name_at, word_at};
+use filter_tokens::Symbol;
+use std::alloc::{AllocError, Global};
+
+/// What a part of a configuration is.
+#[derive(Clone, Copy, Debug, PartialEq, Eq)]
+pub enum ItemKind {
+    /// A filter with a name.
+    Filter,
+    /// A filter that a protocol imports or exports by.
+    Anonymous,
+    /// A condition that a protocol imports or exports by.
+    Condition,
+    /// A function.
+    Function,
+}
+
+/// A filter or a function of a configuration.
+#[derive(Debug, Drop)]
+pub struct Item {
+    /// What it is.
+    pub kind: ItemKind,
+    /// The index of its first word.
+    pub from: usize,
+    /// The index behind its last word.
+    pub to: usize,
+    /// Its name. That of a filter without a name is its protocol's with the direction.
+    pub name: Vec<u8>,
+    /// Its braces are closed.
+    pub is_closed: bool,
+    /// It is for routes of IPv6.
+    pub is_ipv6: bool,
+}
+
+/// A constant or a set that is defined.
+#[derive(Clone, Copy, Debug)]
+pub struct Definition {
+    /// The index of its name.
+    pub name: usize,
+    /// The index of the first word of its value.
+    pub from: usize,
+    /// The index of the `;` behind its value.
+    pub to: usize,
+}
+
+/// Whether a block opens at an index. The braces of a pattern stand behind a prefix.
+pub fn opens_block(words: &[Word<'_>], at: usize) -> bool {
+    is_at(words, at, Symbol::LeftBrace) && !(at > 0 && is_prefix_at(words, at - 1))
+}
+
+/// Whether the word at an index is a prefix.
+fn is_prefix_at(words: &[Word<'_>], at: usize) -> bool {
+    match words.get(at) {
+        Some(word) => matches!(word.kind, WordKind::Prefix),
+        None => false,
+    }
+}
+
+/// The index of the first block from an index on.
+pub fn first_block(words: &[Word<'_>], from: usize) -> Option<usize> {
+    for at in from..words.len() {
+        if opens_block(words, at) {
+            return Some(at);
+        }
+    }
+    None
+}
+
+/// The index behind the block of an item that begins at an index, if it is closed.
+fn block_end(words: &[Word<'_>], from: usize) -> Option<usize> {
+    let open = first_block(words, from)?;
+    let close = closing(words, open)?;
+    close.checked_add(1)
+}
+
+/// The definitions of a configuration.
+pub fn find_definitions(alloc: Global, words: &[Word<'_>]) -> Result<Vec<Definition>, AllocError> {
+    let mut found = Vec::new(alloc);
+    let mut depth = 0usize;
+    for at in 0..words.len() {
+        let word = words[at];
+        if word.is(Symbol::LeftBrace) {
+            depth = depth.saturating_add(1);
+        } else if word.is(Symbol::RightBrace) {
+            depth = depth.saturating_sub(1);
+        } else if depth == 0 && word.is_foreign(b"define") {
+            if let Some(definition) = definition_at(words, at) {
+                found.push(definition)?;
+            }
+        }
+    }
+    Ok(found)
+}
+
+/// The definition that begins at an index.
+fn definition_at(words: &[Word<'_>], at: usize) -> Option<Definition> {
+    let name = at.checked_add(1)?;
+    let equal = at.checked_add(2)?;
+    let from = at.checked_add(3)?;
+    if !(is_name_at(words, name) && is_at(words, equal, Symbol::Equal)) {
+        return None;
+    }
+    let to = find_outside(words, from, Symbol::Semicolon)?;
+    Some(Definition { name, from, to })
+}
+
+/// The heads of the blocks round a place of a configuration, from the outermost.
+#[derive(Drop)]
+struct Blocks {
+    /// The index of the first word of each.
+    heads: Vec<usize>,
+    /// The index at which the present statement begins.
+    start: usize,
+    /// How many protocols have no name.
+    nameless: usize,
+}
+
+impl Blocks {
+    /// Goes past the word at an index.
+    fn pass(&mut self, words: &[Word<'_>], at: usize) -> Result<(), AllocError> {
+        let next = at.saturating_add(1);
+        if is_at(words, at, Symbol::LeftBrace) {
+            self.nameless = self
+                .nameless
+                .saturating_add(usize::from(is_nameless(words, self.start)));
+            self.heads.push(self.start)?;
+            self.start = next;
+        } else if is_at(words, at, Symbol::RightBrace) {
+            let _ = self.heads.pop();
+            self.start = next;
+        } else if is_at(words, at, Symbol::Semicolon) {
+            self.start = next;
+        }
+        Ok(())
+    }
+
+    /// The innermost protocol or template round the place.
+    fn owner(&self, words: &[Word<'_>]) -> Option<usize> {
+        let mut owner = None;
+        for head in self.heads.iter() {
+            if is_protocol(words, *head) {
+                owner = Some(*head);
+            }
+        }
+        owner
+    }
+
+    /// Whether a block round the place is a channel of IPv6.
+    fn is_ipv6(&self, words: &[Word<'_>]) -> bool {
+        self.heads.iter().any(|head| is_ipv6_channel(words, *head))
+    }
+}
+
+/// Whether a protocol or a template begins at an index.
+fn is_protocol(words: &[Word<'_>], head: usize) -> bool {
+    match words.get(head) {
+        Some(word) => word.is_word(b"protocol") || word.is_word(b"template"),
+        None => false,
+    }
+}
+
+/// Whether a protocol without a name begins at an index.
+fn is_nameless(words: &[Word<'_>], head: usize) -> bool {
+    is_protocol(words, head) && !is_name_at(words, head.saturating_add(2))
+}
+
+/// Whether a channel of IPv6 begins at an index.
+fn is_ipv6_channel(words: &[Word<'_>], head: usize) -> bool {
+    match words.get(head) {
+        Some(word) => word.bytes.starts_with(b"ipv6"),
+        None => false,
+    }
+}
+
+/// Puts a number at the end of a name.
+fn push_number(name: &mut Vec<u8>, number: usize) -> Result<(), AllocError> {
+    if number >= 10 {
+        name.push(b'0' + (number / 10 % 10) as u8)?;
+    }
+    name.push(b'0' + (number % 10) as u8)?;
+    Ok(())
+}
+
+/// The name of what a protocol imports or exports by: the protocol's, and the direction.
+fn name_of_owner(
+    alloc: Global,
+    words: &[Word<'_>],
+    owner: Option<usize>,
+    direction: &[u8],
+    nameless: usize,
+) -> Result<Vec<u8>, AllocError> {
+    let mut name = Vec::new(alloc);
+    if let Some(owner) = owner {
+        let (kind, own) = (owner.saturating_add(1), owner.saturating_add(2));
+        if is_name_at(words, own) {
+            push_bytes_of(&mut name, words, own)?;
+        } else {
+            push_bytes_of(&mut name, words, kind)?;
+            push_number(&mut name, nameless)?;
+        }
+        name.push(b'_')?;
+    }
+    name.extend_from_slice(direction)?;
+    Ok(name)
+}
+
+/// Puts the bytes of the word at an index at the end of a name.
+fn push_bytes_of(name: &mut Vec<u8>, words: &[Word<'_>], at: usize) -> Result<(), AllocError> {
+    match words.get(at) {
+        Some(word) => name.extend_from_slice(word.bytes),
+        None => Ok(()),
+    }
+}
+
+/// The kind of the item with a name that begins at an index of the outermost level, if one does.
+fn named_kind(words: &[Word<'_>], at: usize) -> Option<ItemKind> {
+    let word = word_at(words, at)?;
+    if !is_name_at(words, at.saturating_add(1)) {
+        None
+    } else if word.is(Symbol::Filter) {
+        Some(ItemKind::Filter)
+    } else if word.is_foreign(b"function") {
+        Some(ItemKind::Function)
+    } else {
+        None
+    }
+}
+
+/// The kind of the item that stands behind the `import` or `export` at an index of a protocol, if one does.
+fn direction_kind(words: &[Word<'_>], at: usize) -> Option<ItemKind> {
+    let word = word_at(words, at)?;
+    if !(word.is_word(b"import") || word.is_word(b"export")) {
+        return None;
+    }
+    let next = word_at(words, at.saturating_add(1))?;
+    if next.is(Symbol::Filter) && !is_name_at(words, at.saturating_add(2)) {
+        Some(ItemKind::Anonymous)
+    } else if next.is_word(b"where") {
+        Some(ItemKind::Condition)
+    } else {
+        None
+    }
+}
+
+/// The index behind an item of a kind that begins at an index, if it is closed.
+fn end_of(words: &[Word<'_>], kind: ItemKind, from: usize) -> Option<usize> {
+    match kind {
+        ItemKind::Condition => find_outside(words, from, Symbol::Semicolon),
+        _ => block_end(words, from),
+    }
+}
+
+/// The bytes of the word at an index, if there is one.
+fn bytes_at<'a>(words: &[Word<'a>], at: usize) -> &'a [u8] {
+    match words.get(at) {
+        Some(word) => word.bytes,
+        None => b"",
+    }
+}
+
+/// The item that begins at an index, if one does.
+fn item_at(
+    alloc: Global,
+    words: &[Word<'_>],
+    blocks: &Blocks,
+    at: usize,
+) -> Result<Option<Item>, AllocError> {
+    let is_outermost = blocks.heads.is_empty();
+    let kind = if is_outermost && at == blocks.start {
+        named_kind(words, at)
+    } else if !is_outermost {
+        direction_kind(words, at)
+    } else {
+        None
+    };
+    let Some(kind) = kind else {
+        return Ok(None);
+    };
+    let name = match kind {
+        ItemKind::Filter | ItemKind::Function => { name_at(alloc, words, at.saturating_add(1))? }
+        ItemKind::Anonymous | ItemKind::Condition => name_of_owner(
+            alloc,
+            words,
+            blocks.owner(words),
+            bytes_at(words, at),
+            blocks.nameless,
+        )?,
+    };
+    let end = end_of(words, kind, at);
+    Ok(Some(Item {
+        kind,
+        from: at,
+        to: end.unwrap_or(words.len()),
+        name,
+        is_closed: end.is_some(),
+        is_ipv6: blocks.is_ipv6(words),
+    }))
+}
+
+/// The bytes of the word at an index.
+fn name_at(alloc: Global, words: &[Word<'_>], at: usize) -> Result<Vec<u8>, AllocError> {
+    let mut name = Vec::new(alloc);
+    push_bytes_of(&mut name, words, at)?;
+    Ok(name)
+}
+
+/// The filters and functions of a configuration, in order.
+pub fn find_items(alloc: Global, words: &[Word<'_>]) -> Result<Vec<Item>, AllocError> {
+    let mut found = Vec::new(alloc);
+    let mut blocks = Blocks {
+        heads: Vec::new(alloc),
+        start: 0,
+        nameless: 0,
+    };
+    let mut next = 0;
+    for at in 0..words.len() {
+        if at < next {
+            continue;
+        }
+        match item_at(alloc, words, &blocks, at)? {
+            Some(item) => {
+                next = item.to;
+                blocks.start = item.to;
+                found.push(item)?;
+            }
+            None => blocks.pass(words, at)?,
+        }
+    }
+    Ok(found)
+}

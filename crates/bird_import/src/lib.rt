@@ -1,0 +1,32 @@
+//! From a configuration of BIRD to filters: its text is taken apart, and each filter of it becomes a text that the parser takes, or is
+//! left out with the reason.
+#![tactic(auto)]
+
+mod calls;
+mod cases;
+mod config;
+mod cut;
+mod declarations;
+mod defines;
+mod drafts;
+mod includes;
+mod items;
+mod operators;
+mod printing;
+mod reason;
+mod rules;
+mod set_variables;
+mod step;
+mod text;
+mod unknown;
+mod unset;
+mod word;
+
+pub use config::Config;
+pub use cut::{Cut, cut_words};
+pub use drafts::{Draft, Outcome, make_drafts};
+pub use includes::{Include, find_includes};
+pub use items::{Definition, Item, ItemKind, find_definitions, find_items};
+pub use reason::{Reason, Why};
+pub use text::{Fate, FilterText, Origin, origin_of, write_filter};
+pub use word::{Word, WordKind};

@@ -1,0 +1,208 @@
+//! Parentheses and semicolons that this language wants, and tests of the kind of a prefix.
+
+use crate::step::{Plan, Rule, Step, push_words};
+use crate::word::{Word, WordKind, is_at, is_before, word_at};
+use filter_tokens::Symbol;
+use std::alloc::{AllocError, Global};
+
+/// A chain of operands of `&&` and `||` that is being read.
+#[derive(Clone, Copy)]
+struct Chain {
+    /// The index of its first word.
+    start: usize,
+    /// The first of its operators.
+    operator: Option<Symbol>,
+    /// It is the condition of an `if`, or in parentheses, and no assignment.
+    is_condition: bool,
+}
+
+impl Chain {
+    /// A chain that begins at an index.
+    fn at(start: usize, is_condition: bool) -> Chain {
+        Chain {
+            start,
+            operator: None,
+            is_condition,
+        }
+    }
+}
+
+/// The operator that a word is, if it is `&&` or `||`.
+fn operator_of(word: Word<'_>) -> Option<Symbol> {
+    if word.is(Symbol::And) {
+        Some(Symbol::And)
+    } else if word.is(Symbol::Or) {
+        Some(Symbol::Or)
+    } else {
+        None
+    }
+}
+
+/// Whether a chain ends at a word.
+fn ends_chain(word: Word<'_>) -> bool {
+    word.is(Symbol::Semicolon)
+        || word.is(Symbol::LeftBrace)
+        || word.is(Symbol::RightBrace)
+        || word.is(Symbol::Then)
+        || word.is(Symbol::Else)
+        || word.is(Symbol::Colon)
+}
+
+/// The chain that is being read behind the word at an index, which opens or closes no parentheses.
+fn chain_behind(chain: Chain, words: &[Word<'_>], at: usize) -> Chain {
+    let next = at.saturating_add(1);
+    let Some(word) = word_at(words, at) else {
+        return chain;
+    };
+    if word.is(Symbol::If) || word.is(Symbol::Case) || word.is_foreign(b"return") {
+        Chain::at(next, true)
+    } else if ends_chain(word) {
+        Chain::at(next, false)
+    } else if word.is(Symbol::Equal) && !chain.is_condition && at == chain.start.saturating_add(1) {
+        Chain::at(next, true)
+    } else if chain.operator.is_none() {
+        Chain {
+            start: chain.start,
+            operator: operator_of(word),
+            is_condition: chain.is_condition,
+        }
+    } else {
+        chain
+    }
+}
+
+/// The first operator of a chain that has another one before it: the chain's start, and the operator's index.
+fn first_mixed(alloc: Global, words: &[Word<'_>]) -> Result<Option<(usize, usize)>, AllocError> {
+    let mut outer: Vec<Chain> = Vec::new(alloc);
+    let mut chain = Chain::at(0, false);
+    for at in 0..words.len() {
+        let word = words[at];
+        if word.is(Symbol::LeftParen) {
+            outer.push(chain)?;
+            chain = Chain::at(at.saturating_add(1), true);
+        } else if word.is(Symbol::RightParen) {
+            chain = outer
+                .pop()
+                .unwrap_or(Chain::at(at.saturating_add(1), false));
+        } else {
+            let found = operator_of(word);
+            if found.is_some() && chain.operator.is_some() && found != chain.operator {
+                return Ok(Some((chain.start, at)));
+            }
+            chain = chain_behind(chain, words, at);
+        }
+    }
+    Ok(None)
+}
+
+/// Puts parentheses round the operands before the first operator of another kind: BIRD's operators of these two kinds have one
+/// level, and group to the left.
+pub fn plan_grouping<'a>(alloc: Global, words: &[Word<'a>]) -> Result<Plan<'a>, AllocError> {
+    let Some((start, at)) = first_mixed(alloc, words)? else {
+        return Ok(Plan::Done);
+    };
+    let (Some(first), Some(operands)) = (word_at(words, start), words.get(start..at)) else {
+        return Ok(Plan::Done);
+    };
+    let mut written = Vec::new(alloc);
+    written.push(Word::made(Symbol::LeftParen, first.at))?;
+    push_words(&mut written, operands)?;
+    written.push(Word::made(Symbol::RightParen, first.at).after(b""))?;
+    Ok(Plan::Step(Step {
+        rule: Rule::Grouped,
+        origin: 0,
+        from: start,
+        to: at,
+        words: written,
+    }))
+}
+
+/// Whether the word before an index ends a command, or begins where one may stand.
+fn is_separated(words: &[Word<'_>], at: usize) -> bool {
+    is_before(words, at, Symbol::Semicolon)
+        || is_before(words, at, Symbol::RightBrace)
+        || is_before(words, at, Symbol::LeftBrace)
+        || is_before(words, at, Symbol::Colon)
+        || is_before(words, at, Symbol::Then)
+        || is_before(words, at, Symbol::Else)
+}
+
+/// Whether the brace at an index closes the lengths of a pattern: numbers stand before it, behind a brace and a prefix.
+fn closes_pattern(words: &[Word<'_>], at: usize) -> bool {
+    match at.checked_sub(5) {
+        Some(prefix) => matches!(
+            word_at(words, prefix),
+            Some(Word {
+                kind: WordKind::Prefix,
+                ..
+            })
+        ) && is_at(words, prefix.saturating_add(1), Symbol::LeftBrace),
+        None => false,
+    }
+}
+
+/// Whether a `;` is missing before the word at an index.
+fn wants_semicolon(words: &[Word<'_>], at: usize) -> bool {
+    let ends = is_at(words, at, Symbol::Else)
+        || (is_at(words, at, Symbol::RightBrace) && !closes_pattern(words, at));
+    ends && at > 0 && !is_separated(words, at)
+}
+
+/// Puts the first `;` that is missing before `else` or a closing brace.
+pub fn plan_semicolon<'a>(alloc: Global, words: &[Word<'a>]) -> Result<Plan<'a>, AllocError> {
+    for at in 0..words.len() {
+        if wants_semicolon(words, at) {
+            let mut written = Vec::new(alloc);
+            written.push(Word::made(Symbol::Semicolon, words[at].at).after(b""))?;
+            return Ok(Plan::Step(Step {
+                rule: Rule::Separated,
+                origin: 0,
+                from: at,
+                to: at,
+                words: written,
+            }));
+        }
+    }
+    Ok(Plan::Done)
+}
+
+/// What a test of the kind of a prefix at an index comes to: `net.type = NET_IP4` is true, and the same with NET_IP6 false.
+fn type_test(words: &[Word<'_>], at: usize) -> Option<Symbol> {
+    let property = word_at(words, at.checked_add(2)?)?;
+    let equal = at.checked_add(3)?;
+    let kind = word_at(words, at.checked_add(4)?)?;
+    let is_test = is_at(words, at, Symbol::Net)
+        && is_at(words, at.checked_add(1)?, Symbol::Dot)
+        && property.is_named(b"type")
+        && (is_at(words, equal, Symbol::Equal) || is_at(words, equal, Symbol::NotEqual));
+    if !is_test || is_before(words, at, Symbol::Not) {
+        return None;
+    }
+    let is_same = is_at(words, equal, Symbol::Equal);
+    if kind.is_named(b"NET_IP4") {
+        Some(if is_same { Symbol::True } else { Symbol::False })
+    } else if kind.is_named(b"NET_IP6") {
+        Some(if is_same { Symbol::False } else { Symbol::True })
+    } else {
+        None
+    }
+}
+
+/// Puts what the first test of the kind of a prefix comes to in its place.
+pub fn plan_type_test<'a>(alloc: Global, words: &[Word<'a>]) -> Result<Plan<'a>, AllocError> {
+    for at in 0..words.len() {
+        if let Some(symbol) = type_test(words, at) {
+            let word = words[at];
+            let mut written = Vec::new(alloc);
+            written.push(Word::made(symbol, word.at).after(word.gap))?;
+            return Ok(Plan::Step(Step {
+                rule: Rule::Ipv4Only,
+                origin: 0,
+                from: at,
+                to: at.saturating_add(5),
+                words: written,
+            }));
+        }
+    }
+    Ok(Plan::Done)
+}

@@ -1,0 +1,222 @@
+//! Why a filter is left out.
+
+use std::fmt;
+
+/// Why a filter is left out, and at which byte of the configuration.
+#[derive(Clone, Copy, Debug)]
+pub struct Reason<'a> {
+    /// The place.
+    pub at: usize,
+    /// Why.
+    pub why: Why<'a>,
+}
+
+/// Why a filter is left out.
+#[derive(Clone, Copy, Debug)]
+pub enum Why<'a> {
+    /// A name that is neither a variable nor defined: an attribute or a word of BIRD's.
+    Unknown(&'a [u8]),
+    /// A word of BIRD's that has no counterpart.
+    Foreign(&'a [u8]),
+    /// A part of a value that has no counterpart.
+    Property(&'a [u8]),
+    /// A byte that begins no word.
+    Strange,
+    /// A name that is defined behind its use.
+    DefinedLater(&'a [u8]),
+    /// A name with two definitions.
+    DefinedTwice(&'a [u8]),
+    /// A call of what is no function of the configuration.
+    UnknownCall(&'a [u8]),
+    /// A call with arguments.
+    FunctionArguments(&'a [u8]),
+    /// A function that cannot be put in the place of its call.
+    FunctionShape(&'a [u8]),
+    /// A set that is assigned on a condition, or more than once.
+    SetVariable(&'a [u8]),
+    /// A command that prints what another function computes.
+    PrintDoesMore,
+    /// A `case` of addresses whose labels are no lists of addresses, or share one.
+    CaseLabels,
+    /// The braces are not closed.
+    Unclosed,
+    /// A filter before it has the name.
+    SameName,
+    /// A variable that may be read before it is assigned.
+    Unset(&'a [u8]),
+    /// A variable that the body declares without a value.
+    NoValue(&'a [u8]),
+    /// It is for routes of IPv6.
+    Ipv6,
+    /// More words or steps than are taken.
+    TooLong,
+    /// The words could not be written.
+    Unwritten,
+}
+
+/// Whether an attribute is one of BGP's.
+fn is_of_bgp(name: &str) -> bool {
+    name.starts_with("bgp_")
+}
+
+/// Whose attribute a name is, if it is one of BIRD's.
+fn owner_of(name: &str) -> Option<&'static str> {
+    if is_of_bgp(name) {
+        Some("is an attribute of BGP")
+    } else if name.starts_with("ospf_") {
+        Some("is an attribute of OSPF")
+    } else if name.starts_with("krt_") {
+        Some("is an attribute of the kernel's routes")
+    } else if name.starts_with("babel_") {
+        Some("is an attribute of Babel")
+    } else if name.starts_with("ra_") {
+        Some("is an attribute of router advertisements")
+    } else {
+        owner_of_word(name)
+    }
+}
+
+/// The same of attributes whose names do not begin with their owner's.
+fn owner_of_word(name: &str) -> Option<&'static str> {
+    match name {
+        "rip_tag" => Some("is an attribute of RIP that this router does not keep"),
+        "dest"
+        | "gw"
+        | "ifname"
+        | "ifindex"
+        | "scope"
+        | "cast"
+        | "igp_metric"
+        | "weight"
+        | "from"
+        | "proto"
+        | "preference"
+        | "source"
+        | "onlink"
+        | "gw_mpls"
+        | "gw_mpls_stack"
+        | "generated" => Some(
+            "is an attribute that this router does not keep: a route has `net` and `rip_metric`",
+        ),
+        _ => None,
+    }
+}
+
+/// What is said of a word of BIRD's.
+fn words_for(name: &str) -> &'static str {
+    match name {
+        "for" | "do" => "belongs to a loop, and there are no loops",
+        "return" => "is a command of a function",
+        "bgppath"
+        | "bgpmask"
+        | "clist"
+        | "eclist"
+        | "lclist"
+        | "ec"
+        | "lc"
+        | "pair"
+        | "quad"
+        | "string"
+        | "rd"
+        | "bytestring"
+        | "enum" => "is a type that is not taken: a variable is an int, a bool, an ip or a prefix",
+        "set" => "makes a variable of sets that is not taken",
+        "include" => "names a file that was not read",
+        "unset" => "takes an attribute away, and none is taken",
+        "roa_check" => "asks a table of origins, and there is none",
+        "net_type" | "NET_IP4" | "NET_IP6" => "is not taken in this place",
+        _ => "is not taken",
+    }
+}
+
+/// The text of a name: of a word that is no text, the words for it.
+fn text_of(bytes: &[u8]) -> &str {
+    match str::from_utf8(bytes) {
+        Ok(text) => text,
+        Err(_) => "?",
+    }
+}
+
+impl<'a> fmt::Display for Why<'a> {
+    fn fmt<W: fmt::Write>(&self, f: &mut fmt::Formatter<W>) -> fmt::Result {
+        let text = text_of(self.name());
+        match self {
+            Why::Unknown(_) | Why::Foreign(_) => match owner_of(text) {
+                Some(words) => write!(f, "`{text}` {words}"),
+                None => self.write_other(text, f),
+            },
+            Why::Property(_) => write!(
+                f,
+                "`.{text}` is not taken: a prefix has `.ip` and `.len`, an address `.mask(n)`"
+            ),
+            Why::DefinedLater(_) => write!(
+                f,
+                "`{text}` is used before its definition ends: move the definition up"
+            ),
+            Why::DefinedTwice(_) => write!(f, "`{text}` has two definitions"),
+            Why::UnknownCall(_) => write!(f, "`{text}` is no function of this configuration"),
+            Why::FunctionArguments(_) => write!(
+                f,
+                "`{text}` is called with arguments: write its commands in place"
+            ),
+            Why::FunctionShape(_) => write!(
+                f,
+                "the function `{text}` cannot be put in place: it has variables, or returns where it is not at its end"
+            ),
+            Why::SetVariable(_) => write!(
+                f,
+                "the set `{text}` is not assigned just once, before all else: `define` it"
+            ),
+            Why::Unset(_) => write!(
+                f,
+                "`{text}` may be read before it is assigned, and is void in BIRD then: assign it before"
+            ),
+            Why::NoValue(_) => write!(
+                f,
+                "`{text}` has no value in the body, so BIRD 2.0.12 rejects each route there: give it one"
+            ),
+            _ => self.write_plain(f),
+        }
+    }
+}
+
+impl<'a> Why<'a> {
+    /// The name that it is about, or none.
+    fn name(&self) -> &'a [u8] {
+        match self {
+            Why::Unknown(name) | Why::Foreign(name) | Why::Property(name) => *name,
+            Why::DefinedLater(name) | Why::DefinedTwice(name) | Why::UnknownCall(name) => *name,
+            Why::FunctionArguments(name) | Why::FunctionShape(name) | Why::SetVariable(name) => {
+                *name
+            }
+            Why::Unset(name) | Why::NoValue(name) => *name,
+            _ => b"",
+        }
+    }
+
+    /// What is said of a word that is no attribute.
+    fn write_other<W: fmt::Write>(&self, text: &str, f: &mut fmt::Formatter<W>) -> fmt::Result {
+        match self {
+            Why::Foreign(_) => write!(f, "`{}` {}", text, words_for(text)),
+            _ if words_for(text) != "is not taken" => write!(f, "`{}` {}", text, words_for(text)),
+            _ => write!(f, "`{text}` is no variable, no attribute, and not defined"),
+        }
+    }
+
+    /// What is said where no name is.
+    fn write_plain<W: fmt::Write>(&self, f: &mut fmt::Formatter<W>) -> fmt::Result {
+        let words = match self {
+            Why::Strange => "no word of a configuration begins with this byte",
+            Why::PrintDoesMore =>
+                "what is printed here is computed by more than attributes: take it out",
+            Why::CaseLabels =>
+                "the labels of a `case` of addresses are lists of addresses, and share none",
+            Why::Unclosed => "its braces are not closed",
+            Why::SameName => "a filter before it has this name",
+            Why::Ipv6 => "IPv6 is not supported",
+            Why::TooLong => "it is longer than 65536 bytes with all definitions in place",
+            _ => "its words could not be written",
+        };
+        f.write_str(words)
+    }
+}

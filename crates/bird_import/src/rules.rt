@@ -1,0 +1,466 @@
+//! Whether a step is one of its rule.
+ghost use Rattle.bird_import.specs.Alike.{AreAlike};
+ghost use Rattle.std.specs.Prelude.{◌≡◌, ◌≢◌, ◌⊎◌, ◌∷◌, ◌++◌, List, false, All, IfSome, IsTrue, Some};
+ghost use Rattle.bird_import.specs.declared.word.Word.{Word as TheWord};
+ghost use Rattle.bird_import.specs.Rules as spec;
+ghost use Rattle.bird_import.specs.Steps.{Fits};
+ghost use Rattle.bird_import.specs.declared.word.WordKind.TheVariants as kind;
+ghost use Rattle.filter_tokens.specs.declared.symbol.Symbol.TheVariants as symbols;
+
+use crate::step::Rule;
+use crate::word::{Word, WordKind};
+use filter_tokens::Symbol;
+
+/// Whether two words are the same, wherever they stand.
+fn is_same(one: &Word<'_>, other: &Word<'_>) -> bool
+    ensures { IsTrue result → spec.IsSame one.now other.now }
+{
+    one.kind == other.kind && one.bytes == other.bytes
+}
+
+/// Whether words are the same, one by one.
+fn are_same(words: &[Word<'_>], others: &[Word<'_>]) -> bool
+    ensures { IsTrue result → AreAlike spec.IsSame words.now others.now }
+{
+    if words.len() != others.len() {
+        return false;
+    }
+    for at in 0..words.len() {
+        if !is_same(&words[at], &others[at]) {
+            return false;
+        }
+    }
+    true
+}
+
+/// Whether words are others in parentheses.
+fn is_grouped(inner: &[Word<'_>], new: &[Word<'_>]) -> bool
+    ensures { IsTrue result → spec.IsGrouped inner.now new.now }
+{
+    let Some((open, rest)) = new.split_first() else {
+        return false;
+    };
+    let Some((close, kept)) = rest.split_last() else {
+        return false;
+    };
+    open.is(Symbol::LeftParen) && close.is(Symbol::RightParen) && are_same(inner, kept)
+}
+
+/// Whether a value is put in: as it is, or in parentheses.
+fn is_placed(value: &[Word<'_>], new: &[Word<'_>]) -> bool
+    ensures { IsTrue result → spec.IsPlaced value.now new.now }
+{
+    are_same(value, new) || is_grouped(value, new)
+}
+
+/// Whether none of some words is a `;`.
+fn are_inside(words: &[Word<'_>]) -> bool
+    ensures { IsTrue result → All (λ word. word.kind ≢ kind.Symbol symbols.Semicolon) words.now }
+{
+    words.iter().all(|word| !word.is(Symbol::Semicolon))
+}
+
+/// Words in two parts, the first of them so long.
+#[tactic(auto, using(crate::proofs::Splits::side_by_side))]
+pub fn split<'w, 'a>(words: &'w [Word<'a>], len: usize) -> Option<(&'w [Word<'a>], &'w [Word<'a>])>
+    ensures { IfSome result (λ parts. words.now ≡ parts.0.now ++ parts.1.now) }
+{
+    words.split_at_checked(len)
+}
+
+/// The words up to the first `;`, and that.
+fn until_semicolon<'w, 'a>(words: &'w [Word<'a>]) -> Option<(&'w [Word<'a>], &'w Word<'a>)>
+    ensures { IfSome result (λ found. (after : List TheWord) × (words.now ≡ found.0.now ++ found.1.now ∷ after)
+        × spec.Is symbols.Semicolon found.1.now
+        × All (λ word. word.kind ≢ kind.Symbol symbols.Semicolon) found.0.now) }
+{
+    let len = words.iter().position(|word| word.is(Symbol::Semicolon))?;
+    let (value, rest) = split(words, len)?;
+    let (end, _) = rest.split_first()?;
+    if are_inside(value) && end.is(Symbol::Semicolon) {
+        Some((value, end))
+    } else {
+        None
+    }
+}
+
+/// Whether a name is written as the value of the definition that begins some words of the configuration.
+fn is_defined_by(words: &[Word<'_>], name: &Word<'_>, new: &[Word<'_>]) -> bool
+    ensures { IsTrue result → spec.Defines words.now name.now new.now }
+{
+    let Some((begin, rest)) = words.split_first() else {
+        return false;
+    };
+    let Some((defined, rest)) = rest.split_first() else {
+        return false;
+    };
+    let Some((equal, rest)) = rest.split_first() else {
+        return false;
+    };
+    let Some((value, end)) = until_semicolon(rest) else {
+        return false;
+    };
+    begin.is_foreign(b"define")
+        && is_same(defined, name)
+        && equal.is(Symbol::Equal)
+        && end.at < name.at
+        && is_placed(value, new)
+}
+
+/// Whether a name is written as the value of the definition that begins at an index of the configuration.
+fn is_defined(config: &[Word<'_>], at: usize, old: &[Word<'_>], new: &[Word<'_>]) -> bool
+    ensures { IsTrue result → spec.IsDefined config.now old.now new.now }
+{
+    let (Some((name, none)), Some((_, words))) = (old.split_first(), config.split_at_checked(at))
+    else {
+        return false;
+    };
+    none.is_empty() && name.is_name() && is_defined_by(words, name, new)
+}
+
+/// Whether a word may be printed.
+fn is_harmless(kind: WordKind) -> bool
+    ensures { result ≡ spec.is_harmless kind }
+{
+    match kind {
+        WordKind::Symbol(symbol) => matches!(
+            symbol,
+            Symbol::Comma
+                | Symbol::Dot
+                | Symbol::Plus
+                | Symbol::Minus
+                | Symbol::Times
+                | Symbol::Net
+                | Symbol::RipMetric
+                | Symbol::Ip
+                | Symbol::True
+                | Symbol::False
+        ),
+        WordKind::Foreign | WordKind::Strange => false,
+        _ => true,
+    }
+}
+
+/// Whether words may be printed.
+pub fn are_harmless(words: &[Word<'_>]) -> bool
+    ensures { IsTrue result → All spec.IsHarmless words.now }
+{
+    words.iter().all(|word| is_harmless(word.kind))
+}
+
+/// Whether a command that prints is left out.
+fn is_unprinted(old: &[Word<'_>], new: &[Word<'_>]) -> bool
+    ensures { IsTrue result → spec.IsUnprinted old.now new.now }
+{
+    let (Some((print, rest)), Some((stop, none))) = (old.split_first(), new.split_first()) else {
+        return false;
+    };
+    let Some((end, terms)) = rest.split_last() else {
+        return false;
+    };
+    (print.is_foreign(b"print") || print.is_foreign(b"printn"))
+        && end.is(Symbol::Semicolon)
+        && stop.is(Symbol::Semicolon)
+        && none.is_empty()
+        && are_harmless(terms)
+}
+
+/// Whether what is left of some terms is their first text, or nothing.
+fn is_first_text(old: &[Word<'_>], new: &[Word<'_>]) -> bool
+    ensures { IsTrue result → spec.IsFirstText old.now new.now }
+{
+    let Some((kept, none)) = new.split_first() else {
+        return true;
+    };
+    let Some((text, _)) = old.split_first() else {
+        return false;
+    };
+    none.is_empty() && text.kind == WordKind::Text && is_same(text, kept)
+}
+
+/// Whether what is printed behind `accept` or `reject` is cut to its first text.
+fn is_shortened(front: &[Word<'_>], old: &[Word<'_>], new: &[Word<'_>]) -> bool
+    ensures { IsTrue result → spec.IsShortened front.now old.now new.now }
+{
+    let Some((command, _)) = front.split_last() else {
+        return false;
+    };
+    (command.is(Symbol::Accept) || command.is(Symbol::Reject))
+        && are_harmless(old)
+        && is_first_text(old, new)
+}
+
+/// Whether a `;` is put in before `else` or a closing brace.
+fn is_separated(old: &[Word<'_>], new: &[Word<'_>], back: &[Word<'_>]) -> bool
+    ensures { IsTrue result → spec.IsSeparated old.now new.now back.now }
+{
+    let (Some((stop, none)), Some((next, _))) = (new.split_first(), back.split_first()) else {
+        return false;
+    };
+    old.is_empty()
+        && none.is_empty()
+        && stop.is(Symbol::Semicolon)
+        && (next.is(Symbol::Else) || next.is(Symbol::RightBrace))
+}
+
+/// Whether a test of the kind of a prefix comes out so.
+fn is_test(compare: &Word<'_>, family: &Word<'_>, answer: &Word<'_>) -> bool
+    ensures { IsTrue result → spec.IsTest compare.now family.now answer.now }
+{
+    let (equal, differ) = (compare.is(Symbol::Equal), compare.is(Symbol::NotEqual));
+    let (new, old) = (family.is_named(b"NET_IP6"), family.is_named(b"NET_IP4"));
+    let (yes, no) = (answer.is(Symbol::True), answer.is(Symbol::False));
+    (equal && old && yes) || (differ && old && no) || (equal && new && no) || (differ && new && yes)
+}
+
+/// Whether a test of the kind of a prefix is written as its answer.
+fn is_type_test(old: &[Word<'_>], new: &[Word<'_>]) -> bool
+    ensures { IsTrue result → spec.IsTypeTest old.now new.now }
+{
+    match (old, new) {
+        ([net, dot, property, compare, family], [answer]) => {
+            net.is(Symbol::Net)
+                && dot.is(Symbol::Dot)
+                && property.is_named(b"type")
+                && is_test(compare, family, answer)
+        }
+        _ => false,
+    }
+}
+
+/// Whether a word opens parentheses, brackets or braces.
+fn opens(kind: WordKind) -> bool
+    ensures { result ≡ spec.opens kind }
+{
+    matches!(
+        kind,
+        WordKind::Symbol(Symbol::LeftParen | Symbol::LeftBracket | Symbol::LeftBrace)
+    )
+}
+
+/// Whether a word closes them.
+fn closes(kind: WordKind) -> bool
+    ensures { result ≡ spec.closes kind }
+{
+    matches!(
+        kind,
+        WordKind::Symbol(Symbol::RightParen | Symbol::RightBracket | Symbol::RightBrace)
+    )
+}
+
+/// Whether all that is opened among some words is closed among them, and nothing else.
+#[tactic(auto, unfolding(crate::specs::Rules::open_behind))]
+fn are_balanced(words: &[Word<'_>]) -> bool
+    ensures { IsTrue result → (spec.open_behind 0 words.now ≡ Some 0) }
+{
+    let mut depth = 0usize;
+    for word in words {
+        if opens(word.kind) {
+            depth = match depth.checked_add(1) {
+                Some(deeper) => deeper,
+                None => return false,
+            };
+        } else if closes(word.kind) {
+            if depth == 0 {
+                return false;
+            }
+            depth -= 1;
+        }
+    }
+    depth == 0
+}
+
+/// Whether no expression goes on with a word.
+fn is_separator(kind: WordKind) -> bool
+    ensures { result ≡ spec.is_separator kind }
+{
+    matches!(
+        kind,
+        WordKind::Symbol(
+            Symbol::Semicolon
+                | Symbol::Then
+                | Symbol::Else
+                | Symbol::Colon
+                | Symbol::If
+                | Symbol::Case
+        )
+    )
+}
+
+/// Whether none of some words ends an expression.
+fn are_of_one(words: &[Word<'_>]) -> bool
+    ensures { IsTrue result → All (λ word. spec.is_separator word.kind ≡ false) words.now }
+{
+    words.iter().all(|word| !is_separator(word.kind))
+}
+
+/// Whether a command begins behind a word.
+fn ends_command(kind: WordKind) -> bool
+    ensures { result ≡ spec.ends_command kind }
+{
+    matches!(
+        kind,
+        WordKind::Symbol(
+            Symbol::Semicolon
+                | Symbol::LeftBrace
+                | Symbol::RightBrace
+                | Symbol::Then
+                | Symbol::Else
+                | Symbol::Colon
+        )
+    )
+}
+
+/// Whether an expression begins behind a word.
+fn begins_behind(word: &Word<'_>) -> bool
+    ensures { IsTrue result → spec.BeginsBehind word.now }
+{
+    word.is(Symbol::If)
+        || word.is(Symbol::Case)
+        || word.is(Symbol::LeftParen)
+        || word.is_foreign(b"return")
+}
+
+/// Whether an expression begins behind some words, as the value of an assignment.
+fn is_assigned_behind(front: &[Word<'_>]) -> bool
+    ensures { IsTrue result → spec.IsAssignedBehind front.now }
+{
+    let Some((equal, front)) = front.split_last() else {
+        return false;
+    };
+    let Some((name, front)) = front.split_last() else {
+        return false;
+    };
+    let Some((last, _)) = front.split_last() else {
+        return false;
+    };
+    equal.is(Symbol::Equal)
+        && (name.is_name() || name.is(Symbol::RipMetric))
+        && ends_command(last.kind)
+}
+
+/// Whether an expression begins behind some words.
+fn begins_expression(front: &[Word<'_>]) -> bool
+    ensures { IsTrue result → spec.BeginsExpression front.now }
+{
+    let Some((last, _)) = front.split_last() else {
+        return false;
+    };
+    begins_behind(last) || is_assigned_behind(front)
+}
+
+/// Whether operands of a chain are put into parentheses.
+fn is_chain_grouped(
+    front: &[Word<'_>],
+    old: &[Word<'_>],
+    new: &[Word<'_>],
+    back: &[Word<'_>],
+) -> bool
+    ensures { IsTrue result → spec.IsChainGrouped front.now old.now new.now back.now }
+{
+    let Some((operator, _)) = back.split_first() else {
+        return false;
+    };
+    (operator.is(Symbol::And) || operator.is(Symbol::Or))
+        && begins_expression(front)
+        && are_balanced(old)
+        && are_of_one(old)
+        && is_grouped(old, new)
+}
+
+/// Whether a word is the name of a kind.
+fn is_kind(kind: WordKind) -> bool
+    ensures { result ≡ spec.is_kind kind }
+{
+    matches!(
+        kind,
+        WordKind::Symbol(Symbol::Int | Symbol::Bool | Symbol::Ip | Symbol::Prefix)
+    )
+}
+
+/// Whether a declaration with a value is written as one without.
+fn is_declared_as(declaration: &[Word<'_>], declared: &[Word<'_>]) -> bool
+    ensures { IsTrue result → spec.IsDeclaredAs declaration.now declared.now }
+{
+    match (declaration, declared) {
+        ([kind, name, equal], [first, second, stop]) => {
+            is_kind(kind.kind)
+                && name.is_name()
+                && equal.is(Symbol::Equal)
+                && is_same(kind, first)
+                && is_same(name, second)
+                && stop.is(Symbol::Semicolon)
+        }
+        _ => false,
+    }
+}
+
+/// Whether what is left of a declaration is the assignment of its value.
+fn is_assigned_as(declaration: &[Word<'_>], left: &[Word<'_>]) -> bool
+    ensures { IsTrue result → spec.IsAssignedAs declaration.now left.now }
+{
+    match (declaration, left) {
+        ([kind, name, last], [again, equal]) => {
+            is_kind(kind.kind)
+                && last.is(Symbol::Equal)
+                && is_same(name, again)
+                && equal.is(Symbol::Equal)
+        }
+        _ => false,
+    }
+}
+
+/// Whether a declaration is moved before a brace: the words from that on, and the declaration behind them.
+fn is_moved(front: &[Word<'_>], declaration: &[Word<'_>], new: &[Word<'_>]) -> bool
+    ensures { IsTrue result → spec.IsMoved front.now declaration.now new.now }
+{
+    let Some((declared, rest)) = split(new, 3) else {
+        return false;
+    };
+    let Some((kept, left)) = split(rest, front.len()) else {
+        return false;
+    };
+    is_declared_as(declaration, declared)
+        && are_same(front, kept)
+        && is_assigned_as(declaration, left)
+}
+
+/// Whether a declaration is moved before the brace of its body.
+fn is_hoisted(old: &[Word<'_>], new: &[Word<'_>]) -> bool
+    ensures { IsTrue result → spec.IsHoisted old.now new.now }
+{
+    let Some(len) = old.len().checked_sub(3) else {
+        return false;
+    };
+    let Some((front, declaration)) = split(old, len) else {
+        return false;
+    };
+    let Some((brace, _)) = front.split_first() else {
+        return false;
+    };
+    brace.is(Symbol::LeftBrace) && is_moved(front, declaration, new)
+}
+
+/// Whether a step is one of its rule. `at` is the index of the definition that it places.
+pub fn fits(
+    config: &[Word<'_>],
+    rule: Rule,
+    at: usize,
+    front: &[Word<'_>],
+    old: &[Word<'_>],
+    new: &[Word<'_>],
+    back: &[Word<'_>],
+) -> bool
+    ensures { IsTrue result → Fits config.now rule front.now old.now new.now back.now }
+{
+    match rule {
+        Rule::Defined => is_defined(config, at, old, new),
+        Rule::Unprinted => is_unprinted(old, new),
+        Rule::Shortened => is_shortened(front, old, new),
+        Rule::Separated => is_separated(old, new, back),
+        Rule::Ipv4Only => is_type_test(old, new),
+        Rule::Grouped => is_chain_grouped(front, old, new, back),
+        Rule::Declared => is_hoisted(old, new),
+        Rule::Called | Rule::SetPlaced | Rule::CaseOfAddresses => true,
+    }
+}

@@ -1,0 +1,232 @@
+//! The words of a configuration.
+ghost use Rattle.std.specs.Prelude.{◌≡◌, ◌↔◌, IsTrue};
+ghost use Rattle.bird_import.specs.declared.word.WordKind.TheVariants as kind;
+
+use filter_tokens::{Symbol, TokenKind};
+use prefix_patterns::Ip;
+
+/// What a word of a configuration is.
+#[derive(Clone, Copy, Debug, PartialEq, Eq)]
+pub enum WordKind {
+    /// A name of the filter language.
+    Name,
+    /// A number.
+    Number,
+    /// An address.
+    Address(u32),
+    /// A prefix.
+    Prefix,
+    /// A text in double quotes.
+    Text,
+    /// A keyword or a punctuator.
+    Symbol(Symbol),
+    /// A word or a character that only BIRD's configurations have.
+    Foreign,
+    /// A byte that begins no word at all.
+    Strange,
+}
+
+impl WordKind {
+    ghost use Rattle.bird_import.specs.Spelling.{kind_of};
+
+    /// What a token of the filter language is.
+    pub fn of(kind: TokenKind) -> WordKind
+        ensures { result ≡ kind_of kind }
+    {
+        match kind {
+            TokenKind::Name => WordKind::Name,
+            TokenKind::Number(_) => WordKind::Number,
+            TokenKind::Address(Ip(number)) => WordKind::Address(number),
+            TokenKind::Prefix(_) => WordKind::Prefix,
+            TokenKind::Text => WordKind::Text,
+            TokenKind::Symbol(symbol) => WordKind::Symbol(symbol),
+        }
+    }
+}
+
+/// A word of a configuration, or one that stands for such a word in a filter.
+#[derive(Clone, Copy, Debug)]
+pub struct Word<'a> {
+    /// What it is.
+    pub kind: WordKind,
+    /// Its bytes.
+    pub bytes: &'a [u8],
+    /// The place of its first byte in the configuration. That of a word which was put in is the place of the word beside it.
+    pub at: usize,
+    /// The space and the comments before it.
+    pub gap: &'a [u8],
+}
+
+impl<'a> Word<'a> {
+    ghost use Rattle.bird_import.specs.Rules.{IsForeign, IsNamed, IsSame};
+
+    /// A keyword or punctuator that is put in beside a place.
+    pub fn made(symbol: Symbol, at: usize) -> Word<'a>
+        ensures { result.kind ≡ kind.Symbol symbol }
+    {
+        Word {
+            kind: WordKind::Symbol(symbol),
+            bytes: symbol.text().as_bytes(),
+            at,
+            gap: b" ",
+        }
+    }
+
+    /// A name that is put in beside a place.
+    pub fn named(name: &'a [u8], at: usize) -> Word<'a>
+        ensures { IsNamed name.now result }
+    {
+        Word {
+            kind: WordKind::Name,
+            bytes: name,
+            at,
+            gap: b" ",
+        }
+    }
+
+    /// The same word with other space before it.
+    pub fn after(self, gap: &'a [u8]) -> Word<'a>
+        ensures { IsSame self.entry result }
+    {
+        Word {
+            kind: self.kind,
+            bytes: self.bytes,
+            at: self.at,
+            gap,
+        }
+    }
+
+    /// Whether it is this keyword or punctuator.
+    pub fn is(self, symbol: Symbol) -> bool
+        ensures { IsTrue result ↔ (self.entry.kind ≡ kind.Symbol symbol) }
+    {
+        self.kind == WordKind::Symbol(symbol)
+    }
+
+    /// Whether it is a byte that begins no word.
+    pub fn is_strange(self) -> bool {
+        self.kind == WordKind::Strange
+    }
+
+    /// Whether it is a name.
+    pub fn is_name(self) -> bool
+        ensures { IsTrue result ↔ (self.entry.kind ≡ kind.Name) }
+    {
+        self.kind == WordKind::Name
+    }
+
+    /// Whether it is this name.
+    pub fn is_named(self, name: &[u8]) -> bool
+        ensures { IsTrue result → IsNamed name.now self.entry }
+    {
+        self.is_name() && self.bytes == name
+    }
+
+    /// Whether it is this word of BIRD's.
+    pub fn is_foreign(self, name: &[u8]) -> bool
+        ensures { IsTrue result → IsForeign name.now self.entry }
+    {
+        self.kind == WordKind::Foreign && self.bytes == name
+    }
+
+    /// Whether it is this word, a name or one of BIRD's.
+    pub fn is_word(self, name: &[u8]) -> bool {
+        self.is_named(name) || self.is_foreign(name)
+    }
+
+    /// Whether it is the name of a kind.
+    pub fn is_kind(self) -> bool {
+        self.is(Symbol::Int)
+            || self.is(Symbol::Bool)
+            || self.is(Symbol::Ip)
+            || self.is(Symbol::Prefix)
+    }
+}
+
+/// The word at an index, if there is one.
+pub fn word_at<'a>(words: &[Word<'a>], at: usize) -> Option<Word<'a>> {
+    words.get(at).copied()
+}
+
+/// Whether the word at an index is this keyword or punctuator.
+pub fn is_at(words: &[Word<'_>], at: usize, symbol: Symbol) -> bool {
+    match words.get(at) {
+        Some(word) => word.is(symbol),
+        None => false,
+    }
+}
+
+/// Whether the word at an index is a name.
+pub fn is_name_at(words: &[Word<'_>], at: usize) -> bool {
+    match words.get(at) {
+        Some(word) => word.is_name(),
+        None => false,
+    }
+}
+
+/// Whether the word before an index is this keyword or punctuator.
+pub fn is_before(words: &[Word<'_>], at: usize, symbol: Symbol) -> bool {
+    at > 0 && is_at(words, at - 1, symbol)
+}
+
+/// Whether a command may begin at an index: behind a brace, a `;`, a label, `then` or `else`.
+pub fn begins_command(words: &[Word<'_>], at: usize) -> bool {
+    stands_alone(words, at)
+        || is_before(words, at, Symbol::Then)
+        || is_before(words, at, Symbol::Else)
+        || is_before(words, at, Symbol::Colon)
+}
+
+/// Whether a command that begins at an index is in no condition: it is behind a brace or a `;`.
+pub fn stands_alone(words: &[Word<'_>], at: usize) -> bool {
+    is_before(words, at, Symbol::LeftBrace)
+        || is_before(words, at, Symbol::RightBrace)
+        || is_before(words, at, Symbol::Semicolon)
+}
+
+/// The index of the first of these symbols from an index on, outside parentheses, brackets and braces that are opened there.
+pub fn find_outside(words: &[Word<'_>], from: usize, symbol: Symbol) -> Option<usize> {
+    let mut depth = 0usize;
+    for at in from..words.len() {
+        let word = words[at];
+        if depth == 0 && word.is(symbol) {
+            return Some(at);
+        }
+        if opens(word) {
+            depth = depth.saturating_add(1);
+        } else if closes(word) {
+            if depth == 0 {
+                return None;
+            }
+            depth -= 1;
+        }
+    }
+    None
+}
+
+/// Whether a word opens parentheses, brackets or braces.
+pub fn opens(word: Word<'_>) -> bool {
+    word.is(Symbol::LeftParen) || word.is(Symbol::LeftBracket) || word.is(Symbol::LeftBrace)
+}
+
+/// Whether a word closes them.
+pub fn closes(word: Word<'_>) -> bool {
+    word.is(Symbol::RightParen) || word.is(Symbol::RightBracket) || word.is(Symbol::RightBrace)
+}
+
+/// The index of what closes the parentheses, brackets or braces that are opened at an index.
+pub fn closing(words: &[Word<'_>], open: usize) -> Option<usize> {
+    let mut depth = 0usize;
+    for at in open..words.len() {
+        let word = words[at];
+        if opens(word) {
+            depth = depth.saturating_add(1);
+        } else if closes(word) {
+            if depth <= 1 {
+                return Some(at);
+            }
+            depth -= 1;
+        }
+    }
+    None
+}

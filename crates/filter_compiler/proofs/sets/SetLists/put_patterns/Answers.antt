@@ -1,0 +1,53 @@
+use Rattle.std.proofs.Common.{rules, ◌≡◌, ◌<◌, ◌≤◌, true, inl, inr, length, map, refl, sym, subst, arith}
+use Rattle.std.proofs.lemmas.List.{append-nil, length-map}
+use Rattle.filter_parser.specs.Syntax.{of_patterns, pattern_of, view_set_pattern}
+use Rattle.filter_compiler.specs.Translation.{one_set}
+use Rattle.filter_compiler.specs.Written.{Gathers}
+use Rattle.filter_compiler.proofs.Gathering.{few_patterns, many_patterns, put_past, put_within}
+use Rattle.filter_compiler.proofs.sets.SetLists.put_patterns.Goals as goal
+use Rattle.filter_compiler.proofs.sets.SetLists.put_patterns.Goals.{then-from-ge-SET_LIMIT-via-then-from-ge-SET_LIMIT, then-from-ge-SET_LIMIT-via-else-from-ge-SET_LIMIT+then-set-gt-PATTERN_LIMIT}
+use Rattle.filter_compiler.proofs.sets.SetLists.put_patterns.Goals.{else-self-via-then-self+else-is_err, else-self-via-else-self}
+
+pub returns-then-from-ge-SET_LIMIT : goal.returns-then-from-ge-SET_LIMIT
+returns-then-from-ge-SET_LIMIT c =
+    let set = map view_set_pattern c.args.set.now in
+    let same : length (map pattern_of set) ≡ length c.args.set.now = omega (arith, length-map set pattern_of, length-map c.args.set.now view_set_pattern) in
+    let from = c.from.ensures in
+    elim c.then-from-ge-SET_LIMIT.branch [
+      | then-from-ge-SET_LIMIT-via-then-from-ge-SET_LIMIT w ↦
+          let full : 64 ≤ c.args.self.now.numbers.patterns = (let over = w.if-from-ge-SET_LIMIT.true in omega arith) in
+          put_past c.args.self.now _ (one_set (of_patterns set)) (λ n counted. c.after_patterns-self.ensures n set counted)
+          (λ before h. many_patterns c.args.self.now set before h (inl full)) refl refl
+      | then-from-ge-SET_LIMIT-via-else-from-ge-SET_LIMIT+then-set-gt-PATTERN_LIMIT w ↦
+          let large : 1024 < length (map pattern_of set) = (let over = w.if-set-gt-PATTERN_LIMIT.true in omega arith) in
+          put_past c.args.self.now _ (one_set (of_patterns set)) (λ n counted. c.after_patterns-self.ensures n set counted)
+          (λ before h. many_patterns c.args.self.now set before h (inr large)) refl refl
+    ]
+
+pub returns-then-is_err : goal.returns-then-is_err
+returns-then-is_err c =
+    let set = map view_set_pattern c.args.set.now in
+    let low : c.args.self.now.numbers.patterns < 64 = omega (arith, c.from.ensures, c.if-from-ge-SET_LIMIT.false) in
+    let small : length (map pattern_of set) ≤ 1024 =
+    omega (arith, c.if-set-gt-PATTERN_LIMIT.false, length-map set pattern_of, length-map c.args.set.now view_set_pattern) in
+    put_within c.args.self.now _ (one_set (of_patterns set)) (λ n counted. c.after_patterns-self.ensures n set counted)
+    (λ before h. few_patterns c.args.self.now set before h low small) refl (λ e. cc) (λ e. cc) (λ e. cc)
+
+pub returns-else-self : goal.returns-else-self
+returns-else-self c =
+    let set = map view_set_pattern c.args.set.now in
+    let low : c.args.self.now.numbers.patterns < 64 = omega (arith, c.from.ensures, c.if-from-ge-SET_LIMIT.false) in
+    let small : length (map pattern_of set) ≤ 1024 =
+    omega (arith, c.if-set-gt-PATTERN_LIMIT.false, length-map set pattern_of, length-map c.args.set.now view_set_pattern) in
+    elim c.else-self.branch [
+      | else-self-via-then-self+else-is_err w ↦
+          subst (λ o. Gathers c.args.self.now o (one_set (of_patterns set))) (sym w.self-is)
+          (put_within c.args.self.now _ (one_set (of_patterns set)) (λ n counted. c.after_patterns-self.ensures n set counted)
+          (λ before h. few_patterns c.args.self.now set before h low small) refl (λ e. e) (λ e. search rules) (λ e. sym (append-nil c.args.self.now.ints.items)))
+      | else-self-via-else-self w ↦
+          subst (λ o. Gathers c.args.self.now o (one_set (of_patterns set))) (sym w.self-is)
+          (put_within c.args.self.now _ (one_set (of_patterns set)) (λ n counted. c.after_patterns-self.ensures n set counted)
+          (λ before h. few_patterns c.args.self.now set before h low small) refl (λ e. e)
+          (λ (e : c.args.self.now.kept ≡ true). absurd (let f = w.if-self.false in cc))
+          (λ (e : c.args.self.now.kept ≡ true). absurd (let f = w.if-self.false in cc)))
+    ]

@@ -1,0 +1,6 @@
+use Rattle.std.proofs.Common.{sym, subst}
+use Rattle.filter_compiler.specs.Written.{IsCounted}
+use Rattle.filter_compiler.proofs.sets.after_parts.Goals as goal
+
+pub returns : goal.returns
+returns c = λ n counted. c.gather_parts.ensures.counts n (subst (IsCounted n) (sym c.counting-lists.ensures) counted)

@@ -1,0 +1,10 @@
+pub mod Addresses
+pub mod Knowing
+pub mod Patterns
+pub mod Tests
+pub mod Steps
+pub mod Bits
+pub mod Splits
+pub mod Dealt
+pub mod Adding
+pub mod Joined

@@ -1,0 +1,20 @@
+use Rattle.std.proofs.Common.{◌+◌, ◌<◌, arith}
+use Rattle.filter_diff.proofs.Dealt.{left_kept, metric_step}
+use Rattle.filter_diff.proofs.search.push_metrics.Goals as goal
+
+pub loop-step-preserved : goal.loop-step-preserved
+loop-step-preserved c = record {
+  kept = λ route h. left_kept route _ _ _ c.in_ok-push.ensures.items (c.loop-step.invariant.kept route h);
+  split = λ route is_in of. metric_step c.args.class.now route _ _ c.loop-step.step c.in_ok-push.ensures.items
+      (c.loop-step.invariant.split route is_in of) is_in of;
+  few = omega (arith, c.in_ok-push.ensures.len);
+}
+
+pub returns-in_ok-push-clause-kept : goal.returns-in_ok-push-clause-kept
+returns-in_ok-push-clause-kept c route h = left_kept route _ _ _ c.in_ok-push.ensures.items (c.loop-step.invariant.kept route h)
+
+pub returns-in_ok-push-clause-split : goal.returns-in_ok-push-clause-split
+returns-in_ok-push-clause-split c route is_in of =
+    let last : c.args.class.now.size < route.metric + (c.loop-step.step + 1) = omega arith in
+    metric_step c.args.class.now route _ _ c.loop-step.step c.in_ok-push.ensures.items
+    (c.loop-step.invariant.split route is_in of) is_in of last

@@ -1,0 +1,19 @@
+-- Parts that join.
+use Rattle.std.specs.Prelude.{◌≡◌, ◌⊎◌, ℕ, List, All}
+use Rattle.filter_code.specs.RouteView.{RouteView}
+use Rattle.filter_code.specs.CodeView.{CodeView}
+use Rattle.filter_diff.specs.Parts.{Has, InOne, IsTrueOf}
+use Rattle.filter_diff.specs.declared.part.Part.{Part}
+
+-- a part has just the routes of two others, of which the same was found
+pub record Joins (a b whole : Part) : Type 0 where
+  pub either : (route : RouteView) → Has whole route → Has a route ⊎ Has b route
+  pub first : (route : RouteView) → Has a route → Has whole route
+  pub second : (route : RouteView) → Has b route → Has whole route
+  pub first_found : a.finding ≡ whole.finding
+  pub second_found : b.finding ≡ whole.finding
+
+-- parts that stand for others: they have the routes of these, and what was found of them is true where that of the others is
+pub record StandFor (parts others : List Part) : Type 0 where
+  pub routes : (route : RouteView) → InOne route others → InOne route parts
+  pub true_of : (old new : CodeView) (size : ℕ) → All (IsTrueOf old new size) others → All (IsTrueOf old new size) parts

@@ -1,0 +1,54 @@
+-- What a comparison finds.
+use Rattle.std.specs.Prelude.{◌≡◌, ◌≢◌, ◌⊎◌, ℕ, ◌≤◌, List, [], ◌∷◌, length}
+use Rattle.prefix_patterns.specs.Bits.{address_length}
+use Rattle.prefix_patterns.specs.Matching.{LiesWithin}
+use Rattle.filter_code.specs.RouteView.{RouteView}
+use Rattle.filter_code.specs.CodeView.{CodeView}
+use Rattle.filter_code.specs.Machine.{outcome_of}
+use Rattle.filter_code.specs.declared.outcome.Outcome.{Outcome}
+use Rattle.filter_diff.specs.Endings.{outcome_at}
+use Rattle.filter_diff.specs.declared.part.Finding.{Finding}
+use Rattle.filter_diff.specs.declared.part.Finding.TheVariants as finding
+use Rattle.filter_diff.specs.declared.part.Part.{Part}
+
+-- the routes of a domain: a prefix of at most 32 bits, and a metric of at most the size
+pub record IsIn (size : ℕ) (route : RouteView) : Type 0 where
+  pub fits : length route.net ≤ address_length
+  pub reachable : route.metric ≤ size
+  pub domain : route.size ≡ size
+
+-- a route of a part: its prefix lies within that of the part, and its length and its metric are in the part's ranges
+pub record Has (part : Part) (route : RouteView) : Type 0 where
+  pub within : LiesWithin route.net part.prefix
+  pub shortest : part.shortest ≤ length route.net
+  pub longest : length route.net ≤ part.longest
+  pub least : part.least ≤ route.metric
+  pub greatest : route.metric ≤ part.greatest
+
+-- two codes have the same outcome
+abbrev pub IsSame : CodeView → CodeView → RouteView → Type 0
+IsSame old new route = outcome_of old route ≡ outcome_of new route
+
+-- two codes end in these ways, which differ
+pub record Differs (old new : CodeView) (before after : Outcome) (route : RouteView) : Type 0 where
+  pub old_is : outcome_of old route ≡ before
+  pub new_is : outcome_of new route ≡ after
+  pub differ : before ≢ after
+
+-- a finding holds of a route
+abbrev pub Holds : CodeView → CodeView → Finding → RouteView → Type 0
+Holds old new finding.Undecided route = Unit {0}
+Holds old new (finding.Differ before after) route = Differs old new (outcome_at route before) (outcome_at route after) route
+
+-- a part's finding holds of each of its routes
+abbrev pub IsTrueOf : CodeView → CodeView → ℕ → Part → Type 0
+IsTrueOf old new size part = (route : RouteView) → IsIn size route → Has part route → Holds old new part.finding route
+
+-- a route lies in one of the parts
+abbrev pub InOne : RouteView → List Part → Type 0
+InOne route [] = ⊥
+InOne route (part ∷ parts) = Has part route ⊎ InOne route parts
+
+-- each route of the domain has the same outcome, or lies in one of the parts
+abbrev pub Cover : CodeView → CodeView → ℕ → List Part → Type 0
+Cover old new size parts = (route : RouteView) → IsIn size route → IsSame old new route ⊎ InOne route parts

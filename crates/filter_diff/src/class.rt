@@ -1,0 +1,73 @@
+ghost use Rattle.std.specs.Prelude.{◌≡◌, ◌≤◌, IfSome};
+ghost use Rattle.prefix_patterns.specs.Matching.{has_same_bits, matches, matches_any};
+ghost use Rattle.filter_diff.specs.Classes.{Always};
+ghost use Rattle.filter_diff.specs.Symbols.{kept_address, value_at};
+
+use crate::symbol::Symbol;
+use prefix_patterns::{ADDRESS_LENGTH, Pattern, PatternSet, Prefix};
+
+/// A class of routes, and what is known of them: the first bits of the prefix, its length, the metric received or nothing of
+/// it, and the size.
+#[derive(Clone, Copy, Debug)]
+pub(crate) struct Class {
+    pub(crate) known: Prefix,
+    pub(crate) len: u8,
+    pub(crate) metric: Option<u32>,
+    pub(crate) size: u32,
+}
+
+/// Whether two prefixes agree on the bits that both have.
+fn has_same_bits(prefix: &Prefix, other: Prefix) -> bool
+    ensures { result ≡ has_same_bits prefix.now other }
+{
+    prove!(prefix.len() <= ADDRESS_LENGTH);
+    Pattern::new(other, 0, ADDRESS_LENGTH)
+        .unwrap()
+        .matches(prefix)
+}
+
+impl Class {
+    /// Whether the prefixes match a pattern, if they all do or none does.
+    pub(crate) fn matches(&self, pattern: &Pattern) -> Option<bool>
+        ensures { IfSome result (λ r. Always self.now (λ route. matches route.net pattern.now ≡ r)) }
+    {
+        if self.len < pattern.low() || pattern.high() < self.len {
+            return Some(false);
+        }
+        let prefix = pattern.prefix();
+        if !has_same_bits(&self.known, prefix) {
+            return Some(false);
+        }
+        if prefix.len() <= self.known.len() {
+            return Some(true);
+        }
+        None
+    }
+
+    /// Whether the prefixes match one of the patterns of a set, if they all do or none does.
+    pub(crate) fn matches_any(&self, set: &PatternSet) -> Option<bool>
+        ensures { IfSome result (λ r. Always self.now (λ route. matches_any route.net set.now ≡ r)) }
+    {
+        let mut none = true;
+        for pattern in set.patterns() {
+            match self.matches(pattern) {
+                Some(true) => return Some(true),
+                Some(false) => {}
+                None => none = false,
+            }
+        }
+        if none { Some(false) } else { None }
+    }
+
+    /// The address of the route's prefix with so many of its bits, and the others cleared: one address if these bits are known.
+    pub(crate) fn kept(&self, bits: u8) -> Symbol
+        ensures { Always self.now (λ route. value_at route result ≡ kept_address bits route) }
+    {
+        if bits <= self.known.len() {
+            let first = Prefix::new(self.known.address(), bits).unwrap();
+            Symbol::Ip(first.address())
+        } else {
+            Symbol::OwnIp(bits)
+        }
+    }
+}

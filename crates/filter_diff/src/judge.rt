@@ -1,0 +1,197 @@
+//! Tests of addresses and prefixes, on all routes of a class.
+
+ghost use Rattle.std.specs.Prelude.{◌≡◌, IfSome};
+ghost use Rattle.prefix_patterns.specs.Matching.{matches};
+ghost use Rattle.filter_code.specs.RouteView.{RouteView};
+ghost use Rattle.filter_diff.specs.declared.symbol.Symbol.TheVariants as symbol;
+ghost use Rattle.filter_diff.specs.Classes.{Always};
+ghost use Rattle.filter_diff.specs.Judging.{IsBetween, IsEqual, IsLess, IsWithin};
+
+use crate::class::Class;
+use crate::symbol::Symbol;
+use prefix_patterns::{ADDRESS_LENGTH, Pattern, Prefix};
+
+/// Numbers between which the addresses lie that a symbol stands for. None if it may be no address.
+pub(crate) fn bounds(symbol: Symbol, class: &Class) -> Option<(u64, u64)>
+    ensures { IfSome result (λ ends. Always class.now (λ route. IsBetween ends.0 ends.1 route symbol)) }
+{
+    match symbol {
+        Symbol::Ip(ip) => Some((u64::from(ip.0), u64::from(ip.0))),
+        Symbol::OwnIp(kept) => {
+            let bits = class.known.len();
+            if kept < bits || class.len < kept || ADDRESS_LENGTH < class.len {
+                return None;
+            }
+            let first = u64::from(class.known.address().0);
+            Some((first, first + ((1 << (ADDRESS_LENGTH - bits)) - 1)))
+        }
+        _ => None,
+    }
+}
+
+/// Whether the prefixes match the pattern of a prefix and the lengths from `low` to `high`, if there is one, and all do or none does.
+fn pattern_of(prefix: Prefix, low: u8, high: u8, class: &Class) -> Option<bool>
+    ensures { IfSome result (λ r. Always class.now (λ route. matches route.net (record { bits = prefix; low = low; high = high }) ≡ r)) }
+{
+    match Pattern::new(prefix, low, high) {
+        Some(pattern) => class.matches(&pattern),
+        None => None,
+    }
+}
+
+/// Whether two ips are equal, if all are or none is.
+fn equal_ips(a: Symbol, b: Symbol, class: &Class) -> Option<bool>
+    ensures { IfSome result (λ r. Always class.now (λ route. IsEqual route a b r)) }
+{
+    let (least, most) = bounds(a, class)?;
+    let (from, to) = bounds(b, class)?;
+    if most < from || to < least {
+        return Some(false);
+    }
+    if least == most && from == to {
+        return Some(true);
+    }
+    None
+}
+
+/// Whether an address of the route is equal to another value, if all are or none is.
+fn equal_own(a: Symbol, b: Symbol, class: &Class, kept: u8) -> Option<bool>
+    requires { a ≡ symbol.OwnIp kept }
+    ensures { IfSome result (λ r. Always class.now (λ route. IsEqual route a b r)) }
+{
+    match b {
+        Symbol::OwnIp(other) => {
+            if other == kept {
+                Some(true)
+            } else {
+                equal_ips(a, b, class)
+            }
+        }
+        _ => equal_ips(a, b, class),
+    }
+}
+
+/// Whether a prefix is equal to another value, if all are or none is.
+fn equal_prefix(a: Prefix, b: Symbol, class: &Class) -> Option<bool>
+    ensures { IfSome result (λ r. Always class.now (λ route. IsEqual route (symbol.Net a) b r)) }
+{
+    match b {
+        Symbol::Net(b) => Some(a == b),
+        Symbol::OwnNet => pattern_of(a, a.len(), a.len(), class),
+        _ => None,
+    }
+}
+
+/// Whether the route's prefix is equal to another value, if all are or none is.
+fn equal_net(b: Symbol, class: &Class) -> Option<bool>
+    ensures { IfSome result (λ r. Always class.now (λ route. IsEqual route symbol.OwnNet b r)) }
+{
+    match b {
+        Symbol::Net(b) => pattern_of(b, b.len(), b.len(), class),
+        Symbol::OwnNet => Some(true),
+        _ => None,
+    }
+}
+
+/// Whether two ints are equal, if they are ints.
+fn equal_ints(a: u32, b: Symbol) -> Option<bool>
+    ensures { IfSome result (λ r. (route : RouteView) → IsEqual route (symbol.Int a) b r) }
+{
+    match b {
+        Symbol::Int(b) => Some(a == b),
+        _ => None,
+    }
+}
+
+/// Whether two bools are equal, if they are bools.
+fn equal_bools(a: bool, b: Symbol) -> Option<bool>
+    ensures { IfSome result (λ r. (route : RouteView) → IsEqual route (symbol.Bool a) b r) }
+{
+    match b {
+        Symbol::Bool(b) => Some(a == b),
+        _ => None,
+    }
+}
+
+/// Whether two values of one kind are equal, if all are or none is.
+pub(crate) fn equal(a: Symbol, b: Symbol, class: &Class) -> Option<bool>
+    ensures { IfSome result (λ r. Always class.now (λ route. IsEqual route a b r)) }
+{
+    match a {
+        Symbol::Int(a) => equal_ints(a, b),
+        Symbol::Bool(a) => equal_bools(a, b),
+        Symbol::Ip(_) => equal_ips(a, b, class),
+        Symbol::Net(a) => equal_prefix(a, b, class),
+        Symbol::OwnIp(kept) => equal_own(a, b, class, kept),
+        Symbol::OwnNet => equal_net(b, class),
+    }
+}
+
+/// Whether the first of two ips is less, if all are or none is.
+fn less_ips(a: Symbol, b: Symbol, class: &Class) -> Option<bool>
+    ensures { IfSome result (λ r. Always class.now (λ route. IsLess route a b r)) }
+{
+    let (least, most) = bounds(a, class)?;
+    let (from, to) = bounds(b, class)?;
+    if most < from {
+        return Some(true);
+    }
+    if to <= least {
+        return Some(false);
+    }
+    None
+}
+
+/// Whether the first of two ints or ips is less, if all are or none is.
+pub(crate) fn less(a: Symbol, b: Symbol, class: &Class) -> Option<bool>
+    ensures { IfSome result (λ r. Always class.now (λ route. IsLess route a b r)) }
+{
+    match a {
+        Symbol::Int(a) => match b {
+            Symbol::Int(b) => Some(a < b),
+            _ => None,
+        },
+        _ => less_ips(a, b, class),
+    }
+}
+
+/// Whether the first lies within a prefix, if all do or none does.
+fn within_prefix(a: Symbol, outer: Prefix, class: &Class) -> Option<bool>
+    ensures { IfSome result (λ r. Always class.now (λ route. IsWithin route a (symbol.Net outer) r)) }
+{
+    match a {
+        Symbol::Ip(ip) => Some(outer.contains(ip)),
+        Symbol::Net(inner) => Some(inner.within(&outer)),
+        Symbol::OwnNet => pattern_of(outer, outer.len(), ADDRESS_LENGTH, class),
+        Symbol::OwnIp(kept) => {
+            if outer.len() <= kept && kept <= class.len {
+                pattern_of(outer, 0, ADDRESS_LENGTH, class)
+            } else {
+                None
+            }
+        }
+        _ => None,
+    }
+}
+
+/// Whether the first lies within the route's prefix, if all do or none does.
+fn within_net(a: Symbol, class: &Class) -> Option<bool>
+    ensures { IfSome result (λ r. Always class.now (λ route. IsWithin route a symbol.OwnNet r)) }
+{
+    match a {
+        Symbol::Net(inner) => pattern_of(inner, 0, inner.len(), class),
+        Symbol::OwnNet => Some(true),
+        _ => None,
+    }
+}
+
+/// Whether the first lies within the second, if all do or none does.
+pub(crate) fn within(a: Symbol, b: Symbol, class: &Class) -> Option<bool>
+    ensures { IfSome result (λ r. Always class.now (λ route. IsWithin route a b r)) }
+{
+    match b {
+        Symbol::Net(outer) => within_prefix(a, outer, class),
+        Symbol::OwnNet => within_net(a, class),
+        _ => None,
+    }
+}

@@ -1,0 +1,45 @@
+use crate::ending::Ending;
+use prefix_patterns::Prefix;
+use std::fmt;
+
+/// What was found of the routes of a part.
+#[derive(Clone, Copy, Debug, PartialEq, Eq)]
+pub enum Finding {
+    /// The runs of the old code end in the first way, those of the new one in the second, and these differ.
+    Differ(Ending, Ending),
+    /// The search ended before it could tell.
+    Undecided,
+}
+
+/// A part of the routes: those whose prefix lies within one prefix, and whose length and metric are in two ranges.
+#[derive(Clone, Copy, Debug)]
+pub struct Part {
+    /// The prefix within which the prefixes lie.
+    pub prefix: Prefix,
+    /// The least length of a prefix.
+    pub shortest: u8,
+    /// The greatest length of a prefix.
+    pub longest: u8,
+    /// The least metric received.
+    pub least: u32,
+    /// The greatest metric received.
+    pub greatest: u32,
+    /// What was found of them.
+    pub finding: Finding,
+}
+
+impl fmt::Display for Part {
+    fn fmt<W: fmt::Write>(&self, f: &mut fmt::Formatter<W>) -> fmt::Result {
+        f.write_str(match self.finding {
+            Finding::Differ(_, _) => "differ ",
+            Finding::Undecided => "undecided ",
+        })?;
+        let prefix = self.prefix;
+        write!(f, "{prefix}{{{},{}}}", self.shortest, self.longest)?;
+        write!(f, ", metrics {}..{}", self.least, self.greatest)?;
+        match self.finding {
+            Finding::Differ(before, after) => write!(f, ": {before} | {after}"),
+            Finding::Undecided => Ok(()),
+        }
+    }
+}

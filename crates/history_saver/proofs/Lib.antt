@@ -1,0 +1,3 @@
+mod Looking
+mod Saving
+mod Texts

@@ -1,0 +1,98 @@
+-- What is noted on a board. (This project's own choice.)
+use Rattle.std.specs.Prelude.{◌≡◌, ◌==◌, ℕ, ◌+◌, ◌&&◌, ◌||◌, max, nat_lt, nat_le, not, Bool, true, false, if◌then◌else◌, List, map, position, Option, Some, None, slice_get, slice_set}
+use Rattle.link_board.specs.Steps.{Begins, Ends, Wakes, link_to, queued_at, taken_at, waits}
+use Rattle.link_board.specs.declared.link.Link.{Link}
+
+-- the links in order; the least number of entries that the history is known to have, and how many it had with the last one that is known
+-- to have changed a distance; how many are saved where who saves them sleeps; and whether the router is being closed
+pub record BoardView : Type 0 where
+  pub links : List Link
+  pub entries : ℕ
+  pub changed : ℕ
+  pub awaited : Option ℕ
+  pub closing : Bool
+
+-- links to these nodes, without sessions
+abbrev pub fresh : List ℕ → BoardView
+fresh nodes = record { links = map link_to nodes; entries = 0; changed = 0; awaited = None; closing = false }
+
+-- What becomes of a link, if there is one at the index: it is another one then, and nothing else changes. Where there is none nothing
+-- does, and the answer is false.
+abbrev pub At : (Link → Bool → Link → Type 0) → ℕ → Option Link → BoardView → Bool → BoardView → Type 0
+At becomes index None old answer new = (answer ≡ false) × (new ≡ old)
+At becomes index (Some l) old answer new = (m : Link) × becomes l answer m × (new ≡ record old { links = slice_set old.links index m })
+
+-- a session of a link begins, unless the router is being closed
+abbrev pub BeginsIf : Bool → ℕ → ℕ → ℕ → BoardView → Bool → BoardView → Type 0
+BeginsIf true index session at old began new = (began ≡ false) × (new ≡ old)
+BeginsIf false index session at old began new = At (Begins session at) index (slice_get old.links index) old began new
+
+abbrev pub BeginsAt : ℕ → ℕ → ℕ → BoardView → Bool → BoardView → Type 0
+BeginsAt index session at old began new = BeginsIf old.closing index session at old began new
+
+-- it ends
+abbrev pub EndsAt : ℕ → ℕ → BoardView → Bool → BoardView → Type 0
+EndsAt index session old ended new = At (Ends session) index (slice_get old.links index) old ended new
+
+-- its writer is woken
+abbrev pub WakesAt : ℕ → BoardView → Bool → BoardView → Type 0
+WakesAt index old woken new = At (Wakes old.changed) index (slice_get old.links index) old woken new
+
+-- a link becomes what a function makes of it
+abbrev pub ByFunction : (Link → Link) → ℕ → Option Link → BoardView → BoardView → Type 0
+ByFunction f index None old new = new ≡ old
+ByFunction f index (Some l) old new = new ≡ record old { links = slice_set old.links index (f l) }
+
+-- its writer sleeps
+abbrev pub SleepsAt : ℕ → BoardView → BoardView → Type 0
+SleepsAt index old new = ByFunction (λ l. record l { is_asleep = true }) index (slice_get old.links index) old new
+
+-- the history is known to have the entry at a position
+abbrev pub with_entry : ℕ → BoardView → BoardView
+with_entry at b = record b { entries = max b.entries (at + 1) }
+
+-- a Take for a link brought so many messages
+abbrev pub TakesAt : ℕ → ℕ → ℕ → ℕ → BoardView → BoardView → Type 0
+TakesAt index at taken most old new = ByFunction (λ l. record l { waiting = taken_at at taken most l.waiting }) index
+    (slice_get old.links index) (with_entry at old) new
+
+-- something was queued for a link
+abbrev pub QueuesAt : ℕ → ℕ → BoardView → BoardView → Type 0
+QueuesAt index at old new = ByFunction (λ l. record l { waiting = queued_at at l.waiting }) index (slice_get old.links index)
+    (with_entry at old) new
+
+-- the entry at a position changed a distance
+abbrev pub with_change : ℕ → BoardView → BoardView
+with_change at b = record b { entries = max b.entries (at + 1); changed = max b.changed (at + 1) }
+
+-- the session of a link, and whether something waits there
+abbrev pub session_in : Option Link → Option ℕ
+session_in None = None
+session_in (Some l) = l.session
+
+abbrev pub session_at : BoardView → ℕ → Option ℕ
+session_at b index = session_in (slice_get b.links index)
+
+abbrev pub waits_in : ℕ → Option Link → Bool
+waits_in changed None = false
+waits_in changed (Some l) = waits changed l.waiting
+
+abbrev pub waits_at : BoardView → ℕ → Bool
+waits_at b index = waits_in b.changed (slice_get b.links index)
+
+-- who saves the history can sleep: no more entries are known than are saved, and the router is not being closed
+abbrev pub can_rest : ℕ → BoardView → Bool
+can_rest saved b = nat_le b.entries saved && not b.closing
+
+abbrev pub awaits : Bool → ℕ → Option ℕ
+awaits true saved = Some saved
+awaits false saved = None
+
+-- who saves the history is woken, if they sleep and there is more to save, or the router is being closed
+abbrev pub WakesIf : Option ℕ → BoardView → Bool → BoardView → Type 0
+WakesIf None old woken new = (woken ≡ false) × (new ≡ old)
+WakesIf (Some saved) old woken new = (woken ≡ not (can_rest saved old))
+    × (new ≡ record old { awaited = awaits (can_rest saved old) saved })
+
+abbrev pub WakesSaver : BoardView → Bool → BoardView → Type 0
+WakesSaver old woken new = WakesIf old.awaited old woken new

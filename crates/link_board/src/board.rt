@@ -1,0 +1,210 @@
+//! What those who serve links know together.
+ghost use Rattle.std.specs.Prelude.{◌≡◌, ◌==◌, ◌<◌, ◌≤◌, ◌||◌, ◌&&◌, false, true, None, Some, [], IfOk, IfSome, IfNone, map, position, length, slice_get};
+ghost use Rattle.link_board.specs.Boards as spec;
+ghost use Rattle.link_board.specs.Steps.{link_to};
+
+use crate::link::Link;
+use std::alloc::{AllocError, Global};
+use std::marker::Model;
+
+/// What those who serve the links of one router know together. A contract sees it as a `BoardView`.
+///
+/// A link has at most one session. Whoever finds first that it is over ends it, and nobody does so twice.
+#[derive(Debug, Drop)]
+pub struct Board {
+    links: Vec<Link>,
+    /// The least number of entries that the history is known to have.
+    entries: u64,
+    /// How many it had with the last one that is known to have changed a distance.
+    changed: u64,
+    /// Who saves the history sleeps until it has more entries than that.
+    awaited: Option<u64>,
+    /// The router is being closed: no session begins any more.
+    closing: bool,
+}
+
+impl Model for Board {
+    ghost use Rattle.link_board.specs.Boards.{BoardView};
+
+    ghost Value = { BoardView };
+
+    ghost view = { λ b. record { links = b.links.items; entries = b.entries; changed = b.changed; awaited = b.awaited; closing = b.closing } };
+}
+
+impl Board {
+    /// The links to these neighbours, without sessions.
+    pub fn new(alloc: Global, nodes: &[u16]) -> Result<Board, AllocError>
+        ensures { IfOk result (λ b. b ≡ spec.fresh nodes.now) }
+    {
+        Ok(Board {
+            links: links_to(alloc, nodes)?,
+            entries: 0,
+            changed: 0,
+            awaited: None,
+            closing: false,
+        })
+    }
+
+    /// Begins a session of a link, whose Up has this position. False, and nothing is done, where a session is there already, there is
+    /// no such link, or the router is being closed.
+    pub fn begin(&mut self, index: usize, session: u32, at: u32) -> bool
+        ensures { spec.BeginsAt index session at self.old result self.new }
+    {
+        if self.closing {
+            return false;
+        }
+        match self.links.get_mut(index) {
+            Some(link) => link.begin(session, at),
+            None => false,
+        }
+    }
+
+    /// Ends a session of a link: true for the first who does.
+    pub fn end(&mut self, index: usize, session: u32) -> bool
+        ensures { spec.EndsAt index session self.old result self.new }
+    {
+        match self.links.get_mut(index) {
+            Some(link) => link.end(session),
+            None => false,
+        }
+    }
+
+    /// The session of a link, if one is there.
+    pub fn session(&self, index: usize) -> Option<u32>
+        ensures { result ≡ spec.session_at self.now index }
+    {
+        match self.links.get(index) {
+            Some(link) => link.session,
+            None => None,
+        }
+    }
+
+    /// The link to a node, if it has one.
+    pub fn link_to(&self, node: u16) -> Option<usize>
+        ensures { result ≡ position (λ l. l.node == node) self.now.links }
+    {
+        self.links.iter().position(|link| link.node == node)
+    }
+
+    /// The number of links.
+    pub fn len(&self) -> usize
+        ensures { result ≡ length self.now.links }
+    {
+        self.links.len()
+    }
+
+    /// The entry at this position is there.
+    pub fn note_entry(&mut self, at: u32)
+        ensures { self.new ≡ spec.with_entry at self.old }
+    {
+        self.entries = self.entries.max(u64::from(at) + 1);
+    }
+
+    /// The entry at this position changed a distance: something waits for each neighbour.
+    pub fn note_changed(&mut self, at: u32)
+        ensures { self.new ≡ spec.with_change at self.old }
+    {
+        self.note_entry(at);
+        self.changed = self.changed.max(u64::from(at) + 1);
+    }
+
+    /// The entry at this position queued something for the neighbour of a link.
+    pub fn note_queued(&mut self, index: usize, at: u32)
+        ensures { spec.QueuesAt index at self.old self.new }
+    {
+        self.note_entry(at);
+        if let Some(link) = self.links.get_mut(index) {
+            link.waiting.note_queued(at);
+        }
+    }
+
+    /// The entry at this position is a Take for a link, of at most `most` messages, and brought `taken` of them.
+    pub fn note_taken(&mut self, index: usize, at: u32, taken: usize, most: usize)
+        ensures { spec.TakesAt index at taken most self.old self.new }
+    {
+        self.note_entry(at);
+        if let Some(link) = self.links.get_mut(index) {
+            link.waiting.note_taken(at, taken, most);
+        }
+    }
+
+    /// Whether something waits for the neighbour of a link.
+    pub fn has_waiting(&self, index: usize) -> bool
+        ensures { result ≡ spec.waits_at self.now index }
+    {
+        match self.links.get(index) {
+            Some(link) => link.waiting.is_some(self.changed),
+            None => false,
+        }
+    }
+
+    /// The writer of a link is about to sleep.
+    pub fn sleep(&mut self, index: usize)
+        ensures { spec.SleepsAt index self.old self.new }
+    {
+        if let Some(link) = self.links.get_mut(index) {
+            link.is_asleep = true;
+        }
+    }
+
+    /// Whether the writer of a link is to be woken: it sleeps, and something waits or its session is over. It counts as awake then.
+    pub fn wakes(&mut self, index: usize) -> bool
+        ensures { spec.WakesAt index self.old result self.new }
+    {
+        let changed = self.changed;
+        match self.links.get_mut(index) {
+            Some(link) => link.wakes(changed),
+            None => false,
+        }
+    }
+
+    /// Who saves the history has saved so many entries, and is about to sleep. False where there is more to save, or the router is
+    /// being closed: then nobody sleeps.
+    pub fn rest_saver(&mut self, saved: u64) -> bool
+        ensures rests { result ≡ spec.can_rest saved self.old }
+        ensures board { self.new ≡ record self.old { awaited = spec.awaits (spec.can_rest saved self.old) saved } }
+    {
+        let rests = self.entries <= saved && !self.closing;
+        self.awaited = if rests { Some(saved) } else { None };
+        rests
+    }
+
+    /// Whether who saves the history is to be woken. They count as awake then.
+    pub fn wakes_saver(&mut self) -> bool
+        ensures { spec.WakesSaver self.old result self.new }
+    {
+        let Some(saved) = self.awaited else {
+            return false;
+        };
+        let wakes = self.entries > saved || self.closing;
+        if wakes {
+            self.awaited = None;
+        }
+        wakes
+    }
+
+    /// The router is being closed.
+    pub fn close(&mut self)
+        ensures { self.new ≡ record self.old { closing = true } }
+    {
+        self.closing = true;
+    }
+
+    /// Whether the router is being closed.
+    pub fn is_closing(&self) -> bool
+        ensures { result ≡ self.now.closing }
+    {
+        self.closing
+    }
+}
+
+/// A link to each of these nodes, without a session.
+fn links_to(alloc: Global, nodes: &[u16]) -> Result<Vec<Link>, AllocError>
+    ensures { IfOk result (λ links. links.items ≡ map link_to nodes.now) }
+{
+    let mut links = Vec::with_capacity(alloc, nodes.len())?;
+    for node in nodes {
+        links.push(Link::to(*node))?;
+    }
+    Ok(links)
+}

@@ -1,0 +1,67 @@
+//! A link, between two of its sessions or in one.
+ghost use Rattle.std.specs.Prelude.{◌≡◌, None};
+ghost use Rattle.link_board.specs.Steps as spec;
+
+use crate::waiting::Waiting;
+
+/// A link, between two of its sessions or in one.
+#[derive(Clone, Copy, Debug, PartialEq, Eq)]
+pub struct Link {
+    /// The neighbour that it leads to.
+    pub node: u16,
+    /// The session that is there; none where none is, or the last one is over.
+    pub session: Option<u32>,
+    /// Whether something waits for the neighbour.
+    pub waiting: Waiting,
+    /// Its writer sleeps until something waits.
+    pub is_asleep: bool,
+}
+
+impl Link {
+    /// The link to a node, without a session.
+    pub fn to(node: u16) -> Link
+        ensures { result ≡ spec.link_to node }
+    {
+        Link {
+            node,
+            session: None,
+            waiting: Waiting::new(),
+            is_asleep: false,
+        }
+    }
+
+    /// Begins a session, whose Up has this position. False, and nothing is done, where a session is there already.
+    pub fn begin(&mut self, session: u32, at: u32) -> bool
+        ensures { spec.Begins session at self.old result self.new }
+    {
+        if self.session.is_some() {
+            return false;
+        }
+        self.session = Some(session);
+        self.waiting.note_queued(at);
+        true
+    }
+
+    /// Ends a session: true for the first who does.
+    pub fn end(&mut self, session: u32) -> bool
+        ensures { spec.Ends session self.old result self.new }
+    {
+        if self.session != Some(session) {
+            return false;
+        }
+        self.session = None;
+        true
+    }
+
+    /// Whether the writer is to be woken, where the last entry that changed a distance left so many in the history: it sleeps, and
+    /// something waits or no session is there. It counts as awake then.
+    pub fn wakes(&mut self, changed: u64) -> bool
+        ensures { spec.Wakes changed self.old result self.new }
+    {
+        let wakes = self.is_asleep && (self.waiting.is_some(changed) || self.session.is_none());
+        if wakes {
+            self.is_asleep = false;
+        }
+        wakes
+    }
+}

@@ -1,0 +1,31 @@
+-- How the sources of a script are read, one after another.
+use Rattle.std.proofs.Common.{◌≡◌, ◌⊎◌, ℕ, ◌+◌, ◌++◌, List, [], Option, Some, Result, Ok, Err, IfErr, refl, inl, inr, add-one}
+use Rattle.std.specs.Prelude.{OnOk, slice_get}
+use Rattle.std.specs.declared.io.Error.{Error}
+use Rattle.command_line.specs.declared.aid_words.Source.{Source}
+use Rattle.ncroute.specs.Joining.{JoinsFirst, JoinsNext, LeavesNext, StopsAtSource}
+use Rattle.ncroute.specs.declared.texts.Unread.{Unread}
+
+module _ (opens : List ℕ → Result (Option (List ℕ)) Error → Type 0) (sources : List Source) where
+  pub none_joined : (known : Option (List ℕ)) → JoinsFirst opens sources 0 [] known known
+  unfolding JoinsFirst
+  none_joined known = (refl, refl)
+
+  pub one_more_joined : (n : ℕ) (source : Source) (earlier script : List ℕ) (known mid left : Option (List ℕ))
+      → slice_get sources n ≡ Some source → JoinsFirst opens sources n earlier known mid → JoinsNext opens source earlier script mid left
+      → JoinsFirst opens sources (n + 1) script known left
+  unfolding JoinsFirst
+  one_more_joined n source earlier script known mid left is first next = rw add-one (source, earlier, mid, is, first, next)
+
+  -- a source is not read behind others
+  pub not_joined : (n : ℕ) (source : Source) (why : Unread) (earlier : List ℕ) (known mid left : Option (List ℕ))
+      → slice_get sources n ≡ Some source → JoinsFirst opens sources n earlier known mid
+      → LeavesNext opens source why mid left → StopsAtSource opens sources source why known left
+  not_joined n source why earlier known mid left is first leaves = record {
+    n = n;
+    is_source = is;
+    earlier = earlier;
+    mid = mid;
+    first = first;
+    leaves = leaves;
+  }

@@ -1,0 +1,70 @@
+-- How the filters that a script is started with are read, and how it is told that one of them is refused. (This project's own choice.)
+use Rattle.std.specs.Prelude.{◌≡◌, ◌⊎◌, ◌<◌, ◌≤◌, ◌++◌, ℕ, zero, suc, List, [], ◌∷◌, Option, Some, None, Result, length, slice_get, string_bytes}
+use Rattle.std.specs.declared.io.Error.{Error}
+use Rattle.filter_source.specs.Limits.{source_limit}
+use Rattle.filter_source.specs.declared.diagnosis.Diagnosis.{Diagnosis}
+use Rattle.filter_tools.specs.Telling.{Explains, IsCutExplanation}
+use Rattle.line_protocol.specs.declared.faults.StreamFault.{StreamFault}
+use Rattle.script_runs.specs.declared.naming.NamedFilter.{NamedFilter}
+use Rattle.script_runs.specs.declared.naming.Unfit.{Unfit}
+use Rattle.command_line.specs.declared.aid_words.Source.{Source}
+use Rattle.command_line.specs.declared.filter_words.NamedFile.{NamedFile}
+use Rattle.ncroute.specs.Reading.{IsRead, IsUnread, name_of}
+use Rattle.ncroute.specs.declared.texts.Unread.{Unread}
+use Rattle.ncroute.specs.declared.texts.Unread.TheVariants as unread
+
+-- `opens name` says what may come of opening a file of this name.
+module _ (opens : List ℕ → Result (Option (List ℕ)) Error → Type 0) where
+  -- A filter was read: its name is the one that was given, and its text is all that its source has. `known` is what standard input had
+  -- before, `left` what it has now.
+  pub record ReadsFilter (file : NamedFile) (filter : NamedFilter) (known left : Option (List ℕ)) : Type 0 where
+    pub name : filter.name.items ≡ string_bytes file.name
+    pub origin : filter.origin.items ≡ name_of file.source
+    pub text : IsRead opens source_limit file.source filter.text.items known left
+    pub within : length filter.text.items ≤ source_limit
+
+  -- A filter was not read: its source was not, or it is longer than its limit. Where memory is refused nothing is said of it.
+  abbrev pub LeavesFilter : NamedFile → Unread → Option (List ℕ) → Option (List ℕ) → Type 0
+  LeavesFilter file why known left = (why ≡ unread.Memory) ⊎ (IsUnread opens source_limit file.source why known left
+      ⊎ ((text : List ℕ) × IsRead opens source_limit file.source text known left × (source_limit < length text) × (why ≡ unread.TooLong)))
+
+  -- The first n of some filters were read, in order.
+  unfoldable pub ReadsFirst : List NamedFile → ℕ → List NamedFilter → Option (List ℕ) → Option (List ℕ) → Type 0
+  ReadsFirst files zero filters known left = (filters ≡ []) × (left ≡ known)
+  ReadsFirst files (suc n) filters known left = (file : NamedFile) × (filter : NamedFilter) × (earlier : List NamedFilter)
+      × (mid : Option (List ℕ)) × (slice_get files n ≡ Some file) × ReadsFirst files n earlier known mid
+      × ReadsFilter file filter mid left × (filters ≡ earlier ++ filter ∷ [])
+
+  -- all of them were
+  abbrev pub ReadsFilters : List NamedFile → List NamedFilter → Option (List ℕ) → Option (List ℕ) → Type 0
+  ReadsFilters files filters known left = ReadsFirst files (length files) filters known left
+
+  -- The first that was not read is this one.
+  pub record StopsAtFilter (files : List NamedFile) (source : Source) (why : Unread) (known left : Option (List ℕ)) : Type 0 where
+    pub n : ℕ
+    pub file : NamedFile
+    pub is_file : slice_get files n ≡ Some file
+    pub is_source : source ≡ file.source
+    pub earlier : List NamedFilter
+    pub mid : Option (List ℕ)
+    pub first : ReadsFirst files n earlier known mid
+    pub leaves : LeavesFilter file why mid left
+
+-- Standard error was told why a filter is refused, at its place in its source. `told` is what it held before, `tells` what it holds now.
+abbrev pub TellsOfFilter : Option NamedFilter → Diagnosis → Option (List ℕ) → Option (List ℕ) → Type 0
+TellsOfFilter None why told tells = tells ≡ told
+TellsOfFilter (Some filter) why told tells = Explains filter.origin.items filter.text.items (Some why) told tells
+
+-- so it was where one of these filters is
+abbrev pub TellsUnfit : List NamedFilter → Option Unfit → Option (List ℕ) → Option (List ℕ) → Type 0
+TellsUnfit filters None told tells = tells ≡ told
+TellsUnfit filters (Some unfit) told tells = TellsOfFilter (slice_get filters unfit.index) unfit.told told tells
+
+-- A fault cut what was told of a filter.
+abbrev pub IsCutFilter : StreamFault → Option NamedFilter → Diagnosis → Option (List ℕ) → Option (List ℕ) → Type 0
+IsCutFilter fault None why told tells = ⊥
+IsCutFilter fault (Some filter) why told tells = IsCutExplanation fault filter.origin.items filter.text.items why told tells
+
+abbrev pub IsCutUnfit : StreamFault → List NamedFilter → Option Unfit → Option (List ℕ) → Option (List ℕ) → Type 0
+IsCutUnfit fault filters None told tells = ⊥
+IsCutUnfit fault filters (Some unfit) told tells = IsCutFilter fault (slice_get filters unfit.index) unfit.told told tells

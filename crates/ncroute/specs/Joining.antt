@@ -1,0 +1,93 @@
+-- The script of a router that several sources are, one after another. (This project's own choice.)
+use Rattle.std.specs.Prelude.{◌≡◌, ◌⊎◌, ◌==◌, ◌-◌, ℕ, zero, suc, Bool, true, if◌then◌else◌, List, [], ◌∷◌, ◌++◌, Option, Some, None, Result, length, slice_get}
+use Rattle.std.specs.declared.io.Error.{Error}
+use Rattle.line_protocol.specs.Limits.{input_limit}
+use Rattle.line_protocol.specs.declared.faults.StreamFault.{StreamFault}
+use Rattle.script_runs.specs.declared.naming.NamedFilter.{NamedFilter}
+use Rattle.command_line.specs.declared.aid_words.Running.{Running}
+use Rattle.command_line.specs.declared.aid_words.Source.{Source}
+use Rattle.ncroute.specs.Filters.{ReadsFilters, StopsAtFilter}
+use Rattle.ncroute.specs.Guiding.{GuidesScript, StopsGuided}
+use Rattle.ncroute.specs.Reading.{IsRead, IsUnread, StopsTelling, TellsUnread}
+use Rattle.ncroute.specs.Streaming.{Streams}
+use Rattle.ncroute.specs.declared.texts.Unread.{Unread}
+use Rattle.ncroute.specs.declared.texts.Unread.TheVariants as unread
+
+-- a text has no line that no line feed ends: its last byte is one, or it has none
+abbrev pub is_end : Option ℕ → Bool
+is_end None = true
+is_end (Some byte) = byte == 10
+
+abbrev pub ends_line : List ℕ → Bool
+ends_line text = is_end (slice_get text (length text - 1))
+
+-- a text, and a line feed where its last line has none
+abbrev pub ended : List ℕ → List ℕ
+ended text = if ends_line text then text else text ++ 10 ∷ []
+
+-- `opens name` says what may come of opening a file of this name.
+module _ (opens : List ℕ → Result (Option (List ℕ)) Error → Type 0) where
+  -- A source was read to its end, or to the limit, and its text added to a script. `known` is what standard input had before, `left` what it has now.
+  abbrev pub JoinsNext : Source → List ℕ → List ℕ → Option (List ℕ) → Option (List ℕ) → Type 0
+  JoinsNext source earlier script known left =
+      (text : List ℕ) × IsRead opens input_limit source text known left × (script ≡ earlier ++ ended text)
+
+  -- It was not. Where memory is refused nothing is said of it.
+  abbrev pub LeavesNext : Source → Unread → Option (List ℕ) → Option (List ℕ) → Type 0
+  LeavesNext source why known left = (why ≡ unread.Memory) ⊎ IsUnread opens input_limit source why known left
+
+  -- The first n of some sources were read, in order, and the script is their texts, one after another.
+  unfoldable pub JoinsFirst : List Source → ℕ → List ℕ → Option (List ℕ) → Option (List ℕ) → Type 0
+  JoinsFirst sources zero script known left = (script ≡ []) × (left ≡ known)
+  JoinsFirst sources (suc n) script known left = (source : Source) × (earlier : List ℕ) × (mid : Option (List ℕ))
+      × (slice_get sources n ≡ Some source) × JoinsFirst sources n earlier known mid × JoinsNext source earlier script mid left
+
+  -- all of them were
+  abbrev pub JoinsAll : List Source → List ℕ → Option (List ℕ) → Option (List ℕ) → Type 0
+  JoinsAll sources script known left = JoinsFirst sources (length sources) script known left
+
+  -- The first that was not read is this one.
+  pub record StopsAtSource (sources : List Source) (source : Source) (why : Unread) (known left : Option (List ℕ)) : Type 0 where
+    pub n : ℕ
+    pub is_source : slice_get sources n ≡ Some source
+    pub earlier : List ℕ
+    pub mid : Option (List ℕ)
+    pub first : JoinsFirst sources n earlier known mid
+    pub leaves : LeavesNext source why mid left
+
+-- `creates name` says what may come of making a file of this name.
+module _ (creates opens : List ℕ → Result (Option (List ℕ)) Error → Type 0) where
+  -- The sources were read, and the script that they are was carried out; or one of them was not read, and no line was answered.
+  abbrev pub RunsTexts : Running → List NamedFilter → List Source → Streams → Streams → ℕ → Type 0
+  RunsTexts how filters sources before after status =
+      ((script : List ℕ) × (remains : Option (List ℕ)) × JoinsAll opens sources script before.reads after.reads
+      × GuidesScript creates how filters (record { reads = Some script; holds = before.holds; tells = before.tells })
+      (record { reads = remains; holds = after.holds; tells = after.tells }) status)
+      ⊎ ((source : Source) × (why : Unread) × StopsAtSource opens sources source why before.reads after.reads
+      × TellsUnread source why before.tells after.tells × (after.holds ≡ before.holds) × (status ≡ 1))
+
+  -- A fault ended it.
+  abbrev pub StopsTexts : StreamFault → Running → List NamedFilter → List Source → Streams → Streams → Type 0
+  StopsTexts fault how filters sources before after =
+      ((script : List ℕ) × (remains : Option (List ℕ)) × JoinsAll opens sources script before.reads after.reads
+      × StopsGuided creates fault how filters (record { reads = Some script; holds = before.holds; tells = before.tells })
+      (record { reads = remains; holds = after.holds; tells = after.tells }))
+      ⊎ ((source : Source) × (why : Unread) × StopsAtSource opens sources source why before.reads after.reads
+      × StopsTelling fault source why before.tells after.tells × (after.holds ≡ before.holds))
+
+  -- The filters were read, in order, then the sources, and then the script was carried out; or one of them was not read, and no line was
+  -- answered.
+  abbrev pub RunsJoined : Running → List Source → Streams → Streams → ℕ → Type 0
+  RunsJoined how sources before after status =
+      ((filters : List NamedFilter) × (left : Option (List ℕ)) × ReadsFilters opens how.filters.items filters before.reads left
+      × RunsTexts how filters sources (record { reads = left; holds = before.holds; tells = before.tells }) after status)
+      ⊎ ((unread : Source) × (why : Unread) × StopsAtFilter opens how.filters.items unread why before.reads after.reads
+      × TellsUnread unread why before.tells after.tells × (after.holds ≡ before.holds) × (status ≡ 1))
+
+  -- A fault ended it.
+  abbrev pub StopsJoined : StreamFault → Running → List Source → Streams → Streams → Type 0
+  StopsJoined fault how sources before after =
+      ((filters : List NamedFilter) × (left : Option (List ℕ)) × ReadsFilters opens how.filters.items filters before.reads left
+      × StopsTexts fault how filters sources (record { reads = left; holds = before.holds; tells = before.tells }) after)
+      ⊎ ((unread : Source) × (why : Unread) × StopsAtFilter opens how.filters.items unread why before.reads after.reads
+      × StopsTelling fault unread why before.tells after.tells × (after.holds ≡ before.holds))

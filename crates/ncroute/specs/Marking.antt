@@ -1,0 +1,59 @@
+-- The report on a source where each line begins with the source's name, or where only refusals are written. (This project's own choice.)
+use Rattle.std.specs.Prelude.{◌≡◌, ◌⊎◌, ◌==◌, ℕ, Bool, true, false, if◌then◌else◌, is_some, List, [], ◌∷◌, ◌++◌, Option, Some, None, codes}
+use Rattle.std.specs.Io.KnownBytes.{Appends, Keeps}
+use Rattle.filter_commands.specs.Evaluation.{IsCut}
+use Rattle.filter_source.specs.declared.diagnosis.Diagnosis.{Diagnosis}
+use Rattle.filter_tools.specs.Filtering.{refusal_line}
+use Rattle.filter_tools.specs.Naming.{ChecksNamed, ChecksNamedOff}
+use Rattle.filter_tools.specs.Shown.{shown}
+use Rattle.line_protocol.specs.declared.faults.StreamFault.{StreamFault}
+use Rattle.command_line.specs.declared.aid_words.Checking.{Checking}
+
+-- what stands before a byte of a text, by the byte before it: a mark where it begins a line
+abbrev pub mark_behind : List ℕ → ℕ → List ℕ
+mark_behind mark before = if before == 10 then mark else []
+
+-- each byte of a text, with the mark before it where it begins a line; `before` is the byte before the first of them
+abbrev pub marked_after : List ℕ → ℕ → List ℕ → List ℕ
+marked_after mark before [] = []
+marked_after mark before (byte ∷ more) = mark_behind mark before ++ byte ∷ marked_after mark byte more
+
+-- a text with a mark at the head of each line
+abbrev pub marked : List ℕ → List ℕ → List ℕ
+marked mark text = marked_after mark 10 text
+
+-- what stands before each line: the name of the source as it is shown
+abbrev pub name_mark : Bool → List ℕ → List ℕ
+name_mark true name = shown name ++ codes ": "
+name_mark false name = []
+
+-- the line of a report that refuses its source, if one does
+abbrev pub refusals_in : Option Diagnosis → List ℕ
+refusals_in None = []
+refusals_in (Some why) = refusal_line why.refusal
+
+-- the lines of a report that are written: all of them, or only the one that refuses
+abbrev pub kept_lines : Bool → List ℕ → Option Diagnosis → List ℕ
+kept_lines true report why = refusals_in why
+kept_lines false report why = report
+
+-- what is written of a report on a source
+abbrev pub written_of : Checking → List ℕ → List ℕ → Option Diagnosis → List ℕ
+written_of how name report why = marked (name_mark how.has_names name) (kept_lines how.is_quiet report why)
+
+-- The report on a text was made and told, and these lines of it were written, and it is said whether it refuses the text. `held` and
+-- `holds` are what the writer held before and holds now, `told` and `tells` the same of standard error.
+pub record ChecksLines (how : Checking) (name text : List ℕ) (held holds told tells : Option (List ℕ)) (is_refused : Bool) : Type 0 where
+  pub why : Option Diagnosis
+  pub report : List ℕ
+  pub checked : ChecksNamed how.size how.is_code how.is_explained name text (Some []) (Some report) told tells why
+  pub written : Appends held holds (written_of how name report why)
+  pub judged : is_refused ≡ is_some why
+
+-- A fault cut that: the report was not made, or what is told of it was cut, and nothing was written; or what is written of it was cut.
+abbrev pub CutsLines : StreamFault → Checking → List ℕ → List ℕ → Option (List ℕ) → Option (List ℕ) → Option (List ℕ) → Option (List ℕ) → Type 0
+CutsLines fault how name text held holds told tells =
+    ((made : Option (List ℕ)) × ChecksNamedOff fault how.size how.is_code how.is_explained name text (Some []) made told tells × (holds ≡ held))
+    ⊎ ((why : Option Diagnosis) × (report : List ℕ)
+    × ChecksNamed how.size how.is_code how.is_explained name text (Some []) (Some report) told tells why
+    × IsCut fault held holds (written_of how name report why))

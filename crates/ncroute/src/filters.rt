@@ -1,0 +1,161 @@
+//! The filters that a script is started with: they are read before its first line is answered, and people are told if one is refused.
+ghost use Rattle.std.specs.Option.{option_map};
+ghost use Rattle.std.specs.Prelude.{◌≡◌, [], ◌∷◌, ◌++◌, IfErr, IfOk, OnOk, slice_get};
+ghost use Rattle.filter_commands.specs.Faults.{stream_fault};
+ghost use Rattle.script_runs.specs.declared.naming.NamedFilter.{NamedFilter as TheFilter};
+ghost use Rattle.ncroute.specs.Filters.{IsCutFilter, IsCutUnfit, LeavesFilter, ReadsFilter, ReadsFilters, StopsAtFilter, TellsOfFilter, TellsUnfit};
+
+use crate::texts::{Folder, Unread, name_of, read_source};
+use command_line::{NamedFile, Source};
+use filter_commands::ProgramFault;
+use filter_source::{Diagnosis, SOURCE_LIMIT};
+use filter_tools::tell;
+use script_runs::{NamedFilter, Unfit};
+use std::alloc::Global;
+use std::io::{Read, Write};
+
+/// The source of a filter that was not read, and why.
+#[derive(Debug, Drop)]
+pub struct UnreadFilter<'a> {
+    /// The source.
+    pub source: &'a Source,
+    /// Why it was not read.
+    pub why: Unread,
+}
+
+/// A copy of bytes.
+fn copy(alloc: Global, bytes: &[u8]) -> Result<Vec<u8>, Unread>
+    ensures ok { IfOk result (λ copy. copy.items ≡ bytes.now) }
+    ensures err { IfErr result (λ why. why ≡ Unread.Memory) }
+{
+    match Vec::from_slice(alloc, bytes) {
+        Ok(copy) => Ok(copy),
+        Err(_) => Err(Unread::Memory),
+    }
+}
+
+/// Reads a filter.
+fn read_filter<F: Folder, R: Read>(
+    files: &F,
+    alloc: Global,
+    file: &NamedFile,
+    reader: &mut R,
+) -> Result<NamedFilter, Unread>
+    ensures read { IfOk result (λ filter. ReadsFilter (F.opens files.now) file.now filter (R.remaining reader.old) (R.remaining reader.new)) }
+    ensures unread { IfErr result (λ why. LeavesFilter (F.opens files.now) file.now why (R.remaining reader.old) (R.remaining reader.new)) }
+{
+    let name = copy(alloc, file.name.as_str().as_bytes())?;
+    let origin = copy(alloc, name_of(&file.source))?;
+    let text = read_source(files, alloc, &file.source, SOURCE_LIMIT, reader)?;
+    if text.len() > SOURCE_LIMIT {
+        return Err(Unread::TooLong);
+    }
+    Ok(NamedFilter { name, origin, text })
+}
+
+/// Adds a filter to others.
+fn add(filters: &mut Vec<NamedFilter>, filter: NamedFilter) -> Result<(), Unread>
+    ensures ok { OnOk result (filters.new.items ≡ filters.old.items ++ filter ∷ []) }
+    ensures err { IfErr result (λ why. why ≡ Unread.Memory) }
+{
+    match filters.push(filter) {
+        Ok(()) => Ok(()),
+        Err(_) => Err(Unread::Memory),
+    }
+}
+
+/// Reads a filter, and adds it to others.
+fn read_next<F: Folder, R: Read>(
+    files: &F,
+    alloc: Global,
+    file: &NamedFile,
+    reader: &mut R,
+    filters: &mut Vec<NamedFilter>,
+) -> Result<(), Unread>
+    ensures read { OnOk result ((filter : TheFilter)
+        × ReadsFilter (F.opens files.now) file.now filter (R.remaining reader.old) (R.remaining reader.new)
+        × (filters.new.items ≡ filters.old.items ++ filter ∷ [])) }
+    ensures unread { IfErr result (λ why. LeavesFilter (F.opens files.now) file.now why (R.remaining reader.old) (R.remaining reader.new)) }
+{
+    let filter = read_filter(files, alloc, file, reader)?;
+    add(filters, filter)
+}
+
+/// Reads the filters of these files, in order, up to the first that is not read.
+pub fn read_filters<'a, F: Folder, R: Read>(
+    files: &F,
+    alloc: Global,
+    named: &'a [NamedFile],
+    reader: &mut R,
+) -> Result<Vec<NamedFilter>, UnreadFilter<'a>>
+    ensures read { IfOk result (λ filters. ReadsFilters (F.opens files.now) named.now filters.items
+        (R.remaining reader.old) (R.remaining reader.new)) }
+    ensures unread { IfErr result (λ unread. StopsAtFilter (F.opens files.now) named.now unread.source.now unread.why
+        (R.remaining reader.old) (R.remaining reader.new)) }
+{
+    let mut filters = Vec::new(alloc);
+    for file in named {
+        match read_next(files, alloc, file, reader, &mut filters) {
+            Ok(()) => {}
+            Err(why) => {
+                return Err(UnreadFilter {
+                    source: &file.source,
+                    why,
+                });
+            }
+        }
+    }
+    Ok(filters)
+}
+
+/// The filter at a place, if there is one.
+#[tactic(auto, using(std::proofs::lemmas::Option::gets))]
+fn filter_at(filters: &[NamedFilter], index: usize) -> Option<&NamedFilter>
+    ensures { slice_get filters.now index ≡ option_map (λ filter. filter.now) result }
+{
+    if index < filters.len() {
+        Some(&filters[index])
+    } else {
+        None
+    }
+}
+
+/// Tells why this filter is refused.
+fn tell_filter<E: Write>(
+    alloc: Global,
+    errors: &mut E,
+    filter: Option<&NamedFilter>,
+    told: &Diagnosis,
+) -> Result<(), ProgramFault>
+    ensures ok { OnOk result (TellsOfFilter (option_map (λ filter. filter.now) filter.entry) told.now
+        (E.contents errors.old) (E.contents errors.new)) }
+    ensures err { IfErr result (λ fault. IsCutFilter (stream_fault fault) (option_map (λ filter. filter.now) filter.entry) told.now
+        (E.contents errors.old) (E.contents errors.new)) }
+{
+    match filter {
+        Some(filter) => {
+            let (origin, text) = (filter.origin.as_slice(), filter.text.as_slice());
+            tell(alloc, errors, origin, text, told)
+        }
+        None => Ok(()),
+    }
+}
+
+/// Tells why a filter is refused, if one of these is.
+pub fn tell_unfit<E: Write>(
+    alloc: Global,
+    errors: &mut E,
+    filters: &[NamedFilter],
+    unfit: &Option<Unfit>,
+) -> Result<(), ProgramFault>
+    ensures ok { OnOk result (TellsUnfit filters.now unfit.now (E.contents errors.old) (E.contents errors.new)) }
+    ensures err { IfErr result (λ fault. IsCutUnfit (stream_fault fault) filters.now unfit.now (E.contents errors.old) (E.contents errors.new)) }
+{
+    match unfit {
+        None => Ok(()),
+        Some(unfit) => {
+            let filter = filter_at(filters, unfit.index);
+            tell_filter(alloc, errors, filter, &unfit.told)
+        }
+    }
+}

@@ -1,0 +1,189 @@
+//! The script of a router that several sources are, one after another.
+ghost use Rattle.std.specs.Option.{option_map};
+ghost use Rattle.std.specs.Prelude.{◌≡◌, ◌++◌, IfErr, IfOk, OnErr, OnOk};
+ghost use Rattle.filter_commands.specs.Faults.{stream_fault};
+ghost use Rattle.ncroute.specs.Joining.{JoinsAll, JoinsNext, LeavesNext, RunsJoined, RunsTexts, StopsAtSource, StopsJoined, StopsTexts, ended, ends_line};
+
+use crate::filters::read_filters;
+use crate::guided::guide_script;
+use crate::serve::FAILED;
+use crate::texts::{Folder, Unread, name_of, read_source, tell_unread};
+use crate::watcher::Part;
+use command_line::{Running, Source};
+use filter_commands::ProgramFault;
+use line_protocol::INPUT_LIMIT;
+use script_runs::NamedFilter;
+use std::alloc::{AllocError, Global};
+use std::io::{Read, Write};
+
+/// The text of several sources, and where each begins.
+#[derive(Drop)]
+struct Joined<'a> {
+    /// The text.
+    text: Vec<u8>,
+    /// The parts that the sources are, in order.
+    parts: Vec<Part<'a>>,
+}
+
+/// A source that was not read, and why.
+#[derive(Drop)]
+struct UnreadSource<'a> {
+    /// The source.
+    source: &'a Source,
+    /// Why it was not read.
+    why: Unread,
+}
+
+/// Whether a text has no line that no line feed ends.
+fn ends_line(text: &[u8]) -> bool
+    ensures { result ≡ ends_line text.now }
+{
+    match text.last() {
+        Some(byte) => *byte == b'\n',
+        None => true,
+    }
+}
+
+/// Adds a text to a script, and a line feed where its last line has none.
+fn add_text(script: &mut Vec<u8>, text: &[u8]) -> Result<(), AllocError>
+    ensures { OnOk result (script.new.items ≡ script.old.items ++ ended text.now) }
+{
+    script.extend_from_slice(text)?;
+    if ends_line(text) {
+        return Ok(());
+    }
+    script.extend_from_slice(b"\n")
+}
+
+/// The number of lines of a script of which each ends.
+fn count_lines(script: &[u8]) -> u32 {
+    let lines = script.iter().filter(|byte| **byte == b'\n').count();
+    lines.min(u32::MAX as usize) as u32
+}
+
+/// Reads a source, and adds its text to what the sources before it have.
+fn read_next<'a, F: Folder, R: Read>(
+    files: &F,
+    alloc: Global,
+    source: &'a Source,
+    reader: &mut R,
+    joined: &mut Joined<'a>,
+) -> Result<(), Unread>
+    ensures read { OnOk result (JoinsNext (F.opens files.now) source.now joined.old.text.items joined.new.text.items
+        (R.remaining reader.old) (R.remaining reader.new)) }
+    ensures unread { IfErr result (λ why. LeavesNext (F.opens files.now) source.now why (R.remaining reader.old) (R.remaining reader.new)) }
+{
+    let part = Part {
+        name: name_of(source),
+        before: count_lines(joined.text.as_slice()),
+    };
+    let text = read_source(files, alloc, source, INPUT_LIMIT, reader)?;
+    match joined.add(part, text.as_slice()) {
+        Ok(()) => Ok(()),
+        Err(_) => Err(Unread::Memory),
+    }
+}
+
+impl<'a> Joined<'a> {
+    /// Adds the text of a part.
+    fn add(&mut self, part: Part<'a>, text: &[u8]) -> Result<(), AllocError>
+        ensures { OnOk result (self.new.text.items ≡ self.old.text.items ++ ended text.now) }
+    {
+        self.parts.push(part)?;
+        add_text(&mut self.text, text)
+    }
+}
+
+/// Reads these sources, in order, up to the first that is not read, and joins their texts.
+fn read_texts<'a, F: Folder, R: Read>(
+    files: &F,
+    alloc: Global,
+    sources: &'a [Source],
+    reader: &mut R,
+) -> Result<Joined<'a>, UnreadSource<'a>>
+    ensures read { IfOk result (λ joined. JoinsAll (F.opens files.now) sources.now joined.text.items
+        (R.remaining reader.old) (R.remaining reader.new)) }
+    ensures unread { IfErr result (λ unread. StopsAtSource (F.opens files.now) sources.now unread.source.now unread.why
+        (R.remaining reader.old) (R.remaining reader.new)) }
+{
+    let text = Vec::new(alloc);
+    let parts = Vec::new(alloc);
+    let mut joined = Joined { text, parts };
+    for source in sources {
+        match read_next(files, alloc, source, reader, &mut joined) {
+            Ok(()) => {}
+            Err(why) => return Err(UnreadSource { source, why }),
+        }
+    }
+    Ok(joined)
+}
+
+/// Reads the sources of a script, carries it out, and returns the exit status.
+fn guide_texts<F: Folder, R: Read, W: Write, E: Write>(
+    files: &F,
+    alloc: Global,
+    how: &Running,
+    filters: &[NamedFilter],
+    sources: &[Source],
+    reader: &mut R,
+    writer: &mut W,
+    errors: &mut E,
+) -> Result<u8, ProgramFault>
+    ensures finished { IfOk result (RunsTexts (F.creates files.now) (F.opens files.now) how.now filters.now sources.now
+        (record { reads = R.remaining reader.old; holds = W.contents writer.old; tells = E.contents errors.old })
+        (record { reads = R.remaining reader.new; holds = W.contents writer.new; tells = E.contents errors.new })) }
+    ensures stopped { IfErr result (λ fault. StopsTexts (F.creates files.now) (F.opens files.now) (stream_fault fault) how.now filters.now
+        sources.now
+        (record { reads = R.remaining reader.old; holds = W.contents writer.old; tells = E.contents errors.old })
+        (record { reads = R.remaining reader.new; holds = W.contents writer.new; tells = E.contents errors.new })) }
+{
+    match read_texts(files, alloc, sources, reader) {
+        Ok(joined) => {
+            let (mut script, parts) = (joined.text.as_slice(), joined.parts.as_slice());
+            guide_script(
+                files,
+                alloc,
+                how,
+                parts,
+                filters,
+                &mut script,
+                writer,
+                errors,
+            )
+        }
+        Err(unread) => {
+            tell_unread(alloc, errors, unread.source, unread.why)?;
+            Ok(FAILED)
+        }
+    }
+}
+
+/// Reads the filters that a script is started with, then the sources that it is made of, carries the script out, and returns the exit
+/// status. What is told of a line is told at its number in its source.
+pub fn guide_sources<F: Folder, R: Read, W: Write, E: Write>(
+    files: &F,
+    alloc: Global,
+    how: &Running,
+    sources: &[Source],
+    reader: &mut R,
+    writer: &mut W,
+    errors: &mut E,
+) -> Result<u8, ProgramFault>
+    ensures finished { IfOk result (RunsJoined (F.creates files.now) (F.opens files.now) how.now sources.now
+        (record { reads = R.remaining reader.old; holds = W.contents writer.old; tells = E.contents errors.old })
+        (record { reads = R.remaining reader.new; holds = W.contents writer.new; tells = E.contents errors.new })) }
+    ensures stopped { IfErr result (λ fault. StopsJoined (F.creates files.now) (F.opens files.now) (stream_fault fault) how.now sources.now
+        (record { reads = R.remaining reader.old; holds = W.contents writer.old; tells = E.contents errors.old })
+        (record { reads = R.remaining reader.new; holds = W.contents writer.new; tells = E.contents errors.new })) }
+{
+    match read_filters(files, alloc, how.filters.as_slice(), reader) {
+        Ok(filters) => {
+            let filters = filters.as_slice();
+            guide_texts(files, alloc, how, filters, sources, reader, writer, errors)
+        }
+        Err(unread) => {
+            tell_unread(alloc, errors, unread.source, unread.why)?;
+            Ok(FAILED)
+        }
+    }
+}

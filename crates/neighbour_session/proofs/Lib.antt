@@ -1,0 +1,5 @@
+mod Calling
+mod Gaining
+mod Keeping
+mod Reading
+mod Writing

@@ -1,0 +1,122 @@
+-- A reader that has turns again and again.
+use Rattle.std.proofs.Common.{◌≡◌, ◌∙◌, sym, ap, subst, refl, ℕ, Option, None, List, [], ◌∷◌, ◌++◌, append_assoc, append-nil, length}
+use Rattle.std.specs.Prelude.{All, Bool, false}
+use Rattle.std.proofs.lemmas.List.Elements.{All-nil}
+use Rattle.std.specs.List.{AllZip}
+use Rattle.netchange_core.specs.declared.message.Message.{Message}
+use Rattle.route_history.specs.declared.entry.Entry.{Entry}
+use Rattle.route_session.specs.declared.ends.Cause.{Cause}
+use Rattle.route_session.specs.declared.ends.Cause.TheVariants as cause
+use Rattle.route_session.specs.declared.ends.ReadEnd.{ReadEnd}
+use Rattle.route_session.specs.Calls.{Gained, IsCauseAt, IsCauseIn, IsFresh}
+use Rattle.route_session.specs.Reads.{IsReadBy, LosesBy, Reads, Receives}
+use Rattle.route_session.specs.Told.{Told, grown}
+use Rattle.slot_lock.specs.Held.{Part, PassView, RouterView}
+use Rattle.stream_link.specs.Views.{LinkView}
+use Rattle.neighbour_session.specs.Reading.{IsReaderOver, IsReaderStopped, ReadsOut}
+use Rattle.neighbour_session.specs.declared.ends.SessionEnd.{SessionEnd}
+use Rattle.neighbour_session.specs.declared.ends.SessionEnd.TheVariants as end
+use Rattle.neighbour_session.proofs.Gaining.{cause_after, gained_both, gained_none, grown_both, grown_none, told_after, zip_both}
+
+-- each message that the link handed out was entered, and the reader has not ended
+pub record HasRead (session : ℕ) (old : Part) (t : Told) (new : Part) (u : Told) : Type 0 where
+  pub calls : List Entry
+  pub messages : List Message
+  pub gained : Gained old calls new
+  pub received : AllZip (Receives session) calls messages
+  pub handed : u.handed ≡ grown t.handed messages
+  pub given : u.given ≡ t.given
+  pub is_closed : u.closed ≡ t.closed
+  pub fresh : All IsFresh calls
+  pub ended : u.ended ≡ t.ended
+  pub failures : u.failures ≡ t.failures
+
+pub read_none : (session : ℕ) (p : Part) (t : Told) → HasRead session p t p t
+read_none session p t = record {
+  calls = [];
+  messages = [];
+  gained = gained_none p;
+  received = tt;
+  handed = grown_none t.handed;
+  given = refl;
+  is_closed = refl;
+  fresh = All-nil IsFresh;
+  ended = refl;
+  failures = refl;
+}
+
+-- and what comes last: the whole of it is as one reader's
+pub read_last : (r : RouterView) (session : ℕ) (old : Part) (t : Told) (mid : Part) (m : Told) (last : ReadEnd) (new : Part) (u : Told)
+    (h : HasRead session old t mid m) (k : IsReadBy r session mid m last new u) →
+    IsReadBy r session old t (record { cause = last.cause; entered = length (h.calls ++ k.calls); lost = last.lost }) new u
+read_last r session old t mid m last new u h k = record {
+  calls = h.calls ++ k.calls;
+  lost = k.lost;
+  reads = record {
+    gained = gained_both old h.calls mid k.calls new h.gained k.reads.gained;
+    messages = h.messages ++ k.reads.messages;
+    received = zip_both (Receives session) h.calls h.messages k.calls k.reads.messages h.received k.reads.received;
+    handed = k.reads.handed ∙ ap (λ o. grown o (k.reads.messages ++ k.lost)) h.handed
+        ∙ grown_both t.handed h.messages (k.reads.messages ++ k.lost)
+        ∙ ap (grown t.handed) (sym (append_assoc h.messages k.reads.messages k.lost));
+    given = k.reads.given ∙ h.given;
+    is_closed = k.reads.is_closed ∙ h.is_closed;
+  };
+  entered = refl;
+  loses = k.loses;
+  in_history = cause_after last.cause r h.calls k.calls new h.fresh k.in_history;
+  at_link = told_after last.cause t m u h.ended h.failures k.at_link;
+}
+
+-- one that used up its turns has lost nothing
+pub read_on : (r : RouterView) (session : ℕ) (old : Part) (t : Told) (last : ReadEnd) (new : Part) (u : Told) → last.cause ≡ cause.Turns →
+    IsReadBy r session old t last new u → HasRead session old t new u
+read_on r session old t last new u turns k =
+    let none : k.lost ≡ [] = (subst (λ c. LosesBy c last.lost k.lost) turns k.loses).none in
+    let same : IsCauseAt cause.Turns t u = subst (λ c. IsCauseAt c t u) turns k.at_link in
+    record {
+      calls = k.calls;
+      messages = k.reads.messages;
+      gained = k.reads.gained;
+      received = k.reads.received;
+      handed = k.reads.handed ∙ ap (λ (l : List Message). grown t.handed (k.reads.messages ++ l)) none
+          ∙ ap (grown t.handed) (append-nil k.reads.messages);
+      given = k.reads.given;
+      is_closed = k.reads.is_closed;
+      fresh = subst (λ c. IsCauseIn c r k.calls new) turns k.in_history;
+      ended = same.0;
+      failures = same.1;
+    }
+
+pub reads_on : (r : RouterView) (session : ℕ) (old : Part) (t : Told) (mid : Part) (m : Told) (last : ReadEnd) (new : Part) (u : Told) →
+    HasRead session old t mid m → last.cause ≡ cause.Turns → IsReadBy r session mid m last new u → HasRead session old t new u
+reads_on r session old t mid m last new u h turns k =
+    read_on r session old t (record { cause = last.cause; entered = length (h.calls ++ k.calls); lost = last.lost }) new u turns
+    (read_last r session old t mid m last new u h k)
+
+-- a reader that ended by itself, or because the session is not there
+stopped_over : (may : Bool → Type 0) (c : Cause) (link : LinkView) (why : SessionEnd) → IsReaderStopped c link why → IsReaderOver may c link why
+stopped_over may cause.Turns link why h = absurd h
+stopped_over may cause.LinkEnded link why h = h
+stopped_over may cause.LinkFault link why h = h
+stopped_over may cause.Stale link why h = h
+stopped_over may cause.Full link why h = h
+stopped_over may cause.Memory link why h = h
+
+pub reads_stopped : (may : Bool → Type 0) (r : RouterView) (session : ℕ) (old : PassView) (t : Told) (mid : PassView) (m : Told)
+    (last : ReadEnd) (why : SessionEnd) (new : PassView) (link : LinkView) → HasRead session old.part t mid.part m →
+    IsReadBy r session mid.part m last new.part link.told → IsReaderStopped last.cause link why → ReadsOut may r session old t why new link
+reads_stopped may r session old t mid m last why new link h k over = record {
+  end = record { cause = last.cause; entered = length (h.calls ++ k.calls); lost = last.lost };
+  read = read_last r session old.part t mid.part m last new.part link.told h k;
+  because = stopped_over may last.cause link why over;
+}
+
+pub reads_absent : (may : Bool → Type 0) (r : RouterView) (session : ℕ) (old : PassView) (t : Told) (mid : PassView) (m : Told)
+    (last : ReadEnd) (new : PassView) (link : LinkView) → HasRead session old.part t mid.part m →
+    IsReadBy r session mid.part m last new.part link.told → last.cause ≡ cause.Turns → may false → ReadsOut may r session old t end.Closed new link
+reads_absent may r session old t mid m last new link h k turns absent = record {
+  end = record { cause = last.cause; entered = length (h.calls ++ k.calls); lost = last.lost };
+  read = read_last r session old.part t mid.part m last new.part link.told h k;
+  because = subst (λ c. IsReaderOver may c link end.Closed) (sym turns) (refl, absent);
+}

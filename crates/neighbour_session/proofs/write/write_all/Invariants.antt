@@ -1,0 +1,15 @@
+use Rattle.std.proofs.Common.{◌≡◌}
+use Rattle.route_session.specs.Calls.{StaysSound}
+use Rattle.neighbour_session.specs.Writing.{told_to}
+use Rattle.neighbour_session.proofs.Writing.{HasWritten}
+use Rattle.neighbour_session.proofs.write.write_all.Given as goal
+
+-- what was taken so far was written, and the writer goes on
+abbrev pub invariant-loop : goal.invariant-loop
+invariant-loop g l = record {
+  next : (goal.iterator-loop g).can_next l.iterator';
+  finite : (goal.iterator-loop g).is_finite l.iterator';
+  pass : StaysSound l.router l.fn.pass l.pass;
+  shares : l.pass.part.shares ≡ l.fn.pass.part.shares;
+  written : HasWritten l.session l.fn.pass.part (told_to l.fn.output) l.pass.part l.link.told;
+}

@@ -1,0 +1,74 @@
+-- A session with a neighbour, from the greeting to the Down. (This project's own choice.)
+use Rattle.std.specs.Prelude.{◌≡◌, ◌⊎◌, ℕ, ◌-◌, ◌≤◌, Bool}
+use Rattle.message_streams.specs.Views.{ReaderView, WriterView}
+use Rattle.slot_lock.specs.Held.{PassView, RouterView}
+use Rattle.slot_lock.specs.declared.answer.Answer.{Answer}
+use Rattle.neighbour_session.specs.Calls.{IsUnopened, Opens}
+use Rattle.neighbour_session.specs.Ending.{GoesDown}
+use Rattle.neighbour_session.specs.Greeting.{Greets, IsUngreeted}
+use Rattle.neighbour_session.specs.Reading.{Hears}
+use Rattle.neighbour_session.specs.declared.ends.SessionEnd.{SessionEnd}
+use Rattle.neighbour_session.specs.declared.ends.SessionEnd.TheVariants as end
+use Rattle.neighbour_session.specs.declared.greeting.Domain.{Domain}
+
+-- a pass that gave one share away
+abbrev pub one_less : PassView → PassView
+one_less p = record p { part = record p.part { shares = p.part.shares - 1 } }
+
+-- the pass has no share that it could give to a writer: no session is begun
+pub record LacksShares (old : PassView) (result : SessionEnd) (new : PassView) : Type 0 where
+  pub few : old.part.shares ≤ 1
+  pub result_is : result ≡ end.NotStarted
+  pub unchanged : new ≡ old
+
+-- the neighbour did not greet as it has to: nothing is entered
+pub record IsTurnedAway (d : Domain) (neighbour : ℕ) (input : ReaderView) (output : WriterView) (old : PassView) (result : SessionEnd)
+    (new : PassView) : Type 0 where
+  pub i : ReaderView
+  pub o : WriterView
+  pub ungreeted : IsUngreeted result d neighbour input i output o
+  pub unchanged : new ≡ old
+
+-- the neighbour greeted as it has to
+pub record WasGreeted (d : Domain) (neighbour : ℕ) (input : ReaderView) (output : WriterView) : Type 0 where
+  pub i : ReaderView
+  pub o : WriterView
+  pub greets : Greets d neighbour input i output o
+
+-- a crew serves a session from its Up on, and hears what the neighbour says
+pub record IsHeard {Crew : Type 0} (may_be_present may_be_first : Crew → Bool → Type 0) (r : RouterView) (session : ℕ) (input : ReaderView)
+    (old : PassView) (result : SessionEnd) (new : PassView) : Type 0 where
+  pub crew : Crew
+  pub hears : Hears (may_be_present crew) (may_be_first crew) r session old input result new
+
+-- Up was entered, in the answer to which the router opened a session. Nobody was started to write; or a crew serves it. In the end the
+-- session goes down.
+pub record HasSession {Crew : Type 0} (may_be_present may_be_first : Crew → Bool → Type 0) (r : RouterView) (neighbour : ℕ)
+    (input : ReaderView) (old : PassView) (result : SessionEnd) (new : PassView) : Type 0 where
+  pub session : ℕ
+  pub answer : Answer
+  pub up : PassView
+  pub opens : Opens r neighbour old session answer up
+  pub after : GoesDown r session end.NotStarted (one_less up) result new
+      ⊎ IsHeard may_be_present may_be_first r session input (one_less up) result new
+
+-- what becomes of a neighbour that greeted as it has to
+abbrev pub IsServed : {Crew : Type 0} → (Crew → Bool → Type 0) → (Crew → Bool → Type 0) → RouterView → ℕ → ReaderView → PassView →
+    SessionEnd → PassView → Type 0
+IsServed may_be_present may_be_first r neighbour input old result new =
+    IsUnopened result r neighbour old new ⊎ HasSession may_be_present may_be_first r neighbour input old result new
+
+-- the neighbour greeted as it has to, and all that was entered was so after it
+pub record IsMet {Crew : Type 0} (may_be_present may_be_first : Crew → Bool → Type 0) (r : RouterView) (d : Domain) (neighbour : ℕ)
+    (input : ReaderView) (output : WriterView) (old : PassView) (result : SessionEnd) (new : PassView) : Type 0 where
+  pub i : ReaderView
+  pub o : WriterView
+  pub greets : Greets d neighbour input i output o
+  pub served : IsServed may_be_present may_be_first r neighbour i old result new
+
+-- what a session comes to
+abbrev pub Keeps : {Crew : Type 0} → (Crew → Bool → Type 0) → (Crew → Bool → Type 0) → RouterView → Domain → ℕ → ReaderView → WriterView →
+    PassView → SessionEnd → PassView → Type 0
+Keeps may_be_present may_be_first r d neighbour input output old result new =
+    LacksShares old result new ⊎ (IsTurnedAway d neighbour input output old result new
+    ⊎ IsMet may_be_present may_be_first r d neighbour input output old result new)

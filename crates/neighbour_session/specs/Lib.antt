@@ -1,0 +1,8 @@
+-- what callers cite
+pub mod Calls
+pub mod Ending
+pub mod Greeting
+pub mod Keeping
+pub mod Reading
+pub mod Words
+pub mod Writing

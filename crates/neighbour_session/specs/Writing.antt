@@ -1,0 +1,48 @@
+-- What who writes to a neighbour does. (This project's own choice.)
+use Rattle.std.specs.Prelude.{◌≡◌, ℕ, Bool, false, None, Some}
+use Rattle.message_streams.specs.Views.{WriterView}
+use Rattle.route_session.specs.declared.ends.Cause.{Cause}
+use Rattle.route_session.specs.declared.ends.Cause.TheVariants as cause
+use Rattle.route_session.specs.declared.ends.WriteEnd.{WriteEnd}
+use Rattle.route_session.specs.Told.{Told}
+use Rattle.route_session.specs.Writes.{IsWrittenBy}
+use Rattle.slot_lock.specs.Held.{PassView, RouterView}
+use Rattle.stream_link.specs.Views.{new_view}
+use Rattle.neighbour_session.specs.Ending.{Ends}
+use Rattle.neighbour_session.specs.declared.ends.SessionEnd.{SessionEnd}
+use Rattle.neighbour_session.specs.declared.ends.SessionEnd.TheVariants as end
+
+-- what a link over one stream that is written tells at first
+abbrev pub told_to : WriterView → Told
+told_to output = (new_view None (Some output)).told
+
+-- why a writer's session is over, where it did not use up its turns: a line was not written, or a call was refused
+abbrev pub IsWriterStopped : Cause → SessionEnd → Type 0
+IsWriterStopped cause.Turns why = ⊥
+IsWriterStopped cause.LinkEnded why = why ≡ end.Unwritten
+IsWriterStopped cause.LinkFault why = why ≡ end.Unwritten
+IsWriterStopped cause.Stale why = why ≡ end.Closed
+IsWriterStopped cause.Full why = why ≡ end.Full
+IsWriterStopped cause.Memory why = why ≡ end.Memory
+
+-- and where it did: the session was said not to be there
+abbrev pub IsWriterOver : (Bool → Type 0) → Cause → SessionEnd → Type 0
+IsWriterOver may_be_present cause.Turns why = (why ≡ end.Closed) × may_be_present false
+IsWriterOver may_be_present c why = IsWriterStopped c why
+
+-- What the router queued was taken, and written in order; then, for a reason, the writer ended. What was taken and not written is none,
+-- but where a line was not written.
+pub record WritesOut (may_be_present : Bool → Type 0) (r : RouterView) (session : ℕ) (old : PassView) (t : Told) (why : SessionEnd)
+    (new : PassView) : Type 0 where
+  pub end : WriteEnd
+  pub last : Told
+  pub written : IsWrittenBy r session old.part t end new.part last
+  pub because : IsWriterOver may_be_present end.cause why
+
+-- and the session with it
+pub record Serves (may_be_present may_be_first : Bool → Type 0) (r : RouterView) (session : ℕ) (old : PassView) (output : WriterView)
+    (result : SessionEnd) (new : PassView) : Type 0 where
+  pub before : PassView
+  pub why : SessionEnd
+  pub writes : WritesOut may_be_present r session old (told_to output) why before
+  pub ends : Ends may_be_first r session why before result new

@@ -1,0 +1,62 @@
+//! Who serves a session together.
+
+use message_streams::MessageWriter;
+use route_session::Gate;
+use slot_lock::{Answer, Pass};
+use std::io::Write;
+use std::rt::Clock;
+use std::sync::Wait;
+
+/// The number of the job that reads, which a gate is told.
+pub const READER: u32 = 0;
+
+/// The number of the job that writes.
+pub const WRITER: u32 = 1;
+
+/// Who serves one session of a link: who reads it and who writes it agree whether it is there, and on who ends it. Its gate lets the
+/// writer sleep while nothing waits for the neighbour, and lets nobody go once the session is over.
+///
+/// A contract sees what a crew says of its answers, as it does of a gate. A crew that says nothing may give any.
+pub trait Crew: Gate {
+    ghost use Rattle.std.specs.Prelude.{Bool, ⊤};
+
+    // What it may answer when it is asked whether the session is there.
+    ghost may_be_present: { Self → Bool → Type 0 } = { λ _ _. ⊤ };
+
+    // And when somebody ends the session: whether they are the first.
+    ghost may_be_first: { Self → Bool → Type 0 } = { λ _ _. ⊤ };
+
+    /// Whether the session is there still.
+    fn is_present<R: Wait + Clock>(&self, rt: &R) -> bool
+        ensures { may_be_present self.now result };
+
+    /// The session is over. True for the first who says so, who enters Down.
+    fn end<R: Wait + Clock>(&self, rt: &R) -> bool
+        ensures { may_be_first self.now result };
+
+    /// Down was entered, with this answer.
+    fn ended<R: Wait + Clock>(&self, rt: &R, answer: &Answer);
+}
+
+/// Who starts a writer for each session of a link.
+pub trait Starter<O: Write> {
+    ghost use Rattle.slot_lock.specs.Held.{IsPassOf, RouterView};
+
+    // The router whose sessions these are.
+    ghost serves: { Self → RouterView };
+
+    /// Who serves the session.
+    type Crew: Crew + Drop;
+
+    /// A session began, with this answer to its Up. Who writes to the neighbour begins, with the pass. None where a session is there
+    /// already, the router is being closed, or nobody can be started: then the session is over, and nobody has entered its Down.
+    fn begin<R: Wait + Clock>(
+        &mut self,
+        rt: &R,
+        session: u32,
+        answer: &Answer,
+        output: MessageWriter<O>,
+        pass: Pass,
+    ) -> Option<Self::Crew>
+        requires { IsPassOf (serves self.old) pass };
+}

@@ -1,0 +1,121 @@
+//! Why a session is over.
+ghost use Rattle.std.specs.Prelude.{◌≡◌, ◌++◌, OnErr, OnOk, decimal, string_bytes};
+ghost use Rattle.std.specs.Io.{StartsWith};
+ghost use Rattle.neighbour_session.specs.Words as spec;
+
+use itoa::Buffer;
+use link_lines::GreetingFault;
+use message_streams::StreamEnd;
+use std::alloc::AllocError;
+
+/// Why a session with a neighbour is over, or why none began.
+#[derive(Clone, Copy, Debug, PartialEq, Eq)]
+pub enum SessionEnd {
+    /// The neighbour's stream ended, or has a line that no neighbour says here, or could not be read.
+    Read {
+        /// What it was.
+        why: StreamEnd,
+        /// The number of the line at which it was.
+        line: u64,
+    },
+    /// A line could not be written.
+    Unwritten,
+    /// Nobody could be started to write to the neighbour.
+    NotStarted,
+    /// Somebody else ended it, as the operator who closes the router.
+    Closed,
+    /// The router refused the neighbour.
+    Refused,
+    /// The history is full.
+    Full,
+    /// Memory was refused.
+    Memory,
+}
+
+/// Adds a text and a number.
+fn push_with_number(text: &mut String, before: &str, number: u64) -> Result<(), AllocError>
+    ensures ok { OnOk result (string_bytes text.new ≡ string_bytes text.old ++ (before.now ++ decimal number)) }
+    ensures err { OnErr result (StartsWith (string_bytes text.new) (string_bytes text.old)) }
+{
+    text.push_str(before)?;
+    let mut digits = Buffer::new();
+    text.push_str(digits.format(number))
+}
+
+/// Adds a number between two texts.
+fn push_numbered(
+    text: &mut String,
+    before: &str,
+    number: u64,
+    after: &str,
+) -> Result<(), AllocError>
+    ensures ok { OnOk result (string_bytes text.new ≡ string_bytes text.old ++ (before.now ++ decimal number ++ after.now)) }
+    ensures err { OnErr result (StartsWith (string_bytes text.new) (string_bytes text.old)) }
+{
+    push_with_number(text, before, number)?;
+    text.push_str(after)
+}
+
+/// Adds why a line is not the greeting that is expected.
+fn push_greeting_fault(text: &mut String, fault: GreetingFault) -> Result<(), AllocError>
+    ensures ok { OnOk result (string_bytes text.new ≡ string_bytes text.old ++ spec.greeting_words fault) }
+    ensures err { OnErr result (StartsWith (string_bytes text.new) (string_bytes text.old)) }
+{
+    match fault {
+        GreetingFault::NoGreeting => text.push_str("this is no greeting of version 1"),
+        GreetingFault::OtherSize(size) => {
+            push_numbered(
+                text,
+                "the neighbour's domain has ",
+                u64::from(size),
+                " nodes",
+            )
+        }
+        GreetingFault::OtherNode(node) => {
+            push_with_number(text, "the neighbour is node ", u64::from(node))
+        }
+    }
+}
+
+/// Adds why a stream ended, at a line.
+fn push_stream_end(text: &mut String, why: StreamEnd, line: u64) -> Result<(), AllocError>
+    ensures ok { OnOk result (string_bytes text.new ≡ string_bytes text.old ++ spec.stream_words why line) }
+    ensures err { OnErr result (StartsWith (string_bytes text.new) (string_bytes text.old)) }
+{
+    match why {
+        StreamEnd::Ended => text.push_str("the neighbour ended its stream"),
+        StreamEnd::Unfinished => push_with_number(text, "the stream ended within line ", line),
+        StreamEnd::TooLong => push_numbered(text, "line ", line, " has more than 64 bytes"),
+        StreamEnd::NoMessage => push_numbered(text, "line ", line, " is no message"),
+        StreamEnd::Greeting(fault) => {
+            push_numbered(text, "line ", line, " is not its greeting: ")?;
+            push_greeting_fault(text, fault)
+        }
+        StreamEnd::Read => push_numbered(text, "line ", line, " could not be read"),
+    }
+}
+
+impl SessionEnd {
+    /// Adds why the session is over, in words.
+    pub fn push_words(self, text: &mut String) -> Result<(), AllocError>
+        ensures ok { OnOk result (string_bytes text.new ≡ string_bytes text.old ++ spec.end_words self) }
+        ensures err { OnErr result (StartsWith (string_bytes text.new) (string_bytes text.old)) }
+    {
+        match self {
+            SessionEnd::Read { why, line } => push_stream_end(text, why, line),
+            SessionEnd::Unwritten => text.push_str("a line could not be written"),
+            SessionEnd::NotStarted => text.push_str("a thread was not started (X2)"),
+            SessionEnd::Closed => text.push_str("the session was ended"),
+            SessionEnd::Refused => text.push_str("the router refused the neighbour"),
+            SessionEnd::Full => text.push_str("the history is full (J1)"),
+            SessionEnd::Memory => text.push_str("out of memory (J2)"),
+        }
+    }
+
+    /// Whether the link can be opened again: a full history takes no session any more.
+    pub fn can_be_opened_again(self) -> bool
+        ensures { result ≡ spec.can_be_opened_again self }
+    {
+        !matches!(self, SessionEnd::Full)
+    }
+}

@@ -1,0 +1,56 @@
+//! A session is ended.
+ghost use Rattle.std.specs.Prelude.{◌≡◌};
+ghost use Rattle.neighbour_session.specs.Ending.{Ends, GoesDown};
+ghost use Rattle.route_session.specs.Calls.{StaysSound};
+ghost use Rattle.slot_lock.specs.Held.{IsPassOf};
+
+use crate::calls::enter_down;
+use crate::crew::Crew;
+use crate::ends::SessionEnd;
+use slot_lock::{Pass, Router};
+use std::rt::Clock;
+use std::sync::Wait;
+
+/// Ends a session for a reason: enters Down, if nobody ended it before. Why it is over.
+pub(crate) fn end_session<R: Wait + Clock, C: Crew>(
+    rt: &R,
+    router: &Router,
+    pass: &mut Pass,
+    session: u32,
+    crew: &C,
+    why: SessionEnd,
+) -> SessionEnd
+    requires { IsPassOf router.now pass.old }
+    ensures pass { StaysSound router.now pass.old pass.new }
+    ensures shares { pass.new.part.shares ≡ pass.old.part.shares }
+    ensures ends { Ends (C.may_be_first crew.now) router.now session why pass.old result pass.new }
+{
+    if !crew.end(rt) {
+        return why;
+    }
+    match enter_down(rt, router, pass, session) {
+        Ok(answer) => {
+            crew.ended(rt, &answer);
+            why
+        }
+        Err(fault) => fault,
+    }
+}
+
+/// Ends a session that nobody serves. Why it is over.
+pub(crate) fn abandon_session<R: Wait>(
+    rt: &R,
+    router: &Router,
+    pass: &mut Pass,
+    session: u32,
+) -> SessionEnd
+    requires { IsPassOf router.now pass.old }
+    ensures pass { StaysSound router.now pass.old pass.new }
+    ensures shares { pass.new.part.shares ≡ pass.old.part.shares }
+    ensures down { GoesDown router.now session SessionEnd.NotStarted pass.old result pass.new }
+{
+    match enter_down(rt, router, pass, session) {
+        Ok(_) => SessionEnd::NotStarted,
+        Err(fault) => fault,
+    }
+}

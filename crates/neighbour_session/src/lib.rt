@@ -1,0 +1,18 @@
+//! One session with a neighbour over two streams, from the greeting to the Down: who reads, who writes, and what ends it.
+#![tactic(auto)]
+
+mod calls;
+mod crew;
+mod ends;
+mod finish;
+mod greeting;
+mod keep;
+mod read;
+mod write;
+
+pub use calls::{enter_down, enter_up};
+pub use crew::{Crew, READER, Starter, WRITER};
+pub use ends::SessionEnd;
+pub use greeting::{Domain, greet};
+pub use keep::keep_session;
+pub use write::serve_writer;

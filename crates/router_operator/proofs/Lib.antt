@@ -1,0 +1,6 @@
+mod Answering
+mod Entering
+mod Seeing
+mod Naming
+mod Staying
+mod Ending

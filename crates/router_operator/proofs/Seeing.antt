@@ -1,0 +1,44 @@
+-- A look, and an event after it.
+use Rattle.std.proofs.Common.{◌≡◌, ℕ, List, Result, IfOk, refl, subst, ap, ◌∙◌, inl}
+use Rattle.line_protocol.specs.Answers.{Answer}
+use Rattle.line_protocol.specs.declared.answers.Reply.{Reply as LineReply}
+use Rattle.netchange_core.specs.declared.event.Event.TheVariants as event
+use Rattle.operator_cmds.specs.Replies.{Adds, Answers}
+use Rattle.operator_cmds.specs.Stages.{Open, session_in}
+use Rattle.route_history.specs.JournalView.{JournalView}
+use Rattle.slot_lock.specs.Calls.{Observed}
+use Rattle.slot_lock.specs.Held.{PassView}
+use Rattle.router_operator.specs.OperatorView.{OperatorView, journal_seen}
+use Rattle.router_operator.specs.Operators.{AnswersDown, AnswersEvent, AnswersLook, BreaksOff, GrowsByOne, Looks}
+use Rattle.router_operator.proofs.Answering.{added}
+use Rattle.router_operator.proofs.Entering.{begins_then}
+
+module _ {Seer : Type 0} (sees : Seer → JournalView → Seer → Type 0) (before : OperatorView) (pass : PassView) (old new : Seer)
+    (h : Observed sees before.router before.pass old new pass) where
+  pub seen : Looks before (record before { pass = pass })
+  seen = record { found = record { begins = h.begins; legal = h.legal }; room = h.room; mine = h.mine; only = refl }
+
+  pub seen_breaks : BreaksOff before (record before { pass = pass })
+  seen_breaks = record { only = refl; begins = h.begins; mine = inl h.mine }
+
+-- the answer to a look was added, unless memory was refused
+pub looked : {E : Type 0} (look : JournalView → Answer) (before after : OperatorView) (r : Result LineReply E) (old new : List ℕ)
+    → Looks before after → IfOk r (Adds (look (journal_seen after)) old new)
+    → IfOk r (Answers (λ answer. AnswersLook look before answer after) old new)
+looked look before after r old new looks h =
+    added r (look (journal_seen after)) (λ answer. AnswersLook look before answer after) old new (λ answer e. (looks, e)) h
+
+-- a look for the session, and then its Down
+pub downs : (node session : ℕ) (before mid after : OperatorView) (answer : Answer) → Looks before mid
+    → session ≡ session_in (Open (journal_seen mid)) node → AnswersEvent mid (event.Down session) answer after
+    → AnswersDown node before answer after
+downs node session before mid after answer looks is h =
+    (mid, looks, subst (λ (s : ℕ). AnswersEvent mid (event.Down s) answer after) is h)
+
+-- what broke off after a look
+pub breaks_after : (before mid after : OperatorView) → Looks before mid → BreaksOff mid after → BreaksOff before after
+breaks_after before mid after looks breaks = record {
+  only = breaks.only ∙ ap (λ (o : OperatorView). record o { pass = after.pass }) looks.only;
+  begins = begins_then before.pass.part.seen mid.pass.part.seen after.pass.part.seen looks.found.begins breaks.begins;
+  mine = subst (λ (xs : List ℕ). GrowsByOne xs after.pass.part.mine) looks.mine breaks.mine;
+}

@@ -1,0 +1,12 @@
+-- The answer to the call is the answer to the event.
+use Rattle.router_operator.proofs.Answering.{answers}
+use Rattle.router_operator.proofs.Entering.{call_answers}
+use Rattle.router_operator.proofs.operator.Operator.enter.Goals as goal
+
+pub returns-clause-ok : goal.returns-clause-ok
+returns-clause-ok g c =
+    let i = c.self.inside in
+    answers c.answer_call.result _ _ c.args.out.now.items c.answer_call.new.out.items
+    (call_answers c.args.self.now i.router.now i.pass c.call-called.new.pass i.filters.entries i.links.now i.has_quit i.size i.limit
+    c.self.view_is c.self.invariant c.args.event c.call-called.result c.call-called.ensures.answered c.call-called.ensures.refused)
+    c.answer_call.ensures.ok

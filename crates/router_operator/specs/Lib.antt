@@ -1,0 +1,6 @@
+-- what callers cite
+pub mod OperatorView
+pub mod Operators
+pub mod Running
+-- what only bodies are proved against
+pub mod Looking

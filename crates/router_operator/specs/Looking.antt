@@ -1,0 +1,37 @@
+-- What is answered to a call of the router, and what those who are shown the journal make of it. (This project's own choice.)
+use Rattle.std.specs.Prelude.{◌≡◌, ℕ, Result, Ok, Err, IfOk, OnErr, codes}
+use Rattle.std.specs.Io.{StartsWith}
+use Rattle.line_protocol.specs.Answers.{Answer}
+use Rattle.operator_cmds.specs.Looks.{history_text, looked}
+use Rattle.operator_cmds.specs.Replies.{Adds, answered, refused, reply_answer}
+use Rattle.operator_cmds.specs.Script.{tables_of}
+use Rattle.operator_cmds.specs.Stages.{Open, session_in}
+use Rattle.route_history.specs.JournalView.{JournalView}
+use Rattle.route_history.specs.declared.fault.CallFault.{CallFault}
+use Rattle.route_history.specs.declared.fault.CallFault.TheVariants as call_fault
+use Rattle.slot_lock.specs.declared.answer.Answer.{Answer as CallAnswer}
+use Rattle.router_operator.specs.declared.looking.Asked.{Asked}
+use Rattle.router_operator.specs.declared.looking.Asked.TheVariants.{Tables, Entries}
+use Rattle.router_operator.specs.declared.looking.FindingSession.{FindingSession}
+use Rattle.router_operator.specs.declared.looking.Looking.{Looking}
+
+-- the answer to a call, by what became of it; where memory was refused there is none
+abbrev pub AnswersCall : ℕ → Result CallAnswer CallFault → Answer → Type 0
+AnswersCall limit (Ok called) answer = answer ≡ reply_answer called.at called.reply
+AnswersCall limit (Err call_fault.Full) answer = answer ≡ refused (codes "J1") limit
+AnswersCall limit (Err call_fault.Memory) answer = ⊥
+
+-- the answer to the line of this number, which asks so, by the router's journal
+abbrev pub told : Asked → ℕ → JournalView → Answer
+told (Tables look) number journal = looked (tables_of journal) number look
+told (Entries from) number journal = answered (history_text journal.entries from)
+
+-- the answer is added to what was written, unless memory was refused
+abbrev pub Tells : Looking → JournalView → Looking → Type 0
+Tells before journal after =
+    IfOk after.reply (Adds (told before.asked before.number journal) before.text.items after.text.items)
+    × OnErr after.reply (StartsWith after.text.items before.text.items)
+
+-- the session is the node's present one
+abbrev pub Finds : FindingSession → JournalView → FindingSession → Type 0
+Finds before journal after = after.session ≡ session_in (Open journal) before.node

@@ -1,0 +1,165 @@
+-- What the operator of a running router is answered to each line, and what becomes of the router's history. A script is answered so, but
+-- that nobody else makes entries meanwhile. (This project's own choice.)
+use Rattle.std.specs.Prelude.{◌≡◌, ◌⊎◌, ◌==◌, ℕ, ◌≤◌, Bool, false, true, MatchBool, List, [], ◌∷◌, ◌++◌, length, Option, Some, None, Ok, Err, codes}
+use Rattle.std.specs.List.{list_any}
+use Rattle.std.specs.Str.{bytes_eq}
+use Rattle.std.specs.declared.sync.Arc.{Arc}
+use Rattle.std.proofs.Common.{Global}
+use Rattle.filter_verifier.specs.VerifiedView.{VerifiedView}
+use Rattle.line_protocol.specs.Answers.{Answer}
+use Rattle.line_protocol.specs.Words.{words}
+use Rattle.line_protocol.specs.declared.answers.Reply.TheVariants.{Ended}
+use Rattle.netchange_core.specs.declared.event.Event.{Event}
+use Rattle.netchange_core.specs.declared.event.Event.TheVariants as event
+use Rattle.operator_cmds.specs.CommandView.{CommandView, Network, Prefix, Load, Code, Import, Export, Up, Down, Receive, Take, Show, Look, History}
+use Rattle.operator_cmds.specs.Commands.{Read, command_in}
+use Rattle.operator_cmds.specs.Faults.{fault_code}
+use Rattle.operator_cmds.specs.Looks.{history_text, looked}
+use Rattle.operator_cmds.specs.Replies.{answered, refused, reply_answer}
+use Rattle.operator_cmds.specs.Script as script
+use Rattle.operator_cmds.specs.Script.{entered, tables_of, told_of}
+use Rattle.operator_cmds.specs.Stages.{Open, session_in}
+use Rattle.operator_cmds.specs.WordLists.{one_of}
+use Rattle.operator_cmds.specs.declared.fault.CommandFault.TheVariants as fault
+use Rattle.route_history.specs.Beginning.{Begins}
+use Rattle.route_history.specs.History.{IsLegal}
+use Rattle.route_history.specs.JournalView.{JournalView}
+use Rattle.route_history.specs.declared.entry.Entry.{Entry}
+use Rattle.router_operator.specs.OperatorView.{OperatorView, filter_of, journal_seen, journal_with, script_of}
+
+-- ---- what a line asks for
+
+-- the only word of a line, if it has just one, is `quit`
+abbrev pub says_quit : Option (List ℕ) → Bool
+says_quit None = false
+says_quit (Some word) = bytes_eq word (codes "quit")
+
+abbrev pub is_quit : List ℕ → Bool
+is_quit line = says_quit (one_of (words line))
+
+-- the node has a link, which brings it up and down
+abbrev pub has_link : List ℕ → ℕ → Bool
+has_link links node = list_any (λ linked. linked == node) links
+
+-- ---- what changes
+
+-- nothing but what the pass knows; nothing but the filters of names
+abbrev pub OnlyPass : OperatorView → OperatorView → Type 0
+OnlyPass before after = after ≡ record before { pass = after.pass }
+
+abbrev pub OnlyNames : OperatorView → OperatorView → Type 0
+OnlyNames before after = after ≡ record before { names = after.names }
+
+-- a refusal changes nothing
+abbrev pub Refuses : List ℕ → ℕ → OperatorView → Answer → OperatorView → Type 0
+Refuses code number before answer after = (answer ≡ refused code number) × (after ≡ before)
+
+-- `network`, `prefix`, `load` and `code` do what they do to a script that has come as far: they refuse, or name a filter
+pub record AsScript (before : OperatorView) (number : ℕ) (command : CommandView) (answer : Answer) (after : OperatorView) : Type 0 where
+  pub answers : script.AnswersCommand (script_of before) number command answer (script_of after)
+  pub names : OnlyNames before after
+
+-- ---- events
+
+-- the router's history as an event found it: others may have made entries since the pass saw it
+pub record IsFound (before : OperatorView) (log : List Entry) : Type 0 where
+  pub begins : Begins before.pass.part.seen log
+  pub legal : IsLegal before.router.opening log
+
+-- The event is the new last entry of that history, with the world's reply; that is answered, and the entry is the operator's.
+pub record Enters (before : OperatorView) (log : List Entry) (happened : Event) (answer : Answer) (after : OperatorView) : Type 0 where
+  pub answers : answer ≡ reply_answer (length log) (told_of (journal_with before.router log) happened)
+  pub seen : journal_seen after ≡ entered (journal_with before.router log) happened (told_of (journal_with before.router log) happened)
+  pub mine : after.pass.part.mine ≡ before.pass.part.mine ++ length log ∷ []
+
+-- that history is full: nothing is entered
+pub record IsFull (before : OperatorView) (log : List Entry) (answer : Answer) (after : OperatorView) : Type 0 where
+  pub full : length log ≡ before.router.limit
+  pub answers : answer ≡ refused (codes "J1") before.router.limit
+  pub seen : journal_seen after ≡ journal_with before.router log
+  pub mine : after.pass.part.mine ≡ before.pass.part.mine
+
+-- a line enters exactly one event, or none where the history is full
+pub record AnswersEvent (before : OperatorView) (happened : Event) (answer : Answer) (after : OperatorView) : Type 0 where
+  pub log : List Entry
+  pub found : IsFound before log
+  pub does : Enters before log happened answer after ⊎ IsFull before log answer after
+  pub only : OnlyPass before after
+
+-- an event with the filter of a name
+abbrev pub AnswersUse : Option VerifiedView → (Arc VerifiedView Global → Event) → ℕ → OperatorView → Answer → OperatorView → Type 0
+AnswersUse None happens number before answer after = Refuses (codes "O6") number before answer after
+AnswersUse (Some f) happens number before answer after =
+    (filter : Arc VerifiedView Global) × (filter.value ≡ f) × AnswersEvent before (happens filter) answer after
+
+-- a node that has a link is brought up and down by the link alone
+abbrev pub UnlessLinked : ℕ → ℕ → (Answer → OperatorView → Type 0) → OperatorView → Answer → OperatorView → Type 0
+UnlessLinked node number Otherwise before answer after =
+    MatchBool (has_link before.links node) (Refuses (codes "O9") number before answer after) (Otherwise answer after)
+
+-- ---- looks
+
+-- The operator has seen the whole history of a moment, which goes on from what they had seen; nothing is entered.
+pub record Looks (before after : OperatorView) : Type 0 where
+  pub found : IsFound before after.pass.part.seen
+  pub room : length after.pass.part.seen ≤ before.router.limit
+  pub mine : after.pass.part.mine ≡ before.pass.part.mine
+  pub only : OnlyPass before after
+
+-- a look is answered from that one history
+abbrev pub AnswersLook : (JournalView → Answer) → OperatorView → Answer → OperatorView → Type 0
+AnswersLook look before answer after = Looks before after × (answer ≡ look (journal_seen after))
+
+-- a look for the node's present session, and then its Down
+abbrev pub AnswersDown : ℕ → OperatorView → Answer → OperatorView → Type 0
+AnswersDown node before answer after = (mid : OperatorView) × Looks before mid
+    × AnswersEvent mid (event.Down (session_in (Open (journal_seen mid)) node)) answer after
+
+-- ---- a line
+
+abbrev pub AnswersCommand : OperatorView → ℕ → CommandView → Answer → OperatorView → Type 0
+AnswersCommand before number (Network size me limit) answer after = AsScript before number (Network size me limit) answer after
+AnswersCommand before number (Prefix node bits) answer after = AsScript before number (Prefix node bits) answer after
+AnswersCommand before number (Load name text) answer after = AsScript before number (Load name text) answer after
+AnswersCommand before number (Code name bytes) answer after = AsScript before number (Code name bytes) answer after
+AnswersCommand before number (Import node name) answer after =
+    AnswersUse (filter_of before.names name) (λ filter. event.SetImport node filter) number before answer after
+AnswersCommand before number (Export node name) answer after =
+    AnswersUse (filter_of before.names name) (λ filter. event.SetExport node filter) number before answer after
+AnswersCommand before number (Up node) answer after =
+    UnlessLinked node number (AnswersEvent before (event.Up node)) before answer after
+AnswersCommand before number (Down node) answer after = UnlessLinked node number (AnswersDown node before) before answer after
+-- only links hand out and take messages
+AnswersCommand before number (Receive node dest dist) answer after = Refuses (fault_code fault.Words) number before answer after
+AnswersCommand before number (Take node) answer after = Refuses (fault_code fault.Words) number before answer after
+AnswersCommand before number (Show node) answer after = AnswersEvent before (event.Show node) answer after
+AnswersCommand before number (Look look) answer after =
+    AnswersLook (λ journal. looked (tables_of journal) number look) before answer after
+AnswersCommand before number (History from) answer after =
+    AnswersLook (λ journal. answered (history_text journal.entries from)) before answer after
+
+abbrev pub AnswersRead : OperatorView → ℕ → Read → Answer → OperatorView → Type 0
+AnswersRead before number (Ok command) answer after = AnswersCommand before number command answer after
+AnswersRead before number (Err why) answer after = Refuses (fault_code why) number before answer after
+
+-- `quit` is confirmed, and ends the operator's lines
+abbrev pub Quits : OperatorView → Answer → OperatorView → Type 0
+Quits before answer after =
+    (answer ≡ record { text = (answered (codes "ok")).text; reply = Ended }) × (after ≡ record before { has_quit = true })
+
+-- the operator may be given this answer to the line of this number, and is then the later operator
+abbrev pub AnswersLine : OperatorView → ℕ → List ℕ → Answer → OperatorView → Type 0
+AnswersLine before number line answer after = MatchBool (is_quit line)
+    (Quits before answer after) (AnswersRead before number (command_in line) answer after)
+
+-- ---- refused memory
+
+-- at most one entry more is the operator's
+abbrev pub GrowsByOne : List ℕ → List ℕ → Type 0
+GrowsByOne old new = (new ≡ old) ⊎ ((last : ℕ) × (new ≡ old ++ last ∷ []))
+
+-- a line that was refused memory may have entered its event, and changed no name
+pub record BreaksOff (before after : OperatorView) : Type 0 where
+  pub only : OnlyPass before after
+  pub begins : Begins before.pass.part.seen after.pass.part.seen
+  pub mine : GrowsByOne before.pass.part.mine after.pass.part.mine

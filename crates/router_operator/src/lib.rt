@@ -1,0 +1,12 @@
+//! The operator of a running router: what they type is answered as a script answers it, but that others make entries meanwhile, and that
+//! the links bring their own neighbours up and down.
+#![tactic(auto)]
+
+mod calls;
+mod listener;
+mod looking;
+mod operator;
+mod questions;
+
+pub use listener::Listener;
+pub use operator::{INPUT_LIMIT, Operator};

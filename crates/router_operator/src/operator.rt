@@ -1,0 +1,384 @@
+//! The operator.
+ghost use Rattle.std.specs.Prelude.{◌≡◌, false, IfErr, IfOk, IfSome, OnErr, OnOk};
+ghost use Rattle.std.specs.Io.{StartsWith};
+ghost use Rattle.netchange_core.specs.declared.event.Event.TheVariants as event;
+ghost use Rattle.operator_cmds.specs.CommandView.{view_of};
+ghost use Rattle.operator_cmds.specs.CommandView as command;
+ghost use Rattle.operator_cmds.specs.Replies.{Answers};
+ghost use Rattle.operator_cmds.specs.Script as script;
+ghost use Rattle.router_operator.specs.Looking.{told};
+ghost use Rattle.router_operator.specs.OperatorView.{IsAt, filter_of, script_of};
+ghost use Rattle.router_operator.specs.Operators as spec;
+ghost use Rattle.router_operator.specs.Running.{IsBrokenOff, IsServed};
+
+use crate::calls::answer_call;
+use crate::listener::Listener;
+use crate::looking::{Asked, FindingSession, Looking};
+use crate::questions::{has_link, is_quit};
+use filter_source::{Failure, push_verified};
+use filter_verifier::Verified;
+use line_protocol::{Reply, Service, StreamFault, answer_lines_within};
+use netchange_core::Event;
+use operator_cmds::{
+    Command, CommandFault, confirm, read_command, refuse, verify_file, verify_text,
+};
+use slot_lock::{Pass, Router};
+use std::alloc::{AllocError, Global};
+use std::collections::BTreeMap;
+use std::io::{Read, Write};
+use std::marker::Model;
+use std::mem::replace;
+use std::rt::Clock;
+use std::sync::{Arc, Wait};
+
+/// The most bytes that an operator may type: lines are numbered below 2^32.
+pub const INPUT_LIMIT: usize = 4_294_967_200;
+
+/// The code of a command that comes too late: the router has its domain, and runs.
+const TOO_LATE: &str = "O5";
+
+/// The code of a name that no filter has.
+const UNKNOWN_FILTER: &str = "O6";
+
+/// The code of an `up` or a `down` of a node whose link does it.
+const LINK_DOES_IT: &str = "O9";
+
+/// The operator of a router that others call too. A contract sees it as an `OperatorView`.
+#[derive(Drop)]
+pub struct Operator<'a, R, L> {
+    rt: &'a R,
+    router: &'a Router,
+    /// What the operator has seen of the router's history.
+    pass: Pass,
+    listener: &'a L,
+    /// The number of nodes of the domain.
+    size: u16,
+    /// The most entries of the history.
+    limit: u32,
+    /// The nodes that have links.
+    links: &'a [u16],
+    /// The filter of each name.
+    filters: BTreeMap<Vec<u8>, Arc<Verified>>,
+    /// The operator said `quit`.
+    has_quit: bool,
+}
+
+impl<'a, R, L> Model for Operator<'a, R, L> {
+    ghost use Rattle.router_operator.specs.OperatorView.{OperatorView, IsAt};
+
+    ghost Value = { OperatorView };
+
+    ghost view = { λ o. record { router = o.router.now; pass = o.pass; names = o.filters.entries; links = o.links.now; has_quit = o.has_quit } };
+
+    ghost invariant = { λ o. IsAt o.router.now o.pass o.size o.limit };
+}
+
+impl<'a, R: Wait + Clock, L: Listener> Service for Operator<'a, R, L> {
+    ghost answers = { spec.AnswersLine };
+
+    ghost refuses = { spec.BreaksOff };
+
+    fn answer(
+        &mut self,
+        alloc: Global,
+        number: u32,
+        line: &[u8],
+        out: &mut Vec<u8>,
+    ) -> Result<Reply, AllocError> {
+        if is_quit(line) {
+            return self.quit(out);
+        }
+        match read_command(alloc, line) {
+            Ok(command) => self.carry_out(alloc, number, command, out),
+            Err(CommandFault::Memory) => Err(AllocError),
+            Err(why) => refuse(out, why.code(), u64::from(number)),
+        }
+    }
+}
+
+impl<'a, R: Wait + Clock, L: Listener> Operator<'a, R, L> {
+    /// The operator of a router, with a pass of it: `links` are the nodes that have links, and `filters` the filters that have names. The
+    /// router's domain has `size` nodes, and its history at most `limit` entries.
+    pub fn new(
+        rt: &'a R,
+        router: &'a Router,
+        pass: Pass,
+        listener: &'a L,
+        size: u16,
+        limit: u32,
+        links: &'a [u16],
+        filters: BTreeMap<Vec<u8>, Arc<Verified>>,
+    ) -> Operator<'a, R, L>
+        requires { IsAt router.now pass size limit }
+        ensures { result ≡ record { router = router.now; pass = pass; names = filters.entries; links = links.now; has_quit = false } }
+    {
+        Operator {
+            rt,
+            router,
+            pass,
+            listener,
+            size,
+            limit,
+            links,
+            filters,
+            has_quit: false,
+        }
+    }
+
+    /// Whether the operator said `quit`.
+    pub fn has_quit(&self) -> bool
+        ensures { result ≡ self.now.has_quit }
+    {
+        self.has_quit
+    }
+
+    /// Answers the operator's lines on `writer`, to their end or to `quit`. Returns the number of lines that were refused. What was answered
+    /// is written before more is read.
+    pub fn run<I: Read, W: Write>(
+        &mut self,
+        alloc: Global,
+        reader: &mut I,
+        writer: &mut W,
+    ) -> Result<u32, StreamFault>
+        ensures served { IfOk result (λ refused. IfSome (I.remaining reader.old) (λ input.
+            IsServed self.old self.new input (I.remaining reader.new) (W.contents writer.old) (W.contents writer.new) refused)) }
+        ensures broken_off { IfErr result (λ fault. IfSome (I.remaining reader.old) (λ input.
+            IsBrokenOff fault self.old self.new input (I.remaining reader.new) (W.contents writer.old) (W.contents writer.new))) }
+    {
+        answer_lines_within(alloc, INPUT_LIMIT, reader, writer, self)
+    }
+
+    /// Answers `quit`.
+    fn quit(&mut self, out: &mut Vec<u8>) -> Result<Reply, AllocError>
+        ensures ok { IfOk result (Answers (λ answer. spec.Quits self.old answer self.new) out.old.items out.new.items) }
+        ensures err { OnErr result (StartsWith out.new.items out.old.items) }
+        ensures left { OnErr result (self.new ≡ self.old) }
+    {
+        confirm(out)?;
+        self.has_quit = true;
+        Ok(Reply::Ended)
+    }
+
+    /// Carries out the command of a line, and answers it.
+    fn carry_out(
+        &mut self,
+        alloc: Global,
+        number: u32,
+        command: Command<'_>,
+        out: &mut Vec<u8>,
+    ) -> Result<Reply, AllocError>
+        ensures ok { IfOk result (Answers (λ answer. spec.AnswersCommand self.old number (view_of command.entry) answer self.new)
+            out.old.items out.new.items) }
+        ensures err { OnErr result (StartsWith out.new.items out.old.items) }
+        ensures left { OnErr result (spec.BreaksOff self.old self.new) }
+    {
+        match command {
+            Command::Network { .. } | Command::Prefix { .. } => {
+                refuse(out, TOO_LATE, u64::from(number))
+            }
+            Command::Receive { .. } | Command::Take(_) => {
+                refuse(out, CommandFault::Words.code(), u64::from(number))
+            }
+            Command::Load { name, text } => self.load(alloc, number, name, text, out),
+            Command::Code { name, bytes } => {
+                self.load_code(alloc, number, name, bytes.as_slice(), out)
+            }
+            Command::Import { node, name } => self.import(number, node, name, out),
+            Command::Export { node, name } => self.export(number, node, name, out),
+            Command::Up(node) => self.bring_up(number, node, out),
+            Command::Down(node) => self.take_down(number, node, out),
+            Command::Show(node) => self.enter(Event::Show(node), None, out),
+            Command::Look(look) => self.look(alloc, number, Asked::Tables(look), out),
+            Command::History(from) => self.look(alloc, number, Asked::Entries(from), out),
+        }
+    }
+
+    /// Gives a filter a name.
+    fn set_filter(
+        &mut self,
+        alloc: Global,
+        name: &[u8],
+        filter: Arc<Verified>,
+    ) -> Result<(), AllocError>
+        ensures names { OnOk result (script.Names name.now filter.value (script_of self.old) (script_of self.new)) }
+        ensures only { OnOk result (spec.OnlyNames self.old self.new) }
+        ensures left { OnErr result (self.new ≡ self.old) }
+    {
+        self.filters.insert(Vec::from_slice(alloc, name)?, filter)?;
+        Ok(())
+    }
+
+    /// Answers by what became of a source: verified code gets the name. A refused one leaves the filter that the name has.
+    fn name_filter(
+        &mut self,
+        alloc: Global,
+        number: u32,
+        name: &[u8],
+        verified: Result<Verified, Failure>,
+        out: &mut Vec<u8>,
+    ) -> Result<Reply, AllocError>
+        ensures ok { IfOk result (Answers (λ answer. script.AnswersVerified verified number name.now (script_of self.old) answer
+            (script_of self.new)) out.old.items out.new.items) }
+        ensures only { OnOk result (spec.OnlyNames self.old self.new) }
+        ensures err { OnErr result (StartsWith out.new.items out.old.items) }
+        ensures left { OnErr result (self.new ≡ self.old) }
+    {
+        match verified {
+            Ok(filter) => {
+                push_verified(out, &filter)?;
+                self.set_filter(alloc, name, Arc::new(alloc, filter)?)?;
+                Ok(Reply::Answered)
+            }
+            Err(Failure::Refused(told)) => {
+                let why = told.refusal;
+                refuse(out, why.code(), why.place_in_line(number))
+            }
+            Err(Failure::Memory) => Err(AllocError),
+        }
+    }
+
+    /// Answers `load`: a filter's text is compiled and verified, and gets a name.
+    fn load(
+        &mut self,
+        alloc: Global,
+        number: u32,
+        name: &[u8],
+        text: &[u8],
+        out: &mut Vec<u8>,
+    ) -> Result<Reply, AllocError>
+        ensures ok { IfOk result (Answers (λ answer. spec.AsScript self.old number (command.Load name.now text.now) answer self.new)
+            out.old.items out.new.items) }
+        ensures err { OnErr result (StartsWith out.new.items out.old.items) }
+        ensures left { OnErr result (self.new ≡ self.old) }
+    {
+        let verified = verify_text(alloc, text, self.size);
+        self.name_filter(alloc, number, name, verified, out)
+    }
+
+    /// Answers `code`: a code file is read and verified, and gets a name.
+    fn load_code(
+        &mut self,
+        alloc: Global,
+        number: u32,
+        name: &[u8],
+        bytes: &[u8],
+        out: &mut Vec<u8>,
+    ) -> Result<Reply, AllocError>
+        ensures ok { IfOk result (Answers (λ answer. spec.AsScript self.old number (command.Code name.now bytes.now) answer self.new)
+            out.old.items out.new.items) }
+        ensures err { OnErr result (StartsWith out.new.items out.old.items) }
+        ensures left { OnErr result (self.new ≡ self.old) }
+    {
+        let verified = verify_file(alloc, bytes, self.size);
+        self.name_filter(alloc, number, name, verified, out)
+    }
+
+    /// Answers `import`: the distances that a node tells pass a filter from now on.
+    fn import(
+        &mut self,
+        number: u32,
+        node: u16,
+        name: &[u8],
+        out: &mut Vec<u8>,
+    ) -> Result<Reply, AllocError>
+        ensures ok { IfOk result (Answers (λ answer. spec.AnswersUse (filter_of self.old.names name.now) (λ filter. event.SetImport node filter)
+            number self.old answer self.new) out.old.items out.new.items) }
+        ensures err { OnErr result (StartsWith out.new.items out.old.items) }
+        ensures left { OnErr result (spec.BreaksOff self.old self.new) }
+    {
+        let Some(filter) = self.filters.get(name) else {
+            return refuse(out, UNKNOWN_FILTER, u64::from(number));
+        };
+        let event = Event::SetImport(node, Arc::try_clone(filter)?);
+        self.enter(event, None, out)
+    }
+
+    /// Answers `export`: the distances that a node is told pass a filter from now on.
+    fn export(
+        &mut self,
+        number: u32,
+        node: u16,
+        name: &[u8],
+        out: &mut Vec<u8>,
+    ) -> Result<Reply, AllocError>
+        ensures ok { IfOk result (Answers (λ answer. spec.AnswersUse (filter_of self.old.names name.now) (λ filter. event.SetExport node filter)
+            number self.old answer self.new) out.old.items out.new.items) }
+        ensures err { OnErr result (StartsWith out.new.items out.old.items) }
+        ensures left { OnErr result (spec.BreaksOff self.old self.new) }
+    {
+        let Some(filter) = self.filters.get(name) else {
+            return refuse(out, UNKNOWN_FILTER, u64::from(number));
+        };
+        let event = Event::SetExport(node, Arc::try_clone(filter)?);
+        self.enter(event, Some(node), out)
+    }
+
+    /// Answers `up`. The link of a node brings it up itself.
+    fn bring_up(&mut self, number: u32, node: u16, out: &mut Vec<u8>) -> Result<Reply, AllocError>
+        ensures ok { IfOk result (Answers (λ answer. spec.UnlessLinked node number (spec.AnswersEvent self.old (event.Up node)) self.old
+            answer self.new) out.old.items out.new.items) }
+        ensures err { OnErr result (StartsWith out.new.items out.old.items) }
+        ensures left { OnErr result (spec.BreaksOff self.old self.new) }
+    {
+        if has_link(self.links, node) {
+            return refuse(out, LINK_DOES_IT, u64::from(number));
+        }
+        self.enter(Event::Up(node), None, out)
+    }
+
+    /// Answers `down`, likewise.
+    fn take_down(&mut self, number: u32, node: u16, out: &mut Vec<u8>) -> Result<Reply, AllocError>
+        ensures ok { IfOk result (Answers (λ answer. spec.UnlessLinked node number (spec.AnswersDown node self.old) self.old
+            answer self.new) out.old.items out.new.items) }
+        ensures err { OnErr result (StartsWith out.new.items out.old.items) }
+        ensures left { OnErr result (spec.BreaksOff self.old self.new) }
+    {
+        if has_link(self.links, node) {
+            return refuse(out, LINK_DOES_IT, u64::from(number));
+        }
+        let mut finding = FindingSession { node, session: 0 };
+        self.router.observe(self.rt, &mut self.pass, &mut finding);
+        self.enter(Event::Down(finding.session), None, out)
+    }
+
+    /// Enters an event, and answers it by the router's reply. It set the export filter of this node, if of any.
+    fn enter(
+        &mut self,
+        event: Event,
+        exported: Option<u16>,
+        out: &mut Vec<u8>,
+    ) -> Result<Reply, AllocError>
+        ensures ok { IfOk result (Answers (λ answer. spec.AnswersEvent self.old event answer self.new) out.old.items out.new.items) }
+        ensures err { OnErr result (StartsWith out.new.items out.old.items) }
+        ensures left { OnErr result (spec.BreaksOff self.old self.new) }
+    {
+        let called = self.router.call(self.rt, &mut self.pass, event);
+        answer_call(self.rt, self.listener, self.limit, exported, called, out)
+    }
+
+    /// Answers the line of a number that looks at the router.
+    fn look(
+        &mut self,
+        alloc: Global,
+        number: u32,
+        asked: Asked,
+        out: &mut Vec<u8>,
+    ) -> Result<Reply, AllocError>
+        ensures ok { IfOk result (Answers (λ answer. spec.AnswersLook (told asked number) self.old answer self.new)
+            out.old.items out.new.items) }
+        ensures err { OnErr result (StartsWith out.new.items out.old.items) }
+        ensures left { OnErr result (spec.BreaksOff self.old self.new) }
+    {
+        let mut looking = Looking {
+            alloc,
+            number,
+            asked,
+            text: replace(out, Vec::new(alloc)),
+            reply: Err(AllocError),
+        };
+        self.router.observe(self.rt, &mut self.pass, &mut looking);
+        let Looking { text, reply, .. } = looking;
+        *out = text;
+        reply
+    }
+}

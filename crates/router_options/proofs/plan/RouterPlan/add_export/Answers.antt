@@ -1,0 +1,8 @@
+-- The use is the last one.
+use Rattle.router_options.proofs.Growing.{adds_export}
+use Rattle.router_options.proofs.plan.RouterPlan.add_export.Goals as goal
+
+pub returns-clause-added : goal.returns-clause-added
+returns-clause-added c =
+    adds_export c.args.self.now _ c.args.text.now c.self.view_is c.in_ok-used.used c.push.new.self.items c.in_ok-used.ensures.may
+    c.in_ok-push.ensures.items

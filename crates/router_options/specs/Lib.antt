@@ -1,0 +1,4 @@
+-- what callers cite
+pub mod Forms
+pub mod PlanView
+pub mod Plans

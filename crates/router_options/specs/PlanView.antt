@@ -1,0 +1,50 @@
+-- What a router is told before it begins. (This project's own choice.)
+use Rattle.std.specs.Prelude.{◌≡◌, ◌==◌, ◌&&◌, ℕ, ◌≤◌, Bool, true, not, nat_lt, All, List, count_by, Option, String, string_bytes}
+use Rattle.std.specs.List.{list_any}
+use Rattle.std.specs.Str.{bytes_eq}
+use Rattle.std.proofs.Common.{Global}
+use Rattle.netchange_core.specs.OpeningView.{OpeningView}
+use Rattle.operator_cmds.specs.Limits.{largest_limit}
+use Rattle.router_options.specs.declared.parts.FilterUse.{FilterUse}
+use Rattle.router_options.specs.declared.parts.LinkFiles.{LinkFiles}
+
+-- the domain, the router's node and the prefixes; the most entries of the history; the names of the filters; the import and the export
+-- filters; the links; where the history is saved; how long a closed link waits; whether the router goes on where its standard input ends
+pub record PlanView : Type 0 where
+  pub opening : OpeningView
+  pub limit : ℕ
+  pub filters : List (String Global)
+  pub imports : List FilterUse
+  pub exports : List FilterUse
+  pub links : List LinkFiles
+  pub save : Option (String Global)
+  pub retry : Option ℕ
+  pub stays : Bool
+
+-- a neighbour is a node of the domain, but not the router itself
+abbrev pub is_neighbour : OpeningView → ℕ → Bool
+is_neighbour opening node = nat_lt node opening.size && not (node == opening.me)
+
+-- a link leads to the node
+abbrev pub leads_to : ℕ → LinkFiles → Bool
+leads_to node link = link.node == node
+
+-- a node has a link; a filter has a name
+abbrev pub has_link : List LinkFiles → ℕ → Bool
+has_link links node = list_any (leads_to node) links
+
+abbrev pub has_filter : List (String Global) → List ℕ → Bool
+has_filter filters name = list_any (λ filter. bytes_eq (string_bytes filter) name) filters
+
+-- a use is of a filter that has a name, at a neighbour
+pub record IsUsed (opening : OpeningView) (filters : List (String Global)) (used : FilterUse) : Type 0 where
+  pub neighbour : is_neighbour opening used.node ≡ true
+  pub given : has_filter filters (string_bytes used.name) ≡ true
+
+-- each link leads to a neighbour, no node has two links, and each use is of a filter that has a name, at a neighbour
+pub record IsPlan (plan : PlanView) : Type 0 where
+  pub limit : (1 ≤ plan.limit) × (plan.limit ≤ largest_limit)
+  pub neighbours : All (λ link. is_neighbour plan.opening link.node ≡ true) plan.links
+  pub one_link : (node : ℕ) → count_by (leads_to node) plan.links ≤ 1
+  pub imports : All (IsUsed plan.opening plan.filters) plan.imports
+  pub exports : All (IsUsed plan.opening plan.filters) plan.exports

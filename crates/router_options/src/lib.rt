@@ -1,0 +1,10 @@
+//! What a running router is told on its command line, beyond numbers: its links, its prefixes, and which filters are used where.
+#![tactic(auto)]
+
+mod fault;
+mod parts;
+mod plan;
+
+pub use fault::OptionFault;
+pub use parts::{FilterUse, LinkFiles, NodePrefix};
+pub use plan::{Numbers, RouterPlan};

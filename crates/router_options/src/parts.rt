@@ -1,0 +1,118 @@
+//! The options that have parts.
+ghost use Rattle.std.specs.Prelude.{◌≡◌, true, false, Some, None, IfErr, IfOk, MatchOption};
+ghost use Rattle.router_options.specs.Forms as spec;
+ghost use Rattle.router_options.specs.declared.fault.OptionFault.TheVariants as fault;
+
+use crate::fault::OptionFault;
+use operator_cmds::{is_name, read_small};
+use prefix_patterns::{Prefix, read_prefix};
+use std::alloc::Global;
+
+/// A link: the neighbour, and the files that its lines come from and go to.
+#[derive(Debug, PartialEq, Eq, Drop)]
+pub struct LinkFiles {
+    /// The neighbour.
+    pub node: u16,
+    /// What the neighbour says is read here.
+    pub input: String,
+    /// What it is told is written here.
+    pub output: String,
+}
+
+/// A neighbour whose messages pass a filter.
+#[derive(Debug, PartialEq, Eq, Drop)]
+pub struct FilterUse {
+    /// The neighbour.
+    pub node: u16,
+    /// The filter's name.
+    pub name: String,
+}
+
+/// The prefix of a node.
+#[derive(Debug, Drop)]
+pub struct NodePrefix {
+    /// The node.
+    pub node: u16,
+    /// Its prefix.
+    pub prefix: Prefix,
+}
+
+/// A node's number, and what is said of the node behind `=`.
+fn cut_node(text: &str) -> Option<(u16, &str)>
+    ensures { MatchOption result (spec.node_in text.now ≡ None)
+        (λ cut. (spec.node_in text.now ≡ Some cut.0) × (cut.1.now ≡ spec.said_in text.now)) }
+{
+    match text.split_once('=') {
+        Some((node, said)) => match read_small(node.as_bytes()) {
+            Some(node) => Some((node, said)),
+            None => None,
+        },
+        None => None,
+    }
+}
+
+/// The two files of `IN,OUT`, neither of them with an empty name.
+fn cut_files(text: &str) -> Option<(&str, &str)>
+    ensures { MatchOption result (spec.are_files text.now ≡ false)
+        (λ cut. (spec.are_files text.now ≡ true) × (cut.0.now ≡ spec.input_in text.now) × (cut.1.now ≡ spec.output_in text.now)) }
+{
+    match text.split_once(',') {
+        Some((input, output)) if !input.is_empty() && !output.is_empty() => Some((input, output)),
+        _ => None,
+    }
+}
+
+impl LinkFiles {
+    /// Reads `W=IN,OUT`.
+    pub fn read(alloc: Global, text: &str) -> Result<LinkFiles, OptionFault>
+        ensures read { IfOk result (spec.IsLink text.now) }
+        ensures refused { IfErr result (spec.IsNoForm (spec.is_link text.now)) }
+    {
+        let Some((node, files)) = cut_node(text) else {
+            return Err(OptionFault::Form);
+        };
+        match cut_files(files) {
+            Some((input, output)) => Ok(LinkFiles {
+                node,
+                input: String::from_str(alloc, input)?,
+                output: String::from_str(alloc, output)?,
+            }),
+            None => Err(OptionFault::Form),
+        }
+    }
+}
+
+impl FilterUse {
+    /// Reads `W=NAME`.
+    pub fn read(alloc: Global, text: &str) -> Result<FilterUse, OptionFault>
+        ensures read { IfOk result (spec.IsUse text.now) }
+        ensures refused { IfErr result (spec.IsNoForm (spec.is_use text.now)) }
+    {
+        let Some((node, name)) = cut_node(text) else {
+            return Err(OptionFault::Form);
+        };
+        if !is_name(name.as_bytes()) {
+            return Err(OptionFault::Form);
+        }
+        Ok(FilterUse {
+            node,
+            name: String::from_str(alloc, name)?,
+        })
+    }
+}
+
+impl NodePrefix {
+    /// Reads `V=PREFIX`.
+    pub fn read(text: &str) -> Result<NodePrefix, OptionFault>
+        ensures read { IfOk result (spec.IsPrefix text.now) }
+        ensures refused { IfErr result (λ why. (why ≡ fault.Form) × (spec.is_prefix text.now ≡ false)) }
+    {
+        let Some((node, prefix)) = cut_node(text) else {
+            return Err(OptionFault::Form);
+        };
+        match read_prefix(prefix.as_bytes()) {
+            Some(prefix) => Ok(NodePrefix { node, prefix }),
+            None => Err(OptionFault::Form),
+        }
+    }
+}

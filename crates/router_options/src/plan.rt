@@ -1,0 +1,224 @@
+//! All that a running router is told.
+ghost use Rattle.std.specs.Prelude.{◌≡◌, ◌≤◌, IfErr, IfOk, OnErr, OnOk, MatchResult, true, false, string_bytes};
+ghost use Rattle.router_options.specs.PlanView as view;
+ghost use Rattle.router_options.specs.Plans as spec;
+ghost use Rattle.router_options.specs.declared.fault.OptionFault.TheVariants as fault;
+
+use crate::fault::OptionFault;
+use crate::parts::{FilterUse, LinkFiles, NodePrefix};
+use netchange_core::Opening;
+use operator_cmds::default_prefixes;
+use route_history::LARGEST_LIMIT;
+use std::alloc::Global;
+use std::marker::Model;
+
+/// The least and the most nodes of a domain.
+const SMALLEST_SIZE: u32 = 2;
+
+const LARGEST_SIZE: u32 = 250;
+
+/// The numbers of a router, as they are given.
+#[derive(Clone, Copy, Debug, PartialEq, Eq)]
+pub struct Numbers {
+    /// The number of nodes of the domain.
+    pub size: u32,
+    /// The node that the router is.
+    pub me: u32,
+    /// The most entries of its history.
+    pub limit: Option<u32>,
+    /// How long a link that is closed waits before it is opened again, in seconds; for ever where none is said.
+    pub retry: Option<u32>,
+}
+
+/// What a router is told before it begins. A node has at most one link, and each filter that is used has a name. A contract sees it as a
+/// `PlanView`.
+#[derive(Debug, Drop)]
+pub struct RouterPlan {
+    /// The domain, the router's node and the prefixes.
+    pub opening: Opening,
+    /// The most entries of the history.
+    pub limit: u32,
+    /// The names of the filters.
+    pub filters: Vec<String>,
+    /// The import filters.
+    pub imports: Vec<FilterUse>,
+    /// The export filters.
+    pub exports: Vec<FilterUse>,
+    /// The links.
+    pub links: Vec<LinkFiles>,
+    /// Where the history is saved.
+    pub save: Option<String>,
+    /// How long a closed link waits before it is opened again, in seconds.
+    pub retry: Option<u32>,
+    /// The router goes on where its standard input ends.
+    pub stays: bool,
+}
+
+impl Model for RouterPlan {
+    ghost use Rattle.router_options.specs.PlanView.{PlanView, IsPlan};
+
+    ghost Value = { PlanView };
+
+    ghost view = { λ p. record { opening = p.opening; limit = p.limit; filters = p.filters.items; imports = p.imports.items; exports = p.exports.items; links = p.links.items; save = p.save; retry = p.retry; stays = p.stays } };
+
+    ghost invariant = { λ p. IsPlan (record { opening = p.opening; limit = p.limit; filters = p.filters.items; imports = p.imports.items; exports = p.exports.items; links = p.links.items; save = p.save; retry = p.retry; stays = p.stays }) };
+}
+
+/// Whether a domain, the router's node and the limit of its history fit.
+fn are_numbers(numbers: Numbers) -> bool
+    ensures { result ≡ spec.are_numbers numbers }
+{
+    let limit = numbers.limit.unwrap_or(LARGEST_LIMIT);
+    let is_size = SMALLEST_SIZE <= numbers.size && numbers.size <= LARGEST_SIZE;
+    is_size && numbers.me < numbers.size && 1 <= limit && limit <= LARGEST_LIMIT
+}
+
+/// Whether a node can be a neighbour.
+fn is_neighbour(opening: &Opening, node: u16) -> bool
+    ensures { result ≡ view.is_neighbour opening.now node }
+{
+    node < opening.size() && node != opening.me()
+}
+
+/// Whether a node has one of these links.
+fn has_link(links: &[LinkFiles], node: u16) -> bool
+    ensures { result ≡ view.has_link links.now node }
+{
+    for link in links {
+        if link.node == node {
+            return true;
+        }
+    }
+    false
+}
+
+/// Whether one of these filters has this name.
+fn has_filter(filters: &[String], name: &str) -> bool
+    ensures { result ≡ view.has_filter filters.now name.now }
+{
+    for filter in filters {
+        if filter.as_str() == name {
+            return true;
+        }
+    }
+    false
+}
+
+impl RouterPlan {
+    /// The plan of these numbers, with the default prefixes, without links and filters.
+    pub fn new(
+        alloc: Global,
+        numbers: Numbers,
+        save: Option<String>,
+        stays: bool,
+    ) -> Result<RouterPlan, OptionFault>
+        ensures made { IfOk result (λ plan. plan ≡ spec.new_plan numbers save stays) }
+        ensures fit { OnOk result (spec.are_numbers numbers ≡ true) }
+        ensures refused { IfErr result (spec.RefusesNumbers numbers) }
+    {
+        if !are_numbers(numbers) {
+            return Err(OptionFault::Numbers);
+        }
+        let (size, me) = (numbers.size as u16, numbers.me as u16);
+        let prefixes = default_prefixes(alloc, size)?;
+        Ok(RouterPlan {
+            opening: Opening::new(size, me, prefixes).unwrap(),
+            limit: numbers.limit.unwrap_or(LARGEST_LIMIT),
+            filters: Vec::new(alloc),
+            imports: Vec::new(alloc),
+            exports: Vec::new(alloc),
+            links: Vec::new(alloc),
+            save,
+            retry: numbers.retry,
+            stays,
+        })
+    }
+
+    /// Adds a prefix, `V=PREFIX`. The last one of a node counts.
+    pub fn add_prefix(&mut self, text: &str) -> Result<(), OptionFault>
+        ensures added { OnOk result (spec.AddsPrefix self.old text.now self.new) }
+        ensures refused { IfErr result (spec.RefusesPrefix self.old text.now) }
+        ensures unchanged { OnErr result (self.new ≡ self.old) }
+    {
+        let NodePrefix { node, prefix } = NodePrefix::read(text)?;
+        if node >= self.opening.size() {
+            return Err(OptionFault::Node(node));
+        }
+        self.opening.set_prefix(node, prefix);
+        Ok(())
+    }
+
+    /// Adds the name of a filter.
+    pub fn add_filter(&mut self, alloc: Global, name: &str) -> Result<(), OptionFault>
+        ensures added { OnOk result (spec.AddsFilter self.old name.now self.new) }
+        ensures refused { IfErr result (λ why. why ≡ fault.Memory) }
+        ensures unchanged { OnErr result (self.new ≡ self.old) }
+    {
+        let filter = String::from_str(alloc, name)?;
+        self.filters.push(filter)?;
+        Ok(())
+    }
+
+    /// Reads the use of a filter, `W=NAME`, at a neighbour.
+    fn read_use(&self, alloc: Global, text: &str) -> Result<FilterUse, OptionFault>
+        ensures may { IfOk result (spec.MayUse self.now text.now) }
+        ensures refused { IfErr result (spec.RefusesUse self.now text.now) }
+    {
+        let used = FilterUse::read(alloc, text)?;
+        if !is_neighbour(&self.opening, used.node) {
+            return Err(OptionFault::Node(used.node));
+        }
+        if !has_filter(self.filters.as_slice(), used.name.as_str()) {
+            return Err(OptionFault::UnknownFilter);
+        }
+        Ok(used)
+    }
+
+    /// Adds the use of an import filter, `W=NAME`. The filters are added first.
+    pub fn add_import(&mut self, alloc: Global, text: &str) -> Result<(), OptionFault>
+        ensures added { OnOk result (spec.AddsImport self.old text.now self.new) }
+        ensures refused { IfErr result (spec.RefusesUse self.old text.now) }
+        ensures unchanged { OnErr result (self.new ≡ self.old) }
+    {
+        let used = self.read_use(alloc, text)?;
+        self.imports.push(used)?;
+        Ok(())
+    }
+
+    /// Adds the use of an export filter, `W=NAME`. The filters are added first.
+    pub fn add_export(&mut self, alloc: Global, text: &str) -> Result<(), OptionFault>
+        ensures added { OnOk result (spec.AddsExport self.old text.now self.new) }
+        ensures refused { IfErr result (spec.RefusesUse self.old text.now) }
+        ensures unchanged { OnErr result (self.new ≡ self.old) }
+    {
+        let used = self.read_use(alloc, text)?;
+        self.exports.push(used)?;
+        Ok(())
+    }
+
+    /// Reads a link, `W=IN,OUT`, to a neighbour that has none.
+    fn read_link(&self, alloc: Global, text: &str) -> Result<LinkFiles, OptionFault>
+        ensures may { IfOk result (spec.MayLink self.now text.now) }
+        ensures refused { IfErr result (spec.RefusesLink self.now text.now) }
+    {
+        let link = LinkFiles::read(alloc, text)?;
+        if !is_neighbour(&self.opening, link.node) {
+            return Err(OptionFault::Node(link.node));
+        }
+        if has_link(self.links.as_slice(), link.node) {
+            return Err(OptionFault::TwoLinks(link.node));
+        }
+        Ok(link)
+    }
+
+    /// Adds a link, `W=IN,OUT`.
+    pub fn add_link(&mut self, alloc: Global, text: &str) -> Result<(), OptionFault>
+        ensures added { OnOk result (spec.AddsLink self.old text.now self.new) }
+        ensures refused { IfErr result (spec.RefusesLink self.old text.now) }
+        ensures unchanged { OnErr result (self.new ≡ self.old) }
+    {
+        let link = self.read_link(alloc, text)?;
+        self.links.push(link)?;
+        Ok(())
+    }
+}

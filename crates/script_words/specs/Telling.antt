@@ -1,0 +1,46 @@
+-- What people are told of a refused line of a script. (This project's own choice.)
+use Rattle.std.specs.Prelude.{◌≡◌, ℕ, List, Option, Some, None, IfSome}
+use Rattle.std.specs.Option.{option_map}
+use Rattle.filter_source.specs.declared.diagnosis.Diagnosis.{Diagnosis}
+use Rattle.filter_tools.specs.Explanations.{IsLineExplanation, told_at}
+use Rattle.filter_tools.specs.Places.{before_first_feed}
+use Rattle.filter_tools.specs.Shown.{shown}
+use Rattle.line_protocol.specs.Words.{words}
+use Rattle.operator_cmds.specs.WordLists.{three_of}
+use Rattle.script_words.specs.Causes.{cause_code, cause_in}
+use Rattle.script_words.specs.declared.cause.Cause.{Cause}
+
+-- the code of an answer, which is the second of its three words
+abbrev pub second : (List ℕ × List ℕ × List ℕ) → List ℕ
+second (first, code, place) = code
+
+abbrev pub code_in : List ℕ → Option (List ℕ)
+code_in answer = option_map second (three_of (words (before_first_feed answer)))
+
+-- why an answer refuses its line, where it names a cause
+abbrev pub cause_by : Option (List ℕ) → Option Cause
+cause_by None = None
+cause_by (Some code) = cause_in code
+
+abbrev pub cause_of : List ℕ → Option Cause
+cause_of answer = cause_by (code_in answer)
+
+-- A cause is told in some words and by its code, at a byte of the line or of the whole line. The words are shown as all else is, so none of
+-- them can steer a terminal, and no line feed is within them (the law `shown_is_harmless`).
+abbrev pub TellsCause : List ℕ → ℕ → List ℕ → Cause → List ℕ → Type 0
+TellsCause name number line cause out =
+    (plain : List ℕ) × (byte : Option ℕ) × (out ≡ told_at name (Some number) line (shown plain) (cause_code cause) byte)
+
+-- the refusal of the filter with which the line ends is told
+abbrev pub TellsFilter : List ℕ → ℕ → List ℕ → List ℕ → Type 0
+TellsFilter name number line out = (source : List ℕ) × (told : Diagnosis) × IsLineExplanation name number line source told out
+
+-- what people are told of a line by the cause that its answer names: of each cause; and where it names none, of a filter alone, if of that
+abbrev pub TellsBy : Option Cause → List ℕ → ℕ → List ℕ → Option (List ℕ) → Type 0
+TellsBy (Some cause) name number line (Some out) = TellsCause name number line cause out
+TellsBy (Some cause) name number line None = ⊥
+TellsBy None name number line told = IfSome told (TellsFilter name number line)
+
+-- what people are told of a refused line with this number and this answer, in a script that they know by a name
+abbrev pub Tells : List ℕ → ℕ → List ℕ → List ℕ → Option (List ℕ) → Type 0
+Tells name number line answer told = TellsBy (cause_of answer) name number line told

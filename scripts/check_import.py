@@ -1,0 +1,268 @@
+#!/usr/bin/env python3
+"""Tries `ncroute import`: each rewrite, what is left out and at which place, and random configurations that are made of the filters in
+`tests/bird/`, whose import must have the tokens of the filter itself. Where BIRD takes a filter that is refused here, what is imported must
+answer as BIRD did. Prints what fails, and at last 'N passed, M failed'.
+
+usage: NCROUTE=PATH scripts/check_import.py     (PATH: the program as it is built)
+"""
+import os
+import random
+import re
+import subprocess
+import sys
+import tempfile
+
+import bird_filters
+from program import finish
+
+SIZE = "250"
+TOKEN = re.compile(r"\s+|#[^\n]*|/\*.*?\*/|(\"[^\"\n]*\"|\d+\.\d+\.\d+\.\d+(?:/\d+)?|0x[0-9a-fA-F]+|\d+|[A-Za-z_]\w*|&&|\|\||!=|!~|<=|>=|\.\.|.)", re.S)
+
+BODY = "{ if net ~ OWN then accept; reject; }"
+DEFINED = "{ if net ~ 10.0.0.0/8 then accept; reject; }"
+
+# A configuration, and the tokens of each filter that it gives, with its name; or the place and a part of the words by which it is left out.
+TAKEN = [
+    ("a definition", "define OWN = 10.0.0.0/8;\nfilter f " + BODY, {"f": DEFINED}),
+    ("a definition by a definition", "define ALL = 10.0.0.0/8; define OWN = ALL;\nfilter f " + BODY, {"f": DEFINED}),
+    ("a set", "define OWN = [ 10.0.0.0/8+ ];\nfilter f " + BODY, {"f": "{ if net ~ [ 10.0.0.0/8+ ] then accept; reject; }"}),
+    ("a set of one prefix is no prefix", "define OWN = [ 10.0.0.0/8 ];\nfilter f " + BODY, {"f": "{ if net ~ [ 10.0.0.0/8 ] then accept; reject; }"}),
+    ("a longer value", "define FAR = 2 + 3;\nfilter f { if rip_metric > 2 * FAR then reject; accept; }",
+     {"f": "{ if rip_metric > 2 * ( 2 + 3 ) then reject; accept; }"}),
+    ("a name that begins with a defined name", "define OWN = 1;\nfilter f int OWNER; { OWNER = OWN; if net.len = OWNER then accept; }",
+     {"f": "int OWNER; { OWNER = 1; if net.len = OWNER then accept; }"}),
+    ("a defined name in a text and in comments", "define OWN = 1;\nfilter f { # OWN\n /* OWN */ reject \"OWN\"; }", {"f": "{ reject \"OWN\"; }"}),
+    ("a part of a prefix with a defined name", "define len = 8;\nfilter f { if net.len = len then accept; }", {"f": "{ if net.len = 8 then accept; }"}),
+    ("a variable with a defined name", "define k = 8;\nfilter f int k; { k = 1; if net.len = k then accept; }",
+     {"f": "int k; { k = 1; if net.len = k then accept; }"}),
+    ("a number in a mask and a label", "define N = 8;\nfilter f { case net.len { N..9: accept; } if net.ip.mask(N) = 10.0.0.0 then accept; }",
+     {"f": "{ case net.len { 8..9: accept; } if net.ip.mask(8) = 10.0.0.0 then accept; }"}),
+    ("two filters, closed", "filter f { accept; };\nfilter g { reject; };", {"f": "{ accept; }", "g": "{ reject; }"}),
+    ("a declaration with a value", "filter f { int k = 1; bool b = true; if b && net.len = k then accept; }",
+     {"f": "int k; bool b; { k = 1; b = true; if b && net.len = k then accept; }"}),
+    ("a declaration behind a command", "filter f { if net.len < 4 then reject; int k = 4; if net.len > k then accept; }",
+     {"f": "int k; { if net.len < 4 then reject; k = 4; if net.len > k then accept; }"}),
+    ("a declaration in a block", "filter f { if net.len > 4 then { int k = 9; if net.len < k then accept; } }",
+     {"f": "int k; { if net.len > 4 then { k = 9; if net.len < k then accept; } }"}),
+    ("no filter of a protocol", "protocol rip r { ipv4 { import all; export filter f; }; }\nfilter f { accept; }", {"f": "{ accept; }"}),
+    ("filters of two protocols", "protocol rip a { import filter { accept; }; }\nprotocol rip b { import filter { reject; }; }",
+     {"a_import": "{ accept; }", "b_import": "{ reject; }"}),
+    ("both directions", "protocol rip a { ipv4 { import filter { accept; }; export filter { reject; }; }; }",
+     {"a_import": "{ accept; }", "a_export": "{ reject; }"}),
+    ("variables of a filter without a name", "template rip t { ipv4 { import filter int k; { k = 1; if net.len = k then accept; }; }; }",
+     {"t_import": "int k; { k = 1; if net.len = k then accept; }"}),
+    ("a protocol without a name", "protocol rip { ipv4 { import filter { accept; }; }; }", {"rip1_import": "{ accept; }"}),
+    ("a condition", "define OWN = 10.0.0.0/8;\nprotocol rip a { ipv4 { import where net ~ OWN; }; }", {"a_import": DEFINED}),
+    ("mixed operators", "filter f { if true || true && false then accept; reject; }", {"f": "{ if ( true || true ) && false then accept; reject; }"}),
+    ("more of them", "filter f bool b; { b = true && false || true && true; if b then accept; }",
+     {"f": "bool b; { b = ( ( true && false ) || true ) && true; if b then accept; }"}),
+    ("operators in parentheses", "filter f { if (true || false && true) then accept; }", {"f": "{ if ( ( true || false ) && true ) then accept; }"}),
+    ("a missing semicolon", "filter f { if net.len > 8 then rip_metric = 4 else reject\n}", {"f": "{ if net.len > 8 then rip_metric = 4; else reject; }"}),
+    ("lengths before a brace", "filter f { if net ~ [ 10.0.0.0/8{8,24} ] then accept; }", {"f": "{ if net ~ [ 10.0.0.0/8{8,24} ] then accept; }"}),
+    ("printing", "filter f { print \"x \", net, \" \", rip_metric; if net.len > 8 then printn net.len; else reject \"far\", net; accept; }",
+     {"f": "{ ; if net.len > 8 then ; else reject \"far\"; accept; }"}),
+    ("the kind of a prefix", "filter f { if net.type = NET_IP4 && net.len > 8 then accept; if net.type = NET_IP6 then accept; }",
+     {"f": "{ if true && net.len > 8 then accept; if false then accept; }"}),
+    ("a function's value", "function f() { return net.len > 8; }\nfilter g { if f() && !f() then accept; }",
+     {"g": "{ if ( net.len > 8 ) && !( net.len > 8 ) then accept; }"}),
+    ("a function with cases", "function f() { if net.len > 8 then return true; if net.len < 4 then { return false; } return net ~ 10.0.0.0/8; }\n"
+     "filter g { if f() then accept; }",
+     {"g": "{ if ( ( net.len > 8 ) || ( ! ( net.len < 4 ) && ( net ~ 10.0.0.0/8 ) ) ) then accept; }"}),
+    ("a function's commands", "function f() { if net.len > 8 then reject; }\nfilter g { f(); if net.len = 1 then f(); accept; }",
+     {"g": "{ { if net.len > 8 then reject; } if net.len = 1 then { if net.len > 8 then reject; } accept; }"}),
+    ("a function with a set", "function f()\nprefix set s;\n{ s = [ 10.0.0.0/8+ ]; return net ~ s; }\nfilter g { if f() then accept; }",
+     {"g": "{ if ( net ~ [ 10.0.0.0/8+ ] ) then accept; }"}),
+    ("a function that calls one", "function f() { return net.len > 8; }\nfunction h() { return !f(); }\nfilter g { if h() then accept; }",
+     {"g": "{ if ( !( net.len > 8 ) ) then accept; }"}),
+    ("a variable that is a set", "filter f prefix set s; { s = [ 10.0.0.0/8+ ]; if net ~ s then accept; }",
+     {"f": "{ if net ~ [ 10.0.0.0/8+ ] then accept; }"}),
+    ("a variable that each way assigns", "filter f int k; { if net.len > 8 then k = 1; else { case net.len { 8: k = 2; 7: reject; else: k = 3; } } if net.len > k then accept; }",
+     {"f": "int k; { if net.len > 8 then k = 1; else { case net.len { 8: k = 2; 7: reject; else: k = 3; } } if net.len > k then accept; }"}),
+    ("a case of addresses", "filter f { case net.ip { 10.0.0.0: accept; else: reject; 10.0.0.1, 10.1.0.0..10.2.0.0: rip_metric = 3; } }",
+     {"f": "{ if net.ip = 10.0.0.0 then { accept; } else if net.ip = 10.0.0.1 || ( net.ip >= 10.1.0.0 && net.ip <= 10.2.0.0 ) then "
+      "{ rip_metric = 3; } else { reject; } }"}),
+    ("a case of addresses before an else", "filter f { if net.len = 8 then case net.ip { 10.0.0.0: accept; } else reject; accept; }",
+     {"f": "{ if net.len = 8 then { if net.ip = 10.0.0.0 then { accept; } } else reject; accept; }"}),
+    ("a function that prints", "function g() { print \"g\"; return net.len > 8; }\nfilter f { if g() then accept; }",
+     {"f": "{ if ( net.len > 8 ) then accept; }"}),
+    ("other blocks", "log \"/var/log/x\" { debug, trace };\nrouter id 1.2.3.4;\nprotocol bgp p { local as 65000; neighbor 2001:db8::1 as 65001; hold time 240; "
+     "password 'x'; ipv6 { import all; }; }\nprotocol static { route 10.0.0.0/8 via \"eth0\"; }\nipv4 table t;\nfilter f { accept; }", {"f": "{ accept; }"}),
+]
+
+LEFT_OUT = [
+    ("a definition below", "filter f " + BODY + "\ndefine OWN = 10.0.0.0/8;", "1:21", "f: `OWN` is used before its definition ends"),
+    ("a definition by itself", "define OWN = OWN;\nfilter f " + BODY, "1:14", "f: `OWN` is used before"),
+    ("definitions in a circle", "define A = B;\ndefine B = A;\nfilter f { if net.len = B then accept; }", "1:12", "f: `B` is used before"),
+    ("two definitions", "define A = 1;\ndefine A = 2;\nfilter f { if net.len = A then accept; }", "3:25", "f: `A` has two definitions"),
+    ("an attribute of BGP", "filter f { if net.len > 8 then reject; bgp_path.prepend(1); accept; }", "1:40", "f: `bgp_path` is an attribute of BGP"),
+    ("a preference", "filter f { preference = 90; accept; }", "1:12", "f: `preference` is an attribute"),
+    ("a tag", "filter f { rip_tag = 666; accept; }", "1:12", "f: `rip_tag` is an attribute"),
+    ("where a route comes from", "filter f { if from = 10.0.0.1 then reject; accept; }", "1:15", "f: `from` is an attribute"),
+    ("another kind", "filter f bgppath p; { accept; }", "1:10", "f: `bgppath` is a type that is not taken"),
+    ("a function with arguments", "function g(int k) { return net.len > k; }\nfilter f { if g(8) then accept; }", "2:15", "f: `g` is called with arguments"),
+    ("a function with a variable", "function g() int k; { k = 8; return net.len > k; }\nfilter f { if g() then accept; }", "2:15", "f: the function `g` cannot"),
+    ("a function below", "filter f { if g() then accept; }\nfunction g() { return true; }", "1:15", "f: `g` is used before"),
+    ("a function that calls itself", "function g() { return g(); }\nfilter f { if g() then accept; }", "1:23", "f: `g` is used before"),
+    ("no function", "filter f { if g() then accept; }", "1:15", "f: `g` is no function"),
+    ("a value of a function in a print", "function g() { reject; }\nfilter f { print g(); accept; }", "2:18", "f: the function `g` cannot"),
+    ("a set that is assigned twice", "filter f prefix set s; { s = [ 10.0.0.0/8 ]; s = [ 11.0.0.0/8 ]; if net ~ s then accept; }", "1:21", "f: the set `s`"),
+    ("a set that is assigned on a condition", "filter f prefix set s; { if net.len > 8 then s = [ 10.0.0.0/8 ]; if net ~ s then accept; }", "1:21", "f: the set `s`"),
+    ("labels that share an address", "filter f { case net.ip { 10.0.0.0..10.0.0.9: accept; 10.0.0.5: reject; } }", "1:12", "f: the labels"),
+    ("a variable without a value in the body", "filter f { int k; k = 4; if net.len > k then accept; }", "1:16", "f: `k` has no value in the body"),
+    ("a variable that is not assigned", "filter f int k; { if net.len > k then accept; }", "1:32", "f: `k` may be read before it is assigned"),
+    ("a variable that is assigned on a condition", "filter f int k; { if net.len > 8 then k = 1; if net.len > k then accept; }", "1:59", "f: `k` may be read"),
+    ("a division", "filter f { rip_metric = 8 / rip_metric; accept; }", "1:27", "f: the divisor may be 0"),
+    ("a strange byte in a filter", "filter f { accept; $ }", "1:20", "f: no word of a configuration begins with this byte"),
+    ("a strange byte elsewhere", "filter f { accept; }\n$", "2:1", "no word begins with this byte"),
+    ("a comment that does not end", "filter f { accept; }\n/* ", "2:1", "a comment or a text begins here that is not closed"),
+    ("a text that does not end", "filter f { accept; }\nlog \"x\n;", "2:5", "a comment or a text begins here that is not closed"),
+    ("braces that do not close", "filter f { if net.len > 8 then { accept; }", "1:1", "f: its braces are not closed"),
+    ("one name for two", "filter f { accept; }\nfilter f { reject; }", "2:1", "f: a filter before it has this name"),
+    ("IPv6", "protocol rip a { ipv6 { import filter { accept; }; }; }", "1:25", "a_import: IPv6 is not supported"),
+    ("an address of IPv6", "filter f { if net ~ [ 2001:db8::/32+ ] then accept; }", "1:28", "f: "),
+    ("a loop", "filter f { for int k in 1 do accept; }", "1:12", "f: "),
+    ("unset", "filter f { unset(rip_tag); accept; }", "1:12", "f: "),
+    ("no such file", "include \"nowhere.bird\";\nfilter f { accept; }", None, None),
+    ("many files", "include \"*.bird\";\nfilter f { accept; }", "1:1", "include *.bird: include each file by its own name"),
+]
+
+
+def tokens(text):
+    return [found[1] for found in TOKEN.finditer(text) if found[1]]
+
+
+class Trial:
+    """Configurations that are imported in a folder of their own."""
+
+    def __init__(self, ncroute, folder):
+        self.ncroute, self.folder = ncroute, folder
+        self.passed = self.failed = self.number = 0
+
+    def check(self, name, holds, told=""):
+        if holds:
+            self.passed += 1
+        else:
+            self.failed += 1
+            print(f"{name}: {told}")
+
+    def run(self, config, files=()):
+        """What is printed, the exit status, and the text of each filter that was written, by its name."""
+        self.number += 1
+        here = os.path.join(self.folder, str(self.number))
+        out = os.path.join(here, "out")
+        os.makedirs(out)
+        for name, text in [("bird.conf", config), *files]:
+            os.makedirs(os.path.dirname(os.path.join(here, name)), exist_ok=True)
+            with open(os.path.join(here, name), "w") as it:
+                it.write(text)
+        ran = subprocess.run([self.ncroute, "import", "--size", SIZE, "--out", "out", "bird.conf"], cwd=here, capture_output=True, text=True)
+        written = {}
+        for name in os.listdir(out):
+            with open(os.path.join(out, name)) as it:
+                written[name.removesuffix(".filter")] = it.read()
+        return ran.stdout, ran.returncode, written
+
+    def taken(self, name, config, filters):
+        said, status, written = self.run(config)
+        wanted = {filter: tokens(f"filter {filter} {body}") for filter, body in filters.items()}
+        got = {filter: tokens(text) for filter, text in written.items()}
+        self.check(name, got == wanted and status == 0, f"status {status}\n{said}{written}")
+
+    def left_out(self, name, config, place, words):
+        said, status, written = self.run(config)
+        lines = said.splitlines()
+        is_told = place is None or any(line.startswith(f"bird.conf:{place} ") and words in line for line in lines)
+        taken = [line for line in lines if " verified " in line]
+        self.check(name, status == 1 and is_told and len(taken) == len(written), f"status {status}\n{said}{written}")
+
+
+def includes(trial):
+    """Files that include files: in order, each once, relative to the one that includes it, 8 deep, and not in a circle."""
+    said, status, written = trial.run("include \"a/one.bird\";\nfilter f { if net.len = ONE + TWO then accept; }",
+                                      [("a/one.bird", "define ONE = 1;\ninclude \"two.bird\"; # no line feed"), ("a/two.bird", "define TWO = 2;")])
+    trial.check("include", status == 0 and tokens(written["f"]) == tokens("filter f { if net.len = 1 + 2 then accept; }"), said)
+    trial.check("the place in an included file", "a/one.bird:1:14" in written["f"] and "a/two.bird:1:14" in written["f"], written)
+    trial.check("the place behind an include", said.startswith("bird.conf:2:1 filter f -> out/f.filter verified"), said)
+    said, status, _ = trial.run("include \"a.bird\";\nfilter f { accept; }", [("a.bird", "filter g { accept; }\ninclude \"bird.conf\";")])
+    trial.check("a circle", status == 1 and "a.bird:2:1 include bird.conf: the file includes itself" in said and said.count("filter g") == 1, said)
+    deep = [(f"{n}.bird", f"include \"{n + 1}.bird\";\nfilter f{n} {{ accept; }}") for n in range(1, 12)]
+    said, status, _ = trial.run("include \"1.bird\";", deep)
+    trial.check("nine deep", status == 1 and "8.bird:1:1 include 9.bird: files are included at most 8 deep" in said and "filter f8 " in said, said)
+    said, status, _ = trial.run("filter f { include \"a.bird\"; reject; }", [("a.bird", "if net.len > 8 then accept;")])
+    trial.check("include in a filter", status == 0, said)
+    said, status, _ = trial.run("# include \"a.bird\";\nfilter f { reject \"include\"; }")
+    trial.check("include in a comment", status == 0, said)
+
+
+def comments(trial):
+    _, _, written = trial.run("define A = 1; # not this\n# above\nfilter f # head\n{ /* one */ if net.len = A # two\n then accept; # three\n}")
+    trial.check("comments", all(word in written["f"] for word in ("# above", "# head", "/* one */", "# two", "# three")), written)
+
+
+def constants(text, dice):
+    """A configuration with definitions for some constants of a filter."""
+    defined, written = [], []
+    for piece in re.split(r"(\[[^\[\]]*\]|\"[^\"]*\"|\d+\.\d+\.\d+\.\d+(?:/\d+)?|0x[0-9a-fA-F]+|\b\d+\b|[A-Za-z_]\w*)", text):
+        if piece and (piece[0] == "[" or piece[0].isdigit()) and dice.random() < 0.4:
+            name = f"C{len(defined)}_{dice.choice(['X', 'OF', 'IT'])}"
+            if piece[0] == "[" and dice.random() < 0.5:
+                defined.append(f"define {name}_ = {piece};  # a set")
+                defined.append(f"define {name} = {name}_;")
+            else:
+                defined.append(f"define {name} = {piece};")
+            written.append(name)
+        else:
+            written.append(piece)
+    return "\n".join(defined), "".join(written)
+
+
+def randoms(trial, seed, count):
+    dice = random.Random(seed)
+    blocks = [block for path in bird_filters.files() if "differences" not in path for block in bird_filters.read(path)[1]]
+    for block in dice.sample(blocks, min(count, len(blocks))):
+        defined, body = constants(block.filter, dice)
+        config = f"log syslog all;\n{defined}\nprotocol kernel {{ learn; }}\n/* {block.name()} */\n{body.rstrip()}{dice.choice(['', ';'])}\ntemplate bgp t {{ local as 1; }}\n"
+        said, status, written = trial.run(config)
+        text = written.get(block.name(), "")
+        trial.check(block.name(), status == 0 and tokens(text) == tokens(block.filter), f"{said}{config}")
+
+
+def verdicts(trial):
+    """What BIRD takes and is refused here: what is imported answers as BIRD did."""
+    for path in bird_filters.files():
+        for block in bird_filters.read(path)[1]:
+            refused = any(refusal.startswith("refused ") for refusal in block.refusals)
+            if not refused or block.birds() is None:
+                continue
+            said, _, written = trial.run(block.filter)
+            text = written.get(block.name())
+            if text is None:
+                trial.check(block.name(), "was left out" in said, said)
+                continue
+            routes = "".join(f"{net} {metric}\n" for net, metric in block.routes)
+            with open(os.path.join(trial.folder, "filter"), "w") as it:
+                it.write(text)
+            ran = subprocess.run([trial.ncroute, "filter", "--size", SIZE, os.path.join(trial.folder, "filter")], input=routes, capture_output=True, text=True)
+            trial.check(block.name(), ran.stdout.splitlines() == block.birds(), f"{text}{ran.stdout}{block.birds()}")
+
+
+def main():
+    ncroute = os.environ.get("NCROUTE")
+    if not ncroute:
+        sys.exit("NCROUTE=PATH: the program that is to run")
+    seed = int(os.environ.get("SEED", "1"))
+    with tempfile.TemporaryDirectory() as folder:
+        trial = Trial(os.path.realpath(ncroute), folder)
+        for name, config, filters in TAKEN:
+            trial.taken(name, config, filters)
+        for name, config, place, words in LEFT_OUT:
+            trial.left_out(name, config, place, words)
+        includes(trial)
+        comments(trial)
+        randoms(trial, seed, 300)
+        verdicts(trial)
+    finish(trial.passed, trial.failed)
+
+
+if __name__ == "__main__":
+    main()

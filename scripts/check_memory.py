@@ -1,0 +1,183 @@
+#!/usr/bin/env python3
+"""Refuses each allocation of tests and of runs of the program, one at a time. Prints what each refusal did that did harm, for each call of
+memory_tests what it answered, how many allocations were refused, and at last 'N passed, M failed'.
+
+usage: NCROUTE=PATH scripts/check_memory.py [NAME..]
+       (NAMEs: crates whose tests are swept, and `runs` for those of the program; without them memory_tests, lock_tests, runs)
+
+The tests of a crate are crates/NAME/out/NAME_tests, which the gate and `rt test` leave there; where there are none, `rt test` builds them.
+
+A test that meets a refused allocation ends with the error that it was handed (by `?`, or after it compared what a refused call left behind;
+then it also says what the call answered). A test that passes all the same did without the memory. Anything else is a fault: a wrong answer (a
+failed assertion, or an expectation, which is told without `error: `), a bad access, a test that does not end within a minute.
+
+A run of the program that meets one ends with status 1 and the code of what was refused, and has written the first lines of its whole answer,
+each whole; or it did without, and ended as ever.
+"""
+import collections
+import concurrent.futures
+import glob
+import itertools
+import os
+import re
+import subprocess
+import sys
+import tempfile
+
+sys.dont_write_bytecode = True
+import program  # noqa: E402
+
+AT_ONCE = max(2, os.cpu_count() or 1)
+CRATES = ["memory_tests", "lock_tests"]
+
+# The calls that the tests of memory_tests make and that answer refused memory. `close` is made too, and asks for none.
+CALLS = """build read_code write_code parse check compile compile_mapped verify compile_text read_file read_hexadecimal verify_code Tables::open
+Tables::apply Journal::open Journal::apply replay Router::open try_call call run_sessions answer_lines run_script""".split()
+
+# How a program ends that was refused memory: in any call of most commands, and in `net` also in those of a lock, a session or a channel.
+MEMORY = re.compile(rb"ncroute: E3\n")
+MEMORY_OF_NETWORK = re.compile(rb"ncroute: (E3|J2|L3|X1|X2)\n")
+
+
+class Sweep:
+    """Runs commands without their Nth allocation, by a small library that is loaded before the C library."""
+
+    def __init__(self, folder):
+        self.folder, self.marks = folder, itertools.count()
+        self.library = os.path.join(folder, "refuse.so")
+        source = os.path.join(program.TOP, "scripts", "fail_nth_allocation.c")
+        subprocess.run(["cc", "-shared", "-fPIC", "-O1", "-o", self.library, source, "-ldl"], check=True)
+
+    def without(self, nth, words, given=b""):
+        """How the command ends without its Nth allocation: status, output and errors; `None` where it asks less often. A minute is its limit."""
+        mark = os.path.join(self.folder, f"refused.{next(self.marks)}")
+        told = {**os.environ, "NTH_ALLOCATION": str(nth), "REFUSED_FILE": mark, "LD_PRELOAD": self.library}
+        try:
+            ran = subprocess.run(words, input=given, capture_output=True, env=told, timeout=60)
+            ended = ran.returncode, ran.stdout, ran.stderr
+        except subprocess.TimeoutExpired:
+            ended = None, b"", b"it did not end within a minute"
+        if not os.path.exists(mark):
+            return None
+        os.remove(mark)
+        return ended
+
+    def all(self, pool, words, given=b""):
+        """All ends of a command, each with the number of the allocation that was refused, until one asks less often."""
+        first = 1
+        while True:
+            block = range(first, first + 4 * AT_ONCE)
+            for nth, ended in zip(block, pool.map(lambda nth: self.without(nth, words, given), block)):
+                if ended is None:
+                    return
+                yield nth, ended
+            first = block.stop
+
+
+def built_tests(crate):
+    """The path of a crate's built tests."""
+    tests = os.path.join(program.TOP, "crates", crate, "out", f"{crate}_tests")
+    if not os.path.exists(tests):
+        subprocess.run(["rt", "test"], cwd=os.path.join(program.TOP, "crates", crate), check=True, stdout=subprocess.DEVNULL)
+    return tests
+
+
+def is_refusal(status, errors):
+    """Whether a test ended with the error that it was handed."""
+    return status == 101 and b"its result gives status 1\n" in errors and re.search(rb"(?m)^error: | answered ", errors)
+
+
+def sweep_tests(sweep, pool, crate):
+    """Sweeps each test of a crate, and returns how many passed and failed, and what its calls answered."""
+    tests, answers = built_tests(crate), collections.defaultdict(collections.Counter)
+    passed = failed = all_refused = without = 0
+    listed = subprocess.run([tests, "--list"], capture_output=True, check=True)
+    for name in re.findall(r"(?m)^(.+): test$", (listed.stdout + listed.stderr).decode()):
+        faults = 0
+        for nth, (status, output, errors) in sweep.all(pool, [tests, name]):
+            told = output + errors
+            all_refused += 1
+            if status == 0:
+                without += 1
+            elif is_refusal(status, told):
+                for call, answer in re.findall(r"(?m)^(\S+) answered (.+)$", told.decode(errors="replace")):
+                    answers[call][answer] += 1
+            else:
+                faults += 1
+                print(f"{crate} {name}: without allocation {nth}: status {status}\n{told.decode(errors='replace')}")
+        passed, failed = passed + (not faults), failed + bool(faults)
+    print(f"{crate}: {all_refused} allocations refused, {without} of them in tests that did without")
+    return passed, failed, answers
+
+
+def count_calls(answers):
+    """Says how often each call of memory_tests was refused memory and what it answered. Each has to be, but for `close`."""
+    passed = failed = 0
+    for call in CALLS:
+        told = ", ".join(f"{answer} ({times})" for answer, times in sorted(answers[call].items()))
+        print(f"{call}: {told or 'was never refused memory'}")
+        passed, failed = passed + bool(told), failed + (not told)
+    return passed, failed
+
+
+def runs_of(ncroute, folder):
+    """The runs of the program: its words and its input, and how it ends where memory is refused."""
+    def text(file):
+        with open(file, "rb") as it:
+            return it.read()
+
+    example = os.path.join(program.TOP, "examples", "")
+    filters, scripts = sorted(glob.glob(f"{example}*.filter")), sorted(glob.glob(f"{example}*.script"))
+    yield ["eval"], text(f"{example}up_two.eval"), MEMORY
+    for file in filters:
+        yield ["check", "--size", "16"], text(file), MEMORY
+    for file in scripts:
+        yield ["run"], text(file), MEMORY
+    checked = subprocess.run([ncroute, "check", "--size", "16"], input=text(f"{example}no_bogons.filter"), capture_output=True, check=True)
+    yield ["check", "--size", "16", "--code"], re.search(rb"(?m)^code (.*\n)", checked.stdout)[1], MEMORY
+    yield ["net"], b"", MEMORY_OF_NETWORK
+
+
+def begins_whole(output, whole):
+    """Whether what was written is the first lines of the whole answer, each whole."""
+    return whole.startswith(output) and (not output or output.endswith(b"\n"))
+
+
+def sweep_runs(sweep, pool):
+    ncroute = os.environ.get("NCROUTE") or os.path.join(program.TOP, "crates", "ncroute", "out", "ncroute")
+    passed = failed = all_refused = 0
+    for words, given, code in runs_of(ncroute, sweep.folder):
+        ever = subprocess.run([ncroute, *words], input=given, capture_output=True)
+        faults = refused = 0
+        for nth, (status, output, errors) in sweep.all(pool, [ncroute, *words], given):
+            if (status, output, errors) == (ever.returncode, ever.stdout, ever.stderr):
+                continue
+            refused += 1
+            if status != 1 or not code.fullmatch(errors) or not begins_whole(output, ever.stdout):
+                faults += 1
+                print(f"{' '.join(words)}: without allocation {nth}: status {status}, {errors.decode(errors='replace')!r}, {len(output)} bytes written")
+        is_well = refused > 0 and not faults
+        passed, failed, all_refused = passed + is_well, failed + (not is_well), all_refused + refused
+    print(f"runs: {all_refused} allocations refused that ended a run")
+    return passed, failed
+
+
+def main():
+    names = sys.argv[1:] or [*CRATES, "runs"]
+    passed = failed = 0
+    with tempfile.TemporaryDirectory() as folder, concurrent.futures.ThreadPoolExecutor(AT_ONCE) as pool:
+        sweep = Sweep(folder)
+        for name in names:
+            if name == "runs":
+                counts = [sweep_runs(sweep, pool)]
+            else:
+                well, ill, answers = sweep_tests(sweep, pool, name)
+                counts = [(well, ill)]
+                if name == "memory_tests":
+                    counts.append(count_calls(answers))
+            passed, failed = passed + sum(it[0] for it in counts), failed + sum(it[1] for it in counts)
+    program.finish(passed, failed)
+
+
+if __name__ == "__main__":
+    main()
