@@ -375,18 +375,31 @@ fn requests_end_with_their_status(rt: HostRuntime) -> Result<(), Fail> {
 /// What the script of a domain answers, what is told where people asked for words, and the exit status.
 #[test]
 fn domain_scripts_end_with_their_status(rt: HostRuntime) -> Result<(), Fail> {
-    let rows: [(&str, &str, bool, u8); 4] = [
+    let rows: [(&str, &str, bool, &str, u8); 4] = [
         (
             "domain 2\nlink 0 1\nroute 0 1\n",
             "ok\nok\nroute 1 via 1\n",
-            false,
+            true,
+            "",
             0,
         ),
-        ("link 0 1\n", "refused O4 1\n", true, 1),
-        ("domain 2\nload a x\n", "ok\nrefused P2 0\n", false, 1),
-        ("domain 2\nload a x\n", "ok\nrefused P2 0\n", true, 1),
+        (
+            "link 0 1\n",
+            "refused O4 1\n",
+            true,
+            "<stdin>:1:1: there is no domain yet: begin with `domain N` (O4)\nlink 0 1\n^\n",
+            1,
+        ),
+        ("domain 2\nload a x\n", "ok\nrefused P2 0\n", false, "", 1),
+        (
+            "domain 2\nload a x\n",
+            "ok\nrefused P2 0\n",
+            true,
+            "<stdin>:2:8: expected `filter`, found `x`: a text is one filter, `filter NAME { .. }` (P2)\nload a x\n       ^\n",
+            1,
+        ),
     ];
-    for (index, (input, output, is_explained, status)) in rows.into_iter().enumerate() {
+    for (input, output, is_explained, told, status) in rows {
         let mut reader = input.as_bytes();
         let (mut writer, mut errors) = (Vec::new(rt.alloc()), Vec::new(rt.alloc()));
         let aid = Aid::Script {
@@ -404,7 +417,7 @@ fn domain_scripts_end_with_their_status(rt: HostRuntime) -> Result<(), Fail> {
         );
         assert_eq!(&rt; served, Ok(status));
         assert_eq!(&rt; writer.as_slice(), output.as_bytes());
-        assert_eq!(&rt; errors.is_empty(), index != 3);
+        assert_eq!(&rt; errors.as_slice(), told.as_bytes());
     }
     Ok(())
 }
@@ -530,6 +543,10 @@ const SHELF: Shelf = Shelf {
         ),
     ],
 };
+
+/// What is told of the second line of `script`.
+const NODE_NOT_UP: &str =
+    "script:2:6: node 1 is not up; entry 0 of the history (N3)\ndown 1\n     ^\n";
 
 /// What a command line did.
 #[derive(Debug, PartialEq, Eq, Drop)]
@@ -684,7 +701,8 @@ fn histories_are_replayed(rt: HostRuntime) -> Result<(), Fail> {
 #[test]
 fn scripts_end_where_they_are_to(rt: HostRuntime) -> Result<(), Fail> {
     let stop = "stopped: this line is refused, and none after it is answered\n";
-    let told = format!(in rt.alloc(); "script:2: {stop}")?;
+    let refused = NODE_NOT_UP;
+    let told = format!(in rt.alloc(); "{refused}script:2: {stop}")?;
     let typed = format!(in rt.alloc(); "<stdin>:1: {stop}")?;
     let rows: [(&[&str], &str, &str, &str, u8); 6] = [
         (
@@ -712,7 +730,7 @@ fn scripts_end_where_they_are_to(rt: HostRuntime) -> Result<(), Fail> {
             &["ncroute", "run", "--save", "new", "script"],
             "",
             "ok\nrefused N3 0\nroute 0 local\n",
-            "",
+            NODE_NOT_UP,
             1,
         ),
         (
@@ -756,7 +774,7 @@ fn scripts_are_started_with_filters(rt: HostRuntime) -> Result<(), Fail> {
             &["ncroute", "run", "--filter", "a=-", "script"],
             "filter a { accept; }",
             "ok\nrefused N3 0\nroute 0 local\n",
-            "",
+            NODE_NOT_UP,
             1,
         ),
         (
@@ -802,7 +820,17 @@ fn scripts_are_started_with_filters(rt: HostRuntime) -> Result<(), Fail> {
 #[test]
 fn faults_have_their_status(rt: HostRuntime) -> Result<(), Fail> {
     let rows: [(&[&str], u8); 6] = [
-        (&["ncroute", "run", "--save", "new", "script"], 1),
+        (
+            &[
+                "ncroute",
+                "run",
+                "--explain=never",
+                "--save",
+                "new",
+                "script",
+            ],
+            1,
+        ),
         (&["ncroute", "list", "good"], 3),
         (&["ncroute", "filter", "--size=8", "good"], 3),
         (&["ncroute", "replay", "night"], 3),
