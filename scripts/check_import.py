@@ -122,7 +122,7 @@ LEFT_OUT = [
     ("an address of IPv6", "filter f { if net ~ [ 2001:db8::/32+ ] then accept; }", "1:28", "f: "),
     ("a loop", "filter f { for int k in 1 do accept; }", "1:12", "f: "),
     ("unset", "filter f { unset(rip_tag); accept; }", "1:12", "f: "),
-    ("no such file", "include \"nowhere.bird\";\nfilter f { accept; }", None, None),
+    ("no such file", "include \"nowhere.bird\";\nfilter f { accept; }", "1:1", "include nowhere.bird: it cannot be read"),
     ("many files", "include \"*.bird\";\nfilter f { accept; }", "1:1", "include *.bird: include each file by its own name"),
 ]
 
