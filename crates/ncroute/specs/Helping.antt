@@ -17,6 +17,7 @@ use Rattle.line_protocol.specs.Runs.{AppendsFront}
 use Rattle.line_protocol.specs.declared.faults.StreamFault.{StreamFault}
 use Rattle.line_protocol.specs.Limits.{input_limit}
 use Rattle.ncroute.specs.Guiding.{RunsGuided, StopsRun}
+use Rattle.ncroute.specs.Joining.{RunsJoined, StopsJoined}
 use Rattle.ncroute.specs.Marking.{ChecksLines, CutsLines}
 use Rattle.ncroute.specs.Reading.{IsRead, IsUnread, StopsTelling, TellsUnread, name_of}
 use Rattle.ncroute.specs.Replaying.{CutsReplay, ReplaysText, replay_limit}
@@ -211,8 +212,7 @@ module _ (opens : List ℕ → Result (Option (List ℕ)) Error → Type 0) wher
 
   -- `creates name` says what may come of making a file of this name: what it holds at first, or why there is none.
   module _ (creates : List ℕ → Result (Option (List ℕ)) Error → Type 0) where
-    -- What people asked for was done to its end, with this exit status. Of an import nothing more is said, and
-    -- of the script that several sources are nothing yet.
+    -- What people asked for was done to its end, with this exit status. Of an import nothing more is said.
     abbrev pub Helps : Aid → Streams → Streams → ℕ → Type 0
     Helps (aid.Check how sources) before after status = (refused : Bool)
         × ChecksFirst how sources.items (length sources.items) before after refused × (status ≡ (if refused then 1 else 0))
@@ -223,7 +223,7 @@ module _ (opens : List ℕ → Result (Option (List ℕ)) Error → Type 0) wher
     Helps (aid.Filter size source is_explained) before after status = TriesFilter size source is_explained before after status
     Helps (aid.Replay source) before after status = ReplaysSource source before after status
     Helps (aid.Run how source) before after status = RunsGuided creates opens how source before after status
-    Helps (aid.RunJoined how sources) before after status = ⊤
+    Helps (aid.RunJoined how sources) before after status = RunsJoined creates opens how sources.items before after status
     Helps (aid.Script engine source is_explained) before after status = RunsSource engine source is_explained before after status
 
     -- A fault ended it.
@@ -236,7 +236,7 @@ module _ (opens : List ℕ → Result (Option (List ℕ)) Error → Type 0) wher
     StopsHelp fault (aid.Filter size source is_explained) before after = StopsFilter fault size source before after
     StopsHelp fault (aid.Replay source) before after = StopsReplay fault source before after
     StopsHelp fault (aid.Run how source) before after = StopsRun creates opens fault how source before after
-    StopsHelp fault (aid.RunJoined how sources) before after = ⊤
+    StopsHelp fault (aid.RunJoined how sources) before after = StopsJoined creates opens fault how sources.items before after
     StopsHelp fault (aid.Script engine source is_explained) before after = StopsSource fault engine source is_explained before after
 
     -- What people asked for ended with this exit status: it was done to its end; or a fault ended it, which standard error was told,
