@@ -3,6 +3,7 @@
 #![tactic(auto)]
 
 mod aid;
+mod comparing;
 mod filters;
 mod guided;
 mod importing;

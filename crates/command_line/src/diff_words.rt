@@ -1,0 +1,67 @@
+//! The words of `diff`.
+use crate::aid_words::{Aid, USUAL_SIZE, source_of};
+use crate::options::{explain_option, limit_option, new_file, old_file, usual_size_option};
+use crate::telling::{Telling, is_explained};
+use crate::terminals::Terminals;
+use clap::{ArgMatches, Command};
+use std::alloc::{AllocError, Global};
+
+/// How two filters are compared.
+#[derive(Clone, Copy, Debug, PartialEq, Eq)]
+pub struct Comparing {
+    /// The number of nodes of the domain on whose routes they are compared.
+    pub size: u32,
+    /// The largest number of classes of routes that are tried.
+    pub limit: u64,
+    /// A refusal is told in words too.
+    pub is_explained: bool,
+}
+
+/// The largest number of classes of routes that are tried where none is said.
+const USUAL_LIMIT: u64 = 1_000_000;
+
+/// How the words of `diff` have two filters compared, of which one is in a file.
+fn comparing_in(matches: &ArgMatches<'_>, terminals: Terminals) -> Comparing {
+    Comparing {
+        size: matches.get_one::<u32>("size").unwrap_or(USUAL_SIZE),
+        limit: matches.get_one::<u64>("limit").unwrap_or(USUAL_LIMIT),
+        is_explained: is_explained(Telling::read(matches), terminals.errors, true),
+    }
+}
+
+/// What the words of `diff` ask for. None where both filters are on standard input.
+pub fn diff_in(
+    alloc: Global,
+    matches: &ArgMatches<'_>,
+    terminals: Terminals,
+) -> Result<Option<Aid>, AllocError> {
+    let old = matches.get_str("old").unwrap_or("-");
+    let new = matches.get_str("new").unwrap_or("-");
+    if old == "-" && new == "-" {
+        return Ok(None);
+    }
+    Ok(Some(Aid::Diff {
+        how: comparing_in(matches, terminals),
+        old: source_of(alloc, old)?,
+        new: source_of(alloc, new)?,
+    }))
+}
+
+/// The command `diff`.
+pub fn diff_command<'a>(alloc: Global) -> Result<Command<'a>, AllocError> {
+    Command::new(alloc, "diff")
+        .about("Compare two filters on all routes, and say where they differ")
+        .after_help(DIFF_HELP)
+        .arg(usual_size_option(alloc))?
+        .arg(limit_option(alloc))?
+        .arg(explain_option(alloc))?
+        .arg(old_file(alloc))?
+        .arg(new_file(alloc))
+}
+
+const DIFF_HELP: &str = "\
+OLD is a filter as it was, NEW as it will be. Each is verified first, as by `ncroute check`; if
+one is refused, `refused CODE AT` is all that is printed.
+
+TODO
+";
