@@ -42,16 +42,7 @@ fn compare_texts<W: Write, E: Write>(
         (W.contents writer.old) (W.contents writer.new) (E.contents errors.old) (E.contents errors.new)) }
 {
     let (size, limit, is_explained) = (how.size, how.limit, how.is_explained);
-    let found = compare_named(
-        alloc,
-        old,
-        new,
-        size,
-        limit,
-        is_explained,
-        writer,
-        errors,
-    )?;
+    let found = compare_named(alloc, old, new, size, limit, is_explained, writer, errors)?;
     Ok(status_of_comparison(found))
 }
 
