@@ -60,8 +60,25 @@ pub fn diff_command<'a>(alloc: Global) -> Result<Command<'a>, AllocError> {
 }
 
 const DIFF_HELP: &str = "\
-OLD is a filter as it was, NEW as it will be. Each is verified first, as by `ncroute check`; if
-one is refused, `refused CODE AT` is all that is printed.
+OLD and NEW are filters. Both are verified first, as by `ncroute check`. If one is refused,
+standard error says why, and nothing is printed. Routes are all prefixes, with each metric
+from 0 to N.
 
-TODO
+For each part of the routes on which the filters differ, or may differ, a line is printed:
+  differ PREFIX{LOW,HIGH}, metrics LEAST..MOST: BEFORE | AFTER
+             the routes whose prefix is within PREFIX and has a length from LOW to HIGH, with
+             a metric from LEAST to MOST: OLD does BEFORE with each of them, and NEW AFTER
+  undecided PREFIX{LOW,HIGH}, metrics LEAST..MOST
+             whether they differ on these was not found out within CLASSES
+BEFORE and AFTER are `reject`, `accept METRIC`, or `accept`, which is with the metric received.
+The last line is one of these:
+  same on all routes         there is no other line: the filters do the same
+  same on all other routes   they do the same outside of these parts
+  undecided on COUNT parts   so many parts are undecided; outside of the parts they do the same
+
+Example:
+  ncroute diff examples/no_bogons.filter examples/customer_list.filter
+The exit status is 0 if they are the same on all routes; 1 if they differ; 2 if the command
+line is wrong; 3 if that is undecided, if a filter was refused, or if a fault ended the run, as
+a file that cannot be read.
 ";

@@ -2,7 +2,7 @@
 use Rattle.std.specs.Prelude.{◌≡◌, ◌⊎◌, ℕ, List, Option, Result}
 use Rattle.std.specs.declared.io.Error.{Error}
 use Rattle.filter_source.specs.Limits.{source_limit}
-use Rattle.filter_workbench.specs.Comparing.{ComparesNamed, ComparesNamedOff}
+use Rattle.filter_workbench.specs.Comparing.{ComparesNamed, ComparesNamedOff, Named}
 use Rattle.filter_workbench.specs.declared.comparing.Compared.{Compared}
 use Rattle.filter_workbench.specs.declared.comparing.Compared.TheVariants.{Refused, Same, Differ, Undecided}
 use Rattle.line_protocol.specs.declared.faults.StreamFault.{StreamFault}
@@ -18,23 +18,18 @@ status_of_comparison Differ = 1
 status_of_comparison Undecided = 3
 status_of_comparison Refused = 3
 
--- a text, and the name of its source
-pub record Named : Type 0 where
-  pub name : List ℕ
-  pub text : List ℕ
-
 -- Two texts were compared, which was told, and the exit status says what came of it. `held` and `holds` are what the writer held before and
 -- holds now, `told` and `tells` the same of standard error.
 pub record ComparesTexts (how : Comparing) (old new : Named) (held holds told tells : Option (List ℕ)) (status : ℕ) : Type 0 where
   pub found : Compared
-  pub compared : ComparesNamed how.size how.limit how.is_explained old.name old.text new.name new.text held holds told tells found
+  pub compared : ComparesNamed how.size how.is_explained old new held holds told tells found
   pub ends : status ≡ status_of_comparison found
 
 -- A fault ended it.
 abbrev pub StopsComparison : StreamFault → Comparing → Named → Named → Option (List ℕ) → Option (List ℕ) → Option (List ℕ) → Option (List ℕ)
     → Type 0
 StopsComparison fault how old new held holds told tells =
-    ComparesNamedOff fault how.size how.limit how.is_explained old.name old.text new.name new.text held holds told tells
+    ComparesNamedOff fault how.size how.is_explained old new held holds told tells
 
 -- `opens name` says what may come of opening a file of this name.
 module _ (opens : List ℕ → Result (Option (List ℕ)) Error → Type 0) where
