@@ -8,3 +8,4 @@ pub mod Splits
 pub mod Dealt
 pub mod Adding
 pub mod Joined
+pub mod Real

@@ -1,5 +1,5 @@
 -- What a comparison finds.
-use Rattle.std.specs.Prelude.{◌≡◌, ◌≢◌, ◌⊎◌, ℕ, ◌≤◌, List, [], ◌∷◌, length}
+use Rattle.std.specs.Prelude.{◌≡◌, ◌≢◌, ◌⊎◌, ℕ, ◌≤◌, Bool, true, false, List, [], ◌∷◌, length}
 use Rattle.prefix_patterns.specs.Bits.{address_length}
 use Rattle.prefix_patterns.specs.Matching.{LiesWithin}
 use Rattle.filter_code.specs.RouteView.{RouteView}
@@ -25,6 +25,14 @@ pub record Has (part : Part) (route : RouteView) : Type 0 where
   pub least : part.least ≤ route.metric
   pub greatest : route.metric ≤ part.greatest
 
+-- a part is the routes of a pattern of prefixes and of a range of metrics, and at least one of them is in the domain of the size
+pub record IsReal (size : ℕ) (part : Part) : Type 0 where
+  pub pattern : length part.prefix ≤ part.shortest
+  pub lengths : part.shortest ≤ part.longest
+  pub fits : part.longest ≤ address_length
+  pub metrics : part.least ≤ part.greatest
+  pub reachable : part.greatest ≤ size
+
 -- two codes have the same outcome
 abbrev pub IsSame : CodeView → CodeView → RouteView → Type 0
 IsSame old new route = outcome_of old route ≡ outcome_of new route
@@ -39,6 +47,15 @@ pub record Differs (old new : CodeView) (before after : Outcome) (route : RouteV
 abbrev pub Holds : CodeView → CodeView → Finding → RouteView → Type 0
 Holds old new finding.Undecided route = Unit {0}
 Holds old new (finding.Differ before after) route = Differs old new (outcome_at route before) (outcome_at route after) route
+
+-- what was found is a difference, or nothing
+abbrev pub is_difference : Finding → Bool
+is_difference finding.Undecided = false
+is_difference (finding.Differ before after) = true
+
+abbrev pub is_undecided : Finding → Bool
+is_undecided finding.Undecided = true
+is_undecided (finding.Differ before after) = false
 
 -- a part's finding holds of each of its routes
 abbrev pub IsTrueOf : CodeView → CodeView → ℕ → Part → Type 0
