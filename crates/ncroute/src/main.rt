@@ -4,6 +4,8 @@
 
 mod aid;
 mod comparing;
+#[cfg(test)]
+mod comparing_tests;
 mod filters;
 mod guided;
 mod importing;
