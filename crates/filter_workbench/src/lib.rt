@@ -1,8 +1,10 @@
-//! Work with two filters: where two texts of filters differ, in lines for people and for programs.
+//! Work with two filters: on which routes they differ, in lines for people and for programs.
 #![tactic(auto)]
 
 mod comparing;
 mod named_text;
+mod part_lines;
 
 pub use comparing::{Compared, compare_named};
 pub use named_text::NamedText;
+pub use part_lines::parts_text;
