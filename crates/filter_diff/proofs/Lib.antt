@@ -9,3 +9,4 @@ pub mod Dealt
 pub mod Adding
 pub mod Joined
 pub mod Real
+pub mod Witness

@@ -1,7 +1,7 @@
 -- What a comparison finds.
 use Rattle.std.specs.Prelude.{◌≡◌, ◌≢◌, ◌⊎◌, ℕ, ◌≤◌, Bool, true, false, List, [], ◌∷◌, length}
 use Rattle.prefix_patterns.specs.Bits.{address_length}
-use Rattle.prefix_patterns.specs.Matching.{LiesWithin}
+use Rattle.prefix_patterns.specs.Matching.{LiesWithin, Matches, PrefixPattern}
 use Rattle.filter_code.specs.RouteView.{RouteView}
 use Rattle.filter_code.specs.CodeView.{CodeView}
 use Rattle.filter_code.specs.Machine.{outcome_of}
@@ -32,6 +32,21 @@ pub record IsReal (size : ℕ) (part : Part) : Type 0 where
   pub fits : part.longest ≤ address_length
   pub metrics : part.least ≤ part.greatest
   pub reachable : part.greatest ≤ size
+
+-- a route of the domain that a part has
+pub record HasRoute (size : ℕ) (part : Part) : Type 0 where
+  pub route : RouteView
+  pub is_in : IsIn size route
+  pub has : Has part route
+
+-- the prefixes of a part as a pattern, and a route that matches it and whose metric is in the part's range
+abbrev pub pattern_of : Part → PrefixPattern
+pattern_of part = record { bits = part.prefix; low = part.shortest; high = part.longest }
+
+pub record IsMatched (part : Part) (route : RouteView) : Type 0 where
+  pub matched : Matches route.net (pattern_of part)
+  pub least : part.least ≤ route.metric
+  pub greatest : route.metric ≤ part.greatest
 
 -- two codes have the same outcome
 abbrev pub IsSame : CodeView → CodeView → RouteView → Type 0

@@ -1,10 +1,10 @@
 //! `ncroute diff`: on which routes two filters differ.
-ghost use Rattle.std.specs.Prelude.{◌≡◌, ◌≤◌, IfErr, IfOk};
-ghost use Rattle.std.specs.Option.{option_map};
+ghost use Rattle.std.specs.Prelude.{◌≡◌, ◌≤◌, false, IfErr, IfOk, MatchResult};
 ghost use Rattle.filter_code.specs.Limits.{largest_size};
+ghost use Rattle.filter_commands.specs.Checking.{IsDiagnosis};
 ghost use Rattle.filter_commands.specs.Faults.{stream_fault};
-ghost use Rattle.filter_diff.specs.declared.answer.Answer.{Answer as TheAnswer};
 ghost use Rattle.filter_workbench.specs.Comparing as spec;
+ghost use Rattle.filter_workbench.specs.declared.comparing.Compared.TheVariants as compared;
 
 use crate::named_text::NamedText;
 use crate::part_lines::parts_text;
@@ -31,34 +31,13 @@ pub enum Compared {
     Undecided,
 }
 
-/// What a text gives.
-#[derive(Drop)]
-enum Judged {
-    /// Its code never goes wrong.
-    Verified(Verified),
-    /// It is refused.
-    Refused(Diagnosis),
-}
-
-impl Judged {
-    /// Why it is refused, if it is.
-    fn refusal(&self) -> Option<Diagnosis>
-        ensures { result ≡ spec.refusal_of self.now }
-    {
-        match self {
-            Judged::Verified(_) => None,
-            Judged::Refused(told) => Some(*told),
-        }
-    }
-}
-
-/// What a text gives for domains of a size.
-fn judge(alloc: Global, text: &[u8], size: u32) -> Result<Judged, AllocError>
-    ensures { IfOk result (spec.Gives size text.now) }
+/// The verified code of a text for domains of a size, or what is told of why it is refused.
+fn judge(alloc: Global, text: &[u8], size: u32) -> Result<Result<Verified, Diagnosis>, AllocError>
+    ensures { IfOk result (λ judged. MatchResult judged (spec.IsVerifiedOf size text.now) (IsDiagnosis size false text.now)) }
 {
     match verified_filter(alloc, text, size) {
-        Ok(verified) => Ok(Judged::Verified(verified)),
-        Err(Failure::Refused(told)) => Ok(Judged::Refused(told)),
+        Ok(verified) => Ok(Ok(verified)),
+        Err(Failure::Refused(told)) => Ok(Err(told)),
         Err(Failure::Memory) => Err(AllocError),
     }
 }
@@ -109,32 +88,39 @@ fn write_parts<W: Write>(
     Ok(compared_as(answer_of(parts.as_slice())))
 }
 
-/// Tells why each of two texts is refused that is.
-fn tell_refusals<E: Write>(
+/// Compares two verified codes on all routes of domains of the size that they were verified for, and writes the lines of the parts.
+fn write_comparison<W: Write>(
+    alloc: Global,
+    old: &Verified,
+    new: &Verified,
+    limit: u64,
+    writer: &mut W,
+) -> Result<Compared, ProgramFault>
+    ensures finished { IfOk result (spec.WritesParts old.now.program new.now.program old.now.size (W.contents writer.old) (W.contents writer.new)) }
+    ensures broken_off { IfErr result (λ fault.
+        spec.IsCutParts (stream_fault fault) old.now.program new.now.program old.now.size (W.contents writer.old) (W.contents writer.new)) }
+{
+    write_parts(alloc, old.code(), new.code(), old.size(), limit, writer)
+}
+
+/// Tells why each of two texts is refused, if it is.
+fn tell_both<E: Write>(
     alloc: Global,
     errors: &mut E,
     old: &NamedText<'_>,
     new: &NamedText<'_>,
-    before: &Judged,
-    after: &Judged,
+    before: Option<Diagnosis>,
+    after: Option<Diagnosis>,
     is_explained: bool,
-) -> Result<(), ProgramFault> {
-    tell_refusal(
-        alloc,
-        errors,
-        old.name,
-        old.text,
-        &before.refusal(),
-        is_explained,
-    )?;
-    tell_refusal(
-        alloc,
-        errors,
-        new.name,
-        new.text,
-        &after.refusal(),
-        is_explained,
-    )
+) -> Result<Compared, ProgramFault>
+    ensures ok { IfOk result (λ end. (end ≡ compared.Refused) × spec.TellsBoth is_explained (spec.named old.now) (spec.named new.now) before after
+        (E.contents errors.old) (E.contents errors.new)) }
+    ensures err { IfErr result (λ fault. spec.IsCutTellingBoth (stream_fault fault) is_explained (spec.named old.now) (spec.named new.now)
+        before after (E.contents errors.old) (E.contents errors.new)) }
+{
+    tell_refusal(alloc, errors, old.name, old.text, &before, is_explained)?;
+    tell_refusal(alloc, errors, new.name, new.text, &after, is_explained)?;
+    Ok(Compared::Refused)
 }
 
 /// Compares the filters that two texts spell on all routes of domains of `size` nodes, and writes a line for each part of the routes
@@ -149,19 +135,27 @@ pub fn compare_named<W: Write, E: Write>(
     is_explained: bool,
     writer: &mut W,
     errors: &mut E,
-) -> Result<Compared, ProgramFault> {
+) -> Result<Compared, ProgramFault>
+    ensures finished { IfOk result (spec.ComparesNamed size is_explained (spec.named old.now) (spec.named new.now)
+        (W.contents writer.old) (W.contents writer.new) (E.contents errors.old) (E.contents errors.new)) }
+    ensures broken_off { IfErr result (λ fault. spec.ComparesNamedOff (stream_fault fault) size is_explained (spec.named old.now)
+        (spec.named new.now) (W.contents writer.old) (W.contents writer.new) (E.contents errors.old) (E.contents errors.new)) }
+{
     let before = judge(alloc, old.text, size)?;
     let after = judge(alloc, new.text, size)?;
-    if let (Judged::Verified(old_code), Judged::Verified(new_code)) = (&before, &after) {
-        return write_parts(
+    match before {
+        Ok(old_code) => match after {
+            Ok(new_code) => write_comparison(alloc, &old_code, &new_code, limit, writer),
+            Err(told) => tell_both(alloc, errors, old, new, None, Some(told), is_explained),
+        },
+        Err(told) => tell_both(
             alloc,
-            old_code.code(),
-            new_code.code(),
-            old_code.size(),
-            limit,
-            writer,
-        );
+            errors,
+            old,
+            new,
+            Some(told),
+            after.err(),
+            is_explained,
+        ),
     }
-    tell_refusals(alloc, errors, old, new, &before, &after, is_explained)?;
-    Ok(Compared::Refused)
 }

@@ -80,7 +80,8 @@ fn push_pattern(alloc: Global, out: &mut Vec<u8>, part: &Part) -> Result<(), All
     push_decimal(out, u64::from(part.shortest))?;
     out.push(b',')?;
     push_decimal(out, u64::from(part.longest))?;
-    out.push(b'}')
+    out.push(b'}')?;
+    Ok(())
 }
 
 /// Puts the metrics of a part at the end of `out`.
@@ -101,7 +102,8 @@ fn push_part(alloc: Global, out: &mut Vec<u8>, part: &Part) -> Result<(), AllocE
     push_pattern(alloc, out, part)?;
     push_metrics(out, part)?;
     push_endings(out, part.finding)?;
-    out.push(b'\n')
+    out.push(b'\n')?;
+    Ok(())
 }
 
 /// Puts the words of the last line at the end of `out`, where so many of the parts are undecided.
