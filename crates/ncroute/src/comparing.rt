@@ -1,6 +1,7 @@
 //! How the filters of two sources are compared.
 ghost use Rattle.std.specs.Prelude.{◌≡◌, IfErr, IfOk};
 ghost use Rattle.filter_commands.specs.Faults.{stream_fault};
+ghost use Rattle.filter_workbench.specs.Comparing.{named};
 ghost use Rattle.ncroute.specs.Comparing.{ComparesSources, ComparesTexts, ComparesWith, StopsComparing, StopsComparison, StopsWith};
 ghost use Rattle.ncroute.specs.Comparing.{status_of_comparison};
 
@@ -34,11 +35,9 @@ fn compare_texts<W: Write, E: Write>(
     writer: &mut W,
     errors: &mut E,
 ) -> Result<u8, ProgramFault>
-    ensures finished { IfOk result (ComparesTexts how
-        (record { name = old.now.name.now; text = old.now.text.now }) (record { name = new.now.name.now; text = new.now.text.now })
+    ensures finished { IfOk result (ComparesTexts how (named old.now) (named new.now)
         (W.contents writer.old) (W.contents writer.new) (E.contents errors.old) (E.contents errors.new)) }
-    ensures stopped { IfErr result (λ fault. StopsComparison (stream_fault fault) how
-        (record { name = old.now.name.now; text = old.now.text.now }) (record { name = new.now.name.now; text = new.now.text.now })
+    ensures stopped { IfErr result (λ fault. StopsComparison (stream_fault fault) how (named old.now) (named new.now)
         (W.contents writer.old) (W.contents writer.new) (E.contents errors.old) (E.contents errors.new)) }
 {
     let (size, limit, is_explained) = (how.size, how.limit, how.is_explained);
@@ -57,12 +56,10 @@ fn compare_with<F: Folder, R: Read, W: Write, E: Write>(
     writer: &mut W,
     errors: &mut E,
 ) -> Result<u8, ProgramFault>
-    ensures finished { IfOk result (ComparesWith (F.opens files.now) how
-        (record { name = old.now.name.now; text = old.now.text.now }) new.now
+    ensures finished { IfOk result (ComparesWith (F.opens files.now) how (named old.now) new.now
         (record { reads = R.remaining reader.old; holds = W.contents writer.old; tells = E.contents errors.old })
         (record { reads = R.remaining reader.new; holds = W.contents writer.new; tells = E.contents errors.new })) }
-    ensures stopped { IfErr result (λ fault. StopsWith (F.opens files.now) (stream_fault fault) how
-        (record { name = old.now.name.now; text = old.now.text.now }) new.now
+    ensures stopped { IfErr result (λ fault. StopsWith (F.opens files.now) (stream_fault fault) how (named old.now) new.now
         (record { reads = R.remaining reader.old; holds = W.contents writer.old; tells = E.contents errors.old })
         (record { reads = R.remaining reader.new; holds = W.contents writer.new; tells = E.contents errors.new })) }
 {
