@@ -18,10 +18,10 @@ mod shown;
 mod words;
 
 pub use explanation::{explain, explain_line, tell_at};
-pub use filter::{Filtered, filter_lines};
+pub use filter::{Filtered, filter_lines, verified_filter};
 pub use laws::shown_is_harmless;
 pub use listing::write_listing;
-pub use named::{check_named, list_named, tell};
+pub use named::{check_named, list_named, tell, tell_refusal};
 pub use nearest::nearest_word;
 pub use place::{Place, place_in};
 pub use shown::push_shown;
