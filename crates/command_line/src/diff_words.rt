@@ -77,7 +77,9 @@ The last line is one of these:
   undecided on COUNT parts   so many parts are undecided; outside of the parts they do the same
 
 Example:
-  ncroute diff examples/no_bogons.filter examples/customer_list.filter
+  sed 's/> 12/> 10/' examples/backup_link.filter | ncroute diff examples/backup_link.filter -
+prints `differ 0.0.0.0/0{0,32}, metrics 8..8: accept 11 | reject`, the same of metric 9 with
+`accept 12`, and `same on all other routes`.
 The exit status is 0 if they are the same on all routes; 1 if they differ; 2 if the command
 line is wrong; 3 if that is undecided, if a filter was refused, or if a fault ended the run, as
 a file that cannot be read.

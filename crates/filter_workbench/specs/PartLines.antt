@@ -43,12 +43,16 @@ metrics_text part = codes ", metrics " ++ decimal part.least ++ codes ".." ++ de
 abbrev pub part_line : Part → List ℕ
 part_line part = finding_word part.finding ++ pattern_text part ++ metrics_text part ++ endings_text part.finding ++ 10 ∷ []
 
+-- how many parts are undecided, where there are several
+abbrev pub several_words : ℕ → List ℕ
+several_words count = codes "undecided on " ++ decimal count ++ codes " parts"
+
 -- the last line: on all routes that lie in no part, or how many parts are undecided
 abbrev pub last_words : ℕ → List Part → List ℕ
 last_words zero [] = codes "same on all routes"
 last_words zero (part ∷ parts) = codes "same on all other routes"
 last_words (suc zero) parts = codes "undecided on 1 part"
-last_words (suc (suc more)) parts = codes "undecided on " ++ decimal (suc (suc more)) ++ codes " parts"
+last_words (suc (suc more)) parts = several_words (suc (suc more))
 
 abbrev pub last_line : List Part → List ℕ
 last_line parts = last_words (count_by undecided parts) parts ++ 10 ∷ []

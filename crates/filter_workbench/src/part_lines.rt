@@ -106,6 +106,15 @@ fn push_part(alloc: Global, out: &mut Vec<u8>, part: &Part) -> Result<(), AllocE
     Ok(())
 }
 
+/// Puts how many parts are undecided at the end of `out`, where there are several.
+fn push_several_words(out: &mut Vec<u8>, count: usize) -> Result<(), AllocError>
+    ensures { OnOk result (out.new.items ≡ out.old.items ++ spec.several_words count) }
+{
+    out.extend_from_slice(b"undecided on ")?;
+    push_decimal(out, count as u64)?;
+    out.extend_from_slice(b" parts")
+}
+
 /// Puts the words of the last line at the end of `out`, where so many of the parts are undecided.
 fn push_last_words(out: &mut Vec<u8>, parts: &[Part], undecided: usize) -> Result<(), AllocError>
     ensures { OnOk result (out.new.items ≡ out.old.items ++ spec.last_words undecided parts.now) }
@@ -120,9 +129,7 @@ fn push_last_words(out: &mut Vec<u8>, parts: &[Part], undecided: usize) -> Resul
     if undecided == 1 {
         return out.extend_from_slice(b"undecided on 1 part");
     }
-    out.extend_from_slice(b"undecided on ")?;
-    push_decimal(out, undecided as u64)?;
-    out.extend_from_slice(b" parts")
+    push_several_words(out, undecided)
 }
 
 /// The lines of parts of the routes, and the last line, on all other routes.
