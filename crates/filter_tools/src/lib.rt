@@ -11,6 +11,7 @@ mod listing;
 mod named;
 mod nearest;
 mod place;
+mod position;
 mod remedies;
 mod route_of_size;
 mod shown;
