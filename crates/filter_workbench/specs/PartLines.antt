@@ -44,8 +44,11 @@ abbrev pub part_line : Part → List ℕ
 part_line part = finding_word part.finding ++ pattern_text part ++ metrics_text part ++ endings_text part.finding ++ 10 ∷ []
 
 -- how many parts are undecided, where there are several
+unfoldable pub undecided_on : List ℕ
+undecided_on = codes "undecided on "
+
 abbrev pub several_words : ℕ → List ℕ
-several_words count = codes "undecided on " ++ decimal count ++ codes " parts"
+several_words count = undecided_on ++ decimal count ++ codes " parts"
 
 -- the last line: on all routes that lie in no part, or how many parts are undecided
 abbrev pub last_words : ℕ → List Part → List ℕ

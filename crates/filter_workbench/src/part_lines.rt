@@ -106,11 +106,19 @@ fn push_part(alloc: Global, out: &mut Vec<u8>, part: &Part) -> Result<(), AllocE
     Ok(())
 }
 
+/// What stands before the number of the parts that are undecided.
+#[tactic(auto, unfolding(crate::specs::PartLines::undecided_on))]
+fn undecided_on() -> &'static [u8]
+    ensures { result.now ≡ spec.undecided_on }
+{
+    b"undecided on "
+}
+
 /// Puts how many parts are undecided at the end of `out`, where there are several.
 fn push_several_words(out: &mut Vec<u8>, count: usize) -> Result<(), AllocError>
     ensures { OnOk result (out.new.items ≡ out.old.items ++ spec.several_words count) }
 {
-    out.extend_from_slice(b"undecided on ")?;
+    out.extend_from_slice(undecided_on())?;
     push_decimal(out, count as u64)?;
     out.extend_from_slice(b" parts")
 }

@@ -11,6 +11,7 @@ use std::test::Fail;
 const TEN: &str = "filter ten { if net ~ [ 10.0.0.0/8+ ] then accept; reject; }";
 
 /// Two filters, the limit of classes, and what is written, told and returned.
+#[derive(Clone, Copy)]
 struct Row {
     old: &'static str,
     new: &'static str,
