@@ -1,0 +1,4 @@
+-- what callers cite
+pub mod Codes
+pub mod Names
+pub mod Told

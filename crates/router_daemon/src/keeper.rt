@@ -1,0 +1,241 @@
+//! Who keeps a link.
+ghost use Rattle.std.specs.Prelude.{◌≡◌};
+ghost use Rattle.slot_lock.specs.Held.{IsPassOf};
+
+use crate::folder::LinkFolder;
+use crate::naming::{Naming, Ticket};
+use crate::room::Room;
+use crate::shared::Shared;
+use crate::starter::WriterStarter;
+use crate::telling::{tell_end, tell_unopened};
+use message_streams::{MessageReader, MessageWriter};
+use neighbour_session::{Domain, SessionEnd, keep_session};
+use router_options::LinkFiles;
+use slot_lock::Pass;
+use std::alloc::Global;
+use std::io::{self, BufReader, Read, Write};
+use std::rt::Clock;
+use std::sync::{Arc, Wait};
+use std::thread;
+use std::time::Duration;
+
+/// A link that is kept.
+#[derive(Drop)]
+pub(crate) struct Link {
+    /// Its number.
+    pub(crate) index: usize,
+    /// The neighbour, and the files.
+    pub(crate) files: LinkFiles,
+    /// The router's place in its domain.
+    pub(crate) domain: Domain,
+    /// How long it is closed before it is opened again, in seconds.
+    pub(crate) retry: Option<u32>,
+}
+
+/// The streams of a link that is open.
+#[derive(Drop)]
+struct Streams<I: Read, O: Write> {
+    input: BufReader<I>,
+    output: O,
+}
+
+/// Which file of a link was not opened, and why.
+#[derive(Drop)]
+struct Unopened<'a> {
+    name: &'a str,
+    why: io::Error,
+}
+
+/// Opens the file that a neighbour's lines come from.
+fn open_input<'a, I: Read + Drop, O: Write, D: LinkFolder<I, O>>(
+    folder: &D,
+    alloc: Global,
+    name: &'a str,
+) -> Result<BufReader<I>, Unopened<'a>> {
+    match folder.open_input(name) {
+        Ok(input) => BufReader::new(alloc, input).map_err(|why| Unopened { name, why }),
+        Err(why) => Err(Unopened { name, why }),
+    }
+}
+
+/// Opens the file that the router's lines go to.
+fn open_output<'a, I: Read, O: Write, D: LinkFolder<I, O>>(
+    folder: &D,
+    name: &'a str,
+) -> Result<O, Unopened<'a>> {
+    folder
+        .open_output(name)
+        .map_err(|why| Unopened { name, why })
+}
+
+/// Opens both files of a link: of two neighbours the one with the lower number opens its output first, so that FIFOs meet.
+fn open_streams<'a, I: Read + Drop, O: Write + Drop, D: LinkFolder<I, O>>(
+    folder: &D,
+    alloc: Global,
+    link: &'a Link,
+) -> Result<Streams<I, O>, Unopened<'a>> {
+    let (from, to) = (link.files.input.as_str(), link.files.output.as_str());
+    if link.domain.me < link.files.node {
+        let output = open_output::<I, O, D>(folder, to)?;
+        let input = open_input::<I, O, D>(folder, alloc, from)?;
+        Ok(Streams { input, output })
+    } else {
+        let input = open_input::<I, O, D>(folder, alloc, from)?;
+        let output = open_output::<I, O, D>(folder, to)?;
+        Ok(Streams { input, output })
+    }
+}
+
+/// Tells people why a session is over, unless another thread tells it or the router is being closed.
+fn tell_unless_closed<R: Wait, J: Naming, E: Write>(
+    rt: &R,
+    alloc: Global,
+    shared: &Shared<J, E>,
+    node: u16,
+    why: SessionEnd,
+) {
+    if why == SessionEnd::Closed || shared.is_closing(rt) {
+        return;
+    }
+    let mut errors = shared.errors.lock(rt);
+    tell_end(alloc, &mut *errors, node, why);
+}
+
+/// Tells people that a file of a link was not opened.
+fn tell_of_file<R: Wait, J: Naming, E: Write>(
+    rt: &R,
+    alloc: Global,
+    shared: &Shared<J, E>,
+    node: u16,
+    unopened: &Unopened<'_>,
+) {
+    let mut errors = shared.errors.lock(rt);
+    tell_unopened(alloc, &mut *errors, node, unopened.name, &unopened.why);
+}
+
+/// Waits for the writer of a session that was ordered, and takes its pass back. Tells why the session is over if the writer found it.
+fn await_writer<R: Wait, O: Write + Drop, J: Naming, E: Write>(
+    rt: &R,
+    alloc: Global,
+    shared: &Shared<J, E>,
+    room: &Room<O, J>,
+    node: u16,
+    why: SessionEnd,
+    pass: &mut Pass,
+)
+    requires { IsPassOf J.router pass.old }
+    ensures { IsPassOf J.router pass.new }
+{
+    let done = room.await_done(rt);
+    shared.router.join(pass, done.ticket.pass());
+    if why == SessionEnd::Closed {
+        tell_unless_closed(rt, alloc, shared, node, done.why);
+    }
+}
+
+/// Serves one session over the streams of a link, until nobody uses them any more. Says whether the link can be opened again.
+fn serve_link<R: Wait + Clock, I: Read + Drop, O: Write + Drop, J: Naming, E: Write>(
+    rt: &R,
+    alloc: Global,
+    shared: &Shared<J, E>,
+    room: &Room<O, J>,
+    link: &Link,
+    streams: Streams<I, O>,
+    pass: &mut Pass,
+) -> bool
+    requires { IsPassOf J.router pass.old }
+    ensures { IsPassOf J.router pass.new }
+{
+    let node = link.files.node;
+    let mut starter = WriterStarter {
+        shared,
+        room,
+        link: link.index,
+        is_ordered: false,
+        left: None,
+    };
+    let why = keep_session(
+        rt,
+        &shared.router,
+        pass,
+        link.domain,
+        node,
+        MessageReader::new(streams.input),
+        MessageWriter::new(alloc, streams.output),
+        &mut starter,
+    );
+    tell_unless_closed(rt, alloc, shared, node, why);
+    let WriterStarter {
+        is_ordered,
+        left,
+        ..
+    } = starter;
+    if is_ordered {
+        await_writer(rt, alloc, shared, room, node, why, pass);
+    }
+    if let Some(ticket) = left {
+        shared.router.join(pass, ticket.pass());
+    }
+    why.can_be_opened_again()
+}
+
+/// Opens a link, and serves one session. Says whether it can be opened again.
+fn keep_once<
+    R: Wait + Clock,
+    I: Read + Drop,
+    O: Write + Drop,
+    D: LinkFolder<I, O>,
+    J: Naming,
+    E: Write,
+>(
+    rt: &R,
+    alloc: Global,
+    folder: &D,
+    shared: &Shared<J, E>,
+    room: &Room<O, J>,
+    link: &Link,
+    pass: &mut Pass,
+) -> bool
+    requires { IsPassOf J.router pass.old }
+    ensures { IsPassOf J.router pass.new }
+{
+    match open_streams::<I, O, D>(folder, alloc, link) {
+        Ok(streams) => serve_link(rt, alloc, shared, room, link, streams, pass),
+        Err(unopened) => {
+            tell_of_file(rt, alloc, shared, link.files.node, &unopened);
+            true
+        }
+    }
+}
+
+/// Keeps a link: serves one session after another, if it is to be opened again.
+pub(crate) fn keep_link<
+    R: Wait + Clock + Drop,
+    I: Read + Drop,
+    O: Write + Drop,
+    D: LinkFolder<I, O> + Drop,
+    J: Naming,
+    E: Write + Drop,
+>(
+    rt: R,
+    alloc: Global,
+    folder: D,
+    shared: Arc<Shared<J, E>>,
+    room: Arc<Room<O, J>>,
+    link: Link,
+    ticket: Ticket<J>,
+) {
+    let mut pass = ticket.pass();
+    for _ in rt.forever() {
+        let again = keep_once::<R, I, O, D, J, E>(
+            &rt, alloc, &folder, &shared, &room, &link, &mut pass,
+        );
+        let Some(seconds) = link.retry else {
+            return;
+        };
+        if !again || shared.is_closing(&rt) {
+            return;
+        }
+        thread::sleep(&rt, Duration::from_secs(u64::from(seconds)));
+    }
+}

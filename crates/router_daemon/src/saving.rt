@@ -1,0 +1,100 @@
+//! Who saves the history.
+ghost use Rattle.std.specs.Prelude.{◌≡◌, IfOk, length, Some, None};
+ghost use Rattle.history_saver.specs.Saved.{HasSaved, seen_by};
+ghost use Rattle.slot_lock.specs.Held.{IsPassOf};
+
+use crate::naming::{Naming, Ticket};
+use crate::shared::Shared;
+use crate::telling::tell_unsaved;
+use history_saver::{SaveFault, Saver};
+use slot_lock::Pass;
+use std::alloc::Global;
+use std::io::Write;
+use std::rt::Clock;
+use std::sync::{Arc, Wait};
+use std::thread;
+use std::time::Duration;
+
+/// For how many milliseconds the history grows before it is saved again.
+const REST: u64 = 50;
+
+/// What was saved: the saver, and the pass by which it saved.
+#[derive(Drop)]
+pub(crate) struct Saved<V: Write, J: Naming> {
+    pub(crate) saver: Saver<V>,
+    pub(crate) ticket: Ticket<J>,
+    pub(crate) ghost has: { HasSaved saver (seen_by J.router ticket.pass) },
+}
+
+/// Sleeps until the history has more entries than are saved, or the router is being closed: whether it is.
+fn await_entries<R: Wait, J: Naming, E: Write>(
+    rt: &R,
+    shared: &Shared<J, E>,
+    saved: usize,
+) -> bool {
+    let mut board = shared.board.lock(rt);
+    for _ in rt.forever() {
+        if !board.rest_saver(saved as u64) {
+            return board.is_closing();
+        }
+        board = shared.saver_bell.wait(rt, board);
+    }
+    unreachable!()
+}
+
+/// Tells people that the history is not saved any more.
+fn tell<R: Wait, J: Naming, E: Write>(
+    rt: &R,
+    alloc: Global,
+    shared: &Shared<J, E>,
+    fault: SaveFault,
+) {
+    let mut errors = shared.errors.lock(rt);
+    tell_unsaved(alloc, &mut *errors, fault);
+}
+
+/// Saves the history as it is made, until the router is closed or saving fails.
+fn save_all<R: Wait + Clock, V: Write, J: Naming, E: Write>(
+    rt: &R,
+    alloc: Global,
+    shared: &Shared<J, E>,
+    saver: &mut Saver<V>,
+    pass: &mut Pass,
+)
+    requires of { IsPassOf J.router pass.old }
+    requires saved { HasSaved saver.old (seen_by J.router pass.old) }
+    ensures of { IsPassOf J.router pass.new }
+    ensures saved { HasSaved saver.new (seen_by J.router pass.new) }
+    ensures first { saver.new.first ≡ saver.old.first }
+{
+    let mut is_closing = false;
+    for _ in rt.forever() {
+        match saver.save(rt, alloc, &shared.router, pass) {
+            Ok(_) if is_closing => return,
+            Ok(_) => {}
+            Err(fault) => {
+                tell(rt, alloc, shared, fault);
+                return;
+            }
+        }
+        thread::sleep(rt, Duration::from_millis(REST));
+        is_closing = await_entries(rt, shared, saver.saved());
+    }
+}
+
+/// Saves the history as it is made, until the router is closed or saving fails: what was saved.
+pub(crate) fn save_history<R: Wait + Clock + Drop, V: Write + Drop, J: Naming, E: Write + Drop>(
+    rt: R,
+    alloc: Global,
+    shared: Arc<Shared<J, E>>,
+    file: V,
+    ticket: Ticket<J>,
+) -> Saved<V, J> {
+    let mut saver = Saver::new(file);
+    let mut pass = ticket.pass();
+    save_all(&rt, alloc, &shared, &mut saver, &mut pass);
+    Saved {
+        saver,
+        ticket: Ticket::new(pass),
+    }
+}

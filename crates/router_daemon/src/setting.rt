@@ -1,0 +1,21 @@
+//! What a router is run with.
+
+use filter_verifier::Verified;
+use router_options::RouterPlan;
+use std::collections::BTreeMap;
+use std::io::Write;
+use std::sync::Arc;
+
+/// The verified filters of a router, by name.
+pub type Filters = BTreeMap<Vec<u8>, Arc<Verified>>;
+
+/// What a router is run with.
+#[derive(Drop)]
+pub struct Setting<V: Write> {
+    /// What it was told.
+    pub plan: RouterPlan,
+    /// Its filters.
+    pub filters: Filters,
+    /// Where its history is saved.
+    pub save: Option<V>,
+}

@@ -1,0 +1,167 @@
+//! The threads of a router are started.
+ghost use Rattle.std.specs.Prelude.{◌≡◌, ◌<◌};
+ghost use Rattle.slot_lock.specs.Held.{IsPassOf};
+
+use crate::folder::LinkFolder;
+use crate::keeper::{Link, keep_link};
+use crate::naming::{Naming, Ticket};
+use crate::room::Room;
+use crate::saving::{Saved, save_history};
+use crate::shared::Shared;
+use crate::telling::tell_unstarted;
+use crate::writer::write_link;
+use neighbour_session::Domain;
+use router_options::LinkFiles;
+use slot_lock::Pass;
+use std::alloc::{AllocError, Global};
+use std::io::{Read, Write};
+use std::rt::Clock;
+use std::sync::{Arc, Wait};
+use std::thread;
+use std::thread::{JoinHandle, Threads};
+
+/// The shares of a link's pass. It gives one of them to its writer, for a session.
+const SHARES: u32 = 100;
+
+/// What all links of a router have in common.
+#[derive(Clone, Copy)]
+pub(crate) struct Links {
+    /// The router's place in its domain.
+    pub(crate) domain: Domain,
+    /// How long a closed link waits before it is opened again, in seconds.
+    pub(crate) retry: Option<u32>,
+}
+
+/// Starts the thread of a link's writer. Whether it was started.
+fn start_writer<
+    R: Threads + Wait + Clock + Copy + Send + Drop + 'static,
+    I: Read + Drop + 'static,
+    O: Write + Send + Drop + 'static,
+    J: Naming + Send + Sync + 'static,
+    E: Write + Send + Drop + 'static,
+>(
+    rt: &R,
+    alloc: Global,
+    shared: &Arc<Shared<J, E>>,
+    room: &Arc<Room<O, J>>,
+    link: usize,
+) -> Result<bool, AllocError> {
+    let handle = *rt;
+    let shared = Arc::try_clone(shared)?;
+    let room = Arc::try_clone(room)?;
+    let started = thread::spawn(rt, move || {
+        write_link::<R, I, O, J, E>(handle, alloc, shared, room, link)
+    });
+    Ok(started.is_ok())
+}
+
+/// Starts the thread of who keeps a link. Whether it was started.
+fn start_keeper<
+    R: Threads + Wait + Clock + Copy + Send + Drop + 'static,
+    I: Read + Drop + 'static,
+    O: Write + Send + Drop + 'static,
+    D: LinkFolder<I, O> + Copy + Send + Drop + 'static,
+    J: Naming + Send + Sync + 'static,
+    E: Write + Send + Drop + 'static,
+>(
+    rt: &R,
+    alloc: Global,
+    folder: &D,
+    shared: &Arc<Shared<J, E>>,
+    room: Arc<Room<O, J>>,
+    link: Link,
+    ticket: Ticket<J>,
+) -> Result<bool, AllocError> {
+    let (handle, folder) = (*rt, *folder);
+    let shared = Arc::try_clone(shared)?;
+    let started = thread::spawn(rt, move || {
+        keep_link::<R, I, O, D, J, E>(handle, alloc, folder, shared, room, link, ticket)
+    });
+    Ok(started.is_ok())
+}
+
+/// Starts the threads of a link. Whether they were started.
+fn start_link<
+    R: Threads + Wait + Clock + Copy + Send + Drop + 'static,
+    I: Read + Drop + 'static,
+    O: Write + Send + Drop + 'static,
+    D: LinkFolder<I, O> + Copy + Send + Drop + 'static,
+    J: Naming + Send + Sync + 'static,
+    E: Write + Send + Drop + 'static,
+>(
+    rt: &R,
+    alloc: Global,
+    folder: &D,
+    shared: &Arc<Shared<J, E>>,
+    link: Link,
+    ticket: Ticket<J>,
+) -> Result<bool, AllocError> {
+    let room: Arc<Room<O, J>> = Arc::new(alloc, Room::new())?;
+    if !start_writer::<R, I, O, J, E>(rt, alloc, shared, &room, link.index)? {
+        return Ok(false);
+    }
+    start_keeper::<R, I, O, D, J, E>(rt, alloc, folder, shared, room, link, ticket)
+}
+
+/// Starts the threads of all links. Where one is not started, people are told, and the link stays down.
+pub(crate) fn start_links<
+    R: Threads + Wait + Clock + Copy + Send + Drop + 'static,
+    I: Read + Drop + 'static,
+    O: Write + Send + Drop + 'static,
+    D: LinkFolder<I, O> + Copy + Send + Drop + 'static,
+    J: Naming + Send + Sync + 'static,
+    E: Write + Send + Drop + 'static,
+>(
+    rt: &R,
+    alloc: Global,
+    folder: &D,
+    shared: &Arc<Shared<J, E>>,
+    pass: &mut Pass,
+    links: Vec<LinkFiles>,
+    common: Links,
+) -> Result<(), AllocError>
+    requires { IsPassOf J.router pass.old }
+    ensures { IsPassOf J.router pass.new }
+{
+    let mut index = 0;
+    for files in links {
+        let node = files.node;
+        let link = Link {
+            index,
+            files,
+            domain: common.domain,
+            retry: common.retry,
+        };
+        if pass.shares() <= SHARES {
+            return Err(AllocError);
+        }
+        let ticket = Ticket::new(shared.router.split(pass, SHARES));
+        if !start_link::<R, I, O, D, J, E>(rt, alloc, folder, shared, link, ticket)? {
+            let mut errors = shared.errors.lock(rt);
+            tell_unstarted(alloc, &mut *errors, node);
+        }
+        index += 1;
+    }
+    Ok(())
+}
+
+/// Starts the thread that saves the history, in this file. None where it was not started.
+pub(crate) fn start_saver<
+    R: Threads + Wait + Clock + Copy + Send + Drop + 'static,
+    V: Write + Send + Drop + 'static,
+    J: Naming + Send + Sync + 'static,
+    E: Write + Send + Drop + 'static,
+>(
+    rt: &R,
+    alloc: Global,
+    shared: &Arc<Shared<J, E>>,
+    file: V,
+    ticket: Ticket<J>,
+) -> Result<Option<JoinHandle<Saved<V, J>>>, AllocError> {
+    let handle = *rt;
+    let shared = Arc::try_clone(shared)?;
+    let started = thread::spawn(rt, move || {
+        save_history::<R, V, J, E>(handle, alloc, shared, file, ticket)
+    });
+    Ok(started.ok())
+}

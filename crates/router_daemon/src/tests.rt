@@ -1,0 +1,8 @@
+use super::*;
+use std::test::*;
+
+#[test]
+fn nothing(rt: HostRuntime) -> Result<(), Fail> {
+    let _ = rt.alloc();
+    Ok(())
+}
