@@ -219,7 +219,7 @@ pub(crate) fn keep_link<
 >(
     rt: R,
     alloc: Global,
-    folder: D,
+    folder: Arc<D>,
     shared: Arc<Shared<J, E>>,
     room: Arc<Room<O, J>>,
     link: Link,

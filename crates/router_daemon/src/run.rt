@@ -58,7 +58,7 @@ fn run_named<
     R: Threads + Wait + Clock + Copy + Send + Drop + 'static,
     FI: Read + Drop + 'static,
     FO: Write + Send + Drop + 'static,
-    D: LinkFolder<FI, FO> + Copy + Send + Drop + 'static,
+    D: LinkFolder<FI, FO> + Send + Sync + Drop + 'static,
     V: Write + Send + Drop + 'static,
     E: Write + Send + Drop + 'static,
     I: Read,
@@ -66,7 +66,7 @@ fn run_named<
 >(
     rt: &R,
     alloc: Global,
-    folder: &D,
+    folder: D,
     setting: Setting<V>,
     errors: E,
     reader: &mut I,
@@ -111,7 +111,8 @@ fn run_named<
     } = plan;
     let operators = shared.router.split(&mut pass, 1);
     let common = Links { domain, retry };
-    start_links::<R, FI, FO, D, J, E>(rt, alloc, folder, &shared, &mut pass, links, common)?;
+    let folder = Arc::new(alloc, folder)?;
+    start_links::<R, FI, FO, D, J, E>(rt, alloc, &folder, &shared, &mut pass, links, common)?;
     let figures = Figures {
         size: domain.size,
         limit,
@@ -135,7 +136,7 @@ pub fn run_router<
     R: Threads + Wait + Clock + Copy + Send + Drop + 'static,
     FI: Read + Drop + 'static,
     FO: Write + Send + Drop + 'static,
-    D: LinkFolder<FI, FO> + Copy + Send + Drop + 'static,
+    D: LinkFolder<FI, FO> + Send + Sync + Drop + 'static,
     V: Write + Send + Drop + 'static,
     E: Write + Send + Drop + 'static,
     I: Read,
@@ -143,7 +144,7 @@ pub fn run_router<
 >(
     rt: &R,
     alloc: Global,
-    folder: &D,
+    folder: D,
     setting: Setting<V>,
     errors: E,
     reader: &mut I,

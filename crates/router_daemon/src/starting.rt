@@ -60,19 +60,20 @@ fn start_keeper<
     R: Threads + Wait + Clock + Copy + Send + Drop + 'static,
     I: Read + Drop + 'static,
     O: Write + Send + Drop + 'static,
-    D: LinkFolder<I, O> + Copy + Send + Drop + 'static,
+    D: LinkFolder<I, O> + Send + Sync + Drop + 'static,
     J: Naming + Send + Sync + 'static,
     E: Write + Send + Drop + 'static,
 >(
     rt: &R,
     alloc: Global,
-    folder: &D,
+    folder: &Arc<D>,
     shared: &Arc<Shared<J, E>>,
     room: Arc<Room<O, J>>,
     link: Link,
     ticket: Ticket<J>,
 ) -> Result<bool, AllocError> {
-    let (handle, folder) = (*rt, *folder);
+    let handle = *rt;
+    let folder = Arc::try_clone(folder)?;
     let shared = Arc::try_clone(shared)?;
     let started = thread::spawn(rt, move || {
         keep_link::<R, I, O, D, J, E>(handle, alloc, folder, shared, room, link, ticket)
@@ -85,13 +86,13 @@ fn start_link<
     R: Threads + Wait + Clock + Copy + Send + Drop + 'static,
     I: Read + Drop + 'static,
     O: Write + Send + Drop + 'static,
-    D: LinkFolder<I, O> + Copy + Send + Drop + 'static,
+    D: LinkFolder<I, O> + Send + Sync + Drop + 'static,
     J: Naming + Send + Sync + 'static,
     E: Write + Send + Drop + 'static,
 >(
     rt: &R,
     alloc: Global,
-    folder: &D,
+    folder: &Arc<D>,
     shared: &Arc<Shared<J, E>>,
     link: Link,
     ticket: Ticket<J>,
@@ -108,13 +109,13 @@ pub(crate) fn start_links<
     R: Threads + Wait + Clock + Copy + Send + Drop + 'static,
     I: Read + Drop + 'static,
     O: Write + Send + Drop + 'static,
-    D: LinkFolder<I, O> + Copy + Send + Drop + 'static,
+    D: LinkFolder<I, O> + Send + Sync + Drop + 'static,
     J: Naming + Send + Sync + 'static,
     E: Write + Send + Drop + 'static,
 >(
     rt: &R,
     alloc: Global,
-    folder: &D,
+    folder: &Arc<D>,
     shared: &Arc<Shared<J, E>>,
     pass: &mut Pass,
     links: Vec<LinkFiles>,
