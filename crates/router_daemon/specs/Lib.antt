@@ -1,4 +1,8 @@
 -- what callers cite
 pub mod Codes
-pub mod Names
+pub mod Running
 pub mod Told
+-- what only bodies are proved against
+pub mod Links
+pub mod Names
+pub mod Passes

@@ -1,5 +1,5 @@
 //! A router is closed.
-ghost use Rattle.slot_lock.specs.Held.{IsPassOf};
+ghost use Rattle.router_daemon.specs.Passes.{IsLegalPass};
 
 use crate::naming::Naming;
 use crate::shared::Shared;
@@ -37,8 +37,8 @@ pub(crate) fn close_links<R: Wait, J: Naming, E: Write>(
     shared: &Shared<J, E>,
     pass: &mut Pass,
 )
-    requires { IsPassOf J.router pass.old }
-    ensures { IsPassOf J.router pass.new }
+    requires { IsLegalPass J.router pass.old }
+    ensures { IsLegalPass J.router pass.new }
 {
     for link in 0..close(rt, shared) {
         if let Some(session) = take_session(rt, shared, link) {

@@ -1,6 +1,6 @@
 //! The sets of filters that a router begins with.
 ghost use Rattle.std.specs.Prelude.{◌≡◌};
-ghost use Rattle.slot_lock.specs.Held.{IsPassOf};
+ghost use Rattle.router_daemon.specs.Passes.{IsLegalPass};
 
 use crate::fault::DaemonFault;
 use crate::setting::Filters;
@@ -11,8 +11,8 @@ use std::sync::{Arc, Wait};
 
 /// Enters an event.
 fn enter<R: Wait>(rt: &R, router: &Router, pass: &mut Pass, event: Event) -> Result<(), DaemonFault>
-    requires { IsPassOf router.now pass.old }
-    ensures { IsPassOf router.now pass.new × (pass.new.part.shares ≡ pass.old.part.shares) }
+    requires { IsLegalPass router.now pass.old }
+    ensures { IsLegalPass router.now pass.new × (pass.new.part.shares ≡ pass.old.part.shares) }
 {
     match router.call(rt, pass, event) {
         Ok(_) => Ok(()),
@@ -28,8 +28,8 @@ fn set_import<R: Wait>(
     used: &FilterUse,
     filters: &Filters,
 ) -> Result<(), DaemonFault>
-    requires { IsPassOf router.now pass.old }
-    ensures { IsPassOf router.now pass.new × (pass.new.part.shares ≡ pass.old.part.shares) }
+    requires { IsLegalPass router.now pass.old }
+    ensures { IsLegalPass router.now pass.new × (pass.new.part.shares ≡ pass.old.part.shares) }
 {
     match filters.get(used.name.as_bytes()) {
         Some(filter) => {
@@ -48,8 +48,8 @@ fn set_export<R: Wait>(
     used: &FilterUse,
     filters: &Filters,
 ) -> Result<(), DaemonFault>
-    requires { IsPassOf router.now pass.old }
-    ensures { IsPassOf router.now pass.new × (pass.new.part.shares ≡ pass.old.part.shares) }
+    requires { IsLegalPass router.now pass.old }
+    ensures { IsLegalPass router.now pass.new × (pass.new.part.shares ≡ pass.old.part.shares) }
 {
     match filters.get(used.name.as_bytes()) {
         Some(filter) => {
@@ -68,8 +68,8 @@ pub(crate) fn set_imports<R: Wait>(
     uses: &[FilterUse],
     filters: &Filters,
 ) -> Result<(), DaemonFault>
-    requires { IsPassOf router.now pass.old }
-    ensures { IsPassOf router.now pass.new × (pass.new.part.shares ≡ pass.old.part.shares) }
+    requires { IsLegalPass router.now pass.old }
+    ensures { IsLegalPass router.now pass.new × (pass.new.part.shares ≡ pass.old.part.shares) }
 {
     for used in uses {
         set_import(rt, router, pass, used, filters)?;
@@ -85,8 +85,8 @@ pub(crate) fn set_exports<R: Wait>(
     uses: &[FilterUse],
     filters: &Filters,
 ) -> Result<(), DaemonFault>
-    requires { IsPassOf router.now pass.old }
-    ensures { IsPassOf router.now pass.new × (pass.new.part.shares ≡ pass.old.part.shares) }
+    requires { IsLegalPass router.now pass.old }
+    ensures { IsLegalPass router.now pass.new × (pass.new.part.shares ≡ pass.old.part.shares) }
 {
     for used in uses {
         set_export(rt, router, pass, used, filters)?;

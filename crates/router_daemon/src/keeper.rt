@@ -1,17 +1,18 @@
 //! Who keeps a link.
 ghost use Rattle.std.specs.Prelude.{◌≡◌};
-ghost use Rattle.slot_lock.specs.Held.{IsPassOf};
+ghost use Rattle.router_daemon.specs.Links.{AreFresh, KeepsOnce, Serves};
+ghost use Rattle.router_daemon.specs.Passes.{IsLegalPass, TakesBack};
 
 use crate::folder::LinkFolder;
 use crate::naming::{Naming, Ticket};
 use crate::room::Room;
 use crate::shared::Shared;
-use crate::starter::WriterStarter;
+use crate::starter::{Given, WriterStarter};
 use crate::telling::{tell_end, tell_unopened};
 use message_streams::{MessageReader, MessageWriter};
 use neighbour_session::{Domain, SessionEnd, keep_session};
 use router_options::LinkFiles;
-use slot_lock::Pass;
+use slot_lock::{Pass, Router};
 use std::alloc::Global;
 use std::io::{self, BufReader, Read, Write};
 use std::rt::Clock;
@@ -32,11 +33,12 @@ pub(crate) struct Link {
     pub(crate) retry: Option<u32>,
 }
 
-/// The streams of a link that is open.
+/// The streams of a link that is open, of which nothing is used.
 #[derive(Drop)]
-struct Streams<I: Read, O: Write> {
-    input: BufReader<I>,
-    output: O,
+struct Streams<I: Read + Drop, O: Write> {
+    input: MessageReader<BufReader<I>>,
+    output: MessageWriter<O>,
+    ghost fresh: { AreFresh input output },
 }
 
 /// Which file of a link was not opened, and why.
@@ -68,6 +70,18 @@ fn open_output<'a, I: Read, O: Write, D: LinkFolder<I, O>>(
         .map_err(|why| Unopened { name, why })
 }
 
+/// The streams over two files that were opened.
+fn streams_of<I: Read + Drop, O: Write + Drop>(
+    alloc: Global,
+    input: BufReader<I>,
+    output: O,
+) -> Streams<I, O> {
+    Streams {
+        input: MessageReader::new(input),
+        output: MessageWriter::new(alloc, output),
+    }
+}
+
 /// Opens both files of a link: of two neighbours the one with the lower number opens its output first, so that FIFOs meet.
 fn open_streams<'a, I: Read + Drop, O: Write + Drop, D: LinkFolder<I, O>>(
     folder: &D,
@@ -78,11 +92,11 @@ fn open_streams<'a, I: Read + Drop, O: Write + Drop, D: LinkFolder<I, O>>(
     if link.domain.me < link.files.node {
         let output = open_output::<I, O, D>(folder, to)?;
         let input = open_input::<I, O, D>(folder, alloc, from)?;
-        Ok(Streams { input, output })
+        Ok(streams_of(alloc, input, output))
     } else {
         let input = open_input::<I, O, D>(folder, alloc, from)?;
         let output = open_output::<I, O, D>(folder, to)?;
-        Ok(Streams { input, output })
+        Ok(streams_of(alloc, input, output))
     }
 }
 
@@ -113,23 +127,38 @@ fn tell_of_file<R: Wait, J: Naming, E: Write>(
     tell_unopened(alloc, &mut *errors, node, unopened.name, &unopened.why);
 }
 
-/// Waits for the writer of a session that was ordered, and takes its pass back. Tells why the session is over if the writer found it.
-fn await_writer<R: Wait, O: Write + Drop, J: Naming, E: Write>(
+/// Takes back the pass of who wrote a session, when they are done. Tells why the session is over if they found it.
+fn take_back<R: Wait, O: Write + Drop, J: Naming, E: Write>(
     rt: &R,
     alloc: Global,
     shared: &Shared<J, E>,
     room: &Room<O, J>,
     node: u16,
     why: SessionEnd,
-    pass: &mut Pass,
-)
-    requires { IsPassOf J.router pass.old }
-    ensures { IsPassOf J.router pass.new }
+    given: Given<J>,
+) -> Option<Ticket<J>> {
+    match given {
+        Given::None => None,
+        Given::Left(ticket) => Some(ticket),
+        Given::Ordered => {
+            let done = room.await_done(rt);
+            if why == SessionEnd::Closed {
+                tell_unless_closed(rt, alloc, shared, node, done.why);
+            }
+            Some(done.ticket)
+        }
+    }
+}
+
+/// Makes two passes one, if there is another.
+fn join<J: Naming>(router: &Router, pass: &mut Pass, other: Option<Ticket<J>>)
+    requires named { router.now ≡ J.router }
+    requires legal { IsLegalPass J.router pass.old }
+    ensures legal { IsLegalPass J.router pass.new }
+    ensures back { TakesBack pass.old pass.new }
 {
-    let done = room.await_done(rt);
-    shared.router.join(pass, done.ticket.pass());
-    if why == SessionEnd::Closed {
-        tell_unless_closed(rt, alloc, shared, node, done.why);
+    if let Some(ticket) = other {
+        router.join(pass, ticket.pass());
     }
 }
 
@@ -140,19 +169,20 @@ fn serve_link<R: Wait + Clock, I: Read + Drop, O: Write + Drop, J: Naming, E: Wr
     shared: &Shared<J, E>,
     room: &Room<O, J>,
     link: &Link,
-    streams: Streams<I, O>,
+    input: MessageReader<I>,
+    output: MessageWriter<O>,
     pass: &mut Pass,
 ) -> bool
-    requires { IsPassOf J.router pass.old }
-    ensures { IsPassOf J.router pass.new }
+    requires { IsLegalPass J.router pass.old }
+    ensures legal { IsLegalPass J.router pass.new }
+    ensures serves { Serves J.router link.now.domain link.now.files.node input output pass.old result pass.new }
 {
     let node = link.files.node;
     let mut starter = WriterStarter {
         shared,
         room,
         link: link.index,
-        is_ordered: false,
-        left: None,
+        given: Given::None,
     };
     let why = keep_session(
         rt,
@@ -160,22 +190,13 @@ fn serve_link<R: Wait + Clock, I: Read + Drop, O: Write + Drop, J: Naming, E: Wr
         pass,
         link.domain,
         node,
-        MessageReader::new(streams.input),
-        MessageWriter::new(alloc, streams.output),
+        input,
+        output,
         &mut starter,
     );
     tell_unless_closed(rt, alloc, shared, node, why);
-    let WriterStarter {
-        is_ordered,
-        left,
-        ..
-    } = starter;
-    if is_ordered {
-        await_writer(rt, alloc, shared, room, node, why, pass);
-    }
-    if let Some(ticket) = left {
-        shared.router.join(pass, ticket.pass());
-    }
+    let back = take_back(rt, alloc, shared, room, node, why, starter.given);
+    join(&shared.router, pass, back);
     why.can_be_opened_again()
 }
 
@@ -196,11 +217,14 @@ fn keep_once<
     link: &Link,
     pass: &mut Pass,
 ) -> bool
-    requires { IsPassOf J.router pass.old }
-    ensures { IsPassOf J.router pass.new }
+    requires { IsLegalPass J.router pass.old }
+    ensures legal { IsLegalPass J.router pass.new }
+    ensures keeps { KeepsOnce J.router link.now.domain link.now.files.node pass.old result pass.new }
 {
     match open_streams::<I, O, D>(folder, alloc, link) {
-        Ok(streams) => serve_link(rt, alloc, shared, room, link, streams, pass),
+        Ok(Streams { input, output }) => {
+            serve_link(rt, alloc, shared, room, link, input, output, pass)
+        }
         Err(unopened) => {
             tell_of_file(rt, alloc, shared, link.files.node, &unopened);
             true

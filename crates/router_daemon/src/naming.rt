@@ -1,6 +1,6 @@
 //! The one router that all threads of a program call.
 ghost use Rattle.std.specs.Prelude.{◌≡◌};
-ghost use Rattle.slot_lock.specs.Held.{IsPassOf};
+ghost use Rattle.router_daemon.specs.Passes.{IsLegalPass};
 
 use slot_lock::Pass;
 use std::marker::{Brand, PhantomData};
@@ -21,15 +21,15 @@ impl Naming for Brand {
 /// A pass of the router, as threads hand it on.
 #[derive(Drop)]
 pub(crate) struct Ticket<J: Naming> {
-    pass: Pass,
+    pub(crate) pass: Pass,
     of: PhantomData<J>,
-    ghost is_of: { IsPassOf J.router pass },
+    pub(crate) ghost is_legal: { IsLegalPass J.router pass },
 }
 
 impl<J: Naming> Ticket<J> {
     /// A pass, to be handed on.
     pub(crate) fn new(pass: Pass) -> Ticket<J>
-        requires { IsPassOf J.router pass }
+        requires { IsLegalPass J.router pass }
         ensures { result.pass ≡ pass }
     {
         Ticket {
@@ -40,7 +40,7 @@ impl<J: Naming> Ticket<J> {
 
     /// The pass that was handed on.
     pub(crate) fn pass(self) -> Pass
-        ensures of { IsPassOf J.router result }
+        ensures of { IsLegalPass J.router result }
         ensures same { result ≡ self.pass }
     {
         let Ticket { pass, .. } = self;

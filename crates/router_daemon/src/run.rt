@@ -1,6 +1,6 @@
 //! A router is run.
 ghost use Rattle.std.specs.Prelude.{◌≡◌};
-ghost use Rattle.slot_lock.specs.Held.{IsPassOf};
+ghost use Rattle.router_daemon.specs.Passes.{IsLegalPass};
 
 use crate::closing::close_links;
 use crate::fault::DaemonFault;
@@ -75,7 +75,7 @@ fn run_named<
     mut pass: Pass,
 ) -> Result<u32, DaemonFault>
     requires named { router ≡ J.router }
-    requires of { IsPassOf J.router pass }
+    requires of { IsLegalPass J.router pass }
 {
     let Setting {
         plan,

@@ -1,7 +1,7 @@
 //! Who saves the history.
 ghost use Rattle.std.specs.Prelude.{◌≡◌, IfOk, length, Some, None};
 ghost use Rattle.history_saver.specs.Saved.{HasSaved, seen_by};
-ghost use Rattle.slot_lock.specs.Held.{IsPassOf};
+ghost use Rattle.router_daemon.specs.Passes.{IsLegalPass};
 
 use crate::naming::{Naming, Ticket};
 use crate::shared::Shared;
@@ -61,9 +61,9 @@ fn save_all<R: Wait + Clock, V: Write, J: Naming, E: Write>(
     saver: &mut Saver<V>,
     pass: &mut Pass,
 )
-    requires of { IsPassOf J.router pass.old }
+    requires of { IsLegalPass J.router pass.old }
     requires saved { HasSaved saver.old (seen_by J.router pass.old) }
-    ensures of { IsPassOf J.router pass.new }
+    ensures of { IsLegalPass J.router pass.new }
     ensures saved { HasSaved saver.new (seen_by J.router pass.new) }
     ensures first { saver.new.first ≡ saver.old.first }
 {

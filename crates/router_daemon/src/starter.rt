@@ -11,6 +11,17 @@ use std::io::Write;
 use std::rt::Clock;
 use std::sync::Wait;
 
+/// What became of the pass of who writes a session.
+#[derive(Drop)]
+pub(crate) enum Given<J: Naming> {
+    /// No session began.
+    None,
+    /// The link's writer has it.
+    Ordered,
+    /// A session was there already, or the router is being closed: nobody needs it.
+    Left(Ticket<J>),
+}
+
 /// Who has a session of a link written, by the link's writer.
 #[derive(Drop)]
 pub(crate) struct WriterStarter<'a, O: Write, J: Naming, E: Write> {
@@ -18,10 +29,8 @@ pub(crate) struct WriterStarter<'a, O: Write, J: Naming, E: Write> {
     pub(crate) room: &'a Room<O, J>,
     /// The link's number.
     pub(crate) link: usize,
-    /// A session was ordered.
-    pub(crate) is_ordered: bool,
-    /// The pass of a writer that got no order.
-    pub(crate) left: Option<Ticket<J>>,
+    /// What became of the pass of who writes.
+    pub(crate) given: Given<J>,
 }
 
 impl<'a, O: Write + Drop, J: Naming, E: Write> Starter<O> for WriterStarter<'a, O, J, E> {
@@ -39,10 +48,10 @@ impl<'a, O: Write + Drop, J: Naming, E: Write> Starter<O> for WriterStarter<'a, 
     ) -> Option<LinkCrew<'a, J, E>> {
         let ticket = Ticket::new(pass);
         if !self.shared.begin(rt, self.link, session, answer) {
-            self.left = Some(ticket);
+            self.given = Given::Left(ticket);
             return None;
         }
-        self.is_ordered = true;
+        self.given = Given::Ordered;
         self.room.put_order(
             rt,
             Order {

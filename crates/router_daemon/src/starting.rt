@@ -1,6 +1,6 @@
 //! The threads of a router are started.
 ghost use Rattle.std.specs.Prelude.{◌≡◌, ◌<◌};
-ghost use Rattle.slot_lock.specs.Held.{IsPassOf};
+ghost use Rattle.router_daemon.specs.Passes.{IsLegalPass};
 
 use crate::folder::LinkFolder;
 use crate::keeper::{Link, keep_link};
@@ -121,8 +121,8 @@ pub(crate) fn start_links<
     links: Vec<LinkFiles>,
     common: Links,
 ) -> Result<(), AllocError>
-    requires { IsPassOf J.router pass.old }
-    ensures { IsPassOf J.router pass.new }
+    requires { IsLegalPass J.router pass.old }
+    ensures { IsLegalPass J.router pass.new }
 {
     let mut index = 0;
     for files in links {

@@ -1,6 +1,6 @@
 //! The writer of a link.
-ghost use Rattle.std.specs.Prelude.{◌≡◌};
-ghost use Rattle.slot_lock.specs.Held.{IsPassOf};
+ghost use Rattle.neighbour_session.specs.Writing.{Serves};
+ghost use Rattle.std.specs.Prelude.{⊤};
 
 use crate::crew::LinkCrew;
 use crate::naming::{Naming, Ticket};
@@ -20,7 +20,9 @@ fn write_session<R: Wait + Clock, I: Read + Drop, O: Write + Drop, J: Naming, E:
     shared: &Shared<J, E>,
     link: usize,
     order: Order<O, J>,
-) -> Done<J> {
+) -> Done<J>
+    ensures { Serves (λ _. ⊤) (λ _. ⊤) J.router order.session order.ticket.pass order.output result.why result.ticket.pass }
+{
     let Order {
         session,
         output,
