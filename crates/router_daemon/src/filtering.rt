@@ -5,7 +5,7 @@ ghost use Rattle.router_daemon.specs.Passes.{IsLegalPass};
 use crate::fault::DaemonFault;
 use crate::setting::Filters;
 use netchange_core::Event;
-use router_options::FilterUse;
+use router_options::{FilterUse, RouterPlan};
 use slot_lock::{Pass, Router};
 use std::sync::{Arc, Wait};
 
@@ -61,7 +61,7 @@ fn set_export<R: Wait>(
 }
 
 /// Sets the import filters of a router, in order.
-pub(crate) fn set_imports<R: Wait>(
+fn set_imports<R: Wait>(
     rt: &R,
     router: &Router,
     pass: &mut Pass,
@@ -78,7 +78,7 @@ pub(crate) fn set_imports<R: Wait>(
 }
 
 /// Sets the export filters of a router, in order.
-pub(crate) fn set_exports<R: Wait>(
+fn set_exports<R: Wait>(
     rt: &R,
     router: &Router,
     pass: &mut Pass,
@@ -92,4 +92,19 @@ pub(crate) fn set_exports<R: Wait>(
         set_export(rt, router, pass, used, filters)?;
     }
     Ok(())
+}
+
+/// Sets the filters that a plan uses: first the import filters, then the export filters, each in the order of the plan.
+pub(crate) fn set_filters<R: Wait>(
+    rt: &R,
+    router: &Router,
+    pass: &mut Pass,
+    plan: &RouterPlan,
+    filters: &Filters,
+) -> Result<(), DaemonFault>
+    requires { IsLegalPass router.now pass.old }
+    ensures { IsLegalPass router.now pass.new × (pass.new.part.shares ≡ pass.old.part.shares) }
+{
+    set_imports(rt, router, pass, plan.imports.as_slice(), filters)?;
+    set_exports(rt, router, pass, plan.exports.as_slice(), filters)
 }

@@ -1,6 +1,8 @@
 //! The operator of a router that runs.
 ghost use Rattle.std.specs.Prelude.{◌≡◌};
+ghost use Rattle.std.specs.Prelude.{IfSome};
 ghost use Rattle.router_operator.specs.OperatorView.{IsAt};
+ghost use Rattle.router_daemon.specs.Running.{Operates, operator_of};
 
 use crate::closing::stay;
 use crate::naming::Naming;
@@ -37,6 +39,9 @@ pub(crate) fn serve_operator<R: Wait + Clock, I: Read, W: Write, J: Naming, E: W
     writer: &mut W,
 ) -> Result<u32, StreamFault>
     requires { IsAt J.router pass figures.size figures.limit }
+    ensures { IfSome (I.remaining reader.old) (λ input.
+        Operates (operator_of J.router pass filters.entries shared.now.nodes.items) result input (I.remaining reader.new)
+        (W.contents writer.old) (W.contents writer.new)) }
 {
     let mut operator = Operator::new(
         rt,

@@ -12,18 +12,31 @@ use std::alloc::Global;
 use std::io::Write;
 use std::rt::Clock;
 use std::sync::{Arc, Wait};
+use std::snapshot::Snapshot;
 use std::thread;
+use std::thread::Promise;
 use std::time::Duration;
 
 /// For how many milliseconds the history grows before it is saved again.
 const REST: u64 = 50;
 
-/// What was saved: the saver, and the pass by which it saved.
+/// What was saved: the saver, and the pass by which it saved. Where no fault ended the saving, it is all that the pass has seen.
 #[derive(Drop)]
 pub(crate) struct Saved<V: Write, J: Naming> {
     pub(crate) saver: Saver<V>,
     pub(crate) ticket: Ticket<J>,
     pub(crate) ghost has: { HasSaved saver (seen_by J.router ticket.pass) },
+    pub(crate) ghost all: { saver.fault ≡ None → saver.saved ≡ Some (length ticket.pass.part.seen) },
+}
+
+/// What was saved is in this file.
+#[derive(Drop)]
+pub(crate) struct IsIn<V: Write>(pub(crate) Snapshot<V>);
+
+impl<V: Write, J: Naming> Promise<Saved<V, J>> for IsIn<V> {
+    ghost use Rattle.std.specs.Prelude.{◌≡◌};
+
+    ghost kept_by = { λ p s. s.saver.first ≡ V.contents p.0.value };
 }
 
 /// Sleeps until the history has more entries than are saved, or the router is being closed: whether it is.
@@ -66,6 +79,7 @@ fn save_all<R: Wait + Clock, V: Write, J: Naming, E: Write>(
     ensures of { IsLegalPass J.router pass.new }
     ensures saved { HasSaved saver.new (seen_by J.router pass.new) }
     ensures first { saver.new.first ≡ saver.old.first }
+    ensures all { saver.new.fault ≡ None → saver.new.saved ≡ Some (length pass.new.part.seen) }
 {
     let mut is_closing = false;
     for _ in rt.forever() {
@@ -89,7 +103,9 @@ pub(crate) fn save_history<R: Wait + Clock + Drop, V: Write + Drop, J: Naming, E
     shared: Arc<Shared<J, E>>,
     file: V,
     ticket: Ticket<J>,
-) -> Saved<V, J> {
+) -> Saved<V, J>
+    ensures { result.saver.first ≡ V.contents file }
+{
     let mut saver = Saver::new(file);
     let mut pass = ticket.pass();
     save_all(&rt, alloc, &shared, &mut saver, &mut pass);

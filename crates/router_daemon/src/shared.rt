@@ -1,11 +1,13 @@
 //! What all threads of a router share.
-ghost use Rattle.std.specs.Prelude.{◌≡◌};
+ghost use Rattle.std.specs.Prelude.{◌≡◌, IfOk, map};
 
 use crate::naming::Naming;
 use link_board::Board;
 use netchange_core::Reply;
 use router_operator::Listener;
+use router_options::LinkFiles;
 use slot_lock::{Answer, Router};
+use std::alloc::{AllocError, Global};
 use std::io::Write;
 use std::marker::PhantomData;
 use std::rt::Clock;
@@ -28,6 +30,50 @@ pub(crate) struct Shared<J: Naming, E: Write> {
     pub(crate) errors: Mutex<E>,
     pub(crate) of: PhantomData<J>,
     pub(crate) ghost is_named: { router ≡ J.router },
+}
+
+/// The nodes of links.
+fn nodes_of(alloc: Global, links: &[LinkFiles]) -> Result<Vec<u16>, AllocError>
+    ensures { IfOk result (λ nodes. nodes.items ≡ map (λ link. link.node) links.now) }
+{
+    let mut nodes = Vec::with_capacity(alloc, links.len())?;
+    for link in links {
+        nodes.push(link.node)?;
+    }
+    Ok(nodes)
+}
+
+/// So many bells.
+fn bells_of(alloc: Global, count: usize) -> Result<Vec<Condvar>, AllocError> {
+    let mut bells = Vec::with_capacity(alloc, count)?;
+    for _ in 0..count {
+        bells.push(Condvar::new())?;
+    }
+    Ok(bells)
+}
+
+/// What the threads of a router share, when no thread is started.
+pub(crate) fn shared_of<J: Naming, E: Write + Drop>(
+    alloc: Global,
+    router: Router,
+    links: &[LinkFiles],
+    errors: E,
+) -> Result<Shared<J, E>, AllocError>
+    requires { router ≡ J.router }
+    ensures { IfOk result (λ shared. shared.nodes.items ≡ map (λ link. link.node) links.now) }
+{
+    let nodes = nodes_of(alloc, links)?;
+    let bells = bells_of(alloc, links.len())?;
+    let board = Mutex::new(Board::new(alloc, nodes.as_slice())?);
+    Ok(Shared {
+        router,
+        nodes,
+        board,
+        bells,
+        saver_bell: Condvar::new(),
+        errors: Mutex::new(errors),
+        of: PhantomData,
+    })
 }
 
 /// Wakes whom the board says.

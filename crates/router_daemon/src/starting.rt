@@ -1,12 +1,13 @@
 //! The threads of a router are started.
-ghost use Rattle.std.specs.Prelude.{◌≡◌, ◌<◌};
+ghost use Rattle.std.specs.Prelude.{◌≡◌, IfOk};
 ghost use Rattle.router_daemon.specs.Passes.{IsLegalPass};
 
 use crate::folder::LinkFolder;
 use crate::keeper::{Link, keep_link};
 use crate::naming::{Naming, Ticket};
 use crate::room::Room;
-use crate::saving::{Saved, save_history};
+use crate::fault::DaemonFault;
+use crate::saving::{IsIn, Saved, save_history};
 use crate::shared::Shared;
 use crate::telling::tell_unstarted;
 use crate::writer::write_link;
@@ -16,9 +17,10 @@ use slot_lock::Pass;
 use std::alloc::{AllocError, Global};
 use std::io::{Read, Write};
 use std::rt::Clock;
+use std::snapshot::Snapshot;
 use std::sync::{Arc, Wait};
 use std::thread;
-use std::thread::{JoinHandle, Threads};
+use std::thread::{PromisedHandle, Threads};
 
 /// The shares of a link's pass. It gives one of them to its writer, for a session.
 const SHARES: u32 = 100;
@@ -158,11 +160,17 @@ pub(crate) fn start_saver<
     shared: &Arc<Shared<J, E>>,
     file: V,
     ticket: Ticket<J>,
-) -> Result<Option<JoinHandle<Saved<V, J>>>, AllocError> {
+) -> Result<PromisedHandle<Saved<V, J>, IsIn<V>>, DaemonFault>
+    ensures { IfOk result (λ h. h.promise.0.value ≡ file) }
+{
     let handle = *rt;
     let shared = Arc::try_clone(shared)?;
-    let started = thread::spawn(rt, move || {
+    let promise = IsIn(Snapshot::of(&file));
+    let started = thread::spawn_with(rt, promise, move || {
         save_history::<R, V, J, E>(handle, alloc, shared, file, ticket)
     });
-    Ok(started.ok())
+    match started {
+        Ok(saving) => Ok(saving),
+        Err(_) => Err(DaemonFault::NotStarted),
+    }
 }
