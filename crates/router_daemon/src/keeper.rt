@@ -1,7 +1,8 @@
 //! Who keeps a link.
 ghost use Rattle.std.specs.Prelude.{◌≡◌};
+ghost use Rattle.slot_lock.specs.Held.{IsPassOf};
 ghost use Rattle.router_daemon.specs.Links.{AreFresh, KeepsOnce, Serves};
-ghost use Rattle.router_daemon.specs.Passes.{IsLegalPass, TakesBack};
+ghost use Rattle.router_daemon.specs.Passes.{TakesBack};
 
 use crate::folder::LinkFolder;
 use crate::naming::{Naming, Ticket};
@@ -153,8 +154,8 @@ fn take_back<R: Wait, O: Write + Drop, J: Naming, E: Write>(
 /// Makes two passes one, if there is another.
 fn join<J: Naming>(router: &Router, pass: &mut Pass, other: Option<Ticket<J>>)
     requires named { router.now ≡ J.router }
-    requires legal { IsLegalPass J.router pass.old }
-    ensures legal { IsLegalPass J.router pass.new }
+    requires of { IsPassOf J.router pass.old }
+    ensures of { IsPassOf J.router pass.new }
     ensures back { TakesBack pass.old pass.new }
 {
     if let Some(ticket) = other {
@@ -173,8 +174,8 @@ fn serve_link<R: Wait + Clock, I: Read + Drop, O: Write + Drop, J: Naming, E: Wr
     output: MessageWriter<O>,
     pass: &mut Pass,
 ) -> bool
-    requires { IsLegalPass J.router pass.old }
-    ensures legal { IsLegalPass J.router pass.new }
+    requires { IsPassOf J.router pass.old }
+    ensures of { IsPassOf J.router pass.new }
     ensures serves { Serves J.router link.now.domain link.now.files.node input output pass.old result pass.new }
 {
     let node = link.files.node;
@@ -217,8 +218,8 @@ fn keep_once<
     link: &Link,
     pass: &mut Pass,
 ) -> bool
-    requires { IsLegalPass J.router pass.old }
-    ensures legal { IsLegalPass J.router pass.new }
+    requires { IsPassOf J.router pass.old }
+    ensures of { IsPassOf J.router pass.new }
     ensures keeps { KeepsOnce J.router link.now.domain link.now.files.node pass.old result pass.new }
 {
     match open_streams::<I, O, D>(folder, alloc, link) {

@@ -1,5 +1,6 @@
 //! The one router that all threads of a program call.
 ghost use Rattle.std.specs.Prelude.{◌≡◌};
+ghost use Rattle.slot_lock.specs.Held.{IsPassOf};
 ghost use Rattle.router_daemon.specs.Passes.{IsLegalPass};
 
 use slot_lock::Pass;
@@ -23,13 +24,13 @@ impl Naming for Brand {
 pub(crate) struct Ticket<J: Naming> {
     pub(crate) pass: Pass,
     of: PhantomData<J>,
-    pub(crate) ghost is_legal: { IsLegalPass J.router pass },
+    pub(crate) ghost is_of: { IsPassOf J.router pass },
 }
 
 impl<J: Naming> Ticket<J> {
     /// A pass, to be handed on.
     pub(crate) fn new(pass: Pass) -> Ticket<J>
-        requires { IsLegalPass J.router pass }
+        requires { IsPassOf J.router pass }
         ensures { result.pass ≡ pass }
     {
         Ticket {
@@ -40,10 +41,40 @@ impl<J: Naming> Ticket<J> {
 
     /// The pass that was handed on.
     pub(crate) fn pass(self) -> Pass
-        ensures of { IsLegalPass J.router result }
+        ensures of { IsPassOf J.router result }
         ensures same { result ≡ self.pass }
     {
         let Ticket { pass, .. } = self;
+        pass
+    }
+}
+
+/// A pass of the router that has seen a legal history, as threads hand it on.
+#[derive(Drop)]
+pub(crate) struct LegalTicket<J: Naming> {
+    pub(crate) pass: Pass,
+    of: PhantomData<J>,
+    pub(crate) ghost is_legal: { IsLegalPass J.router pass },
+}
+
+impl<J: Naming> LegalTicket<J> {
+    /// A pass, to be handed on.
+    pub(crate) fn new(pass: Pass) -> LegalTicket<J>
+        requires { IsLegalPass J.router pass }
+        ensures { result.pass ≡ pass }
+    {
+        LegalTicket {
+            pass,
+            of: PhantomData,
+        }
+    }
+
+    /// The pass that was handed on.
+    pub(crate) fn pass(self) -> Pass
+        ensures legal { IsLegalPass J.router result }
+        ensures same { result ≡ self.pass }
+    {
+        let LegalTicket { pass, .. } = self;
         pass
     }
 }

@@ -7,7 +7,7 @@ ghost use Rattle.router_daemon.specs.Running.{Fails, HasOperator, IsWhy, SavesTo
 use crate::closing::close_links;
 use crate::fault::DaemonFault;
 use crate::folder::LinkFolder;
-use crate::naming::{Naming, Ticket};
+use crate::naming::{LegalTicket, Naming};
 use crate::opening::open_router;
 use crate::operating::{Figures, serve_operator};
 use crate::saving::{IsIn, Saved};
@@ -51,7 +51,7 @@ fn begin_saving<
     if pass.shares() < 2 {
         return Err(DaemonFault::Memory);
     }
-    let ticket = Ticket::new(shared.router.split(pass, 1));
+    let ticket = LegalTicket::new(shared.router.split(pass, 1));
     Ok(Some(start_saver(rt, alloc, shared, file, ticket)?))
 }
 

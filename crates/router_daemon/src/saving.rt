@@ -3,7 +3,7 @@ ghost use Rattle.std.specs.Prelude.{◌≡◌, IfOk, length, Some, None};
 ghost use Rattle.history_saver.specs.Saved.{HasSaved, seen_by};
 ghost use Rattle.router_daemon.specs.Passes.{IsLegalPass};
 
-use crate::naming::{Naming, Ticket};
+use crate::naming::{LegalTicket, Naming};
 use crate::shared::Shared;
 use crate::telling::tell_unsaved;
 use history_saver::{SaveFault, Saver};
@@ -24,7 +24,7 @@ const REST: u64 = 50;
 #[derive(Drop)]
 pub(crate) struct Saved<V: Write, J: Naming> {
     pub(crate) saver: Saver<V>,
-    pub(crate) ticket: Ticket<J>,
+    pub(crate) ticket: LegalTicket<J>,
     pub(crate) ghost has: { HasSaved saver (seen_by J.router ticket.pass) },
     pub(crate) ghost all: { saver.fault ≡ None → saver.saved ≡ Some (length ticket.pass.part.seen) },
 }
@@ -102,7 +102,7 @@ pub(crate) fn save_history<R: Wait + Clock + Drop, V: Write + Drop, J: Naming, E
     alloc: Global,
     shared: Arc<Shared<J, E>>,
     file: V,
-    ticket: Ticket<J>,
+    ticket: LegalTicket<J>,
 ) -> Saved<V, J>
     ensures { result.saver.first ≡ V.contents file }
 {
@@ -111,6 +111,6 @@ pub(crate) fn save_history<R: Wait + Clock + Drop, V: Write + Drop, J: Naming, E
     save_all(&rt, alloc, &shared, &mut saver, &mut pass);
     Saved {
         saver,
-        ticket: Ticket::new(pass),
+        ticket: LegalTicket::new(pass),
     }
 }

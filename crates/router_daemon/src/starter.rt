@@ -1,5 +1,7 @@
 //! Who has the sessions of a link written.
 
+ghost use Rattle.slot_lock.specs.Held.{IsPassOf};
+
 use crate::crew::LinkCrew;
 use crate::naming::{Naming, Ticket};
 use crate::room::{Order, Room};
@@ -45,7 +47,9 @@ impl<'a, O: Write + Drop, J: Naming, E: Write> Starter<O> for WriterStarter<'a, 
         answer: &Answer,
         output: MessageWriter<O>,
         pass: Pass,
-    ) -> Option<LinkCrew<'a, J, E>> {
+    ) -> Option<LinkCrew<'a, J, E>>
+        requires { IsPassOf J.router pass }
+    {
         let ticket = Ticket::new(pass);
         if !self.shared.begin(rt, self.link, session, answer) {
             self.given = Given::Left(ticket);

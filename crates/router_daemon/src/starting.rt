@@ -4,7 +4,7 @@ ghost use Rattle.router_daemon.specs.Passes.{IsLegalPass};
 
 use crate::folder::LinkFolder;
 use crate::keeper::{Link, keep_link};
-use crate::naming::{Naming, Ticket};
+use crate::naming::{LegalTicket, Naming, Ticket};
 use crate::room::Room;
 use crate::fault::DaemonFault;
 use crate::saving::{IsIn, Saved, save_history};
@@ -159,7 +159,7 @@ pub(crate) fn start_saver<
     alloc: Global,
     shared: &Arc<Shared<J, E>>,
     file: V,
-    ticket: Ticket<J>,
+    ticket: LegalTicket<J>,
 ) -> Result<PromisedHandle<Saved<V, J>, IsIn<V>>, DaemonFault>
     ensures { IfOk result (λ h. h.promise.0.value ≡ file) }
 {
