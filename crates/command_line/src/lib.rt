@@ -5,12 +5,14 @@ mod aid_words;
 mod classes;
 mod filter_words;
 mod options;
+mod router_words;
 mod telling;
 mod terminals;
 mod words;
 
 pub use aid_words::{Aid, Checking, Engine, Importing, Running, Source};
 pub use filter_words::{NamedFile, WrongFilter, filters_in};
+pub use router_words::RouterWords;
 pub use telling::{Telling, is_explained};
 pub use terminals::{Terminals, tell_that_input_is_read, waits_for_people};
 pub use words::{Request, Words, read, request_of};
