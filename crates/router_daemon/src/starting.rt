@@ -126,8 +126,7 @@ pub(crate) fn start_links<
     requires { IsLegalPass J.router pass.old }
     ensures { IsLegalPass J.router pass.new }
 {
-    let mut index = 0;
-    for files in links {
+    for (index, files) in links.into_iter().enumerate() {
         let node = files.node;
         let link = Link {
             index,
@@ -143,7 +142,6 @@ pub(crate) fn start_links<
             let mut errors = shared.errors.lock(rt);
             tell_unstarted(alloc, &mut *errors, node);
         }
-        index += 1;
     }
     Ok(())
 }

@@ -6,7 +6,7 @@ use std::alloc::Global;
 use std::io::{self, BufRead, BufReader, PipeReader, PipeWriter, Read, Write};
 use std::process::Abort;
 use std::rt::{Clock, Files};
-use std::sync::{Mutex, Wait};
+use std::sync::{Barrier, Mutex, Wait};
 use std::test::*;
 use std::thread;
 use std::thread::Threads;
@@ -59,7 +59,7 @@ fn setting_of(
     })
 }
 
-/// Asks until an answer is the expected one, and then says `quit`. Whether it was.
+/// Asks until an answer is the expected one. Whether it was.
 fn ask_until<R: Clock>(
     rt: &R,
     to: &mut PipeWriter,
@@ -73,7 +73,6 @@ fn ask_until<R: Clock>(
         let mut answer = String::new(alloc);
         from.read_line(&mut answer)?;
         if answer.as_str() == wanted {
-            to.write_all(b"quit\n")?;
             return Ok(true);
         }
         thread::sleep(rt, Duration::from_millis(5));
@@ -81,7 +80,23 @@ fn ask_until<R: Clock>(
     Ok(false)
 }
 
-/// Runs node `me`, beside which its operator asks. What it saved, if it ran to its end and the operator was answered as they wanted.
+/// Asks until an answer is the expected one, and says `quit` when another operator has come as far. Whether it was.
+fn ask_and_quit<R: Clock + Wait>(
+    rt: &R,
+    to: &mut PipeWriter,
+    from: &mut BufReader<PipeReader>,
+    alloc: Global,
+    line: &[u8],
+    wanted: &str,
+    both: &Barrier,
+) -> io::Result<bool> {
+    let answered = ask_until(rt, to, from, alloc, line, wanted);
+    both.wait(rt);
+    to.write_all(b"quit\n")?;
+    answered
+}
+
+/// Runs a router, beside which its operator asks. Whether it ran to its end, and the operator was answered as they wanted.
 fn run_node<R: Threads + Wait + Clock + Files + Copy + Send + Sync + Drop + 'static>(
     rt: &R,
     alloc: Global,
@@ -89,6 +104,7 @@ fn run_node<R: Threads + Wait + Clock + Files + Copy + Send + Sync + Drop + 'sta
     ends: Ends<R>,
     line: &[u8],
     wanted: &str,
+    both: &Barrier,
 ) -> io::Result<bool> {
     let (mut typed, mut typing) = io::pipe(rt)?;
     let (answers, mut answering) = io::pipe(rt)?;
@@ -116,7 +132,7 @@ fn run_node<R: Threads + Wait + Clock + Files + Copy + Send + Sync + Drop + 'sta
                 &mut answering,
             )
         },
-        move || ask_until(rt, &mut typing, answers, alloc, line, wanted),
+        move || ask_and_quit(rt, &mut typing, answers, alloc, line, wanted, both),
     );
     drop(errors);
     Ok(asked? && ran.is_ok())
@@ -143,8 +159,8 @@ fn two_routers(rt: HostRuntime) -> Result<(), Fail> {
     let other = setting_of(alloc, 1, "0=b,a", other_saving)?;
     let (a, b) = thread::join(
         &rt,
-        || run_node(&rt, alloc, setting, zero, b"show 1\n", "route 1 via 1\n"),
-        || run_node(&rt, alloc, other, one, b"show 0\n", "route 1 via 0\n"),
+        || run_node(&rt, alloc, setting, zero, b"show 1\n", "route 1 via 1\n", &both),
+        || run_node(&rt, alloc, other, one, b"show 0\n", "route 1 via 0\n", &both),
     );
     assert!(rt; a.is_ok_and(|a| a) && b.is_ok_and(|b| b));
     let mut text = String::new(alloc);
