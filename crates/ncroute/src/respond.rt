@@ -94,7 +94,7 @@ fn status_of_fault<E: Write>(errors: &mut E, fault: StreamFault) -> u8
 /// Does what the words of the command line ask for, and returns the exit status. `voice` is where people are told of a router's links.
 pub fn respond<
     R: Threads + Wait + Clock + Folder + LinkFolder<FI, FO> + Copy + Send + Sync + Drop + 'static,
-    FI: Read + Drop + 'static,
+    FI: Read + Send + Drop + 'static,
     FO: Write + Send + Drop + 'static,
     T: Write + Send + Drop + 'static,
     I: Read,

@@ -96,7 +96,7 @@ fn tell_fault<E: Write>(alloc: Global, errors: &mut E, code: &str) -> u8 {
 /// Runs a router of a plan, whose filters are verified: the exit status.
 fn run_planned<
     R: Threads + Wait + Clock + LinkFolder<FI, FO> + Copy + Send + Sync + Drop + 'static,
-    FI: Read + Drop + 'static,
+    FI: Read + Send + Drop + 'static,
     FO: Write + Send + Drop + 'static,
     V: Write + Send + Drop + 'static,
     T: Write + Send + Drop + 'static,
@@ -122,7 +122,7 @@ fn run_planned<
 /// before any link is opened. `voice` is where people are told of links.
 pub fn serve_router<
     R: Threads + Wait + Clock + Folder + LinkFolder<FI, FO> + Copy + Send + Sync + Drop + 'static,
-    FI: Read + Drop + 'static,
+    FI: Read + Send + Drop + 'static,
     FO: Write + Send + Drop + 'static,
     T: Write + Send + Drop + 'static,
     I: Read,

@@ -10,10 +10,10 @@ use std::sync::{Condvar, Wait};
 
 /// No session begins from now on. The number of links.
 fn close<R: Wait, J: Naming, E: Write>(rt: &R, shared: &Shared<J, E>) -> usize {
-    let mut board = shared.board.lock(rt);
+    let mut board = shared.signals.board.lock(rt);
     board.close();
     let count = board.len();
-    shared.wake(board);
+    shared.signals.wake(board);
     count
 }
 
@@ -23,8 +23,8 @@ fn take_session<R: Wait, J: Naming, E: Write>(
     shared: &Shared<J, E>,
     link: usize,
 ) -> Option<u32> {
-    let session = shared.session(rt, link)?;
-    if shared.end(rt, link, session) {
+    let session = shared.signals.session(rt, link)?;
+    if shared.signals.end(rt, link, session) {
         Some(session)
     } else {
         None
@@ -43,7 +43,7 @@ pub(crate) fn close_links<R: Wait, J: Naming, E: Write>(
     for link in 0..close(rt, shared) {
         if let Some(session) = take_session(rt, shared, link) {
             if let Ok(answer) = enter_down(rt, &shared.router, pass, session) {
-                shared.note(rt, &answer);
+                shared.signals.note(rt, &answer);
             }
         }
     }
@@ -52,7 +52,7 @@ pub(crate) fn close_links<R: Wait, J: Naming, E: Write>(
 /// Waits for ever.
 pub(crate) fn stay<R: Wait, J: Naming, E: Write>(rt: &R, shared: &Shared<J, E>) {
     let never = Condvar::new();
-    let mut board = shared.board.lock(rt);
+    let mut board = shared.signals.board.lock(rt);
     for _ in rt.forever() {
         board = never.wait(rt, board);
     }

@@ -109,7 +109,7 @@ fn tell_unless_closed<R: Wait, J: Naming, E: Write>(
     node: u16,
     why: SessionEnd,
 ) {
-    if why == SessionEnd::Closed || shared.is_closing(rt) {
+    if why == SessionEnd::Closed || shared.signals.is_closing(rt) {
         return;
     }
     let mut errors = shared.errors.lock(rt);
@@ -180,7 +180,7 @@ fn serve_link<R: Wait + Clock, I: Read + Drop, O: Write + Drop, J: Naming, E: Wr
 {
     let node = link.files.node;
     let mut starter = WriterStarter {
-        shared,
+        signals: &shared.signals,
         room,
         link: link.index,
         given: Given::None,
@@ -258,7 +258,7 @@ pub(crate) fn keep_link<
         let Some(seconds) = link.retry else {
             return;
         };
-        if !again || shared.is_closing(&rt) {
+        if !again || shared.signals.is_closing(&rt) {
             return;
         }
         thread::sleep(&rt, Duration::from_secs(u64::from(seconds)));

@@ -18,6 +18,7 @@ mod run;
 mod saving;
 mod setting;
 mod shared;
+mod signals;
 mod starter;
 mod starting;
 mod telling;

@@ -47,7 +47,7 @@ pub(crate) fn serve_operator<R: Wait + Clock, I: Read, W: Write, J: Naming, E: W
         rt,
         &shared.router,
         pass,
-        shared,
+        &shared.signals,
         figures.size,
         figures.limit,
         shared.nodes.as_slice(),

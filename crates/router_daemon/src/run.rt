@@ -73,7 +73,7 @@ fn end_saving<R: Threads, V: Write + Drop, J: Naming>(
 /// Serves the links of a router and its operator, until the operator quits or their lines end: how their lines ended.
 fn serve_all<
     R: Threads + Wait + Clock + Copy + Send + Drop + 'static,
-    FI: Read + Drop + 'static,
+    FI: Read + Send + Drop + 'static,
     FO: Write + Send + Drop + 'static,
     D: LinkFolder<FI, FO> + Send + Sync + Drop + 'static,
     J: Naming + Send + Sync + 'static,
@@ -133,7 +133,7 @@ fn end_of<V: Write + Drop>(
 fn run_named<
     J: Naming + Send + Sync + 'static,
     R: Threads + Wait + Clock + Copy + Send + Drop + 'static,
-    FI: Read + Drop + 'static,
+    FI: Read + Send + Drop + 'static,
     FO: Write + Send + Drop + 'static,
     D: LinkFolder<FI, FO> + Send + Sync + Drop + 'static,
     V: Write + Send + Drop + 'static,
@@ -196,7 +196,7 @@ fn run_named<
 /// Runs a router: its links, its operator and its history, until the operator quits or their lines end.
 pub fn run_router<
     R: Threads + Wait + Clock + Copy + Send + Drop + 'static,
-    FI: Read + Drop + 'static,
+    FI: Read + Send + Drop + 'static,
     FO: Write + Send + Drop + 'static,
     D: LinkFolder<FI, FO> + Send + Sync + Drop + 'static,
     V: Write + Send + Drop + 'static,

@@ -45,12 +45,12 @@ fn await_entries<R: Wait, J: Naming, E: Write>(
     shared: &Shared<J, E>,
     saved: usize,
 ) -> bool {
-    let mut board = shared.board.lock(rt);
+    let mut board = shared.signals.board.lock(rt);
     for _ in rt.forever() {
         if !board.rest_saver(saved as u64) {
             return board.is_closing();
         }
-        board = shared.saver_bell.wait(rt, board);
+        board = shared.signals.saver_bell.wait(rt, board);
     }
     unreachable!()
 }

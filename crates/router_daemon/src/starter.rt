@@ -5,7 +5,7 @@ ghost use Rattle.slot_lock.specs.Held.{IsPassOf};
 use crate::crew::LinkCrew;
 use crate::naming::{Naming, Ticket};
 use crate::room::{Order, Room};
-use crate::shared::Shared;
+use crate::signals::Signals;
 use message_streams::MessageWriter;
 use neighbour_session::Starter;
 use slot_lock::{Answer, Pass};
@@ -26,8 +26,8 @@ pub(crate) enum Given<J: Naming> {
 
 /// Who has a session of a link written, by the link's writer.
 #[derive(Drop)]
-pub(crate) struct WriterStarter<'a, O: Write, J: Naming, E: Write> {
-    pub(crate) shared: &'a Shared<J, E>,
+pub(crate) struct WriterStarter<'a, O: Write, J: Naming> {
+    pub(crate) signals: &'a Signals,
     pub(crate) room: &'a Room<O, J>,
     /// The link's number.
     pub(crate) link: usize,
@@ -35,10 +35,10 @@ pub(crate) struct WriterStarter<'a, O: Write, J: Naming, E: Write> {
     pub(crate) given: Given<J>,
 }
 
-impl<'a, O: Write + Drop, J: Naming, E: Write> Starter<O> for WriterStarter<'a, O, J, E> {
+impl<'a, O: Write + Drop, J: Naming> Starter<O> for WriterStarter<'a, O, J> {
     ghost serves = { λ _. J.router };
 
-    type Crew = LinkCrew<'a, J, E>;
+    type Crew = LinkCrew<'a>;
 
     fn begin<R: Wait + Clock>(
         &mut self,
@@ -47,11 +47,11 @@ impl<'a, O: Write + Drop, J: Naming, E: Write> Starter<O> for WriterStarter<'a, 
         answer: &Answer,
         output: MessageWriter<O>,
         pass: Pass,
-    ) -> Option<LinkCrew<'a, J, E>>
+    ) -> Option<LinkCrew<'a>>
         requires { IsPassOf J.router pass }
     {
         let ticket = Ticket::new(pass);
-        if !self.shared.begin(rt, self.link, session, answer) {
+        if !self.signals.begin(rt, self.link, session, answer) {
             self.given = Given::Left(ticket);
             return None;
         }
@@ -65,7 +65,7 @@ impl<'a, O: Write + Drop, J: Naming, E: Write> Starter<O> for WriterStarter<'a, 
             },
         );
         Some(LinkCrew {
-            shared: self.shared,
+            signals: self.signals,
             link: self.link,
             session,
         })

@@ -37,7 +37,7 @@ pub(crate) struct Links {
 /// Starts the thread of a link's writer. Whether it was started.
 fn start_writer<
     R: Threads + Wait + Clock + Copy + Send + Drop + 'static,
-    I: Read + Drop + 'static,
+    I: Read + Send + Drop + 'static,
     O: Write + Send + Drop + 'static,
     J: Naming + Send + Sync + 'static,
     E: Write + Send + Drop + 'static,
@@ -60,7 +60,7 @@ fn start_writer<
 /// Starts the thread of who keeps a link. Whether it was started.
 fn start_keeper<
     R: Threads + Wait + Clock + Copy + Send + Drop + 'static,
-    I: Read + Drop + 'static,
+    I: Read + Send + Drop + 'static,
     O: Write + Send + Drop + 'static,
     D: LinkFolder<I, O> + Send + Sync + Drop + 'static,
     J: Naming + Send + Sync + 'static,
@@ -86,7 +86,7 @@ fn start_keeper<
 /// Starts the threads of a link. Whether they were started.
 fn start_link<
     R: Threads + Wait + Clock + Copy + Send + Drop + 'static,
-    I: Read + Drop + 'static,
+    I: Read + Send + Drop + 'static,
     O: Write + Send + Drop + 'static,
     D: LinkFolder<I, O> + Send + Sync + Drop + 'static,
     J: Naming + Send + Sync + 'static,
@@ -109,7 +109,7 @@ fn start_link<
 /// Starts the threads of all links. Where one is not started, people are told, and the link stays down.
 pub(crate) fn start_links<
     R: Threads + Wait + Clock + Copy + Send + Drop + 'static,
-    I: Read + Drop + 'static,
+    I: Read + Send + Drop + 'static,
     O: Write + Send + Drop + 'static,
     D: LinkFolder<I, O> + Send + Sync + Drop + 'static,
     J: Naming + Send + Sync + 'static,

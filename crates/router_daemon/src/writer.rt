@@ -30,11 +30,11 @@ fn write_session<R: Wait + Clock, I: Read + Drop, O: Write + Drop, J: Naming, E:
     } = order;
     let mut pass = ticket.pass();
     let crew = LinkCrew {
-        shared,
+        signals: &shared.signals,
         link,
         session,
     };
-    let why = serve_writer::<R, I, O, LinkCrew<'_, J, E>>(
+    let why = serve_writer::<R, I, O, LinkCrew<'_>>(
         rt,
         alloc,
         &shared.router,
