@@ -3,6 +3,7 @@
 
 mod aid_words;
 mod classes;
+mod diff_words;
 mod filter_words;
 mod options;
 mod router_words;
@@ -11,6 +12,7 @@ mod terminals;
 mod words;
 
 pub use aid_words::{Aid, Checking, Engine, Importing, Running, Source};
+pub use diff_words::Comparing;
 pub use filter_words::{NamedFile, WrongFilter, filters_in};
 pub use router_words::RouterWords;
 pub use telling::{Telling, is_explained};
