@@ -72,9 +72,9 @@ fn filters_are_compared(rt: HostRuntime) -> Result<(), Fail> {
         },
         Row {
             old: TEN,
-            new: "filter b { if net ~ [ 10.0.0.0/8+ ] then { if rip_metric < 15 then rip_metric = 15; accept; } reject; }",
+            new: "filter b { if net ~ [ 10.0.0.0/8+ ] then { if rip_metric = 3 then rip_metric = 5; accept; } reject; }",
             limit: CLASS_LIMIT,
-            lines: "differ 10.0.0.0/8{8,32}, metrics 0..14: accept | accept 15\nsame on all other routes\n",
+            lines: "differ 10.0.0.0/8{8,32}, metrics 3..3: accept 3 | accept 5\nsame on all other routes\n",
             told: "",
             end: Compared::Differ,
         },
@@ -101,7 +101,15 @@ fn limits_leave_parts_undecided(rt: HostRuntime) -> Result<(), Fail> {
             old: TEN,
             new: "filter b { reject; }",
             limit: 12,
-            lines: "",
+            lines: "undecided 0.0.0.0/0{8,32}, metrics 0..16\nundecided on 1 part\n",
+            told: "",
+            end: Compared::Undecided,
+        },
+        Row {
+            old: TEN,
+            new: "filter b { reject; }",
+            limit: 25,
+            lines: "differ 10.0.0.0/8{8,8}, metrics 0..16: accept | reject\nundecided 0.0.0.0/0{9,32}, metrics 0..16\nundecided on 1 part\n",
             told: "",
             end: Compared::Differ,
         },
@@ -170,7 +178,8 @@ fn refusals_are_told_in_words(rt: HostRuntime) -> Result<(), Fail> {
         &mut lines,
         &mut told,
     );
-    let want = "a.filter:1:19: `;` expected (P2)\nfilter a { accept }\n                  ^\n";
+    let want =
+        "a.filter:1:19: expected a text or `;`, found `}` (P2)\nfilter a { accept }\n                  ^\n";
     assert_eq!(&rt; told.as_slice(), want.as_bytes());
     assert_eq!(&rt; lines.len(), 0);
     assert_eq!(&rt; end, Ok(Compared::Refused));
