@@ -1,7 +1,9 @@
 -- How a comparison of two named texts ends.
-use Rattle.std.proofs.Common.{◌≡◌, inl, inr, ℕ, Bool, false, List, Option, Some, None, Result, Ok, Err, IfOk, IfErr, [], append-nil, refl, sym, subst}
-use Rattle.std.specs.Io.KnownBytes.{Appends, Keeps}
+use Rattle.std.proofs.Common.{◌≡◌, inl, inr, ℕ, Bool, false, List, Option, Some, None, Result, Ok, Err, IfOk, IfErr, MatchResult, refl, sym, subst}
+use Rattle.std.specs.Result.{result_err}
+use Rattle.std.specs.Io.KnownBytes.{Keeps}
 use Rattle.filter_code.specs.CodeView.{CodeView}
+use Rattle.filter_commands.specs.Checking.{IsDiagnosis}
 use Rattle.filter_commands.specs.Faults.{stream_fault}
 use Rattle.filter_commands.specs.declared.fault.ProgramFault.{ProgramFault}
 use Rattle.filter_diff.specs.declared.part.Part.{Part}
@@ -11,8 +13,8 @@ use Rattle.filter_verifier.specs.Safe.{IsSafe}
 use Rattle.filter_verifier.specs.VerifiedView.{VerifiedView}
 use Rattle.line_protocol.specs.Runs.{AppendsFront}
 use Rattle.line_protocol.specs.declared.faults.StreamFault.{StreamFault}
-use Rattle.line_protocol.specs.declared.faults.StreamFault.TheVariants.{Memory, Write}
-use Rattle.filter_workbench.specs.Comparing.{AreParts, AreRefused, ComparesNamed, ComparesNamedOff, IsCutParts, IsCutTellingBoth, IsVerifiedOf, Named, TellsBoth, WritesParts}
+use Rattle.line_protocol.specs.declared.faults.StreamFault.TheVariants.{Write}
+use Rattle.filter_workbench.specs.Comparing.{AreParts, AreRefused, ComparesNamed, ComparesNamedOff, IsCutParts, IsCutTellingBoth, IsJudged, IsVerifiedOf, Named, TellsBoth, WritesParts}
 use Rattle.filter_workbench.specs.PartLines.{parts_text}
 use Rattle.filter_workbench.specs.declared.comparing.Compared.{Compared}
 use Rattle.filter_workbench.specs.declared.comparing.Compared.TheVariants as compared
@@ -22,11 +24,7 @@ keeps_self : (held : Option (List ℕ)) → Keeps held held
 keeps_self None = tt
 keeps_self (Some bytes) = refl
 
-nothing_more : (held : Option (List ℕ)) → Appends held held []
-nothing_more None = tt
-nothing_more (Some bytes) = sym (append-nil bytes)
-
-is_filter : (size : ℕ) (text : List ℕ) (v : VerifiedView) → (is : IsVerifiedOf size text v) → IsFilterOf text size is.filter
+abbrev is_filter : (size : ℕ) (text : List ℕ) (v : VerifiedView) → (is : IsVerifiedOf size text v) → IsFilterOf text size is.filter
 is_filter size text v is = record { program = v.program; translates = is.translates; safe = subst (IsSafe v.program) is.size_is is.safe }
 
 -- the lines of parts, and lines that are cut
@@ -37,13 +35,30 @@ parts_cut fault old new size parts text shown held holds is same text_is are cut
     subst (λ (f : StreamFault). IsCutParts f old new size held holds) (sym is)
     (inr (parts, are, subst (AppendsFront held holds) text_is (subst (AppendsFront held holds) same cut)))
 
-pub parts_lost : (old new : CodeView) (size : ℕ) (held : Option (List ℕ)) → IsCutParts Memory old new size held held
-parts_lost old new size held = inl (refl, nothing_more held)
+-- what is told of a text, where it is judged so
+judged : (size : ℕ) (text : List ℕ) (r : Result VerifiedView Diagnosis) → MatchResult r (IsVerifiedOf size text) (IsDiagnosis size false text)
+    → IsJudged size text (result_err r)
+judged size text (Ok v) h = (h.filter, is_filter size text v h)
+judged size text (Err told) h = h
+
+pub second_refused : (size : ℕ) (old new : Named) (v : VerifiedView) (told : Diagnosis) → IsVerifiedOf size old.text v
+    → IsDiagnosis size false new.text told → AreRefused size old new None (Some told)
+second_refused size old new v told is_v h = record {
+  old_judged = (is_v.filter, is_filter size old.text v is_v);
+  new_judged = h;
+  refused = λ first second. cc;
+}
+
+pub first_refused : (size : ℕ) (old new : Named) (told : Diagnosis) (r : Result VerifiedView Diagnosis) (after : Option Diagnosis)
+    → after ≡ result_err r → IsDiagnosis size false old.text told
+    → MatchResult r (IsVerifiedOf size new.text) (IsDiagnosis size false new.text) → AreRefused size old new (Some told) after
+first_refused size old new told r after is h g = record {
+  old_judged = h;
+  new_judged = subst (IsJudged size new.text) (sym is) (judged size new.text r g);
+  refused = λ first. absurd (let no : ⊥ = cc in no);
+}
 
 module _ (size : ℕ) (is_explained : Bool) (old new : Named) where
-  pub no_memory : (held tells : Option (List ℕ)) → ComparesNamedOff Memory size is_explained old new held held tells tells
-  no_memory held tells = inl (refl, nothing_more held, keeps_self tells)
-
   -- both texts give verified code
   module _ (v w : VerifiedView) (is_v : IsVerifiedOf size old.text v) (is_w : IsVerifiedOf size new.text w)
       (held holds tells : Option (List ℕ)) where

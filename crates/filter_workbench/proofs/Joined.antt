@@ -1,6 +1,5 @@
 -- Parts that are joined are parts of the same codes.
-use Rattle.std.proofs.Common.{◌≡◌, ◌⊎◌, inl, inr, ℕ, List, Result, Ok, Err, IfOk}
-use Rattle.std.specs.Prelude.{Vec}
+use Rattle.std.proofs.Common.{◌≡◌, ◌⊎◌, inl, inr, ℕ, List, Result, Ok, Err, IfOk, Vec, Global}
 use Rattle.filter_code.specs.CodeView.{CodeView}
 use Rattle.filter_code.specs.RouteView.{RouteView}
 use Rattle.filter_diff.specs.Joins.{StandFor}
@@ -21,7 +20,7 @@ parts_joined old new size parts others stand are = record {
   real = stand.real size are.real;
 }
 
-pub all_joined : {E : Type 0} (old new : CodeView) (size : ℕ) (others : List Part) (r : Result (Vec Part) E)
+pub all_joined : {E : Type 0} (old new : CodeView) (size : ℕ) (others : List Part) (r : Result (Vec Part Global) E)
     → IfOk r (λ joined. StandFor joined.items others) → AreParts old new size others → IfOk r (λ joined. AreParts old new size joined.items)
 all_joined old new size others (Ok joined) stand are = parts_joined old new size joined.items others stand are
 all_joined old new size others (Err why) stand are = tt

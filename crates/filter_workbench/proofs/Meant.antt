@@ -107,10 +107,10 @@ pub one_differs : (f g : FilterView) (size : ℕ) (parts : List Part) → ArePar
 one_differs f g size parts are e =
     let any = Any-from_list_any differs parts (one_of parts e) in
     let at = any.0 in
-    let part = any.1.0 in
-    let within = any.1.1.0 in
-    let is = any.1.1.1.0 in
-    let is_one = any.1.1.1.1 in
+    let part = any.1 in
+    let within = any.2 in
+    let is = any.3 in
+    let is_one = any.4 in
     let some : HasRoute size part = subst (HasRoute size) is (are.some at part within) in
     let sound = subst (λ (p : Part). (route : RouteView) → IsRouteOf size route → Has p route → HoldsOf f g p.finding route) is
     (are.sound at part within) in

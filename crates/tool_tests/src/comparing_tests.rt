@@ -42,114 +42,120 @@ fn expect_row(rt: &impl Abort, alloc: Global, row: &Row) -> Result<(), Fail> {
     Ok(())
 }
 
+/// Two filters that do the same with every route, and those that differ.
+const COMPARED: [Row; 4] = [
+    Row {
+        old: TEN,
+        new: TEN,
+        limit: CLASS_LIMIT,
+        lines: "same on all routes\n",
+        told: "",
+        end: Compared::Same,
+    },
+    Row {
+        old: TEN,
+        new: "filter b { if net ~ [ 10.0.0.0/9+, 10.128.0.0/9+, 10.0.0.0/8 ] then { rip_metric = rip_metric + 0; accept; } }",
+        limit: CLASS_LIMIT,
+        lines: "same on all routes\n",
+        told: "",
+        end: Compared::Same,
+    },
+    Row {
+        old: TEN,
+        new: "filter b { if net ~ [ 10.0.0.0/8+, 172.16.0.0/12{13,24} ] then accept; reject; }",
+        limit: CLASS_LIMIT,
+        lines: "differ 172.16.0.0/12{13,24}, metrics 0..16: reject | accept\nsame on all other routes\n",
+        told: "",
+        end: Compared::Differ,
+    },
+    Row {
+        old: TEN,
+        new: "filter b { if net ~ [ 10.0.0.0/8+ ] then { if rip_metric = 3 then rip_metric = 5; accept; } reject; }",
+        limit: CLASS_LIMIT,
+        lines: "differ 10.0.0.0/8{8,32}, metrics 3..3: accept 3 | accept 5\nsame on all other routes\n",
+        told: "",
+        end: Compared::Differ,
+    },
+];
+
 /// Two filters that do the same with every route, however they are written, have one line; those that differ a line for each part.
 #[test]
 fn filters_are_compared(rt: HostRuntime) -> Result<(), Fail> {
-    let rows = [
-        Row {
-            old: TEN,
-            new: TEN,
-            limit: CLASS_LIMIT,
-            lines: "same on all routes\n",
-            told: "",
-            end: Compared::Same,
-        },
-        Row {
-            old: TEN,
-            new: "filter b { if net ~ [ 10.0.0.0/9+, 10.128.0.0/9+, 10.0.0.0/8 ] then { rip_metric = rip_metric + 0; accept; } }",
-            limit: CLASS_LIMIT,
-            lines: "same on all routes\n",
-            told: "",
-            end: Compared::Same,
-        },
-        Row {
-            old: TEN,
-            new: "filter b { if net ~ [ 10.0.0.0/8+, 172.16.0.0/12{13,24} ] then accept; reject; }",
-            limit: CLASS_LIMIT,
-            lines: "differ 172.16.0.0/12{13,24}, metrics 0..16: reject | accept\nsame on all other routes\n",
-            told: "",
-            end: Compared::Differ,
-        },
-        Row {
-            old: TEN,
-            new: "filter b { if net ~ [ 10.0.0.0/8+ ] then { if rip_metric = 3 then rip_metric = 5; accept; } reject; }",
-            limit: CLASS_LIMIT,
-            lines: "differ 10.0.0.0/8{8,32}, metrics 3..3: accept 3 | accept 5\nsame on all other routes\n",
-            told: "",
-            end: Compared::Differ,
-        },
-    ];
-    for row in &rows {
+    for row in &COMPARED {
         expect_row(&rt, rt.alloc(), row)?;
     }
     Ok(())
 }
+
+/// Filters that are compared within a small limit.
+const LIMITED: [Row; 3] = [
+    Row {
+        old: TEN,
+        new: TEN,
+        limit: 0,
+        lines: "undecided 0.0.0.0/0{0,32}, metrics 0..16\nundecided on 1 part\n",
+        told: "",
+        end: Compared::Undecided,
+    },
+    Row {
+        old: TEN,
+        new: "filter b { reject; }",
+        limit: 12,
+        lines: "undecided 0.0.0.0/0{8,32}, metrics 0..16\nundecided on 1 part\n",
+        told: "",
+        end: Compared::Undecided,
+    },
+    Row {
+        old: TEN,
+        new: "filter b { reject; }",
+        limit: 25,
+        lines: "differ 10.0.0.0/8{8,8}, metrics 0..16: accept | reject\nundecided 0.0.0.0/0{9,32}, metrics 0..16\nundecided on 1 part\n",
+        told: "",
+        end: Compared::Differ,
+    },
+];
 
 /// Where the limit is reached, what is left is undecided, and nothing is called the same.
 #[test]
 fn limits_leave_parts_undecided(rt: HostRuntime) -> Result<(), Fail> {
-    let rows = [
-        Row {
-            old: TEN,
-            new: TEN,
-            limit: 0,
-            lines: "undecided 0.0.0.0/0{0,32}, metrics 0..16\nundecided on 1 part\n",
-            told: "",
-            end: Compared::Undecided,
-        },
-        Row {
-            old: TEN,
-            new: "filter b { reject; }",
-            limit: 12,
-            lines: "undecided 0.0.0.0/0{8,32}, metrics 0..16\nundecided on 1 part\n",
-            told: "",
-            end: Compared::Undecided,
-        },
-        Row {
-            old: TEN,
-            new: "filter b { reject; }",
-            limit: 25,
-            lines: "differ 10.0.0.0/8{8,8}, metrics 0..16: accept | reject\nundecided 0.0.0.0/0{9,32}, metrics 0..16\nundecided on 1 part\n",
-            told: "",
-            end: Compared::Differ,
-        },
-    ];
-    for row in &rows {
+    for row in &LIMITED {
         expect_row(&rt, rt.alloc(), row)?;
     }
     Ok(())
 }
 
+/// Texts that are refused.
+const REFUSED: [Row; 3] = [
+    Row {
+        old: "filter a { accept }",
+        new: TEN,
+        limit: CLASS_LIMIT,
+        lines: "",
+        told: "a.filter: refused P2 18\n",
+        end: Compared::Refused,
+    },
+    Row {
+        old: TEN,
+        new: "filter b { if 8 / rip_metric = 2 then accept; }",
+        limit: CLASS_LIMIT,
+        lines: "",
+        told: "b.filter: refused V3 2\n",
+        end: Compared::Refused,
+    },
+    Row {
+        old: "filter a { x = 1; }",
+        new: "filter b { accept }",
+        limit: CLASS_LIMIT,
+        lines: "",
+        told: "a.filter: refused Y1 11\nb.filter: refused P2 18\n",
+        end: Compared::Refused,
+    },
+];
+
 /// Each text that is refused is told under its name, and nothing is compared.
 #[test]
 fn refused_texts_are_told(rt: HostRuntime) -> Result<(), Fail> {
-    let rows = [
-        Row {
-            old: "filter a { accept }",
-            new: TEN,
-            limit: CLASS_LIMIT,
-            lines: "",
-            told: "a.filter: refused P2 18\n",
-            end: Compared::Refused,
-        },
-        Row {
-            old: TEN,
-            new: "filter b { if 8 / rip_metric = 2 then accept; }",
-            limit: CLASS_LIMIT,
-            lines: "",
-            told: "b.filter: refused V3 2\n",
-            end: Compared::Refused,
-        },
-        Row {
-            old: "filter a { x = 1; }",
-            new: "filter b { accept }",
-            limit: CLASS_LIMIT,
-            lines: "",
-            told: "a.filter: refused Y1 11\nb.filter: refused P2 18\n",
-            end: Compared::Refused,
-        },
-    ];
-    for row in &rows {
+    for row in &REFUSED {
         expect_row(&rt, rt.alloc(), row)?;
     }
     Ok(())
