@@ -1,5 +1,5 @@
 -- What parts say of codes they say of the filters that the codes are of.
-use Rattle.std.proofs.Common.{◌≡◌, ◌⊎◌, inl, inr, ℕ, Bool, true, false, List, [], ◌∷◌, refl, sym, ◌∙◌, subst, if◌then◌else◌}
+use Rattle.std.proofs.Common.{◌≡◌, ◌⊎◌, inl, inr, ℕ, Bool, true, false, List, [], ◌∷◌, All, refl, sym, ◌∙◌, ap, subst, if◌then◌else◌}
 use Rattle.std.specs.Prelude.{◌≢◌}
 use Rattle.std.specs.List.{list_any}
 use Rattle.std.proofs.lemmas.List.Elements.{All-weaker}
@@ -15,6 +15,7 @@ use Rattle.filter_diff.proofs.Witness.{has_route}
 use Rattle.filter_diff.specs.Answers.{answer_of, differs}
 use Rattle.filter_diff.specs.Endings.{outcome_at}
 use Rattle.filter_diff.specs.Parts.{Has, HasRoute, Holds, InOne, IsIn, IsReal, IsSame, IsTrueOf, is_difference}
+use Rattle.filter_diff.specs.declared.answer.Answer.{Answer}
 use Rattle.filter_diff.specs.declared.answer.Answer.TheVariants as answer
 use Rattle.filter_diff.specs.declared.part.Finding.{Finding}
 use Rattle.filter_diff.specs.declared.part.Finding.TheVariants as finding
