@@ -9,11 +9,11 @@ returns-in-Diff-clause-stopped g c =
 pub returns-in-RunJoined-clause-finished : goal.returns-in-RunJoined-clause-finished
 returns-in-RunJoined-clause-finished g c =
     joined (g.F.Folder.opens c.args.files.now) (g.F.Folder.creates c.args.files.now) c.args.aid.now _ _ c.guide_sources.result
-    c.in-RunJoined.how c.in-RunJoined.sources c.as_slice-sources.result.now c.in-RunJoined.is c.as_slice-sources.ensures.value
+    c.in-RunJoined.how c.in-RunJoined.sources c.as_slice-sources-in-RunJoined.result.now c.in-RunJoined.is c.as_slice-sources-in-RunJoined.ensures.value
     c.guide_sources.ensures.finished
 
 pub returns-in-RunJoined-clause-stopped : goal.returns-in-RunJoined-clause-stopped
 returns-in-RunJoined-clause-stopped g c =
     stopped_joined (g.F.Folder.opens c.args.files.now) (g.F.Folder.creates c.args.files.now) c.args.aid.now _ _ c.guide_sources.result
-    c.in-RunJoined.how c.in-RunJoined.sources c.as_slice-sources.result.now c.in-RunJoined.is c.as_slice-sources.ensures.value
+    c.in-RunJoined.how c.in-RunJoined.sources c.as_slice-sources-in-RunJoined.result.now c.in-RunJoined.is c.as_slice-sources-in-RunJoined.ensures.value
     c.guide_sources.ensures.stopped
