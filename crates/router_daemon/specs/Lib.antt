@@ -6,3 +6,4 @@ pub mod Told
 pub mod Links
 pub mod Names
 pub mod Passes
+pub mod Saves

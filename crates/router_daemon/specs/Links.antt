@@ -11,7 +11,7 @@ use Rattle.router_daemon.specs.Passes.{TakesBack}
 -- a session with a neighbour, served by anybody
 abbrev pub KeepsSession : RouterView → Domain → ℕ → ReaderView → WriterView → PassView → SessionEnd → PassView → Type 0
 KeepsSession r d neighbour input output old why new =
-    Keeps {Unit {0}} (λ _ _. ⊤) (λ _ _. ⊤) r d neighbour input output old why new
+    Keeps {Crew = Unit {0}} (λ _ _. ⊤) (λ _ _. ⊤) r d neighbour input output old why new
 
 -- One session of a link: of a neighbour that does not greet as it has to nothing is entered, and of one that does, all that it says. The
 -- pass of who wrote comes back.

@@ -4,7 +4,7 @@ ghost use Rattle.slot_lock.specs.Held.{IsPassOf};
 ghost use Rattle.router_daemon.specs.Passes.{IsLegalPass};
 
 use slot_lock::Pass;
-use std::marker::{Brand, PhantomData};
+use std::marker::{Brand, Model, PhantomData};
 
 /// Which router it is that threads call. What one thread hands another is of that router, as its type says.
 pub(crate) trait Naming {
@@ -49,19 +49,29 @@ impl<J: Naming> Ticket<J> {
     }
 }
 
-/// A pass of the router that has seen a legal history, as threads hand it on.
+/// A pass of the router that has seen a legal history, as threads hand it on. A contract sees it as its pass.
 #[derive(Drop)]
 pub(crate) struct LegalTicket<J: Naming> {
-    pub(crate) pass: Pass,
+    pass: Pass,
     of: PhantomData<J>,
-    pub(crate) ghost is_legal: { IsLegalPass J.router pass },
+}
+
+impl<J: Naming> Model for LegalTicket<J> {
+    ghost use Rattle.slot_lock.specs.Held.{PassView};
+    ghost use Rattle.router_daemon.specs.Passes.{IsLegalPass};
+
+    ghost Value = { PassView };
+
+    ghost view = { λ t. t.pass };
+
+    ghost invariant = { λ t. IsLegalPass J.router t.pass };
 }
 
 impl<J: Naming> LegalTicket<J> {
     /// A pass, to be handed on.
     pub(crate) fn new(pass: Pass) -> LegalTicket<J>
         requires { IsLegalPass J.router pass }
-        ensures { result.pass ≡ pass }
+        ensures { result ≡ pass }
     {
         LegalTicket {
             pass,
@@ -72,7 +82,7 @@ impl<J: Naming> LegalTicket<J> {
     /// The pass that was handed on.
     pub(crate) fn pass(self) -> Pass
         ensures legal { IsLegalPass J.router result }
-        ensures same { result ≡ self.pass }
+        ensures same { result ≡ self }
     {
         let LegalTicket { pass, .. } = self;
         pass

@@ -63,7 +63,7 @@ fn end_saving<R: Threads, V: Write + Drop, J: Naming>(
     let Some(saving) = saving else {
         return Ok(None);
     };
-    let Saved { saver, .. } = saving.join(rt);
+    let saver = saving.join(rt).saver();
     match saver.fault() {
         Some(fault) => Err(fault),
         None => Ok(Some(saver)),

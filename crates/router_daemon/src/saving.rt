@@ -2,6 +2,7 @@
 ghost use Rattle.std.specs.Prelude.{◌≡◌, IfOk, length, Some, None};
 ghost use Rattle.history_saver.specs.Saved.{HasSaved, seen_by};
 ghost use Rattle.router_daemon.specs.Passes.{IsLegalPass};
+ghost use Rattle.router_daemon.specs.Running.{HasWhole};
 
 use crate::naming::{LegalTicket, Naming};
 use crate::shared::Shared;
@@ -10,6 +11,7 @@ use history_saver::{SaveFault, Saver};
 use slot_lock::Pass;
 use std::alloc::Global;
 use std::io::Write;
+use std::marker::{Model, PhantomData};
 use std::rt::Clock;
 use std::sync::{Arc, Wait};
 use std::snapshot::Snapshot;
@@ -20,13 +22,34 @@ use std::time::Duration;
 /// For how many milliseconds the history grows before it is saved again.
 const REST: u64 = 50;
 
-/// What was saved: the saver, and the pass by which it saved. Where no fault ended the saving, it is all that the pass has seen.
+/// What was saved: the saver, and the pass by which it saved. Where no fault ended the saving, it is all that the pass has seen. A
+/// contract sees it as a `SavedView`.
 #[derive(Drop)]
 pub(crate) struct Saved<V: Write, J: Naming> {
-    pub(crate) saver: Saver<V>,
-    pub(crate) ticket: LegalTicket<J>,
-    pub(crate) ghost has: { HasSaved saver (seen_by J.router ticket.pass) },
-    pub(crate) ghost all: { saver.fault ≡ None → saver.saved ≡ Some (length ticket.pass.part.seen) },
+    saver: Saver<V>,
+    pass: Pass,
+    of: PhantomData<J>,
+}
+
+impl<V: Write, J: Naming> Model for Saved<V, J> {
+    ghost use Rattle.router_daemon.specs.Saves.{IsSaved, SavedView};
+
+    ghost Value = { SavedView };
+
+    ghost view = { λ s. record { saver = s.saver; pass = s.pass } };
+
+    ghost invariant = { λ s. IsSaved J.router s.saver s.pass };
+}
+
+impl<V: Write, J: Naming> Saved<V, J> {
+    /// The saver.
+    pub(crate) fn saver(self) -> Saver<V>
+        ensures same { result ≡ self.saver }
+        ensures whole { result.fault ≡ None → HasWhole J.router.opening J.router.limit result.first result }
+    {
+        let Saved { saver, .. } = self;
+        saver
+    }
 }
 
 /// What was saved is in this file.
@@ -74,9 +97,9 @@ fn save_all<R: Wait + Clock, V: Write, J: Naming, E: Write>(
     saver: &mut Saver<V>,
     pass: &mut Pass,
 )
-    requires of { IsLegalPass J.router pass.old }
+    requires legal { IsLegalPass J.router pass.old }
     requires saved { HasSaved saver.old (seen_by J.router pass.old) }
-    ensures of { IsLegalPass J.router pass.new }
+    ensures legal { IsLegalPass J.router pass.new }
     ensures saved { HasSaved saver.new (seen_by J.router pass.new) }
     ensures first { saver.new.first ≡ saver.old.first }
     ensures all { saver.new.fault ≡ None → saver.new.saved ≡ Some (length pass.new.part.seen) }
@@ -111,6 +134,7 @@ pub(crate) fn save_history<R: Wait + Clock + Drop, V: Write + Drop, J: Naming, E
     save_all(&rt, alloc, &shared, &mut saver, &mut pass);
     Saved {
         saver,
-        ticket: LegalTicket::new(pass),
+        pass,
+        of: PhantomData,
     }
 }
