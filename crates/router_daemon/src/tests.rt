@@ -157,6 +157,7 @@ fn two_routers(rt: HostRuntime) -> Result<(), Fail> {
     };
     let setting = setting_of(alloc, 0, "1=a,b", saving)?;
     let other = setting_of(alloc, 1, "0=b,a", other_saving)?;
+    let both = Barrier::new(2);
     let (a, b) = thread::join(
         &rt,
         || run_node(&rt, alloc, setting, zero, b"show 1\n", "route 1 via 1\n", &both),
