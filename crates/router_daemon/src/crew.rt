@@ -19,12 +19,7 @@ pub(crate) struct LinkCrew<'a> {
 }
 
 /// Lets the writer of a link sleep until something waits for the neighbour: true then, and false where its session is over.
-fn await_queued<R: Wait>(
-    rt: &R,
-    signals: &Signals,
-    link: usize,
-    session: u32,
-) -> bool {
+fn await_queued<R: Wait>(rt: &R, signals: &Signals, link: usize, session: u32) -> bool {
     let Some(bell) = signals.bells.get(link) else {
         return false;
     };

@@ -1,19 +1,19 @@
 //! Who keeps a link.
-ghost use Rattle.std.specs.Prelude.{◌≡◌};
+ghost use Rattle.std.specs.Prelude.{◌≡◌, ◌<◌, ⊤};
 ghost use Rattle.slot_lock.specs.Held.{IsPassOf};
-ghost use Rattle.router_daemon.specs.Links.{AreFresh, KeepsOnce, Serves};
-ghost use Rattle.router_daemon.specs.Passes.{TakesBack};
+ghost use Rattle.router_daemon.specs.Links.{AreFresh, KeepsOnce, Serves, ServesNeighbour};
+ghost use Rattle.neighbour_session.specs.Reading.{Hears};
 
+use crate::crew::LinkCrew;
 use crate::folder::LinkFolder;
 use crate::naming::{Naming, Ticket};
-use crate::room::Room;
+use crate::room::{Order, Room};
 use crate::shared::Shared;
-use crate::starter::{Given, WriterStarter};
 use crate::telling::{tell_end, tell_unopened};
 use message_streams::{MessageReader, MessageWriter};
-use neighbour_session::{Domain, SessionEnd, keep_session};
+use neighbour_session::{Domain, SessionEnd, abandon_session, enter_up, greet, serve_reader};
 use router_options::LinkFiles;
-use slot_lock::{Pass, Router};
+use slot_lock::Pass;
 use std::alloc::Global;
 use std::io::{self, BufReader, Read, Write};
 use std::rt::Clock;
@@ -128,43 +128,48 @@ fn tell_of_file<R: Wait, J: Naming, E: Write>(
     tell_unopened(alloc, &mut *errors, node, unopened.name, &unopened.why);
 }
 
-/// Takes back the pass of who wrote a session, when they are done. Tells why the session is over if they found it.
-fn take_back<R: Wait, O: Write + Drop, J: Naming, E: Write>(
+/// Serves a session of a link that began: orders that it is written, enters what the neighbour says, and waits until nobody uses the
+/// streams any more. Tells why it is over. Why it is, and the pass of who wrote.
+fn serve_begun<R: Wait + Clock, I: Read + Drop, O: Write + Drop, J: Naming, E: Write>(
     rt: &R,
     alloc: Global,
     shared: &Shared<J, E>,
     room: &Room<O, J>,
-    node: u16,
-    why: SessionEnd,
-    given: Given<J>,
-) -> Option<Ticket<J>> {
-    match given {
-        Given::None => None,
-        Given::Left(ticket) => Some(ticket),
-        Given::Ordered => {
-            let done = room.await_done(rt);
-            if why == SessionEnd::Closed {
-                tell_unless_closed(rt, alloc, shared, node, done.why);
-            }
-            Some(done.ticket)
-        }
-    }
-}
-
-/// Makes two passes one, if there is another.
-fn join<J: Naming>(router: &Router, pass: &mut Pass, other: Option<Ticket<J>>)
-    requires named { router.now ≡ J.router }
-    requires of { IsPassOf J.router pass.old }
+    link: &Link,
+    input: MessageReader<I>,
+    order: Order<O, J>,
+    pass: &mut Pass,
+) -> (SessionEnd, Ticket<J>)
+    requires { IsPassOf J.router pass.old }
     ensures of { IsPassOf J.router pass.new }
-    ensures back { TakesBack pass.old pass.new }
+    ensures hears { Hears (λ _. ⊤) (λ _. ⊤) J.router order.session pass.old input result.0 pass.new }
 {
-    if let Some(ticket) = other {
-        router.join(pass, ticket.pass());
+    let (node, session) = (link.files.node, order.session);
+    room.put_order(rt, order);
+    let crew = LinkCrew {
+        signals: &shared.signals,
+        link: link.index,
+        session,
+    };
+    let why = serve_reader::<R, I, O, LinkCrew<'_>>(
+        rt,
+        &shared.router,
+        pass,
+        session,
+        input,
+        &crew,
+    );
+    tell_unless_closed(rt, alloc, shared, node, why);
+    let done = room.await_done(rt);
+    if why == SessionEnd::Closed {
+        tell_unless_closed(rt, alloc, shared, node, done.why);
     }
+    (why, done.ticket)
 }
 
-/// Serves one session over the streams of a link, until nobody uses them any more. Says whether the link can be opened again.
-fn serve_link<R: Wait + Clock, I: Read + Drop, O: Write + Drop, J: Naming, E: Write>(
+/// Serves a neighbour that greeted as it has to: enters its Up, has the session written, enters what it says, and enters Down when it
+/// is over. Why it is.
+fn serve_neighbour<R: Wait + Clock, I: Read + Drop, O: Write + Drop, J: Naming, E: Write>(
     rt: &R,
     alloc: Global,
     shared: &Shared<J, E>,
@@ -173,32 +178,60 @@ fn serve_link<R: Wait + Clock, I: Read + Drop, O: Write + Drop, J: Naming, E: Wr
     input: MessageReader<I>,
     output: MessageWriter<O>,
     pass: &mut Pass,
-) -> bool
+) -> SessionEnd
+    requires of { IsPassOf J.router pass.old }
+    requires shares { 1 < pass.old.part.shares }
+    ensures of { IsPassOf J.router pass.new }
+    ensures served { ServesNeighbour J.router link.now.files.node input pass.old result pass.new }
+{
+    let opened = enter_up(rt, &shared.router, pass, link.files.node);
+    let (session, answer) = match opened {
+        Ok(opened) => opened,
+        Err(why) => {
+            tell_unless_closed(rt, alloc, shared, link.files.node, why);
+            return why;
+        }
+    };
+    let ticket = Ticket::new(shared.router.split(pass, 1));
+    let (why, ticket) = if shared.signals.begin(rt, link.index, session, &answer) {
+        let order = Order {
+            session,
+            output,
+            ticket,
+        };
+        serve_begun(rt, alloc, shared, room, link, input, order, pass)
+    } else {
+        (abandon_session(rt, &shared.router, pass, session), ticket)
+    };
+    shared.router.join(pass, ticket.pass());
+    why
+}
+
+/// Serves one session over the streams of a link, until nobody uses them any more: greets the neighbour first. Why it is over.
+fn serve_link<R: Wait + Clock, I: Read + Drop, O: Write + Drop, J: Naming, E: Write>(
+    rt: &R,
+    alloc: Global,
+    shared: &Shared<J, E>,
+    room: &Room<O, J>,
+    link: &Link,
+    mut input: MessageReader<I>,
+    mut output: MessageWriter<O>,
+    pass: &mut Pass,
+) -> SessionEnd
     requires { IsPassOf J.router pass.old }
     ensures of { IsPassOf J.router pass.new }
     ensures serves { Serves J.router link.now.domain link.now.files.node input output pass.old result pass.new }
 {
-    let node = link.files.node;
-    let mut starter = WriterStarter {
-        signals: &shared.signals,
-        room,
-        link: link.index,
-        given: Given::None,
-    };
-    let why = keep_session(
-        rt,
-        &shared.router,
-        pass,
-        link.domain,
-        node,
-        input,
-        output,
-        &mut starter,
-    );
-    tell_unless_closed(rt, alloc, shared, node, why);
-    let back = take_back(rt, alloc, shared, room, node, why, starter.given);
-    join(&shared.router, pass, back);
-    why.can_be_opened_again()
+    if pass.shares() < 2 {
+        return SessionEnd::NotStarted;
+    }
+    match greet(&mut input, &mut output, link.domain, link.files.node) {
+        Ok(()) => serve_neighbour(rt, alloc, shared, room, link, input, output, pass),
+        Err(why) => {
+            tell_unless_closed(rt, alloc, shared, link.files.node, why);
+            why
+        }
+    }
 }
 
 /// Opens a link, and serves one session. Says whether it can be opened again.
@@ -224,7 +257,7 @@ fn keep_once<
 {
     match open_streams::<I, O, D>(folder, alloc, link) {
         Ok(Streams { input, output }) => {
-            serve_link(rt, alloc, shared, room, link, input, output, pass)
+            serve_link(rt, alloc, shared, room, link, input, output, pass).can_be_opened_again()
         }
         Err(unopened) => {
             tell_of_file(rt, alloc, shared, link.files.node, &unopened);

@@ -19,7 +19,6 @@ mod saving;
 mod setting;
 mod shared;
 mod signals;
-mod starter;
 mod starting;
 mod telling;
 #[cfg(test)]

@@ -2,11 +2,11 @@
 ghost use Rattle.std.specs.Prelude.{◌≡◌, IfOk};
 ghost use Rattle.router_daemon.specs.Passes.{IsLegalPass};
 
+use crate::fault::DaemonFault;
 use crate::folder::LinkFolder;
 use crate::keeper::{Link, keep_link};
 use crate::naming::{LegalTicket, Naming, Ticket};
 use crate::room::Room;
-use crate::fault::DaemonFault;
 use crate::saving::{IsIn, Saved, save_history};
 use crate::shared::Shared;
 use crate::telling::tell_unstarted;

@@ -160,8 +160,24 @@ fn two_routers(rt: HostRuntime) -> Result<(), Fail> {
     let both = Barrier::new(2);
     let (a, b) = thread::join(
         &rt,
-        || run_node(&rt, alloc, setting, zero, b"show 1\n", "route 1 via 1\n", &both),
-        || run_node(&rt, alloc, other, one, b"show 0\n", "route 1 via 0\n", &both),
+        || run_node(
+            &rt,
+            alloc,
+            setting,
+            zero,
+            b"show 1\n",
+            "route 1 via 1\n",
+            &both,
+        ),
+        || run_node(
+            &rt,
+            alloc,
+            other,
+            one,
+            b"show 0\n",
+            "route 1 via 0\n",
+            &both,
+        ),
     );
     assert!(rt; a.is_ok_and(|a| a) && b.is_ok_and(|b| b));
     let mut text = String::new(alloc);
