@@ -7,3 +7,5 @@ mod Rows
 pub mod HeadWords
 pub mod Harmless
 pub mod Indents
+mod Warned
+mod Unslashed

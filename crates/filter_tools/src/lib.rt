@@ -6,6 +6,7 @@ mod explanation;
 mod filter;
 mod finding;
 mod head_word;
+mod host_bits;
 mod laws;
 mod listing;
 mod named;
