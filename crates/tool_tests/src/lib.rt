@@ -12,4 +12,6 @@ mod listing_tests;
 #[cfg(test)]
 mod mistake_tests;
 #[cfg(test)]
+mod warning_tests;
+#[cfg(test)]
 mod words_tests;
