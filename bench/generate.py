@@ -16,6 +16,8 @@ or a code file in hexadecimal, or one of these texts, which are written alone (R
 
     text_of_sets         60 KB: 27 sets or more, each of 100 patterns
     text_of_expressions  60 KB: assignments of arithmetic, conditions, and the accept of a metric
+    text_of_case         2 KB: the filter whose code is that of case_of_64
+    text_of_labels       60 KB: a `case` of 64 parts, whose labels have some 60 ranges each
 
 ROUTES is the number of route lines (100,000 for `straight_filter`, 200,000 otherwise),
 SEED the seed of the generator (1), SIZE the size of each network (2 to 250; without it sizes differ). The same words give the same bytes on every machine: the numbers come from a small
@@ -31,6 +33,8 @@ REFUSED_ONE_IN = 500
 PATTERNS = 1_024
 PATTERNS_OF_A_TEXT = 100
 TEXT_BYTES = 60_000
+PARTS = 64
+RANGES_OF_A_LABEL = 58
 LEAST_INSTRUCTIONS = 990
 
 
@@ -121,13 +125,18 @@ def set_of_1024(patterns):
     return file_of(0, [patterns], [NET, with_byte(MEMBER, 0), jump(JUMPIFNOT, 1), ACCEPT, REJECT])
 
 
+def label_of(part):
+    """The three ranges of a label of `case_of_64`."""
+    return [(part, part), (PARTS + part, PARTS + part), (1000 + 2 * part, 1001 + 2 * part)]
+
+
 def case_of_64():
     """`case rip_metric { .. }`, as `check` compiles it: of 64 parts, half accept and half reject, and so does what comes after the `case`."""
-    labels = [[(part, part), (64 + part, 64 + part), (1000 + 2 * part, 1001 + 2 * part)] for part in range(64)]
     code = []
-    for part in range(64):
-        code += [METRIC, with_byte(INSET, part), jump(JUMPIFNOT, 2), ACCEPT if part % 2 else REJECT, jump(JUMP, 5 * (63 - part))]
-    return file_of(0, [], code + [REJECT], labels)
+    for part in range(PARTS):
+        verdict = ACCEPT if part % 2 else REJECT
+        code += [METRIC, with_byte(INSET, part), jump(JUMPIFNOT, 2), verdict, jump(JUMP, 5 * (PARTS - 1 - part))]
+    return file_of(0, [], code + [REJECT], [label_of(part) for part in range(PARTS)])
 
 
 CODES = {
@@ -311,12 +320,40 @@ def assignments(numbers):
         yield f"{numbers.one_of(('', '', test))}{numbers.one_of('abc')} = {written_sum(numbers)};"
 
 
+def written_range(bounds):
+    low, high = bounds
+    return str(low) if low == high else f"{low}..{high}"
+
+
+def text_of_case(labels):
+    """A filter that is a `case` of the metric. Of its parts half accept and half reject."""
+    text = "filter generated\n{\n  case rip_metric {\n"
+    for part, ranges in enumerate(labels):
+        text += f"    {', '.join(map(written_range, ranges))}: {'accept' if part % 2 else 'reject'};\n"
+    return f"{text}  }}\n}}\n"
+
+
+def labels_of_ranges(numbers):
+    """The labels of a `case`: ranges one after another, each in a label of its own."""
+    labels, next_low = [[] for _ in range(PARTS)], 0
+    for at in range(PARTS * RANGES_OF_A_LABEL):
+        low = next_low + numbers.below(100_000)
+        high = low + numbers.one_of((0, numbers.below(100_000)))
+        labels[at % PARTS].append((low, high))
+        next_low = high + 1
+    return labels
+
+
 def text(name, numbers):
     """The text of a name, or None."""
     if name == "text_of_sets":
         return text_of("", tests_of_sets(numbers), "reject;")
     if name == "text_of_expressions":
         return text_of("int a;\nint b;\nint c;\n", assignments(numbers), "accept;")
+    if name == "text_of_case":
+        return text_of_case([label_of(part) for part in range(PARTS)])
+    if name == "text_of_labels":
+        return text_of_case(labels_of_ranges(numbers))
     return None
 
 

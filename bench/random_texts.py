@@ -23,11 +23,15 @@ TEXTS = (
     "filter d { if 8 / (rip_metric + 1) >= 2 then if defined(net) then accept; else reject; else { rip_metric = 3 - 0x1F; } int a; }",
     "filter n int a; bool b; prefix p; ip i; { a = a + 1 * 2 / 3 - 4; b = !b; p = net; i = p.ip; if i < 1.2.3.4 then accept; "
     "if a <= 3 && b && true then reject \"no\"; # c\n /* x */ b = (((b))); }",
+    "filter k int a; { case rip_metric + a { 1, 3..5: a = 2; else: if net.len ~ [8, 16..24] then accept; 2, 6..9: reject; } reject; }",
+    "filter m int a; { case a { else: case rip_metric { 0..3: if a !~ [1] then accept; 4: ; } } case 1 { } "
+    "if true then case a { 1: if true then reject; else: accept; } else accept; }",
 )
 TOKENS = (
-    *"filter int bool ip prefix if then else accept reject true false defined net rip_metric a b p i x len mask 0 1 33 4294967295".split(),
-    *"4294967296 0x 0xff 1.2.3.4 1.2.3 1.2.3.256 10.0.0.0/8 10.0.0.0/33 10.0.0.0/ \" \"t\" && || != !~ <= >= ( ) { } [ ] ; , .".split(),
-    *"= < > ~ ! + - * / # /* */ & | ' $ case print é".split(),
+    *"filter int bool ip prefix if then else case accept reject true false defined net rip_metric a b p i x len mask 0 1 33 4294967295".split(),
+    *"4294967296 0x 0xff 1.2.3.4 1.2.3 1.2.3.256 10.0.0.0/8 10.0.0.0/33 10.0.0.0/ \" \"t\" && || != !~ <= >= ( ) { } [ ] ; : , . .. else:".split(),
+    *"1: 2..3 3..2 0..4294967295 1..2..3 [1] case".split(),
+    *"= < > ~ ! + - * / # /* */ & | ' $ print é".split(),
     "\n", " ", "a" * 64, "b" * 65, "!" * 31, "!" * 33, "(" * 32, "{" * 33, "if a then " * 33,
 )  # fmt: skip
 

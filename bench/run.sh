@@ -2,7 +2,8 @@
 # Builds the proved programs and the plain one, checks that they answer the same, and prints their times and ratios:
 # of `ncroute eval`, `run`, `domain` and `check` as a whole, of the machines alone, or of the router alone.
 #
-# usage: bench/run.sh [eval|check|machines|instructions|bird|router|callers|script|save|domain]     (without a word: eval and machines)
+# usage: bench/run.sh [table|eval|check|machines|instructions|bird|router|callers|script|save|domain]     (without a word: eval and machines)
+#   table prints the first table of README.md: the instructions of eval, check and run on all inputs; with ROUNDS=N their times too
 #   instructions counts instructions of the machines with valgrind, in place of their time
 #   bird compares the machine for verified code with BIRD 2.0, where that is installed
 #   save compares `ncroute run --save` with `ncroute run`
@@ -58,17 +59,25 @@ if [ "$wanted" = both ] || [ "$wanted" = eval ]; then
     compare eval "${inputs[@]}"
 fi
 
+if [ "$wanted" = table ]; then
+    need_ncroute
+    "$bench/table.py" "$NCROUTE" "$folder/plain" "${ROUNDS:-0}" "$folder"
+    exit
+fi
+
 if [ "$wanted" = check ]; then
-    for name in text_of_sets text_of_expressions; do
+    inputs=()
+    for name in text_of_sets text_of_expressions text_of_case text_of_labels; do
         "$bench/generate.py" "$name" >"$folder/$name"
+        inputs+=("$folder/$name")
     done
-    compare "check --size 64" "$folder/text_of_sets" "$folder/text_of_expressions" /dev/null
+    compare "check --size 64" "${inputs[@]}" /dev/null
     exit
 fi
 
 if [ "$wanted" = script ]; then
     inputs=()
-    for kind in mixed messages dense imports; do
+    for kind in mixed messages case dense imports; do
         for size in 16 64 250; do
             "$bench/script.py" "$kind" "$size" >"$folder/${kind}_$size"
             inputs+=("$folder/${kind}_$size")

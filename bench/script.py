@@ -12,13 +12,15 @@ every machine. KIND says what the lines are, of a hundred about:
   messages  (200,000) eight neighbours and no filters: 80 tell a distance, 10 look, 10 empty a queue
   dense     (40,000) each other node is a neighbour, and there are no filters: 80 tell a distance, 10 empty a queue, 10 take a neighbour down
             or up again
+  case      (200,000) eight neighbours, each with the filter that is a `case` of 64 parts as its import filter: 80 tell a distance, 10 look,
+            10 empty a queue
   imports   (20,000) eight neighbours, and the filters of `mixed`: 50 tell a distance, 40 replace an import filter, 10 empty a queue
 """
 import sys
 
-from generate import Numbers
+from generate import Numbers, case_of_64
 
-LINES = {"mixed": 200_000, "messages": 200_000, "dense": 40_000, "imports": 20_000}
+LINES = {"mixed": 200_000, "messages": 200_000, "case": 200_000, "dense": 40_000, "imports": 20_000}
 SEED = 1
 FILTERS = 100
 
@@ -74,6 +76,8 @@ class Script:
             return self.message(neighbour)
         return f"show {self.numbers.below(self.size)}" if chosen < 90 else f"take {neighbour}"
 
+    case_line = messages_line
+
     def dense_line(self, chosen, neighbour):
         if chosen < 10 or not self.is_up[neighbour]:
             return self.turn(neighbour)
@@ -88,6 +92,9 @@ class Script:
 def script(kind, size, lines, numbers):
     made = Script(size, numbers, {"mixed": 4, "dense": size}.get(kind, 8))
     yield from made.first_lines(FILTERS if kind in ("mixed", "imports") else 0)
+    if kind == "case":
+        yield f"code parts {case_of_64()}"
+        yield from (f"import {neighbour} parts" for neighbour in made.neighbours)
     line = getattr(made, f"{kind}_line")
     for _ in range(lines):
         yield line(numbers.below(100), numbers.one_of(made.neighbours))

@@ -52,6 +52,9 @@ TAKEN = [
     ("variables of a filter without a name", "template rip t { ipv4 { import filter int k; { k = 1; if net.len = k then accept; }; }; }",
      {"t_import": "int k; { k = 1; if net.len = k then accept; }"}),
     ("a protocol without a name", "protocol rip { ipv4 { import filter { accept; }; }; }", {"rip1_import": "{ accept; }"}),
+    ("protocols without a name, each kind by itself", "protocol device { }\nprotocol rip { ipv4 { import filter { accept; }; }; }\n"
+     "protocol bgp { ipv4 { export where true; }; }\nprotocol rip { ipv4 { import filter { reject; }; }; }",
+     {"rip1_import": "{ accept; }", "bgp1_export": "{ if true then accept; reject; }", "rip2_import": "{ reject; }"}),
     ("a condition", "define OWN = 10.0.0.0/8;\nprotocol rip a { ipv4 { import where net ~ OWN; }; }", {"a_import": DEFINED}),
     ("mixed operators", "filter f { if true || true && false then accept; reject; }", {"f": "{ if ( true || true ) && false then accept; reject; }"}),
     ("more of them", "filter f bool b; { b = true && false || true && true; if b then accept; }",
@@ -122,7 +125,7 @@ LEFT_OUT = [
     ("an address of IPv6", "filter f { if net ~ [ 2001:db8::/32+ ] then accept; }", "1:28", "f: "),
     ("a loop", "filter f { for int k in 1 do accept; }", "1:12", "f: "),
     ("unset", "filter f { unset(rip_tag); accept; }", "1:12", "f: "),
-    ("no such file", "include \"nowhere.bird\";\nfilter f { accept; }", None, None),
+    ("no such file", "include \"nowhere.bird\";\nfilter f { accept; }", "1:1", "include nowhere.bird: it cannot be read"),
     ("many files", "include \"*.bird\";\nfilter f { accept; }", "1:1", "include *.bird: include each file by its own name"),
 ]
 

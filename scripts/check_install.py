@@ -144,6 +144,7 @@ def bash_differs(prefix):
         (["ncroute", "check", "--s"], ["--size"]),
         (["ncroute", "check", "--explain", "a"], ["auto", "always"]),
         (["ncroute", "filter", "--size", "16", "examples/no"], ["examples/no_bogons.filter"]),
+        (["ncroute", "diff", "examples/no"], ["examples/no_bogons.filter"]),
         (["ncroute", "eval", "--e"], []),
     )
     for words, wanted in rows:

@@ -49,7 +49,7 @@ class Command:
                 self.rest = [section]
 
     def takes_files(self):
-        return any("FILE" in argument for argument, _ in self.arguments)
+        return any(re.search("FILE|OLD|NEW", argument) for argument, _ in self.arguments)
 
 
 def option_of(line):

@@ -63,8 +63,14 @@ fn write_code(code: &Compiled) -> Vec<u8> {
             file.extend_from_slice(&[prefix.length, *low, *high]);
         }
     }
-    // The plain program's filters have no sets of ints.
-    file.push(0);
+    file.push(code.int_sets.len() as u8);
+    for set in &code.int_sets {
+        file.extend_from_slice(&(set.len() as u16).to_be_bytes());
+        for range in set {
+            file.extend_from_slice(&range.low.to_be_bytes());
+            file.extend_from_slice(&range.high.to_be_bytes());
+        }
+    }
     file.extend_from_slice(&(code.instructions.len() as u16).to_be_bytes());
     code.instructions.iter().for_each(|instruction| push_instruction(&mut file, instruction));
     file

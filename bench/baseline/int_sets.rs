@@ -6,8 +6,8 @@ const SCAN_LIMIT: usize = 8;
 /// The ints from a first one to a last one, both included.
 #[derive(Clone, Copy, Debug, PartialEq, Eq)]
 pub struct IntRange {
-    low: u32,
-    high: u32,
+    pub low: u32,
+    pub high: u32,
 }
 
 impl IntRange {
@@ -19,6 +19,36 @@ impl IntRange {
     fn holds(&self, number: u32) -> bool {
         (self.low..=self.high).contains(&number)
     }
+
+    fn meets(&self, other: &IntRange) -> bool {
+        self.low <= other.high && other.low <= self.high
+    }
+}
+
+/// The first label that shares a number with an earlier one. Each range comes with the place of its label, in text order.
+pub fn first_shared_label(ranges: &[(IntRange, usize)]) -> Option<usize> {
+    if are_apart(ranges) {
+        return None;
+    }
+    let shares_earlier = |(at, (range, label)): &(usize, &(IntRange, usize))| {
+        ranges[..*at].iter().any(|(other, earlier)| earlier != label && range.meets(other))
+    };
+    ranges.iter().enumerate().find(shares_earlier).map(|(_, (_, label))| *label)
+}
+
+/// Whether no two labels share a number.
+fn are_apart(ranges: &[(IntRange, usize)]) -> bool {
+    let mut sorted = ranges.to_vec();
+    sorted.sort_unstable_by_key(|(range, _)| range.low);
+    let mut longest: Option<(IntRange, usize)> = None;
+    for (range, label) in sorted {
+        match longest {
+            Some((other, earlier)) if range.low <= other.high && earlier != label => return false,
+            Some((other, _)) if range.high <= other.high => {}
+            _ => longest = Some((range, label)),
+        }
+    }
+    true
 }
 
 /// The ranges of a set: as they came if they are few, otherwise in order, merged where they overlap.

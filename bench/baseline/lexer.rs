@@ -29,6 +29,7 @@ pub enum Token<'a> {
     If,
     Then,
     Else,
+    Case,
     Accept,
     Reject,
     Bool(bool),
@@ -41,6 +42,7 @@ pub enum Token<'a> {
     NotWithin,
     LessOrEqual,
     GreaterOrEqual,
+    UpTo,
     /// A punctuator of one byte.
     Sign(u8),
     End,
@@ -49,6 +51,7 @@ pub enum Token<'a> {
 const NAME_LIMIT: usize = 64;
 
 /// A text as far as it was read.
+#[derive(Clone, Copy)]
 pub struct Lexer<'a> {
     text: &'a [u8],
     at: usize,
@@ -94,6 +97,7 @@ fn word(name: &[u8]) -> Option<Token<'_>> {
         b"if" => Token::If,
         b"then" => Token::Then,
         b"else" => Token::Else,
+        b"case" => Token::Case,
         b"accept" => Token::Accept,
         b"reject" => Token::Reject,
         b"true" => Token::Bool(true),
@@ -101,9 +105,9 @@ fn word(name: &[u8]) -> Option<Token<'_>> {
         b"defined" => Token::Defined,
         b"net" => Token::Net,
         b"rip_metric" => Token::Metric,
-        b"case" | b"function" | b"define" | b"print" | b"printn" | b"return" | b"include" | b"string" | b"pair"
-        | b"quad" | b"ec" | b"lc" | b"bgppath" | b"bgpmask" | b"clist" | b"eclist" | b"lclist" | b"set" | b"from"
-        | b"proto" | b"preference" | b"source" => return None,
+        b"function" | b"define" | b"print" | b"printn" | b"return" | b"include" | b"string" | b"pair" | b"quad"
+        | b"ec" | b"lc" | b"bgppath" | b"bgpmask" | b"clist" | b"eclist" | b"lclist" | b"set" | b"from" | b"proto"
+        | b"preference" | b"source" => return None,
         _ => Token::Name(name),
     })
 }
@@ -142,9 +146,9 @@ impl<'a> Lexer<'a> {
         let text = &self.text[at..];
         let Some(&first) = text.first() else { return Ok((Token::End, at)) };
         let (token, length) = match first {
-            b'(' | b')' | b'{' | b'}' | b'[' | b']' | b';' | b',' | b'.' | b'=' | b'~' | b'+' | b'-' | b'*' | b'/' => {
-                (Token::Sign(first), 1)
-            }
+            b'.' if text.get(1) == Some(&b'.') => (Token::UpTo, 2),
+            b'(' | b')' | b'{' | b'}' | b'[' | b']' | b';' | b':' | b',' | b'.' | b'=' | b'~' | b'+' | b'-' | b'*'
+            | b'/' => (Token::Sign(first), 1),
             b'0'..=b'9' => self.numeric(text)?,
             b'a'..=b'z' | b'A'..=b'Z' | b'_' => {
                 let length = text.iter().take_while(|byte| is_name_byte(**byte)).count();

@@ -1,6 +1,7 @@
 //! A filter's text, read and compiled in one pass: its grammar, its names and kinds, and its code.
 
 use crate::code::Instruction;
+use crate::int_sets::{first_shared_label, IntRange};
 use crate::lexer::{Fault, Kind, Lexer, Token};
 use crate::route::Prefix;
 
@@ -9,6 +10,8 @@ const MOST_NESTED: u32 = 32;
 const MOST_INSTRUCTIONS: usize = 1_024;
 const MOST_SETS: usize = 64;
 const MOST_PATTERNS: usize = 1_024;
+const MOST_INT_SETS: usize = 64;
+const MOST_RANGES: usize = 1_024;
 
 /// A pattern as it is written: a prefix, and the least and the greatest length.
 pub type Spelled = (Prefix, u8, u8);
@@ -17,6 +20,7 @@ pub type Spelled = (Prefix, u8, u8);
 pub struct Compiled {
     pub locals: u8,
     pub sets: Vec<Vec<Spelled>>,
+    pub int_sets: Vec<Vec<IntRange>>,
     pub instructions: Vec<Instruction>,
 }
 
@@ -32,7 +36,7 @@ struct Parser<'a> {
     /// The token that is next, and its first byte.
     token: Token<'a>,
     at: usize,
-    /// How many blocks, parentheses, `!` and `if`s enclose it.
+    /// How many blocks, parentheses, `!`, `if`s and `case`s enclose it.
     nested: u32,
     variables: Vec<(&'a [u8], Kind)>,
     /// The first fault of a name or a kind, which counts where the grammar has none.
@@ -40,6 +44,20 @@ struct Parser<'a> {
     /// The code so far; no more than one instruction over the limit is kept.
     instructions: Vec<Instruction>,
     sets: Vec<Vec<Spelled>>,
+    int_sets: Vec<Vec<IntRange>>,
+}
+
+/// A `case` as far as its parts were read.
+struct Case {
+    argument: Vec<Instruction>,
+    /// How many sets of ints come before its labels.
+    sets_before: usize,
+    /// The ranges of its labels so far, each with the place of its label.
+    labelled: Vec<(IntRange, usize)>,
+    /// The code of its `else` part, once it was read.
+    other: Option<Vec<Instruction>>,
+    /// The jumps from the end of a part to the end of the `case`.
+    jumps: Vec<usize>,
 }
 
 type Parsed<T> = Result<T, Fault>;
@@ -60,17 +78,21 @@ pub fn compile(text: &[u8]) -> Parsed<Compiled> {
         fault: None,
         instructions: Vec::with_capacity(128),
         sets: Vec::new(),
+        int_sets: Vec::new(),
     };
     parser.filter()?;
     parser.fault.map_or(Ok(()), Err)?;
-    let Parser { variables, instructions, sets, .. } = parser;
+    let Parser { variables, instructions, sets, int_sets, .. } = parser;
     if instructions.len() > MOST_INSTRUCTIONS {
         return Err(Fault { code: "G1", at: 0 });
     }
     if sets.len() > MOST_SETS || sets.iter().any(|set| set.len() > MOST_PATTERNS) {
         return Err(Fault { code: "G2", at: 0 });
     }
-    Ok(Compiled { locals: variables.len() as u8, sets, instructions })
+    if int_sets.len() > MOST_INT_SETS || int_sets.iter().any(|set| set.len() > MOST_RANGES) {
+        return Err(Fault { code: "G2", at: 0 });
+    }
+    Ok(Compiled { locals: variables.len() as u8, sets, int_sets, instructions })
 }
 
 impl<'a> Parser<'a> {
@@ -133,6 +155,11 @@ impl<'a> Parser<'a> {
             self.instructions.push(instruction);
         }
         at
+    }
+
+    fn emit_all(&mut self, instructions: &[Instruction]) {
+        let free = (MOST_INSTRUCTIONS + 1).saturating_sub(self.instructions.len());
+        self.instructions.extend_from_slice(&instructions[..free.min(instructions.len())]);
     }
 
     /// Leads the jump at a place to what is emitted next.
@@ -215,6 +242,7 @@ impl<'a> Parser<'a> {
                 self.advance()
             }
             Token::If => self.conditional(),
+            Token::Case => self.case(),
             Token::Name(name) => {
                 let (index, kind) = self.variable(name);
                 self.assign(kind)?;
@@ -264,7 +292,7 @@ impl<'a> Parser<'a> {
         self.expect(Token::Then)?;
         let over = self.emit(Instruction::JumpIfNot(0));
         self.command()?;
-        if self.token == Token::Else {
+        if self.token == Token::Else && !self.is_label() {
             let out = self.emit(Instruction::Jump(0));
             self.land(over);
             self.advance()?;
@@ -275,6 +303,112 @@ impl<'a> Parser<'a> {
         }
         self.nested -= 1;
         Ok(())
+    }
+
+    /// Whether an `else` is the label of a part of a `case`.
+    fn is_label(&self) -> bool {
+        matches!({ self.lexer }.next(), Ok((Token::Sign(b':'), _)))
+    }
+
+    fn case(&mut self) -> Parsed<()> {
+        self.enter()?;
+        let start = self.instructions.len();
+        let argument = self.expression()?;
+        self.want(argument, Kind::Int);
+        self.expect_sign(b'{')?;
+        let mut case = Case {
+            argument: self.instructions.split_off(start),
+            sets_before: self.int_sets.len(),
+            labelled: Vec::new(),
+            other: None,
+            jumps: Vec::new(),
+        };
+        loop {
+            match self.token {
+                Token::Number(_) => self.labelled_part(&mut case)?,
+                Token::Else if case.other.is_none() => case.other = Some(self.else_part()?),
+                _ => break,
+            }
+        }
+        self.expect_sign(b'}')?;
+        self.end_case(case);
+        self.nested -= 1;
+        Ok(())
+    }
+
+    fn labelled_part(&mut self, case: &mut Case) -> Parsed<()> {
+        let label = self.at;
+        let ranges = self.ranges()?;
+        self.expect_sign(b':')?;
+        case.labelled.extend(ranges.iter().map(|range| (*range, label)));
+        self.int_sets.push(ranges);
+        let over = self.ask(&case.argument, self.int_sets.len() - 1);
+        self.commands_of_part()?;
+        case.jumps.push(self.emit(Instruction::Jump(0)));
+        self.land(over);
+        Ok(())
+    }
+
+    /// Emits the question whether an argument is in a set, and the jump where it is not.
+    fn ask(&mut self, argument: &[Instruction], set: usize) -> usize {
+        self.emit_all(argument);
+        self.emit(Instruction::InSet(set as u8));
+        self.emit(Instruction::JumpIfNot(0))
+    }
+
+    /// The code of an `else` part.
+    fn else_part(&mut self) -> Parsed<Vec<Instruction>> {
+        self.advance()?;
+        self.expect_sign(b':')?;
+        let start = self.instructions.len();
+        self.commands_of_part()?;
+        Ok(self.instructions.split_off(start))
+    }
+
+    /// Commands up to the next part, or the end of the parts.
+    fn commands_of_part(&mut self) -> Parsed<()> {
+        while let Token::Sign(b';' | b'{')
+        | Token::If
+        | Token::Case
+        | Token::Name(_)
+        | Token::Metric
+        | Token::Net
+        | Token::Accept
+        | Token::Reject = self.token
+        {
+            self.command()?;
+        }
+        Ok(())
+    }
+
+    /// Emits what comes after the labelled parts.
+    fn end_case(&mut self, mut case: Case) {
+        let mut other = case.other.take().unwrap_or_default();
+        if case.jumps.is_empty() {
+            self.open(&mut case, &mut other);
+        }
+        self.emit_all(&other);
+        case.jumps.iter().for_each(|jump| self.land(*jump));
+        if let Some(at) = first_shared_label(&case.labelled) {
+            // It counts before the faults of the commands after that label.
+            if self.fault.is_none_or(|fault| fault.at > at) {
+                self.fault = Some(Fault { code: "Y7", at });
+            }
+        }
+    }
+
+    /// Without a labelled part, a part with no ranges and no commands comes first.
+    #[cold]
+    fn open(&mut self, case: &mut Case, other: &mut [Instruction]) {
+        self.int_sets.insert(case.sets_before, Vec::new());
+        for instruction in other {
+            if let Instruction::InSet(set) = instruction {
+                *set = set.wrapping_add(u8::from(usize::from(*set) >= case.sets_before));
+            }
+        }
+        let over = self.ask(&case.argument, case.sets_before);
+        case.jumps.push(self.emit(Instruction::Jump(0)));
+        self.land(over);
     }
 
     fn expression(&mut self) -> Parsed<Operand> {
@@ -344,8 +478,8 @@ impl<'a> Parser<'a> {
         self.advance()?;
         let instruction = match instruction {
             Instruction::Within if self.token == Token::Sign(b'[') => {
-                let member = self.set()?;
-                self.want(left, Kind::Prefix);
+                let (member, kind) = self.set()?;
+                self.want(left, kind);
                 member
             }
             instruction => {
@@ -494,11 +628,14 @@ impl<'a> Parser<'a> {
         Ok(Operand { kind, at })
     }
 
-    /// A set, from its `[` to what follows its `]`: the instruction that asks for it.
-    fn set(&mut self) -> Parsed<Instruction> {
+    /// A set, from its `[` to what follows its `]`: the instruction that asks for it, and the kind of its members.
+    fn set(&mut self) -> Parsed<(Instruction, Kind)> {
         self.advance()?;
         if let Token::Number(_) = self.token {
-            return Err(Fault { code: "P10", at: self.at });
+            let ranges = self.ranges()?;
+            self.expect_sign(b']')?;
+            self.int_sets.push(ranges);
+            return Ok((Instruction::InSet((self.int_sets.len() - 1) as u8), Kind::Int));
         }
         let mut patterns = vec![self.pattern()?];
         while self.token == Token::Sign(b',') {
@@ -507,7 +644,33 @@ impl<'a> Parser<'a> {
         }
         self.expect_sign(b']')?;
         self.sets.push(patterns);
-        Ok(Instruction::Member((self.sets.len() - 1) as u8))
+        Ok((Instruction::Member((self.sets.len() - 1) as u8), Kind::Prefix))
+    }
+
+    /// Ranges, of which there is one at least.
+    fn ranges(&mut self) -> Parsed<Vec<IntRange>> {
+        let mut ranges = vec![self.range()?];
+        while self.token == Token::Sign(b',') {
+            self.advance()?;
+            ranges.push(self.range()?);
+        }
+        Ok(ranges)
+    }
+
+    fn range(&mut self) -> Parsed<IntRange> {
+        let (Token::Number(low), at) = (self.token, self.at) else { return self.unexpected() };
+        self.advance()?;
+        let mut high = low;
+        if self.token == Token::UpTo {
+            self.advance()?;
+            let Token::Number(number) = self.token else { return self.unexpected() };
+            if low > number {
+                return Err(Fault { code: "P4", at });
+            }
+            high = number;
+            self.advance()?;
+        }
+        Ok(IntRange { low, high })
     }
 
     fn pattern(&mut self) -> Parsed<Spelled> {

@@ -303,11 +303,34 @@ impl Script {
     }
 }
 
+/// Puts a sign and a number at a place of a text. The place after them.
+#[inline(always)]
+fn put_number(text: &mut [u8; 8], at: usize, sign: u8, number: u8) -> usize {
+    let (hundred, ten, one) = (b'0' + number / 100, b'0' + number / 10 % 10, b'0' + number % 10);
+    text[at] = sign;
+    match number {
+        0..=9 => {
+            text[at + 1] = one;
+            at + 2
+        }
+        10..=99 => {
+            text[at + 1..at + 3].copy_from_slice(&[ten, one]);
+            at + 3
+        }
+        _ => {
+            text[at + 1..at + 4].copy_from_slice(&[hundred, ten, one]);
+            at + 4
+        }
+    }
+}
+
+/// Writes eight bytes at once, and takes back those that a message does not have.
 fn push_message(out: &mut Vec<u8>, message: &Message) {
-    out.push(b' ');
-    push_decimal(out, message.dest.into());
-    out.push(b':');
-    push_decimal(out, message.dist.into());
+    let mut text = [0; 8];
+    let middle = put_number(&mut text, 0, b' ', message.dest);
+    let end = put_number(&mut text, middle, b':', message.dist);
+    out.extend_from_slice(&text);
+    out.truncate(out.len() - (text.len() - end));
 }
 
 fn push_number(out: &mut Vec<u8>, word: &str, number: u32) {

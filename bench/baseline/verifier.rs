@@ -191,8 +191,12 @@ impl Verifier<'_> {
                 }
                 frame.one(Kind::Prefix).map(|_| frame.replace(1, is(Kind::Bool)))
             }
-            // The plain program's filters have no sets of ints.
-            Instruction::InSet(_) => Err("V7"),
+            Instruction::InSet(index) => {
+                if usize::from(index) >= self.code.int_sets.len() {
+                    return Err("V7");
+                }
+                frame.one(Kind::Int).map(|_| frame.replace(1, is(Kind::Bool)))
+            }
             Instruction::JumpIfNot(_) => frame.one(Kind::Bool).map(|_| frame.depth -= 1),
             Instruction::Jump(_) | Instruction::Accept | Instruction::Reject => Ok(()),
         }

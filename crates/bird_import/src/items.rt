@@ -113,8 +113,8 @@ struct Blocks {
     heads: Vec<usize>,
     /// The index at which the present statement begins.
     start: usize,
-    /// How many protocols have no name.
-    nameless: usize,
+    /// The heads of the protocols without a name that have begun.
+    nameless: Vec<usize>,
 }
 
 impl Blocks {
@@ -122,9 +122,9 @@ impl Blocks {
     fn pass(&mut self, words: &[Word<'_>], at: usize) -> Result<(), AllocError> {
         let next = at.saturating_add(1);
         if is_at(words, at, Symbol::LeftBrace) {
-            self.nameless = self
-                .nameless
-                .saturating_add(usize::from(is_nameless(words, self.start)));
+            if is_nameless(words, self.start) {
+                self.nameless.push(self.start)?;
+            }
             self.heads.push(self.start)?;
             self.start = next;
         } else if is_at(words, at, Symbol::RightBrace) {
@@ -145,6 +145,18 @@ impl Blocks {
             }
         }
         owner
+    }
+
+    /// The number that BIRD puts behind the kind of a protocol without a name: how many of its kind have begun.
+    fn number_of(&self, words: &[Word<'_>], owner: usize) -> usize {
+        let kind = bytes_at(words, owner.saturating_add(1));
+        let mut number = 0usize;
+        for head in self.nameless.as_slice() {
+            if bytes_at(words, head.saturating_add(1)) == kind {
+                number = number.saturating_add(1);
+            }
+        }
+        number
     }
 
     /// Whether a block round the place is a channel of IPv6.
@@ -187,18 +199,17 @@ fn push_number(name: &mut Vec<u8>, number: usize) -> Result<(), AllocError> {
 fn name_of_owner(
     alloc: Global,
     words: &[Word<'_>],
-    owner: Option<usize>,
+    blocks: &Blocks,
     direction: &[u8],
-    nameless: usize,
 ) -> Result<Vec<u8>, AllocError> {
     let mut name = Vec::new(alloc);
-    if let Some(owner) = owner {
+    if let Some(owner) = blocks.owner(words) {
         let (kind, own) = (owner.saturating_add(1), owner.saturating_add(2));
         if is_name_at(words, own) {
             push_bytes_of(&mut name, words, own)?;
         } else {
             push_bytes_of(&mut name, words, kind)?;
-            push_number(&mut name, nameless)?;
+            push_number(&mut name, blocks.number_of(words, owner))?;
         }
         name.push(b'_')?;
     }
@@ -280,13 +291,9 @@ fn item_at(
     };
     let name = match kind {
         ItemKind::Filter | ItemKind::Function => { name_at(alloc, words, at.saturating_add(1))? }
-        ItemKind::Anonymous | ItemKind::Condition => name_of_owner(
-            alloc,
-            words,
-            blocks.owner(words),
-            bytes_at(words, at),
-            blocks.nameless,
-        )?,
+        ItemKind::Anonymous | ItemKind::Condition => {
+            name_of_owner(alloc, words, blocks, bytes_at(words, at))?
+        }
     };
     let end = end_of(words, kind, at);
     Ok(Some(Item {
@@ -312,7 +319,7 @@ pub fn find_items(alloc: Global, words: &[Word<'_>]) -> Result<Vec<Item>, AllocE
     let mut blocks = Blocks {
         heads: Vec::new(alloc),
         start: 0,
-        nameless: 0,
+        nameless: Vec::new(alloc),
     };
     let mut next = 0;
     for at in 0..words.len() {

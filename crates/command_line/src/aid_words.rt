@@ -1,8 +1,9 @@
-//! The words of what helps people: `domain`, `explain`, `filter`, `list`, `replay`, and `check` of files; and `check` and `run` with refusals in
-//! words.
+//! The words of what helps people: `domain`, `explain`, `filter`, `import`, `list`, `replay`, and `check` of files; and `check` and `run` with
+//! refusals in words. Those of `diff` stand apart.
 ghost use Rattle.std.specs.Prelude.{◌≡◌, [], ◌∷◌, IfOk, map};
 ghost use Rattle.command_line.specs.Sources.{AreNamed, AreSources, IsNamed};
 
+use crate::diff_words::Comparing;
 use crate::filter_words::{NamedFile, WrongFilter, filters_in};
 use crate::options::{
     code_option, explain_option, explained_code, filter_file, imported_file, listed_file,
@@ -77,6 +78,15 @@ pub enum Aid {
         how: Checking,
         /// The sources, in order.
         sources: Vec<Source>,
+    },
+    /// Compare two filters on all routes.
+    Diff {
+        /// How they are compared.
+        how: Comparing,
+        /// Where the text of the filter as it was is.
+        old: Source,
+        /// Where the text of the filter as it will be is.
+        new: Source,
     },
     /// Say what a code means.
     Explain {
@@ -433,8 +443,8 @@ prints `accept 12`. The exit status is 0; 1 if something was refused; 2 if the c
 line is wrong; 3 if a fault ended the run, as a file that cannot be read.
 ";
 
-/// The number of nodes for which imported filters are verified where none is said: that of RIP.
-const USUAL_SIZE: u32 = 16;
+/// The number of nodes of the domain where none is said: that of RIP.
+pub const USUAL_SIZE: u32 = 16;
 
 /// The command `import`.
 pub fn import_command<'a>(alloc: Global) -> Result<Command<'a>, AllocError> {

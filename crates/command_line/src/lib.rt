@@ -3,6 +3,7 @@
 
 mod aid_words;
 mod classes;
+mod diff_words;
 mod filter_words;
 mod options;
 mod telling;
@@ -10,6 +11,7 @@ mod terminals;
 mod words;
 
 pub use aid_words::{Aid, Checking, Engine, Importing, Running, Source};
+pub use diff_words::Comparing;
 pub use filter_words::{NamedFile, WrongFilter, filters_in};
 pub use telling::{Telling, is_explained};
 pub use terminals::{Terminals, tell_that_input_is_read, waits_for_people};

@@ -148,7 +148,7 @@ pub fn filter_file<'a>(alloc: Global) -> Arg<'a> {
         .help("The file of the filter's text")
 }
 
-/// The number of nodes of the domain that imported filters are verified for.
+/// The number of nodes of the domain that filters are verified for, which need not be said.
 pub fn usual_size_option<'a>(alloc: Global) -> Arg<'a> {
     Arg::new(alloc, "size")
         .long("size")
@@ -156,6 +156,31 @@ pub fn usual_size_option<'a>(alloc: Global) -> Arg<'a> {
         .allow_negative_numbers(true)
         .value_parser(clap::value_parser!(u32))
         .help("Verify the filters for a routing domain of N nodes (2 to 250; 16)")
+}
+
+/// The number of classes of routes after which a comparison ends.
+pub fn limit_option<'a>(alloc: Global) -> Arg<'a> {
+    Arg::new(alloc, "limit")
+        .long("limit")
+        .value_name("CLASSES")
+        .allow_negative_numbers(true)
+        .value_parser(clap::value_parser!(u64))
+        .help("Try at most so many classes of routes (1000000)")
+}
+
+/// The file of the filter as it was.
+pub fn old_file<'a>(alloc: Global) -> Arg<'a> {
+    Arg::new(alloc, "old")
+        .value_name("OLD")
+        .required(true)
+        .help("The file of the filter as it was; - is standard input")
+}
+
+/// The file of the filter as it will be.
+pub fn new_file<'a>(alloc: Global) -> Arg<'a> {
+    Arg::new(alloc, "new").value_name("NEW").required(true).help(
+        "The file of the filter as it will be; - is standard input",
+    )
 }
 
 /// The folder of imported filters.

@@ -27,6 +27,9 @@ fn reads_input(words: &Words) -> bool {
     match words {
         Words::Asked(_) => true,
         Words::Aided(Aid::Check { sources, .. }) => has_input(sources.as_slice()),
+        Words::Aided(Aid::Diff { old, new, .. }) => {
+            *old == Source::Input || *new == Source::Input
+        }
         Words::Aided(Aid::Run { how, source }) => {
             *source == Source::Input || reads_filter(how.filters.as_slice())
         }

@@ -5,6 +5,7 @@ use crate::aid_words::{
     names_several, replay_command, replay_in, run_in, script_in,
 };
 use crate::classes::page_of;
+use crate::diff_words::{diff_command, diff_in};
 use crate::filter_words::WrongFilter;
 use crate::options::{
     code_option, explain_option, file_option, filter_option, names_option, old_option,
@@ -96,39 +97,89 @@ fn words_in<R: Eprint>(
     matches: &ArgMatches<'_>,
     terminals: Terminals,
 ) -> Result<Words, AllocError> {
-    if let Some(run) = matches.subcommand_matches("run") {
-        return run_words(rt, alloc, run, terminals);
+    if let Some(words) = filter_commands_in(rt, alloc, matches, terminals)? {
+        return Ok(words);
     }
-    if matches.subcommand_matches("net").is_some() {
-        return Ok(Words::Network);
+    if let Some(words) = router_commands_in(rt, alloc, matches, terminals)? {
+        return Ok(words);
     }
-    if let Some(domain) = matches.subcommand_matches("domain") {
-        return Ok(Words::Aided(script_in(alloc, Engine::Domain, domain, terminals)?));
+    Ok(Words::Asked(code_command_in(matches)))
+}
+
+/// What the words of a command on filters ask for.
+fn filter_commands_in<R: Eprint>(
+    rt: &R,
+    alloc: Global,
+    matches: &ArgMatches<'_>,
+    terminals: Terminals,
+) -> Result<Option<Words>, AllocError> {
+    if let Some(check) = matches.subcommand_matches("check") {
+        return Ok(Some(check_in(alloc, check, terminals)?));
+    }
+    if let Some(diff) = matches.subcommand_matches("diff") {
+        return Ok(Some(diff_words(rt, alloc, diff, terminals)?));
     }
     if let Some(explain) = matches.subcommand_matches("explain") {
-        return explained_in(rt, alloc, explain.get_str("code").unwrap_or(""));
-    }
-    if let Some(list) = matches.subcommand_matches("list") {
-        return Ok(Words::Aided(list_in(alloc, list, terminals)?));
+        let code = explain.get_str("code").unwrap_or("");
+        return Ok(Some(explained_in(rt, alloc, code)?));
     }
     if let Some(filter) = matches.subcommand_matches("filter") {
-        return filter_words(rt, alloc, filter, terminals);
+        return Ok(Some(filter_words(rt, alloc, filter, terminals)?));
     }
     if let Some(import) = matches.subcommand_matches("import") {
-        return Ok(Words::Aided(import_in(alloc, import)?));
+        return Ok(Some(Words::Aided(import_in(alloc, import)?)));
+    }
+    if let Some(list) = matches.subcommand_matches("list") {
+        return Ok(Some(Words::Aided(list_in(alloc, list, terminals)?)));
+    }
+    Ok(None)
+}
+
+/// What the words of a command on routers ask for.
+fn router_commands_in<R: Eprint>(
+    rt: &R,
+    alloc: Global,
+    matches: &ArgMatches<'_>,
+    terminals: Terminals,
+) -> Result<Option<Words>, AllocError> {
+    if let Some(domain) = matches.subcommand_matches("domain") {
+        let aid = script_in(alloc, Engine::Domain, domain, terminals)?;
+        return Ok(Some(Words::Aided(aid)));
+    }
+    if matches.subcommand_matches("net").is_some() {
+        return Ok(Some(Words::Network));
     }
     if let Some(replay) = matches.subcommand_matches("replay") {
-        return Ok(Words::Aided(replay_in(alloc, replay)?));
+        return Ok(Some(Words::Aided(replay_in(alloc, replay)?)));
     }
-    if let Some(rewrite) = matches.subcommand_matches("rewrite") {
-        return Ok(Words::Asked(Request::Rewrite {
+    if let Some(run) = matches.subcommand_matches("run") {
+        return Ok(Some(run_words(rt, alloc, run, terminals)?));
+    }
+    Ok(None)
+}
+
+/// What the words of a command on code files ask for.
+fn code_command_in(matches: &ArgMatches<'_>) -> Request {
+    match matches.subcommand_matches("rewrite") {
+        Some(rewrite) => Request::Rewrite {
             is_old: rewrite.get_flag("old"),
-        }));
+        },
+        None => Request::Eval,
     }
-    let Some(check) = matches.subcommand_matches("check") else {
-        return Ok(Words::Asked(Request::Eval));
-    };
-    check_in(alloc, check, terminals)
+}
+
+/// What the words of `diff` ask for. Standard input has one of the filters at most.
+fn diff_words<R: Eprint>(
+    rt: &R,
+    alloc: Global,
+    diff: &ArgMatches<'_>,
+    terminals: Terminals,
+) -> Result<Words, AllocError> {
+    if let Some(aid) = diff_in(alloc, diff, terminals)? {
+        return Ok(Words::Aided(aid));
+    }
+    let _ = eprintln!(rt; "error: standard input has one filter, so OLD and NEW cannot both be -");
+    Ok(Words::Shown(WRONG_WORDS))
 }
 
 /// What the words of `filter` ask for. Standard input has the routes, so the filter is in a file.
@@ -240,28 +291,55 @@ fn show_not_text<R: Eprint>(rt: &R) -> Words {
 
 /// The commands of the program, and their help.
 fn command<'a>(alloc: Global) -> Result<Command<'a>, AllocError> {
-    let eval = Command::new(alloc, "eval")
-        .about("Take routes through a code file, and print the verdict of each")
-        .after_help(EVAL_HELP);
-    let net = Command::new(alloc, "net")
-        .about("Run three routers in a ring, and replay what happened at each")
-        .after_help(NET_HELP);
-    Command::new(alloc, "ncroute")
+    let command = Command::new(alloc, "ncroute")
         .about("Check route filters, take routes through their code, and run a router with them")
         .version(VERSION)
         .subcommand_required(true)
-        .arg_required_else_help(true)
+        .arg_required_else_help(true);
+    let command = add_filter_commands(alloc, command)?;
+    let command = add_code_commands(alloc, command)?;
+    add_router_commands(alloc, command)
+}
+
+/// Adds the commands on filters.
+fn add_filter_commands<'a>(alloc: Global, command: Command<'a>) -> Result<Command<'a>, AllocError> {
+    command
         .subcommand(check_command(alloc)?)?
-        .subcommand(domain_command(alloc)?)?
-        .subcommand(eval)?
+        .subcommand(diff_command(alloc)?)?
         .subcommand(explain_command(alloc)?)?
         .subcommand(filter_command(alloc)?)?
         .subcommand(import_command(alloc)?)?
-        .subcommand(list_command(alloc)?)?
+        .subcommand(list_command(alloc)?)
+}
+
+/// Adds the commands on code files.
+fn add_code_commands<'a>(alloc: Global, command: Command<'a>) -> Result<Command<'a>, AllocError> {
+    command
+        .subcommand(eval_command(alloc))?
+        .subcommand(rewrite_command(alloc)?)
+}
+
+/// Adds the commands on routers.
+fn add_router_commands<'a>(alloc: Global, command: Command<'a>) -> Result<Command<'a>, AllocError> {
+    command
+        .subcommand(domain_command(alloc)?)?
+        .subcommand(net_command(alloc))?
         .subcommand(replay_command(alloc)?)?
-        .subcommand(rewrite_command(alloc)?)?
-        .subcommand(run_command(alloc)?)?
-        .subcommand(net)
+        .subcommand(run_command(alloc)?)
+}
+
+/// The command `eval`.
+fn eval_command<'a>(alloc: Global) -> Command<'a> {
+    Command::new(alloc, "eval")
+        .about("Take routes through a code file, and print the verdict of each")
+        .after_help(EVAL_HELP)
+}
+
+/// The command `net`.
+fn net_command<'a>(alloc: Global) -> Command<'a> {
+    Command::new(alloc, "net")
+        .about("Run three routers in a ring, and replay what happened at each")
+        .after_help(NET_HELP)
 }
 
 /// The command `run`.

@@ -3,13 +3,13 @@
 ghost use Rattle.std.specs.Prelude.{◌≢◌, ◌<◌, OnOk, length};
 
 use domain_player::Routers;
+use expectations::{expect_number, expect_str};
 use filter_source::{compile_text, verify_code};
 use filter_verifier::Verified;
 use netchange_core::{Event, Message, Opening, Reply, Tables, Via};
 use prefix_patterns::{Ip, Prefix};
 use std::alloc::Global;
 use std::fmt::Write;
-use std::process::Abort;
 use std::sync::Arc;
 use std::test::Fail;
 use worked_rows::Numbers;
@@ -21,7 +21,7 @@ const UP_TWO: &[u8] = b"filter up2 { rip_metric = rip_metric + 2; accept; }";
 const NEAR: &[u8] = b"filter near { if net ~ [10.0.0.0/15+] then accept; reject; }";
 
 /// What is done to the routers, and what is asked.
-#[derive(Drop)]
+#[derive(Clone, Copy)]
 enum Step {
     Link(u16, u16),
     Cut(u16, u16),
@@ -127,13 +127,8 @@ fn set_filter(
     Ok(())
 }
 
-/// Takes a step, and asserts what is wanted.
-fn take_step(
-    rt: &impl Abort,
-    alloc: Global,
-    routers: &mut Routers,
-    step: &Step,
-) -> Result<(), Fail> {
+/// Takes a step, and expects what is wanted.
+fn take_step(alloc: Global, routers: &mut Routers, step: &Step) -> Result<(), Fail> {
     match step {
         Step::Link(u, w) => set_link(routers, *u, *w, true),
         Step::Cut(u, w) => set_link(routers, *u, *w, false),
@@ -141,65 +136,68 @@ fn take_step(
         Step::Export(u, w, text) => set_filter(alloc, routers, (*u, *w), text, false),
         Step::Settle(rounds, messages) => {
             let settled = routers.settle()?;
-            assert_eq!(rt; (settled.rounds, settled.messages), (*rounds, *messages));
-            Ok(())
+            expect_number(settled.rounds, *rounds)?;
+            expect_number(settled.messages, *messages)
         }
         Step::Table(u, wanted) => {
             let text = table(alloc, routers, *u)?;
-            assert_eq!(rt; text.as_str(), *wanted);
-            Ok(())
+            expect_str(text.as_str(), wanted)
         }
     }
 }
 
 /// Takes all steps in a domain of so many nodes.
-fn take_steps(rt: &impl Abort, alloc: Global, size: u16, steps: &[Step]) -> Result<(), Fail> {
+fn take_steps(alloc: Global, size: u16, steps: &[Step]) -> Result<(), Fail> {
     let mut routers = routers(alloc, size)?;
     for step in steps {
-        take_step(rt, alloc, &mut routers, step)?;
+        take_step(alloc, &mut routers, step)?;
     }
     Ok(())
 }
 
+/// A ring settles, and loses a link.
+const RING: [Step; 16] = [
+    Step::Settle(0, 0),
+    Step::Link(0, 1),
+    Step::Link(1, 2),
+    Step::Link(2, 3),
+    Step::Link(3, 4),
+    Step::Link(4, 0),
+    Step::Table(0, "0:0 1:5 2:5 3:5 4:5"),
+    Step::Settle(3, 90),
+    Step::Table(0, "0:0 1:1:1 2:2:1 3:2:4 4:1:4"),
+    Step::Settle(0, 0),
+    Step::Import(0, 4, UP_TWO),
+    Step::Table(0, "0:0 1:1:1 2:2:1 3:3:1 4:3:1"),
+    Step::Cut(0, 1),
+    Step::Settle(3, 12),
+    Step::Table(0, "0:0 1:5 2:5 3:4:4 4:3:4"),
+    Step::Table(1, "0:4:2 1:0 2:1:2 3:2:2 4:3:2"),
+];
+
+/// A triangle with filters settles.
+const TRIANGLE: [Step; 11] = [
+    Step::Export(0, 1, UP_TWO),
+    Step::Link(0, 1),
+    Step::Link(1, 2),
+    Step::Link(2, 0),
+    Step::Link(2, 3),
+    Step::Import(2, 1, NEAR),
+    Step::Settle(3, 66),
+    Step::Table(0, "0:0 1:1:1 2:1:2 3:2:2 4:5"),
+    Step::Table(1, "0:2:2 1:0 2:1:2 3:2:2 4:5"),
+    Step::Table(2, "0:1:0 1:1:1 2:0 3:1:3 4:5"),
+    Step::Table(4, "0:5 1:5 2:5 3:5 4:0"),
+];
+
 #[test]
 fn a_ring_settles_and_loses_a_link(rt: HostRuntime) -> Result<(), Fail> {
-    let steps = [
-        Step::Settle(0, 0),
-        Step::Link(0, 1),
-        Step::Link(1, 2),
-        Step::Link(2, 3),
-        Step::Link(3, 4),
-        Step::Link(4, 0),
-        Step::Table(0, "0:0 1:5 2:5 3:5 4:5"),
-        Step::Settle(3, 90),
-        Step::Table(0, "0:0 1:1:1 2:2:1 3:2:4 4:1:4"),
-        Step::Settle(0, 0),
-        Step::Import(0, 4, UP_TWO),
-        Step::Table(0, "0:0 1:1:1 2:2:1 3:3:1 4:3:1"),
-        Step::Cut(0, 1),
-        Step::Settle(3, 12),
-        Step::Table(0, "0:0 1:5 2:5 3:4:4 4:3:4"),
-        Step::Table(1, "0:4:2 1:0 2:1:2 3:2:2 4:3:2"),
-    ];
-    take_steps(&rt, rt.alloc(), 5, &steps)
+    take_steps(rt.alloc(), 5, &RING)
 }
 
 #[test]
 fn a_triangle_with_filters_settles(rt: HostRuntime) -> Result<(), Fail> {
-    let steps = [
-        Step::Export(0, 1, UP_TWO),
-        Step::Link(0, 1),
-        Step::Link(1, 2),
-        Step::Link(2, 0),
-        Step::Link(2, 3),
-        Step::Import(2, 1, NEAR),
-        Step::Settle(3, 66),
-        Step::Table(0, "0:0 1:1:1 2:1:2 3:2:2 4:5"),
-        Step::Table(1, "0:2:2 1:0 2:1:2 3:2:2 4:5"),
-        Step::Table(2, "0:1:0 1:1:1 2:0 3:1:3 4:5"),
-        Step::Table(4, "0:5 1:5 2:5 3:5 4:0"),
-    ];
-    take_steps(&rt, rt.alloc(), 5, &steps)
+    take_steps(rt.alloc(), 5, &TRIANGLE)
 }
 
 /// A message on its way: who sent it, who will hear it, and what it says.
@@ -326,42 +324,53 @@ fn set_up(alloc: Global, steps: &[Step], size: u16) -> Result<Vec<Tables>, Fail>
     Ok(tables)
 }
 
-/// Asserts that each node has the same routes in both.
-fn expect_same(
-    rt: &impl Abort,
-    alloc: Global,
-    routers: &mut Routers,
-    tables: &mut [Tables],
-) -> Result<(), Fail> {
+/// All routes of a node of a domain of so many, as its router shows them, in text.
+fn shown(alloc: Global, router: &mut Tables, size: u16) -> Result<String, Fail> {
+    let mut text = String::new(alloc);
+    for v in 0..size {
+        if let Reply::Route { dist, via } = router.apply(&Event::Show(v))? {
+            add_route(&mut text, v, dist, via)?;
+        }
+    }
+    Ok(text)
+}
+
+/// Expects that each node has the same routes in both.
+fn expect_same(alloc: Global, routers: &mut Routers, tables: &mut [Tables]) -> Result<(), Fail> {
     let size = routers.size();
     for u in 0..size {
-        let mut text = String::new(alloc);
-        for v in 0..size {
-            if let Reply::Route { dist, via } = router(tables, u)?.apply(&Event::Show(v))? {
-                add_route(&mut text, v, dist, via)?;
-            }
-        }
+        let text = shown(alloc, router(tables, u)?, size)?;
         let wanted = table(alloc, routers, u)?;
-        assert_eq!(rt; text.as_str(), wanted.as_str());
+        expect_str(text.as_str(), wanted.as_str())?;
     }
     Ok(())
 }
 
+/// The routers of a domain, after these steps, at rest.
+fn played(alloc: Global, steps: &[Step], size: u16) -> Result<Routers, Fail> {
+    let mut played = routers(alloc, size)?;
+    for step in steps {
+        take_step(alloc, &mut played, step)?;
+    }
+    let _settled = played.settle()?;
+    Ok(played)
+}
+
+/// Expects that a random domain comes to the same routes in a random order of its messages.
+fn expect_same_in_any_order(alloc: Global, seed: u64) -> Result<(), Fail> {
+    let mut numbers = Numbers::new(seed);
+    let size = short(&mut numbers, 5).saturating_add(2);
+    let steps = random_steps(alloc, &mut numbers, size)?;
+    let mut played = played(alloc, &steps, size)?;
+    let mut tables = set_up(alloc, &steps, size)?;
+    play_at_random(alloc, &mut numbers, &mut tables, size)?;
+    expect_same(alloc, &mut played, &mut tables)
+}
+
 #[test]
 fn any_order_comes_to_the_same_routes(rt: HostRuntime) -> Result<(), Fail> {
-    let alloc = rt.alloc();
     for seed in 0..300 {
-        let mut numbers = Numbers::new(seed);
-        let size = short(&mut numbers, 5).saturating_add(2);
-        let steps = random_steps(alloc, &mut numbers, size)?;
-        let mut played = routers(alloc, size)?;
-        for step in &steps {
-            take_step(&rt, alloc, &mut played, step)?;
-        }
-        let _settled = played.settle()?;
-        let mut tables = set_up(alloc, &steps, size)?;
-        play_at_random(alloc, &mut numbers, &mut tables, size)?;
-        expect_same(&rt, alloc, &mut played, &mut tables)?;
+        expect_same_in_any_order(rt.alloc(), seed)?;
     }
     Ok(())
 }

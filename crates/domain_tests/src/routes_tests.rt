@@ -2,10 +2,10 @@
 
 use crate::plans::{filter, unlinked};
 use domain_routes::{Best, Plan};
+use expectations::expect;
 use netchange_core::Via;
 use prefix_patterns::{Ip, Prefix};
 use std::alloc::Global;
-use std::process::Abort;
 use std::test::Fail;
 
 /// A change of a plan.
@@ -50,30 +50,20 @@ fn apply(alloc: Global, plan: &mut Plan, change: Edit) -> Result<(), Fail> {
     Ok(())
 }
 
-/// Asserts the routes to a node.
-fn expect_routes(
-    rt: &impl Abort,
-    alloc: Global,
-    plan: &Plan,
-    node: u16,
-    wanted: &[(u16, Via)],
-) -> Result<(), Fail> {
+/// Whether these are the routes.
+fn are_routes(routes: &[Best], wanted: &[(u16, Via)]) -> bool {
+    routes.len() == wanted.len()
+        && routes.iter().zip(wanted).all(|(route, (dist, via))| route.dist == *dist
+            && route.via == *via)
+}
+
+/// Expects the routes to a node.
+fn expect_routes(alloc: Global, plan: &Plan, node: u16, wanted: &[(u16, Via)]) -> Result<(), Fail> {
     if node >= plan.size() {
         return Err("a node".into());
     }
     let routes = plan.routes_to(alloc, node)?;
-    assert_eq!(rt; routes.len(), wanted.len());
-    for (route, (dist, via)) in routes.iter().zip(wanted) {
-        assert_eq!(rt;
-            *route,
-            Best {
-                dist: *dist,
-                via: *via
-            },
-            "to {node}"
-        );
-    }
-    Ok(())
+    expect(are_routes(&routes, wanted), "the routes to a node")
 }
 
 const RING: [Edit; 5] = [
@@ -195,23 +185,24 @@ fn plans_of_five_nodes(rt: HostRuntime) -> Result<(), Fail> {
         for change in *edits {
             apply(rt.alloc(), &mut plan, *change)?;
         }
-        expect_routes(&rt, rt.alloc(), &plan, *node, wanted.as_slice())?;
+        expect_routes(rt.alloc(), &plan, *node, wanted.as_slice())?;
     }
     Ok(())
 }
 
+/// Whether there is a plan of so many nodes.
+fn is_plan(alloc: Global, size: u16) -> Result<bool, Fail> {
+    let mut prefixes = Vec::new(alloc);
+    for _ in 0..size {
+        prefixes.push(Prefix::new(Ip(0), 8).ok_or("8 bits")?)?;
+    }
+    Ok(Plan::new(alloc, prefixes)?.is_some())
+}
+
 #[test]
 fn plans_have_2_to_250_nodes(rt: HostRuntime) -> Result<(), Fail> {
-    for (size, is_plan) in [(0, false), (1, false), (2, true), (250, true), (251, false)] {
-        let mut prefixes = Vec::new(rt.alloc());
-        for _ in 0..size {
-            prefixes.push(Prefix::new(Ip(0), 8).ok_or("8 bits")?)?;
-        }
-        assert_eq!(rt;
-            Plan::new(rt.alloc(), prefixes)?.is_some(),
-            is_plan,
-            "{size}"
-        );
+    for (size, wanted) in [(0, false), (1, false), (2, true), (250, true), (251, false)] {
+        expect(is_plan(rt.alloc(), size)? == wanted, "the size of a plan")?;
     }
     Ok(())
 }

@@ -3,10 +3,10 @@
 
 use crate::plans::{filter, unlinked};
 use domain_routes::{Best, Plan};
+use expectations::{expect, expect_number};
 use filter_verifier::Verified;
 use netchange_core::Via;
 use std::alloc::Global;
-use std::process::Abort;
 use std::sync::Arc;
 use std::test::Fail;
 
@@ -172,19 +172,24 @@ fn rests(small: Small, node: u16) -> (u32, [u16; 4]) {
     (count, found)
 }
 
-fn expect_rest(rt: &impl Abort, alloc: Global, small: Small) -> Result<(), Fail> {
+/// Whether these are the routes of a plan to a node, where all are at these distances.
+fn are_routes(small: Small, node: u16, dists: &[u16], routes: &[Best]) -> bool {
+    (0..small.size)
+        .zip(routes)
+        .all(|(u, route)| *route == small.route(node, u, dists))
+}
+
+/// Expects that a plan has one rest, and its routes.
+fn expect_rest(alloc: Global, small: Small) -> Result<(), Fail> {
     let plan = plan_of(alloc, small)?;
     for node in 0..plan.size() {
         let (count, dists) = rests(small, node);
-        assert_eq!(rt; count, 1, "{small:?} to {node}");
+        expect_number(u64::from(count), 1)?;
         let routes = plan.routes_to(alloc, node)?;
-        for (u, route) in (0..small.size).zip(&routes) {
-            assert_eq!(rt;
-                *route,
-                small.route(node, u, &dists),
-                "{small:?}, {u} to {node}"
-            );
-        }
+        expect(
+            are_routes(small, node, &dists, &routes),
+            "the routes of a small plan",
+        )?;
     }
     Ok(())
 }
@@ -193,7 +198,7 @@ fn expect_rest(rt: &impl Abort, alloc: Global, small: Small) -> Result<(), Fail>
 fn small_plans_have_one_rest(rt: HostRuntime) -> Result<(), Fail> {
     for size in 2..5 {
         for number in 0..60 {
-            expect_rest(&rt, rt.alloc(), Small { size, number })?;
+            expect_rest(rt.alloc(), Small { size, number })?;
         }
     }
     Ok(())

@@ -5,7 +5,7 @@ use Rattle.std.proofs.lemmas.List.Elements.{All-get_or, All-pop, All-push, All-s
 use Rattle.filter_code.specs.CodeView.{CodeView}
 use Rattle.filter_code.specs.RouteView.{RouteView}
 use Rattle.filter_diff.specs.Joins.{Joins, StandFor}
-use Rattle.filter_diff.specs.Parts.{Has, Holds, InOne, IsIn, IsTrueOf}
+use Rattle.filter_diff.specs.Parts.{Has, Holds, InOne, IsIn, IsReal, IsTrueOf}
 use Rattle.filter_diff.specs.declared.part.Finding.{Finding}
 use Rattle.filter_diff.specs.declared.part.Part.{Part}
 use Rattle.filter_diff.proofs.Dealt.{in_kept, in_new}
@@ -69,6 +69,11 @@ add_joined parts others after at other part whole there h j set stand = record {
       subst (IsTrueOf old new size) (sym there) (All-get_or (IsTrueOf old new size) parts at other h so_far) in
       subst (All (IsTrueOf old new size)) (sym set)
       (All-set (IsTrueOf old new size) parts at whole (joined_true old new size other part whole j other_true split.1) so_far);
+  real = λ size all.
+      let split = All-pop (IsReal size) (others ++ (part ∷ [])) others (Some part) refl all in
+      let so_far : All (IsReal size) parts = stand.real size split.0 in
+      let other_real : IsReal size other = subst (IsReal size) (sym there) (All-get_or (IsReal size) parts at other h so_far) in
+      subst (All (IsReal size)) (sym set) (All-set (IsReal size) parts at whole (j.real size other_real split.1) so_far);
 }
 
 -- a part that joins none of them
@@ -81,6 +86,9 @@ add_pushed parts others after part pushed stand = record {
       let split = All-pop (IsTrueOf old new size) (others ++ (part ∷ [])) others (Some part) refl all in
       subst (All (IsTrueOf old new size)) (sym pushed)
       (All-push (IsTrueOf old new size) parts part (stand.true_of old new size split.0) split.1);
+  real = λ size all.
+      let split = All-pop (IsReal size) (others ++ (part ∷ [])) others (Some part) refl all in
+      subst (All (IsReal size)) (sym pushed) (All-push (IsReal size) parts part (stand.real size split.0) split.1);
 }
 
 -- parts that stand for parts that stand for others
@@ -88,7 +96,8 @@ pub stand_further : (xs ys zs : List Part) → StandFor xs ys → StandFor ys zs
 stand_further xs ys zs f g = record {
   routes = λ route h. f.routes route (g.routes route h);
   true_of = λ old new size h. f.true_of old new size (g.true_of old new size h);
+  real = λ size h. f.real size (g.real size h);
 }
 
 pub stand_self : (xs : List Part) → StandFor xs xs
-stand_self xs = record { routes = λ route h. h; true_of = λ old new size h. h }
+stand_self xs = record { routes = λ route h. h; true_of = λ old new size h. h; real = λ size h. h }

@@ -52,6 +52,13 @@ joins_lengths a b finding prefix least greatest a_order near b_order = record {
   second = λ route h. lengths_second a b route prefix least greatest (omega arith) h;
   first_found = refl;
   second_found = sym finding;
+  real = λ size r s. record {
+    pattern = r.pattern;
+    lengths = omega (arith, r.lengths, s.lengths);
+    fits = s.fits;
+    metrics = r.metrics;
+    reachable = r.reachable;
+  };
 }
 
 metrics_by : (a b : Part) (route : RouteView) (in_first : Bool) → nat_le route.metric a.greatest ≡ in_first →
@@ -89,6 +96,13 @@ joins_metrics a b finding prefix shortest longest a_order near b_order = record 
   second = λ route h. metrics_second a b route prefix shortest longest (omega arith) h;
   first_found = refl;
   second_found = sym finding;
+  real = λ size r s. record {
+    pattern = r.pattern;
+    lengths = r.lengths;
+    fits = r.fits;
+    metrics = omega (arith, r.metrics, s.metrics);
+    reachable = s.reachable;
+  };
 }
 
 begins_less : (net whole : List Bool) (bit : Bool) → LiesWithin net (whole ++ (bit ∷ [])) → LiesWithin net whole
@@ -150,4 +164,13 @@ joins_halves a b whole finding first_half second_half shortest longest least gre
   };
   first_found = refl;
   second_found = sym finding;
+  real = λ size r s.
+      let long : length a.prefix ≡ length whole + 1 = ap length first_half ∙ length-append whole (false ∷ []) in
+      record {
+        pattern = omega (arith, r.pattern);
+        lengths = r.lengths;
+        fits = r.fits;
+        metrics = r.metrics;
+        reachable = r.reachable;
+      };
 }

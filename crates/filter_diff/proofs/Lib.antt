@@ -8,3 +8,5 @@ pub mod Splits
 pub mod Dealt
 pub mod Adding
 pub mod Joined
+pub mod Real
+pub mod Witness

@@ -18,6 +18,17 @@ pub record IsOf (class : Class) (route : RouteView) : Type 0 where
   pub received : IsKnown class.metric route.metric
   pub size : route.size ≡ class.size
 
+-- the metric is at most the size, if one is known
+abbrev pub IsUpTo : ℕ → Option ℕ → Type 0
+IsUpTo size None = Unit {0}
+IsUpTo size (Some known) = known ≤ size
+
+-- a class with routes of the domain of a size: there is one for any further bits
+pub record IsOfSize (size : ℕ) (class : Class) : Type 0 where
+  pub bits : length class.known ≤ class.len
+  pub fits : class.len ≤ address_length
+  pub reachable : IsUpTo size class.metric
+
 -- a fact of each route of a class
 abbrev pub Always : Class → (RouteView → Type 0) → Type 0
 Always class P = (route : RouteView) → IsOf class route → P route

@@ -1,7 +1,7 @@
 -- What a comparison finds.
-use Rattle.std.specs.Prelude.{◌≡◌, ◌≢◌, ◌⊎◌, ℕ, ◌≤◌, List, [], ◌∷◌, length}
+use Rattle.std.specs.Prelude.{◌≡◌, ◌≢◌, ◌⊎◌, ℕ, ◌≤◌, Bool, true, false, List, [], ◌∷◌, length}
 use Rattle.prefix_patterns.specs.Bits.{address_length}
-use Rattle.prefix_patterns.specs.Matching.{LiesWithin}
+use Rattle.prefix_patterns.specs.Matching.{LiesWithin, Matches, PrefixPattern}
 use Rattle.filter_code.specs.RouteView.{RouteView}
 use Rattle.filter_code.specs.CodeView.{CodeView}
 use Rattle.filter_code.specs.Machine.{outcome_of}
@@ -25,6 +25,29 @@ pub record Has (part : Part) (route : RouteView) : Type 0 where
   pub least : part.least ≤ route.metric
   pub greatest : route.metric ≤ part.greatest
 
+-- a part is the routes of a pattern of prefixes and of a range of metrics, and at least one of them is in the domain of the size
+pub record IsReal (size : ℕ) (part : Part) : Type 0 where
+  pub pattern : length part.prefix ≤ part.shortest
+  pub lengths : part.shortest ≤ part.longest
+  pub fits : part.longest ≤ address_length
+  pub metrics : part.least ≤ part.greatest
+  pub reachable : part.greatest ≤ size
+
+-- a route of the domain that a part has
+pub record HasRoute (size : ℕ) (part : Part) : Type 0 where
+  pub route : RouteView
+  pub is_in : IsIn size route
+  pub has : Has part route
+
+-- the prefixes of a part as a pattern, and a route that matches it and whose metric is in the part's range
+abbrev pub pattern_of : Part → PrefixPattern
+pattern_of part = record { bits = part.prefix; low = part.shortest; high = part.longest }
+
+pub record IsMatched (part : Part) (route : RouteView) : Type 0 where
+  pub matched : Matches route.net (pattern_of part)
+  pub least : part.least ≤ route.metric
+  pub greatest : route.metric ≤ part.greatest
+
 -- two codes have the same outcome
 abbrev pub IsSame : CodeView → CodeView → RouteView → Type 0
 IsSame old new route = outcome_of old route ≡ outcome_of new route
@@ -39,6 +62,15 @@ pub record Differs (old new : CodeView) (before after : Outcome) (route : RouteV
 abbrev pub Holds : CodeView → CodeView → Finding → RouteView → Type 0
 Holds old new finding.Undecided route = Unit {0}
 Holds old new (finding.Differ before after) route = Differs old new (outcome_at route before) (outcome_at route after) route
+
+-- what was found is a difference, or nothing
+abbrev pub is_difference : Finding → Bool
+is_difference finding.Undecided = false
+is_difference (finding.Differ before after) = true
+
+abbrev pub is_undecided : Finding → Bool
+is_undecided finding.Undecided = true
+is_undecided (finding.Differ before after) = false
 
 -- a part's finding holds of each of its routes
 abbrev pub IsTrueOf : CodeView → CodeView → ℕ → Part → Type 0

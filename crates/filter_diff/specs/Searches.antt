@@ -1,10 +1,10 @@
 -- A search under way.
-use Rattle.std.specs.Prelude.{◌≡◌, ◌≢◌, ◌⊎◌, Bool, List, [], ◌∷◌, ◌++◌}
+use Rattle.std.specs.Prelude.{◌≡◌, ◌≢◌, ◌⊎◌, ℕ, Bool, List, [], ◌∷◌, ◌++◌, All}
 use Rattle.filter_code.specs.RouteView.{RouteView}
 use Rattle.filter_code.specs.CodeView.{CodeView}
-use Rattle.filter_diff.specs.Classes.{Always, IsOf}
+use Rattle.filter_diff.specs.Classes.{Always, IsOf, IsOfSize}
 use Rattle.filter_diff.specs.Endings.{outcome_at}
-use Rattle.filter_diff.specs.Parts.{Differs, Has, InOne, IsIn, IsSame}
+use Rattle.filter_diff.specs.Parts.{Differs, Has, InOne, IsIn, IsReal, IsSame}
 use Rattle.filter_diff.specs.declared.class.Class.{Class}
 use Rattle.filter_diff.specs.declared.ending.Ending.{Ending}
 use Rattle.filter_diff.specs.declared.found.Found.{Found}
@@ -34,6 +34,11 @@ pub record HasBit (class : Class) (bit : Bool) (longer : Class) : Type 0 where
 pub record IsPartOf (class : Class) (part : Part) : Type 0 where
   pub of_class : (route : RouteView) → IsIn class.size route → Has part route → IsOf class route
   pub of_part : (route : RouteView) → IsIn class.size route → IsOf class route → Has part route
+
+-- the parts that were found and the classes that are left have routes of the domain of a size
+pub record AreReal (size : ℕ) (parts : List Part) (classes : List Class) : Type 0 where
+  pub found : All (IsReal size) parts
+  pub left : All (IsOfSize size) classes
 
 -- a route is one of the classes that are left
 abbrev pub IsLeft : RouteView → List Class → Type 0

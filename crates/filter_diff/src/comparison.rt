@@ -1,11 +1,11 @@
 //! The search for the routes on which two codes differ.
 
-ghost use Rattle.std.specs.Prelude.{◌≡◌, ◌≤◌, ◌↔◌, [], All, IfOk, length};
+ghost use Rattle.std.specs.Prelude.{◌≡◌, ◌≤◌, All, IfOk, length};
 ghost use Rattle.prefix_patterns.specs.Bits.{address_length};
 ghost use Rattle.filter_code.specs.RouteView.{RouteView};
 ghost use Rattle.filter_code.specs.Limits.{largest_size};
-ghost use Rattle.filter_diff.specs.Parts.{Cover, IsIn, IsTrueOf};
-ghost use Rattle.filter_diff.specs.Classes.{IsOf};
+ghost use Rattle.filter_diff.specs.Parts.{Cover, IsIn, IsReal, IsTrueOf};
+ghost use Rattle.filter_diff.specs.Classes.{IsOf, IsOfSize};
 ghost use Rattle.filter_diff.specs.Searches.{IsLeft};
 
 use crate::class::Class;
@@ -14,6 +14,9 @@ use crate::search::{push_part, visit};
 use filter_code::Code;
 use prefix_patterns::{ADDRESS_LENGTH, Ip, Prefix};
 use std::alloc::{AllocError, Global};
+
+/// A limit of work that is enough for filters as they are written: so many classes of routes are tried at most.
+pub const CLASS_LIMIT: u64 = 1_000_000;
 
 /// What a comparison of two codes found.
 #[derive(Debug, Drop)]
@@ -24,38 +27,11 @@ pub struct Comparison {
     pub tried: u64,
 }
 
-/// What a comparison comes to.
-#[derive(Clone, Copy, Debug, PartialEq, Eq)]
-pub enum Answer {
-    /// The two codes have the same outcome on every route.
-    Same,
-    /// They differ on some routes.
-    Differ,
-    /// No difference was found, and some routes are undecided.
-    Undecided,
-}
-
-impl Comparison {
-    /// What the comparison comes to. The same if and only if there are no parts.
-    pub fn answer(&self) -> Answer
-        ensures { (result ≡ Answer.Same) ↔ (self.now.parts.items ≡ []) }
-    {
-        if self.parts.is_empty() {
-            return Answer::Same;
-        }
-        for part in &self.parts {
-            if let Finding::Differ(_, _) = part.finding {
-                return Answer::Differ;
-            }
-        }
-        Answer::Undecided
-    }
-}
-
 /// All routes of a length.
 fn all_of(len: u8, size: u32) -> Class
     requires { len ≤ address_length }
-    ensures { (route : RouteView) → IsIn size route → length route.net ≡ len → IsOf result route }
+    ensures all { (route : RouteView) → IsIn size route → length route.net ≡ len → IsOf result route }
+    ensures real { IsOfSize size result }
 {
     Class {
         known: Prefix::new(Ip(0), 0).unwrap(),
@@ -67,7 +43,8 @@ fn all_of(len: u8, size: u32) -> Class
 
 /// All routes, by their lengths.
 fn all_classes(alloc: Global, size: u32) -> Result<Vec<Class>, AllocError>
-    ensures { IfOk result (λ todo. (route : RouteView) → IsIn size route → IsLeft route todo.items) }
+    ensures all { IfOk result (λ todo. (route : RouteView) → IsIn size route → IsLeft route todo.items) }
+    ensures real { IfOk result (λ todo. All (IsOfSize size) todo.items) }
 {
     let mut todo = Vec::new(alloc);
     for step in 0..=ADDRESS_LENGTH {
@@ -88,6 +65,7 @@ pub fn compare(
     requires { size ≤ largest_size }
     ensures complete { IfOk result (λ found. Cover old.now new.now size found.parts.items) }
     ensures sound { IfOk result (λ found. All (IsTrueOf old.now new.now size) found.parts.items) }
+    ensures real { IfOk result (λ found. All (IsReal size) found.parts.items) }
     ensures work { IfOk result (λ found. found.tried ≤ limit) }
 {
     let mut parts = Vec::new(alloc);

@@ -1,6 +1,7 @@
 //! On which routes do two codes differ, with a proof that they agree on all others.
 #![tactic(auto)]
 
+mod answer;
 mod class;
 mod comparison;
 mod computing;
@@ -8,6 +9,7 @@ mod ending;
 mod found;
 mod joining;
 mod judge;
+mod laws;
 mod part;
 mod search;
 mod slots;
@@ -15,7 +17,9 @@ mod symbol;
 mod trials;
 mod turn;
 
-pub use comparison::{Answer, Comparison, compare};
+pub use answer::{Answer, answer_of, count_undecided, has_difference};
+pub use comparison::{CLASS_LIMIT, Comparison, compare};
 pub use ending::Ending;
 pub use joining::join_all;
+pub use laws::parts_are_patterns;
 pub use part::{Finding, Part};

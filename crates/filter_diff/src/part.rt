@@ -1,6 +1,5 @@
 use crate::ending::Ending;
 use prefix_patterns::Prefix;
-use std::fmt;
 
 /// What was found of the routes of a part.
 #[derive(Clone, Copy, Debug, PartialEq, Eq)]
@@ -26,20 +25,4 @@ pub struct Part {
     pub greatest: u32,
     /// What was found of them.
     pub finding: Finding,
-}
-
-impl fmt::Display for Part {
-    fn fmt<W: fmt::Write>(&self, f: &mut fmt::Formatter<W>) -> fmt::Result {
-        f.write_str(match self.finding {
-            Finding::Differ(_, _) => "differ ",
-            Finding::Undecided => "undecided ",
-        })?;
-        let prefix = self.prefix;
-        write!(f, "{prefix}{{{},{}}}", self.shortest, self.longest)?;
-        write!(f, ", metrics {}..{}", self.least, self.greatest)?;
-        match self.finding {
-            Finding::Differ(before, after) => write!(f, ": {before} | {after}"),
-            Finding::Undecided => Ok(()),
-        }
-    }
 }

@@ -2,9 +2,9 @@
 
 ghost use Rattle.std.specs.Prelude.{◌≡◌, ◌+◌, ◌≤◌, ◌++◌, [], ◌∷◌, All, IfOk, IfSome, IsTrue, OnOk, Some, length, vec_len};
 ghost use Rattle.filter_code.specs.RouteView.{RouteView};
-ghost use Rattle.filter_diff.specs.Classes.{Always, IsOf};
-ghost use Rattle.filter_diff.specs.Parts.{Holds, InOne, IsIn, IsTrueOf};
-ghost use Rattle.filter_diff.specs.Searches.{Compare, HasBit, IsDealt, IsLeft, IsPartOf, Says};
+ghost use Rattle.filter_diff.specs.Classes.{Always, IsOf, IsOfSize};
+ghost use Rattle.filter_diff.specs.Parts.{Holds, InOne, IsIn, IsReal, IsTrueOf};
+ghost use Rattle.filter_diff.specs.Searches.{AreReal, Compare, HasBit, IsDealt, IsLeft, IsPartOf, Says};
 ghost use Rattle.filter_diff.specs.declared.ending.Ending.TheVariants as ending;
 
 use crate::class::Class;
@@ -141,6 +141,7 @@ fn with_bit(class: &Class, bit: bool) -> Option<Class>
 pub(crate) fn part_of(class: &Class, finding: Finding) -> Part
     ensures routes { IsPartOf class.now result }
     ensures finding { result.finding ≡ finding }
+    ensures real { IsOfSize class.now.size class.now → IsReal class.now.size result }
 {
     let (least, greatest) = match class.metric {
         Some(metric) => (metric, metric),
@@ -158,8 +159,10 @@ pub(crate) fn part_of(class: &Class, finding: Finding) -> Part
 
 /// Appends the classes with each metric in place of any.
 fn push_metrics(class: &Class, todo: &mut Vec<Class>) -> Result<(), AllocError>
-    requires { class.now.size ≤ 250 }
+    requires small { class.now.size ≤ 250 }
+    requires real { IsOfSize class.now.size class.now }
     ensures kept { OnOk result ((route : RouteView) → IsLeft route todo.old.items → IsLeft route todo.new.items) }
+    ensures real { OnOk result (All (IsOfSize class.now.size) todo.old.items → All (IsOfSize class.now.size) todo.new.items) }
     ensures split { OnOk result ((route : RouteView) → IsIn class.now.size route → IsOf class.now route → IsLeft route todo.new.items) }
     ensures few { OnOk result (vec_len todo.new ≤ vec_len todo.old + 251) }
 {
@@ -176,7 +179,9 @@ fn push_metrics(class: &Class, todo: &mut Vec<Class>) -> Result<(), AllocError>
 
 /// Appends the two classes with one more bit known. None if there is no more bit.
 fn push_bits(class: &Class, todo: &mut Vec<Class>) -> Result<bool, AllocError>
+    requires { IsOfSize class.now.size class.now }
     ensures kept { OnOk result ((route : RouteView) → IsLeft route todo.old.items → IsLeft route todo.new.items) }
+    ensures real { OnOk result (All (IsOfSize class.now.size) todo.old.items → All (IsOfSize class.now.size) todo.new.items) }
     ensures split { IfOk result (λ done. IsTrue done → (route : RouteView) → IsOf class.now route → IsLeft route todo.new.items) }
     ensures few { OnOk result (vec_len todo.new ≤ vec_len todo.old + 2) }
 {
@@ -202,7 +207,9 @@ pub(crate) fn push_part(
     finding: Finding,
     parts: &mut Vec<Part>,
 ) -> Result<(), AllocError>
-    requires { Always class.now (λ route. Holds old.now new.now finding route) }
+    requires found { Always class.now (λ route. Holds old.now new.now finding route) }
+    requires real { IsOfSize class.now.size class.now }
+    ensures real { OnOk result (All (IsReal class.now.size) parts.old.items → All (IsReal class.now.size) parts.new.items) }
     ensures sound { OnOk result (All (IsTrueOf old.now new.now class.now.size) parts.old.items →
         All (IsTrueOf old.now new.now class.now.size) parts.new.items) }
     ensures kept { OnOk result ((route : RouteView) → InOne route parts.old.items → InOne route parts.new.items) }
@@ -220,7 +227,9 @@ fn split_metric(
     parts: &mut Vec<Part>,
     todo: &mut Vec<Class>,
 ) -> Result<(), AllocError>
-    requires { class.now.size ≤ 250 }
+    requires small { class.now.size ≤ 250 }
+    requires real { IsOfSize class.now.size class.now }
+    ensures real { OnOk result (AreReal class.now.size parts.old.items todo.old.items → AreReal class.now.size parts.new.items todo.new.items) }
     ensures sound { OnOk result (All (IsTrueOf old.now new.now class.now.size) parts.old.items →
         All (IsTrueOf old.now new.now class.now.size) parts.new.items) }
     ensures kept { OnOk result ((route : RouteView) → IsDealt old.now new.now parts.old.items todo.old.items route →
@@ -244,7 +253,9 @@ fn split_bits(
     parts: &mut Vec<Part>,
     todo: &mut Vec<Class>,
 ) -> Result<(), AllocError>
-    requires { class.now.size ≤ 250 }
+    requires small { class.now.size ≤ 250 }
+    requires real { IsOfSize class.now.size class.now }
+    ensures real { OnOk result (AreReal class.now.size parts.old.items todo.old.items → AreReal class.now.size parts.new.items todo.new.items) }
     ensures sound { OnOk result (All (IsTrueOf old.now new.now class.now.size) parts.old.items →
         All (IsTrueOf old.now new.now class.now.size) parts.new.items) }
     ensures kept { OnOk result ((route : RouteView) → IsDealt old.now new.now parts.old.items todo.old.items route →
@@ -268,7 +279,9 @@ pub(crate) fn visit(
     parts: &mut Vec<Part>,
     todo: &mut Vec<Class>,
 ) -> Result<(), AllocError>
-    requires { class.now.size ≤ 250 }
+    requires small { class.now.size ≤ 250 }
+    requires real { IsOfSize class.now.size class.now }
+    ensures real { OnOk result (AreReal class.now.size parts.old.items todo.old.items → AreReal class.now.size parts.new.items todo.new.items) }
     ensures sound { OnOk result (All (IsTrueOf old.now new.now class.now.size) parts.old.items →
         All (IsTrueOf old.now new.now class.now.size) parts.new.items) }
     ensures kept { OnOk result ((route : RouteView) → IsDealt old.now new.now parts.old.items todo.old.items route →

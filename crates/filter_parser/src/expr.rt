@@ -174,6 +174,7 @@ fn parse_comparison<'a>(
 
 /// What follows a comparison operator, which has the place `at`.
 #[cycle(expr)]
+#[inline(never)]
 fn parse_right_operand<'a>(
     alloc: Global,
     depth: usize,

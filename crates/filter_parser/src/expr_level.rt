@@ -94,6 +94,7 @@ fn product_op(symbol: Symbol) -> Option<Op>
 }
 
 /// An operator of a level, if one comes first, and what is left after it.
+#[inline(always)]
 pub fn eat_operator<'a>(level: Level, input: Input<'a>) -> Option<(Op, Input<'a>)>
     ensures found { Finds (λ x. (x.0, remaining x.1)) result (spec.an_operator level (remaining input.entry)) }
     ensures shorter { IfSome result (λ x. length (remaining x.1) < length (remaining input.entry)) }

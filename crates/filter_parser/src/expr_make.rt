@@ -22,6 +22,7 @@ pub fn negation(alloc: Global, at: usize, inner: Expr) -> Result<Expr, AllocErro
 }
 
 /// An operand and the operators after it, if there are any.
+#[inline(always)]
 pub fn chain(alloc: Global, first: Expr, more: Vec<(usize, Op, Expr)>) -> Result<Expr, AllocError>
     ensures is { IfOk result (λ t. view t ≡ chain_of (view first) (view_more more.items)) }
     ensures placed { IfOk result (λ t. expr_kept t ≡ expr_kept first ++ joined (map operand_kept (kept_more more.items))) }

@@ -1,7 +1,7 @@
 -- A text that is not parsed is refused for spelling no filter, one whose translation is over a limit for that, and so is a code that the
 -- older form of a file has not.
 use Rattle.std.proofs.Common.{◌≡◌, ◌⊎◌, ℕ, Bool, true, List, Result, Ok, Err, IfErr, inl, inr, refl, sym, subst}
-use Rattle.std.specs.Prelude.{◌≢◌, IsErrAnd}
+use Rattle.std.specs.Prelude.{◌≢◌, ◌<◌, IsErrAnd, length}
 use Rattle.code_file.specs.Spelling.{needs_int_sets}
 use Rattle.code_file.specs.declared.fault.FileFault.{FileFault}
 use Rattle.code_file.specs.declared.fault.FileFault.TheVariants as file
@@ -10,7 +10,8 @@ use Rattle.filter_compiler.specs.Limits.{HasTooMany, IsTooLong}
 use Rattle.filter_compiler.specs.Translation.{code_of}
 use Rattle.filter_compiler.specs.declared.fault.CompileFault.{CompileFault}
 use Rattle.filter_compiler.specs.declared.fault.CompileFault.TheVariants as compile
-use Rattle.filter_parser.specs.SyntaxText.{FilterView, IsText}
+use Rattle.filter_parser.specs.Codes.{LiesWithin}
+use Rattle.filter_parser.specs.SyntaxText.{FilterView, IsText, text_limit}
 use Rattle.filter_parser.specs.declared.fault.ParseFault.{ParseFault}
 use Rattle.filter_parser.specs.declared.fault.ParseFault.TheVariants as parse
 use Rattle.filter_types.specs.Kinds.{IsTyped}
@@ -18,9 +19,10 @@ use Rattle.filter_source.specs.Failures.{OnRefusal, of_compile, of_file, of_pars
 use Rattle.filter_source.specs.Sources.{IsRefusedText, IsUnwritten}
 
 pub no_filter : (text : List ℕ) (why : ParseFault) → (why ≢ parse.Memory → (filter : FilterView) → IsText text filter → ⊥)
-    → OnRefusal (IsRefusedText text) (of_parse why)
-no_filter text parse.Memory h = tt
-no_filter text why h = let other : why ≢ parse.Memory = λ e. cc in (other, h other)
+    → LiesWithin (length text) why → (text_limit < length text → why ≡ parse.TooLong) → OnRefusal (IsRefusedText text) (of_parse why)
+no_filter text parse.Memory none within long = tt
+no_filter text why none within long = let other : why ≢ parse.Memory = λ e. cc in
+    record { spells_none = none other; no_memory = other; within = within; long = long }
 
 -- a filter whose names and kinds fit has no code where its translation is over a limit; of refused memory nothing is said
 pub over_limit : (text : List ℕ) (filter : FilterView) (why : CompileFault) → IsText text filter → IsTyped filter

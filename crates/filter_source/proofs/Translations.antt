@@ -14,7 +14,7 @@ pub one : (text : List ℕ) (f g : FilterView) (p q : CodeView) → Translates t
 one text f g p q a b = a.code ∙ ap code_of (sym (a.only g b.spelled)) ∙ sym b.code
 
 pub none : (text : List ℕ) (f : FilterView) (p : CodeView) (why : Refusal) → Translates text f p → IsRefusedText text why → ⊥
-none text f p (Parse why) a r = r.1 f a.spelled
+none text f p (Parse why) a r = r.spells_none f a.spelled
 none text f p (Typing why) a r = r.3 (subst IsTyped (sym (a.only r.0 r.1)) a.typed)
 none text f p (Compile compile.TooManyInstructions) a r =
     a.short (subst (λ (g : FilterView). IsTooLong (code_of g)) (a.only r.0 r.1) r.3)

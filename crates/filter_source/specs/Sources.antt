@@ -1,5 +1,5 @@
 -- Which code a source gives, and when it is refused. (This project's own choice.)
-use Rattle.std.specs.Prelude.{◌≡◌, ◌≢◌, ℕ, Bool, true, false, List, Some, Result, Ok, Err}
+use Rattle.std.specs.Prelude.{◌≡◌, ◌≢◌, ◌<◌, ℕ, Bool, true, false, List, length, Some, Result, Ok, Err}
 use Rattle.hex.specs.Hex.{decode_of}
 use Rattle.hex.specs.declared.error.FromHexError.{FromHexError}
 use Rattle.code_file.specs.Reading.{file_of}
@@ -14,7 +14,9 @@ use Rattle.filter_compiler.specs.Same.{MeansTheSame}
 use Rattle.filter_compiler.specs.Translation.{code_of}
 use Rattle.filter_compiler.specs.declared.fault.CompileFault.{CompileFault}
 use Rattle.filter_compiler.specs.declared.fault.CompileFault.TheVariants as compile
-use Rattle.filter_parser.specs.SyntaxText.{FilterView, IsText}
+use Rattle.filter_parser.specs.Codes.{LiesWithin}
+use Rattle.filter_parser.specs.SyntaxText.{FilterView, IsText, text_limit}
+use Rattle.filter_parser.specs.declared.fault.ParseFault.{ParseFault}
 use Rattle.filter_parser.specs.declared.fault.ParseFault.TheVariants as parse
 use Rattle.filter_types.specs.Kinds.{IsTyped}
 use Rattle.filter_types.specs.declared.fault.TypeFault.TheVariants as types
@@ -40,10 +42,18 @@ IsOverLimit program compile.TooManyInstructions = IsTooLong program
 IsOverLimit program compile.TooManySets = ¬ IsTooLong program × HasTooMany program
 IsOverLimit program compile.Memory = ⊥
 
+-- A text spells no filter, and this is a fault of it, at one of its bytes or at its end. P7 is the fault of a text over the limit, and
+-- of no other. Which of its other faults it is, is left open.
+pub record IsUnspelled (text : List ℕ) (why : ParseFault) : Type 0 where
+  pub spells_none : (filter : FilterView) → IsText text filter → ⊥
+  pub no_memory : why ≢ parse.Memory
+  pub within : LiesWithin (length text) why
+  pub long : text_limit < length text → why ≡ parse.TooLong
+
 -- A text has no code, and this may be why: it spells no filter, or a filter whose names and kinds do not fit, or one whose
--- translation is over a limit. Which fault of a text or of its names and kinds is answered, and its place, is left open.
+-- translation is over a limit. Which fault of its names and kinds is answered, and its place, is left open.
 abbrev pub IsRefusedText : List ℕ → Refusal → Type 0
-IsRefusedText text (Parse why) = (why ≢ parse.Memory) × ((filter : FilterView) → IsText text filter → ⊥)
+IsRefusedText text (Parse why) = IsUnspelled text why
 IsRefusedText text (Typing why) = (filter : FilterView) × IsText text filter × (why ≢ types.Memory) × ¬ IsTyped filter
 IsRefusedText text (Compile why) =
     (filter : FilterView) × IsText text filter × IsTyped filter × IsOverLimit (code_of filter) why

@@ -1,4 +1,5 @@
 pub mod Places
+pub mod Positions
 pub mod Shown
 pub mod HeadWords
 pub mod Ranges

@@ -100,8 +100,8 @@ fn answer_route(
     }
 }
 
-/// The verified code of the filter that a text spells.
-fn verified_filter(alloc: Global, text: &[u8], size: u32) -> Result<Verified, Failure>
+/// The verified code of the filter that a text spells, for domains of `size` nodes.
+pub fn verified_filter(alloc: Global, text: &[u8], size: u32) -> Result<Verified, Failure>
     ensures size { IfOk result (λ verified. verified.size ≡ size) }
     ensures translates { IfOk result (λ verified. (filter : FilterView) × Translates text.now filter verified.program) }
     ensures safe { IfOk result (λ verified. IsSafe verified.program verified.size) }

@@ -15,7 +15,7 @@ ghost use Rattle.filter_tools.specs.Listing.{IsToldOfCode, IsToldOfListing, Writ
 ghost use Rattle.filter_tools.specs.Listing.{nothing_known, origin_in, place_text, places_text, state_text, target_text};
 
 use crate::filter::refusal_line;
-use crate::place::place_in;
+use crate::position::Positions;
 use filter_code::{Code, Instr};
 use filter_commands::{ProgramFault, code_of};
 use filter_compiler::MappedCode;
@@ -26,9 +26,9 @@ use std::alloc::{AllocError, Global};
 use std::io::Write;
 
 /// The text that a code was compiled from, and for each instruction the byte that it comes from. A code file has no such bytes.
-#[derive(Clone, Copy)]
+#[derive(Drop)]
 struct Origins<'a> {
-    source: &'a [u8],
+    source: Positions<'a>,
     places: &'a [usize],
 }
 
@@ -118,16 +118,16 @@ fn push_target(out: &mut Vec<u8>, at: usize, instr: Instr) -> Result<(), AllocEr
 }
 
 /// Puts where the instruction at an index comes from at the end of `out`.
-fn push_origin(out: &mut Vec<u8>, origins: Origins, at: usize) -> Result<(), AllocError>
-    ensures { OnOk result (out.new.items ≡ out.old.items ++ origin_in origins.entry.source.now origins.entry.places.now at) }
+fn push_origin(out: &mut Vec<u8>, origins: &Origins, at: usize) -> Result<(), AllocError>
+    ensures { OnOk result (out.new.items ≡ out.old.items ++ origin_in origins.now.source origins.now.places.now at) }
 {
     match place_at(origins.places, at) {
         Some(byte) => {
-            let place = place_in(origins.source, byte);
+            let position = origins.source.of(byte);
             out.extend_from_slice(b" ; ")?;
-            push_decimal(out, place.line as u64)?;
+            push_decimal(out, position.line as u64)?;
             out.push(b':')?;
-            push_decimal(out, place.column as u64)
+            push_decimal(out, position.column as u64)
         }
         None => Ok(()),
     }
@@ -137,13 +137,13 @@ fn push_origin(out: &mut Vec<u8>, origins: Origins, at: usize) -> Result<(), All
 fn push_instruction(
     alloc: Global,
     out: &mut Vec<u8>,
-    origins: Origins,
+    origins: &Origins,
     at: usize,
     instr: Instr,
 ) -> Result<(), AllocError>
     requires { at ≤ instruction_limit }
     ensures { OnOk result ((words : List ℕ) × (out.new.items
-        ≡ out.old.items ++ instruction_line at words instr (origin_in origins.entry.source.now origins.entry.places.now at))) }
+        ≡ out.old.items ++ instruction_line at words instr (origin_in origins.now.source origins.now.places.now at))) }
 {
     let words = format!(in alloc; "{instr}")?;
     push_decimal(out, at as u64)?;
@@ -156,8 +156,8 @@ fn push_instruction(
 }
 
 /// The lines of all instructions.
-fn list_instructions(alloc: Global, code: &Code, origins: Origins) -> Result<Vec<u8>, AllocError>
-    ensures { IfOk result (λ text. Lists code.now.instrs nothing_known (origin_in origins.entry.source.now origins.entry.places.now) (length code.now.instrs) text.items) }
+fn list_instructions(alloc: Global, code: &Code, origins: &Origins) -> Result<Vec<u8>, AllocError>
+    ensures { IfOk result (λ text. Lists code.now.instrs nothing_known (origin_in origins.now.source origins.now.places.now) (length code.now.instrs) text.items) }
 {
     let mut out = Vec::new(alloc);
     for (at, instr) in code.instrs().iter().enumerate() {
@@ -170,10 +170,10 @@ fn list_instructions(alloc: Global, code: &Code, origins: Origins) -> Result<Vec
 fn list_visited(
     alloc: Global,
     code: &Code,
-    origins: Origins,
+    origins: &Origins,
     size: u32,
 ) -> Result<Vec<u8>, AllocError>
-    ensures { IfOk result (λ text. Lists code.now.instrs (known_before code.now size) (origin_in origins.entry.source.now origins.entry.places.now)
+    ensures { IfOk result (λ text. Lists code.now.instrs (known_before code.now size) (origin_in origins.now.source origins.now.places.now)
         (surveyed code.now size (the_fault code.now size)) text.items) }
 {
     let survey = survey_code(alloc, code, size)?;
@@ -190,11 +190,11 @@ fn list_visited(
 fn list_verified(
     alloc: Global,
     code: Code,
-    origins: Origins,
+    origins: &Origins,
     size: u32,
 ) -> Result<Listing, AllocError>
-    ensures listing { IfOk result (λ listing. IsListing (Some size) code (origin_in origins.entry.source.now origins.entry.places.now) listing.text.items (refusal_in listing.told)) }
-    ensures told { IfOk result (λ listing. IfSome listing.told (λ told. IsUnsafe code size told.refusal × TellsOfCode code origins.entry.places.now size told)) }
+    ensures listing { IfOk result (λ listing. IsListing (Some size) code (origin_in origins.now.source origins.now.places.now) listing.text.items (refusal_in listing.told)) }
+    ensures told { IfOk result (λ listing. IfSome listing.told (λ told. IsUnsafe code size told.refusal × TellsOfCode code origins.now.places.now size told)) }
 {
     let mut text = list_visited(alloc, &code, origins, size)?;
     match verify_mapped(alloc, code, origins.places, size) {
@@ -218,11 +218,11 @@ fn list_verified(
 fn list(
     alloc: Global,
     code: Code,
-    origins: Origins,
+    origins: &Origins,
     size: Option<u32>,
 ) -> Result<Listing, AllocError>
-    ensures listing { IfOk result (λ listing. IsListing size code (origin_in origins.entry.source.now origins.entry.places.now) listing.text.items (refusal_in listing.told)) }
-    ensures told { IfOk result (λ listing. IfSome listing.told (IsToldOfCode size code origins.entry.places.now)) }
+    ensures listing { IfOk result (λ listing. IsListing size code (origin_in origins.now.source origins.now.places.now) listing.text.items (refusal_in listing.told)) }
+    ensures told { IfOk result (λ listing. IfSome listing.told (IsToldOfCode size code origins.now.places.now)) }
 {
     match size {
         Some(size) => list_verified(alloc, code, origins, size),
@@ -246,10 +246,10 @@ fn list_source(
     match code_of(alloc, source, is_code) {
         Ok(MappedCode { code, places }) => {
             let origins = Origins {
-                source,
+                source: Positions::new(alloc, source)?,
                 places: places.as_slice(),
             };
-            list(alloc, code, origins, size)
+            list(alloc, code, &origins, size)
         }
         Err(Failure::Refused(told)) => Ok(Listing {
             text: refusal_line(alloc, told.refusal)?,

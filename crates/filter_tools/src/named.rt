@@ -71,7 +71,7 @@ fn tell_named<E: Write>(
 
 /// Tells why a source of this name is refused, if it is: in words where `is_explained` says so, and otherwise by its name and its
 /// refusal.
-fn tell_refusal<E: Write>(
+pub fn tell_refusal<E: Write>(
     alloc: Global,
     errors: &mut E,
     name: &[u8],

@@ -3,3 +3,5 @@ pub mod Tried
 pub mod Untold
 mod FiltersRead
 mod JoinedRead
+mod Stopped
+mod Helped

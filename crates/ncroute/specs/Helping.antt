@@ -16,14 +16,15 @@ use Rattle.filter_tools.specs.declared.filter.Filtered.TheVariants.{Refused, Ans
 use Rattle.line_protocol.specs.Runs.{AppendsFront}
 use Rattle.line_protocol.specs.declared.faults.StreamFault.{StreamFault}
 use Rattle.line_protocol.specs.Limits.{input_limit}
+use Rattle.ncroute.specs.Comparing.{ComparesSources, StopsComparing}
 use Rattle.ncroute.specs.Guiding.{RunsGuided, StopsRun}
+use Rattle.ncroute.specs.Joining.{RunsJoined, StopsJoined}
 use Rattle.ncroute.specs.Marking.{ChecksLines, CutsLines}
-use Rattle.ncroute.specs.Reading.{IsRead, IsUnread, StopsTelling, TellsUnread, name_of}
+use Rattle.ncroute.specs.Reading.{IsRead, SkipsUnread, StopsReading, name_of}
 use Rattle.ncroute.specs.Replaying.{CutsReplay, ReplaysText, replay_limit}
 use Rattle.ncroute.specs.Scripts.{RunsScript, StopsScript, script_fault}
 use Rattle.ncroute.specs.Serving.{fault_line, status_of}
 use Rattle.ncroute.specs.Streaming.{Streams}
-use Rattle.ncroute.specs.declared.texts.Unread.{Unread}
 use Rattle.command_line.specs.declared.aid_words.Aid.{Aid}
 use Rattle.command_line.specs.declared.aid_words.Aid.TheVariants as aid
 use Rattle.command_line.specs.declared.aid_words.Checking.{Checking}
@@ -94,6 +95,7 @@ pub record ListsText (size : Option ℕ) (is_code is_explained : Bool) (name tex
 -- one of its own, so that it differs from a refusal.
 abbrev pub fault_status : Aid → ℕ
 fault_status (aid.Check how sources) = 1
+fault_status (aid.Diff how old new) = 3
 fault_status (aid.Explain page) = 1
 fault_status (aid.Import how source) = 1
 fault_status (aid.List size is_code source is_explained) = 3
@@ -105,17 +107,12 @@ fault_status (aid.Script engine source is_explained) = script_fault engine
 
 -- `opens name` says what may come of opening a file of this name.
 module _ (opens : List ℕ → Result (Option (List ℕ)) Error → Type 0) where
-  -- A file was not read, which standard error was told, and nothing was written.
-  abbrev pub SkipsUnread : ℕ → Source → Streams → Streams → Type 0
-  SkipsUnread limit source before after = (why : Unread) × IsUnread opens limit source why before.reads after.reads
-      × TellsUnread source why before.tells after.tells × (after.holds ≡ before.holds)
-
   -- A source was read and checked; or it was not read, and counts as refused.
   abbrev pub ChecksOne : Checking → Source → Streams → Streams → Bool → Type 0
   ChecksOne how source before after is_refused =
       ((text : List ℕ) × IsRead opens source_limit source text before.reads after.reads
       × ChecksText how (name_of source) text before.holds after.holds before.tells after.tells is_refused)
-      ⊎ (SkipsUnread source_limit source before after × (is_refused ≡ true))
+      ⊎ (SkipsUnread opens source_limit source before after × (is_refused ≡ true))
 
   -- The first n of some sources were checked so, in order, and it is said whether one of them is refused.
   unfoldable pub ChecksFirst : Checking → List Source → ℕ → Streams → Streams → Bool → Type 0
@@ -124,14 +121,9 @@ module _ (opens : List ℕ → Result (Option (List ℕ)) Error → Type 0) wher
       × (slice_get sources n ≡ Some source) × ChecksFirst how sources n before mid earlier × ChecksOne how source mid after one
       × (refused ≡ (earlier || one))
 
-  -- A fault kept a source from being read or told of, and nothing was written.
-  abbrev pub StopsReading : StreamFault → ℕ → Source → Streams → Streams → Type 0
-  StopsReading fault limit source before after = (why : Unread) × IsUnread opens limit source why before.reads after.reads
-      × StopsTelling fault source why before.tells after.tells × (after.holds ≡ before.holds)
-
   -- A fault cut the check of a source: its text was not read, or the report or what is told was cut.
   abbrev pub IsCutOne : StreamFault → Checking → Source → Streams → Streams → Type 0
-  IsCutOne fault how source before after = StopsReading fault source_limit source before after
+  IsCutOne fault how source before after = StopsReading opens fault source_limit source before after
       ⊎ ((text : List ℕ) × IsRead opens source_limit source text before.reads after.reads
       × CutsText fault how (name_of source) text before.holds after.holds before.tells after.tells)
 
@@ -150,11 +142,11 @@ module _ (opens : List ℕ → Result (Option (List ℕ)) Error → Type 0) wher
   TriesFilter size source is_explained before after status =
       ((text : List ℕ) × (left : Option (List ℕ)) × IsRead opens source_limit source text before.reads left
       × TriesText size (name_of source) is_explained text (record before { reads = left }) after status)
-      ⊎ (SkipsUnread source_limit source before after × (status ≡ 3))
+      ⊎ (SkipsUnread opens source_limit source before after × (status ≡ 3))
 
   -- A fault ended it.
   abbrev pub StopsFilter : StreamFault → ℕ → Source → Streams → Streams → Type 0
-  StopsFilter fault size source before after = StopsReading fault source_limit source before after
+  StopsFilter fault size source before after = StopsReading opens fault source_limit source before after
       ⊎ ((text : List ℕ) × (left : Option (List ℕ)) × IsRead opens source_limit source text before.reads left
       × StopsTrying fault size (name_of source) text (record before { reads = left }) after)
 
@@ -163,11 +155,11 @@ module _ (opens : List ℕ → Result (Option (List ℕ)) Error → Type 0) wher
   ListsSource size is_code is_explained source before after status =
       ((text : List ℕ) × IsRead opens source_limit source text before.reads after.reads
       × ListsText size is_code is_explained (name_of source) text before.holds after.holds before.tells after.tells status)
-      ⊎ (SkipsUnread source_limit source before after × (status ≡ 3))
+      ⊎ (SkipsUnread opens source_limit source before after × (status ≡ 3))
 
   -- A fault ended it.
   abbrev pub StopsListing : StreamFault → Option ℕ → Bool → Source → Streams → Streams → Type 0
-  StopsListing fault size is_code source before after = StopsReading fault source_limit source before after
+  StopsListing fault size is_code source before after = StopsReading opens fault source_limit source before after
       ⊎ ((text : List ℕ) × IsRead opens source_limit source text before.reads after.reads
       × ListsNamedOff fault size is_code (name_of source) text before.holds after.holds before.tells after.tells)
 
@@ -176,11 +168,11 @@ module _ (opens : List ℕ → Result (Option (List ℕ)) Error → Type 0) wher
   ReplaysSource source before after status =
       ((text : List ℕ) × IsRead opens replay_limit source text before.reads after.reads
       × ReplaysText text before.holds after.holds status × (after.tells ≡ before.tells))
-      ⊎ (SkipsUnread replay_limit source before after × (status ≡ 3))
+      ⊎ (SkipsUnread opens replay_limit source before after × (status ≡ 3))
 
   -- A fault ended it.
   abbrev pub StopsReplay : StreamFault → Source → Streams → Streams → Type 0
-  StopsReplay fault source before after = StopsReading fault replay_limit source before after
+  StopsReplay fault source before after = StopsReading opens fault replay_limit source before after
       ⊎ ((text : List ℕ) × IsRead opens replay_limit source text before.reads after.reads
       × CutsReplay fault text before.holds after.holds × (after.tells ≡ before.tells))
 
@@ -190,11 +182,11 @@ module _ (opens : List ℕ → Result (Option (List ℕ)) Error → Type 0) wher
       ((script : List ℕ) × (left : Option (List ℕ)) × IsRead opens input_limit source script before.reads after.reads
       × RunsScript engine is_explained (record { reads = Some script; holds = before.holds; tells = before.tells })
       (record { reads = left; holds = after.holds; tells = after.tells }) status)
-      ⊎ (SkipsUnread input_limit source before after × (status ≡ script_fault engine))
+      ⊎ (SkipsUnread opens input_limit source before after × (status ≡ script_fault engine))
 
   -- A fault ended it.
   abbrev pub StopsFile : StreamFault → Engine → Source → Bool → Streams → Streams → Type 0
-  StopsFile fault engine source is_explained before after = StopsReading fault input_limit source before after
+  StopsFile fault engine source is_explained before after = StopsReading opens fault input_limit source before after
       ⊎ ((script : List ℕ) × (left : Option (List ℕ)) × IsRead opens input_limit source script before.reads after.reads
       × StopsScript fault engine is_explained (record { reads = Some script; holds = before.holds; tells = before.tells })
       (record { reads = left; holds = after.holds; tells = after.tells }))
@@ -211,11 +203,11 @@ module _ (opens : List ℕ → Result (Option (List ℕ)) Error → Type 0) wher
 
   -- `creates name` says what may come of making a file of this name: what it holds at first, or why there is none.
   module _ (creates : List ℕ → Result (Option (List ℕ)) Error → Type 0) where
-    -- What people asked for was done to its end, with this exit status. Of an import nothing more is said, and
-    -- of the script that several sources are nothing yet.
+    -- What people asked for was done to its end, with this exit status. Of an import nothing more is said.
     abbrev pub Helps : Aid → Streams → Streams → ℕ → Type 0
     Helps (aid.Check how sources) before after status = (refused : Bool)
         × ChecksFirst how sources.items (length sources.items) before after refused × (status ≡ (if refused then 1 else 0))
+    Helps (aid.Diff how old new) before after status = ComparesSources opens how old new before after status
     Helps (aid.Explain page) before after status =
         Appends before.holds after.holds (string_bytes page) × (after.reads ≡ before.reads) × (after.tells ≡ before.tells) × (status ≡ 0)
     Helps (aid.Import how source) before after status = status ≤ 1
@@ -223,12 +215,13 @@ module _ (opens : List ℕ → Result (Option (List ℕ)) Error → Type 0) wher
     Helps (aid.Filter size source is_explained) before after status = TriesFilter size source is_explained before after status
     Helps (aid.Replay source) before after status = ReplaysSource source before after status
     Helps (aid.Run how source) before after status = RunsGuided creates opens how source before after status
-    Helps (aid.RunJoined how sources) before after status = ⊤
+    Helps (aid.RunJoined how sources) before after status = RunsJoined creates opens how sources.items before after status
     Helps (aid.Script engine source is_explained) before after status = RunsSource engine source is_explained before after status
 
     -- A fault ended it.
     abbrev pub StopsHelp : StreamFault → Aid → Streams → Streams → Type 0
     StopsHelp fault (aid.Check how sources) before after = ChecksSome fault how sources.items before after
+    StopsHelp fault (aid.Diff how old new) before after = StopsComparing opens fault how old new before after
     StopsHelp fault (aid.Explain page) before after =
         IsCut fault before.holds after.holds (string_bytes page) × (after.reads ≡ before.reads) × (after.tells ≡ before.tells)
     StopsHelp fault (aid.Import how source) before after = ⊤
@@ -236,7 +229,7 @@ module _ (opens : List ℕ → Result (Option (List ℕ)) Error → Type 0) wher
     StopsHelp fault (aid.Filter size source is_explained) before after = StopsFilter fault size source before after
     StopsHelp fault (aid.Replay source) before after = StopsReplay fault source before after
     StopsHelp fault (aid.Run how source) before after = StopsRun creates opens fault how source before after
-    StopsHelp fault (aid.RunJoined how sources) before after = ⊤
+    StopsHelp fault (aid.RunJoined how sources) before after = StopsJoined creates opens fault how sources.items before after
     StopsHelp fault (aid.Script engine source is_explained) before after = StopsSource fault engine source is_explained before after
 
     -- What people asked for ended with this exit status: it was done to its end; or a fault ended it, which standard error was told,

@@ -32,9 +32,10 @@ module _ (opens : List ℕ → Result (Option (List ℕ)) Error → Type 0) wher
   JoinsNext source earlier script known left =
       (text : List ℕ) × IsRead opens input_limit source text known left × (script ≡ earlier ++ ended text)
 
-  -- It was not. Where memory is refused nothing is said of it.
+  -- It was not: it was not read, or memory was refused for what was read.
   abbrev pub LeavesNext : Source → Unread → Option (List ℕ) → Option (List ℕ) → Type 0
-  LeavesNext source why known left = (why ≡ unread.Memory) ⊎ IsUnread opens input_limit source why known left
+  LeavesNext source why known left = IsUnread opens input_limit source why known left
+      ⊎ ((text : List ℕ) × IsRead opens input_limit source text known left × (why ≡ unread.Memory))
 
   -- The first n of some sources were read, in order, and the script is their texts, one after another.
   unfoldable pub JoinsFirst : List Source → ℕ → List ℕ → Option (List ℕ) → Option (List ℕ) → Type 0

@@ -1,3 +1,4 @@
+pub mod Comparing
 pub mod Filters
 pub mod Guiding
 pub mod Helping

@@ -11,6 +11,7 @@ use Rattle.line_protocol.specs.declared.faults.StreamFault.TheVariants as fault
 use Rattle.filter_tools.specs.Shown.{shown}
 use Rattle.command_line.specs.declared.aid_words.Source.{Source}
 use Rattle.command_line.specs.declared.aid_words.Source.TheVariants.{Input, File}
+use Rattle.ncroute.specs.Streaming.{Streams}
 use Rattle.ncroute.specs.declared.texts.Unread.{Unread}
 use Rattle.ncroute.specs.declared.texts.Unread.TheVariants as unread
 
@@ -97,3 +98,13 @@ module _ (opens : List ℕ → Result (Option (List ℕ)) Error → Type 0) wher
   abbrev pub IsUnread : ℕ → Source → Unread → Option (List ℕ) → Option (List ℕ) → Type 0
   IsUnread limit Input why known left = LeavesInput limit why known left
   IsUnread limit (File name) why known left = (left ≡ known) × LeavesFile (string_bytes name) why
+
+  -- A source was not read, which standard error was told, and nothing was written.
+  abbrev pub SkipsUnread : ℕ → Source → Streams → Streams → Type 0
+  SkipsUnread limit source before after = (why : Unread) × IsUnread limit source why before.reads after.reads
+      × TellsUnread source why before.tells after.tells × (after.holds ≡ before.holds)
+
+  -- A fault kept a source from being read or told of, and nothing was written.
+  abbrev pub StopsReading : StreamFault → ℕ → Source → Streams → Streams → Type 0
+  StopsReading fault limit source before after = (why : Unread) × IsUnread limit source why before.reads after.reads
+      × StopsTelling fault source why before.tells after.tells × (after.holds ≡ before.holds)

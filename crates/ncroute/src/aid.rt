@@ -12,6 +12,7 @@ ghost use Rattle.ncroute.specs.Helping.{ReplaysSource, RunsFile, RunsSource, Ser
 ghost use Rattle.ncroute.specs.Helping.{StopsReplay, StopsSource, StopsTrying, TriesFilter, TriesText, fault_status, status_of_filter, told_refusal};
 ghost use Rattle.ncroute.specs.Reading.{name_of};
 
+use crate::comparing::compare_sources;
 use crate::guided::guide_source;
 use crate::importing::import_source;
 use crate::joined::guide_sources;
@@ -454,6 +455,9 @@ fn help<F: Folder, R: Read, W: Write, E: Write>(
             let is_refused = check_sources(files, alloc, *how, sources, reader, writer, errors)?;
             Ok(if is_refused { FAILED } else { 0 })
         }
+        Aid::Diff { how, old, new } => {
+            compare_sources(files, alloc, *how, old, new, reader, writer, errors)
+        }
         Aid::Explain { page } => show(page.as_str(), writer),
         Aid::List {
             size,
@@ -523,7 +527,7 @@ pub fn fault_status(aid: &Aid) -> u8
         | Aid::Import { .. }
         | Aid::Run { .. }
         | Aid::RunJoined { .. } => FAILED,
-        Aid::List { .. } | Aid::Filter { .. } | Aid::Replay { .. } => FAULT,
+        Aid::Diff { .. } | Aid::Filter { .. } | Aid::List { .. } | Aid::Replay { .. } => FAULT,
         Aid::Script { engine, .. } => script_fault(*engine),
     }
 }

@@ -228,7 +228,24 @@ fn tell_left<W: Write>(
     Ok(())
 }
 
-/// Puts the file of a source behind a configuration, with the files that it includes.
+/// Reads a file of a configuration. One that cannot be read is told of.
+fn read_config<F: Folder, R: Read, E: Write>(
+    files: &F,
+    alloc: Global,
+    source: &Source,
+    reader: &mut R,
+    errors: &mut E,
+) -> Result<Option<Vec<u8>>, ProgramFault> {
+    let why = match read_source(files, alloc, source, INPUT_LIMIT, reader) {
+        Ok(text) if text.len() <= INPUT_LIMIT => return Ok(Some(text)),
+        Ok(_) => Unread::TooLong,
+        Err(why) => why,
+    };
+    tell_unread(alloc, errors, source, why)?;
+    Ok(None)
+}
+
+/// Puts the text of a source behind a configuration, with the files that it includes.
 #[cycle(including)]
 fn push_source<F: Folder, R: Read, W: Write, E: Write>(
     files: &F,
@@ -236,38 +253,28 @@ fn push_source<F: Folder, R: Read, W: Write, E: Write>(
     whole: &mut Whole,
     open: &mut Vec<usize>,
     source: Source,
+    text: &[u8],
     depth: u8,
     reader: &mut R,
     writer: &mut W,
     errors: &mut E,
 ) -> Result<(), ProgramFault> {
-    let text = match read_source(files, alloc, &source, INPUT_LIMIT, reader) {
-        Ok(text) if text.len() > INPUT_LIMIT => {
-            whole.is_partial = true;
-            return tell_unread(alloc, errors, &source, Unread::TooLong);
-        }
-        Ok(text) => text,
-        Err(why) => {
-            whole.is_partial = true;
-            return tell_unread(alloc, errors, &source, why);
-        }
-    };
     let file = whole.files.len();
     whole.files.push(File {
         source,
-        text: Vec::from_slice(alloc, text.as_slice())?,
+        text: Vec::from_slice(alloc, text)?,
     })?;
     open.push(file)?;
-    let included = included_in(alloc, text.as_slice())?;
+    let included = included_in(alloc, text)?;
     let mut done = 0;
     for one in included.as_slice() {
-        push_stretch(whole, file, text.as_slice(), done, one.from)?;
+        push_stretch(whole, file, text, done, one.from)?;
         push_included(
             files, alloc, whole, open, one, depth, reader, writer, errors,
         )?;
         done = one.to;
     }
-    push_stretch(whole, file, text.as_slice(), done, text.len())?;
+    push_stretch(whole, file, text, done, text.len())?;
     whole.text.push(b'\n')?;
     let _ = open.pop();
     Ok(())
@@ -291,13 +298,24 @@ fn push_included<F: Folder, R: Read, W: Write, E: Write>(
         let why = "files are included at most 8 deep";
         return tell_left(alloc, whole, by, included, why, writer);
     };
-    match inclusion_of(alloc, whole, open.as_slice(), included.name.as_slice())? {
-        Inclusion::Left(why) => tell_left(alloc, whole, by, included, why, writer),
-        Inclusion::Read(source) => {
-            push_source(
-                files, alloc, whole, open, source, depth, reader, writer, errors,
-            )
-        }
+    let source = match inclusion_of(alloc, whole, open.as_slice(), included.name.as_slice())? {
+        Inclusion::Left(why) => return tell_left(alloc, whole, by, included, why, writer),
+        Inclusion::Read(source) => source,
+    };
+    match read_config(files, alloc, &source, reader, errors)? {
+        Some(text) => push_source(
+            files,
+            alloc,
+            whole,
+            open,
+            source,
+            text.as_slice(),
+            depth,
+            reader,
+            writer,
+            errors,
+        ),
+        None => tell_left(alloc, whole, by, included, "it cannot be read", writer),
     }
 }
 
@@ -671,6 +689,9 @@ pub fn import_source<F: Folder, R: Read, W: Write, E: Write>(
         files: Vec::new(alloc),
         is_partial: false,
     };
+    let Some(text) = read_config(files, alloc, source, reader, errors)? else {
+        return Ok(FAILED);
+    };
     let source = match source {
         Source::Input => Source::Input,
         Source::File(name) => Source::File(String::from_str(alloc, name.as_str())?),
@@ -682,6 +703,7 @@ pub fn import_source<F: Folder, R: Read, W: Write, E: Write>(
         &mut whole,
         &mut open,
         source,
+        text.as_slice(),
         INCLUDE_DEPTH,
         reader,
         writer,

@@ -3,6 +3,9 @@
 #![tactic(auto)]
 
 mod aid;
+mod comparing;
+#[cfg(test)]
+mod comparing_tests;
 mod filters;
 mod guided;
 mod importing;

@@ -1,13 +1,8 @@
 //! Which words of the command line name several sources, and how the lines of a report are to be written.
 
-use command_line::{Aid, Checking, Running, Source, Terminals, Words, request_of};
+use crate::tests::NO_TERMINAL;
+use command_line::{Aid, Checking, Running, Source, Words, request_of};
 use std::test::Fail;
-
-/// People neither type the input nor read the errors.
-const NO_TERMINAL: Terminals = Terminals {
-    input: false,
-    errors: false,
-};
 
 /// Several scripts are one, in the order of the words.
 #[test]

@@ -13,7 +13,7 @@ use std::io;
 use std::test::Fail;
 
 /// People neither type the input nor read the errors.
-const NO_TERMINAL: Terminals = Terminals {
+pub const NO_TERMINAL: Terminals = Terminals {
     input: false,
     errors: false,
 };
@@ -287,7 +287,10 @@ fn explanations_are_for_terminals(rt: HostRuntime) -> Result<(), Fail> {
 /// People are told to type where standard input is a terminal and is read.
 #[test]
 fn input_that_people_type_is_waited_for(rt: HostRuntime) -> Result<(), Fail> {
-    let rows: [(&[&str], bool); 16] = [
+    let rows: [(&[&str], bool); 19] = [
+        (&["ncroute", "diff", "a", "b"], false),
+        (&["ncroute", "diff", "a", "-"], true),
+        (&["ncroute", "diff", "-", "b"], true),
         (&["ncroute", "run", "--filter", "a=b", "a"], false),
         (&["ncroute", "run", "--filter", "a=-", "a"], true),
         (&["ncroute", "domain"], true),
@@ -550,7 +553,7 @@ const NODE_NOT_UP: &str =
 
 /// What a command line did.
 #[derive(Debug, PartialEq, Eq, Drop)]
-struct Said {
+pub struct Said {
     output: Vec<u8>,
     told: Vec<u8>,
     status: u8,
@@ -558,7 +561,7 @@ struct Said {
 
 /// What the words of a command line write on standard output and on standard error, and the exit status, where standard input has
 /// this text.
-fn said_by(rt: &HostRuntime, words: &[&str], input: &str) -> Result<Said, Fail> {
+pub fn said_by(rt: &HostRuntime, words: &[&str], input: &str) -> Result<Said, Fail> {
     let Words::Aided(aid) = request_of(rt, rt.alloc(), words, NO_TERMINAL)? else {
         return Err(Fail::from("no aid"));
     };
@@ -580,7 +583,7 @@ fn said_by(rt: &HostRuntime, words: &[&str], input: &str) -> Result<Said, Fail> 
 }
 
 /// The same, as a row has it.
-fn wanted(rt: &HostRuntime, output: &str, told: &str, status: u8) -> Result<Said, Fail> {
+pub fn wanted(rt: &HostRuntime, output: &str, told: &str, status: u8) -> Result<Said, Fail> {
     Ok(Said {
         output: Vec::from_slice(rt.alloc(), output.as_bytes())?,
         told: Vec::from_slice(rt.alloc(), told.as_bytes())?,

@@ -1,6 +1,8 @@
-//! Tests of what helps people with filters: refusals in words, and filters that are tried on routes.
+//! Tests of what helps people with filters: refusals in words, filters that are tried on routes, and filters that are compared.
 #![tactic(auto)]
 
+#[cfg(test)]
+mod comparing_tests;
 #[cfg(test)]
 mod explanation_tests;
 #[cfg(test)]

@@ -1,5 +1,6 @@
 use Rattle.std.proofs.Common.{inl, inr, arith}
 use Rattle.filter_diff.proofs.Dealt.{dealt_parts, tried}
+use Rattle.filter_diff.proofs.Real.{real_taken}
 use Rattle.filter_diff.proofs.comparison.compare.Goals as goal
 
 pub loop-next-preserved-in-Continue-branch-2 : goal.loop-next-preserved-in-Continue-branch-2
@@ -7,6 +8,9 @@ loop-next-preserved-in-Continue-branch-2 c = record {
   dealt = λ route is_in. tried c.args.old.now c.args.new.now route _ _ _ _ _ c.in-Some.next c.args.size c.in-Some.ensures.items is_in
       (dealt_parts c.args.old.now c.args.new.now route _ _ _ (c.in_ok-push_part.ensures.kept route))
       (λ of. inl (inr (c.in_ok-push_part.ensures.covered route is_in of))) (c.loop-next.invariant.dealt route is_in);
+  real =
+      let taken = real_taken c.args.size _ _ _ c.in-Some.next c.in-Some.ensures.items c.loop-next.invariant.real in
+      record { found = c.in_ok-push_part.ensures.real taken.0.found; left = taken.0.left };
   sound = c.in_ok-push_part.ensures.sound c.loop-next.invariant.sound;
   work = c.loop-next.invariant.work;
 }
@@ -15,6 +19,17 @@ pub loop-next-preserved : goal.loop-next-preserved
 loop-next-preserved c = record {
   dealt = λ route is_in. tried c.args.old.now c.args.new.now route _ _ _ _ _ c.in-Some.next c.args.size c.in-Some.ensures.items is_in
       (c.in_ok-visit.ensures.kept route) (c.in_ok-visit.ensures.covered route is_in) (c.loop-next.invariant.dealt route is_in);
+  real = c.in_ok-visit.ensures.real (real_taken c.args.size _ _ _ c.in-Some.next c.in-Some.ensures.items c.loop-next.invariant.real).0;
   sound = c.in_ok-visit.ensures.sound c.loop-next.invariant.sound;
   work = omega arith;
 }
+
+pub push_part-requires-clause-real : goal.push_part-requires-clause-real
+push_part-requires-clause-real c =
+    let real = (real_taken c.args.size _ _ _ c.in-Some.next c.in-Some.ensures.items c.loop-next.invariant.real).1 in
+    record { bits = real.bits; fits = real.fits; reachable = real.reachable }
+
+pub visit-requires-clause-real : goal.visit-requires-clause-real
+visit-requires-clause-real c =
+    let real = (real_taken c.args.size _ _ _ c.in-Some.next c.in-Some.ensures.items c.loop-next.invariant.real).1 in
+    record { bits = real.bits; fits = real.fits; reachable = real.reachable }

@@ -1,7 +1,7 @@
 use Rattle.std.proofs.Common.{◌+◌, ◌*◌, ◌≤◌, All, vec_len}
 use Rattle.filter_code.specs.RouteView.{RouteView}
 use Rattle.filter_diff.specs.Parts.{IsIn, IsTrueOf}
-use Rattle.filter_diff.specs.Searches.{IsDealt}
+use Rattle.filter_diff.specs.Searches.{AreReal, IsDealt}
 use Rattle.filter_diff.proofs.comparison.compare.Given as goal
 
 -- each route is dealt with or left, and what was found is true
@@ -9,6 +9,7 @@ abbrev pub invariant-loop-next : goal.invariant-loop-next
 invariant-loop-next l = record {
   dealt : (route : RouteView) → IsIn l.size route → IsDealt l.old l.new l.parts.items l.todo.items route;
   sound : All (IsTrueOf l.old l.new l.size) l.parts.items;
+  real : AreReal l.size l.parts.items l.todo.items;
   work : l.left ≤ l.limit;
 }
 

@@ -1,10 +1,12 @@
 use Rattle.std.proofs.Common.{◌+◌, ◌<◌, arith}
 use Rattle.filter_diff.proofs.Dealt.{left_kept, metric_step}
+use Rattle.filter_diff.proofs.Real.{metric_real}
 use Rattle.filter_diff.proofs.search.push_metrics.Goals as goal
 
 pub loop-step-preserved : goal.loop-step-preserved
 loop-step-preserved c = record {
   kept = λ route h. left_kept route _ _ _ c.in_ok-push.ensures.items (c.loop-step.invariant.kept route h);
+  real = λ all. metric_real c.args.class.now c.loop-step.step _ _ c.requires.real c.in_ok-push.ensures.items (c.loop-step.invariant.real all);
   split = λ route is_in of. metric_step c.args.class.now route _ _ c.loop-step.step c.in_ok-push.ensures.items
       (c.loop-step.invariant.split route is_in of) is_in of;
   few = omega (arith, c.in_ok-push.ensures.len);
@@ -12,6 +14,9 @@ loop-step-preserved c = record {
 
 pub returns-in_ok-push-clause-kept : goal.returns-in_ok-push-clause-kept
 returns-in_ok-push-clause-kept c route h = left_kept route _ _ _ c.in_ok-push.ensures.items (c.loop-step.invariant.kept route h)
+
+pub returns-in_ok-push-clause-real : goal.returns-in_ok-push-clause-real
+returns-in_ok-push-clause-real c all = metric_real c.args.class.now c.loop-step.step _ _ c.requires.real c.in_ok-push.ensures.items (c.loop-step.invariant.real all)
 
 pub returns-in_ok-push-clause-split : goal.returns-in_ok-push-clause-split
 returns-in_ok-push-clause-split c route is_in of =

@@ -6,11 +6,11 @@ use Rattle.filter_tools.proofs.Listings.{listed_more, none_listed}
 use Rattle.filter_tools.proofs.listing.list_instructions.Goals as goal
 
 pub loop-at-init : goal.loop-at-init
-loop-at-init c = none_listed c.args.code.now.instrs nothing_known (origin_in c.args.origins.source.now c.args.origins.places.now) c.new-out.result.items c.new-out.ensures.items
+loop-at-init c = none_listed c.args.code.now.instrs nothing_known (origin_in c.args.origins.now.source c.args.origins.now.places.now) c.new-out.result.items c.new-out.ensures.items
 
 pub loop-at-preserved : goal.loop-at-preserved
 loop-at-preserved c =
-    let origin : ℕ → List ℕ = origin_in c.args.origins.source.now c.args.origins.places.now in
+    let origin : ℕ → List ℕ = origin_in c.args.origins.now.source c.args.origins.now.places.now in
     let is = slice_get_read c.instrs-instr-items.result.now (length c.instrs-instr-items.result.now) c.loop-at.at c.instr-item.result refl
     c.loop-at-test.true c.instr-item.is in
     let said = c.in_ok-push_instruction.ensures in

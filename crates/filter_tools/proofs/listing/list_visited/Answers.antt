@@ -8,11 +8,11 @@ use Rattle.filter_tools.proofs.listing.list_visited.Goals as goal
 
 pub loop-at-init : goal.loop-at-init
 loop-at-init c = none_listed c.args.code.now.instrs (known_before c.args.code.now c.args.size)
-    (origin_in c.args.origins.source.now c.args.origins.places.now) c.new-out.result.items c.new-out.ensures.items
+    (origin_in c.args.origins.now.source c.args.origins.now.places.now) c.new-out.result.items c.new-out.ensures.items
 
 pub loop-at-preserved : goal.loop-at-preserved
 loop-at-preserved c =
-    let origin : ℕ → List ℕ = origin_in c.args.origins.source.now c.args.origins.places.now in
+    let origin : ℕ → List ℕ = origin_in c.args.origins.now.source c.args.origins.now.places.now in
     let inside : c.loop-at.at < length c.in_ok-survey.survey.in_states.items = rw (← c.deref-state-items.ensures.value) c.loop-at-test.true in
     let within = surveyed_within c.args.code.now c.args.size c.in_ok-survey.survey.refusal in
     let below : c.loop-at.at < length c.instrs-instrs.result.now =

@@ -1,0 +1,4 @@
+-- What callers cite.
+pub mod PartLines
+pub mod Comparing
+pub mod Filters

@@ -1,0 +1,65 @@
+-- The lines that tell of parts of the routes. (This project's own choice.)
+use Rattle.std.specs.Prelude.{ℕ, zero, suc, List, [], ◌∷◌, ◌++◌, codes, count_by, decimal, flat_map}
+use Rattle.filter_code.specs.Outcomes.{fault_code}
+use Rattle.filter_code.specs.declared.outcome.Outcome.{Outcome}
+use Rattle.filter_code.specs.declared.outcome.Outcome.TheVariants as outcome
+use Rattle.filter_diff.specs.Answers.{undecided}
+use Rattle.filter_diff.specs.declared.ending.Ending.{Ending}
+use Rattle.filter_diff.specs.declared.ending.Ending.TheVariants as ending
+use Rattle.filter_diff.specs.declared.part.Finding.{Finding}
+use Rattle.filter_diff.specs.declared.part.Finding.TheVariants as finding
+use Rattle.filter_diff.specs.declared.part.Part.{Part}
+use Rattle.prefix_patterns.specs.Spelling.{prefix_text}
+
+-- the outcome of a run
+abbrev pub outcome_text : Outcome → List ℕ
+outcome_text (outcome.Accept metric) = codes "accept " ++ decimal metric
+outcome_text outcome.Reject = codes "reject"
+outcome_text (outcome.Fault kind at) = codes "fault " ++ fault_code kind ++ 32 ∷ decimal at
+
+-- how the runs on all routes of a part end: `accept` alone is with the metric received
+abbrev pub ending_text : Ending → List ℕ
+ending_text ending.Unchanged = codes "accept"
+ending_text (ending.Fixed end) = outcome_text end
+
+-- what was found of a part, before and behind its routes
+abbrev pub finding_word : Finding → List ℕ
+finding_word finding.Undecided = codes "undecided "
+finding_word (finding.Differ before after) = codes "differ "
+
+abbrev pub endings_text : Finding → List ℕ
+endings_text finding.Undecided = []
+endings_text (finding.Differ before after) = codes ": " ++ ending_text before ++ codes " | " ++ ending_text after
+
+-- the prefixes of a part, as a pattern of the language
+abbrev pub pattern_text : Part → List ℕ
+pattern_text part = prefix_text part.prefix ++ codes "{" ++ decimal part.shortest ++ codes "," ++ decimal part.longest ++ codes "}"
+
+-- its metrics
+abbrev pub metrics_text : Part → List ℕ
+metrics_text part = codes ", metrics " ++ decimal part.least ++ codes ".." ++ decimal part.greatest
+
+-- the line of a part
+abbrev pub part_line : Part → List ℕ
+part_line part = finding_word part.finding ++ pattern_text part ++ metrics_text part ++ endings_text part.finding ++ 10 ∷ []
+
+-- how many parts are undecided, where there are several
+unfoldable pub undecided_on : List ℕ
+undecided_on = codes "undecided on "
+
+abbrev pub several_words : ℕ → List ℕ
+several_words count = undecided_on ++ decimal count ++ codes " parts"
+
+-- the last line: on all routes that lie in no part, or how many parts are undecided
+abbrev pub last_words : ℕ → List Part → List ℕ
+last_words zero [] = codes "same on all routes"
+last_words zero (part ∷ parts) = codes "same on all other routes"
+last_words (suc zero) parts = codes "undecided on 1 part"
+last_words (suc (suc more)) parts = several_words (suc (suc more))
+
+abbrev pub last_line : List Part → List ℕ
+last_line parts = last_words (count_by undecided parts) parts ++ 10 ∷ []
+
+-- the lines of all parts, and the last line
+abbrev pub parts_text : List Part → List ℕ
+parts_text parts = flat_map part_line parts ++ last_line parts
