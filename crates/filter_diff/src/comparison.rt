@@ -15,7 +15,7 @@ use filter_code::Code;
 use prefix_patterns::{ADDRESS_LENGTH, Ip, Prefix};
 use std::alloc::{AllocError, Global};
 
-/// A limit of work that is enough for filters as they are written: so many classes of routes are tried at most.
+/// The limit of work where none is chosen: so many classes of routes are tried at most.
 pub const CLASS_LIMIT: u64 = 1_000_000;
 
 /// What a comparison of two codes found.
