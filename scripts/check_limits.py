@@ -5,8 +5,8 @@
 usage: NCROUTE=PATH scripts/check_limits.py [WORD..]     (PATH: the program as it is built; WORDs: only the rows whose name has one)
 
 No contract says when memory is refused, so these runs show that it is not, at the sizes that the documents name. What a router answers is
-worked out here once more, in the plainest way, by `Router`. The last row compares times: those of names that collide in a hash table with
-those of other names.
+worked out here once more, in the plainest way, by `Router`. The last two rows are about processor time: that of a long input, and that of names
+that collide in a hash table, beside that of other names.
 """
 import itertools
 import os
@@ -488,6 +488,14 @@ def run(ncroute, words, given):
     return ran.stdout, ran.stderr, ran.returncode
 
 
+def timed_run(ncroute, words, given):
+    """What the program writes, with its exit status, and the processor time that it takes."""
+    before = resource.getrusage(resource.RUSAGE_CHILDREN)
+    said = run(ncroute, words, given)
+    after = resource.getrusage(resource.RUSAGE_CHILDREN)
+    return said, after.ru_utime - before.ru_utime + after.ru_stime - before.ru_stime
+
+
 def differs(said, wanted):
     """How what was said differs from what was wanted, or nothing."""
     (output, shown, status), (wanted_output, wanted_status, *wanted_shown) = said, wanted
@@ -516,6 +524,13 @@ def domains_of_each_size(ncroute):
         if said := differs(run(ncroute, "run", given), wanted):
             return f"{size} nodes: {said}"
     return None
+
+
+def time_of_long_input(ncroute):
+    """A long input takes less than a second: it is read in blocks, and not byte by byte."""
+    given, *wanted = longest_script()
+    said, time = timed_run(ncroute, "run", given)
+    return differs(said, wanted) or (f"{time:.3f} s" if time > 1 else None)
 
 
 # ---- routes without end
@@ -576,12 +591,10 @@ def naming_time(ncroute, names):
     lines = [b"code " + name + b" " + CODE for name in names + names[-2000:] * 20]
     times = []
     for _ in range(3):
-        before = resource.getrusage(resource.RUSAGE_CHILDREN)
-        said = run(ncroute, "run", b"network 4 0\n" + b"\n".join(lines))
-        after = resource.getrusage(resource.RUSAGE_CHILDREN)
+        said, time = timed_run(ncroute, "run", b"network 4 0\n" + b"\n".join(lines))
         if said != (b"ok\n" + VERIFIED * len(lines), b"", 0):
             return None
-        times.append(after.ru_utime - before.ru_utime + after.ru_stime - before.ru_stime)
+        times.append(time)
     return min(times)
 
 
@@ -603,9 +616,16 @@ def main(wanted):
         sys.exit("NCROUTE=PATH: the program that is to run")
     ncroute = os.path.realpath(ncroute)
     rows = [(name, lambda words=words, row=row: differs(run(ncroute, words, (made := row())[0]), made[1:])) for name, words, row in ROWS]
-    rows += [("check, a hundred files", lambda: hundred_files(ncroute)), ("filter, a million routes", lambda: million_routes(ncroute))]
-    rows += [("run, domains of each size", lambda: domains_of_each_size(ncroute))]
-    rows += [("run, names that collide", lambda: names_that_collide(ncroute))]
+    rows += [
+        (name, lambda row=row: row(ncroute))
+        for name, row in [
+            ("check, a hundred files", hundred_files),
+            ("filter, a million routes", million_routes),
+            ("run, domains of each size", domains_of_each_size),
+            ("run, the time of a long input", time_of_long_input),
+            ("run, names that collide", names_that_collide),
+        ]
+    ]
     passed = failed = 0
     for name, row in rows:
         if wanted and not any(word in name for word in wanted):
