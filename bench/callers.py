@@ -1,17 +1,17 @@
 #!/usr/bin/env python3
-"""Compares calls through the lock with calls through a Mutex, by 1, 2 and 4 threads.
+"""Compares calls through the lock with calls through a Mutex, by 1, 2 and 4 threads, and prints a table.
 
 usage: callers.py ROUTER_BENCH PLAIN RUNS INPUT..
 
   passes  the proved router, called by passes
-  mutex   the same proved journal, under the Mutex of the proved standard library
+  Mutex   the same proved journal, under the Mutex of the proved standard library
   plain   the plain router with its history, under Rust's std::sync::Mutex
 
 Each thread enters the events of an input's round again and again, until the history has nearly 1,000,000 entries. Where the
 sums of the replies differ, that is said and the status is 1; nothing is measured then. Otherwise each is run RUNS times
-with all rounds and RUNS times with none, by turns, and the least time with none is subtracted from the least time with all.
-The times are those of a clock, since a thread that waits may use no processor time: run it on a machine that has nothing
-else to do. A ratio is the calls a second of passes, divided by those of the other.
+with all rounds and RUNS times with none, by turns. The calls a second are those of the least time with all rounds, less the
+least time with none, and in brackets those of the time that a quarter of the runs are within. The times are those of a clock,
+since a thread that waits may use no processor time: run it on a machine that has nothing else to do.
 """
 import os
 import subprocess
@@ -19,6 +19,8 @@ import sys
 import time
 
 from router import words_said
+
+EVENTS = {"show": "looks", "no_changes": "no change"}
 
 
 def elapsed(command, path):
@@ -29,35 +31,48 @@ def elapsed(command, path):
         return time.perf_counter() - begun
 
 
-def rounds_taken(command_of, rounds, path, runs):
-    """The least time of so many rounds, less the least time of none, in seconds."""
-    taken = [(elapsed(command_of(rounds), path), elapsed(command_of(0), path)) for _ in range(runs)]
-    return min(row[0] for row in taken) - min(row[1] for row in taken)
+def within(times, part):
+    """The time that this part of the runs are within."""
+    return sorted(times)[int((len(times) - 1) * part)]
+
+
+def rates(parts, calls, rounds, path, runs):
+    """Millions of calls a second of each, at the best and in the best quarter of the runs."""
+    taken = {name: ([], []) for name in parts}
+    for _ in range(runs):
+        for name, command in parts.items():
+            for times, count in zip(taken[name], (rounds, 0)):
+                times.append(elapsed(command(count), path))
+    return {name: [calls / (within(full, part) - min(none)) / 1e6 for part in (0, 0.25)] for name, (full, none) in taken.items()}
+
+
+def row(proved, plain, callers, path, runs):
+    """A row of the table."""
+    parts = {
+        "passes": lambda rounds: [proved, f"callers{callers}", str(rounds)],
+        "mutex": lambda rounds: [proved, f"mutex{callers}", str(rounds)],
+        "plain": lambda rounds: [plain, "callers", str(callers), str(rounds)],
+    }
+    name = os.path.basename(path)
+    said = {part: words_said(command(3), path) for part, command in parts.items()}
+    if not said["passes"] == said["mutex"] == said["plain"]:
+        sys.exit(f"{name}: the routers differ: {said}")
+    first = int(words_said(parts["plain"](0), path)[1])
+    calls_of = int(words_said(parts["plain"](1), path)[1]) - first
+    rounds = (1_000_000 - first) // calls_of
+    shown = [f"{best:.1f} ({quarter:.1f})" for best, quarter in rates(parts, rounds * calls_of, rounds, path, runs).values()]
+    return " | ".join([EVENTS.get(name, name), str(callers), *shown])
 
 
 def main(words):
     if len(words) < 4:
         sys.exit(__doc__)
     proved, plain = map(os.path.abspath, words[:2])
-    runs = int(words[2])
+    print("| Events | threads | passes, million calls a second | Mutex | plain |")
+    print("|---|---|---|---|---|")
     for path in words[3:]:
-        print(os.path.basename(path))
         for callers in (1, 2, 4):
-            parts = {
-                "passes": lambda rounds: [proved, f"callers{callers}", str(rounds)],
-                "mutex": lambda rounds: [proved, f"mutex{callers}", str(rounds)],
-                "plain": lambda rounds: [plain, "callers", str(callers), str(rounds)],
-            }
-            said = {name: words_said(command(3), path) for name, command in parts.items()}
-            if not said["passes"] == said["mutex"] == said["plain"]:
-                sys.exit(f"{os.path.basename(path)}: the routers differ: {said}")
-            first = int(words_said(parts["plain"](0), path)[1])
-            calls_of = int(words_said(parts["plain"](1), path)[1]) - first
-            rounds = (1_000_000 - first) // calls_of
-            rate = {name: rounds * calls_of / rounds_taken(command, rounds, path, runs) for name, command in parts.items()}
-            shown = "   ".join(f"{name} {calls / 1e6:5.2f}" for name, calls in rate.items())
-            ratios = "   ".join(f"passes / {name} {rate['passes'] / rate[name]:.2f}" for name in ("mutex", "plain"))
-            print(f"  {callers} at a time, million calls a second:   {shown}   ratio {ratios}", flush=True)
+            print(f"| {row(proved, plain, callers, path, int(words[2]))} |", flush=True)
 
 
 if __name__ == "__main__":

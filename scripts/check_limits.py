@@ -5,8 +5,8 @@
 usage: NCROUTE=PATH scripts/check_limits.py [WORD..]     (PATH: the program as it is built; WORDs: only the rows whose name has one)
 
 No contract says when memory is refused, so these runs show that it is not, at the sizes that the documents name. What a router answers is
-worked out here once more, in the plainest way, by `Router`. The last row compares times: those of names that collide in a hash table with
-those of other names.
+worked out here once more, in the plainest way, by `Router`. The last two rows are about processor time: that of a long input, and that of names
+that collide in a hash table, beside that of other names.
 """
 import itertools
 import os
@@ -24,6 +24,9 @@ TEXT = 65_536
 ENTRIES = 1_000_000
 MOST_TAKEN = 65_535
 NODES = 250
+
+# What each run is given for memory, in bytes.
+ROOM = 1 << 28
 
 # The smallest code file: ACCEPT alone.
 CODE = b"4e434632000000000170"
@@ -247,6 +250,93 @@ def most_int_sets():
     return "\n".join(lines).encode(), b"ok\nverified 193 1\nrefused O7 3\nrefused C5 6\ndone 0\n", 1
 
 
+# ---- each size up to a limit: a call that gives up at one of them is as wrong as one that gives up above it
+
+
+def code_line(name, variables, pattern_sets, int_sets, instructions):
+    """A line that names a code file. Its sets are lists of patterns and lists of ranges; these and the instructions are digits of the file."""
+    sets = "".join(f"{len(members):02x}" + "".join(f"{len(it):04x}" + "".join(it) for it in members) for members in (pattern_sets, int_sets))
+    return f"code {name} 4e434632{variables:02x}{sets}{len(instructions):04x}{''.join(instructions)}"
+
+
+def each_number_of(line_of, most):
+    """A script with a code file for each number of something, and the answers that tell its instructions and the depth of its stack."""
+    made = [line_of(count) for count in range(1, most + 1)]
+    return written(["network 250 0", *(line for line, _, _ in made)]), written(["ok", *(f"verified {steps} {depth}" for _, steps, depth in made)]), 0
+
+
+def each_number_of_patterns():
+    """`code` with a set of each number of patterns."""
+    patterns = [f"{number:04x}{number:04x}20{number % 33:02x}20" for number in range(1024)]
+    return each_number_of(lambda count: (code_line("a", 0, [patterns[:count]], [], ["70"]), 1, 0), 1024)
+
+
+def each_number_of_ranges():
+    """`code` with a set of each number of ranges."""
+    ranges = [f"{4 * number:08x}{4 * number + 2:08x}" for number in range(1024)]
+    return each_number_of(lambda count: (code_line("a", 0, [], [ranges[:count]], ["70"]), 1, 0), 1024)
+
+
+def each_number_of_instructions():
+    """`code` of each number of instructions: values that are kept in a variable, and a last one that is not where the number asks for it."""
+    def of(count):
+        pairs, left = divmod(count - 1, 2)
+        return code_line("a", 1, [], [], ["0100000000", "1100"] * pairs + ["0201"] * left + ["70"]), count, int(count > 1)
+
+    return each_number_of(of, 1024)
+
+
+def each_number_of_sets():
+    """`code` with each number of sets of patterns, and then with each number of sets of ints."""
+    patterns = each_number_of(lambda count: (code_line("a", 0, [["00000000200020"]] * count, [], ["70"]), 1, 0), 64)
+    ints = each_number_of(lambda count: (code_line("a", 0, [], [["0000000000000000"]] * count, ["70"]), 1, 0), 64)
+    return patterns[0] + ints[0].split(b"\n", 1)[1], patterns[1] + ints[1].split(b"\n", 1)[1], 0
+
+
+def each_number_of_statements():
+    """`load` of a text with each number of assignments that its instructions have room for."""
+    def of(count):
+        return f"load a filter f {{ {'rip_metric = rip_metric + 1; ' * count}accept; }}", 6 * count + 1, 2
+
+    return each_number_of(of, 170)
+
+
+def each_number_of_messages():
+    """`take` of each number of messages that wait."""
+    script = Script(2, 0)
+    script.enter("up", 1)
+    script.enter("take", 1)
+    for count in range(1, 501):
+        for turn in range(count):
+            script.enter("recv", 1, 1, (script.router.told[1].get(1, 2) + 1) % 2)
+        script.enter("take", 1)
+    return script.row()
+
+
+def refused_lines():
+    """Each of a thousand lines is refused, and people are told why, under its number."""
+    count = 1000
+    told = "<stdin>:{}:4: node 9 is not in the domain, whose nodes are 0 to 3; entry {} of the history (N1)\nup 9\n   ^\n"
+    answers = written(["ok", *(f"refused N1 {entry}" for entry in range(count))])
+    return written(["network 4 0"] + ["up 9"] * count), answers, 1, "".join(told.format(entry + 2, entry) for entry in range(count)).encode()
+
+
+def domain_of(size):
+    """A domain of a size, in which a neighbour comes, tells, has filters, is told, and goes, and comes again."""
+    script = Script(size, size // 2)
+    neighbour = (size // 2 + 1) % size
+    script.name(1)
+    script.enter("up", neighbour)
+    script.enter("recv", neighbour, neighbour, 0)
+    script.use("import", neighbour, 1)
+    script.use("export", neighbour, 1)
+    script.enter("take", neighbour)
+    script.enter("show", neighbour)
+    script.enter("down", neighbour)
+    script.enter("up", neighbour)
+    return script.row()
+
+
 def longest_script():
     """An input with as many bytes as the limit."""
     lines = b"network 4 0\nup 1\n" + b"# a comment of sixty-three bytes, so that the lines are few......\n" * ((INPUT - 100) // 66)
@@ -356,6 +446,13 @@ ROWS = [
     ("run, a text at the limit", "run", longest_text),
     ("run, a code file at all limits", "run", longest_code),
     ("run, a code file with the most sets of ints", "run", most_int_sets),
+    ("run, each number of patterns", "run", each_number_of_patterns),
+    ("run, each number of ranges", "run", each_number_of_ranges),
+    ("run, each number of instructions", "run", each_number_of_instructions),
+    ("run, each number of sets", "run", each_number_of_sets),
+    ("run, each number of statements", "run", each_number_of_statements),
+    ("run, each number of messages", "run", each_number_of_messages),
+    ("run, refused lines", "run --explain always", refused_lines),
     ("run, an input at the limit", "run", longest_script),
     ("run, an input over the limit", "run", longer_script),
     ("domain, the greatest", "domain", greatest_plan),
@@ -381,10 +478,22 @@ def first_difference(wrote, wanted):
     return f"line {number}: {one[:200]!r}, and not {other[:200]!r}"
 
 
+def limit_memory(room):
+    resource.setrlimit(resource.RLIMIT_AS, (room, room))
+
+
 def run(ncroute, words, given):
     """What the program writes, and its exit status."""
-    ran = subprocess.run([ncroute, *words.split()], input=given, capture_output=True, cwd=program.TOP)
+    ran = subprocess.run([ncroute, *words.split()], input=given, capture_output=True, cwd=program.TOP, preexec_fn=lambda: limit_memory(ROOM))
     return ran.stdout, ran.stderr, ran.returncode
+
+
+def timed_run(ncroute, words, given):
+    """What the program writes, with its exit status, and the processor time that it takes."""
+    before = resource.getrusage(resource.RUSAGE_CHILDREN)
+    said = run(ncroute, words, given)
+    after = resource.getrusage(resource.RUSAGE_CHILDREN)
+    return said, after.ru_utime - before.ru_utime + after.ru_stime - before.ru_stime
 
 
 def differs(said, wanted):
@@ -408,6 +517,22 @@ def hundred_files(ncroute):
         return differs(run(ncroute, "check --size 250 --explain never " + " ".join(names), b""), wanted)
 
 
+def domains_of_each_size(ncroute):
+    """A domain of each size is set up, and its router has a neighbour."""
+    for size in range(2, NODES + 1):
+        given, *wanted = domain_of(size)
+        if said := differs(run(ncroute, "run", given), wanted):
+            return f"{size} nodes: {said}"
+    return None
+
+
+def time_of_long_input(ncroute):
+    """A long input takes less than a second: it is read in blocks, and not byte by byte."""
+    given, *wanted = longest_script()
+    said, time = timed_run(ncroute, "run", given)
+    return differs(said, wanted) or (f"{time:.3f} s" if time > 1 else None)
+
+
 # ---- routes without end
 
 ROUTES = 1_300_000
@@ -425,7 +550,7 @@ def million_routes(ncroute):
         with open(routes, "rb") as given, open(answers, "wb") as taken:
             ran = subprocess.run(
                 [ncroute, "filter", "--size", "16", name], stdin=given, stdout=taken, stderr=subprocess.PIPE, cwd=program.TOP,
-                preexec_fn=lambda: resource.setrlimit(resource.RLIMIT_AS, (MEMORY, MEMORY)),
+                preexec_fn=lambda: limit_memory(MEMORY),
             )
         with open(answers, "rb") as it:
             wrote = it.read()
@@ -466,12 +591,10 @@ def naming_time(ncroute, names):
     lines = [b"code " + name + b" " + CODE for name in names + names[-2000:] * 20]
     times = []
     for _ in range(3):
-        before = resource.getrusage(resource.RUSAGE_CHILDREN)
-        said = run(ncroute, "run", b"network 4 0\n" + b"\n".join(lines))
-        after = resource.getrusage(resource.RUSAGE_CHILDREN)
+        said, time = timed_run(ncroute, "run", b"network 4 0\n" + b"\n".join(lines))
         if said != (b"ok\n" + VERIFIED * len(lines), b"", 0):
             return None
-        times.append(after.ru_utime - before.ru_utime + after.ru_stime - before.ru_stime)
+        times.append(time)
     return min(times)
 
 
@@ -493,8 +616,16 @@ def main(wanted):
         sys.exit("NCROUTE=PATH: the program that is to run")
     ncroute = os.path.realpath(ncroute)
     rows = [(name, lambda words=words, row=row: differs(run(ncroute, words, (made := row())[0]), made[1:])) for name, words, row in ROWS]
-    rows += [("check, a hundred files", lambda: hundred_files(ncroute)), ("filter, a million routes", lambda: million_routes(ncroute))]
-    rows += [("run, names that collide", lambda: names_that_collide(ncroute))]
+    rows += [
+        (name, lambda row=row: row(ncroute))
+        for name, row in [
+            ("check, a hundred files", hundred_files),
+            ("filter, a million routes", million_routes),
+            ("run, domains of each size", domains_of_each_size),
+            ("run, the time of a long input", time_of_long_input),
+            ("run, names that collide", names_that_collide),
+        ]
+    ]
     passed = failed = 0
     for name, row in rows:
         if wanted and not any(word in name for word in wanted):

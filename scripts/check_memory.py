@@ -35,8 +35,9 @@ CALLS = """build read_code write_code parse check compile compile_mapped verify 
 Tables::apply Journal::open Journal::apply replay Router::open try_call call run_sessions answer_lines run_script""".split()
 
 # How a program ends that was refused memory: in any call of most commands, and in `net` also in those of a lock, a session or a channel.
-MEMORY = re.compile(rb"ncroute: E3\n")
-MEMORY_OF_NETWORK = re.compile(rb"ncroute: (E3|J2|L3|X1|X2)\n")
+# Each of these ends has to come about.
+MEMORY = {b"ncroute: E3\n"}
+MEMORY_OF_NETWORK = {b"ncroute: %s\n" % code for code in (b"E3", b"J2", b"L3", b"X1", b"X2")}
 
 
 class Sweep:
@@ -146,17 +147,21 @@ def begins_whole(output, whole):
 def sweep_runs(sweep, pool):
     ncroute = os.environ.get("NCROUTE") or os.path.join(program.TOP, "crates", "ncroute", "out", "ncroute")
     passed = failed = all_refused = 0
-    for words, given, code in runs_of(ncroute, sweep.folder):
+    for words, given, ends in runs_of(ncroute, sweep.folder):
         ever = subprocess.run([ncroute, *words], input=given, capture_output=True)
-        faults = refused = 0
+        faults, refused, came = 0, 0, set()
         for nth, (status, output, errors) in sweep.all(pool, [ncroute, *words], given):
             if (status, output, errors) == (ever.returncode, ever.stdout, ever.stderr):
                 continue
             refused += 1
-            if status != 1 or not code.fullmatch(errors) or not begins_whole(output, ever.stdout):
+            came.add(errors)
+            if status != 1 or errors not in ends or not begins_whole(output, ever.stdout):
                 faults += 1
                 print(f"{' '.join(words)}: without allocation {nth}: status {status}, {errors.decode(errors='replace')!r}, {len(output)} bytes written")
-        is_well = refused > 0 and not faults
+        for end in sorted(ends - came):
+            faults += 1
+            print(f"{' '.join(words)}: no refusal ended it with {end.decode()!r}")
+        is_well = not faults
         passed, failed, all_refused = passed + is_well, failed + (not is_well), all_refused + refused
     print(f"runs: {all_refused} allocations refused that ended a run")
     return passed, failed

@@ -85,8 +85,8 @@ fn a_full_channel_waits(rt: HostRuntime) -> Result<(), Fail> {
     let sent = AtomicU64::new(0);
     let (are_sent, full) = thread::join(
         &rt,
-        || -> bool { send_all(&rt, &mut writer, 200, &sent) },
-        || -> Option<u64> { receive_late(&rt, &mut reader, 200, &sent) },
+        || -> bool { send_all(&rt, &mut writer, 2_000, &sent) },
+        || -> Option<u64> { receive_late(&rt, &mut reader, 2_000, &sent) },
     );
     assert!(&rt; are_sent && full == Some(64));
     Ok(())
