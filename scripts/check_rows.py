@@ -93,8 +93,9 @@ class Row:
         elif sign == "<" and file is None:
             self.given += bytes_of(text)
         elif sign == "<":
-            self.files[file] = self.files.get(file, b"") + bytes_of(text)
-            self.left.pop(file, None)
+            if self.left.pop(file, None):
+                self.files[file] = b""
+            self.files[file] += bytes_of(text)
         elif sign == ">":
             (self.output if file is None else self.left[file]).add(bytes_of(text))
         elif sign == "!":
