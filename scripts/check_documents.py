@@ -10,7 +10,6 @@ usage: scripts/check_documents.py        (NCROUTE=PATH: the program; without it,
 - Each row of a table of codes says what `ncroute explain CODE` says, and each example of `ncroute explain` writes what it shows.
 - Each listing of docs/VERIFIER.md (`    0 METRIC`, `    1 INT 2`, ..), as a code file with as many variables and sets as it names: `check --code`
   refuses it as the listing says (`V3 at 6`), or verifies it. If a line of hexadecimal follows, it is that file.
-- The filters in crates/command_tests/src/examples_tests.rt are those of examples/, without the comments.
 """
 import glob
 import os
@@ -99,17 +98,6 @@ def listed(text):
         yield command, refusal and refusal + "\n", shown in (None, file)
 
 
-def without_comments(text):
-    return re.sub(r"(?m)^\s*#.*\n", "", text).strip()
-
-
-def copies():
-    """The filters that the tests of the examples have, each with its file."""
-    text = read("crates/command_tests/src/examples_tests.rt")
-    for name, filter in re.findall(r'`(examples/\w+\.filter)`.*\nconst \w+: &\[u8\] = b"((?:[^"\\]|\\.)*)"', text):
-        yield name, filter.replace('\\"', '"')
-
-
 def needs_program(command):
     """`rt try --cases` tells no standard error, and runs in a folder without the files of the repository."""
     return "2>&1" in command or "ncroute filter" in command or ".history" in command or ".filter" in re.sub(r"< *[\w/.]+", "", command)
@@ -171,10 +159,6 @@ def main():
     tell("docs", "pipelines closed on a refused filter", [
         (command, (MISTAKE not in command and "has no filter of its own" or wrote and f"wrote {wrote.decode()!r}" or not status and "ends with status 0"))
         for command, (wrote, status) in shut])
-    same = [(name, without_comments(read(name)) != without_comments(text) and "differs from its copy in the tests") for name, text in copies()]
-    found = {name for name, _ in same}
-    same += [(name, "has no copy in the tests") for name in sorted(glob.glob("examples/*.filter", root_dir=program.TOP)) if name not in found]
-    tell("examples", "filters as in the tests", same)
     explained(ncroute, tell)
     ncroute.close()
     program.finish(passed, failed)

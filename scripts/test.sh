@@ -1,6 +1,6 @@
 #!/usr/bin/env bash
 # The test command: proves every crate from nothing, tries the must-fail edits, runs all tests and the program, and then the examples
-# of the documents, runs with their exit status, random domains, runs at the program's limits, refused allocations, the filters that
+# of the documents, the rows of tests/rows/, runs with their exit status, random domains, runs at the program's limits, refused allocations, the filters that
 # BIRD answered, configurations that are imported, killed runs, broken filters and what is installed. The last line is 'N passed, M failed', the sum of all.
 #
 # usage: scripts/test.sh [--all]      (--all: tries the edits of wrong-bodies/ too)
@@ -53,6 +53,7 @@ if [ -x crates/ncroute/out/ncroute ]; then
     export NCROUTE="$PWD/crates/ncroute/out/ncroute"
 fi
 add scripts/check_documents.py
+add scripts/check_rows.py
 add scripts/check_program_runs.py
 add scripts/check_domains.py
 add scripts/check_limits.py

@@ -232,17 +232,14 @@ fn run_words<R: Eprint>(
             Err(wrong) => Ok(show_wrong_filter(rt, wrong)),
         };
     }
-    let aid = script_in(alloc, Engine::Router, run, terminals)?;
-    let silent = Aid::Script {
-        engine: Engine::Router,
-        source: Source::Input,
-        is_explained: false,
-    };
-    Ok(if aid == silent {
-        Words::Asked(Request::Run)
-    } else {
-        Words::Aided(aid)
-    })
+    match script_in(alloc, Engine::Router, run, terminals)? {
+        Aid::Script {
+            source: Source::Input,
+            is_explained: false,
+            ..
+        } => Ok(Words::Asked(Request::Run)),
+        aid => Ok(Words::Aided(aid)),
+    }
 }
 
 /// Says what is wrong with a word that was to name a filter.

@@ -1,10 +1,10 @@
 //! Where in the text each instruction comes from.
 
+use expectations::expect;
 use filter_compiler::compile_mapped;
 use filter_parser::parse;
 use filter_types::check;
 use std::alloc::Global;
-use std::process::Abort;
 use std::test::Fail;
 
 /// The instructions of a part of a text, by what the text says from their places on.
@@ -107,27 +107,29 @@ fn wanted_of(alloc: Global, part: &Part) -> Result<Vec<&'static str>, Fail> {
     Ok(wanted)
 }
 
-/// Asserts that each instruction of a filter with one part in it comes from its place.
-fn expect_places(rt: &impl Abort, alloc: Global, part: &Part) -> Result<(), Fail> {
+/// Whether each instruction of a filter comes from its place.
+fn are_places(text: &[u8], places: &[usize], wanted: &[&str]) -> bool {
+    places.len() == wanted.len()
+        && places
+            .iter()
+            .zip(wanted)
+            .all(|(place, words)| says(text, *place, words))
+}
+
+/// Expects that each instruction of a filter with one part in it comes from its place.
+fn expect_places(alloc: Global, part: &Part) -> Result<(), Fail> {
     let text = text_of(alloc, part)?;
     let typed = check(alloc, parse(alloc, text.as_slice())?)?;
     let mapped = compile_mapped(alloc, &typed)?;
     let wanted = wanted_of(alloc, part)?;
-    assert_eq!(rt; mapped.places.len(), wanted.len(), "{}", part.text);
-    for (place, words) in mapped.places.iter().zip(wanted.iter()) {
-        assert!(rt;
-            says(text.as_slice(), *place, words),
-            "{} at {place}: {words}",
-            part.text
-        );
-    }
-    Ok(())
+    let is_so = are_places(text.as_slice(), mapped.places.as_slice(), wanted.as_slice());
+    expect(is_so, part.text)
 }
 
 #[test]
 fn each_form_has_its_places(rt: HostRuntime) -> Result<(), Fail> {
     for part in &PARTS {
-        expect_places(&rt, rt.alloc(), part)?;
+        expect_places(rt.alloc(), part)?;
     }
     Ok(())
 }

@@ -1,4 +1,4 @@
-//! One line, and the command in it or its first fault.
+//! One line, and the command in it. Lines that are refused are in `tests/rows/domain.rows`.
 
 use domain_cmds::{Command, read_command};
 use expectations::expect_str;
@@ -55,63 +55,10 @@ const TAKEN: [(&[u8], &str); 7] = [
 
 #[test]
 fn reads_commands(rt: HostRuntime) -> Result<(), Fail> {
-    for (line, wanted) in TAKEN {
+    for (line, wanted) in &TAKEN {
         let command = read_command(rt.alloc(), line)?;
         let text = command_text(rt.alloc(), &command)?;
         expect_str(text.as_str(), wanted)?;
-    }
-    Ok(())
-}
-
-/// Lines, and the codes with which they are refused.
-const REFUSED: [(&[u8], &str); 33] = [
-    (b" ", "O1"),
-    (b"jump", "O1"),
-    (b"Domain 4", "O1"),
-    (b"domains 4", "O1"),
-    (b"network 4 0", "O1"),
-    (b"up 1", "O1"),
-    (b"domain", "O1"),
-    (b"domain 4 0", "O1"),
-    (b"domain 1", "O2"),
-    (b"domain 251", "O2"),
-    (b"domain -4", "O2"),
-    (b"prefix 1", "O1"),
-    (b"prefix 65536 10.0.0.0/33", "O2"),
-    (b"prefix 1 10.0.0.0/33", "O8"),
-    (b"load a", "O1"),
-    (b"load 1a filter", "O1"),
-    (b"code a 0", "O3"),
-    (b"code a 0g", "O3"),
-    (b"code a 00 00", "O1"),
-    (b"link 0", "O1"),
-    (b"link 0 1 2", "O1"),
-    (b"link 0 x", "O2"),
-    (b"link 65536 0", "O2"),
-    (b"cut 0", "O1"),
-    (b"import 0 1", "O1"),
-    (b"import x 1 1a", "O1"),
-    (b"export 0 70000 a", "O2"),
-    (b"route 0", "O1"),
-    (b"path 0 1 2", "O1"),
-    (b"table", "O1"),
-    (b"draw 0 0", "O1"),
-    (b"mark 0", "O1"),
-    (b"settle now", "O1"),
-];
-
-/// The code with which a line is refused.
-fn code_of(alloc: Global, line: &[u8]) -> &str {
-    match read_command(alloc, line) {
-        Ok(_) => "no refusal",
-        Err(fault) => fault.code(),
-    }
-}
-
-#[test]
-fn refuses_lines(rt: HostRuntime) -> Result<(), Fail> {
-    for (line, wanted) in REFUSED {
-        expect_str(code_of(rt.alloc(), line), wanted)?;
     }
     Ok(())
 }

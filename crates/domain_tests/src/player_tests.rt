@@ -253,6 +253,25 @@ fn is_idle(tables: &[Tables], size: u16) -> bool {
     true
 }
 
+/// Lets a node send, or a message be heard.
+fn play_once(
+    numbers: &mut Numbers,
+    tables: &mut [Tables],
+    sents: &mut Vec<Sent>,
+    size: u16,
+) -> Result<(), Fail> {
+    if numbers.below(2) == 0 {
+        let pair = (short(numbers, size), short(numbers, size));
+        let max = short(numbers, 3).saturating_add(1);
+        return send_some(tables, sents, pair, max);
+    }
+    if sents.is_empty() {
+        return Ok(());
+    }
+    let pick = numbers.place(sents.len());
+    hear_one(tables, sents, pick)
+}
+
 /// Lets nodes send, and messages be heard, in random order until nothing is left to do.
 fn play_at_random(
     alloc: Global,
@@ -265,14 +284,7 @@ fn play_at_random(
         if sents.is_empty() && is_idle(tables, size) {
             return Ok(());
         }
-        if numbers.below(2) == 0 {
-            let pair = (short(numbers, size), short(numbers, size));
-            let max = short(numbers, 3).saturating_add(1);
-            send_some(tables, &mut sents, pair, max)?;
-        } else if !sents.is_empty() {
-            let pick = numbers.place(sents.len());
-            hear_one(tables, &mut sents, pick)?;
-        }
+        play_once(numbers, tables, &mut sents, size)?;
     }
     Err(Fail::from("the routers do not come to rest"))
 }
@@ -282,44 +294,74 @@ fn short(numbers: &mut Numbers, limit: u16) -> u16 {
     u16::try_from(numbers.below(u32::from(limit))).unwrap_or(0)
 }
 
+/// Adds what there is between two nodes: maybe a link, and filters.
+fn add_steps(numbers: &mut Numbers, steps: &mut Vec<Step>, u: u16, w: u16) -> Result<(), Fail> {
+    let text = if numbers.below(2) == 0 { UP_TWO } else { NEAR };
+    if u < w && numbers.below(3) > 0 {
+        steps.push(Step::Link(u, w))?;
+    }
+    if u != w && numbers.below(6) == 0 {
+        steps.push(Step::Import(u, w, text))?;
+    }
+    if u != w && numbers.below(6) == 0 {
+        steps.push(Step::Export(u, w, text))?;
+    }
+    Ok(())
+}
+
 /// Links and filters of a domain of so many nodes.
 fn random_steps(alloc: Global, numbers: &mut Numbers, size: u16) -> Result<Vec<Step>, Fail> {
     let mut steps = Vec::new(alloc);
     for u in 0..size {
         for w in 0..size {
-            let text = if numbers.below(2) == 0 { UP_TWO } else { NEAR };
-            if u < w && numbers.below(3) > 0 {
-                steps.push(Step::Link(u, w))?;
-            }
-            if u != w && numbers.below(6) == 0 {
-                steps.push(Step::Import(u, w, text))?;
-            }
-            if u != w && numbers.below(6) == 0 {
-                steps.push(Step::Export(u, w, text))?;
-            }
+            add_steps(numbers, &mut steps, u, w)?;
         }
     }
     Ok(steps)
+}
+
+/// The tables of a router of a domain of so many nodes.
+fn opened(alloc: Global, size: u16, me: u16) -> Result<Tables, Fail> {
+    let opening = Opening::new(size, me, prefixes(alloc, size)?).ok_or("an opening")?;
+    Ok(Tables::open(alloc, opening)?)
+}
+
+/// Enters an event at a router.
+fn enter(tables: &mut [Tables], node: u16, event: &Event) -> Result<(), Fail> {
+    let _reply = router(tables, node)?.apply(event)?;
+    Ok(())
+}
+
+/// Two nodes become neighbours.
+fn bring_up(tables: &mut [Tables], u: u16, w: u16) -> Result<(), Fail> {
+    enter(tables, w, &Event::Up(u))?;
+    enter(tables, u, &Event::Up(w))
+}
+
+/// Takes a step that sets up a domain of so many nodes.
+fn set_step(alloc: Global, tables: &mut [Tables], step: &Step, size: u16) -> Result<(), Fail> {
+    match step {
+        Step::Link(u, w) => bring_up(tables, *u, *w),
+        Step::Import(u, w, text) => {
+            let filter = filter(alloc, text, size)?;
+            enter(tables, *u, &Event::SetImport(*w, filter))
+        }
+        Step::Export(u, w, text) => {
+            let filter = filter(alloc, text, size)?;
+            enter(tables, *u, &Event::SetExport(*w, filter))
+        }
+        _ => Err(Fail::from("a link or a filter")),
+    }
 }
 
 /// The routers of a domain of so many nodes, after these links and filters.
 fn set_up(alloc: Global, steps: &[Step], size: u16) -> Result<Vec<Tables>, Fail> {
     let mut tables = Vec::new(alloc);
     for me in 0..size {
-        let opening = Opening::new(size, me, prefixes(alloc, size)?).ok_or("an opening")?;
-        tables.push(Tables::open(alloc, opening)?)?;
+        tables.push(opened(alloc, size, me)?)?;
     }
     for step in steps {
-        let (u, event) = match step {
-            Step::Link(u, w) => {
-                let _reply = router(&mut tables, *w)?.apply(&Event::Up(*u))?;
-                (*u, Event::Up(*w))
-            }
-            Step::Import(u, w, text) => (*u, Event::SetImport(*w, filter(alloc, text, size)?)),
-            Step::Export(u, w, text) => (*u, Event::SetExport(*w, filter(alloc, text, size)?)),
-            _ => return Err(Fail::from("a link or a filter")),
-        };
-        let _reply = router(&mut tables, u)?.apply(&event)?;
+        set_step(alloc, &mut tables, step, size)?;
     }
     Ok(tables)
 }
@@ -356,14 +398,25 @@ fn played(alloc: Global, steps: &[Step], size: u16) -> Result<Routers, Fail> {
     Ok(played)
 }
 
+/// The routers of a domain of so many nodes, after these links and filters, and a random order of their messages.
+fn played_at_random(
+    alloc: Global,
+    numbers: &mut Numbers,
+    steps: &[Step],
+    size: u16,
+) -> Result<Vec<Tables>, Fail> {
+    let mut tables = set_up(alloc, steps, size)?;
+    play_at_random(alloc, numbers, &mut tables, size)?;
+    Ok(tables)
+}
+
 /// Expects that a random domain comes to the same routes in a random order of its messages.
 fn expect_same_in_any_order(alloc: Global, seed: u64) -> Result<(), Fail> {
     let mut numbers = Numbers::new(seed);
     let size = short(&mut numbers, 5).saturating_add(2);
     let steps = random_steps(alloc, &mut numbers, size)?;
+    let mut tables = played_at_random(alloc, &mut numbers, &steps, size)?;
     let mut played = played(alloc, &steps, size)?;
-    let mut tables = set_up(alloc, &steps, size)?;
-    play_at_random(alloc, &mut numbers, &mut tables, size)?;
     expect_same(alloc, &mut played, &mut tables)
 }
 

@@ -4,8 +4,6 @@
 
 mod aid;
 mod comparing;
-#[cfg(test)]
-mod comparing_tests;
 mod filters;
 mod guided;
 mod importing;
@@ -16,8 +14,6 @@ mod replay;
 mod respond;
 mod script;
 mod serve;
-#[cfg(test)]
-mod several_tests;
 #[cfg(test)]
 mod tests;
 mod texts;

@@ -1,14 +1,9 @@
-//! Tests of an operator's script: `read_command`, `run_script`, and what is told of refused lines.
+//! Tests of an operator's script where a stream fails, and of calls that no line of a script shows. What its lines are answered is in
+//! `tests/rows/`.
 #![tactic(auto)]
 
 #[cfg(test)]
-mod filters_tests;
-#[cfg(test)]
-mod look_tests;
-#[cfg(test)]
 mod read_command_tests;
-#[cfg(test)]
-mod run_script_tests;
 #[cfg(test)]
 mod saved_tests;
 #[cfg(test)]

@@ -1,70 +1,43 @@
-//! What a script's reader and writer see: blocks, limits, and faults in mid-stream.
+//! What a script's reader and writer see: each answer before the next line, and faults in mid-stream.
 
-use crate::run_script_tests::expect_answers;
+use expectations::expect;
 use operator_cmds::{ScriptFault, run_script};
+use std::alloc::Global;
 use std::io::ErrorKind;
 use std::test::Fail;
 use worked_rows::{FailingReader, FailingWriter, Terminal};
 
-#[test]
-fn cuts_lines(rt: HostRuntime) -> Result<(), Fail> {
-    // A carriage return before a line feed is dropped, at the end of the input it is not; skipped lines are counted.
-    expect_answers(
-        &rt,
-        rt.alloc(),
-        b"# a script\r\n\nnetwork 4 0\r\n # no comment\nshow 0\nshow 1\r",
-        b"ok\nrefused O1 4\nroute 0 local\nrefused O2 6\n",
-        2,
-    )?;
-    Ok(())
-}
-
-#[test]
-fn limits_the_input(rt: HostRuntime) -> Result<(), Fail> {
-    let alloc = rt.alloc();
-    let mut input = Vec::from_slice(alloc, b"network 4 0\nshow 0\n#")?;
-    input.resize(16_777_214, b'#')?;
-    input.extend_from_slice(b"\nx")?;
-    // The last line of an input at the limit is answered.
-    expect_answers(
-        &rt,
-        alloc,
-        input.as_slice(),
-        b"ok\nroute 0 local\nrefused O1 4\n",
-        1,
-    )?;
-    input.push(b'y')?;
-    let mut reader = input.as_slice();
+/// Whether a script stops where its reader fails, with the answers to all whole lines.
+fn stops_where_it_cannot_read(alloc: Global, kind: ErrorKind) -> bool {
+    let mut reader = FailingReader::new(b"network 4 0\nup 1\nsh", kind);
     let mut writer = Vec::new(alloc);
-    let fault = ScriptFault::TooLong;
-    assert_eq!(&rt; run_script(alloc, &mut reader, &mut writer), Err(fault));
-    assert_eq!(&rt; writer.as_slice(), b"ok\nroute 0 local\n".as_slice());
-    Ok(())
+    let result = run_script(alloc, &mut reader, &mut writer);
+    result == Err(ScriptFault::Read) && writer.as_slice() == b"ok\nopened 1\n".as_slice()
 }
 
 #[test]
-fn answers_before_a_read_fault(rt: HostRuntime) {
-    let alloc = rt.alloc();
+fn answers_before_a_read_fault(rt: HostRuntime) -> Result<(), Fail> {
     for kind in [ErrorKind::BrokenPipe, ErrorKind::WouldBlock] {
-        let mut reader = FailingReader::new(b"network 4 0\nup 1\nsh", kind);
-        let mut writer = Vec::new(alloc);
-        let fault = ScriptFault::Read;
-        assert_eq!(&rt; run_script(alloc, &mut reader, &mut writer), Err(fault));
-        assert_eq!(&rt; writer.as_slice(), b"ok\nopened 1\n".as_slice());
+        let stops = stops_where_it_cannot_read(rt.alloc(), kind);
+        expect(stops, "an input that fails")?;
     }
+    Ok(())
+}
+
+/// Whether a script stops where its writer takes no more than so many bytes.
+fn is_cut_short(alloc: Global, room: usize) -> bool {
+    let mut reader: &[u8] = b"network 4 0\nup 1\n";
+    let mut writer = FailingWriter::new(alloc, room);
+    let result = run_script(alloc, &mut reader, &mut writer);
+    let answers = b"ok\nopened 1\n";
+    result == Err(ScriptFault::Write) && answers.get(..room) == Some(writer.text())
 }
 
 #[test]
 fn stops_at_a_write_fault(rt: HostRuntime) -> Result<(), Fail> {
-    let alloc = rt.alloc();
     // The last one takes all 12 bytes, and fails when it is flushed.
     for room in [0, 2, 3, 7, 12] {
-        let mut reader: &[u8] = b"network 4 0\nup 1\n";
-        let mut writer = FailingWriter::new(alloc, room);
-        let result = run_script(alloc, &mut reader, &mut writer);
-        assert_eq!(&rt; result, Err(ScriptFault::Write));
-        assert_eq!(&rt; writer.text().len(), room);
-        assert!(&rt; b"ok\nopened 1\n".starts_with(writer.text()));
+        expect(is_cut_short(rt.alloc(), room), "an output that fails")?;
     }
     Ok(())
 }
@@ -82,8 +55,8 @@ const TYPED: &[(&[u8], &[u8])] = &[
 ];
 
 #[test]
-fn answers_before_it_reads_on(rt: HostRuntime) {
+fn answers_before_it_reads_on(rt: HostRuntime) -> Result<(), Fail> {
     let terminal = Terminal::new(rt.alloc(), TYPED);
     let result = run_script(rt.alloc(), &mut &terminal, &mut &terminal);
-    assert_eq!(&rt; result, Ok(1));
+    expect(result == Ok(1), "each answer comes before the next line")
 }

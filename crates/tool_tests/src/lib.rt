@@ -1,4 +1,5 @@
-//! Tests of what helps people with filters: refusals in words, filters that are tried on routes, and filters that are compared.
+//! Tests of what helps people with filters, where a stream fails and by calls that no command makes so. What its commands answer is in
+//! `tests/rows/`.
 #![tactic(auto)]
 
 #[cfg(test)]
@@ -9,7 +10,5 @@ mod explanation_tests;
 mod filter_tests;
 #[cfg(test)]
 mod listing_tests;
-#[cfg(test)]
-mod mistake_tests;
 #[cfg(test)]
 mod words_tests;

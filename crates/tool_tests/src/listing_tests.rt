@@ -1,113 +1,40 @@
-//! Listings of code, and what is known before each instruction.
+//! Listings of code.
 
+use expectations::{expect, expect_bytes};
 use filter_commands::ProgramFault;
-use filter_tools::write_listing;
-use std::alloc::Global;
-use std::process::Abort;
+use filter_tools::{list_named, write_listing};
 use std::test::Fail;
 
-/// Asserts the listing of a source, and whether it is refused.
-fn expect_listing(
-    rt: &impl Abort,
-    alloc: Global,
-    source: &str,
-    size: Option<u32>,
-    is_code: bool,
-    want: &str,
-    is_refused: bool,
-) -> Result<(), Fail> {
-    let mut writer = Vec::new(alloc);
-    let why = write_listing(alloc, source.as_bytes(), &mut writer, size, is_code)?;
-    assert_eq!(rt; writer.as_slice(), want.as_bytes());
-    assert_eq!(rt; why.is_some(), is_refused);
-    Ok(())
-}
+const ACCEPT: &[u8] = b"filter a { accept; }";
 
-/// Each instruction is listed at its index, a jump with where it leads, and that of a text with where it comes from.
+const LISTING: &[u8] = b"0 ACCEPT ; 1:12\n1 REJECT ; 1:20\n";
+
 #[test]
 fn instructions_are_listed(rt: HostRuntime) -> Result<(), Fail> {
-    let filter = "filter f { if net.len > 24 then reject; accept; }";
-    let want =
-        "0 NET ; 1:15\n1 LEN ; 1:15\n2 INT 24 ; 1:25\n3 LE ; 1:23\n4 NOT ; 1:23\n5 JUMPIFNOT 1 to 7 ; 1:12\n6 REJECT ; 1:33\n7 ACCEPT ; 1:41\n8 REJECT ; 1:49\n";
-    expect_listing(&rt, rt.alloc(), filter, None, false, want, false)?;
-    expect_listing(
-        &rt,
-        rt.alloc(),
-        "filter f { # caf\u{e9}\n\t/* \u{e9} */ accept;\n}",
-        None,
-        false,
-        "0 ACCEPT ; 2:10\n1 REJECT ; 3:1\n",
-        false,
-    )?;
-    expect_listing(
-        &rt,
-        rt.alloc(),
-        "4e4346310000000170\n",
-        None,
-        true,
-        "0 ACCEPT\n",
-        false,
-    )?;
-    expect_listing(
-        &rt,
-        rt.alloc(),
-        "filter f { accept }",
-        None,
-        false,
-        "refused P2 18\n",
-        true,
-    )
+    let mut writer = Vec::new(rt.alloc());
+    let why = write_listing(rt.alloc(), ACCEPT, &mut writer, None, false)?;
+    expect(why.is_none(), "a filter that is not refused")?;
+    expect_bytes(writer.as_slice(), LISTING)
 }
 
-/// What is known stands before each instruction, and the listing ends where one is refused.
+/// The listing of a source that has a name, of which nothing is told.
 #[test]
-fn knowledge_is_listed(rt: HostRuntime) -> Result<(), Fail> {
-    let filter = "filter d int c; { c = 100 / rip_metric; accept; }";
-    let want =
-        "  stack:; variables: ?\n0 INT 0 ; 1:14\n  stack: 0..0; variables: ?\n1 STORE 0 ; 1:14\n  stack:; variables: 0..0\n2 INT 100 ; 1:23\n  stack: 100..100>=received; variables: 0..0\n3 METRIC ; 1:29\n  stack: 0..16>=received 100..100>=received; variables: 0..0\n4 DIV ; 1:27\nrefused V3 4\n";
-    expect_listing(&rt, rt.alloc(), filter, Some(16), false, want, true)?;
-    let accept = "  stack:; variables:\n0 ACCEPT\nverified 1 0\n";
-    expect_listing(
-        &rt,
-        rt.alloc(),
-        "4e4346310000000170",
-        Some(16),
-        true,
-        accept,
+fn named_sources_are_listed(rt: HostRuntime) -> Result<(), Fail> {
+    let alloc = rt.alloc();
+    let (mut writer, mut told) = (Vec::new(alloc), Vec::new(alloc));
+    let listed = list_named(
+        alloc,
+        ACCEPT,
+        &mut writer,
+        &mut told,
+        b"f",
+        None,
         false,
-    )?;
-    expect_listing(
-        &rt,
-        rt.alloc(),
-        "4e4346310000000170",
-        Some(251),
         true,
-        "refused V8 0\n",
-        true,
-    )
-}
-
-/// Kinds without a range, places that are not known, paths that differ in depth, and code that no path leads to.
-#[test]
-fn kinds_are_listed(rt: HostRuntime) -> Result<(), Fail> {
-    let depths = "4e4346310000000402016100011370";
-    let want =
-        "  stack:; variables:\n0 BOOL true\n  stack: bool; variables:\n1 JUMPIFNOT 1 to 3\n  stack:; variables:\n2 METRIC\n  paths meet here whose stacks differ in depth\n3 ACCEPT\nrefused V9 3\n";
-    expect_listing(&rt, rt.alloc(), depths, Some(8), true, want, true)?;
-    let skipped = "4e43463100000004126000014070";
-    let want =
-        "  stack:; variables:\n0 NET\n  stack: prefix; variables:\n1 JUMP 1 to 3\n  no path leads here\n2 ADDR\n  stack: prefix; variables:\n3 ACCEPT\nverified 3 1\n";
-    expect_listing(&rt, rt.alloc(), skipped, Some(8), true, want, false)?;
-    let address = "4e434631000000031240";
-    expect_listing(
-        &rt,
-        rt.alloc(),
-        address,
-        Some(8),
-        true,
-        "refused C2 10\n",
-        true,
-    )
+    );
+    let is_listed = matches!(listed, Ok(_)) && told.is_empty();
+    expect(is_listed, "a filter that is not refused")?;
+    expect_bytes(writer.as_slice(), LISTING)
 }
 
 /// A writer that takes no more is told.
@@ -115,7 +42,7 @@ fn kinds_are_listed(rt: HostRuntime) -> Result<(), Fail> {
 fn a_full_writer_is_told(rt: HostRuntime) -> Result<(), Fail> {
     let mut room = [0; 4];
     let mut short = room.as_mut_slice();
-    let listed = write_listing(rt.alloc(), b"filter a { accept; }", &mut short, None, false);
-    assert_eq!(&rt; listed, Err(ProgramFault::WRITE));
-    Ok(())
+    let listed = write_listing(rt.alloc(), ACCEPT, &mut short, None, false);
+    let is_cut = listed == Err(ProgramFault::WRITE);
+    expect(is_cut, "an output that fails")
 }

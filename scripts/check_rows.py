@@ -1,0 +1,211 @@
+#!/usr/bin/env python3
+"""Runs the rows of `tests/rows/`: what the program reads and what it answers. Prints each row that differs, and at last 'N passed, M failed'.
+
+usage: scripts/check_rows.py [NAME..]
+       (NAMEs: of files, as `eval`; NCROUTE=PATH: the program; without it, the sources as they are, by `rt try`: rows with files, on a
+       terminal or with lines on standard error are left out then)
+
+A file has rows with empty lines between them. A row is lines that begin with a sign and a blank:
+
+    $ WORDS     the words of the command line behind `ncroute`, as a shell takes them
+    < LINE      a line of standard input
+    > LINE      a line of standard output
+    ! LINE      a line of standard error, which has no other
+    = STATUS    the exit status; without this line 0
+    ~ WORDS     what is a terminal: `input`, `errors`, or both
+    @ NAME      a file; `<` below it are the lines that the row finds there, or else `>` those that it leaves
+    # TEXT      a comment
+
+The lines of a sign belong together, whatever stands between them: so each answer may stand below its line of the input. `>...` and `!...` stand
+for any lines, or none. Files that stand by themselves, without a `$`, are there for every row below them, and `examples/` is there for all.
+
+In a line `\\t`, `\\r`, `\\n`, `\\xHH` and `\\\\` are bytes, `\\(N TEXT\\)` is the text so many times, and a line that ends with `\\` has no line feed.
+"""
+import os
+import re
+import shutil
+import sys
+import tempfile
+
+sys.dont_write_bytecode = True
+import program  # noqa: E402
+
+FOLDER = os.path.join(program.TOP, "tests", "rows")
+SPECIAL = re.compile(r"\\(?:x([0-9a-f]{2})|([\\tnr])|\((\d+) (.*?)\\\))")
+NAMED = {"\\": b"\\", "t": b"\t", "r": b"\r", "n": b"\n"}
+ANY_LINES = rb"(?:[^\n]*\n)*"
+# What ends an input that is typed.
+CTRL_D = b"\4"
+
+
+def spelled(text):
+    """The bytes of a text with its escapes."""
+    out, end = b"", 0
+    for found in SPECIAL.finditer(text):
+        byte, name, times, part = found.groups()
+        out += text[end:found.start()].encode()
+        out += bytes.fromhex(byte) if byte else NAMED[name] if name else spelled(part) * int(times)
+        end = found.end()
+    return out + text[end:].encode()
+
+
+def bytes_of(line):
+    """The bytes of a line: those of its text, and a line feed unless it ends with a backslash of its own."""
+    is_open = (len(line) - len(line.rstrip("\\"))) % 2 == 1
+    return spelled(line[:-1]) if is_open else spelled(line) + b"\n"
+
+
+class Wanted:
+    """The lines that are wanted of a stream or a file."""
+
+    def __init__(self):
+        self.parts = [b""]
+
+    def add(self, line):
+        self.parts[-1] += line
+
+    def add_any(self):
+        self.parts.append(b"")
+
+    def is_met(self, text):
+        return re.fullmatch(ANY_LINES.join(map(re.escape, self.parts)), text, re.S) is not None
+
+    def __repr__(self):
+        return " ... ".join(map(repr, self.parts))
+
+
+class Row:
+    """What the program is run on, and what it must answer."""
+
+    def __init__(self, place, files):
+        self.place, self.words, self.files = place, None, dict(files)
+        self.given, self.output, self.errors, self.left = b"", Wanted(), Wanted(), {}
+        self.status, self.terminals, self.looks_at_errors, self.has_files = 0, set(), False, bool(files)
+
+    def take(self, sign, text, file):
+        """Takes a line of the row, below the line of a file if there is one. Returns the file that the next line is below."""
+        if sign == "@":
+            self.has_files, file = True, os.fsdecode(spelled(text))
+            self.left[file] = Wanted()
+            return file
+        if sign == "$":
+            self.words = text
+        elif sign == "<" and file is None:
+            self.given += bytes_of(text)
+        elif sign == "<":
+            if self.left.pop(file, None):
+                self.files[file] = b""
+            self.files[file] += bytes_of(text)
+        elif sign == ">":
+            (self.output if file is None else self.left[file]).add(bytes_of(text))
+        elif sign == "!":
+            self.looks_at_errors = True
+            self.errors.add(bytes_of(text))
+        elif sign == "=":
+            self.status = int(text)
+        else:
+            self.terminals = set(text.split())
+        return file
+
+    def needs_program(self):
+        return self.has_files or self.looks_at_errors or self.terminals or "examples/" in self.words
+
+
+def rows_of(path):
+    """The rows of a file."""
+    name = os.path.relpath(path, program.TOP)
+    files, row, file = {}, None, None
+    with open(path, encoding="utf-8", newline="\n") as it:
+        lines = it.read().split("\n") + [""]
+    for number, line in enumerate(lines, 1):
+        if line.startswith("#"):
+            continue
+        if not line:
+            if row and row.words is None:
+                files = row.files
+            elif row:
+                yield row
+            row = file = None
+            continue
+        row = row or Row(f"{name}:{number}", files)
+        if line in (">...", "!..."):
+            (row.output if line[0] == ">" else row.errors).add_any()
+            row.looks_at_errors |= line[0] == "!"
+        elif line[0] in "$<>!=~@" and line[1:2] in ("", " "):
+            file = row.take(line[0], line[2:], file)
+        else:
+            sys.exit(f"{name}:{number}: a line begins with a sign and a blank")
+
+
+class Place:
+    """Where a row is run: a folder with its files, and beside it what standard error and the exit status were."""
+
+    def __init__(self, outer, number, row):
+        self.outer = os.path.join(outer, str(number))
+        self.folder, self.errors, self.status, self.given = (os.path.join(self.outer, name) for name in ("here", "errors", "status", "given"))
+        os.makedirs(self.folder)
+        os.symlink(os.path.join(program.TOP, "examples"), os.path.join(self.folder, "examples"))
+        for name, text in [*row.files.items(), ("../given", row.given)]:
+            with open(os.path.join(self.folder, name), "wb") as it:
+                it.write(text)
+        self.row = row
+
+    def line(self, redirections):
+        """The line of a shell that runs the row. What is behind a `|` of its words has another standard input and error."""
+        return f"cd {self.folder} && {redirections} ncroute {self.row.words}"
+
+    def read(self, name):
+        """The bytes of a file; none where it is not there."""
+        path = os.path.join(self.folder, name)
+        if not os.path.exists(path):
+            return None
+        with open(path, "rb") as it:
+            return it.read()
+
+    def on_terminal(self, ncroute):
+        """What is written, and the exit status, where a terminal is among the streams."""
+        typed = self.row.given + CTRL_D if "input" in self.row.terminals else b""
+        redirections = ("" if typed else f"<{self.given} ") + ("" if "errors" in self.row.terminals else f"2>{self.errors}")
+        output, shown = ncroute.on_terminal(f"({self.line(redirections)}); echo $? >{self.status}", typed)
+        if "errors" in self.row.terminals:
+            with open(self.errors, "wb") as it:
+                it.write(shown)
+        return output, int(self.read(self.status))
+
+    def differences(self, output, status, looks_at_errors):
+        """How what the program did differs from what the row says."""
+        row = self.row
+        if not row.output.is_met(output):
+            yield f"wrote {output!r}, and not {row.output}"
+        if looks_at_errors and not row.errors.is_met(self.read(self.errors)):
+            yield f"told {self.read(self.errors)!r}, and not {row.errors}"
+        if status != row.status:
+            yield f"ended with {status}, and not {row.status}"
+        for name, wanted in row.left.items():
+            if self.read(name) is None or not wanted.is_met(self.read(name)):
+                yield f"left {self.read(name)!r} in {name}, and not {wanted}"
+
+
+def main(names):
+    is_built = bool(os.environ.get("NCROUTE"))
+    paths = [os.path.join(FOLDER, name) for name in sorted(os.listdir(FOLDER)) if not names or name.removesuffix(".rows") in names]
+    rows = [row for path in paths for row in rows_of(path)]
+    if not is_built:
+        print(f"{sum(bool(row.needs_program()) for row in rows)} rows are left out: they need the program, NCROUTE=PATH")
+        rows = [row for row in rows if not row.needs_program()]
+    ncroute, outer = program.Program(), tempfile.mkdtemp()
+    places = [Place(outer, number, row) for number, row in enumerate(rows)]
+    plain = [place for place in places if not place.row.terminals]
+    said = dict(zip(plain, ncroute.runs([(place.line(f"2>{place.errors}"), place.row.given) for place in plain])))
+    failed = 0
+    for place in places:
+        output, status = said[place] if place in said else place.on_terminal(ncroute)
+        if wrong := list(place.differences(output, status, is_built)):
+            failed += 1
+            print(f"{place.row.place}: ncroute {place.row.words}: {'; '.join(wrong)}")
+    shutil.rmtree(outer)
+    ncroute.close()
+    program.finish(len(rows) - failed, failed)
+
+
+main(sys.argv[1:])
