@@ -1,0 +1,6 @@
+use Rattle.std.proofs.Common.{◌≡◌}
+use Rattle.router_daemon.specs.Passes.{IsLegalPass}
+use Rattle.router_daemon.proofs.filtering.set_imports.Given as goal
+
+abbrev pub invariant-loop-used : goal.invariant-loop-used
+invariant-loop-used g l = IsLegalPass l.router l.pass × (l.pass.part.shares ≡ l.fn.pass.part.shares)

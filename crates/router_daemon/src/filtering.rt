@@ -1,0 +1,110 @@
+//! The sets of filters that a router begins with.
+ghost use Rattle.std.specs.Prelude.{◌≡◌};
+ghost use Rattle.router_daemon.specs.Passes.{IsLegalPass};
+
+use crate::fault::DaemonFault;
+use crate::setting::Filters;
+use netchange_core::Event;
+use router_options::{FilterUse, RouterPlan};
+use slot_lock::{Pass, Router};
+use std::sync::{Arc, Wait};
+
+/// Enters an event.
+fn enter<R: Wait>(rt: &R, router: &Router, pass: &mut Pass, event: Event) -> Result<(), DaemonFault>
+    requires { IsLegalPass router.now pass.old }
+    ensures { IsLegalPass router.now pass.new × (pass.new.part.shares ≡ pass.old.part.shares) }
+{
+    match router.call(rt, pass, event) {
+        Ok(_) => Ok(()),
+        Err(fault) => Err(DaemonFault::Call(fault)),
+    }
+}
+
+/// Sets the import filter of a neighbour, if the filter is there.
+fn set_import<R: Wait>(
+    rt: &R,
+    router: &Router,
+    pass: &mut Pass,
+    used: &FilterUse,
+    filters: &Filters,
+) -> Result<(), DaemonFault>
+    requires { IsLegalPass router.now pass.old }
+    ensures { IsLegalPass router.now pass.new × (pass.new.part.shares ≡ pass.old.part.shares) }
+{
+    match filters.get(used.name.as_bytes()) {
+        Some(filter) => {
+            let event = Event::SetImport(used.node, Arc::try_clone(filter)?);
+            enter(rt, router, pass, event)
+        }
+        None => Ok(()),
+    }
+}
+
+/// Sets the export filter of a neighbour, if the filter is there.
+fn set_export<R: Wait>(
+    rt: &R,
+    router: &Router,
+    pass: &mut Pass,
+    used: &FilterUse,
+    filters: &Filters,
+) -> Result<(), DaemonFault>
+    requires { IsLegalPass router.now pass.old }
+    ensures { IsLegalPass router.now pass.new × (pass.new.part.shares ≡ pass.old.part.shares) }
+{
+    match filters.get(used.name.as_bytes()) {
+        Some(filter) => {
+            let event = Event::SetExport(used.node, Arc::try_clone(filter)?);
+            enter(rt, router, pass, event)
+        }
+        None => Ok(()),
+    }
+}
+
+/// Sets the import filters of a router, in order.
+fn set_imports<R: Wait>(
+    rt: &R,
+    router: &Router,
+    pass: &mut Pass,
+    uses: &[FilterUse],
+    filters: &Filters,
+) -> Result<(), DaemonFault>
+    requires { IsLegalPass router.now pass.old }
+    ensures { IsLegalPass router.now pass.new × (pass.new.part.shares ≡ pass.old.part.shares) }
+{
+    for used in uses {
+        set_import(rt, router, pass, used, filters)?;
+    }
+    Ok(())
+}
+
+/// Sets the export filters of a router, in order.
+fn set_exports<R: Wait>(
+    rt: &R,
+    router: &Router,
+    pass: &mut Pass,
+    uses: &[FilterUse],
+    filters: &Filters,
+) -> Result<(), DaemonFault>
+    requires { IsLegalPass router.now pass.old }
+    ensures { IsLegalPass router.now pass.new × (pass.new.part.shares ≡ pass.old.part.shares) }
+{
+    for used in uses {
+        set_export(rt, router, pass, used, filters)?;
+    }
+    Ok(())
+}
+
+/// Sets the filters that a plan uses: first the import filters, then the export filters, each in the order of the plan.
+pub(crate) fn set_filters<R: Wait>(
+    rt: &R,
+    router: &Router,
+    pass: &mut Pass,
+    plan: &RouterPlan,
+    filters: &Filters,
+) -> Result<(), DaemonFault>
+    requires { IsLegalPass router.now pass.old }
+    ensures { IsLegalPass router.now pass.new × (pass.new.part.shares ≡ pass.old.part.shares) }
+{
+    set_imports(rt, router, pass, plan.imports.as_slice(), filters)?;
+    set_exports(rt, router, pass, plan.exports.as_slice(), filters)
+}
