@@ -1,1 +1,4 @@
+pub mod Filtering
 pub mod Passes
+pub mod Running
+pub mod Saving

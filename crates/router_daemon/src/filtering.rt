@@ -1,6 +1,7 @@
 //! The sets of filters that a router begins with.
-ghost use Rattle.std.specs.Prelude.{◌≡◌};
+ghost use Rattle.std.specs.Prelude.{◌≡◌, IfErr};
 ghost use Rattle.router_daemon.specs.Passes.{IsLegalPass};
+ghost use Rattle.router_daemon.specs.Running.{IsEarly};
 
 use crate::fault::DaemonFault;
 use crate::setting::Filters;
@@ -12,7 +13,9 @@ use std::sync::{Arc, Wait};
 /// Enters an event.
 fn enter<R: Wait>(rt: &R, router: &Router, pass: &mut Pass, event: Event) -> Result<(), DaemonFault>
     requires { IsLegalPass router.now pass.old }
-    ensures { IsLegalPass router.now pass.new × (pass.new.part.shares ≡ pass.old.part.shares) }
+    ensures legal { IsLegalPass router.now pass.new }
+    ensures shares { pass.new.part.shares ≡ pass.old.part.shares }
+    ensures early { IfErr result IsEarly }
 {
     match router.call(rt, pass, event) {
         Ok(_) => Ok(()),
@@ -29,7 +32,9 @@ fn set_import<R: Wait>(
     filters: &Filters,
 ) -> Result<(), DaemonFault>
     requires { IsLegalPass router.now pass.old }
-    ensures { IsLegalPass router.now pass.new × (pass.new.part.shares ≡ pass.old.part.shares) }
+    ensures legal { IsLegalPass router.now pass.new }
+    ensures shares { pass.new.part.shares ≡ pass.old.part.shares }
+    ensures early { IfErr result IsEarly }
 {
     match filters.get(used.name.as_bytes()) {
         Some(filter) => {
@@ -49,7 +54,9 @@ fn set_export<R: Wait>(
     filters: &Filters,
 ) -> Result<(), DaemonFault>
     requires { IsLegalPass router.now pass.old }
-    ensures { IsLegalPass router.now pass.new × (pass.new.part.shares ≡ pass.old.part.shares) }
+    ensures legal { IsLegalPass router.now pass.new }
+    ensures shares { pass.new.part.shares ≡ pass.old.part.shares }
+    ensures early { IfErr result IsEarly }
 {
     match filters.get(used.name.as_bytes()) {
         Some(filter) => {
@@ -69,7 +76,9 @@ fn set_imports<R: Wait>(
     filters: &Filters,
 ) -> Result<(), DaemonFault>
     requires { IsLegalPass router.now pass.old }
-    ensures { IsLegalPass router.now pass.new × (pass.new.part.shares ≡ pass.old.part.shares) }
+    ensures legal { IsLegalPass router.now pass.new }
+    ensures shares { pass.new.part.shares ≡ pass.old.part.shares }
+    ensures early { IfErr result IsEarly }
 {
     for used in uses {
         set_import(rt, router, pass, used, filters)?;
@@ -86,7 +95,9 @@ fn set_exports<R: Wait>(
     filters: &Filters,
 ) -> Result<(), DaemonFault>
     requires { IsLegalPass router.now pass.old }
-    ensures { IsLegalPass router.now pass.new × (pass.new.part.shares ≡ pass.old.part.shares) }
+    ensures legal { IsLegalPass router.now pass.new }
+    ensures shares { pass.new.part.shares ≡ pass.old.part.shares }
+    ensures early { IfErr result IsEarly }
 {
     for used in uses {
         set_export(rt, router, pass, used, filters)?;
@@ -103,7 +114,9 @@ pub(crate) fn set_filters<R: Wait>(
     filters: &Filters,
 ) -> Result<(), DaemonFault>
     requires { IsLegalPass router.now pass.old }
-    ensures { IsLegalPass router.now pass.new × (pass.new.part.shares ≡ pass.old.part.shares) }
+    ensures legal { IsLegalPass router.now pass.new }
+    ensures shares { pass.new.part.shares ≡ pass.old.part.shares }
+    ensures early { IfErr result IsEarly }
 {
     set_imports(rt, router, pass, plan.imports.as_slice(), filters)?;
     set_exports(rt, router, pass, plan.exports.as_slice(), filters)
