@@ -1,4 +1,4 @@
-pub mod Filtering
+pub mod Entering
+pub mod Looking
 pub mod Passes
 pub mod Running
-pub mod Saving
