@@ -1,3 +1,4 @@
+pub mod Dividing
 pub mod Entering
 pub mod Looking
 pub mod Passes

@@ -1,7 +1,12 @@
 //! The sets of filters that a router begins with.
-ghost use Rattle.std.specs.Prelude.{◌≡◌, IfErr};
+ghost use Rattle.std.specs.Prelude.{◌≡◌, IfErr, OnOk, string_bytes};
+ghost use Rattle.netchange_core.specs.declared.event.Event.TheVariants as event;
+ghost use Rattle.router_operator.specs.OperatorView.{filter_of};
+ghost use Rattle.slot_lock.specs.Calls.{Answered};
+ghost use Rattle.slot_lock.specs.declared.answer.Answer.{Answer};
 ghost use Rattle.router_daemon.specs.Passes.{IsLegalPass};
 ghost use Rattle.router_daemon.specs.Running.{IsEarly};
+ghost use Rattle.router_daemon.specs.Uses as spec;
 
 use crate::fault::DaemonFault;
 use crate::setting::Filters;
@@ -15,6 +20,7 @@ fn enter<R: Wait>(rt: &R, router: &Router, pass: &mut Pass, event: Event) -> Res
     requires { IsLegalPass router.now pass.old }
     ensures legal { IsLegalPass router.now pass.new }
     ensures shares { pass.new.part.shares ≡ pass.old.part.shares }
+    ensures entered { OnOk result ((answer : Answer) × Answered router.now pass.old event answer pass.new) }
     ensures early { IfErr result IsEarly }
 {
     match router.call(rt, pass, event) {
@@ -34,6 +40,8 @@ fn set_import<R: Wait>(
     requires { IsLegalPass router.now pass.old }
     ensures legal { IsLegalPass router.now pass.new }
     ensures shares { pass.new.part.shares ≡ pass.old.part.shares }
+    ensures set { OnOk result (spec.SetsOne router.now event.SetImport (filter_of filters.now.entries (string_bytes used.now.name)) used.now.node
+        pass.old pass.new) }
     ensures early { IfErr result IsEarly }
 {
     match filters.get(used.name.as_bytes()) {
@@ -56,6 +64,8 @@ fn set_export<R: Wait>(
     requires { IsLegalPass router.now pass.old }
     ensures legal { IsLegalPass router.now pass.new }
     ensures shares { pass.new.part.shares ≡ pass.old.part.shares }
+    ensures set { OnOk result (spec.SetsOne router.now event.SetExport (filter_of filters.now.entries (string_bytes used.now.name)) used.now.node
+        pass.old pass.new) }
     ensures early { IfErr result IsEarly }
 {
     match filters.get(used.name.as_bytes()) {
@@ -78,6 +88,7 @@ fn set_imports<R: Wait>(
     requires { IsLegalPass router.now pass.old }
     ensures legal { IsLegalPass router.now pass.new }
     ensures shares { pass.new.part.shares ≡ pass.old.part.shares }
+    ensures set { OnOk result (spec.SetsEach router.now event.SetImport filters.now.entries uses.now pass.old pass.new) }
     ensures early { IfErr result IsEarly }
 {
     for used in uses {
@@ -97,6 +108,7 @@ fn set_exports<R: Wait>(
     requires { IsLegalPass router.now pass.old }
     ensures legal { IsLegalPass router.now pass.new }
     ensures shares { pass.new.part.shares ≡ pass.old.part.shares }
+    ensures set { OnOk result (spec.SetsEach router.now event.SetExport filters.now.entries uses.now pass.old pass.new) }
     ensures early { IfErr result IsEarly }
 {
     for used in uses {
@@ -116,6 +128,7 @@ pub(crate) fn set_filters<R: Wait>(
     requires { IsLegalPass router.now pass.old }
     ensures legal { IsLegalPass router.now pass.new }
     ensures shares { pass.new.part.shares ≡ pass.old.part.shares }
+    ensures set { OnOk result (spec.SetsFilters router.now plan.now filters.now.entries pass.old pass.new) }
     ensures early { IfErr result IsEarly }
 {
     set_imports(rt, router, pass, plan.imports.as_slice(), filters)?;
