@@ -1,7 +1,7 @@
 -- What a call of the router leaves of a pass that has seen a legal history, and how filters are set by calls.
-use Rattle.std.proofs.Common.{◌≡◌, sym, subst, refl, ℕ, List, [], ◌∷◌, ◌++◌, Option, Some, None, Result, Global}
+use Rattle.std.proofs.Common.{◌≡◌, sym, subst, refl, ℕ, List, [], ◌∷◌, ◌++◌, Option, Some, None, Result, Ok, Err, Global}
 use Rattle.std.proofs.lemmas.Result.{on_ok_weaker}
-use Rattle.std.specs.Prelude.{OnOk, string_bytes}
+use Rattle.std.specs.Prelude.{IfErr, IfOk, OnOk, string_bytes}
 use Rattle.std.specs.declared.sync.Arc.{Arc}
 use Rattle.filter_verifier.specs.VerifiedView.{VerifiedView}
 use Rattle.netchange_core.specs.declared.event.Event.{Event}
@@ -47,3 +47,9 @@ sets_one r sets found filter node old new entered is h =
 pub sets_none : (r : RouterView) (sets : Setter) (found : Option VerifiedView) (node : ℕ) (old : PassView) → found ≡ None →
     SetsOne r sets found node old old
 sets_none r sets found node old is = subst (λ (o : Option VerifiedView). SetsOne r sets o node old old) (sym is) refl
+
+-- what a call leaves, answered or not
+pub legal_called : (r : RouterView) (old new : PassView) (event : Event) (called : Result Answer CallFault) → IsPassOf r new →
+    IsLegalPass r old → IfOk called (λ a. Answered r old event a new) → IfErr called (λ why. Refused why r old new) → IsLegalPass r new
+legal_called r old new event (Ok a) of before answered refused = legal_answered r old new event a of answered
+legal_called r old new event (Err why) of before answered refused = legal_refused why r old new of before refused

@@ -1,5 +1,6 @@
 pub mod Dividing
 pub mod Entering
+pub mod Lines
 pub mod Looking
 pub mod Passes
 pub mod Running
