@@ -7,3 +7,4 @@ pub mod Links
 pub mod Names
 pub mod Passes
 pub mod Saves
+pub mod Sets
