@@ -1,1 +1,5 @@
+pub mod Dividing
+pub mod Entering
+pub mod Looking
 pub mod Passes
+pub mod Running

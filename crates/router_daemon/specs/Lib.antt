@@ -8,3 +8,4 @@ pub mod Names
 pub mod Passes
 pub mod Saves
 pub mod Sets
+pub mod Uses

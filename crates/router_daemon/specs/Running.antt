@@ -1,5 +1,5 @@
 -- How a router is run. (This project's own choice.)
-use Rattle.std.specs.Prelude.{◌≡◌, ℕ, List, length, Option, Some, None, Result, Ok, Err, OnErr, false, ⊤}
+use Rattle.std.specs.Prelude.{◌≡◌, ℕ, List, length, Option, Some, None, Result, Ok, Err, false, ⊤}
 use Rattle.std.specs.declared.alloc.AllocError.{AllocError}
 use Rattle.history_saver.specs.Saved.{HasSaved, SaverView}
 use Rattle.history_saver.specs.declared.fault.SaveFault.{SaveFault}
@@ -55,9 +55,15 @@ Fails operated untouched (fault.Stream why) = operated (Err why)
 Fails operated untouched (fault.Save why) = (answered : Result ℕ StreamFault) × operated answered
 Fails operated untouched _ = untouched
 
+-- a fault that comes before a line is read
+abbrev pub IsEarly : DaemonFault → Type 0
+IsEarly (fault.Stream why) = ⊥
+IsEarly (fault.Save why) = ⊥
+IsEarly _ = ⊤
+
 -- it comes of how the operator's lines ended, and of what became of the history, in this order
 abbrev pub IsWhy : {S : Type 0} → Result (Result ℕ StreamFault) AllocError → Result S SaveFault → DaemonFault → Type 0
 IsWhy ran saved (fault.Stream why) = ran ≡ Ok (Err why)
 IsWhy ran saved (fault.Save why) = ((refused : ℕ) × (ran ≡ Ok (Ok refused))) × (saved ≡ Err why)
-IsWhy ran saved fault.Memory = OnErr ran ⊤
+IsWhy ran saved fault.Memory = (why : AllocError) × (ran ≡ Err why)
 IsWhy ran saved _ = ⊥

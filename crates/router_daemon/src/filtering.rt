@@ -1,6 +1,12 @@
 //! The sets of filters that a router begins with.
-ghost use Rattle.std.specs.Prelude.{◌≡◌};
+ghost use Rattle.std.specs.Prelude.{◌≡◌, IfErr, OnOk, string_bytes};
+ghost use Rattle.netchange_core.specs.declared.event.Event.TheVariants as event;
+ghost use Rattle.router_operator.specs.OperatorView.{filter_of};
+ghost use Rattle.slot_lock.specs.Calls.{Answered};
+ghost use Rattle.slot_lock.specs.declared.answer.Answer.{Answer};
 ghost use Rattle.router_daemon.specs.Passes.{IsLegalPass};
+ghost use Rattle.router_daemon.specs.Running.{IsEarly};
+ghost use Rattle.router_daemon.specs.Uses as spec;
 
 use crate::fault::DaemonFault;
 use crate::setting::Filters;
@@ -12,7 +18,10 @@ use std::sync::{Arc, Wait};
 /// Enters an event.
 fn enter<R: Wait>(rt: &R, router: &Router, pass: &mut Pass, event: Event) -> Result<(), DaemonFault>
     requires { IsLegalPass router.now pass.old }
-    ensures { IsLegalPass router.now pass.new × (pass.new.part.shares ≡ pass.old.part.shares) }
+    ensures legal { IsLegalPass router.now pass.new }
+    ensures shares { pass.new.part.shares ≡ pass.old.part.shares }
+    ensures entered { OnOk result ((answer : Answer) × Answered router.now pass.old event answer pass.new) }
+    ensures early { IfErr result IsEarly }
 {
     match router.call(rt, pass, event) {
         Ok(_) => Ok(()),
@@ -29,7 +38,11 @@ fn set_import<R: Wait>(
     filters: &Filters,
 ) -> Result<(), DaemonFault>
     requires { IsLegalPass router.now pass.old }
-    ensures { IsLegalPass router.now pass.new × (pass.new.part.shares ≡ pass.old.part.shares) }
+    ensures legal { IsLegalPass router.now pass.new }
+    ensures shares { pass.new.part.shares ≡ pass.old.part.shares }
+    ensures set { OnOk result (spec.SetsOne router.now event.SetImport (filter_of filters.now.entries (string_bytes used.now.name)) used.now.node
+        pass.old pass.new) }
+    ensures early { IfErr result IsEarly }
 {
     match filters.get(used.name.as_bytes()) {
         Some(filter) => {
@@ -49,7 +62,11 @@ fn set_export<R: Wait>(
     filters: &Filters,
 ) -> Result<(), DaemonFault>
     requires { IsLegalPass router.now pass.old }
-    ensures { IsLegalPass router.now pass.new × (pass.new.part.shares ≡ pass.old.part.shares) }
+    ensures legal { IsLegalPass router.now pass.new }
+    ensures shares { pass.new.part.shares ≡ pass.old.part.shares }
+    ensures set { OnOk result (spec.SetsOne router.now event.SetExport (filter_of filters.now.entries (string_bytes used.now.name)) used.now.node
+        pass.old pass.new) }
+    ensures early { IfErr result IsEarly }
 {
     match filters.get(used.name.as_bytes()) {
         Some(filter) => {
@@ -69,7 +86,10 @@ fn set_imports<R: Wait>(
     filters: &Filters,
 ) -> Result<(), DaemonFault>
     requires { IsLegalPass router.now pass.old }
-    ensures { IsLegalPass router.now pass.new × (pass.new.part.shares ≡ pass.old.part.shares) }
+    ensures legal { IsLegalPass router.now pass.new }
+    ensures shares { pass.new.part.shares ≡ pass.old.part.shares }
+    ensures set { OnOk result (spec.SetsEach router.now event.SetImport filters.now.entries uses.now pass.old pass.new) }
+    ensures early { IfErr result IsEarly }
 {
     for used in uses {
         set_import(rt, router, pass, used, filters)?;
@@ -86,7 +106,10 @@ fn set_exports<R: Wait>(
     filters: &Filters,
 ) -> Result<(), DaemonFault>
     requires { IsLegalPass router.now pass.old }
-    ensures { IsLegalPass router.now pass.new × (pass.new.part.shares ≡ pass.old.part.shares) }
+    ensures legal { IsLegalPass router.now pass.new }
+    ensures shares { pass.new.part.shares ≡ pass.old.part.shares }
+    ensures set { OnOk result (spec.SetsEach router.now event.SetExport filters.now.entries uses.now pass.old pass.new) }
+    ensures early { IfErr result IsEarly }
 {
     for used in uses {
         set_export(rt, router, pass, used, filters)?;
@@ -103,7 +126,10 @@ pub(crate) fn set_filters<R: Wait>(
     filters: &Filters,
 ) -> Result<(), DaemonFault>
     requires { IsLegalPass router.now pass.old }
-    ensures { IsLegalPass router.now pass.new × (pass.new.part.shares ≡ pass.old.part.shares) }
+    ensures legal { IsLegalPass router.now pass.new }
+    ensures shares { pass.new.part.shares ≡ pass.old.part.shares }
+    ensures set { OnOk result (spec.SetsFilters router.now plan.now filters.now.entries pass.old pass.new) }
+    ensures early { IfErr result IsEarly }
 {
     set_imports(rt, router, pass, plan.imports.as_slice(), filters)?;
     set_exports(rt, router, pass, plan.exports.as_slice(), filters)

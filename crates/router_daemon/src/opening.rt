@@ -1,6 +1,9 @@
 //! A router is opened.
-ghost use Rattle.std.specs.Prelude.{◌≡◌, IfOk};
+ghost use Rattle.std.specs.Prelude.{◌≡◌, IfErr, IfOk};
 ghost use Rattle.router_daemon.specs.Passes.{IsLegalPass};
+ghost use Rattle.router_daemon.specs.Running.{IsEarly};
+ghost use Rattle.router_daemon.specs.Uses.{BeginsWithFilters};
+ghost use Rattle.slot_lock.specs.Held.{IsFirst};
 
 use crate::fault::DaemonFault;
 use crate::filtering::set_filters;
@@ -14,7 +17,8 @@ use std::sync::Wait;
 /// The router of a plan, with an empty history.
 fn open_empty(alloc: Global, plan: &RouterPlan) -> Result<(Router, Pass), DaemonFault>
     ensures router { IfOk result (λ r. (r.0.opening ≡ plan.now.opening) × (r.0.limit ≡ plan.now.limit)) }
-    ensures pass { IfOk result (λ r. IsLegalPass r.0 r.1) }
+    ensures first { IfOk result (λ r. IsFirst r.0 r.1) }
+    ensures early { IfErr result IsEarly }
 {
     let journal = Journal::open(alloc, plan.opening.copy(alloc)?, plan.limit)?;
     match Router::open(alloc, journal) {
@@ -32,6 +36,8 @@ pub(crate) fn open_router<R: Wait>(
 ) -> Result<(Router, Pass), DaemonFault>
     ensures router { IfOk result (λ r. (r.0.opening ≡ plan.now.opening) × (r.0.limit ≡ plan.now.limit)) }
     ensures pass { IfOk result (λ r. IsLegalPass r.0 r.1) }
+    ensures set { IfOk result (λ r. BeginsWithFilters r.0 plan.now filters.now.entries r.1) }
+    ensures early { IfErr result IsEarly }
 {
     let (router, mut pass) = open_empty(alloc, plan)?;
     set_filters(rt, &router, &mut pass, plan, filters)?;

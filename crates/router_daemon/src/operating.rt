@@ -28,10 +28,10 @@ pub(crate) struct Figures {
 }
 
 /// Answers the operator's lines, to their end or to `quit`. The number of those that were refused.
-pub(crate) fn serve_operator<R: Wait + Clock, I: Read, W: Write, J: Naming, E: Write>(
-    rt: &R,
+pub(crate) fn serve_operator<'a, R: Wait + Clock, I: Read, W: Write, J: Naming, E: Write>(
+    rt: &'a R,
     alloc: Global,
-    shared: &Shared<J, E>,
+    shared: &'a Shared<J, E>,
     pass: Pass,
     figures: Figures,
     filters: Filters,

@@ -2,7 +2,7 @@
 ghost use Rattle.std.specs.Prelude.{◌≡◌, IfErr, IfOk, IfSome, Ok, OnErr, map};
 ghost use Rattle.std.specs.Option.{option_map};
 ghost use Rattle.router_daemon.specs.Passes.{IsLegalPass};
-ghost use Rattle.router_daemon.specs.Running.{Fails, HasOperator, IsWhy, SavesTo};
+ghost use Rattle.router_daemon.specs.Running.{Fails, HasOperator, IsEarly, IsWhy, SavesTo};
 
 use crate::closing::close_links;
 use crate::fault::DaemonFault;
@@ -17,7 +17,7 @@ use crate::starting::{Links, start_links, start_saver};
 use history_saver::{SaveFault, Saver};
 use line_protocol::StreamFault;
 use neighbour_session::Domain;
-use router_options::LinkFiles;
+use router_options::{LinkFiles, RouterPlan};
 use slot_lock::{Pass, Router};
 use std::alloc::{AllocError, Global};
 use std::io::{Read, Write};
@@ -43,7 +43,9 @@ fn begin_saving<
     save: Option<V>,
 ) -> Result<Option<Saving<V, J>>, DaemonFault>
     requires { IsLegalPass J.router pass.old }
-    ensures { IsLegalPass J.router pass.new }
+    ensures legal { IsLegalPass J.router pass.new }
+    ensures file { IfOk result (λ saving. option_map (λ thread. V.contents thread.promise.0.value) saving ≡ option_map (λ file. V.contents file) save) }
+    ensures early { IfErr result IsEarly }
 {
     let Some(file) = save else {
         return Ok(None);
@@ -59,7 +61,9 @@ fn begin_saving<
 fn end_saving<R: Threads, V: Write + Drop, J: Naming>(
     rt: &R,
     saving: Option<Saving<V, J>>,
-) -> Result<Option<Saver<V>>, SaveFault> {
+) -> Result<Option<Saver<V>>, SaveFault>
+    ensures { IfOk result (SavesTo J.router.opening J.router.limit (option_map (λ thread. V.contents thread.promise.0.value) saving)) }
+{
     let Some(saving) = saving else {
         return Ok(None);
     };
@@ -169,25 +173,33 @@ fn run_named<
         filters,
         save,
     } = setting;
+    let RouterPlan {
+        opening,
+        limit,
+        links,
+        retry,
+        stays,
+        ..
+    } = plan;
     let figures = Figures {
-        size: plan.opening.size(),
-        limit: plan.limit,
-        stays: plan.stays,
+        size: opening.size(),
+        limit,
+        stays,
     };
     let common = Links {
         domain: Domain {
             size: figures.size,
-            me: plan.opening.me(),
+            me: opening.me(),
         },
-        retry: plan.retry,
+        retry,
     };
     let shared: Arc<Shared<J, E>> = Arc::new(
         alloc,
-        shared_of(alloc, router, plan.links.as_slice(), errors)?,
+        shared_of(alloc, router, links.as_slice(), errors)?,
     )?;
     let saving = begin_saving(rt, alloc, &shared, &mut pass, save)?;
     let ran = serve_all::<R, FI, FO, D, J, E, I, W>(
-        rt, alloc, folder, &shared, &mut pass, plan.links, common, figures, filters, reader, writer,
+        rt, alloc, folder, &shared, &mut pass, links, common, figures, filters, reader, writer,
     );
     close_links(rt, &shared, &mut pass);
     end_of(ran, end_saving(rt, saving))

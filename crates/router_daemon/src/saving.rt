@@ -117,6 +117,7 @@ fn save_all<R: Wait + Clock, V: Write, J: Naming, E: Write>(
         thread::sleep(rt, Duration::from_millis(REST));
         is_closing = await_entries(rt, shared, saver.saved());
     }
+    unreachable!()
 }
 
 /// Saves the history as it is made, until the router is closed or saving fails: what was saved.

@@ -1,6 +1,7 @@
 //! The threads of a router are started.
-ghost use Rattle.std.specs.Prelude.{◌≡◌, IfOk};
+ghost use Rattle.std.specs.Prelude.{◌≡◌, IfErr, IfOk};
 ghost use Rattle.router_daemon.specs.Passes.{IsLegalPass};
+ghost use Rattle.router_daemon.specs.Running.{IsEarly};
 
 use crate::fault::DaemonFault;
 use crate::folder::LinkFolder;
@@ -159,7 +160,8 @@ pub(crate) fn start_saver<
     file: V,
     ticket: LegalTicket<J>,
 ) -> Result<PromisedHandle<Saved<V, J>, IsIn<V>>, DaemonFault>
-    ensures { IfOk result (λ h. h.promise.0.value ≡ file) }
+    ensures file { IfOk result (λ saving. saving.promise.0.value ≡ file) }
+    ensures early { IfErr result IsEarly }
 {
     let handle = *rt;
     let shared = Arc::try_clone(shared)?;

@@ -3,7 +3,7 @@ use Rattle.history_saver.specs.Saved.{HasSaved, seen_by}
 use Rattle.router_daemon.specs.Passes.{IsLegalPass}
 use Rattle.router_daemon.proofs.saving.save_all.Given as goal
 
--- what is saved so far is a front of what the pass has seen
+-- what is saved so far is a front of the legal history that the pass has seen
 abbrev pub invariant-loop : goal.invariant-loop
 invariant-loop g l = record {
   next : (goal.iterator-loop g).can_next l.iterator';
