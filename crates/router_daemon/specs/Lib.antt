@@ -7,4 +7,5 @@ pub mod Links
 pub mod Names
 pub mod Passes
 pub mod Saves
+pub mod Sets
 pub mod Uses

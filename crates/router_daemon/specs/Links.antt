@@ -1,13 +1,20 @@
 -- What becomes of a link. (This project's own choice.)
 use Rattle.std.specs.Prelude.{◌≡◌, ◌⊎◌, ℕ, ◌≤◌, Bool, true, false, None, ⊤}
 use Rattle.message_streams.specs.Views.{ReaderView, WriterView}
+use Rattle.neighbour_session.specs.Ending.{GoesDown}
 use Rattle.neighbour_session.specs.Greeting.{Greets}
 use Rattle.neighbour_session.specs.Keeping.{IsServed, IsTurnedAway, LacksShares}
+use Rattle.neighbour_session.specs.Reading.{Hears}
 use Rattle.neighbour_session.specs.Words.{can_be_opened_again}
 use Rattle.neighbour_session.specs.declared.ends.SessionEnd.{SessionEnd}
+use Rattle.neighbour_session.specs.declared.ends.SessionEnd.TheVariants as end
 use Rattle.neighbour_session.specs.declared.greeting.Domain.{Domain}
 use Rattle.slot_lock.specs.Held.{PassView, RouterView}
 use Rattle.router_daemon.specs.Passes.{TakesBack}
+
+-- A session whose Up was entered is over: it went down with nobody to serve it; or anybody entered what the neighbour said, and its Down.
+abbrev pub IsOver : RouterView → ℕ → ReaderView → PassView → SessionEnd → PassView → Type 0
+IsOver r session input old why new = GoesDown r session end.NotStarted old why new ⊎ Hears (λ _. ⊤) (λ _. ⊤) r session old input why new
 
 -- A neighbour that greeted as it has to was served, by anybody: its Up was entered, what it said, and its Down. The pass of who wrote came
 -- back.

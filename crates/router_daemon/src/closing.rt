@@ -31,6 +31,24 @@ fn take_session<R: Wait, J: Naming, E: Write>(
     }
 }
 
+/// Ends the session of a link, if one is there and nobody else ended it, and enters its Down.
+fn close_link<R: Wait, J: Naming, E: Write>(
+    rt: &R,
+    shared: &Shared<J, E>,
+    pass: &mut Pass,
+    link: usize,
+)
+    requires { IsLegalPass J.router pass.old }
+    ensures { IsLegalPass J.router pass.new }
+{
+    let Some(session) = take_session(rt, shared, link) else {
+        return;
+    };
+    if let Ok(answer) = enter_down(rt, &shared.router, pass, session) {
+        shared.signals.note(rt, &answer);
+    }
+}
+
 /// Closes the links: no session begins any more, each that is there ends, and its Down is entered.
 pub(crate) fn close_links<R: Wait, J: Naming, E: Write>(
     rt: &R,
@@ -41,11 +59,7 @@ pub(crate) fn close_links<R: Wait, J: Naming, E: Write>(
     ensures { IsLegalPass J.router pass.new }
 {
     for link in 0..close(rt, shared) {
-        if let Some(session) = take_session(rt, shared, link) {
-            if let Ok(answer) = enter_down(rt, &shared.router, pass, session) {
-                shared.signals.note(rt, &answer);
-            }
-        }
+        close_link(rt, shared, pass, link);
     }
 }
 

@@ -1,7 +1,7 @@
 //! Who keeps a link.
-ghost use Rattle.std.specs.Prelude.{◌≡◌, ◌<◌, ⊤};
+ghost use Rattle.std.specs.Prelude.{◌≡◌, ◌<◌, ⊤, IfOk};
 ghost use Rattle.slot_lock.specs.Held.{IsPassOf};
-ghost use Rattle.router_daemon.specs.Links.{AreFresh, KeepsOnce, Serves, ServesNeighbour};
+ghost use Rattle.router_daemon.specs.Links.{AreFresh, IsOver, KeepsOnce, Serves, ServesNeighbour};
 ghost use Rattle.neighbour_session.specs.Reading.{Hears};
 
 use crate::crew::LinkCrew;
@@ -13,7 +13,7 @@ use crate::telling::{tell_end, tell_unopened};
 use message_streams::{MessageReader, MessageWriter};
 use neighbour_session::{Domain, SessionEnd, abandon_session, enter_up, greet, serve_reader};
 use router_options::LinkFiles;
-use slot_lock::Pass;
+use slot_lock::{Answer, Pass};
 use std::alloc::Global;
 use std::io::{self, BufReader, Read, Write};
 use std::rt::Clock;
@@ -34,12 +34,11 @@ pub(crate) struct Link {
     pub(crate) retry: Option<u32>,
 }
 
-/// The streams of a link that is open, of which nothing is used.
+/// The streams of a link that is open.
 #[derive(Drop)]
 struct Streams<I: Read + Drop, O: Write> {
     input: MessageReader<BufReader<I>>,
     output: MessageWriter<O>,
-    ghost fresh: { AreFresh input output },
 }
 
 /// Which file of a link was not opened, and why.
@@ -71,12 +70,14 @@ fn open_output<'a, I: Read, O: Write, D: LinkFolder<I, O>>(
         .map_err(|why| Unopened { name, why })
 }
 
-/// The streams over two files that were opened.
+/// The streams over two files that were opened, of which nothing is used.
 fn streams_of<I: Read + Drop, O: Write + Drop>(
     alloc: Global,
     input: BufReader<I>,
     output: O,
-) -> Streams<I, O> {
+) -> Streams<I, O>
+    ensures { AreFresh result.input result.output }
+{
     Streams {
         input: MessageReader::new(input),
         output: MessageWriter::new(alloc, output),
@@ -88,7 +89,9 @@ fn open_streams<'a, I: Read + Drop, O: Write + Drop, D: LinkFolder<I, O>>(
     folder: &D,
     alloc: Global,
     link: &'a Link,
-) -> Result<Streams<I, O>, Unopened<'a>> {
+) -> Result<Streams<I, O>, Unopened<'a>>
+    ensures { IfOk result (λ streams. AreFresh streams.input streams.output) }
+{
     let (from, to) = (link.files.input.as_str(), link.files.output.as_str());
     if link.domain.me < link.files.node {
         let output = open_output::<I, O, D>(folder, to)?;
@@ -167,6 +170,35 @@ fn serve_begun<R: Wait + Clock, I: Read + Drop, O: Write + Drop, J: Naming, E: W
     (why, done.ticket)
 }
 
+/// Serves a session whose Up has this answer, until it is over and nobody uses the streams any more. Where the link has a session
+/// already, or the router is being closed, its Down is entered at once. Why it is over, and the pass of who was to write.
+fn serve_opened<R: Wait + Clock, I: Read + Drop, O: Write + Drop, J: Naming, E: Write>(
+    rt: &R,
+    alloc: Global,
+    shared: &Shared<J, E>,
+    room: &Room<O, J>,
+    link: &Link,
+    input: MessageReader<I>,
+    order: Order<O, J>,
+    answer: &Answer,
+    pass: &mut Pass,
+) -> (SessionEnd, Ticket<J>)
+    requires { IsPassOf J.router pass.old }
+    ensures of { IsPassOf J.router pass.new }
+    ensures over { IsOver J.router order.session input pass.old result.0 pass.new }
+{
+    if shared.signals.begin(rt, link.index, order.session, answer) {
+        return serve_begun(rt, alloc, shared, room, link, input, order, pass);
+    }
+    let Order {
+        session,
+        ticket,
+        ..
+    } = order;
+    let why = abandon_session(rt, &shared.router, pass, session);
+    (why, ticket)
+}
+
 /// Serves a neighbour that greeted as it has to: enters its Up, has the session written, enters what it says, and enters Down when it
 /// is over. Why it is.
 fn serve_neighbour<R: Wait + Clock, I: Read + Drop, O: Write + Drop, J: Naming, E: Write>(
@@ -184,25 +216,19 @@ fn serve_neighbour<R: Wait + Clock, I: Read + Drop, O: Write + Drop, J: Naming, 
     ensures of { IsPassOf J.router pass.new }
     ensures served { ServesNeighbour J.router link.now.files.node input pass.old result pass.new }
 {
-    let opened = enter_up(rt, &shared.router, pass, link.files.node);
-    let (session, answer) = match opened {
+    let (session, answer) = match enter_up(rt, &shared.router, pass, link.files.node) {
         Ok(opened) => opened,
         Err(why) => {
             tell_unless_closed(rt, alloc, shared, link.files.node, why);
             return why;
         }
     };
-    let ticket = Ticket::new(shared.router.split(pass, 1));
-    let (why, ticket) = if shared.signals.begin(rt, link.index, session, &answer) {
-        let order = Order {
-            session,
-            output,
-            ticket,
-        };
-        serve_begun(rt, alloc, shared, room, link, input, order, pass)
-    } else {
-        (abandon_session(rt, &shared.router, pass, session), ticket)
+    let order = Order {
+        session,
+        output,
+        ticket: Ticket::new(shared.router.split(pass, 1)),
     };
+    let (why, ticket) = serve_opened(rt, alloc, shared, room, link, input, order, &answer, pass);
     shared.router.join(pass, ticket.pass());
     why
 }

@@ -2,6 +2,7 @@
 ghost use Rattle.std.specs.Prelude.{◌≡◌};
 ghost use Rattle.slot_lock.specs.Held.{IsPassOf};
 ghost use Rattle.router_daemon.specs.Passes.{IsLegalPass};
+ghost use Rattle.router_daemon.specs.Sets.{IsPassOf-prop};
 
 use slot_lock::Pass;
 use std::marker::{Brand, Model, PhantomData};
@@ -24,7 +25,7 @@ impl Naming for Brand {
 pub(crate) struct Ticket<J: Naming> {
     pub(crate) pass: Pass,
     of: PhantomData<J>,
-    pub(crate) ghost is_of: { IsPassOf J.router pass },
+    pub(crate) ghost is_of: { IsPassOf J.router pass } by { IsPassOf-prop J.router pass },
 }
 
 impl<J: Naming> Ticket<J> {

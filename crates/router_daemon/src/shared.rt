@@ -1,5 +1,6 @@
 //! What all threads of a router share.
 ghost use Rattle.std.specs.Prelude.{◌≡◌, IfOk, map};
+ghost use Rattle.router_daemon.specs.Sets.{RouterView-set};
 
 use crate::naming::Naming;
 use crate::signals::Signals;
@@ -22,7 +23,7 @@ pub(crate) struct Shared<J: Naming, E: Write> {
     /// Where people are told things, one line after another.
     pub(crate) errors: Mutex<E>,
     of: PhantomData<J>,
-    pub(crate) ghost is_named: { router ≡ J.router },
+    pub(crate) ghost is_named: { router ≡ J.router } by { RouterView-set router J.router },
 }
 
 /// The nodes of links.
