@@ -3,3 +3,4 @@ pub mod Entering
 pub mod Looking
 pub mod Passes
 pub mod Running
+pub mod Serving
