@@ -4,3 +4,4 @@ pub mod Lines
 pub mod Looking
 pub mod Passes
 pub mod Running
+pub mod Serving

@@ -107,6 +107,20 @@ fn start_link<
     start_keeper::<R, I, O, D, J, E>(rt, alloc, folder, shared, room, link, ticket)
 }
 
+/// Takes a link's part of a pass.
+fn take_part<J: Naming, E: Write>(
+    shared: &Shared<J, E>,
+    pass: &mut Pass,
+) -> Result<Ticket<J>, AllocError>
+    requires { IsLegalPass J.router pass.old }
+    ensures { IsLegalPass J.router pass.new }
+{
+    if pass.shares() <= SHARES {
+        return Err(AllocError);
+    }
+    Ok(Ticket::new(shared.router.split(pass, SHARES)))
+}
+
 /// Starts the threads of all links. Where one is not started, people are told, and the link stays down.
 pub(crate) fn start_links<
     R: Threads + Wait + Clock + Copy + Send + Drop + 'static,
@@ -135,10 +149,7 @@ pub(crate) fn start_links<
             domain: common.domain,
             retry: common.retry,
         };
-        if pass.shares() <= SHARES {
-            return Err(AllocError);
-        }
-        let ticket = Ticket::new(shared.router.split(pass, SHARES));
+        let ticket = take_part(shared, pass)?;
         if !start_link::<R, I, O, D, J, E>(rt, alloc, folder, shared, link, ticket)? {
             let mut errors = shared.errors.lock(rt);
             tell_unstarted(alloc, &mut *errors, node);
