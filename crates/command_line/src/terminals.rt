@@ -25,7 +25,7 @@ fn reads_filter(filters: &[NamedFile]) -> bool {
 /// Whether what is asked for reads standard input.
 fn reads_input(words: &Words) -> bool {
     match words {
-        Words::Asked(_) => true,
+        Words::Asked(_) | Words::Router(_) => true,
         Words::Aided(Aid::Check { sources, .. }) => has_input(sources.as_slice()),
         Words::Aided(Aid::Diff { old, new, .. }) => {
             *old == Source::Input || *new == Source::Input

@@ -11,6 +11,7 @@ use crate::options::{
     code_option, explain_option, file_option, filter_option, names_option, old_option,
     quiet_option, save_option, script_files, size_option, stop_option,
 };
+use crate::router_words::{RouterWords, router_command, router_in};
 use crate::terminals::Terminals;
 use clap::error::ErrorKind;
 use clap::{ArgMatches, Command, Error};
@@ -54,6 +55,8 @@ pub enum Words {
     Asked(Request),
     /// They ask for the network of routers.
     Network,
+    /// They ask for a router that talks to its neighbours.
+    Router(RouterWords),
     /// They ask for this, which helps people.
     Aided(Aid),
     /// Help, or what is wrong with them, was shown. The program ends with this status.
@@ -152,6 +155,9 @@ fn router_commands_in<R: Eprint>(
     if let Some(replay) = matches.subcommand_matches("replay") {
         return Ok(Some(Words::Aided(replay_in(alloc, replay)?)));
     }
+    if let Some(router) = matches.subcommand_matches("router") {
+        return Ok(Some(router_words(rt, alloc, router)?));
+    }
     if let Some(run) = matches.subcommand_matches("run") {
         return Ok(Some(run_words(rt, alloc, run, terminals)?));
     }
@@ -196,6 +202,18 @@ fn filter_words<R: Eprint>(
         "error: the routes come from standard input, so the filter has to be in a file"
     );
     Ok(Words::Shown(WRONG_WORDS))
+}
+
+/// What the words of `router` ask for.
+fn router_words<R: Eprint>(
+    rt: &R,
+    alloc: Global,
+    router: &ArgMatches<'_>,
+) -> Result<Words, AllocError> {
+    match router_in(alloc, router)? {
+        Ok(words) => Ok(Words::Router(words)),
+        Err(wrong) => Ok(show_wrong_filter(rt, wrong)),
+    }
 }
 
 /// What the words of `check` ask for.
@@ -322,6 +340,7 @@ fn add_router_commands<'a>(alloc: Global, command: Command<'a>) -> Result<Comman
         .subcommand(domain_command(alloc)?)?
         .subcommand(net_command(alloc))?
         .subcommand(replay_command(alloc)?)?
+        .subcommand(router_command(alloc)?)?
         .subcommand(run_command(alloc)?)
 }
 

@@ -9,9 +9,12 @@ mod guided;
 mod importing;
 mod joined;
 mod lines;
+mod loading;
 mod network;
+mod planning;
 mod replay;
 mod respond;
+mod routing;
 mod script;
 mod serve;
 #[cfg(test)]
@@ -37,5 +40,6 @@ fn main(rt: HostRuntime) -> ExitCode {
     {
         tell_that_input_is_read(&rt);
     }
-    ExitCode::from(respond(&rt, rt.alloc(), words, reader, writer, errors))
+    let status = respond(&rt, rt.alloc(), words, reader, writer, errors, rt.stderr());
+    ExitCode::from(status)
 }

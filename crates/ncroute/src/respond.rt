@@ -9,11 +9,13 @@ ghost use Rattle.ncroute.specs.Serving.{FailsToReport, Serves, fault_line};
 
 use crate::aid::{fault_status, serve_people};
 use crate::network::serve_network;
+use crate::routing::serve_router;
 use crate::serve::{FAILED, report_fault, serve};
 use crate::texts::Folder;
 use command_line::{Aid, Request, Words};
 use filter_commands::ProgramFault;
 use line_protocol::StreamFault;
+use router_daemon::LinkFolder;
 use std::alloc::Global;
 use std::io::{Read, Write};
 use std::rt::Clock;
@@ -89,21 +91,35 @@ fn status_of_fault<E: Write>(errors: &mut E, fault: StreamFault) -> u8
     FAILED
 }
 
-/// Does what the words of the command line ask for, and returns the exit status.
-pub fn respond<R: Threads + Wait + Clock + Sync + Folder, I: Read, W: Write, E: Write>(
+/// Does what the words of the command line ask for, and returns the exit status. `voice` is where people are told of a router's links.
+pub fn respond<
+    R: Threads + Wait + Clock + Folder + LinkFolder<FI, FO> + Copy + Send + Sync + Drop + 'static,
+    FI: Read + Send + Drop + 'static,
+    FO: Write + Send + Drop + 'static,
+    T: Write + Send + Drop + 'static,
+    I: Read,
+    W: Write,
+    E: Write,
+>(
     rt: &R,
     alloc: Global,
     words: Result<Words, StreamFault>,
     reader: &mut I,
     writer: &mut W,
     errors: &mut E,
+    voice: T,
 ) -> u8
+where
+    R::New: Send + 'static,
     ensures { Responds (R.opens rt.now) (R.creates rt.now) words
         (record { reads = I.remaining reader.old; holds = W.contents writer.old; tells = E.contents errors.old })
         (record { reads = I.remaining reader.new; holds = W.contents writer.new; tells = E.contents errors.new }) result }
 {
     match words {
         Ok(Words::Asked(request)) => status_of_request(alloc, request, reader, writer, errors),
+        Ok(Words::Router(words)) => {
+            serve_router::<R, FI, FO, T, I, W, E>(rt, alloc, &words, reader, writer, errors, voice)
+        }
         Ok(Words::Network) => status_of_network(rt, alloc, writer, errors),
         Ok(Words::Aided(aid)) => status_of_aid(rt, alloc, &aid, reader, writer, errors),
         Ok(Words::Shown(status)) => status,

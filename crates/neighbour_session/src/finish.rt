@@ -38,7 +38,7 @@ pub(crate) fn end_session<R: Wait + Clock, C: Crew>(
 }
 
 /// Ends a session that nobody serves. Why it is over.
-pub(crate) fn abandon_session<R: Wait>(
+pub fn abandon_session<R: Wait>(
     rt: &R,
     router: &Router,
     pass: &mut Pass,

@@ -13,6 +13,8 @@ mod write;
 pub use calls::{enter_down, enter_up};
 pub use crew::{Crew, READER, Starter, WRITER};
 pub use ends::SessionEnd;
+pub use finish::abandon_session;
 pub use greeting::{Domain, greet};
 pub use keep::keep_session;
+pub use read::serve_reader;
 pub use write::serve_writer;

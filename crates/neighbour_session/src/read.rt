@@ -75,7 +75,7 @@ fn read_all<R: Wait + Clock, I: Read + Drop, O: Write + Drop, C: Crew>(
 }
 
 /// Reads a session until it is over, and enters Down if nobody ended it before. Why it is over.
-pub(crate) fn serve_reader<R: Wait + Clock, I: Read + Drop, O: Write + Drop, C: Crew>(
+pub fn serve_reader<R: Wait + Clock, I: Read + Drop, O: Write + Drop, C: Crew>(
     rt: &R,
     router: &Router,
     pass: &mut Pass,

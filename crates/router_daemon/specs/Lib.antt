@@ -1,0 +1,11 @@
+-- what callers cite
+pub mod Codes
+pub mod Running
+pub mod Told
+-- what only bodies are proved against
+pub mod Links
+pub mod Names
+pub mod Passes
+pub mod Saves
+pub mod Sets
+pub mod Uses

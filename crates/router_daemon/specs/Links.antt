@@ -1,0 +1,56 @@
+-- What becomes of a link. (This project's own choice.)
+use Rattle.std.specs.Prelude.{◌≡◌, ◌⊎◌, ℕ, ◌≤◌, Bool, true, false, None, ⊤}
+use Rattle.message_streams.specs.Views.{ReaderView, WriterView}
+use Rattle.neighbour_session.specs.Ending.{GoesDown}
+use Rattle.neighbour_session.specs.Greeting.{Greets}
+use Rattle.neighbour_session.specs.Keeping.{IsServed, IsTurnedAway, LacksShares}
+use Rattle.neighbour_session.specs.Reading.{Hears}
+use Rattle.neighbour_session.specs.Words.{can_be_opened_again}
+use Rattle.neighbour_session.specs.declared.ends.SessionEnd.{SessionEnd}
+use Rattle.neighbour_session.specs.declared.ends.SessionEnd.TheVariants as end
+use Rattle.neighbour_session.specs.declared.greeting.Domain.{Domain}
+use Rattle.slot_lock.specs.Held.{PassView, RouterView}
+use Rattle.router_daemon.specs.Passes.{TakesBack}
+
+-- A session whose Up was entered is over: it went down with nobody to serve it; or anybody entered what the neighbour said, and its Down.
+abbrev pub IsOver : RouterView → ℕ → ReaderView → PassView → SessionEnd → PassView → Type 0
+IsOver r session input old why new = GoesDown r session end.NotStarted old why new ⊎ Hears (λ _. ⊤) (λ _. ⊤) r session old input why new
+
+-- A neighbour that greeted as it has to was served, by anybody: its Up was entered, what it said, and its Down. The pass of who wrote came
+-- back.
+pub record ServesNeighbour (r : RouterView) (neighbour : ℕ) (input : ReaderView) (old : PassView) (why : SessionEnd) (new : PassView) : Type 0 where
+  pub mid : PassView
+  pub served : IsServed {Crew = Unit {0}} (λ _ _. ⊤) (λ _ _. ⊤) r neighbour input old why mid
+  pub back : TakesBack mid new
+
+-- they greeted one another, and then it was served
+pub record Meets (r : RouterView) (d : Domain) (neighbour : ℕ) (input : ReaderView) (output : WriterView) (old : PassView) (why : SessionEnd)
+    (new : PassView) : Type 0 where
+  pub i : ReaderView
+  pub o : WriterView
+  pub greets : Greets d neighbour input i output o
+  pub serves : ServesNeighbour r neighbour i old why new
+
+-- One session of a link: with a pass of one share there is none; of a neighbour that does not greet as it has to nothing is entered.
+abbrev pub Serves : RouterView → Domain → ℕ → ReaderView → WriterView → PassView → SessionEnd → PassView → Type 0
+Serves r d neighbour input output old why new = LacksShares old why new ⊎ (IsTurnedAway d neighbour input output old why new
+    ⊎ Meets r d neighbour input output old why new)
+
+-- streams that nobody used
+pub record AreFresh (input : ReaderView) (output : WriterView) : Type 0 where
+  pub line : input.line ≡ 0
+  pub readable : input.end ≡ None
+  pub writable : output.over ≡ false
+
+-- its files are opened, and one session is served over them
+pub record Opens (r : RouterView) (d : Domain) (neighbour : ℕ) (old : PassView) (again : Bool) (new : PassView) : Type 0 where
+  pub input : ReaderView
+  pub output : WriterView
+  pub fresh : AreFresh input output
+  pub why : SessionEnd
+  pub serves : Serves r d neighbour input output old why new
+  pub again_is : again ≡ can_be_opened_again why
+
+-- a link is opened once, or one of its files cannot be opened, and nothing is entered
+abbrev pub KeepsOnce : RouterView → Domain → ℕ → PassView → Bool → PassView → Type 0
+KeepsOnce r d neighbour old again new = Opens r d neighbour old again new ⊎ ((again ≡ true) × (new ≡ old))

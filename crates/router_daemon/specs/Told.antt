@@ -1,0 +1,31 @@
+-- What people are told of links and of the history that is saved. (This project's own choice.)
+use Rattle.std.specs.Prelude.{ℕ, List, ◌++◌, codes, decimal}
+use Rattle.history_saver.specs.Codes.{save_code}
+use Rattle.history_saver.specs.declared.fault.SaveFault.{SaveFault}
+use Rattle.history_saver.specs.declared.fault.SaveFault.TheVariants as fault
+use Rattle.neighbour_session.specs.Words.{end_words}
+use Rattle.neighbour_session.specs.declared.ends.SessionEnd.{SessionEnd}
+
+-- the line that tells why the link to a node is closed
+abbrev pub closed_line : ℕ → List ℕ → List ℕ
+closed_line node why = codes "link " ++ decimal node ++ codes ": " ++ why ++ codes ": closed\n"
+
+-- why a session is over
+abbrev pub end_line : ℕ → SessionEnd → List ℕ
+end_line node why = closed_line node (end_words why)
+
+-- the thread of a link was not started
+abbrev pub unstarted_line : ℕ → List ℕ
+unstarted_line node = closed_line node (codes "a thread was not started (X2)")
+
+-- a file of a link was not opened, for a reason that is shown so
+abbrev pub unopened_line : ℕ → List ℕ → List ℕ → List ℕ
+unopened_line node name shown = closed_line node (name ++ codes ": " ++ shown)
+
+-- why a history is not saved any more
+abbrev pub save_words : SaveFault → List ℕ
+save_words fault.Write = codes "the history could not be written"
+save_words fault.Memory = codes "out of memory"
+
+abbrev pub unsaved_line : SaveFault → List ℕ
+unsaved_line why = codes "history: " ++ save_words why ++ codes " (" ++ save_code why ++ codes "): not saved from here on\n"

@@ -1,0 +1,38 @@
+-- How the filters that a plan uses are set. (This project's own choice.)
+use Rattle.std.specs.Prelude.{◌≡◌, ℕ, List, [], ◌∷◌, Option, Some, None, string_bytes}
+use Rattle.std.specs.declared.sync.Arc.{Arc}
+use Rattle.std.proofs.Common.{Global}
+use Rattle.filter_verifier.specs.VerifiedView.{VerifiedView}
+use Rattle.netchange_core.specs.declared.event.Event.{Event}
+use Rattle.netchange_core.specs.declared.event.Event.TheVariants as event
+use Rattle.router_operator.specs.OperatorView.{Names, filter_of}
+use Rattle.router_options.specs.PlanView.{PlanView}
+use Rattle.router_options.specs.declared.parts.FilterUse.{FilterUse}
+use Rattle.slot_lock.specs.Calls.{Answered}
+use Rattle.slot_lock.specs.Held.{IsFirst, PassView, RouterView}
+use Rattle.slot_lock.specs.declared.answer.Answer.{Answer}
+
+-- the event that sets a filter at a neighbour
+abbrev pub Setter : Type 0
+Setter = ℕ → Arc VerifiedView Global → Event
+
+-- The filter of a name is set at a neighbour by one call. Where nothing has the name, nothing is called.
+abbrev pub SetsOne : RouterView → Setter → Option VerifiedView → ℕ → PassView → PassView → Type 0
+SetsOne r sets None node old new = new ≡ old
+SetsOne r sets (Some f) node old new =
+    (filter : Arc VerifiedView Global) × (filter.value ≡ f) × (a : Answer) × Answered r old (sets node filter) a new
+
+-- the filters of these uses are set, in order
+abbrev pub SetsEach : RouterView → Setter → Names → List FilterUse → PassView → PassView → Type 0
+SetsEach r sets names [] old new = new ≡ old
+SetsEach r sets names (used ∷ uses) old new = (mid : PassView)
+    × SetsOne r sets (filter_of names (string_bytes used.name)) used.node old mid × SetsEach r sets names uses mid new
+
+-- first the import filters of a plan are set, and then its export filters
+abbrev pub SetsFilters : RouterView → PlanView → Names → PassView → PassView → Type 0
+SetsFilters r plan names old new = (mid : PassView)
+    × SetsEach r event.SetImport names plan.imports old mid × SetsEach r event.SetExport names plan.exports mid new
+
+-- nothing was called before
+abbrev pub BeginsWithFilters : RouterView → PlanView → Names → PassView → Type 0
+BeginsWithFilters r plan names new = (first : PassView) × IsFirst r first × SetsFilters r plan names first new

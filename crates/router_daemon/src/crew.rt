@@ -1,0 +1,72 @@
+//! Those who serve one session of a link.
+
+use crate::signals::Signals;
+use neighbour_session::{Crew, READER};
+use netchange_core::Reply;
+use route_session::{Gate, MOST_TAKEN};
+use slot_lock::Answer;
+use std::rt::Clock;
+use std::sync::Wait;
+
+/// Who serves one session of a link.
+#[derive(Drop)]
+pub(crate) struct LinkCrew<'a> {
+    pub(crate) signals: &'a Signals,
+    /// The link's number.
+    pub(crate) link: usize,
+    /// The session.
+    pub(crate) session: u32,
+}
+
+/// Lets the writer of a link sleep until something waits for the neighbour: true then, and false where its session is over.
+fn await_queued<R: Wait>(rt: &R, signals: &Signals, link: usize, session: u32) -> bool {
+    let Some(bell) = signals.bells.get(link) else {
+        return false;
+    };
+    let mut board = signals.board.lock(rt);
+    for _ in rt.forever() {
+        if board.session(link) != Some(session) {
+            return false;
+        }
+        if board.has_waiting(link) {
+            return true;
+        }
+        board.sleep(link);
+        board = bell.wait(rt, board);
+    }
+    unreachable!()
+}
+
+impl<'a> Gate for LinkCrew<'a> {
+    fn may_go<R: Wait + Clock>(&self, rt: &R, job: u32, _turn: u32) -> bool {
+        if job == READER {
+            return self.signals.session(rt, self.link) == Some(self.session);
+        }
+        await_queued(rt, self.signals, self.link, self.session)
+    }
+
+    fn answered<R: Wait + Clock>(&self, rt: &R, _job: u32, answer: &Answer) {
+        let Reply::Messages(messages) = &answer.reply else {
+            self.signals.note(rt, answer);
+            return;
+        };
+        let taken = messages.as_slice().len();
+        let mut board = self.signals.board.lock(rt);
+        board.note_taken(self.link, answer.at, taken, usize::from(MOST_TAKEN));
+        self.signals.wake(board);
+    }
+}
+
+impl<'a> Crew for LinkCrew<'a> {
+    fn is_present<R: Wait + Clock>(&self, rt: &R) -> bool {
+        self.signals.session(rt, self.link) == Some(self.session)
+    }
+
+    fn end<R: Wait + Clock>(&self, rt: &R) -> bool {
+        self.signals.end(rt, self.link, self.session)
+    }
+
+    fn ended<R: Wait + Clock>(&self, rt: &R, answer: &Answer) {
+        self.signals.note(rt, answer);
+    }
+}

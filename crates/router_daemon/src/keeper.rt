@@ -1,0 +1,325 @@
+//! Who keeps a link.
+ghost use Rattle.std.specs.Prelude.{◌≡◌, ◌<◌, ⊤, IfOk};
+ghost use Rattle.slot_lock.specs.Held.{IsPassOf};
+ghost use Rattle.router_daemon.specs.Links.{AreFresh, IsOver, KeepsOnce, Serves, ServesNeighbour};
+ghost use Rattle.neighbour_session.specs.Reading.{Hears};
+
+use crate::crew::LinkCrew;
+use crate::folder::LinkFolder;
+use crate::naming::{Naming, Ticket};
+use crate::room::{Order, Room};
+use crate::shared::Shared;
+use crate::telling::{tell_end, tell_unopened};
+use message_streams::{MessageReader, MessageWriter};
+use neighbour_session::{Domain, SessionEnd, abandon_session, enter_up, greet, serve_reader};
+use router_options::LinkFiles;
+use slot_lock::{Answer, Pass};
+use std::alloc::Global;
+use std::io::{self, BufReader, Read, Write};
+use std::rt::Clock;
+use std::sync::{Arc, Wait};
+use std::thread;
+use std::time::Duration;
+
+/// A link that is kept.
+#[derive(Drop)]
+pub(crate) struct Link {
+    /// Its number.
+    pub(crate) index: usize,
+    /// The neighbour, and the files.
+    pub(crate) files: LinkFiles,
+    /// The router's place in its domain.
+    pub(crate) domain: Domain,
+    /// How long it is closed before it is opened again, in seconds.
+    pub(crate) retry: Option<u32>,
+}
+
+/// The streams of a link that is open.
+#[derive(Drop)]
+struct Streams<I: Read + Drop, O: Write> {
+    input: MessageReader<BufReader<I>>,
+    output: MessageWriter<O>,
+}
+
+/// Which file of a link was not opened, and why.
+#[derive(Drop)]
+struct Unopened<'a> {
+    name: &'a str,
+    why: io::Error,
+}
+
+/// Opens the file that a neighbour's lines come from.
+fn open_input<'a, I: Read + Drop, O: Write, D: LinkFolder<I, O>>(
+    folder: &D,
+    alloc: Global,
+    name: &'a str,
+) -> Result<BufReader<I>, Unopened<'a>> {
+    match folder.open_input(name) {
+        Ok(input) => BufReader::new(alloc, input).map_err(|why| Unopened { name, why }),
+        Err(why) => Err(Unopened { name, why }),
+    }
+}
+
+/// Opens the file that the router's lines go to.
+fn open_output<'a, I: Read, O: Write, D: LinkFolder<I, O>>(
+    folder: &D,
+    name: &'a str,
+) -> Result<O, Unopened<'a>> {
+    folder
+        .open_output(name)
+        .map_err(|why| Unopened { name, why })
+}
+
+/// The streams over two files that were opened, of which nothing is used.
+fn streams_of<I: Read + Drop, O: Write + Drop>(
+    alloc: Global,
+    input: BufReader<I>,
+    output: O,
+) -> Streams<I, O>
+    ensures { AreFresh result.input result.output }
+{
+    Streams {
+        input: MessageReader::new(input),
+        output: MessageWriter::new(alloc, output),
+    }
+}
+
+/// Opens both files of a link: of two neighbours the one with the lower number opens its output first, so that FIFOs meet.
+fn open_streams<'a, I: Read + Drop, O: Write + Drop, D: LinkFolder<I, O>>(
+    folder: &D,
+    alloc: Global,
+    link: &'a Link,
+) -> Result<Streams<I, O>, Unopened<'a>>
+    ensures { IfOk result (λ streams. AreFresh streams.input streams.output) }
+{
+    let (from, to) = (link.files.input.as_str(), link.files.output.as_str());
+    if link.domain.me < link.files.node {
+        let output = open_output::<I, O, D>(folder, to)?;
+        let input = open_input::<I, O, D>(folder, alloc, from)?;
+        Ok(streams_of(alloc, input, output))
+    } else {
+        let input = open_input::<I, O, D>(folder, alloc, from)?;
+        let output = open_output::<I, O, D>(folder, to)?;
+        Ok(streams_of(alloc, input, output))
+    }
+}
+
+/// Tells people why a session is over, unless another thread tells it or the router is being closed.
+fn tell_unless_closed<R: Wait, J: Naming, E: Write>(
+    rt: &R,
+    alloc: Global,
+    shared: &Shared<J, E>,
+    node: u16,
+    why: SessionEnd,
+) {
+    if why == SessionEnd::Closed || shared.signals.is_closing(rt) {
+        return;
+    }
+    let mut errors = shared.errors.lock(rt);
+    tell_end(alloc, &mut *errors, node, why);
+}
+
+/// Tells people that a file of a link was not opened.
+fn tell_of_file<R: Wait, J: Naming, E: Write>(
+    rt: &R,
+    alloc: Global,
+    shared: &Shared<J, E>,
+    node: u16,
+    unopened: &Unopened<'_>,
+) {
+    let mut errors = shared.errors.lock(rt);
+    tell_unopened(alloc, &mut *errors, node, unopened.name, &unopened.why);
+}
+
+/// Serves a session of a link that began: orders that it is written, enters what the neighbour says, and waits until nobody uses the
+/// streams any more. Tells why it is over. Why it is, and the pass of who wrote.
+fn serve_begun<R: Wait + Clock, I: Read + Drop, O: Write + Drop, J: Naming, E: Write>(
+    rt: &R,
+    alloc: Global,
+    shared: &Shared<J, E>,
+    room: &Room<O, J>,
+    link: &Link,
+    input: MessageReader<I>,
+    order: Order<O, J>,
+    pass: &mut Pass,
+) -> (SessionEnd, Ticket<J>)
+    requires { IsPassOf J.router pass.old }
+    ensures of { IsPassOf J.router pass.new }
+    ensures hears { Hears (λ _. ⊤) (λ _. ⊤) J.router order.session pass.old input result.0 pass.new }
+{
+    let (node, session) = (link.files.node, order.session);
+    room.put_order(rt, order);
+    let crew = LinkCrew {
+        signals: &shared.signals,
+        link: link.index,
+        session,
+    };
+    let why = serve_reader::<R, I, O, LinkCrew<'_>>(
+        rt,
+        &shared.router,
+        pass,
+        session,
+        input,
+        &crew,
+    );
+    tell_unless_closed(rt, alloc, shared, node, why);
+    let done = room.await_done(rt);
+    if why == SessionEnd::Closed {
+        tell_unless_closed(rt, alloc, shared, node, done.why);
+    }
+    (why, done.ticket)
+}
+
+/// Serves a session whose Up has this answer, until it is over and nobody uses the streams any more. Where the link has a session
+/// already, or the router is being closed, its Down is entered at once. Why it is over, and the pass of who was to write.
+fn serve_opened<R: Wait + Clock, I: Read + Drop, O: Write + Drop, J: Naming, E: Write>(
+    rt: &R,
+    alloc: Global,
+    shared: &Shared<J, E>,
+    room: &Room<O, J>,
+    link: &Link,
+    input: MessageReader<I>,
+    order: Order<O, J>,
+    answer: &Answer,
+    pass: &mut Pass,
+) -> (SessionEnd, Ticket<J>)
+    requires { IsPassOf J.router pass.old }
+    ensures of { IsPassOf J.router pass.new }
+    ensures over { IsOver J.router order.session input pass.old result.0 pass.new }
+{
+    if shared.signals.begin(rt, link.index, order.session, answer) {
+        return serve_begun(rt, alloc, shared, room, link, input, order, pass);
+    }
+    let Order {
+        session,
+        ticket,
+        ..
+    } = order;
+    let why = abandon_session(rt, &shared.router, pass, session);
+    (why, ticket)
+}
+
+/// Serves a neighbour that greeted as it has to: enters its Up, has the session written, enters what it says, and enters Down when it
+/// is over. Why it is.
+fn serve_neighbour<R: Wait + Clock, I: Read + Drop, O: Write + Drop, J: Naming, E: Write>(
+    rt: &R,
+    alloc: Global,
+    shared: &Shared<J, E>,
+    room: &Room<O, J>,
+    link: &Link,
+    input: MessageReader<I>,
+    output: MessageWriter<O>,
+    pass: &mut Pass,
+) -> SessionEnd
+    requires of { IsPassOf J.router pass.old }
+    requires shares { 1 < pass.old.part.shares }
+    ensures of { IsPassOf J.router pass.new }
+    ensures served { ServesNeighbour J.router link.now.files.node input pass.old result pass.new }
+{
+    let (session, answer) = match enter_up(rt, &shared.router, pass, link.files.node) {
+        Ok(opened) => opened,
+        Err(why) => {
+            tell_unless_closed(rt, alloc, shared, link.files.node, why);
+            return why;
+        }
+    };
+    let order = Order {
+        session,
+        output,
+        ticket: Ticket::new(shared.router.split(pass, 1)),
+    };
+    let (why, ticket) = serve_opened(rt, alloc, shared, room, link, input, order, &answer, pass);
+    shared.router.join(pass, ticket.pass());
+    why
+}
+
+/// Serves one session over the streams of a link, until nobody uses them any more: greets the neighbour first. Why it is over.
+fn serve_link<R: Wait + Clock, I: Read + Drop, O: Write + Drop, J: Naming, E: Write>(
+    rt: &R,
+    alloc: Global,
+    shared: &Shared<J, E>,
+    room: &Room<O, J>,
+    link: &Link,
+    mut input: MessageReader<I>,
+    mut output: MessageWriter<O>,
+    pass: &mut Pass,
+) -> SessionEnd
+    requires { IsPassOf J.router pass.old }
+    ensures of { IsPassOf J.router pass.new }
+    ensures serves { Serves J.router link.now.domain link.now.files.node input output pass.old result pass.new }
+{
+    if pass.shares() < 2 {
+        return SessionEnd::NotStarted;
+    }
+    match greet(&mut input, &mut output, link.domain, link.files.node) {
+        Ok(()) => serve_neighbour(rt, alloc, shared, room, link, input, output, pass),
+        Err(why) => {
+            tell_unless_closed(rt, alloc, shared, link.files.node, why);
+            why
+        }
+    }
+}
+
+/// Opens a link, and serves one session. Says whether it can be opened again.
+fn keep_once<
+    R: Wait + Clock,
+    I: Read + Drop,
+    O: Write + Drop,
+    D: LinkFolder<I, O>,
+    J: Naming,
+    E: Write,
+>(
+    rt: &R,
+    alloc: Global,
+    folder: &D,
+    shared: &Shared<J, E>,
+    room: &Room<O, J>,
+    link: &Link,
+    pass: &mut Pass,
+) -> bool
+    requires { IsPassOf J.router pass.old }
+    ensures of { IsPassOf J.router pass.new }
+    ensures keeps { KeepsOnce J.router link.now.domain link.now.files.node pass.old result pass.new }
+{
+    match open_streams::<I, O, D>(folder, alloc, link) {
+        Ok(Streams { input, output }) => {
+            serve_link(rt, alloc, shared, room, link, input, output, pass).can_be_opened_again()
+        }
+        Err(unopened) => {
+            tell_of_file(rt, alloc, shared, link.files.node, &unopened);
+            true
+        }
+    }
+}
+
+/// Keeps a link: serves one session after another, if it is to be opened again.
+pub(crate) fn keep_link<
+    R: Wait + Clock + Drop,
+    I: Read + Drop,
+    O: Write + Drop,
+    D: LinkFolder<I, O> + Drop,
+    J: Naming,
+    E: Write + Drop,
+>(
+    rt: R,
+    alloc: Global,
+    folder: Arc<D>,
+    shared: Arc<Shared<J, E>>,
+    room: Arc<Room<O, J>>,
+    link: Link,
+    ticket: Ticket<J>,
+) {
+    let mut pass = ticket.pass();
+    for _ in rt.forever() {
+        let again = keep_once::<R, I, O, D, J, E>(
+            &rt, alloc, &folder, &shared, &room, &link, &mut pass,
+        );
+        let Some(seconds) = link.retry else {
+            return;
+        };
+        if !again || shared.signals.is_closing(&rt) {
+            return;
+        }
+        thread::sleep(&rt, Duration::from_secs(u64::from(seconds)));
+    }
+}

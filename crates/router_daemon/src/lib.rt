@@ -1,0 +1,31 @@
+//! A router that talks: threads for its links, its operator and its history, round one `Router`.
+//!
+//! What the threads do is written in the crates below, which start none. A thread that waits for a file cannot be woken, so those of
+//! links are not joined, and end with the process.
+#![tactic(auto)]
+
+mod closing;
+mod crew;
+mod fault;
+mod filtering;
+mod folder;
+mod keeper;
+mod naming;
+mod opening;
+mod operating;
+mod room;
+mod run;
+mod saving;
+mod setting;
+mod shared;
+mod signals;
+mod starting;
+mod telling;
+#[cfg(test)]
+mod tests;
+mod writer;
+
+pub use fault::DaemonFault;
+pub use folder::LinkFolder;
+pub use run::run_router;
+pub use setting::{Filters, RouterEnd, Setting};

@@ -1,0 +1,91 @@
+//! The one router that all threads of a program call.
+ghost use Rattle.std.specs.Prelude.{◌≡◌};
+ghost use Rattle.slot_lock.specs.Held.{IsPassOf};
+ghost use Rattle.router_daemon.specs.Passes.{IsLegalPass};
+ghost use Rattle.router_daemon.specs.Sets.{IsPassOf-prop};
+
+use slot_lock::Pass;
+use std::marker::{Brand, Model, PhantomData};
+
+/// Which router it is that threads call. What one thread hands another is of that router, as its type says.
+pub(crate) trait Naming {
+    ghost use Rattle.slot_lock.specs.Held.{RouterView};
+
+    ghost router: { RouterView };
+}
+
+impl Naming for Brand {
+    ghost use Rattle.router_daemon.specs.Names.{nobodys};
+
+    ghost router = { nobodys };
+}
+
+/// A pass of the router, as threads hand it on.
+#[derive(Drop)]
+pub(crate) struct Ticket<J: Naming> {
+    pub(crate) pass: Pass,
+    of: PhantomData<J>,
+    pub(crate) ghost is_of: { IsPassOf J.router pass } by { IsPassOf-prop J.router pass },
+}
+
+impl<J: Naming> Ticket<J> {
+    /// A pass, to be handed on.
+    pub(crate) fn new(pass: Pass) -> Ticket<J>
+        requires { IsPassOf J.router pass }
+        ensures { result.pass ≡ pass }
+    {
+        Ticket {
+            pass,
+            of: PhantomData,
+        }
+    }
+
+    /// The pass that was handed on.
+    pub(crate) fn pass(self) -> Pass
+        ensures of { IsPassOf J.router result }
+        ensures same { result ≡ self.pass }
+    {
+        let Ticket { pass, .. } = self;
+        pass
+    }
+}
+
+/// A pass of the router that has seen a legal history, as threads hand it on. A contract sees it as its pass.
+#[derive(Drop)]
+pub(crate) struct LegalTicket<J: Naming> {
+    pass: Pass,
+    of: PhantomData<J>,
+}
+
+impl<J: Naming> Model for LegalTicket<J> {
+    ghost use Rattle.slot_lock.specs.Held.{PassView};
+    ghost use Rattle.router_daemon.specs.Passes.{IsLegalPass};
+
+    ghost Value = { PassView };
+
+    ghost view = { λ t. t.pass };
+
+    ghost invariant = { λ t. IsLegalPass J.router t.pass };
+}
+
+impl<J: Naming> LegalTicket<J> {
+    /// A pass, to be handed on.
+    pub(crate) fn new(pass: Pass) -> LegalTicket<J>
+        requires { IsLegalPass J.router pass }
+        ensures { result ≡ pass }
+    {
+        LegalTicket {
+            pass,
+            of: PhantomData,
+        }
+    }
+
+    /// The pass that was handed on.
+    pub(crate) fn pass(self) -> Pass
+        ensures legal { IsLegalPass J.router result }
+        ensures same { result ≡ self }
+    {
+        let LegalTicket { pass, .. } = self;
+        pass
+    }
+}

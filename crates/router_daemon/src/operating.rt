@@ -1,0 +1,61 @@
+//! The operator of a router that runs.
+ghost use Rattle.std.specs.Prelude.{◌≡◌};
+ghost use Rattle.std.specs.Prelude.{IfSome};
+ghost use Rattle.router_operator.specs.OperatorView.{IsAt};
+ghost use Rattle.router_daemon.specs.Running.{Operates, operator_of};
+
+use crate::closing::stay;
+use crate::naming::Naming;
+use crate::setting::Filters;
+use crate::shared::Shared;
+use line_protocol::StreamFault;
+use router_operator::Operator;
+use slot_lock::Pass;
+use std::alloc::Global;
+use std::io::{Read, Write};
+use std::rt::Clock;
+use std::sync::Wait;
+
+/// What the operator is told of the router.
+#[derive(Clone, Copy)]
+pub(crate) struct Figures {
+    /// The number of nodes of the domain.
+    pub(crate) size: u16,
+    /// The most entries of the history.
+    pub(crate) limit: u32,
+    /// The router goes on where the operator's lines end.
+    pub(crate) stays: bool,
+}
+
+/// Answers the operator's lines, to their end or to `quit`. The number of those that were refused.
+pub(crate) fn serve_operator<'a, R: Wait + Clock, I: Read, W: Write, J: Naming, E: Write>(
+    rt: &'a R,
+    alloc: Global,
+    shared: &'a Shared<J, E>,
+    pass: Pass,
+    figures: Figures,
+    filters: Filters,
+    reader: &mut I,
+    writer: &mut W,
+) -> Result<u32, StreamFault>
+    requires { IsAt J.router pass figures.size figures.limit }
+    ensures { IfSome (I.remaining reader.old) (λ input.
+        Operates (operator_of J.router pass filters.entries shared.now.nodes.items) result input (I.remaining reader.new)
+        (W.contents writer.old) (W.contents writer.new)) }
+{
+    let mut operator = Operator::new(
+        rt,
+        &shared.router,
+        pass,
+        &shared.signals,
+        figures.size,
+        figures.limit,
+        shared.nodes.as_slice(),
+        filters,
+    );
+    let answered = operator.run(alloc, reader, writer);
+    if figures.stays && !operator.has_quit() {
+        stay(rt, shared);
+    }
+    answered
+}

@@ -1,0 +1,141 @@
+//! Who saves the history.
+ghost use Rattle.std.specs.Prelude.{◌≡◌, IfOk, length, Some, None};
+ghost use Rattle.history_saver.specs.Saved.{HasSaved, seen_by};
+ghost use Rattle.router_daemon.specs.Passes.{IsLegalPass};
+ghost use Rattle.router_daemon.specs.Running.{HasWhole};
+
+use crate::naming::{LegalTicket, Naming};
+use crate::shared::Shared;
+use crate::telling::tell_unsaved;
+use history_saver::{SaveFault, Saver};
+use slot_lock::Pass;
+use std::alloc::Global;
+use std::io::Write;
+use std::marker::{Model, PhantomData};
+use std::rt::Clock;
+use std::snapshot::Snapshot;
+use std::sync::{Arc, Wait};
+use std::thread;
+use std::thread::Promise;
+use std::time::Duration;
+
+/// For how many milliseconds the history grows before it is saved again.
+const REST: u64 = 50;
+
+/// What was saved: the saver, and the pass by which it saved. Where no fault ended the saving, it is all that the pass has seen. A
+/// contract sees it as a `SavedView`.
+#[derive(Drop)]
+pub(crate) struct Saved<V: Write, J: Naming> {
+    saver: Saver<V>,
+    pass: Pass,
+    of: PhantomData<J>,
+}
+
+impl<V: Write, J: Naming> Model for Saved<V, J> {
+    ghost use Rattle.router_daemon.specs.Saves.{IsSaved, SavedView};
+
+    ghost Value = { SavedView };
+
+    ghost view = { λ s. record { saver = s.saver; pass = s.pass } };
+
+    ghost invariant = { λ s. IsSaved J.router s.saver s.pass };
+}
+
+impl<V: Write, J: Naming> Saved<V, J> {
+    /// The saver.
+    pub(crate) fn saver(self) -> Saver<V>
+        ensures same { result ≡ self.saver }
+        ensures whole { result.fault ≡ None → HasWhole J.router.opening J.router.limit result.first result }
+    {
+        let Saved { saver, .. } = self;
+        saver
+    }
+}
+
+/// What was saved is in this file.
+#[derive(Drop)]
+pub(crate) struct IsIn<V: Write>(pub(crate) Snapshot<V>);
+
+impl<V: Write, J: Naming> Promise<Saved<V, J>> for IsIn<V> {
+    ghost use Rattle.std.specs.Prelude.{◌≡◌};
+
+    ghost kept_by = { λ p s. s.saver.first ≡ V.contents p.0.value };
+}
+
+/// Sleeps until the history has more entries than are saved, or the router is being closed: whether it is.
+fn await_entries<R: Wait, J: Naming, E: Write>(
+    rt: &R,
+    shared: &Shared<J, E>,
+    saved: usize,
+) -> bool {
+    let mut board = shared.signals.board.lock(rt);
+    for _ in rt.forever() {
+        if !board.rest_saver(saved as u64) {
+            return board.is_closing();
+        }
+        board = shared.signals.saver_bell.wait(rt, board);
+    }
+    unreachable!()
+}
+
+/// Tells people that the history is not saved any more.
+fn tell<R: Wait, J: Naming, E: Write>(
+    rt: &R,
+    alloc: Global,
+    shared: &Shared<J, E>,
+    fault: SaveFault,
+) {
+    let mut errors = shared.errors.lock(rt);
+    tell_unsaved(alloc, &mut *errors, fault);
+}
+
+/// Saves the history as it is made, until the router is closed or saving fails.
+fn save_all<R: Wait + Clock, V: Write, J: Naming, E: Write>(
+    rt: &R,
+    alloc: Global,
+    shared: &Shared<J, E>,
+    saver: &mut Saver<V>,
+    pass: &mut Pass,
+)
+    requires legal { IsLegalPass J.router pass.old }
+    requires saved { HasSaved saver.old (seen_by J.router pass.old) }
+    ensures legal { IsLegalPass J.router pass.new }
+    ensures saved { HasSaved saver.new (seen_by J.router pass.new) }
+    ensures first { saver.new.first ≡ saver.old.first }
+    ensures all { saver.new.fault ≡ None → saver.new.saved ≡ Some (length pass.new.part.seen) }
+{
+    let mut is_closing = false;
+    for _ in rt.forever() {
+        match saver.save(rt, alloc, &shared.router, pass) {
+            Ok(_) if is_closing => return,
+            Ok(_) => {}
+            Err(fault) => {
+                tell(rt, alloc, shared, fault);
+                return;
+            }
+        }
+        thread::sleep(rt, Duration::from_millis(REST));
+        is_closing = await_entries(rt, shared, saver.saved());
+    }
+    unreachable!()
+}
+
+/// Saves the history as it is made, until the router is closed or saving fails: what was saved.
+pub(crate) fn save_history<R: Wait + Clock + Drop, V: Write + Drop, J: Naming, E: Write + Drop>(
+    rt: R,
+    alloc: Global,
+    shared: Arc<Shared<J, E>>,
+    file: V,
+    ticket: LegalTicket<J>,
+) -> Saved<V, J>
+    ensures { result.saver.first ≡ V.contents file }
+{
+    let mut saver = Saver::new(file);
+    let mut pass = ticket.pass();
+    save_all(&rt, alloc, &shared, &mut saver, &mut pass);
+    Saved {
+        saver,
+        pass,
+        of: PhantomData,
+    }
+}

@@ -1,0 +1,59 @@
+//! What all threads of a router share.
+ghost use Rattle.std.specs.Prelude.{◌≡◌, IfOk, map};
+ghost use Rattle.router_daemon.specs.Sets.{RouterView-set};
+
+use crate::naming::Naming;
+use crate::signals::Signals;
+use router_options::LinkFiles;
+use slot_lock::Router;
+use std::alloc::{AllocError, Global};
+use std::io::Write;
+use std::marker::PhantomData;
+use std::sync::Mutex;
+
+/// What all threads of a router share: the router, what they know together, and where people are told things.
+#[derive(Drop)]
+pub(crate) struct Shared<J: Naming, E: Write> {
+    /// The router.
+    pub(crate) router: Router,
+    /// The nodes that have links, in the order of the links.
+    pub(crate) nodes: Vec<u16>,
+    /// How threads wake one another.
+    pub(crate) signals: Signals,
+    /// Where people are told things, one line after another.
+    pub(crate) errors: Mutex<E>,
+    of: PhantomData<J>,
+    pub(crate) ghost is_named: { router ≡ J.router } by { RouterView-set router J.router },
+}
+
+/// The nodes of links.
+fn nodes_of(alloc: Global, links: &[LinkFiles]) -> Result<Vec<u16>, AllocError>
+    ensures { IfOk result (λ nodes. nodes.items ≡ map (λ link. link.node) links.now) }
+{
+    let mut nodes = Vec::with_capacity(alloc, links.len())?;
+    for link in links {
+        nodes.push(link.node)?;
+    }
+    Ok(nodes)
+}
+
+/// What the threads of a router share, when no thread is started.
+pub(crate) fn shared_of<J: Naming, E: Write + Drop>(
+    alloc: Global,
+    router: Router,
+    links: &[LinkFiles],
+    errors: E,
+) -> Result<Shared<J, E>, AllocError>
+    requires { router ≡ J.router }
+    ensures { IfOk result (λ shared. shared.nodes.items ≡ map (λ link. link.node) links.now) }
+{
+    let nodes = nodes_of(alloc, links)?;
+    let signals = Signals::new(alloc, nodes.as_slice())?;
+    Ok(Shared {
+        router,
+        nodes,
+        signals,
+        errors: Mutex::new(errors),
+        of: PhantomData,
+    })
+}

@@ -1,0 +1,187 @@
+//! The threads of a router are started.
+ghost use Rattle.std.specs.Prelude.{◌≡◌, IfErr, IfOk};
+ghost use Rattle.router_daemon.specs.Passes.{IsLegalPass};
+ghost use Rattle.router_daemon.specs.Running.{IsEarly};
+
+use crate::fault::DaemonFault;
+use crate::folder::LinkFolder;
+use crate::keeper::{Link, keep_link};
+use crate::naming::{LegalTicket, Naming, Ticket};
+use crate::room::Room;
+use crate::saving::{IsIn, Saved, save_history};
+use crate::shared::Shared;
+use crate::telling::tell_unstarted;
+use crate::writer::write_link;
+use neighbour_session::Domain;
+use router_options::LinkFiles;
+use slot_lock::Pass;
+use std::alloc::{AllocError, Global};
+use std::io::{Read, Write};
+use std::rt::Clock;
+use std::snapshot::Snapshot;
+use std::sync::{Arc, Wait};
+use std::thread;
+use std::thread::{PromisedHandle, Threads};
+
+/// The shares of a link's pass. It gives one of them to its writer, for a session.
+const SHARES: u32 = 100;
+
+/// What all links of a router have in common.
+#[derive(Clone, Copy)]
+pub(crate) struct Links {
+    /// The router's place in its domain.
+    pub(crate) domain: Domain,
+    /// How long a closed link waits before it is opened again, in seconds.
+    pub(crate) retry: Option<u32>,
+}
+
+/// Starts the thread of a link's writer. Whether it was started.
+fn start_writer<
+    R: Threads + Wait + Clock + Copy + Send + Drop + 'static,
+    I: Read + Send + Drop + 'static,
+    O: Write + Send + Drop + 'static,
+    J: Naming + Send + Sync + 'static,
+    E: Write + Send + Drop + 'static,
+>(
+    rt: &R,
+    alloc: Global,
+    shared: &Arc<Shared<J, E>>,
+    room: &Arc<Room<O, J>>,
+    link: usize,
+) -> Result<bool, AllocError> {
+    let handle = *rt;
+    let shared = Arc::try_clone(shared)?;
+    let room = Arc::try_clone(room)?;
+    let started = thread::spawn(rt, move || {
+        write_link::<R, I, O, J, E>(handle, alloc, shared, room, link)
+    });
+    Ok(started.is_ok())
+}
+
+/// Starts the thread of who keeps a link. Whether it was started.
+fn start_keeper<
+    R: Threads + Wait + Clock + Copy + Send + Drop + 'static,
+    I: Read + Send + Drop + 'static,
+    O: Write + Send + Drop + 'static,
+    D: LinkFolder<I, O> + Send + Sync + Drop + 'static,
+    J: Naming + Send + Sync + 'static,
+    E: Write + Send + Drop + 'static,
+>(
+    rt: &R,
+    alloc: Global,
+    folder: &Arc<D>,
+    shared: &Arc<Shared<J, E>>,
+    room: Arc<Room<O, J>>,
+    link: Link,
+    ticket: Ticket<J>,
+) -> Result<bool, AllocError> {
+    let handle = *rt;
+    let folder = Arc::try_clone(folder)?;
+    let shared = Arc::try_clone(shared)?;
+    let started = thread::spawn(rt, move || {
+        keep_link::<R, I, O, D, J, E>(handle, alloc, folder, shared, room, link, ticket)
+    });
+    Ok(started.is_ok())
+}
+
+/// Starts the threads of a link. Whether they were started.
+fn start_link<
+    R: Threads + Wait + Clock + Copy + Send + Drop + 'static,
+    I: Read + Send + Drop + 'static,
+    O: Write + Send + Drop + 'static,
+    D: LinkFolder<I, O> + Send + Sync + Drop + 'static,
+    J: Naming + Send + Sync + 'static,
+    E: Write + Send + Drop + 'static,
+>(
+    rt: &R,
+    alloc: Global,
+    folder: &Arc<D>,
+    shared: &Arc<Shared<J, E>>,
+    link: Link,
+    ticket: Ticket<J>,
+) -> Result<bool, AllocError> {
+    let room: Arc<Room<O, J>> = Arc::new(alloc, Room::new())?;
+    if !start_writer::<R, I, O, J, E>(rt, alloc, shared, &room, link.index)? {
+        return Ok(false);
+    }
+    start_keeper::<R, I, O, D, J, E>(rt, alloc, folder, shared, room, link, ticket)
+}
+
+/// Takes a link's part of a pass.
+fn take_part<J: Naming, E: Write>(
+    shared: &Shared<J, E>,
+    pass: &mut Pass,
+) -> Result<Ticket<J>, AllocError>
+    requires { IsLegalPass J.router pass.old }
+    ensures { IsLegalPass J.router pass.new }
+{
+    if pass.shares() <= SHARES {
+        return Err(AllocError);
+    }
+    Ok(Ticket::new(shared.router.split(pass, SHARES)))
+}
+
+/// Starts the threads of all links. Where one is not started, people are told, and the link stays down.
+pub(crate) fn start_links<
+    R: Threads + Wait + Clock + Copy + Send + Drop + 'static,
+    I: Read + Send + Drop + 'static,
+    O: Write + Send + Drop + 'static,
+    D: LinkFolder<I, O> + Send + Sync + Drop + 'static,
+    J: Naming + Send + Sync + 'static,
+    E: Write + Send + Drop + 'static,
+>(
+    rt: &R,
+    alloc: Global,
+    folder: &Arc<D>,
+    shared: &Arc<Shared<J, E>>,
+    pass: &mut Pass,
+    links: Vec<LinkFiles>,
+    common: Links,
+) -> Result<(), AllocError>
+    requires { IsLegalPass J.router pass.old }
+    ensures { IsLegalPass J.router pass.new }
+{
+    for (index, files) in links.into_iter().enumerate() {
+        let node = files.node;
+        let link = Link {
+            index,
+            files,
+            domain: common.domain,
+            retry: common.retry,
+        };
+        let ticket = take_part(shared, pass)?;
+        if !start_link::<R, I, O, D, J, E>(rt, alloc, folder, shared, link, ticket)? {
+            let mut errors = shared.errors.lock(rt);
+            tell_unstarted(alloc, &mut *errors, node);
+        }
+    }
+    Ok(())
+}
+
+/// Starts the thread that saves the history, in this file. None where it was not started.
+pub(crate) fn start_saver<
+    R: Threads + Wait + Clock + Copy + Send + Drop + 'static,
+    V: Write + Send + Drop + 'static,
+    J: Naming + Send + Sync + 'static,
+    E: Write + Send + Drop + 'static,
+>(
+    rt: &R,
+    alloc: Global,
+    shared: &Arc<Shared<J, E>>,
+    file: V,
+    ticket: LegalTicket<J>,
+) -> Result<PromisedHandle<Saved<V, J>, IsIn<V>>, DaemonFault>
+    ensures file { IfOk result (λ saving. saving.promise.0.value ≡ file) }
+    ensures early { IfErr result IsEarly }
+{
+    let handle = *rt;
+    let shared = Arc::try_clone(shared)?;
+    let promise = IsIn(Snapshot::of(&file));
+    let started = thread::spawn_with(rt, promise, move || {
+        save_history::<R, V, J, E>(handle, alloc, shared, file, ticket)
+    });
+    match started {
+        Ok(saving) => Ok(saving),
+        Err(_) => Err(DaemonFault::NotStarted),
+    }
+}

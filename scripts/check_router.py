@@ -1,0 +1,462 @@
+#!/usr/bin/env python3
+"""Talks to `ncroute router` as neighbours do that are no routers, hostile ones among them. The last line is 'N passed, M failed'.
+
+usage: scripts/check_router.py [ROW..]        (NCROUTE=PATH: the program, without which nothing is run)
+
+Each row starts node 0 of a domain of 8 nodes with links to node 1, which does what the row says, and to node 2, which is as a neighbour should be. It
+compares what standard error says, looks that node 2 is served all the while, has the router quit, and replays the history that was saved.
+"""
+import os
+import re
+import resource
+import select
+import shutil
+import signal
+import subprocess
+import sys
+import tempfile
+import time
+
+SIZE = 8
+PATIENCE = 10.0
+
+
+class Neighbour:
+    """The other end of a link."""
+
+    def __init__(self, folder, node):
+        self.node, self.told = node, b""
+        self.there, self.back = (os.path.join(folder, f"{node}.{end}") for end in ("in", "out"))
+        self.writes = self.reads = None
+        for path in (self.there, self.back):
+            os.mkfifo(path)
+
+    def open(self):
+        # The router has the lower number, so it opens its output first.
+        self.reads = os.open(self.back, os.O_RDONLY)
+        self.writes = os.open(self.there, os.O_WRONLY)
+
+    def greet(self, size=SIZE, node=None):
+        self.say(b"netchange 1 %d %d\n" % (size, self.node if node is None else node))
+
+    def say(self, text):
+        while text:
+            text = text[os.write(self.writes, text):]
+
+    def hear(self, enough, patience=PATIENCE):
+        """Reads until what came contains these bytes: whether it does."""
+        until = time.monotonic() + patience
+        while enough not in self.told and time.monotonic() < until:
+            if select.select([self.reads], [], [], 0.05)[0]:
+                came = os.read(self.reads, 65536)
+                if not came:
+                    break
+                self.told += came
+        return enough in self.told
+
+    def close(self):
+        for name in ("writes", "reads"):
+            self.close_one(name)
+
+    def close_one(self, name):
+        if getattr(self, name) is not None:
+            os.close(getattr(self, name))
+            setattr(self, name, None)
+
+
+class Run:
+    """One router and its neighbours."""
+
+    def __init__(self, program, nodes=(1, 2), more=(), size=SIZE, prepare=None, saves=True):
+        self.program, self.folder = program, tempfile.mkdtemp(prefix="router.")
+        self.neighbours = {node: Neighbour(self.folder, node) for node in nodes}
+        self.history = os.path.join(self.folder, "history")
+        self.errors = os.path.join(self.folder, "errors")
+        words = [program, "router", "--size", str(size), "--node", "0", *more]
+        if saves:
+            words += ["--save", self.history]
+        for node, neighbour in self.neighbours.items():
+            words += ["--link", f"{node}={neighbour.there},{neighbour.back}"]
+        with open(self.errors, "wb") as errors:
+            self.process = subprocess.Popen(words, stdin=subprocess.PIPE, stdout=subprocess.PIPE, stderr=errors, preexec_fn=prepare)
+
+    def ask(self, line):
+        self.process.stdin.write(line.encode() + b"\n")
+        self.process.stdin.flush()
+        return self.process.stdout.readline().decode().rstrip("\n")
+
+    def asks_until(self, line, wanted):
+        """Asks until an answer has this pattern: the last answer."""
+        until = time.monotonic() + PATIENCE
+        while True:
+            answer = self.ask(line)
+            if re.search(wanted, answer) or time.monotonic() > until:
+                return answer
+            time.sleep(0.01)
+
+    def said(self, wanted):
+        """What standard error says, when it has this or patience is over."""
+        until = time.monotonic() + PATIENCE
+        while True:
+            with open(self.errors) as it:
+                text = it.read()
+            if wanted in text or time.monotonic() > until:
+                return text
+            time.sleep(0.01)
+
+    def quit(self):
+        answer = self.ask("quit")
+        self.process.stdin.close()
+        return answer, self.process.wait(timeout=PATIENCE)
+
+    def replays(self):
+        return subprocess.run([self.program, "replay", self.history], capture_output=True, check=False).stdout.decode().strip()
+
+    def close(self):
+        if self.process.poll() is None:
+            self.process.kill()
+            self.process.wait()
+        for neighbour in self.neighbours.values():
+            neighbour.close()
+        shutil.rmtree(self.folder)
+
+
+class Rows:
+    """What neighbours do, and what is to come of it. Each method whose name begins with `row_` is a row."""
+
+    def __init__(self, program):
+        self.program, self.passed, self.failed, self.name = program, 0, 0, ""
+
+    def judge(self, what, holds, told=""):
+        if holds:
+            self.passed += 1
+        else:
+            self.failed += 1
+            print(f"{self.name}: {what}: failed: {told!r}", file=sys.stderr)
+
+    def serve_two(self, run):
+        """Node 2 is served: it comes up, says that it is there, and hears of itself."""
+        good = run.neighbours[2]
+        good.open()
+        good.greet()
+        good.say(b"2 0\n")
+        self.judge("2 is served", run.asks_until("show 2", "via 2") == "route 1 via 2")
+        self.judge("2 hears", good.hear(b"2 1\n"), good.told)
+
+    def end(self, run):
+        answer = run.quit()
+        self.judge("quit", answer == ("ok", 0), answer)
+        said = run.replays()
+        self.judge("replay", said.startswith("replay ok "), said)
+
+    def with_one(self, behave, says, more=(), history=None):
+        """Node 1 behaves so while node 2 is served; standard error says that."""
+        run = Run(self.program, more=more)
+        try:
+            one = run.neighbours[1]
+            one.open()
+            try:
+                behave(one)
+            except BrokenPipeError:
+                pass
+            if says:
+                text = run.said(says)
+                self.judge("says", says in text, text)
+            self.serve_two(run)
+            if history:
+                found = run.asks_until("history 0", history)
+                self.judge("history", re.search(history, found), found)
+            self.end(run)
+        finally:
+            run.close()
+
+    def row_silent(self):
+        self.with_one(lambda one: None, "")
+
+    def row_half_a_line(self):
+        def behave(one):
+            one.greet()
+            one.say(b"3 ")
+            one.close_one("writes")
+        self.with_one(behave, "link 1: the stream ended within line 2: closed\n", history=r"up 1 opened 1 .*down 1 done")
+
+    def row_no_line_feed(self):
+        def behave(one):
+            one.greet()
+            one.say(b"x" * (1 << 20))
+        self.with_one(behave, "link 1: line 2 has more than 64 bytes: closed\n")
+
+    def row_no_line_feed_in_greeting(self):
+        self.with_one(lambda one: one.say(b"x" * (1 << 20)), "link 1: line 1 has more than 64 bytes: closed\n", history=r"^(?!.*up 1)")
+
+    def row_binary(self):
+        def behave(one):
+            one.greet()
+            one.say(bytes(range(256)))
+        self.with_one(behave, "link 1: line 2 is no message: closed\n")
+
+    def row_seventh_line(self):
+        def behave(one):
+            one.greet()
+            one.say(b"1 0\n3 1\n4 1\n5 1\n6 1\n7 01\n")
+        self.with_one(behave, "link 1: line 7 is no message: closed\n", history=r"recv 1 6 1 done 1(?!.*recv 1 7)")
+
+    def row_other_size(self):
+        self.with_one(lambda one: one.greet(size=9), "line 1 is not its greeting: the neighbour's domain has 9 nodes: closed\n", history=r"^(?!.*up 1)")
+
+    def row_other_node(self):
+        self.with_one(lambda one: one.greet(node=3), "line 1 is not its greeting: the neighbour is node 3: closed\n", history=r"^(?!.*up 1)")
+
+    def row_no_greeting(self):
+        self.with_one(lambda one: one.say(b"1 0\n"), "line 1 is not its greeting: this is no greeting of version 1: closed\n", history=r"^(?!.*up 1)")
+
+    def row_too_far(self):
+        def behave(one):
+            one.greet()
+            one.say(b"3 9\n9 0\n3 1\n")
+        self.with_one(behave, "", history=r"recv 1 3 9 refused N5 .*recv 1 9 0 refused N4 .*recv 1 3 1 done 1")
+
+    def row_closes_at_each_byte(self):
+        text = b"netchange 1 8 1\n1 0\n"
+        for count in range(len(text) + 1):
+            def behave(one, count=count):
+                one.say(text[:count])
+                one.close()
+            ends = "ended its stream" if count in (0, 16, 20) else "ended within line"
+            self.name = f"closes at byte {count}"
+            # The first line that it is told is the router's own greeting: it may be gone before that is written.
+            run = Run(self.program)
+            try:
+                one = run.neighbours[1]
+                one.open()
+                behave(one)
+                said = run.said("closed")
+                self.judge("says", ends in said or "could not be written" in said, said)
+                self.serve_two(run)
+                self.end(run)
+            finally:
+                run.close()
+
+    def row_nobody_opens(self):
+        run = Run(self.program)
+        try:
+            self.serve_two(run)
+            self.end(run)
+        finally:
+            run.close()
+
+    def row_never_read(self):
+        """Node 1 hears nothing while node 2 changes its mind 40,000 times."""
+        run = Run(self.program)
+        try:
+            one, two = run.neighbours[1], run.neighbours[2]
+            one.open()
+            one.greet()
+            self.judge("1 is up", "1:" in run.asks_until("neighbours", " 1:"))
+            self.serve_two(run)
+            begun = time.monotonic()
+            two.say(b"3 0\n3 1\n" * 20000)
+            two.say(b"4 0\n")
+            run.asks_until("show 4", "via 2")
+            took = time.monotonic() - begun
+            print(f"never read: {40000 / took:.0f} messages a second were entered", file=sys.stderr)
+            self.judge("2 is served", run.ask("show 3") == "route 2 via 2", run.ask("show 3"))
+            self.end(run)
+            said = run.replays()
+            self.judge("each was entered", int(said.split()[-1]) > 40000, said)
+        finally:
+            run.close()
+
+    def row_out_breaks(self):
+        """Node 1 closes what it is told, and says something after its session is over."""
+        run = Run(self.program)
+        try:
+            one = run.neighbours[1]
+            one.open()
+            one.greet()
+            self.judge("1 hears", one.hear(b"7 8\n"))
+            one.close_one("reads")
+            self.serve_two(run)
+            self.judge("1 is down", "1:" not in run.asks_until("neighbours", "^neighbours 2:"))
+            one.say(b"3 0\n")
+            text = run.said("closed")
+            self.judge("says", "link 1: " in text, text)
+            found = run.ask("history 0")
+            self.judge("one down", found.count("down 1 ") == 1, found)
+            self.judge("nothing of the old session", "recv 1 3 0 done" not in found, found)
+            self.end(run)
+        finally:
+            run.close()
+
+    def row_comes_again(self):
+        """Node 1 ends and comes again, with --retry: each time in a session of its own."""
+        run = Run(self.program, more=("--retry", "0"))
+        try:
+            self.serve_two(run)
+            one = run.neighbours[1]
+            for _ in range(3):
+                one.open()
+                one.greet()
+                one.say(b"1 0\n")
+                self.judge("1 is up", run.asks_until("show 1", "via 1") == "route 1 via 1")
+                one.close()
+                self.judge("1 is down", run.asks_until("show 1", "none") == "route 8 none")
+            found = run.ask("history 0")
+            self.judge("sessions", len(re.findall(r"up 1 opened", found)) == 3 == len(re.findall(r"down \d+ done", found)), found)
+            self.end(run)
+        finally:
+            run.close()
+
+    def row_operator(self):
+        run = Run(self.program, more=("--prefix", "3=192.168.0.0/24"))
+        try:
+            self.serve_two(run)
+            rows = (
+                ("up 1", "refused O9 "), ("down 2", "refused O9 "), ("up 3", "opened 2"), ("down 3", "done 0"), ("network 4 0", "refused O5 "),
+                ("prefix 3 10.0.0.0/8", "refused O5 "), ("recv 2 3 0", "refused O1 "), ("take 2", "refused O1 "), ("jump", "refused O1 "),
+                ("load far filter far { if net = 192.168.0.0/24 then rip_metric = rip_metric + 4; accept; }", "verified "),
+                ("import 2 far", "done 0"), ("import 2 nobody", "refused O6 "), ("neighbours", "neighbours 2:1"), ("told 2", "told 0:8 1:8 2:0 "),
+            )
+            for line, wanted in rows:
+                answer = run.ask(line)
+                self.judge(line, answer.startswith(wanted), answer)
+            run.neighbours[2].say(b"3 1\n")
+            self.judge("filtered", run.asks_until("show 3", "via 2") == "route 6 via 2")
+            self.end(run)
+        finally:
+            run.close()
+
+    def row_input_ends(self):
+        run = Run(self.program)
+        try:
+            self.serve_two(run)
+            run.process.stdin.close()
+            self.judge("ends", run.process.wait(timeout=PATIENCE) == 0)
+            said = run.replays()
+            self.judge("replay", said.startswith("replay ok "), said)
+        finally:
+            run.close()
+
+    def row_stays_and_is_killed(self):
+        run = Run(self.program, more=("--stay",))
+        try:
+            good = run.neighbours[2]
+            good.open()
+            good.greet()
+            run.process.stdin.close()
+            good.say(b"2 0\n3 1\n")
+            self.judge("2 hears", good.hear(b"3 2\n"), good.told)
+            time.sleep(1.0)
+            self.judge("stays", run.process.poll() is None)
+            run.process.send_signal(signal.SIGKILL)
+            run.process.wait()
+            said = run.replays()
+            self.judge("replay", said.startswith("replay ok ") and int(said.split()[-1]) >= 3, said)
+        finally:
+            run.close()
+
+    def row_full_disk(self):
+        def prepare():
+            signal.signal(signal.SIGXFSZ, signal.SIG_IGN)
+            resource.setrlimit(resource.RLIMIT_FSIZE, (4096, 4096))
+        run = Run(self.program, prepare=prepare)
+        try:
+            self.serve_two(run)
+            run.neighbours[2].say(b"3 0\n3 1\n" * 1000 + b"4 0\n")
+            self.judge("2 is served", run.asks_until("show 4", "via 2") == "route 1 via 2")
+            text = run.said("not saved")
+            self.judge("says", "history: the history could not be written (E2): not saved from here on\n" in text, text)
+            self.judge("quit", run.quit() == ("ok", 1))
+            said = run.replays()
+            self.judge("replay", said.startswith(("cut ", "replay ok ")), said)
+        finally:
+            run.close()
+
+    def row_full_history(self):
+        run = Run(self.program, more=("--limit", "60", "--retry", "0"))
+        try:
+            self.serve_two(run)
+            run.neighbours[2].say(b"3 0\n3 1\n" * 100)
+            text = run.said("J1")
+            self.judge("says", "link 2: the history is full (J1): closed\n" in text, text)
+            answer = run.ask("show 2")
+            self.judge("answers", answer == "refused J1 60", answer)
+            self.judge("looks", run.ask("routes").startswith("routes 0:0 "))
+            self.end(run)
+        finally:
+            run.close()
+
+    def row_hundred_links(self):
+        nodes = range(1, 101)
+        run = Run(self.program, nodes=nodes, size=120)
+        try:
+            for neighbour in run.neighbours.values():
+                neighbour.open()
+                neighbour.greet(size=120)
+            up = run.asks_until("neighbours", " 100:")
+            deadline = time.monotonic() + PATIENCE
+            while up.count(":") < 100 and time.monotonic() < deadline:
+                up = run.ask("neighbours")
+            self.judge("all are up", up.count(":") == 100, up)
+            for node, neighbour in run.neighbours.items():
+                neighbour.say(b"%d 0\n" % node)
+            last = run.neighbours[100]
+            for node in nodes:
+                self.judge(f"100 hears of {node}", last.hear(b"\n%d 1\n" % node))
+            with open(f"/proc/{run.process.pid}/status") as it:
+                text = it.read()
+            memory, threads = (re.search(name + r":\s*(.*)", text)[1] for name in ("VmRSS", "Threads"))
+            print(f"hundred links: {memory}, {threads} threads", file=sys.stderr)
+            self.end(run)
+        finally:
+            run.close()
+
+    def row_no_threads(self):
+        """Only some of 20 links get a thread for their writers: the others are closed, and these are served."""
+        def prepare():
+            resource.setrlimit(resource.RLIMIT_AS, (100 << 20,) * 2)
+        nodes = range(1, 21)
+        run = Run(self.program, nodes=nodes, size=30, prepare=prepare)
+        try:
+            text = run.said("X2")
+            self.judge("says", "a thread was not started (X2): closed\n" in text, text)
+            closed = {int(node) for node in re.findall(r"link (\d+): ", text)}
+            served = [node for node in nodes if node not in closed][:1]
+            for node in served:
+                neighbour = run.neighbours[node]
+                neighbour.open()
+                neighbour.greet(size=30)
+            self.judge("answers", run.ask("routes").startswith("routes 0:0 "))
+            self.end(run)
+        finally:
+            run.close()
+
+    def run(self, chosen):
+        for name in [name for name in dir(self) if name.startswith("row_")]:
+            if chosen and name[4:] not in chosen:
+                continue
+            self.name = name[4:]
+            begun = time.monotonic()
+            try:
+                getattr(self, name)()
+            except (OSError, subprocess.TimeoutExpired, ValueError) as why:
+                self.judge("runs", False, str(why))
+            print(f"{name[4:]}: {time.monotonic() - begun:.2f} s", file=sys.stderr)
+
+
+def main(words):
+    program = os.environ.get("NCROUTE")
+    if not program:
+        print("check_router: no program is named by NCROUTE, so nothing is run")
+        print("0 passed, 0 failed")
+        return
+    soft, hard = resource.getrlimit(resource.RLIMIT_NOFILE)
+    resource.setrlimit(resource.RLIMIT_NOFILE, (max(soft, min(2048, hard)), hard))
+    rows = Rows(os.path.realpath(program))
+    rows.run(words)
+    print(f"{rows.passed} passed, {rows.failed} failed")
+    sys.exit(rows.failed > 0)
+
+
+if __name__ == "__main__":
+    main(sys.argv[1:])
