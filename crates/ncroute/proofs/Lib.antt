@@ -5,3 +5,4 @@ mod FiltersRead
 mod JoinedRead
 mod Stopped
 mod Helped
+mod PlanAdded

@@ -17,6 +17,8 @@ mod planning;
 mod replay;
 mod respond;
 mod routing;
+#[cfg(test)]
+mod routing_tests;
 mod script;
 mod serve;
 #[cfg(test)]
