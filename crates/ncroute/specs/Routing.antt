@@ -127,8 +127,8 @@ RunsPlan plan names kept before after status = (RunsToEnd plan names kept before
 module _ (opens creates : List ℕ → Result (Option (List ℕ)) Error → Type 0) where
   abbrev pub RunsRouter : RouterWords → Streams → Streams → ℕ → Type 0
   RunsRouter words before after status = (plan : PlanView) × (names : Names) × (kept : Option (Option (List ℕ))) × (left : Option (List ℕ))
-      × SetsUp creates opens words plan names kept before.reads left before.tells before.tells
-      × RunsPlan plan names kept (record before { reads = left }) after status
+      × (tells : Option (List ℕ)) × SetsUp creates opens words plan names kept before.reads left before.tells tells
+      × RunsPlan plan names kept (record { reads = left; holds = before.holds; tells = tells }) after status
 
   abbrev pub StopsRouter : RouterWords → Streams → Streams → ℕ → Type 0
   StopsRouter words before after status = (fault : ProgramFault) × (tells : Option (List ℕ))

@@ -19,9 +19,31 @@ fn texts(alloc: Global, texts: &[&str]) -> Result<Vec<String>, AllocError> {
 fn reads_words_of_a_router(rt: HostRuntime) -> Result<(), Fail> {
     let alloc = rt.alloc();
     let words: &[&str] = &[
-        "ncroute", "router", "--size", "8", "--link", "2=c,d", "--node=3", "--limit", "9",
-        "--retry=1", "--save", "h", "--stay", "--prefix", "4=192.0.47.0/24", "--filter", "f=-",
-        "--import", "1=f", "--import", "2=f", "--export", "2=f", "--link", "1=a,b",
+        "ncroute",
+        "router",
+        "--size",
+        "8",
+        "--link",
+        "2=c,d",
+        "--node=3",
+        "--limit",
+        "9",
+        "--retry=1",
+        "--save",
+        "h",
+        "--stay",
+        "--prefix",
+        "4=192.0.47.0/24",
+        "--filter",
+        "f=-",
+        "--import",
+        "1=f",
+        "--import",
+        "2=f",
+        "--export",
+        "2=f",
+        "--link",
+        "1=a,b",
     ];
     let name = String::from_str(alloc, "f")?;
     let want = Words::Router(RouterWords {
@@ -32,7 +54,12 @@ fn reads_words_of_a_router(rt: HostRuntime) -> Result<(), Fail> {
         save: Some(String::from_str(alloc, "h")?),
         stays: true,
         prefixes: texts(alloc, &["4=192.0.47.0/24"])?,
-        filters: vec![in alloc; NamedFile { name, source: Source::Input }]?,
+        filters: vec![in alloc;
+            NamedFile {
+                name,
+                source: Source::Input
+            },
+        ]?,
         imports: texts(alloc, &["1=f", "2=f"])?,
         exports: texts(alloc, &["2=f"])?,
         links: texts(alloc, &["2=c,d", "1=a,b"])?,
@@ -48,10 +75,20 @@ fn refuses_words_of_a_router(rt: HostRuntime) -> Result<(), Fail> {
         &["ncroute", "router", "--size=8"],
         &["ncroute", "router", "--node=3"],
         &["ncroute", "router", "--size=8", "--node=3", "--filter=f"],
-        &["ncroute", "router", "--size=8", "--node=3", "--filter=f=a", "--filter=f=b"],
+        &[
+            "ncroute",
+            "router",
+            "--size=8",
+            "--node=3",
+            "--filter=f=a",
+            "--filter=f=b",
+        ],
     ];
     for words in rows {
-        assert_eq!(&rt; request_of(&rt, rt.alloc(), words, NO_TERMINAL)?, Words::Shown(2));
+        assert_eq!(&rt;
+            request_of(&rt, rt.alloc(), words, NO_TERMINAL)?,
+            Words::Shown(2)
+        );
     }
     Ok(())
 }
