@@ -6,3 +6,4 @@ mod JoinedRead
 mod Stopped
 mod Helped
 mod PlanAdded
+mod Routed
