@@ -109,7 +109,7 @@ RUNS = [
     ("run -", b"network 4 0\nshow 0\n", b"ok\nroute 0 local\n", 0),
     ("domain a b", b"", b"", 2),
     ("run a b", b"", b"", 1),
-    ("router --size 8 --node 3", b"routes\nup 9\nquit\nroutes\n", b"routes 0:8 1:8 2:8 3:0 4:8 5:8 6:8 7:8\nrefused N6 0\nok\n", 0),
+    ("router --size 8 --node 3", b"routes\nup 9\nquit\nroutes\n", b"routes 0:8 1:8 2:8 3:0 4:8 5:8 6:8 7:8\nrefused N1 0\nok\n", 0),
     ("router --size 8 --node 8", b"", b"", 2),
     ("router --size 8", b"", b"", 2),
     ("router --size 8 --node 3 --link 1=a", b"routes\n", b"", 2),
