@@ -4,7 +4,8 @@
 usage: scripts/check_documents.py        (NCROUTE=PATH: the program; without it, the sources as they are, by `rt try`)
 
 - Each example: a line `    $ COMMAND` of README.md or docs/*.md, run at the top of the repository, writes the indented lines below it. One that
-  looks at standard error (`2>&1`) or names a file of a filter (`ncroute filter`) needs the program, and is left out without NCROUTE=PATH.
+  looks at standard error (`2>&1`), names a file of a filter (`ncroute filter`) or runs a router (`ncroute router`) needs the program, and is left out without NCROUTE=PATH.
+- Each block of several terminals (`    one$ COMMAND`, `    one> LINE`, `    one: LINE`), played as scripts/terminals.py says, needs the program too.
 - Each example that hands a filter from `ncroute check` on to another `ncroute` does nothing, and fails, with a filter that is refused.
 - The table of the examples in docs/LANGUAGE.md: each filter of examples/ answers the route so.
 - Each row of a table of codes says what `ncroute explain CODE` says, and each example of `ncroute explain` writes what it shows.
@@ -14,10 +15,12 @@ usage: scripts/check_documents.py        (NCROUTE=PATH: the program; without it,
 import glob
 import os
 import re
+import shutil
 import sys
 
 sys.dont_write_bytecode = True
 import program  # noqa: E402
+import terminals  # noqa: E402
 
 # The document whose table has the codes of a letter, and the column of their meaning.
 TABLES = {"P": ("LANGUAGE", 1), "Y": ("KINDS", 1), "V": ("VERIFIER", 1), "C": ("CODE_FILE", 1), "K": ("MACHINE", 1), "E": ("EVAL", 1), "O": ("SCRIPT", 1),
@@ -100,7 +103,7 @@ def listed(text):
 
 def needs_program(command):
     """`rt try --cases` tells no standard error, and runs in a folder without the files of the repository."""
-    return "2>&1" in command or "ncroute filter" in command or ".history" in command or ".filter" in re.sub(r"< *[\w/.]+", "", command)
+    return "2>&1" in command or "ncroute filter" in command or "ncroute router" in command or ".history" in command or ".filter" in re.sub(r"< *[\w/.]+", "", command)
 
 
 def explained(ncroute, tell):
@@ -116,6 +119,21 @@ def explained(ncroute, tell):
     said = ncroute.runs([(command, b"") for _, command, _ in shown])
     tell("ncroute explain", "examples", [(command, wrote.decode() != wanted and f"{code}: wrote {wrote.decode()!r}, and not {wanted!r}")
                                          for (code, command, wanted), (wrote, _) in zip(shown, said)])
+
+
+def played(ncroute, tell):
+    """Plays what the documents show of several terminals. One that needs a command that is not there is left out."""
+    if not os.environ.get("NCROUTE"):
+        return
+    for name in ["README.md", *sorted(glob.glob("docs/*.md", root_dir=program.TOP))]:
+        blocks = [block for block in terminals.blocks(read(name)) if all(shutil.which(needed) for needed in needs(block))]
+        if blocks:
+            tell(name, "blocks of terminals", [(" ".join(block[-1]), terminals.play(block, ncroute.environment())) for block in blocks])
+
+
+def needs(block):
+    """What a block needs of the system."""
+    return {word for _, kind, words in block if kind == "$" for word in re.findall(r"\b(?:mkfifo|socat)\b", words)}
 
 
 def main():
@@ -160,6 +178,7 @@ def main():
         (command, (MISTAKE not in command and "has no filter of its own" or wrote and f"wrote {wrote.decode()!r}" or not status and "ends with status 0"))
         for command, (wrote, status) in shut])
     explained(ncroute, tell)
+    played(ncroute, tell)
     ncroute.close()
     program.finish(passed, failed)
 

@@ -386,27 +386,34 @@ class Rows:
         finally:
             run.close()
 
+    def row_twenty_links(self):
+        self.serve_many(20)
+
     def row_hundred_links(self):
-        nodes = range(1, 101)
-        run = Run(self.program, nodes=nodes, size=120)
+        self.serve_many(100)
+
+    def serve_many(self, count):
+        """Each of so many neighbours comes up, says that it is there, and is heard of by the last one."""
+        nodes, size = range(1, count + 1), count + 20
+        run = Run(self.program, nodes=nodes, size=size)
         try:
             for neighbour in run.neighbours.values():
                 neighbour.open()
-                neighbour.greet(size=120)
-            up = run.asks_until("neighbours", " 100:")
+                neighbour.greet(size=size)
+            up = run.asks_until("neighbours", f" {count}:")
             deadline = time.monotonic() + PATIENCE
-            while up.count(":") < 100 and time.monotonic() < deadline:
+            while up.count(":") < count and time.monotonic() < deadline:
                 up = run.ask("neighbours")
-            self.judge("all are up", up.count(":") == 100, up)
+            self.judge("all are up", up.count(":") == count, up)
             for node, neighbour in run.neighbours.items():
                 neighbour.say(b"%d 0\n" % node)
-            last = run.neighbours[100]
+            last = run.neighbours[count]
             for node in nodes:
-                self.judge(f"100 hears of {node}", last.hear(b"\n%d 1\n" % node))
+                self.judge(f"{count} hears of {node}", last.hear(b"\n%d 1\n" % node))
             with open(f"/proc/{run.process.pid}/status") as it:
                 text = it.read()
             memory, threads = (re.search(name + r":\s*(.*)", text)[1] for name in ("VmRSS", "Threads"))
-            print(f"hundred links: {memory}, {threads} threads", file=sys.stderr)
+            print(f"{count} links: {memory}, {threads} threads", file=sys.stderr)
             self.end(run)
         finally:
             run.close()

@@ -183,7 +183,7 @@ class Lab:
                 return last - begun
         return None
 
-    def compare(self, what, more, missing=()):
+    def compare(self, what, more):
         """Waits for the routes that `ncroute domain` computes, and compares them when all is quiet."""
         wanted = self.topology.tables(self.program, more)
         begun = time.monotonic()
@@ -200,7 +200,7 @@ class Lab:
         for node, (a, b) in enumerate(zip(found, wanted)):
             if a is not None:
                 self.judge(f"{what}: node {node}", a == b, f"\n  {a}\n  {b}")
-        print(f"{self.name}: {what}: at rest after {rest:.2f} s", file=sys.stderr)
+        print(f"{self.name}: {what}: " + ("not at rest" if rest is None else f"at rest after {rest:.2f} s"), file=sys.stderr)
 
     def look_at_idle(self):
         before = [(router.saved(), router.processor_time()) for router in self.routers]

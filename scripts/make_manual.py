@@ -53,7 +53,7 @@ class Command:
 
 
 def option_of(line):
-    names, value, text = re.fullmatch(r"\s*((?:-\w, )?--[\w-]+)(?: <([\w=]+)>)?\s{2,}(.*)", line).groups()
+    names, value, text = re.fullmatch(r"\s*((?:-\w, )?--[\w-]+)(?: <([\w=,]+)>)?\s{2,}(.*)", line).groups()
     return Option(names.split(", "), value, text)
 
 

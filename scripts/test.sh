@@ -1,7 +1,8 @@
 #!/usr/bin/env bash
 # The test command: proves every crate from nothing, tries the must-fail edits, runs all tests and the program, and then the examples
-# of the documents, the rows of tests/rows/, runs with their exit status, random domains, runs at the program's limits, refused allocations, the filters that
-# BIRD answered, configurations that are imported, killed runs, broken filters and what is installed. The last line is 'N passed, M failed', the sum of all.
+# of the documents, the rows of tests/rows/, runs with their exit status, random domains, runs at the program's limits, refused
+# allocations, the filters that BIRD answered, configurations that are imported, killed runs, routers that talk, broken filters and what
+# is installed. The last line is 'N passed, M failed', the sum of all.
 #
 # usage: scripts/test.sh [--all]      (--all: tries the edits of wrong-bodies/ too)
 set -u
@@ -61,6 +62,8 @@ add scripts/check_memory.py
 add scripts/check_bird.py
 add scripts/check_import.py
 add scripts/check_histories.py
+add scripts/check_router.py
+add scripts/lab.py
 add scripts/check_broken_filters.py
 add scripts/check_install.py
 echo "$passed passed, $failed failed"

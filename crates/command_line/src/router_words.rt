@@ -2,7 +2,7 @@
 ghost use Rattle.std.specs.Prelude.{◌≡◌, IfOk, map, string_bytes};
 
 use crate::filter_words::{NamedFile, WrongFilter, filters_in};
-use crate::options::{filter_option, save_option};
+use crate::options::save_option;
 use clap::{Arg, ArgAction, ArgMatches, Command};
 use std::alloc::{AllocError, Global};
 
@@ -140,19 +140,16 @@ pub fn router_command<'a>(alloc: Global) -> Result<Command<'a>, AllocError> {
 /// Adds the options that are numbers.
 fn add_numbers<'a>(alloc: Global, command: Command<'a>) -> Result<Command<'a>, AllocError> {
     command
-        .arg(
-            number_option(
-                alloc,
-                "size",
-                "N",
-                "The number of nodes of the routing domain (2 to 250)",
-            )
-            .required(true),
-        )?
-        .arg(
-            number_option(alloc, "node", "ME", "The node that the router is, below N")
-                .required(true),
-        )?
+        .arg(number_option(
+            alloc,
+            "size",
+            "N",
+            "The number of nodes of the routing domain (2 to 250)",
+        )
+        .required(true))?
+        .arg(number_option(alloc, "node", "ME", "The node that the router is, below N").required(
+            true,
+        ))?
         .arg(number_option(
             alloc,
             "limit",
@@ -176,7 +173,12 @@ fn add_uses<'a>(alloc: Global, command: Command<'a>) -> Result<Command<'a>, Allo
             "V=PREFIX",
             "The prefix of node V; otherwise it is 10.V.0.0/16",
         ))?
-        .arg(filter_option(alloc))?
+        .arg(list_option(
+            alloc,
+            "filter",
+            "NAME=FILE",
+            "Give the filter of FILE this name; where one is refused, nothing is started",
+        ))?
         .arg(list_option(
             alloc,
             "import",

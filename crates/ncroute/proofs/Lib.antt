@@ -5,3 +5,5 @@ mod FiltersRead
 mod JoinedRead
 mod Stopped
 mod Helped
+mod PlanAdded
+mod Routed

@@ -3,11 +3,14 @@ pub mod Filters
 pub mod Guiding
 pub mod Helping
 pub mod Joining
+pub mod Loading
 pub mod Marking
 pub mod Networking
+pub mod Planning
 pub mod Reading
 pub mod Replaying
 pub mod Responding
+pub mod Routing
 pub mod Scripts
 pub mod Serving
 pub mod Streaming

@@ -2,12 +2,13 @@
 use Rattle.std.specs.Prelude.{◌≡◌, ◌⊎◌, ℕ, List, Option, Result, Ok, Err, IfSome}
 use Rattle.std.specs.declared.io.Error.{Error}
 use Rattle.command_line.specs.declared.words.Words.{Words}
-use Rattle.command_line.specs.declared.words.Words.TheVariants.{Asked, Network, Aided, Shown}
+use Rattle.command_line.specs.declared.words.Words.TheVariants.{Asked, Network, Router, Aided, Shown}
 use Rattle.filter_commands.specs.declared.fault.ProgramFault.TheVariants.{Stream}
 use Rattle.line_protocol.specs.Runs.{AppendsFront}
 use Rattle.line_protocol.specs.declared.faults.StreamFault.{StreamFault}
 use Rattle.ncroute.specs.Helping.{FailsToTell, ServesPeople, fault_status}
 use Rattle.ncroute.specs.Networking.{FailsToReportNetwork, ServesNetwork}
+use Rattle.ncroute.specs.Routing.{ServesRouter}
 use Rattle.ncroute.specs.Serving.{FailsToReport, Serves, fault_line}
 use Rattle.ncroute.specs.Streaming.{Streams}
 
@@ -21,6 +22,7 @@ Responds opens creates (Ok (Asked request)) before after status = IfSome before.
     ⊎ (FailsToReport request input after.reads before.holds after.holds before.tells after.tells × (status ≡ 1)))
 Responds opens creates (Ok Network) before after status = ServesNetwork before.holds after.holds before.tells after.tells status
     ⊎ (FailsToReportNetwork before.holds after.holds before.tells after.tells × (status ≡ 1))
+Responds opens creates (Ok (Router words)) before after status = ServesRouter opens creates words before after status
 Responds opens creates (Ok (Aided what)) before after status = ServesPeople opens creates what before after status
     ⊎ (FailsToTell opens creates what before after × (status ≡ fault_status what))
 Responds opens creates (Ok (Shown shown)) before after status = (status ≡ shown) × (after ≡ before)

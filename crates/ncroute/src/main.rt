@@ -15,6 +15,8 @@ mod planning;
 mod replay;
 mod respond;
 mod routing;
+#[cfg(test)]
+mod routing_tests;
 mod script;
 mod serve;
 #[cfg(test)]

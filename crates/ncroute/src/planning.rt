@@ -1,80 +1,158 @@
 //! What the words of `router` come to: the plan of a router.
-ghost use Rattle.std.specs.Prelude.{IfErr, IfOk, OnOk};
+ghost use Rattle.std.specs.Prelude.{◌≡◌, IfErr, IfOk, OnOk};
+ghost use Rattle.ncroute.specs.Planning as spec;
 
 use command_line::{NamedFile, RouterWords};
 use router_options::{Numbers, OptionFault, RouterPlan};
 use std::alloc::{AllocError, Global};
 
+/// What an option adds to a plan.
+#[derive(Clone, Copy, Debug, PartialEq, Eq)]
+pub enum OptionKind {
+    /// The prefix of a node.
+    Prefix,
+    /// The name of a filter.
+    Filter,
+    /// The use of an import filter.
+    Import,
+    /// The use of an export filter.
+    Export,
+    /// A link.
+    Link,
+}
+
 /// A copy of a text, if there is one.
-fn copy(alloc: Global, text: &Option<String>) -> Result<Option<String>, AllocError> {
+fn copy(alloc: Global, text: &Option<String>) -> Result<Option<String>, AllocError>
+    ensures { IfOk result (λ copy. spec.text_in copy ≡ spec.text_in text.now) }
+{
     match text {
         Some(text) => Ok(Some(String::from_str(alloc, text.as_str())?)),
         None => Ok(None),
     }
 }
 
+/// Adds an option.
+fn add(
+    alloc: Global,
+    plan: &mut RouterPlan,
+    kind: OptionKind,
+    text: &str,
+) -> Result<(), OptionFault>
+    ensures added { OnOk result (spec.Adds kind plan.old text.now plan.new) }
+    ensures refused { IfErr result (spec.Refuses kind plan.old text.now) }
+{
+    match kind {
+        OptionKind::Prefix => plan.add_prefix(text),
+        OptionKind::Filter => plan.add_filter(alloc, text),
+        OptionKind::Import => plan.add_import(alloc, text),
+        OptionKind::Export => plan.add_export(alloc, text),
+        OptionKind::Link => plan.add_link(alloc, text),
+    }
+}
+
+/// Adds options of one kind, in order, up to the first that is refused.
+fn add_options(
+    alloc: Global,
+    plan: &mut RouterPlan,
+    kind: OptionKind,
+    texts: &[String],
+) -> Result<(), OptionFault>
+    ensures added { OnOk result (spec.AddsAll kind spec.text_of texts.now plan.old plan.new) }
+    ensures refused { IfErr result (spec.StopsAdding kind spec.text_of texts.now plan.old) }
+{
+    for text in texts {
+        match add(alloc, plan, kind, text.as_str()) {
+            Ok(()) => {}
+            Err(why) => return Err(why),
+        }
+    }
+    Ok(())
+}
+
+/// Adds the names of filters, likewise.
+fn add_filters(
+    alloc: Global,
+    plan: &mut RouterPlan,
+    filters: &[NamedFile],
+) -> Result<(), OptionFault>
+    ensures added { OnOk result (spec.AddsAll OptionKind.Filter spec.name_of filters.now plan.old plan.new) }
+    ensures refused { IfErr result (spec.StopsAdding OptionKind.Filter spec.name_of filters.now plan.old) }
+{
+    for filter in filters {
+        match add(alloc, plan, OptionKind::Filter, filter.name.as_str()) {
+            Ok(()) => {}
+            Err(why) => return Err(why),
+        }
+    }
+    Ok(())
+}
+
 /// The plan of the numbers of these words, without prefixes, filters and links.
-fn empty_plan(alloc: Global, words: &RouterWords) -> Result<RouterPlan, OptionFault> {
+fn begun_plan(alloc: Global, words: &RouterWords) -> Result<RouterPlan, OptionFault>
+    ensures made { IfOk result (spec.IsBegun words.now) }
+    ensures refused { IfErr result (spec.LacksBegun words.now) }
+{
     let numbers = Numbers {
         size: words.size,
         me: words.node,
         limit: words.limit,
         retry: words.retry,
     };
-    RouterPlan::new(alloc, numbers, copy(alloc, &words.save)?, words.stays)
+    let save = copy(alloc, &words.save)?;
+    RouterPlan::new(alloc, numbers, save, words.stays)
 }
 
-/// Adds prefixes, in order.
-fn add_prefixes(plan: &mut RouterPlan, texts: &[String]) -> Result<(), OptionFault> {
-    for text in texts {
-        plan.add_prefix(text.as_str())?;
-    }
-    Ok(())
+/// The same with the prefixes.
+fn placed_plan(alloc: Global, words: &RouterWords) -> Result<RouterPlan, OptionFault>
+    ensures made { IfOk result (spec.IsPlaced words.now) }
+    ensures refused { IfErr result (spec.LacksPlaced words.now) }
+{
+    let mut plan = begun_plan(alloc, words)?;
+    let texts = words.prefixes.as_slice();
+    add_options(alloc, &mut plan, OptionKind::Prefix, texts)?;
+    Ok(plan)
 }
 
-/// Adds the names of filters, in order.
-fn add_filters(
-    alloc: Global,
-    plan: &mut RouterPlan,
-    filters: &[NamedFile],
-) -> Result<(), OptionFault> {
-    for filter in filters {
-        plan.add_filter(alloc, filter.name.as_str())?;
-    }
-    Ok(())
+/// The same with the names of filters.
+fn naming_plan(alloc: Global, words: &RouterWords) -> Result<RouterPlan, OptionFault>
+    ensures made { IfOk result (spec.IsNaming words.now) }
+    ensures refused { IfErr result (spec.LacksNaming words.now) }
+{
+    let mut plan = placed_plan(alloc, words)?;
+    let filters = words.filters.as_slice();
+    add_filters(alloc, &mut plan, filters)?;
+    Ok(plan)
 }
 
-/// Adds uses of import filters, in order.
-fn add_imports(alloc: Global, plan: &mut RouterPlan, texts: &[String]) -> Result<(), OptionFault> {
-    for text in texts {
-        plan.add_import(alloc, text.as_str())?;
-    }
-    Ok(())
+/// The same with the uses of import filters.
+fn importing_plan(alloc: Global, words: &RouterWords) -> Result<RouterPlan, OptionFault>
+    ensures made { IfOk result (spec.IsImporting words.now) }
+    ensures refused { IfErr result (spec.LacksImporting words.now) }
+{
+    let mut plan = naming_plan(alloc, words)?;
+    let texts = words.imports.as_slice();
+    add_options(alloc, &mut plan, OptionKind::Import, texts)?;
+    Ok(plan)
 }
 
-/// Adds uses of export filters, in order.
-fn add_exports(alloc: Global, plan: &mut RouterPlan, texts: &[String]) -> Result<(), OptionFault> {
-    for text in texts {
-        plan.add_export(alloc, text.as_str())?;
-    }
-    Ok(())
-}
-
-/// Adds links, in order.
-fn add_links(alloc: Global, plan: &mut RouterPlan, texts: &[String]) -> Result<(), OptionFault> {
-    for text in texts {
-        plan.add_link(alloc, text.as_str())?;
-    }
-    Ok(())
+/// The same with the uses of export filters.
+fn exporting_plan(alloc: Global, words: &RouterWords) -> Result<RouterPlan, OptionFault>
+    ensures made { IfOk result (spec.IsExporting words.now) }
+    ensures refused { IfErr result (spec.LacksExporting words.now) }
+{
+    let mut plan = importing_plan(alloc, words)?;
+    let texts = words.exports.as_slice();
+    add_options(alloc, &mut plan, OptionKind::Export, texts)?;
+    Ok(plan)
 }
 
 /// The plan that words tell; or the first that is wrong with them.
-pub fn plan_of(alloc: Global, words: &RouterWords) -> Result<RouterPlan, OptionFault> {
-    let mut plan = empty_plan(alloc, words)?;
-    add_prefixes(&mut plan, words.prefixes.as_slice())?;
-    add_filters(alloc, &mut plan, words.filters.as_slice())?;
-    add_imports(alloc, &mut plan, words.imports.as_slice())?;
-    add_exports(alloc, &mut plan, words.exports.as_slice())?;
-    add_links(alloc, &mut plan, words.links.as_slice())?;
+pub fn plan_of(alloc: Global, words: &RouterWords) -> Result<RouterPlan, OptionFault>
+    ensures made { IfOk result (spec.IsPlanOf words.now) }
+    ensures refused { IfErr result (spec.LacksPlan words.now) }
+{
+    let mut plan = exporting_plan(alloc, words)?;
+    let texts = words.links.as_slice();
+    add_options(alloc, &mut plan, OptionKind::Link, texts)?;
     Ok(plan)
 }

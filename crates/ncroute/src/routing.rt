@@ -1,100 +1,182 @@
 //! The command `router`: from the words to an exit status.
+ghost use Rattle.std.specs.Option.{option_map};
+ghost use Rattle.std.specs.Prelude.{◌≡◌, None, Some, IfErr, IfOk, MatchOption, MatchResult, List, ℕ, ◌++◌, ◌∷◌, []};
+ghost use Rattle.filter_commands.specs.Faults.{stream_fault};
+ghost use Rattle.line_protocol.specs.Runs.{AppendsFront};
+ghost use Rattle.ncroute.specs.Routing as spec;
+ghost use Rattle.ncroute.specs.Serving.{fault_line};
 
-use crate::filters::{read_filters, tell_unfit};
-use crate::loading::verify_filters;
+use crate::loading::load_filters;
 use crate::planning::plan_of;
-use crate::serve::FAILED;
-use crate::texts::{Folder, tell_unmade, tell_unread};
+use crate::serve::{FAILED, report_fault};
+use crate::texts::{Folder, tell_unmade};
 use command_line::RouterWords;
 use filter_commands::ProgramFault;
+use history_saver::SaveFault;
 use line_protocol::{StreamFault, write_text};
-use router_daemon::{DaemonFault, Filters, LinkFolder, Setting, run_router};
+use route_history::CallFault;
+use router_daemon::{DaemonFault, LinkFolder, Setting, run_router};
 use router_options::{OptionFault, RouterPlan};
-use std::alloc::Global;
+use slot_lock::LockFault;
+use std::alloc::{AllocError, Global};
 use std::io::{Read, Write};
 use std::rt::Clock;
 use std::sync::Wait;
 use std::thread::Threads;
 
-/// The exit status of a run whose words were wrong.
+/// The exit status where the words are wrong.
 const WRONG_WORDS: u8 = 2;
 
-/// Why a router was not run.
-#[derive(Drop)]
-enum Unrun {
-    /// People were told.
-    Told,
-    /// A fault.
-    Fault(ProgramFault),
+/// The line that tells what is wrong with the words, with the words of the fault.
+fn wrong_line(alloc: Global, words: &str) -> Result<Vec<u8>, AllocError>
+    ensures { IfOk result (λ line. line.items ≡ spec.wrong_line words.now) }
+{
+    let mut line = Vec::new(alloc);
+    line.extend_from_slice(b"error: ")?;
+    line.extend_from_slice(words.as_bytes())?;
+    line.push(b'\n')?;
+    Ok(line)
 }
 
-/// Reads and verifies the filters of a router. One that is refused or cannot be read is told.
-fn load_filters<F: Folder, I: Read, E: Write>(
-    files: &F,
-    alloc: Global,
-    words: &RouterWords,
-    size: u16,
-    reader: &mut I,
-    errors: &mut E,
-) -> Result<Filters, Unrun> {
-    let given = match read_filters(files, alloc, words.filters.as_slice(), reader) {
-        Ok(given) => given,
-        Err(unread) => {
-            return Err(match tell_unread(alloc, errors, unread.source, unread.why) {
-                Ok(()) => Unrun::Told,
-                Err(fault) => Unrun::Fault(fault),
-            });
-        }
-    };
-    match verify_filters(alloc, given.as_slice(), size) {
-        Ok(Ok(filters)) => Ok(filters),
-        Ok(Err(unfit)) => {
-            Err(match tell_unfit(alloc, errors, given.as_slice(), &Some(unfit)) {
-                Ok(()) => Unrun::Told,
-                Err(fault) => Unrun::Fault(fault),
-            })
-        }
-        Err(_) => Err(Unrun::Fault(ProgramFault::MEMORY)),
+/// The line that tells what is wrong with the words.
+fn fault_words(alloc: Global, fault: OptionFault) -> Result<Vec<u8>, AllocError>
+    ensures { IfOk result (λ line. (words : List ℕ) × (line.items ≡ spec.wrong_line words)) }
+{
+    let words = format!(in alloc; "{fault}")?;
+    wrong_line(alloc, words.as_str())
+}
+
+/// Tells what is wrong with the words. Where standard error takes no text, or memory is refused, people are not told.
+fn tell_wrong<E: Write>(alloc: Global, errors: &mut E, fault: OptionFault)
+    ensures { spec.TellsWrong (E.contents errors.old) (E.contents errors.new) }
+{
+    if let Ok(line) = fault_words(alloc, fault) {
+        let _ = write_text(errors, line.as_slice());
     }
 }
 
-/// Makes the file in which the history is saved, if one is named. One that is not made is told.
+/// The line that tells of a fault of a router. It is one text, so that one write takes it whole.
+fn router_line(fault: DaemonFault) -> &'static str
+    ensures { result.now ≡ spec.router_line fault }
+{
+    match fault {
+        DaemonFault::Stream(StreamFault::Read) => "ncroute: E1\n",
+        DaemonFault::Stream(StreamFault::Write) => "ncroute: E2\n",
+        DaemonFault::Stream(StreamFault::Memory) => "ncroute: E3\n",
+        DaemonFault::Stream(StreamFault::TooLong) => "ncroute: E4\n",
+        DaemonFault::Call(CallFault::Full) => "ncroute: J1\n",
+        DaemonFault::Call(CallFault::Memory) => "ncroute: J2\n",
+        DaemonFault::Lock(LockFault::Held) => "ncroute: L2\n",
+        DaemonFault::Lock(LockFault::Memory) => "ncroute: L3\n",
+        DaemonFault::Save(SaveFault::Write) => "ncroute: E2\n",
+        DaemonFault::Save(SaveFault::Memory) => "ncroute: E3\n",
+        DaemonFault::NotStarted => "ncroute: X2\n",
+        DaemonFault::Memory => "ncroute: E3\n",
+    }
+}
+
+/// Tells of the fault that ended a router.
+fn tell_fault<E: Write>(errors: &mut E, fault: DaemonFault)
+    ensures { AppendsFront (E.contents errors.old) (E.contents errors.new) (spec.router_line fault) }
+{
+    let _ = write_text(errors, router_line(fault).as_bytes());
+}
+
+/// Makes the file in which the history is saved, if one is named. There is none where it is not made, which people are told.
 fn make_save<F: Folder, E: Write>(
     files: &F,
     alloc: Global,
-    plan: &RouterPlan,
+    save: &Option<String>,
     errors: &mut E,
-) -> Result<Option<F::New>, Unrun> {
-    let Some(name) = &plan.save else {
-        return Ok(None);
-    };
-    match files.create(name.as_str()) {
-        Ok(file) => Ok(Some(file)),
-        Err(why) => Err(match tell_unmade(alloc, errors, name.as_str(), &why) {
-            Ok(()) => Unrun::Told,
-            Err(fault) => Unrun::Fault(fault),
-        }),
+) -> Result<Option<Option<F::New>>, ProgramFault>
+    ensures finished { IfOk result (λ made. MatchOption made
+        (spec.LacksSave (F.creates files.now) save.now (E.contents errors.old) (E.contents errors.new))
+        (λ file. spec.MakesSave (F.creates files.now) save.now (option_map (λ new. F.New.contents new) file)
+        × (E.contents errors.new ≡ E.contents errors.old))) }
+    ensures stopped { IfErr result (λ fault. spec.CutsSave (F.creates files.now) (stream_fault fault) save.now
+        (E.contents errors.old) (E.contents errors.new)) }
+{
+    match save {
+        None => Ok(Some(None)),
+        Some(name) => match files.create(name.as_str()) {
+            Ok(file) => Ok(Some(Some(file))),
+            Err(why) => match tell_unmade(alloc, errors, name.as_str(), &why) {
+                Ok(()) => Ok(None),
+                Err(fault) => Err(fault),
+            },
+        },
     }
 }
 
-/// Tells that words are wrong: the exit status.
-fn tell_wrong<E: Write>(alloc: Global, errors: &mut E, fault: OptionFault) -> u8 {
-    if let Ok(line) = format!(in alloc; "error: {fault}\n") {
-        let _ = write_text(errors, line.as_bytes());
+/// What a router of this plan is run with: its filters are read and verified, and then the file of its history is made. There is none
+/// where something is not there, which people are told.
+fn fit_out<F: Folder, R: Read, E: Write>(
+    files: &F,
+    alloc: Global,
+    words: &RouterWords,
+    plan: RouterPlan,
+    reader: &mut R,
+    errors: &mut E,
+) -> Result<Option<Setting<F::New>>, ProgramFault>
+    ensures finished { IfOk result (λ set. MatchOption set
+        (spec.LacksParts (F.creates files.now) (F.opens files.now) words.now plan (R.remaining reader.old) (R.remaining reader.new)
+        (E.contents errors.old) (E.contents errors.new))
+        (λ setting. spec.FitsOut (F.creates files.now) (F.opens files.now) words.now plan setting.filters.entries
+        (option_map (λ new. F.New.contents new) setting.save) (R.remaining reader.old) (R.remaining reader.new)
+        (E.contents errors.old) (E.contents errors.new) × (setting.plan ≡ plan))) }
+    ensures stopped { IfErr result (λ fault. spec.StopsParts (F.creates files.now) (F.opens files.now) (stream_fault fault) words.now plan
+        (R.remaining reader.old) (R.remaining reader.new) (E.contents errors.old) (E.contents errors.new)) }
+{
+    let size = plan.opening.size();
+    let named = words.filters.as_slice();
+    match load_filters(files, alloc, named, size, reader, errors) {
+        Ok(Some(filters)) => match make_save(files, alloc, &words.save, errors) {
+            Ok(Some(save)) => Ok(Some(Setting {
+                plan,
+                filters,
+                save,
+            })),
+            Ok(None) => Ok(None),
+            Err(fault) => Err(fault),
+        },
+        Ok(None) => Ok(None),
+        Err(fault) => Err(fault),
     }
-    WRONG_WORDS
 }
 
-/// Tells of the fault that ended a router: the exit status.
-fn tell_fault<E: Write>(alloc: Global, errors: &mut E, code: &str) -> u8 {
-    if let Ok(line) = format!(in alloc; "ncroute: {code}\n") {
-        let _ = write_text(errors, line.as_bytes());
+/// What a router is run with; or the exit status where people were told why there is nothing.
+fn set_up<F: Folder, R: Read, E: Write>(
+    files: &F,
+    alloc: Global,
+    words: &RouterWords,
+    reader: &mut R,
+    errors: &mut E,
+) -> Result<Result<Setting<F::New>, u8>, ProgramFault>
+    ensures finished { IfOk result (λ set. MatchResult set
+        (λ setting. spec.SetsUp (F.creates files.now) (F.opens files.now) words.now setting.plan setting.filters.entries
+        (option_map (λ new. F.New.contents new) setting.save) (R.remaining reader.old) (R.remaining reader.new)
+        (E.contents errors.old) (E.contents errors.new))
+        (λ status. spec.TurnsAway (F.creates files.now) (F.opens files.now) words.now (R.remaining reader.old) (R.remaining reader.new)
+        (E.contents errors.old) (E.contents errors.new) status)) }
+    ensures stopped { IfErr result (λ fault. spec.StopsSettingUp (F.creates files.now) (F.opens files.now) (stream_fault fault) words.now
+        (R.remaining reader.old) (R.remaining reader.new) (E.contents errors.old) (E.contents errors.new)) }
+{
+    match plan_of(alloc, words) {
+        Ok(plan) => match fit_out(files, alloc, words, plan, reader, errors) {
+            Ok(Some(setting)) => Ok(Ok(setting)),
+            Ok(None) => Ok(Err(FAILED)),
+            Err(fault) => Err(fault),
+        },
+        Err(OptionFault::Memory) => Err(ProgramFault::MEMORY),
+        Err(fault) => {
+            tell_wrong(alloc, errors, fault);
+            Ok(Err(WRONG_WORDS))
+        }
     }
-    FAILED
 }
 
-/// Runs a router of a plan, whose filters are verified: the exit status.
-fn run_planned<
+/// Runs a router that is set up: the exit status.
+fn run_setting<
     R: Threads + Wait + Clock + LinkFolder<FI, FO> + Copy + Send + Sync + Drop + 'static,
     FI: Read + Send + Drop + 'static,
     FO: Write + Send + Drop + 'static,
@@ -111,11 +193,27 @@ fn run_planned<
     writer: &mut W,
     errors: &mut E,
     voice: T,
-) -> u8 {
+) -> u8
+    ensures { spec.RunsPlan setting.plan setting.filters.entries (option_map (λ file. V.contents file) setting.save)
+        (record { reads = I.remaining reader.old; holds = W.contents writer.old; tells = E.contents errors.old })
+        (record { reads = I.remaining reader.new; holds = W.contents writer.new; tells = E.contents errors.new }) result }
+{
     match run_router::<R, FI, FO, R, V, T, I, W>(rt, alloc, *rt, setting, voice, reader, writer) {
         Ok(_) => 0,
-        Err(fault) => tell_fault(alloc, errors, fault.code()),
+        Err(fault) => {
+            tell_fault(errors, fault);
+            FAILED
+        }
     }
+}
+
+/// Tells of the fault that kept a router from being set up: the exit status.
+fn tell_unset<E: Write>(errors: &mut E, fault: ProgramFault) -> u8
+    ensures status { result ≡ FAILED }
+    ensures told { AppendsFront (E.contents errors.old) (E.contents errors.new) (fault_line fault) }
+{
+    let _ = report_fault(errors, fault);
+    FAILED
 }
 
 /// Runs the router that words ask for, and returns the exit status. Its filters are verified, and the file of its history is made,
@@ -139,30 +237,15 @@ pub fn serve_router<
 ) -> u8
 where
     R::New: Send + 'static,
+    ensures { spec.ServesRouter (R.opens rt.now) (R.creates rt.now) words.now
+        (record { reads = I.remaining reader.old; holds = W.contents writer.old; tells = E.contents errors.old })
+        (record { reads = I.remaining reader.new; holds = W.contents writer.new; tells = E.contents errors.new }) result }
 {
-    let plan = match plan_of(alloc, words) {
-        Ok(plan) => plan,
-        Err(OptionFault::Memory) => return tell_fault(alloc, errors, "E3"),
-        Err(fault) => return tell_wrong(alloc, errors, fault),
-    };
-    let size = plan.opening.size();
-    let loaded = load_filters(rt, alloc, words, size, reader, errors);
-    let filters = match loaded {
-        Ok(filters) => filters,
-        Err(Unrun::Told) => return FAILED,
-        Err(Unrun::Fault(fault)) => return tell_fault(alloc, errors, fault.code()),
-    };
-    let save = match make_save(rt, alloc, &plan, errors) {
-        Ok(save) => save,
-        Err(Unrun::Told) => return FAILED,
-        Err(Unrun::Fault(fault)) => return tell_fault(alloc, errors, fault.code()),
-    };
-    let setting = Setting {
-        plan,
-        filters,
-        save,
-    };
-    run_planned::<R, FI, FO, R::New, T, I, W, E>(
-        rt, alloc, setting, reader, writer, errors, voice,
-    )
+    match set_up(rt, alloc, words, reader, errors) {
+        Ok(Ok(setting)) => run_setting::<R, FI, FO, R::New, T, I, W, E>(
+            rt, alloc, setting, reader, writer, errors, voice,
+        ),
+        Ok(Err(status)) => status,
+        Err(fault) => tell_unset(errors, fault),
+    }
 }

@@ -2,7 +2,7 @@
 use crate::page::Page;
 
 /// A page for each code.
-pub static RUN_PAGES: [Page; 31] = [
+pub static RUN_PAGES: [Page; 32] = [
     Page {
         code: "O1",
         text: "\
@@ -101,6 +101,18 @@ Place: the number of the line
     refused O8 2
 
 A prefix is four numbers up to 255 joined by dots, `/` and a length up to 32.
+",
+    },
+    Page {
+        code: "O9",
+        text: "\
+O9: node W has a link, which alone brings it up and down
+Place: the number of the line
+
+    $ echo 'up 1' | ncroute router --size 4 --node 0 --link 1=/dev/null,/dev/null 2>/dev/null
+    refused O9 1
+
+Leave it to the link. `neighbours` lists the nodes that are up.
 ",
     },
     Page {

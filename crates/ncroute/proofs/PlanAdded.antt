@@ -1,0 +1,32 @@
+-- How options are added to a plan, one after another.
+use Rattle.std.proofs.Common.{◌≡◌, ◌⊎◌, ℕ, ◌+◌, List, Option, Some, Result, Ok, Err, IfErr, IfOk, refl, inl, inr, subst, add-one}
+use Rattle.std.specs.Prelude.{OnOk, slice_get}
+use Rattle.router_options.specs.PlanView.{PlanView}
+use Rattle.router_options.specs.declared.fault.OptionFault.{OptionFault}
+use Rattle.ncroute.specs.Planning.{Adds, AddsAll, AddsFirst, OrStops, Refuses, StopsAdding, ThenAdds}
+use Rattle.ncroute.specs.declared.planning.OptionKind.{OptionKind}
+
+module _ {A : Type 0} (k : OptionKind) (text_of : A → List ℕ) (options : List A) where
+  pub none_added : (plan : PlanView) → AddsFirst k text_of options 0 plan plan
+  unfolding AddsFirst
+  none_added plan = refl
+
+  pub one_more_added : (n : ℕ) (option : A) (text : List ℕ) (plan mid after : PlanView) → slice_get options n ≡ Some option
+      → text ≡ text_of option → AddsFirst k text_of options n plan mid → Adds k mid text after
+      → AddsFirst k text_of options (n + 1) plan after
+  unfolding AddsFirst
+  one_more_added n option text plan mid after is said first adds =
+      rw add-one (option, mid, is, first, subst (λ (t : List ℕ). Adds k mid t after) said adds)
+
+  -- an option is refused behind others
+  pub not_added : (n : ℕ) (option : A) (text : List ℕ) (why : OptionFault) (plan mid : PlanView) → slice_get options n ≡ Some option
+      → text ≡ text_of option → AddsFirst k text_of options n plan mid → Refuses k mid text why
+      → StopsAdding k text_of options plan why
+  not_added n option text why plan mid is said first refused = record {
+    n = n;
+    option = option;
+    is_option = is;
+    mid = mid;
+    first = first;
+    refused = subst (λ (t : List ℕ). Refuses k mid t why) said refused;
+  }

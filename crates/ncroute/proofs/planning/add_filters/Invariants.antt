@@ -1,0 +1,7 @@
+use Rattle.ncroute.specs.Planning.{AddsFirst, name_of}
+use Rattle.ncroute.specs.declared.planning.OptionKind.TheVariants.{Filter}
+use Rattle.ncroute.proofs.planning.add_filters.Given as goal
+
+-- the options so far were added
+abbrev pub invariant-loop-filter : goal.invariant-loop-filter
+invariant-loop-filter l = AddsFirst Filter name_of l.filters l.filter-index l.fn.plan l.plan

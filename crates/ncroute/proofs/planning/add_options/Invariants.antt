@@ -1,0 +1,6 @@
+use Rattle.ncroute.specs.Planning.{AddsFirst, text_of}
+use Rattle.ncroute.proofs.planning.add_options.Given as goal
+
+-- the options so far were added
+abbrev pub invariant-loop-text : goal.invariant-loop-text
+invariant-loop-text l = AddsFirst l.kind text_of l.texts l.text-index l.fn.plan l.plan

@@ -1,0 +1,114 @@
+"""Plays what a document shows of several terminals side by side, and says where it goes otherwise.
+
+A block of lines, each behind four spaces and the name of a terminal:
+
+    one$ COMMAND      is given to a shell of that terminal, once the command before it has ended there, or runs in the background by `&`
+    one> LINE         is typed into the command that runs there
+    one: LINE         is shown there next, on standard output or on standard error
+
+A command that only looks (`routes`, `neighbours`, `show`, `told`) is typed again until its answer is the one that is shown: what a neighbour says
+takes a while to come. All of a block runs in one new folder.
+"""
+import os
+import re
+import select
+import shutil
+import signal
+import subprocess
+import tempfile
+import time
+
+PATIENCE = 10.0
+LOOKS = ("routes", "neighbours", "show", "told")
+LINE = re.compile(r"    (\w+)([$>:]) (.*)")
+
+
+def blocks(text):
+    """The blocks of a document: lists of (terminal, kind, words)."""
+    found, inside = [], False
+    for line in text.split("\n"):
+        match = LINE.fullmatch(line)
+        if not match or match[2] != "$" and not inside:
+            inside = False
+            continue
+        if not inside:
+            found.append([])
+        inside = True
+        found[-1].append(match.groups())
+    return found
+
+
+class Terminal:
+    """A terminal, and the command that runs in it."""
+
+    def __init__(self, folder, environment):
+        self.folder, self.environment = folder, environment
+        self.process, self.shown, self.typed, self.others = None, b"", None, []
+
+    def start(self, command):
+        if self.process:
+            self.process.stdin.close()
+            self.process.wait(timeout=PATIENCE)
+        started = subprocess.Popen(["bash", "-c", f"exec {command}" if re.match(r"ncroute\b", command) and "|" not in command else command],
+                                   cwd=self.folder, env=self.environment, stdin=subprocess.PIPE, stdout=subprocess.PIPE, stderr=subprocess.STDOUT,
+                                   start_new_session=True)
+        self.others.append(started)
+        self.process, self.shown, self.typed = started, b"", None
+
+    def type(self, line):
+        self.typed = line
+        self.process.stdin.write(line.encode() + b"\n")
+        self.process.stdin.flush()
+
+    def read_line(self, until):
+        """The next line that is shown, or what there is of one when the time is over."""
+        while b"\n" not in self.shown and time.monotonic() < until:
+            if select.select([self.process.stdout], [], [], 0.05)[0]:
+                came = os.read(self.process.stdout.fileno(), 65536)
+                if not came:
+                    break
+                self.shown += came
+        line, _, self.shown = self.shown.partition(b"\n")
+        return line.decode()
+
+    def expect(self, wanted):
+        """Why the next line is another one, if it is."""
+        until = time.monotonic() + PATIENCE
+        while (line := self.read_line(until)) != wanted:
+            if time.monotonic() > until or not self.typed or self.typed.split(" ")[0] not in LOOKS:
+                return f"shows {line!r}, and not {wanted!r}"
+            time.sleep(0.05)
+            self.type(self.typed)
+        return None
+
+    def close(self):
+        for process in self.others:
+            try:
+                os.killpg(process.pid, signal.SIGKILL)
+            except ProcessLookupError:
+                pass
+            process.wait()
+            process.stdin.close()
+            process.stdout.close()
+
+
+def play(block, environment):
+    """Plays a block: for each line what is wrong with it, if anything. The lines behind the first wrong one are not played."""
+    folder = tempfile.mkdtemp(prefix="terminals.")
+    terminals = {}
+    try:
+        for name, kind, words in block:
+            terminal = terminals.setdefault(name, Terminal(folder, environment))
+            if kind == "$":
+                terminal.start(words)
+            elif kind == ">":
+                terminal.type(words)
+            elif why := terminal.expect(words):
+                return f"{name}: {why}"
+        return None
+    except (OSError, subprocess.TimeoutExpired, ValueError) as why:
+        return f"{name}{kind} {words}: {why}"
+    finally:
+        for terminal in terminals.values():
+            terminal.close()
+        shutil.rmtree(folder)
