@@ -13,10 +13,10 @@ use Rattle.ncroute.specs.Streaming.{Streams}
 
 -- what is said of a result, where it is known which one it is
 pub of_ok : {A E : Type 0} (r : Result A E) (P : A → Type 0) (x : A) → r ≡ Ok x → IfOk r P → P x
-of_ok r P x e h = subst (λ (t : Result A E). IfOk t P) e h
+of_ok {A = A} {E = E} r P x e h = subst (λ (t : Result A E). IfOk t P) e h
 
 pub of_err : {A E : Type 0} (r : Result A E) (P : E → Type 0) (x : E) → r ≡ Err x → IfErr r P → P x
-of_err r P x e h = subst (λ (t : Result A E). IfErr t P) e h
+of_err {A = A} {E = E} r P x e h = subst (λ (t : Result A E). IfErr t P) e h
 
 -- what a fault says where nothing was done, of which something follows
 untouched : (Ends : Result ℕ StreamFault → Type 0) (A B : Type 0) → (A → B) → (why : DaemonFault) → Fails Ends A why → Fails Ends B why
@@ -36,8 +36,11 @@ module _ (plan : PlanView) (names : Names) (kept : Option (Option (List ℕ))) (
   pub failed : (A : Type 0) (why : DaemonFault) → (A → (after.reads ≡ before.reads) × (after.holds ≡ before.holds))
       → Fails (Operated plan names before after) A why → AppendsFront before.tells after.tells (router_line why) → status ≡ 1
       → RunsPlan plan names kept before after status
-  failed A why same fails told ill = inr (record {
-    why = why;
-    fails = untouched (Operated plan names before after) A ((after.reads ≡ before.reads) × (after.holds ≡ before.holds)) same why fails;
-    told = told;
-  }, ill)
+  failed A why same fails told ill = inr (
+    record {
+      why = why;
+      fails = untouched (Operated plan names before after) A ((after.reads ≡ before.reads) × (after.holds ≡ before.holds)) same why fails;
+      told = told;
+    },
+    ill,
+  )
