@@ -3,6 +3,7 @@ pub mod Tried
 pub mod Untold
 mod FiltersRead
 mod JoinedRead
+mod Loaded
 mod Stopped
 mod Helped
 mod PlanAdded

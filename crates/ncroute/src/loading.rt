@@ -122,7 +122,11 @@ pub fn load_filters<F: Folder, R: Read, E: Write>(
         (R.remaining reader.old) (R.remaining reader.new) (E.contents errors.old) (E.contents errors.new)) }
 {
     match read_filters(files, alloc, named, reader) {
-        Ok(given) => verify_given(alloc, given.as_slice(), size, errors),
+        Ok(given) => match verify_given(alloc, given.as_slice(), size, errors) {
+            Ok(Some(filters)) => Ok(Some(filters)),
+            Ok(None) => Ok(None),
+            Err(fault) => Err(fault),
+        },
         Err(unread) => match tell_unread(alloc, errors, unread.source, unread.why) {
             Ok(()) => Ok(None),
             Err(fault) => Err(fault),

@@ -108,6 +108,13 @@ fn make_save<F: Folder, E: Write>(
     }
 }
 
+/// The size of the domain of a plan.
+fn size_of(plan: &RouterPlan) -> u16
+    ensures { result ≡ plan.now.opening.size }
+{
+    plan.opening.size()
+}
+
 /// What a router of this plan is run with: its filters are read and verified, and then the file of its history is made. There is none
 /// where something is not there, which people are told.
 fn fit_out<F: Folder, R: Read, E: Write>(
@@ -127,7 +134,7 @@ fn fit_out<F: Folder, R: Read, E: Write>(
     ensures stopped { IfErr result (λ fault. spec.StopsParts (F.creates files.now) (F.opens files.now) (stream_fault fault) words.now plan
         (R.remaining reader.old) (R.remaining reader.new) (E.contents errors.old) (E.contents errors.new)) }
 {
-    let size = plan.opening.size();
+    let size = size_of(&plan);
     let named = words.filters.as_slice();
     match load_filters(files, alloc, named, size, reader, errors) {
         Ok(Some(filters)) => match make_save(files, alloc, &words.save, errors) {

@@ -1,5 +1,5 @@
 -- Each filter that is verified gets its name; the first that is refused is told.
-use Rattle.script_runs.proofs.Named.{gets_name, next_named, stopped_at}
+use Rattle.ncroute.proofs.Loaded.{gets_name, next_named, stopped_at}
 use Rattle.ncroute.specs.Loading.{script_with}
 use Rattle.ncroute.proofs.loading.name_filters.Goals as goal
 
