@@ -22,29 +22,29 @@ use std::time::Duration;
 /// For how many milliseconds the history grows before it is saved again.
 const REST: u64 = 50;
 
-/// What was saved: the saver, and the pass by which it saved. Where no fault ended the saving, it is all that the pass has seen. A
-/// contract sees it as a `SavedView`.
+/// What was saved, of the legal history that a pass of the router has seen: where no fault ended the saving, all of it. A contract sees it
+/// as its saver.
 #[derive(Drop)]
 pub(crate) struct Saved<V: Write, J: Naming> {
     saver: Saver<V>,
-    pass: Pass,
     of: PhantomData<J>,
 }
 
 impl<V: Write, J: Naming> Model for Saved<V, J> {
-    ghost use Rattle.router_daemon.specs.Saves.{IsSaved, SavedView};
+    ghost use Rattle.history_saver.specs.Saved.{SaverView};
+    ghost use Rattle.router_daemon.specs.Saves.{HasSeen};
 
-    ghost Value = { SavedView };
+    ghost Value = { SaverView };
 
-    ghost view = { λ s. record { saver = s.saver; pass = s.pass } };
+    ghost view = { λ s. s.saver };
 
-    ghost invariant = { λ s. IsSaved J.router s.saver s.pass };
+    ghost invariant = { λ s. HasSeen J.router s.saver };
 }
 
 impl<V: Write, J: Naming> Saved<V, J> {
     /// The saver.
     pub(crate) fn saver(self) -> Saver<V>
-        ensures same { result ≡ self.saver }
+        ensures same { result ≡ self }
         ensures whole { result.fault ≡ None → HasWhole J.router.opening J.router.limit result.first result }
     {
         let Saved { saver, .. } = self;
@@ -59,7 +59,7 @@ pub(crate) struct IsIn<V: Write>(pub(crate) Snapshot<V>);
 impl<V: Write, J: Naming> Promise<Saved<V, J>> for IsIn<V> {
     ghost use Rattle.std.specs.Prelude.{◌≡◌};
 
-    ghost kept_by = { λ p s. s.saver.first ≡ V.contents p.0.value };
+    ghost kept_by = { λ p s. s.first ≡ V.contents p.0.value };
 }
 
 /// Sleeps until the history has more entries than are saved, or the router is being closed: whether it is.
@@ -128,14 +128,13 @@ pub(crate) fn save_history<R: Wait + Clock + Drop, V: Write + Drop, J: Naming, E
     file: V,
     ticket: LegalTicket<J>,
 ) -> Saved<V, J>
-    ensures { result.saver.first ≡ V.contents file }
+    ensures { result.first ≡ V.contents file }
 {
     let mut saver = Saver::new(file);
     let mut pass = ticket.pass();
     save_all(&rt, alloc, &shared, &mut saver, &mut pass);
     Saved {
         saver,
-        pass,
         of: PhantomData,
     }
 }
