@@ -10,7 +10,7 @@ use std::io;
 use std::test::Fail;
 
 /// People neither type the input nor read the errors.
-const NO_TERMINAL: Terminals = Terminals {
+pub const NO_TERMINAL: Terminals = Terminals {
     input: false,
     errors: false,
 };
