@@ -2,10 +2,10 @@
 ghost use Rattle.std.specs.Prelude.{◌≡◌};
 ghost use Rattle.std.specs.Prelude.{IfSome};
 ghost use Rattle.router_operator.specs.OperatorView.{IsAt};
-ghost use Rattle.router_daemon.specs.Running.{Operates, operator_of};
+ghost use Rattle.router_daemon.specs.Running.{HasOperator, Operates, operator_of};
 
 use crate::closing::stay;
-use crate::naming::Naming;
+use crate::naming::{LegalTicket, Naming};
 use crate::setting::Filters;
 use crate::shared::Shared;
 use line_protocol::StreamFault;
@@ -58,4 +58,25 @@ pub(crate) fn serve_operator<'a, R: Wait + Clock, I: Read, W: Write, J: Naming, 
         stay(rt, shared);
     }
     answered
+}
+
+/// Answers the operator's lines by a pass that has seen a legal history.
+pub(crate) fn serve_lines<R: Wait + Clock, I: Read, W: Write, J: Naming, E: Write>(
+    rt: &R,
+    alloc: Global,
+    shared: &Shared<J, E>,
+    ticket: LegalTicket<J>,
+    figures: Figures,
+    filters: Filters,
+    reader: &mut I,
+    writer: &mut W,
+) -> Result<u32, StreamFault>
+    requires size { figures.size ≡ J.router.opening.size }
+    requires limit { figures.limit ≡ J.router.limit }
+    ensures { IfSome (I.remaining reader.old) (λ input.
+        HasOperator J.router.opening J.router.limit filters.entries shared.now.nodes.items result input (I.remaining reader.new)
+        (W.contents writer.old) (W.contents writer.new)) }
+{
+    let pass = ticket.pass();
+    serve_operator(rt, alloc, shared, pass, figures, filters, reader, writer)
 }

@@ -9,7 +9,7 @@ use crate::fault::DaemonFault;
 use crate::folder::LinkFolder;
 use crate::naming::{LegalTicket, Naming};
 use crate::opening::open_router;
-use crate::operating::{Figures, serve_operator};
+use crate::operating::{Figures, serve_lines};
 use crate::saving::{IsIn, Saved};
 use crate::setting::{Filters, RouterEnd, Setting};
 use crate::shared::{Shared, shared_of};
@@ -109,10 +109,10 @@ fn serve_all<
     if pass.shares() < 2 {
         return Err(AllocError);
     }
-    let operators = shared.router.split(pass, 1);
+    let operators = LegalTicket::new(shared.router.split(pass, 1));
     let folder = Arc::new(alloc, folder)?;
     start_links::<R, FI, FO, D, J, E>(rt, alloc, &folder, shared, pass, links, common)?;
-    Ok(serve_operator(
+    Ok(serve_lines(
         rt, alloc, shared, operators, figures, filters, reader, writer,
     ))
 }
