@@ -97,7 +97,7 @@ fn push_messages(out: &mut Vec<u8>, messages: &[Message]) -> Result<(), AllocErr
 /// Adds the line of an event by which so many distances changed. Mostly they are few, and the line is put there at once.
 #[inline(always)]
 fn push_done(out: &mut Vec<u8>, changed: u16) -> Result<(), AllocError>
-    ensures ok { OnOk result (out.new.items ≡ out.old.items ++ codes "done " ++ decimal changed ++ 10 ∷ []) }
+    ensures ok { OnOk result (out.new.items ≡ out.old.items ++ (codes "done " ++ (decimal changed ++ 10 ∷ []))) }
     ensures err { OnErr result (StartsWith out.new.items out.old.items) }
 {
     if changed < 10 {
