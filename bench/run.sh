@@ -3,7 +3,8 @@
 # of `ncroute eval`, `run`, `domain` and `check` as a whole, of the machines alone, or of the router alone.
 #
 # usage: bench/run.sh [table|eval|check|machines|instructions|bird|router|callers|script|save|domain]     (without a word: eval and machines)
-#   table prints the first table of README.md: the instructions of eval, check and run on all inputs; with ROUNDS=N their times too
+#   table prints the first table of README.md: the instructions of eval, check and run on all inputs; with ROUNDS=N their times too.
+#     A second word, eval, check or run, has it print the rows of that command alone
 #   instructions counts instructions of the machines with valgrind, in place of their time
 #   callers prints a table of calls through the lock and through a Mutex
 #   bird compares the machine for verified code with BIRD 2.0, where that is installed
@@ -62,7 +63,7 @@ fi
 
 if [ "$wanted" = table ]; then
     need_ncroute
-    "$bench/table.py" "$NCROUTE" "$folder/plain" "${ROUNDS:-0}" "$folder"
+    "$bench/table.py" "$NCROUTE" "$folder/plain" "${ROUNDS:-0}" "$folder" "${@:2}"
     exit
 fi
 

@@ -1,11 +1,12 @@
 #!/usr/bin/env python3
 """Prints how many instructions `ncroute` and the plain program take on each input: the first table of README.md, in Markdown.
 
-usage: table.py NCROUTE PLAIN ROUNDS FOLDER
+usage: table.py NCROUTE PLAIN ROUNDS FOLDER [COMMAND]
 
-FOLDER is where the inputs are written, by `generate.py` and `script.py`. Where the two programs differ on one, in output or exit status, that is
-said and the status is 1; nothing is counted then. Instructions are counted by valgrind, those of the program's start among them. With ROUNDS over
-0 each program is also run so many times on each input, by turns, and the table has the least processor time of each.
+With COMMAND, `eval`, `check` or `run`, the rows of that command alone. FOLDER is where the inputs are written, by `generate.py` and `script.py`.
+Where the two programs differ on one, in output or exit status, that is said and the status is 1; nothing is counted then. Instructions are
+counted by valgrind, those of the program's start among them. With ROUNDS over 0 each program is also run so many times on each input, by turns,
+and the table has the least processor time of each.
 """
 import os
 import subprocess
@@ -48,7 +49,9 @@ def rows():
     for label, kind in RUN:
         for size in SIZES:
             yield "run", f"{label}; {size} nodes", ["script.py", kind, str(size)], f"{kind}_{size}"
-    yield "run", "990,000 lines without filters, eight neighbours; 64 nodes", ["script.py", "messages", "64", "990000"], "million_64"
+    for size in SIZES:
+        label = f"990,000 lines without filters, eight neighbours; {size} nodes"
+        yield "run", label, ["script.py", "messages", str(size), "990000"], f"million_{size}"
 
 
 def written(words, path):
@@ -76,12 +79,14 @@ def cells(programs, rounds, path):
 
 
 def main(words):
-    if len(words) != 4:
+    if not 4 <= len(words) <= 5:
         sys.exit(__doc__)
     programs, rounds, folder = [os.path.abspath(word) for word in words[:2]], int(words[2]), words[3]
     print(f"| Command | Input | proved, instructions | plain | ratio |{' proved, time | plain | ratio |' if rounds else ''}")
     print("|---|---|---|---|---|" + ("---|---|---|" if rounds else ""))
     for command, label, generator, name in rows():
+        if words[4:] not in ([], command.split()[:1]):
+            continue
         path = written(generator, os.path.join(folder, name))
         started = [[program, *command.split()] for program in programs]
         if not agree(*started, path):

@@ -7,4 +7,5 @@ pub mod Growing
 pub mod Going
 pub mod Viewed
 pub mod Ending
+mod PlainLines
 mod Rows

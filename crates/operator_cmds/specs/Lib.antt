@@ -7,6 +7,7 @@ pub mod WordLists
 pub mod CommandView
 pub mod Commands
 pub mod Readings
+pub mod PlainLines
 pub mod Replies
 pub mod Domain
 pub mod Stages

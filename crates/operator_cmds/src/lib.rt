@@ -8,6 +8,7 @@ mod filter;
 mod laws;
 mod look;
 mod name;
+mod plain;
 mod read;
 mod reply;
 mod script;

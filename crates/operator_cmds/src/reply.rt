@@ -1,5 +1,5 @@
 //! What a script answers to a line.
-ghost use Rattle.std.specs.Prelude.{◌≡◌, ◌++◌, flat_map, IfOk, OnOk, OnErr, codes};
+ghost use Rattle.std.specs.Prelude.{◌≡◌, ◌≤◌, [], ◌∷◌, ◌++◌, flat_map, IfOk, OnOk, OnErr, codes, decimal};
 ghost use Rattle.std.specs.Io.{StartsWith};
 ghost use Rattle.operator_cmds.specs.Replies as spec;
 
@@ -40,15 +40,47 @@ pub fn push_via(out: &mut Vec<u8>, via: Via) -> Result<(), AllocError>
     }
 }
 
+/// Adds a byte and a number in decimal digits. Most numbers of answers have at most two, and are written at once.
+#[inline(always)]
+fn push_after(out: &mut Vec<u8>, sign: u8, n: u32) -> Result<(), AllocError>
+    ensures ok { OnOk result (out.new.items ≡ out.old.items ++ sign ∷ decimal n) }
+    ensures err { OnErr result (StartsWith out.new.items out.old.items) }
+{
+    if n < 10 {
+        return out.extend_from_slice(&[sign, b'0' + n as u8]);
+    }
+    if n < 100 {
+        let ten = b'0' + (n / 10) as u8;
+        let one = b'0' + (n % 10) as u8;
+        return out.extend_from_slice(&[sign, ten, one]);
+    }
+    push_long_after(out, sign, n)
+}
+
+/// Adds a byte and a number of three digits or more.
+#[inline(never)]
+fn push_long_after(out: &mut Vec<u8>, sign: u8, n: u32) -> Result<(), AllocError>
+    requires { 100 ≤ n }
+    ensures ok { OnOk result (out.new.items ≡ out.old.items ++ sign ∷ decimal n) }
+    ensures err { OnErr result (StartsWith out.new.items out.old.items) }
+{
+    if n < 1_000 {
+        let tens = n / 10;
+        let (hundred, ten) = (b'0' + (tens / 10) as u8, b'0' + (tens % 10) as u8);
+        let one = b'0' + (n % 10) as u8;
+        return out.extend_from_slice(&[sign, hundred, ten, one]);
+    }
+    out.push(sign)?;
+    push_decimal(out, u64::from(n))
+}
+
 /// Adds a node and a number that is told of it.
 pub(crate) fn push_pair(out: &mut Vec<u8>, node: u16, number: u32) -> Result<(), AllocError>
     ensures ok { OnOk result (out.new.items ≡ out.old.items ++ spec.pair_text node number) }
     ensures err { OnErr result (StartsWith out.new.items out.old.items) }
 {
-    out.push(b' ')?;
-    push_decimal(out, u64::from(node))?;
-    out.push(b':')?;
-    push_decimal(out, u64::from(number))
+    push_after(out, b' ', u32::from(node))?;
+    push_after(out, b':', number)
 }
 
 /// Adds messages, in order.
@@ -59,6 +91,22 @@ fn push_messages(out: &mut Vec<u8>, messages: &[Message]) -> Result<(), AllocErr
     for message in messages {
         push_pair(out, message.dest, u32::from(message.dist))?;
     }
+    Ok(())
+}
+
+/// Adds the line of an event by which so many distances changed. Mostly they are few, and the line is put there at once.
+#[inline(always)]
+fn push_done(out: &mut Vec<u8>, changed: u16) -> Result<(), AllocError>
+    ensures ok { OnOk result (out.new.items ≡ out.old.items ++ (codes "done " ++ (decimal changed ++ 10 ∷ []))) }
+    ensures err { OnErr result (StartsWith out.new.items out.old.items) }
+{
+    if changed < 10 {
+        let digit = b'0' + changed as u8;
+        return out.extend_from_slice(&[b'd', b'o', b'n', b'e', b' ', digit, b'\n']);
+    }
+    out.extend_from_slice(b"done ")?;
+    push_decimal(out, u64::from(changed))?;
+    out.push(b'\n')?;
     Ok(())
 }
 
@@ -73,8 +121,8 @@ pub fn answer_reply(out: &mut Vec<u8>, at: u32, reply: &RouterReply) -> Result<R
             push_decimal(out, u64::from(*session))?;
         }
         RouterReply::Done { changed } => {
-            out.extend_from_slice(b"done ")?;
-            push_decimal(out, u64::from(*changed))?;
+            push_done(out, *changed)?;
+            return Ok(Reply::Answered);
         }
         RouterReply::Messages(messages) => {
             out.extend_from_slice(b"messages")?;

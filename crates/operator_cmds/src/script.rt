@@ -7,6 +7,7 @@ use crate::event::enter;
 use crate::fault::{CommandFault, StateFault};
 use crate::filter::{verify_file, verify_text};
 use crate::look::{answer_history, answer_look};
+use crate::plain::{PlainCommand, read_plain};
 use crate::read::read_command;
 use crate::reply::{confirm, refuse};
 use crate::stage::{Setup, Stage};
@@ -50,10 +51,9 @@ impl Service for Script {
         line: &[u8],
         out: &mut Vec<u8>,
     ) -> Result<Reply, AllocError> {
-        match read_command(alloc, line) {
-            Ok(command) => self.carry_out(alloc, number, command, out),
-            Err(CommandFault::Memory) => Err(AllocError),
-            Err(why) => refuse(out, why.code(), u64::from(number)),
+        match read_plain(line) {
+            Some(plain) => self.carry_out_plain(alloc, number, plain, out),
+            None => self.answer_words(alloc, number, line, out),
         }
     }
 }
@@ -68,6 +68,7 @@ impl Script {
     ghost use Rattle.operator_cmds.specs.Domain.{HasFitNumbers, IsDomain};
     ghost use Rattle.operator_cmds.specs.Entries.{open_journal};
     ghost use Rattle.operator_cmds.specs.Looks.{history_text, looked};
+    ghost use Rattle.operator_cmds.specs.PlainLines.{plain_view};
     ghost use Rattle.operator_cmds.specs.Replies.{Answers, answered};
     ghost use Rattle.operator_cmds.specs.Script as spec;
     ghost use Rattle.operator_cmds.specs.Stages.{stage_of, session_in, size_in};
@@ -135,6 +136,52 @@ impl Script {
         Ok(())
     }
 
+    /// Carries out the command of a line in the usual spelling, and answers it.
+    #[inline(always)]
+    fn carry_out_plain(
+        &mut self,
+        alloc: Global,
+        number: u32,
+        plain: PlainCommand,
+        out: &mut Vec<u8>,
+    ) -> Result<Reply, AllocError>
+        ensures ok { IfOk result (Answers (λ answer. spec.AnswersCommand (script_of self.old) number (plain_view plain) answer
+            (script_of self.new)) out.old.items out.new.items) }
+        ensures err { OnErr result (StartsWith out.new.items out.old.items) }
+    {
+        match plain {
+            PlainCommand::Receive(node, dest, dist) => {
+                let event = Event::Receive(self.stage.session(node), dest, dist);
+                self.enter(alloc, number, event, out)
+            }
+            PlainCommand::Take(node) => {
+                let event = Event::Take(self.stage.session(node), u16::MAX);
+                self.enter(alloc, number, event, out)
+            }
+            PlainCommand::Show(node) => self.enter(alloc, number, Event::Show(node), out),
+        }
+    }
+
+    /// Answers a line that is read word by word.
+    #[inline(never)]
+    fn answer_words(
+        &mut self,
+        alloc: Global,
+        number: u32,
+        line: &[u8],
+        out: &mut Vec<u8>,
+    ) -> Result<Reply, AllocError>
+        ensures ok { IfOk result (Answers (λ answer. spec.AnswersLine (script_of self.old) number line.now answer
+            (script_of self.new)) out.old.items out.new.items) }
+        ensures err { OnErr result (StartsWith out.new.items out.old.items) }
+    {
+        match read_command(alloc, line) {
+            Ok(command) => self.carry_out(alloc, number, command, out),
+            Err(CommandFault::Memory) => Err(AllocError),
+            Err(why) => refuse(out, why.code(), u64::from(number)),
+        }
+    }
+
     /// Carries out the command of a line, and answers it.
     fn carry_out(
         &mut self,
@@ -165,14 +212,15 @@ impl Script {
                 self.enter(alloc, number, event, out)
             }
             Command::Receive { node, dest, dist } => {
-                let event = Event::Receive(self.stage.session(node), dest, dist);
-                self.enter(alloc, number, event, out)
+                let plain = PlainCommand::Receive(node, dest, dist);
+                self.carry_out_plain(alloc, number, plain, out)
             }
             Command::Take(node) => {
-                let event = Event::Take(self.stage.session(node), u16::MAX);
-                self.enter(alloc, number, event, out)
+                self.carry_out_plain(alloc, number, PlainCommand::Take(node), out)
             }
-            Command::Show(node) => self.enter(alloc, number, Event::Show(node), out),
+            Command::Show(node) => {
+                self.carry_out_plain(alloc, number, PlainCommand::Show(node), out)
+            }
             Command::Look(look) => self.look(alloc, number, look, out),
             Command::History(from) => self.tell_history(alloc, number, from, out),
         }
