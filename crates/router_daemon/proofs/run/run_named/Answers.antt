@@ -2,6 +2,7 @@ use Rattle.std.proofs.Common.{◌≡◌, ◌∙◌, ap, map, List, ℕ}
 use Rattle.std.proofs.lemmas.Result.{IfErr-weaker, IfOk-weaker}
 use Rattle.std.specs.Prelude.{IfSome}
 use Rattle.router_options.specs.PlanView.{PlanView}
+use Rattle.router_options.specs.declared.parts.LinkFiles.{LinkFiles}
 use Rattle.router_daemon.specs.Running.{HasOperator}
 use Rattle.router_daemon.proofs.Running.{run_fails, same_operator}
 use Rattle.router_daemon.proofs.run.run_named.Goals as goal
@@ -16,7 +17,10 @@ returns-clause-failed g c =
     let holds = g.W.Write.contents c.serve_all-ran.new.writer in
     let nodes = c.in_ok-shared.shared.value.nodes.items in
     let links : List ℕ = map (λ link. link.node) plan.links in
-    let are : nodes ≡ links = cc in
+    let sliced : c.as_slice.result.now ≡ plan.links = c.as_slice.ensures.value ∙ ap (λ (p : PlanView). p.links) c.plan.view_is in
+    let are : nodes ≡ links =
+    ap (λ shared. shared.nodes.items) c.in_ok-shared.ensures.ok ∙ c.in_ok-shared_of.ensures
+    ∙ ap (λ (files : List LinkFiles). map (λ link. link.node) files) sliced in
     IfErr-weaker c.end_of.result _ _
     (λ why is. run_fails (λ answered. IfSome known (λ input. HasOperator plan.opening plan.limit names links answered input left held holds))
     ((c.serve_all-ran.new.reader ≡ c.args.reader.now) × (c.serve_all-ran.new.writer ≡ c.args.writer.now))
