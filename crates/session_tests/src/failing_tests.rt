@@ -1,11 +1,12 @@
 //! Links that fail at each of their calls, and a history that fills up: what a reader entered, and what a writer has left.
 
-use crate::fixtures::{OpenGate, bring_up, expect_entered, message, messages, open};
-use crate::session_tests::{WriterRow, end, expect_written, writes};
+use crate::fixtures::{OpenGate, end, expect_entered, messages, read_alone};
+use crate::session_tests::{Writer, Wrote, expect_writers};
+use expectations::expect;
+use netchange_core::Message;
 use route_history::Journal;
-use route_session::{Cause, MemoryLink, ReadEnd, read_session};
+use route_session::{Cause, MemoryLink, ReadEnd};
 use std::alloc::Global;
-use std::process::Abort;
 use std::rt::Clock;
 use std::sync::Wait;
 use std::test::Fail;
@@ -13,8 +14,11 @@ use std::test::Fail;
 /// What a reader's link hands out, before it has ended.
 const TOLD: [(u16, u16); 4] = [(1, 0), (2, 1), (3, 2), (1, 1)];
 
-/// How a reader of that link ends at node 0 of 4, in session 1, with a history of so many entries at most, if the link fails at
-/// this call; and the journal.
+/// A reader of that link at node 0 of 4, in session 1: the limit of the history, the call at which the link fails, why the reader
+/// ends, how many messages it entered, and which message is lost.
+type Row = (u32, Option<u64>, Cause, u32, Option<Message>);
+
+/// How a reader of that link ends, and the journal.
 fn read<R: Wait + Clock>(
     rt: &R,
     alloc: Global,
@@ -22,70 +26,80 @@ fn read<R: Wait + Clock>(
     fails_at: Option<u64>,
 ) -> Result<(ReadEnd, Journal), Fail> {
     let told = messages(alloc, &TOLD)?;
-    let (router, mut pass) = open(alloc, 4, limit)?;
-    bring_up(rt, &router, &mut pass, 1)?;
     let mut link = MemoryLink::new(alloc, told, fails_at);
-    let end = read_session(rt, &router, &mut pass, 1, &mut link, &OpenGate, 0, 10);
-    match router.close(pass) {
-        Ok(journal) => Ok((end, journal)),
-        Err(_) => Err(Fail::from("the router is closed")),
-    }
+    read_alone(rt, alloc, limit, 1, &mut link, &OpenGate, 10)
 }
 
-/// Asserts that such a reader ends so, and that what it entered is what was handed out before, in order.
-fn expect_read<R: Wait + Clock + Abort>(
+/// Expects how a reader ends, and that the Up and the first so many messages were entered, in order.
+fn expect_read<R: Wait + Clock>(
     rt: &R,
     alloc: Global,
-    limit: u32,
-    fails_at: Option<u64>,
-    wanted: ReadEnd,
+    (limit, fails_at, cause, entered, lost): Row,
 ) -> Result<(), Fail> {
-    let entered = wanted.entered as usize;
-    let before = messages(alloc, TOLD.get(..entered).ok_or("at most four messages")?)?;
-    let (end, journal) = read(rt, alloc, limit, fails_at)?;
-    assert!(rt; end == wanted && journal.entries().len() == entered.saturating_add(1));
-    expect_entered(rt, alloc, &journal, 1, before.as_slice())
+    let (found, journal) = read(rt, alloc, limit, fails_at)?;
+    expect(found == end(cause, entered, lost), "how a reader ends")?;
+    expect_first(alloc, &journal, entered as usize)
+}
+
+/// Expects that a journal has the Up and the first so many messages, in order.
+fn expect_first(alloc: Global, journal: &Journal, count: usize) -> Result<(), Fail> {
+    let entries = journal.entries().len();
+    expect(
+        entries == count.saturating_add(1),
+        "how many entries there are",
+    )?;
+    let first = TOLD.get(..count).ok_or("at most four messages")?;
+    let first = messages(alloc, first)?;
+    expect_entered(alloc, journal, 1, first.as_slice())
+}
+
+/// Expects how readers end.
+fn expect_rows<R: Wait + Clock>(rt: &R, alloc: Global, rows: &[Row]) -> Result<(), Fail> {
+    for row in rows {
+        expect_read(rt, alloc, *row)?;
+    }
+    Ok(())
 }
 
 /// The link is asked five times: for four messages, and once more. A failure at a sixth call never comes.
+const FAILING: [Row; 6] = [
+    (100, Some(1), Cause::LinkFault, 0, None),
+    (100, Some(2), Cause::LinkFault, 1, None),
+    (100, Some(3), Cause::LinkFault, 2, None),
+    (100, Some(4), Cause::LinkFault, 3, None),
+    (100, Some(5), Cause::LinkFault, 4, None),
+    (100, Some(6), Cause::LinkEnded, 4, None),
+];
+
 #[test]
 fn a_readers_link_fails_at_each_call(rt: HostRuntime) -> Result<(), Fail> {
-    for call in 1..=5u32 {
-        let wanted = end(Cause::LinkFault, call - 1, None);
-        expect_read(&rt, rt.alloc(), 100, Some(u64::from(call)), wanted)?;
-    }
-    let wanted = end(Cause::LinkEnded, 4, None);
-    expect_read(&rt, rt.alloc(), 100, Some(6), wanted)
+    expect_rows(&rt, rt.alloc(), &FAILING)
 }
 
 /// The history has room for the Up and so many messages; the next one is lost.
+const FILLING: [Row; 5] = [
+    (1, None, Cause::Full, 0, Some(Message { dest: 1, dist: 0 })),
+    (2, None, Cause::Full, 1, Some(Message { dest: 2, dist: 1 })),
+    (3, None, Cause::Full, 2, Some(Message { dest: 3, dist: 2 })),
+    (4, None, Cause::Full, 3, Some(Message { dest: 1, dist: 1 })),
+    (5, None, Cause::LinkEnded, 4, None),
+];
+
 #[test]
 fn a_history_fills_up_under_a_reader(rt: HostRuntime) -> Result<(), Fail> {
-    let lost = [message(1, 0), message(2, 1), message(3, 2), message(1, 1)];
-    let mut entered = 0u32;
-    for message in lost {
-        let wanted = end(Cause::Full, entered, Some(message));
-        expect_read(&rt, rt.alloc(), entered.saturating_add(1), None, wanted)?;
-        entered = entered.saturating_add(1);
-    }
-    let wanted = end(Cause::LinkEnded, 4, None);
-    expect_read(&rt, rt.alloc(), 5, None, wanted)
+    expect_rows(&rt, rt.alloc(), &FILLING)
 }
 
 /// The writer takes four messages, in one turn.
+const WRITERS: [(Writer, Wrote); 5] = [
+    (Writer(4, 100, 1, Some(1), 9), Wrote(Cause::LinkFault, 0, 4)),
+    (Writer(4, 100, 1, Some(2), 9), Wrote(Cause::LinkFault, 1, 3)),
+    (Writer(4, 100, 1, Some(3), 9), Wrote(Cause::LinkFault, 2, 2)),
+    (Writer(4, 100, 1, Some(4), 9), Wrote(Cause::LinkFault, 3, 1)),
+    (Writer(4, 100, 1, Some(5), 9), Wrote(Cause::Turns, 4, 0)),
+];
+
 #[test]
 fn a_writers_link_fails_at_each_call(rt: HostRuntime) -> Result<(), Fail> {
-    for call in 1..=4usize {
-        let sent = call - 1;
-        let row = WriterRow {
-            fails_at: Some(call as u64),
-            ..writes(9, Cause::LinkFault, sent as u64, 4 - sent)
-        };
-        expect_written(&rt, rt.alloc(), &row)?;
-    }
-    let row = WriterRow {
-        fails_at: Some(5),
-        ..writes(9, Cause::Turns, 4, 0)
-    };
-    expect_written(&rt, rt.alloc(), &row)
+    expect_writers(&rt, rt.alloc(), &WRITERS)
 }

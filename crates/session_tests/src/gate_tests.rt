@@ -1,8 +1,8 @@
 //! Sessions run at the same time, and ask the gate before each turn.
 
-use crate::fixtures::{bring_up, open};
-use crate::run_tests::{JobRow, expect_read, jobs};
-use route_session::{Cause, Gate, Role, run_sessions};
+use crate::run_tests::{JobRow, has_read, run};
+use expectations::{expect, expect_number};
+use route_session::{Cause, Finished, Gate, MemoryLink, Role};
 use std::rt::Clock;
 use std::sync::atomic::{AtomicBool, AtomicU64, Ordering};
 use std::sync::{Mutex, Wait};
@@ -50,27 +50,32 @@ impl Gate for MeetingGate {
     }
 }
 
+/// Two readers of two sessions, each with one message.
+const READERS: [JobRow; 2] = [(Role::Reader, 1, &[(1, 0)]), (Role::Reader, 2, &[(2, 0)])];
+
+/// Whether two readers entered one message each.
+fn have_read(finished: &[Finished<MemoryLink>]) -> bool {
+    match finished {
+        [one, two] => {
+            has_read(&one.ending, Cause::LinkEnded, 1) && has_read(&two.ending, Cause::LinkEnded, 1)
+        }
+        _ => false,
+    }
+}
+
 /// The gate row: two readers of two sessions, each with one message, both get through a gate that lets one go only once the
 /// other has asked.
 #[test]
 fn jobs_run_at_the_same_time(rt: HostRuntime) -> Result<(), Fail> {
-    let alloc = rt.alloc();
-    let (router, mut pass) = open(alloc, 4, 100)?;
-    bring_up(&rt, &router, &mut pass, 2)?;
-    let rows: [JobRow; 2] = [(Role::Reader, 1, &[(1, 0)]), (Role::Reader, 2, &[(2, 0)])];
-    let jobs = jobs(alloc, &router, &mut pass, &rows)?;
     let gate = MeetingGate {
         asks: [AtomicU64::new(0), AtomicU64::new(0)],
         has_given_up: AtomicBool::new(false),
     };
-    let finished = run_sessions(&rt, alloc, &router, jobs, &gate, 10)?;
-    assert!(&rt; finished.len() == 2);
-    for one in &finished {
-        expect_read(&rt, &one.ending, Cause::LinkEnded, 1);
-    }
-    assert!(&rt; gate.asks(0) > 0 && gate.asks(1) > 0);
-    assert!(&rt; !gate.has_given_up.load(Ordering::SeqCst));
-    Ok(())
+    let ran = run(&rt, rt.alloc(), 100, 2, &READERS, 2, &gate, 10)?;
+    expect(have_read(&ran.finished), "both readers get through")?;
+    let have_asked = gate.asks(0) > 0 && gate.asks(1) > 0;
+    let is_in_time = !gate.has_given_up.load(Ordering::SeqCst);
+    expect(have_asked && is_in_time, "both readers ask")
 }
 
 /// A gate that notes who asked, and lets all go.
@@ -85,34 +90,47 @@ impl Gate for NotingGate {
     }
 }
 
+/// Three writers.
+const WRITERS: [JobRow; 3] = [
+    (Role::Writer, 1, &[]),
+    (Role::Writer, 2, &[]),
+    (Role::Writer, 3, &[]),
+];
+
+/// The turns that a job asked for, if it asked for them in order.
+fn turns_of(asked: &[(u32, u32)], number: u32) -> Option<u32> {
+    let mut next: u32 = 0;
+    for (job, turn) in asked {
+        if *job == number {
+            if *turn != next {
+                return None;
+            }
+            next = next.saturating_add(1);
+        }
+    }
+    Some(next)
+}
+
+/// Expects that each of three jobs asked for five turns, in order.
+fn expect_asked(asked: &[(u32, u32)]) -> Result<(), Fail> {
+    expect_number(asked.len() as u64, 15)?;
+    for number in 0..3 {
+        expect(
+            turns_of(asked, number) == Some(5),
+            "a job asks for its turns",
+        )?;
+    }
+    Ok(())
+}
+
 /// Each job asks before each of its turns, in order, under its own number.
 #[test]
 fn each_turn_is_asked_for(rt: HostRuntime) -> Result<(), Fail> {
-    let alloc = rt.alloc();
-    let (router, mut pass) = open(alloc, 4, 100)?;
-    bring_up(&rt, &router, &mut pass, 3)?;
     let gate = NotingGate {
-        asked: Mutex::new(Vec::new(alloc)),
+        asked: Mutex::new(Vec::new(rt.alloc())),
     };
-    let rows: [JobRow; 3] = [
-        (Role::Writer, 1, &[]),
-        (Role::Writer, 2, &[]),
-        (Role::Writer, 3, &[]),
-    ];
-    let jobs = jobs(alloc, &router, &mut pass, &rows)?;
-    let finished = run_sessions(&rt, alloc, &router, jobs, &gate, 5)?;
-    assert!(&rt; finished.len() == 3);
-    let asked = gate.asked.lock(&rt);
-    assert!(&rt; asked.len() == 15);
-    for number in 0..3u32 {
-        let mut next = 0;
-        for (job, turn) in asked.iter() {
-            if *job == number {
-                assert!(&rt; *turn == next);
-                next = turn.saturating_add(1);
-            }
-        }
-        assert!(&rt; next == 5);
-    }
-    Ok(())
+    let ran = run(&rt, rt.alloc(), 100, 3, &WRITERS, 3, &gate, 5)?;
+    expect_number(ran.finished.len() as u64, 3)?;
+    let asked = gate.asked.into_inner();
+    expect_asked(&asked)
 }

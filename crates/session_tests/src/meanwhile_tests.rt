@@ -1,10 +1,10 @@
 //! What operators do meanwhile, in a thread of their own: they take a reader's session down and up, and they replace filters.
 
-ghost use Rattle.std.specs.Prelude.{IfSome};
+ghost use Rattle.std.specs.Prelude.{◌×◌, IfOk};
 ghost use Rattle.slot_lock.specs.Held.{IsPassOf};
 
-use crate::fixtures::{OpenGate, bring_up, expect_entered, message, messages, open};
-use crate::session_tests::end;
+use crate::fixtures::{OpenGate, end, expect_entered, message, messages, opened};
+use expectations::{expect, expect_number, expect_str};
 use filter_code::{Code, Instr};
 use filter_verifier::{Verified, verify};
 use netchange_core::{Event, Message};
@@ -17,6 +17,7 @@ use std::sync::atomic::{AtomicBool, Ordering};
 use std::sync::{Arc, Wait};
 use std::test::Fail;
 use std::thread;
+use std::thread::Threads;
 use std::time::Duration;
 
 /// Waits until a flag is set, some ten seconds at most: whether it was.
@@ -35,6 +36,15 @@ fn is_set_in_time<R: Clock>(rt: &R, flag: &AtomicBool) -> bool {
 struct HoldingGate {
     is_reached: AtomicBool,
     is_open: AtomicBool,
+}
+
+impl HoldingGate {
+    fn new() -> HoldingGate {
+        HoldingGate {
+            is_reached: AtomicBool::new(false),
+            is_open: AtomicBool::new(false),
+        }
+    }
 }
 
 impl Gate for HoldingGate {
@@ -116,42 +126,68 @@ show 2: route 4 none
 take 2 9: messages 0:0 1:4 2:4 3:4
 ";
 
-#[test]
-fn a_held_reader_goes_on_in_an_old_session(rt: HostRuntime) -> Result<(), Fail> {
-    let alloc = rt.alloc();
-    let (router, mut pass) = open(alloc, 4, 100)?;
-    bring_up(&rt, &router, &mut pass, 1)?;
+/// A router of 4 nodes whose neighbour 1 is up in session 1, with a history of so many entries at most, and its passes: one that has
+/// most shares, and another.
+fn opened_for_two<R: Wait>(rt: &R, alloc: Global, limit: u32) -> Result<(Router, Pass, Pass), Fail>
+    ensures { IfOk result (λ r. IsPassOf r.0 r.1 × IsPassOf r.0 r.2) }
+{
+    let (router, mut pass) = opened(rt, alloc, 4, limit, 1)?;
     if pass.shares() < 2 {
         return Err(Fail::from("two shares"));
     }
     let other = router.split(&mut pass, 1);
-    let waiting = messages(alloc, &[(1, 0), (2, 1), (3, 2), (1, 1)])?;
-    let gate = HoldingGate {
-        is_reached: AtomicBool::new(false),
-        is_open: AtomicBool::new(false),
-    };
+    Ok((router, pass, other))
+}
+
+/// Has a reader held at a gate until its session was taken down and up: the pass that both passes are joined in.
+fn restart_under_reader<R: Threads + Wait + Clock + Sync>(
+    rt: &R,
+    alloc: Global,
+    router: &Router,
+    pass: Pass,
+    other: Pass,
+    waiting: Vec<Message>,
+) -> Result<Pass, Fail>
+    requires { IsPassOf router.now pass × IsPassOf router.now other }
+    ensures { IfOk result (λ p. IsPassOf router.now p) }
+{
+    let gate = HoldingGate::new();
     let ((mut pass, ended), (other, is_restarted)) = thread::join(
-        &rt,
-        || read(&rt, alloc, &router, pass, waiting, &gate),
-        || restart(&rt, &router, other, &gate),
+        rt,
+        || read(rt, alloc, router, pass, waiting, &gate),
+        || restart(rt, router, other, &gate),
     );
-    assert!(&rt; is_restarted);
-    assert!(&rt; ended == end(Cause::Stale, 3, None));
     router.join(&mut pass, other);
-    look(&rt, &router, &mut pass);
-    let Ok(journal) = router.close(pass) else {
-        return Err(Fail::from("the router is closed"));
-    };
-    assert!(&rt; text_of(alloc, &journal)?.as_str() == RESTARTED);
-    Ok(())
+    let is_so = is_restarted && ended == end(Cause::Stale, 3, None);
+    expect(is_so, "a held reader goes on in an old session")?;
+    Ok(pass)
+}
+
+/// The journal of a router whose session was taken down and up under a reader.
+fn restarted<R: Threads + Wait + Clock + Sync>(rt: &R, alloc: Global) -> Result<Journal, Fail> {
+    let waiting = messages(alloc, &[(1, 0), (2, 1), (3, 2), (1, 1)])?;
+    let (router, pass, other) = opened_for_two(rt, alloc, 100)?;
+    let mut pass = restart_under_reader(rt, alloc, &router, pass, other, waiting)?;
+    look(rt, &router, &mut pass);
+    Ok(router.close(pass)?)
+}
+
+#[test]
+fn a_held_reader_goes_on_in_an_old_session(rt: HostRuntime) -> Result<(), Fail> {
+    let journal = restarted(&rt, rt.alloc())?;
+    let text = text_of(rt.alloc(), &journal)?;
+    expect_str(text.as_str(), RESTARTED)
+}
+
+/// The code of one instruction.
+fn code(alloc: Global, instr: Instr) -> Result<Code, Fail> {
+    let instrs = [instr].to_vec(alloc)?;
+    Ok(Code::new(0, Vec::new(alloc), Vec::new(alloc), instrs).ok_or("a code")?)
 }
 
 /// A filter for domains of 4 nodes that ends at once.
 fn filter(alloc: Global, instr: Instr) -> Result<Arc<Verified>, Fail> {
-    let code = Code::new(0, Vec::new(alloc), Vec::new(alloc), [instr].to_vec(alloc)?).ok_or(
-        "a code",
-    )?;
-    match verify(alloc, code, 4) {
+    match verify(alloc, code(alloc, instr)?, 4) {
         Ok(verified) => Ok(Arc::new(alloc, verified)?),
         Err((_, fault)) => Err(Fail::from(fault)),
     }
@@ -164,45 +200,69 @@ fn replace<R: Wait>(
     mut pass: Pass,
     filters: &[Arc<Verified>; 2],
     count: usize,
-) -> Option<Pass>
+) -> Result<Pass, Fail>
     requires { IsPassOf router.now pass }
-    ensures { IfSome result (λ p. IsPassOf router.now p) }
+    ensures { IfOk result (λ p. IsPassOf router.now p) }
 {
     for turn in 0..count {
-        let filter = filters[turn % 2].clone().ok()?;
-        router
-            .call(rt, &mut pass, Event::SetImport(1, filter))
-            .ok()?;
+        let filter = filters[turn % 2].clone()?;
+        router.call(rt, &mut pass, Event::SetImport(1, filter))?;
     }
-    Some(pass)
+    Ok(pass)
+}
+
+/// Has a reader run while 100 filters are set: how it ended, and the pass that both passes are joined in.
+fn replace_under_reader<R: Threads + Wait + Clock + Sync>(
+    rt: &R,
+    alloc: Global,
+    router: &Router,
+    pass: Pass,
+    other: Pass,
+    filters: &[Arc<Verified>; 2],
+    waiting: Vec<Message>,
+) -> Result<(ReadEnd, Pass), Fail>
+    requires { IsPassOf router.now pass × IsPassOf router.now other }
+    ensures { IfOk result (λ r. IsPassOf router.now r.1) }
+{
+    let ((mut pass, ended), replaced) = thread::join(
+        rt,
+        || read(rt, alloc, router, pass, waiting, &OpenGate),
+        || replace(rt, router, other, filters, 100),
+    );
+    router.join(&mut pass, replaced?);
+    Ok((ended, pass))
+}
+
+/// How a reader ends under which filters are replaced, and the journal.
+fn replaced<R: Threads + Wait + Clock + Sync>(
+    rt: &R,
+    alloc: Global,
+    waiting: Vec<Message>,
+) -> Result<(ReadEnd, Journal), Fail> {
+    let filters = [filter(alloc, Instr::Reject)?, filter(alloc, Instr::Accept)?];
+    let (router, pass, other) = opened_for_two(rt, alloc, 1_000)?;
+    let (ended, pass) = replace_under_reader(rt, alloc, &router, pass, other, &filters, waiting)?;
+    Ok((ended, router.close(pass)?))
+}
+
+/// 200 messages of nodes 1 to 3.
+fn many_messages(alloc: Global) -> Result<Vec<Message>, Fail> {
+    let mut told = Vec::new(alloc);
+    for k in 0..200u16 {
+        told.push(message(1 + k % 3, k % 5))?;
+    }
+    Ok(told)
 }
 
 /// 200 messages in one thread and 100 filters in another are in one history with the Up, each message once and in order.
 #[test]
 fn filters_are_replaced_under_a_reader(rt: HostRuntime) -> Result<(), Fail> {
-    let alloc = rt.alloc();
-    let (router, mut pass) = open(alloc, 4, 1_000)?;
-    bring_up(&rt, &router, &mut pass, 1)?;
-    if pass.shares() < 2 {
-        return Err(Fail::from("two shares"));
-    }
-    let other = router.split(&mut pass, 1);
-    let filters = [filter(alloc, Instr::Reject)?, filter(alloc, Instr::Accept)?];
-    let mut told = Vec::new(alloc);
-    for k in 0..200u16 {
-        told.push(message(1 + k % 3, k % 5))?;
-    }
-    let waiting = told.as_slice().to_vec(alloc)?;
-    let ((mut pass, ended), replaced) = thread::join(
-        &rt,
-        || read(&rt, alloc, &router, pass, waiting, &OpenGate),
-        || replace(&rt, &router, other, &filters, 100),
-    );
-    assert!(&rt; ended == end(Cause::LinkEnded, 200, None));
-    router.join(&mut pass, replaced.ok_or("a filter was refused")?);
-    let Ok(journal) = router.close(pass) else {
-        return Err(Fail::from("the router is closed"));
-    };
-    assert!(&rt; journal.entries().len() == 301);
-    expect_entered(&rt, alloc, &journal, 1, told.as_slice())
+    let told = many_messages(rt.alloc())?;
+    let (ended, journal) = replaced(&rt, rt.alloc(), told.as_slice().to_vec(rt.alloc())?)?;
+    expect(
+        ended == end(Cause::LinkEnded, 200, None),
+        "how a reader ends",
+    )?;
+    expect_number(journal.entries().len() as u64, 301)?;
+    expect_entered(rt.alloc(), &journal, 1, told.as_slice())
 }

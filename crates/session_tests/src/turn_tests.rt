@@ -1,8 +1,11 @@
 //! Sessions use up all their turns, however many these are and whatever the link and the router answer.
 
-use crate::fixtures::{bring_up, message, open};
+use crate::fixtures::{message, opened, read_alone};
+use expectations::{expect, expect_number};
 use netchange_core::Message;
-use route_session::{Cause, Gate, Got, Link, LinkFault, MemoryLink, read_session, write_session};
+use route_history::Journal;
+use route_session::{Cause, Gate, Got, Link, LinkFault, MemoryLink, WriteEnd, write_session};
+use std::alloc::Global;
 use std::rt::Clock;
 use std::sync::Wait;
 use std::sync::atomic::{AtomicU64, Ordering};
@@ -61,36 +64,56 @@ impl Link for PausingLink {
     }
 }
 
-/// A reader of 999 turns, of which the gate holds back 333: at the others the link hands out a message or has none, by turns. Some
-/// of the messages have a distance above the size of the domain, 4.
-#[test]
-fn a_reader_uses_up_its_turns(rt: HostRuntime) -> Result<(), Fail> {
-    let alloc = rt.alloc();
-    let (router, mut pass) = open(alloc, 4, 1_000)?;
-    bring_up(&rt, &router, &mut pass, 1)?;
-    let gate = CountingGate::new();
+/// Has a reader of 999 turns run at a gate: how often its link was asked, and the journal.
+fn read_long<R: Wait + Clock>(
+    rt: &R,
+    alloc: Global,
+    gate: &CountingGate,
+) -> Result<(u64, Journal), Fail> {
     let mut link = PausingLink {
         asks: 0,
         is_closed: false,
     };
-    let end = read_session(&rt, &router, &mut pass, 1, &mut link, &gate, 0, 999);
-    assert!(&rt; end.cause == Cause::Turns && end.entered == 333 && end.lost.is_none());
-    assert!(&rt; gate.asks.load(Ordering::SeqCst) == 999 && link.asks == 666);
-    assert!(&rt; router.close(pass)?.entries().len() == 334);
-    Ok(())
+    let (end, journal) = read_alone(rt, alloc, 1_000, 1, &mut link, gate, 999)?;
+    let is_so = end.cause == Cause::Turns && end.entered == 333 && end.lost.is_none();
+    expect(is_so, "a reader of 999 turns")?;
+    Ok((link.asks, journal))
+}
+
+/// A reader of 999 turns, of which the gate holds back 333: at the others the link hands out a message or has none, by turns. Some
+/// of the messages have a distance above the size of the domain, 4.
+#[test]
+fn a_reader_uses_up_its_turns(rt: HostRuntime) -> Result<(), Fail> {
+    let gate = CountingGate::new();
+    let (asks, journal) = read_long(&rt, rt.alloc(), &gate)?;
+    expect_number(gate.asks.load(Ordering::SeqCst), 999)?;
+    expect_number(asks, 666)?;
+    expect_number(journal.entries().len() as u64, 334)
+}
+
+/// The end of a writer of 999 turns, how many messages its link was given, and the journal.
+fn write_long<R: Wait + Clock>(
+    rt: &R,
+    alloc: Global,
+    gate: &CountingGate,
+) -> Result<(WriteEnd, u64, Journal), Fail> {
+    let (router, mut pass) = opened(rt, alloc, 4, 1_000, 1)?;
+    let mut link = MemoryLink::new(alloc, Vec::new(alloc), None);
+    let end = write_session(rt, alloc, &router, &mut pass, 1, &mut link, gate, 0, 999);
+    let given = link.given().len() as u64;
+    match router.close(pass) {
+        Ok(journal) => Ok((end, given, journal)),
+        Err(_) => Err(Fail::from("the router is closed")),
+    }
 }
 
 /// A writer of 999 turns: at each that the gate lets go it takes from the queue, which is empty after the first.
 #[test]
 fn a_writer_uses_up_its_turns(rt: HostRuntime) -> Result<(), Fail> {
-    let alloc = rt.alloc();
-    let (router, mut pass) = open(alloc, 4, 1_000)?;
-    bring_up(&rt, &router, &mut pass, 1)?;
     let gate = CountingGate::new();
-    let mut link = MemoryLink::new(alloc, Vec::new(alloc), None);
-    let end = write_session(&rt, alloc, &router, &mut pass, 1, &mut link, &gate, 0, 999);
-    assert!(&rt; end.cause == Cause::Turns && end.sent == link.given().len() as u64);
-    assert!(&rt; gate.asks.load(Ordering::SeqCst) == 999);
-    assert!(&rt; router.close(pass)?.entries().len() == 667);
-    Ok(())
+    let (end, given, journal) = write_long(&rt, rt.alloc(), &gate)?;
+    expect(end.cause == Cause::Turns, "a writer of 999 turns")?;
+    expect_number(end.sent, given)?;
+    expect_number(gate.asks.load(Ordering::SeqCst), 999)?;
+    expect_number(journal.entries().len() as u64, 667)
 }
