@@ -16,17 +16,19 @@ pub fn fault_of(alloc: Global, bytes: &[u8]) -> Option<FileFault> {
     }
 }
 
+/// The smallest files, and their instructions.
+const SMALLEST: [(&[u8], &[Instr]); 4] = [
+    (b"NCF1\0\0\0\0", &[]),
+    (b"NCF1\0\0\0\x01\x70", &[Instr::Accept]),
+    (b"NCF2\0\0\0\0\0", &[]),
+    (b"NCF2\0\0\0\0\x01\x70", &[Instr::Accept]),
+];
+
 #[test]
 fn the_smallest_files(rt: HostRuntime) -> Result<(), Fail> {
-    let rows: [(&[u8], &[Instr]); 4] = [
-        (b"NCF1\0\0\0\0", &[]),
-        (b"NCF1\0\0\0\x01\x70", &[Instr::Accept]),
-        (b"NCF2\0\0\0\0\0", &[]),
-        (b"NCF2\0\0\0\0\x01\x70", &[Instr::Accept]),
-    ];
-    for (bytes, instrs) in rows {
+    for (bytes, instrs) in &SMALLEST {
         let code = read_code(rt.alloc(), bytes)?;
-        assert!(rt; code.instrs() == instrs);
+        expect(code.instrs() == *instrs, "the instructions of a file")?;
     }
     Ok(())
 }
@@ -110,39 +112,76 @@ fn instructions() -> Option<[Instr; 29]> {
     Some(instrs)
 }
 
+/// Whether a set has that pattern.
+fn has_pattern(set: &PatternSet) -> bool {
+    match pattern() {
+        Some(pattern) => set.patterns() == [pattern].as_slice(),
+        None => false,
+    }
+}
+
+/// Whether a set has those ranges.
+fn has_ranges(set: &IntSet) -> bool {
+    match ranges() {
+        Some(ranges) => set.ranges() == ranges.as_slice(),
+        None => false,
+    }
+}
+
+/// Whether a code has ten locals, that set of patterns, that set of ints, and these instructions.
+fn is_everything(code: &Code, instrs: &[Instr]) -> bool {
+    match (code.sets(), code.int_sets()) {
+        ([set], [int_set]) => {
+            has_pattern(set)
+                && has_ranges(int_set)
+                && code.locals() == 10
+                && code.instrs() == instrs
+        }
+        _ => false,
+    }
+}
+
 #[test]
 fn everything_is_read(rt: HostRuntime) -> Result<(), Fail> {
     let instrs = instructions().ok_or("a prefix of 16 bits")?;
-    let pattern = pattern().ok_or("a pattern")?;
-    let ranges = ranges().ok_or("two ranges")?;
     let code = read_code(rt.alloc(), &EVERYTHING)?;
-    assert!(rt; code.locals() == 10 && code.sets().len() == 1 && code.int_sets().len() == 1);
-    for set in code.sets() {
-        assert!(rt; set.patterns() == [pattern].as_slice());
-    }
-    for set in code.int_sets() {
-        assert!(rt; set.ranges() == ranges.as_slice());
-    }
-    assert!(rt; code.instrs() == instrs.as_slice());
-    Ok(())
+    expect(
+        is_everything(&code, instrs.as_slice()),
+        "everything is read",
+    )
 }
 
-/// A code with ten locals, that set of patterns, as many times that set of ints, and these instructions.
-fn code_with(alloc: Global, int_sets: usize, instrs: Vec<Instr>) -> Result<Code, Fail> {
-    let pattern = pattern().ok_or("a pattern")?;
+/// So many times that set of ints.
+fn int_sets(alloc: Global, count: usize) -> Result<Vec<IntSet>, Fail> {
     let ranges = ranges().ok_or("two ranges")?;
-    let sets = vec![in alloc; PatternSet::build(alloc, &[pattern])?]?;
-    let mut sets_of_ints = Vec::new(alloc);
-    for _ in 0..int_sets {
-        sets_of_ints.push(IntSet::build(alloc, &ranges)?)?;
+    let mut sets = Vec::new(alloc);
+    for _ in 0..count {
+        sets.push(IntSet::build(alloc, &ranges)?)?;
     }
-    Ok(Code::new(10, sets, sets_of_ints, instrs).ok_or("a code within the limits")?)
+    Ok(sets)
+}
+
+/// That set of patterns.
+fn sets(alloc: Global) -> Result<Vec<PatternSet>, Fail> {
+    let pattern = pattern().ok_or("a pattern")?;
+    Ok(vec![in alloc; PatternSet::build(alloc, &[pattern])?]?)
+}
+
+/// A code with ten locals, that set of patterns, these sets of ints, and these instructions.
+fn code_with(alloc: Global, int_sets: Vec<IntSet>, instrs: Vec<Instr>) -> Result<Code, Fail> {
+    let sets = sets(alloc)?;
+    Ok(Code::new(10, sets, int_sets, instrs).ok_or("a code within the limits")?)
+}
+
+/// Each instruction once, in a list.
+fn all_instructions(alloc: Global) -> Result<Vec<Instr>, Fail> {
+    let instrs = instructions().ok_or("a prefix of 16 bits")?;
+    Ok(instrs.to_vec(alloc)?)
 }
 
 /// The code with those sets and each instruction.
 fn everything(alloc: Global) -> Result<Code, Fail> {
-    let instrs = instructions().ok_or("a prefix of 16 bits")?;
-    code_with(alloc, 1, instrs.to_vec(alloc)?)
+    code_with(alloc, int_sets(alloc, 1)?, all_instructions(alloc)?)
 }
 
 /// Each instruction that older files have.
@@ -157,40 +196,55 @@ fn old_instructions(alloc: Global) -> Result<Vec<Instr>, Fail> {
     Ok(old)
 }
 
+/// Expects that a code's file is this one.
+fn expect_file(alloc: Global, code: &Code, wanted: &[u8]) -> Result<(), Fail> {
+    let written = write_code(alloc, code)?;
+    expect(written.as_slice() == wanted, "the file of a code")
+}
+
+/// Expects that a code's older file is this one.
+fn expect_old_file(alloc: Global, code: &Code, wanted: &[u8]) -> Result<(), Fail> {
+    let written = write_old(alloc, code)?;
+    expect(written.as_slice() == wanted, "the older file of a code")
+}
+
 #[test]
 fn everything_is_written(rt: HostRuntime) -> Result<(), Fail> {
-    let bytes = write_code(rt.alloc(), &everything(rt.alloc())?)?;
-    assert!(rt; bytes.as_slice() == EVERYTHING.as_slice());
-    Ok(())
+    let code = everything(rt.alloc())?;
+    expect_file(rt.alloc(), &code, &EVERYTHING)
+}
+
+/// The code with that set of patterns and each instruction that older files have.
+fn old_everything(alloc: Global) -> Result<Code, Fail> {
+    code_with(alloc, Vec::new(alloc), old_instructions(alloc)?)
 }
 
 #[test]
 fn older_files_are_written(rt: HostRuntime) -> Result<(), Fail> {
     let alloc = rt.alloc();
-    let code = code_with(alloc, 0, old_instructions(alloc)?)?;
-    assert!(rt; write_old(alloc, &code)?.as_slice() == OLD_EVERYTHING.as_slice());
+    expect_old_file(alloc, &old_everything(alloc)?, &OLD_EVERYTHING)?;
     let read = read_code(alloc, &OLD_EVERYTHING)?;
-    assert!(rt; write_old(alloc, &read)?.as_slice() == OLD_EVERYTHING.as_slice());
-    assert!(rt;
-        write_code(alloc, &read)?.as_slice() == rewrite(alloc, &OLD_EVERYTHING)?.as_slice()
-    );
-    Ok(())
+    expect_old_file(alloc, &read, &OLD_EVERYTHING)?;
+    let newer = rewrite(alloc, &OLD_EVERYTHING)?;
+    expect_file(alloc, &read, newer.as_slice())
+}
+
+/// Expects that a code has no older file, for its sets of ints.
+fn expect_no_old_file(alloc: Global, code: &Code) -> Result<(), Fail> {
+    match write_old(alloc, code) {
+        Err(FileFault::OldForm) => Ok(()),
+        _ => Err(Fail::new("C8")),
+    }
 }
 
 #[test]
 fn older_files_have_no_sets_of_ints(rt: HostRuntime) -> Result<(), Fail> {
     let alloc = rt.alloc();
-    let instrs = instructions().ok_or("a prefix of 16 bits")?;
-    let codes = [
-        everything(alloc)?,
-        code_with(alloc, 1, old_instructions(alloc)?)?,
-        code_with(alloc, 0, instrs.to_vec(alloc)?)?,
-    ];
-    for code in &codes {
-        let is_so = write_old(alloc, code).err() == Some(FileFault::OldForm);
-        expect(is_so, "C8")?;
-    }
-    Ok(())
+    expect_no_old_file(alloc, &everything(alloc)?)?;
+    let sets = int_sets(alloc, 1)?;
+    expect_no_old_file(alloc, &code_with(alloc, sets, old_instructions(alloc)?)?)?;
+    let instrs = all_instructions(alloc)?;
+    expect_no_old_file(alloc, &code_with(alloc, Vec::new(alloc), instrs)?)
 }
 
 /// Files and the same code in a newer file.
@@ -272,52 +326,60 @@ const REFUSED: [(&[u8], FileFault); 29] = [
     (b"NCF1\0\0\x04\0", FileFault::EndsEarly(8)),
 ];
 
+/// Expects that bytes are refused, also where they are rewritten.
+fn expect_refused(alloc: Global, bytes: &[u8], fault: FileFault) -> Result<(), Fail> {
+    expect(fault_of(alloc, bytes) == Some(fault), fault.code())?;
+    match rewrite(alloc, bytes) {
+        Err(found) => expect(found == fault, fault.code()),
+        Ok(_) => Err(Fail::new(fault.code())),
+    }
+}
+
 #[test]
 fn what_is_no_file_is_refused(rt: HostRuntime) -> Result<(), Fail> {
     for (bytes, fault) in &REFUSED {
-        let is_so = fault_of(rt.alloc(), bytes) == Some(*fault);
-        expect(is_so, fault.code())?;
-        let is_so = rewrite(rt.alloc(), bytes).err() == Some(*fault);
-        expect(is_so, fault.code())?;
+        expect_refused(rt.alloc(), bytes, *fault)?;
     }
     Ok(())
 }
 
+/// The faults of files, each with its code, its place and its text.
+const FAULTS: [(FileFault, &str); 8] = [
+    (
+        FileFault::OtherMark(3),
+        "C1 3 byte 3 does not match the mark NCF1 or NCF2, which begins a code file",
+    ),
+    (
+        FileFault::EndsEarly(8),
+        "C2 8 the file ends at byte 8, inside a field",
+    ),
+    (
+        FileFault::UnknownOpcode(8),
+        "C3 8 byte 8 is no known opcode",
+    ),
+    (
+        FileFault::BadOperand(9),
+        "C4 9 the operand, pattern or range at byte 9 is out of range",
+    ),
+    (
+        FileFault::OverLimit(4),
+        "C5 4 the number at byte 4 is over its limit",
+    ),
+    (
+        FileFault::BytesAfterEnd(9),
+        "C6 9 the code ends before byte 9, and more bytes follow",
+    ),
+    (FileFault::Memory, "C7 0 out of memory"),
+    (
+        FileFault::OldForm,
+        "C8 0 the code has sets of ints, which a file with the mark NCF1 does not have",
+    ),
+];
+
 #[test]
 fn the_texts(rt: HostRuntime) -> Result<(), Fail> {
-    let rows = [
-        (
-            FileFault::OtherMark(3),
-            "C1 3 byte 3 does not match the mark NCF1 or NCF2, which begins a code file",
-        ),
-        (
-            FileFault::EndsEarly(8),
-            "C2 8 the file ends at byte 8, inside a field",
-        ),
-        (
-            FileFault::UnknownOpcode(8),
-            "C3 8 byte 8 is no known opcode",
-        ),
-        (
-            FileFault::BadOperand(9),
-            "C4 9 the operand, pattern or range at byte 9 is out of range",
-        ),
-        (
-            FileFault::OverLimit(4),
-            "C5 4 the number at byte 4 is over its limit",
-        ),
-        (
-            FileFault::BytesAfterEnd(9),
-            "C6 9 the code ends before byte 9, and more bytes follow",
-        ),
-        (FileFault::Memory, "C7 0 out of memory"),
-        (
-            FileFault::OldForm,
-            "C8 0 the code has sets of ints, which a file with the mark NCF1 does not have",
-        ),
-    ];
-    for (fault, wanted) in rows {
-        expect_fault(rt.alloc(), fault.code(), fault.at(), &fault, wanted)?;
+    for (fault, wanted) in &FAULTS {
+        expect_fault(rt.alloc(), fault.code(), fault.at(), fault, wanted)?;
     }
     Ok(())
 }

@@ -2,6 +2,9 @@
 
 use crate::code_file_tests::fault_of;
 use code_file::FileFault;
+use expectations::expect;
+use std::alloc::Global;
+use std::test::Fail;
 
 /// NET, MEMBER, JUMPIFNOT, ACCEPT and REJECT, after a set of one pattern.
 const FILE: [u8; 25] = *b"NCF1\0\x01\0\x01\x01\0\0\0\x08\x0f\x11\0\x05\x12\x51\0\x61\0\x01\x70\x71";
@@ -10,20 +13,22 @@ const FILE: [u8; 25] = *b"NCF1\0\x01\0\x01\x01\0\0\0\x08\x0f\x11\0\x05\x12\x51\0
 const NEW_FILE: [u8; 35] =
     *b"NCF2\0\0\x01\0\x02\0\0\0\x02\0\0\0\x02\0\0\0\x04\0\0\0\x06\0\x05\x13\x52\0\x61\0\x01\x70\x71";
 
-#[test]
-fn a_file_that_is_cut_ends_early(rt: HostRuntime) {
-    let alloc = rt.alloc();
-    let files: [&[u8]; 2] = [&FILE, &NEW_FILE];
-    for file in files {
-        for length in 0..file.len() {
-            let fault = fault_of(alloc, &file[..length]);
-            assert!(rt;
-                fault == Some(FileFault::EndsEarly(length)),
-                "{length} bytes"
-            );
-        }
-        assert!(rt; fault_of(alloc, file).is_none());
+/// Expects that a file ends early wherever it is cut.
+fn expect_cut(alloc: Global, file: &[u8]) -> Result<(), Fail> {
+    for length in 0..file.len() {
+        let fault = fault_of(alloc, &file[..length]);
+        expect(
+            fault == Some(FileFault::EndsEarly(length)),
+            "a file that is cut",
+        )?;
     }
+    expect(fault_of(alloc, file).is_none(), "a file that is whole")
+}
+
+#[test]
+fn a_file_that_is_cut_ends_early(rt: HostRuntime) -> Result<(), Fail> {
+    expect_cut(rt.alloc(), &FILE)?;
+    expect_cut(rt.alloc(), &NEW_FILE)
 }
 
 /// The place of NET, the first opcode.
@@ -44,23 +49,40 @@ fn refused_for(value: u8) -> Option<FileFault> {
     }
 }
 
-#[test]
-fn an_opcode_that_is_replaced(rt: HostRuntime) {
-    let alloc = rt.alloc();
+/// The kind of what a file is refused for, by number.
+fn kind_of(fault: Option<FileFault>) -> usize {
+    match fault {
+        None => 0,
+        Some(FileFault::EndsEarly(_)) => 1,
+        Some(FileFault::BadOperand(_)) => 2,
+        Some(FileFault::UnknownOpcode(19)) => 3,
+        Some(_) => 4,
+    }
+}
+
+/// The file with a value in the place of NET.
+fn replaced(value: u8) -> [u8; 25] {
+    let mut file = FILE;
+    file[NET] = value;
+    file
+}
+
+/// Expects what the file is refused for with each value in the place of NET. Says how often it is refused for each kind.
+fn expect_replaced(alloc: Global) -> Result<[u32; 5], Fail> {
     let mut kinds = [0u32; 5];
     for value in 0..=255u8 {
-        let mut file = FILE;
-        file[NET] = value;
         let wanted = refused_for(value);
-        assert!(rt; fault_of(alloc, &file) == wanted, "opcode {value:x}");
-        let kind = match wanted {
-            None => 0,
-            Some(FileFault::EndsEarly(_)) => 1,
-            Some(FileFault::BadOperand(_)) => 2,
-            Some(FileFault::UnknownOpcode(19)) => 3,
-            Some(_) => 4,
-        };
-        kinds[kind] = kinds[kind].saturating_add(1);
+        let fault = fault_of(alloc, &replaced(value));
+        expect(fault == wanted, "an opcode that is replaced")?;
+        if let Some(count) = kinds.get_mut(kind_of(wanted)) {
+            *count = count.saturating_add(1);
+        }
     }
-    assert!(rt; kinds == [18, 4, 3, 3, 228]);
+    Ok(kinds)
+}
+
+#[test]
+fn an_opcode_that_is_replaced(rt: HostRuntime) -> Result<(), Fail> {
+    let kinds = expect_replaced(rt.alloc())?;
+    expect(kinds == [18, 4, 3, 3, 228], "how often each kind comes")
 }

@@ -93,22 +93,35 @@ fn expect_outcome(
     Err(Fail::new(format_args!("{instrs:?}: {outcome:?}, and not {wanted:?}")))
 }
 
-/// Of a sum that wraps, of a reject, and of faults at their places.
+/// Instructions, a metric, and the outcome: of a sum that wraps, of a reject, and of faults at their places.
+const OUTCOMES: [(&[Instr], u32, Outcome); 7] = [
+    (&WRAPPING, 3, Outcome::Fault(FaultKind::LowerMetric, 3)),
+    (&WRAPPING, 0, Outcome::Accept(8)),
+    (&[Instr::Reject], 3, Outcome::Reject),
+    (&[], 3, Outcome::Fault(FaultKind::OutsideCode, 0)),
+    (
+        &[Instr::Metric],
+        3,
+        Outcome::Fault(FaultKind::OutsideCode, 1),
+    ),
+    (
+        &[Instr::Metric, Instr::Add],
+        3,
+        Outcome::Fault(FaultKind::MissingOperand, 1),
+    ),
+    (
+        &[Instr::Metric; 33],
+        3,
+        Outcome::Fault(FaultKind::FullStack, 32),
+    ),
+];
+
 #[test]
 fn outcomes(rt: HostRuntime) -> Result<(), Fail> {
-    let alloc = rt.alloc();
-    let lower = Outcome::Fault(FaultKind::LowerMetric, 3);
-    expect_outcome(alloc, &WRAPPING, 3, lower)?;
-    expect_outcome(alloc, &WRAPPING, 0, Outcome::Accept(8))?;
-    expect_outcome(alloc, &[Instr::Reject], 3, Outcome::Reject)?;
-    let outside = Outcome::Fault(FaultKind::OutsideCode, 0);
-    expect_outcome(alloc, &[], 3, outside)?;
-    let outside = Outcome::Fault(FaultKind::OutsideCode, 1);
-    expect_outcome(alloc, &[Instr::Metric], 3, outside)?;
-    let missing = Outcome::Fault(FaultKind::MissingOperand, 1);
-    expect_outcome(alloc, &[Instr::Metric, Instr::Add], 3, missing)?;
-    let full = Outcome::Fault(FaultKind::FullStack, 32);
-    expect_outcome(alloc, &[Instr::Metric; 33], 3, full)
+    for (instrs, metric, wanted) in &OUTCOMES {
+        expect_outcome(rt.alloc(), instrs, *metric, *wanted)?;
+    }
+    Ok(())
 }
 
 /// Three instructions, the fault that their run on metric 3 meets first, and its place.
@@ -318,12 +331,14 @@ const TRUTHS_OF_PREFIXES: [(u32, u8, [Option<Instr>; 3], bool); 5] = [
     ),
 ];
 
-/// An instruction, or that of a prefix in the place of None.
-fn or_prefix(instr: Option<Instr>, prefix: Prefix) -> Instr {
-    match instr {
-        Some(instr) => instr,
-        None => Instr::Prefix(prefix),
-    }
+/// Instructions with that of a prefix in the place of None.
+fn with_prefix(instrs: &[Option<Instr>; 3], address: u32, len: u8) -> Option<[Instr; 3]> {
+    let of_prefix = Instr::Prefix(Prefix::new(Ip(address), len)?);
+    Some([
+        instrs[0].unwrap_or(of_prefix),
+        instrs[1].unwrap_or(of_prefix),
+        instrs[2].unwrap_or(of_prefix),
+    ])
 }
 
 #[test]
@@ -332,13 +347,7 @@ fn truth_values_are_computed(rt: HostRuntime) -> Result<(), Fail> {
         expect_truth(rt.alloc(), instrs, *holds)?;
     }
     for (address, len, instrs, holds) in &TRUTHS_OF_PREFIXES {
-        let prefix = Prefix::new(Ip(*address), *len).ok_or("a prefix")?;
-        let [first, second, third] = *instrs;
-        let instrs = [
-            or_prefix(first, prefix),
-            or_prefix(second, prefix),
-            or_prefix(third, prefix),
-        ];
+        let instrs = with_prefix(instrs, *address, *len).ok_or("a prefix")?;
         expect_truth(rt.alloc(), &instrs, *holds)?;
     }
     Ok(())
@@ -358,16 +367,34 @@ fn masked_addresses_are_equal(rt: HostRuntime) -> Result<(), Fail> {
     expect_truth(rt.alloc(), &masked, true)
 }
 
+/// Whether a code has two local variables, a set of each kind, and these instructions.
+fn is_code_of(code: &Code, instrs: &[Instr]) -> bool {
+    code.locals() == 2
+        && code.sets().len() == 1
+        && code.int_sets().len() == 1
+        && code.instrs() == instrs
+}
+
+/// Instructions that are read back.
+const READ_BACK: [&[Instr]; 2] = [&[Instr::Accept; 1024], &[Instr::Int(5)]];
+
 #[test]
 fn a_code_is_read_back(rt: HostRuntime) -> Result<(), Fail> {
-    let rows: [&[Instr]; 2] = [&[Instr::Accept; 1024], &[Instr::Int(5)]];
-    for instrs in rows {
+    for instrs in &READ_BACK {
         let code = code(rt.alloc(), instrs)?;
-        assert!(rt; code.locals() == 2 && code.sets().len() == 1 && code.instrs() == instrs);
-        assert!(rt; code.int_sets().len() == 1);
+        expect(is_code_of(&code, instrs), "a code is read back")?;
     }
     Ok(())
 }
+
+/// Local variables, instructions, and whether there is a code with so many of them and no sets: 1,025 instructions, 17 variables and
+/// 33 bits are too many.
+const CODES: [(u8, &[Instr], bool); 4] = [
+    (0, &[Instr::Accept; 1025], false),
+    (17, &[], false),
+    (16, &[], true),
+    (0, &[Instr::Mask(33)], false),
+];
 
 /// Whether there is a code of these instructions, with so many local variables and no sets.
 fn is_code(alloc: Global, locals: u8, instrs: &[Instr]) -> Result<bool, Fail> {
@@ -377,62 +404,84 @@ fn is_code(alloc: Global, locals: u8, instrs: &[Instr]) -> Result<bool, Fail> {
 
 #[test]
 fn a_code_is_within_the_limits(rt: HostRuntime) -> Result<(), Fail> {
-    let alloc = rt.alloc();
-    let is_long = is_code(alloc, 0, &[Instr::Accept; 1025])?;
-    expect(!is_long, "1,025 instructions are too many")?;
-    expect(!is_code(alloc, 17, &[])?, "17 local variables are too many")?;
-    expect(is_code(alloc, 16, &[])?, "16 local variables are not")?;
-    let is_masked = is_code(alloc, 0, &[Instr::Mask(33)])?;
-    expect(!is_masked, "33 bits are too many")
+    for (locals, instrs, wanted) in &CODES {
+        let is_code = is_code(rt.alloc(), *locals, instrs)?;
+        expect(is_code == *wanted, "the limits of a code")?;
+    }
+    Ok(())
+}
+
+/// Whether there is a code with 65 sets of patterns.
+fn has_many_sets(alloc: Global) -> Result<bool, Fail> {
+    let mut sets = Vec::new(alloc);
+    for _ in 0..65 {
+        sets.push(PatternSet::build(alloc, &[])?)?;
+    }
+    Ok(Code::new(0, sets, Vec::new(alloc), Vec::new(alloc)).is_some())
+}
+
+/// Whether there is a code with 65 sets of ints.
+fn has_many_int_sets(alloc: Global) -> Result<bool, Fail> {
+    let mut sets = Vec::new(alloc);
+    for _ in 0..65 {
+        sets.push(IntSet::build(alloc, &[])?)?;
+    }
+    Ok(Code::new(0, Vec::new(alloc), sets, Vec::new(alloc)).is_some())
 }
 
 #[test]
 fn a_code_has_at_most_64_sets_of_each_kind(rt: HostRuntime) -> Result<(), Fail> {
-    let mut sets = Vec::new(rt.alloc());
-    for _ in 0..65 {
-        sets.push(PatternSet::build(rt.alloc(), &[])?)?;
-    }
-    let mut int_sets = Vec::new(rt.alloc());
-    for _ in 0..65 {
-        int_sets.push(IntSet::build(rt.alloc(), &[])?)?;
-    }
-    let of_patterns = Code::new(0, sets, Vec::new(rt.alloc()), Vec::new(rt.alloc()));
-    let of_ints = Code::new(0, Vec::new(rt.alloc()), int_sets, Vec::new(rt.alloc()));
-    assert!(rt; of_patterns.is_none() && of_ints.is_none());
-    Ok(())
+    let is_code = has_many_sets(rt.alloc())? || has_many_int_sets(rt.alloc())?;
+    expect(!is_code, "65 sets are too many")
+}
+
+/// Metrics and sizes of routes.
+const ROUTES: [(u32, u32); 3] = [(3, 8), (250, 250), (0, 2)];
+
+/// Whether a route to 10.0.0.0/8 has a metric and a size.
+fn is_route(route: &Route, metric: u32, size: u32) -> bool {
+    route.metric() == metric && route.size() == size && route.net().len() == 8
 }
 
 #[test]
-fn a_route_is_read_back(rt: HostRuntime) -> Result<(), Fail> {
-    for (metric, size) in [(3, 8), (250, 250), (0, 2)] {
-        let route = route(metric, size)?;
-        assert!(rt; route.metric() == metric && route.size() == size && route.net().len() == 8);
+fn a_route_is_read_back() -> Result<(), Fail> {
+    for (metric, size) in &ROUTES {
+        let route = route(*metric, *size)?;
+        expect(is_route(&route, *metric, *size), "a route is read back")?;
     }
     Ok(())
 }
 
+/// Metrics and sizes of which there is no route.
+const NO_ROUTES: [(u32, u32); 5] = [(0, 1), (0, 251), (251, 250), (9, 8), (3, 2)];
+
 #[test]
-fn a_route_is_within_the_limits(rt: HostRuntime) -> Result<(), Fail> {
+fn a_route_is_within_the_limits() -> Result<(), Fail> {
     let net = Prefix::new(Ip(0x0a00_0000), 8).ok_or("a prefix of 8 bits")?;
-    for (metric, size) in [(0, 1), (0, 251), (251, 250), (9, 8), (3, 2)] {
-        assert!(rt; Route::new(net, metric, size).is_none());
+    for (metric, size) in &NO_ROUTES {
+        let route = Route::new(net, *metric, *size);
+        expect(route.is_none(), "the limits of a route")?;
     }
     Ok(())
 }
 
+/// Values and their kinds.
+const KINDS: [(Value, Kind); 3] = [
+    (Value::Int(7), Kind::Int),
+    (Value::Bool(true), Kind::Bool),
+    (Value::Addr(Ip(7)), Kind::Ip),
+];
+
 #[test]
-fn values_have_kinds(rt: HostRuntime) -> Result<(), Fail> {
-    let net = Prefix::new(Ip(0x0a00_0000), 8).ok_or("a prefix of 8 bits")?;
-    let rows = [
-        (Value::Int(7), Kind::Int),
-        (Value::Bool(true), Kind::Bool),
-        (Value::Addr(Ip(7)), Kind::Ip),
-        (Value::Net(net), Kind::Prefix),
-    ];
-    for (value, kind) in &rows {
-        assert!(rt; value.kind() == *kind);
+fn values_have_kinds() -> Result<(), Fail> {
+    for (value, kind) in &KINDS {
+        expect(value.kind() == *kind, "the kind of a value")?;
     }
-    Ok(())
+    let net = Prefix::new(Ip(0x0a00_0000), 8).ok_or("a prefix of 8 bits")?;
+    expect(
+        Value::Net(net).kind() == Kind::Prefix,
+        "the kind of a prefix",
+    )
 }
 
 /// Instructions, their texts and their opcodes.

@@ -7,24 +7,38 @@ use prefix_patterns::{
 };
 use std::alloc::Global;
 use std::test::Fail;
+use worked_rows::Numbers;
 
 /// A prefix as its first address and its length.
 fn parts(prefix: Prefix) -> (u32, u8) {
     (prefix.address().0, prefix.len())
 }
 
-#[test]
-fn prefixes_are_made_of_an_address_and_a_length(rt: HostRuntime) {
-    let rows = [
-        (0x0a00_0000, 8, Some((0x0a00_0000, 8))),
-        (0x0a01_0203, 8, Some((0x0a00_0000, 8))),
-        (0x0102_0304, 32, Some((0x0102_0304, 32))),
-        (0xffff_ffff, 0, Some((0, 0))),
-        (0x0a00_0000, 33, None),
-    ];
-    for (address, len, wanted) in rows {
-        assert!(rt; Prefix::new(Ip(address), len).map(parts) == wanted);
+/// An address, a length, and the prefix that they make, as its first address and its length.
+const MADE: [(u32, u8, Option<(u32, u8)>); 5] = [
+    (0x0a00_0000, 8, Some((0x0a00_0000, 8))),
+    (0x0a01_0203, 8, Some((0x0a00_0000, 8))),
+    (0x0102_0304, 32, Some((0x0102_0304, 32))),
+    (0xffff_ffff, 0, Some((0, 0))),
+    (0x0a00_0000, 33, None),
+];
+
+/// Whether a prefix is there or not, as wanted, with its first address and its length.
+fn is_prefix(prefix: Option<Prefix>, wanted: Option<(u32, u8)>) -> bool {
+    match (prefix, wanted) {
+        (Some(prefix), Some(wanted)) => parts(prefix) == wanted,
+        (None, None) => true,
+        _ => false,
     }
+}
+
+#[test]
+fn prefixes_are_made_of_an_address_and_a_length() -> Result<(), Fail> {
+    for (address, len, wanted) in &MADE {
+        let prefix = Prefix::new(Ip(*address), *len);
+        expect(is_prefix(prefix, *wanted), "a prefix that is made")?;
+    }
+    Ok(())
 }
 
 /// A text, a limit, and the number that it is.
@@ -44,10 +58,11 @@ const NUMBERS: [(&[u8], u32, Option<u32>); 12] = [
 ];
 
 #[test]
-fn numbers_are_digits_up_to_a_limit(rt: HostRuntime) {
+fn numbers_are_digits_up_to_a_limit() -> Result<(), Fail> {
     for (text, most, wanted) in &NUMBERS {
-        assert!(rt; read_number(text, *most) == *wanted);
+        expect(read_number(text, *most) == *wanted, "a number that is read")?;
     }
+    Ok(())
 }
 
 /// A text, and the prefix that it is, as its first address and its length.
@@ -80,10 +95,14 @@ const PREFIXES: [(&[u8], Option<(u32, u8)>); 22] = [
 ];
 
 #[test]
-fn prefix_tokens_are_read(rt: HostRuntime) {
+fn prefix_tokens_are_read() -> Result<(), Fail> {
     for (text, wanted) in &PREFIXES {
-        assert!(rt; read_prefix(text).map(parts) == *wanted);
+        expect(
+            is_prefix(read_prefix(text), *wanted),
+            "a prefix that is read",
+        )?;
     }
+    Ok(())
 }
 
 /// A text, and the address that it is.
@@ -98,40 +117,52 @@ const ADDRESSES: [(&[u8], Option<Ip>); 7] = [
 ];
 
 #[test]
-fn addresses_are_read(rt: HostRuntime) {
+fn addresses_are_read() -> Result<(), Fail> {
     for (text, wanted) in &ADDRESSES {
-        assert!(rt; read_ip(text) == *wanted);
+        expect(read_ip(text) == *wanted, "an address that is read")?;
     }
+    Ok(())
 }
+
+/// An address, a length, how the address is displayed, and how the prefix of both is.
+const DISPLAYED: [(u32, u8, &str, &str); 2] = [
+    (0x0a14_1e28, 12, "10.20.30.40", "10.16.0.0/12"),
+    (1, 0, "0.0.0.1", "0.0.0.0/0"),
+];
 
 #[test]
 fn addresses_and_prefixes_are_displayed(rt: HostRuntime) -> Result<(), Fail> {
-    let rows = [
-        (0x0a14_1e28, 12, "10.20.30.40", "10.16.0.0/12"),
-        (1, 0, "0.0.0.1", "0.0.0.0/0"),
-    ];
-    for (address, len, address_text, text) in rows {
-        let prefix = Prefix::new(Ip(address), len).ok_or("no prefix")?;
-        expect_text(rt.alloc(), &Ip(address), address_text)?;
+    for (address, len, address_text, text) in &DISPLAYED {
+        let prefix = Prefix::new(Ip(*address), *len).ok_or("no prefix")?;
+        expect_text(rt.alloc(), &Ip(*address), address_text)?;
         expect_text(rt.alloc(), &prefix, text)?;
     }
     displayed_text_is_read();
     Ok(())
 }
 
+/// Two prefixes, each an address and a length; whether the first contains the second's address, and whether the second lies within
+/// the first.
+const WITHIN: [((u32, u8), (u32, u8), (bool, bool)); 5] = [
+    ((0x0a10_0000, 12), (0x0a10_0000, 12), (true, true)),
+    ((0x0a10_0000, 12), (0x0a1f_ffff, 16), (true, true)),
+    ((0x0a10_0000, 12), (0x0a1f_0000, 11), (true, false)),
+    ((0x0a10_0000, 12), (0x0a20_0000, 12), (false, false)),
+    ((0, 0), (u32::MAX, 12), (true, true)),
+];
+
+/// Whether the first of two prefixes contains the second's address, and whether the second lies within the first.
+fn within((outer, outer_len): (u32, u8), (inner, inner_len): (u32, u8)) -> Option<(bool, bool)> {
+    let outer = Prefix::new(Ip(outer), outer_len)?;
+    let prefix = Prefix::new(Ip(inner), inner_len)?;
+    Some((outer.contains(Ip(inner)), prefix.within(&outer)))
+}
+
 #[test]
-fn addresses_and_prefixes_lie_within_prefixes(rt: HostRuntime) -> Result<(), Fail> {
-    let rows = [
-        (0x0a10_0000, 12, 0x0a10_0000, 12, true, true),
-        (0x0a10_0000, 12, 0x0a1f_ffff, 16, true, true),
-        (0x0a10_0000, 12, 0x0a1f_0000, 11, true, false),
-        (0x0a10_0000, 12, 0x0a20_0000, 12, false, false),
-        (0, 0, u32::MAX, 12, true, true),
-    ];
-    for (outer, outer_len, inner, inner_len, contains, within) in rows {
-        let outer = Prefix::new(Ip(outer), outer_len).ok_or("no prefix")?;
-        let prefix = Prefix::new(Ip(inner), inner_len).ok_or("no prefix")?;
-        assert!(rt; outer.contains(Ip(inner)) == contains && prefix.within(&outer) == within);
+fn addresses_and_prefixes_lie_within_prefixes() -> Result<(), Fail> {
+    for (outer, inner, wanted) in &WITHIN {
+        let found = within(*outer, *inner);
+        expect(found == Some(*wanted), "what lies within a prefix")?;
     }
     Ok(())
 }
@@ -147,14 +178,19 @@ fn pattern(text: &[u8], low: u8, high: u8) -> Option<Pattern> {
     Pattern::new(read_prefix(text)?, low, high)
 }
 
+/// Two lengths, and whether there is a pattern with them.
+const LENGTHS: [(u8, u8, bool); 4] = [(8, 8, true), (0, 32, true), (9, 8, false), (8, 33, false)];
+
 #[test]
-fn patterns_have_lengths_in_order(rt: HostRuntime) {
-    let rows = [(8, 8, true), (0, 32, true), (9, 8, false), (8, 33, false)];
-    for (low, high, wanted) in rows {
-        let given = pattern(b"1.0.0.0/8", low, high).map(pattern_parts);
-        let parts = Some((0x0100_0000, 8, low, high));
-        assert!(rt; given == if wanted { parts } else { None });
+fn patterns_have_lengths_in_order() -> Result<(), Fail> {
+    for (low, high, wanted) in &LENGTHS {
+        let is_so = match pattern(b"1.0.0.0/8", *low, *high) {
+            Some(pattern) => *wanted && pattern_parts(pattern) == (0x0100_0000, 8, *low, *high),
+            None => !*wanted,
+        };
+        expect(is_so, "the lengths of a pattern")?;
     }
+    Ok(())
 }
 
 /// The patterns from one up to another of three, a prefix, and whether it matches the first of them, and any of them.
@@ -188,10 +224,15 @@ fn expect_matches(
     any: bool,
 ) -> Result<(), Fail> {
     let prefix = read_prefix(text).ok_or("no prefix")?;
-    let matches_first = patterns.first().map(|pattern| pattern.matches(&prefix));
     let matches_any = set_matches(alloc, patterns, &prefix)?;
-    let is_so = matches_first == Some(first) && matches_any == any;
-    expect(is_so, "what a pattern matches, and a set")
+    let matches_first = match patterns.first() {
+        Some(pattern) => pattern.matches(&prefix) == first,
+        None => false,
+    };
+    expect(
+        matches_first && matches_any == any,
+        "what a pattern matches, and a set",
+    )
 }
 
 #[test]
@@ -280,68 +321,75 @@ fn small_and_large_sets_match_by_length_and_bits(rt: HostRuntime) -> Result<(), 
     Ok(())
 }
 
-/// Numbers that look random, the same in each run.
-#[derive(Drop)]
-struct Random {
-    state: u64,
+/// First addresses, and how many addresses from there on random prefixes have: any, and many that share their first 8 or 24 bits.
+const FRONTS: [(u32, u32); 3] = [
+    (0, u32::MAX),
+    (0x0a00_0000, 0x0100_0000),
+    (0x0a0b_0c00, 0x100),
+];
+
+/// A length of up to 32 bits.
+fn random_len(numbers: &mut Numbers) -> u8 {
+    u8::try_from(numbers.below(33)).unwrap_or(0)
 }
 
-impl Random {
-    /// A number below a limit.
-    fn below(&mut self, limit: u32) -> u32 {
-        let step = self.state.wrapping_mul(6_364_136_223_846_793_005);
-        self.state = step.wrapping_add(1_442_695_040_888_963_407);
-        (self.state >> 32) as u32 % limit.max(1)
-    }
+/// A prefix of any length.
+fn random_prefix(numbers: &mut Numbers) -> Option<Prefix> {
+    let (front, count) = *FRONTS.get(numbers.place(FRONTS.len()))?;
+    let address = Ip(front.wrapping_add(numbers.below(count)));
+    Prefix::new(address, random_len(numbers))
+}
 
-    /// A prefix of any length, often one of many that share their first 8 or 24 bits.
-    fn prefix(&mut self) -> Option<Prefix> {
-        let any = self.below(u32::MAX);
-        let address = match self.below(3) {
-            0 => any,
-            1 => 0x0a00_0000 | (any & 0x00ff_ffff),
-            _ => 0x0a0b_0c00 | (any & 0xff),
-        };
-        Prefix::new(Ip(address), u8::try_from(self.below(33)).ok()?)
-    }
-
-    /// A pattern with any lengths.
-    fn pattern(&mut self) -> Option<Pattern> {
-        let one = u8::try_from(self.below(33)).ok()?;
-        let other = u8::try_from(self.below(33)).ok()?;
-        Pattern::new(self.prefix()?, one.min(other), one.max(other))
-    }
+/// A pattern with any lengths.
+fn random_pattern(numbers: &mut Numbers) -> Option<Pattern> {
+    let (one, other) = (random_len(numbers), random_len(numbers));
+    Pattern::new(random_prefix(numbers)?, one.min(other), one.max(other))
 }
 
 /// So many random patterns.
-fn random_patterns(alloc: Global, random: &mut Random, count: u32) -> Result<Vec<Pattern>, Fail> {
+fn random_patterns(alloc: Global, numbers: &mut Numbers, count: u32) -> Result<Vec<Pattern>, Fail> {
     let mut patterns = Vec::new(alloc);
     for _pattern in 0..count {
-        patterns.push(random.pattern().ok_or("no pattern")?)?;
+        patterns.push(random_pattern(numbers).ok_or("no pattern")?)?;
     }
     Ok(patterns)
 }
 
+/// Whether some pattern matches a prefix, as a scan of all says.
+fn is_matched(patterns: &[Pattern], prefix: &Prefix) -> bool {
+    for pattern in patterns {
+        if pattern.matches(prefix) {
+            return true;
+        }
+    }
+    false
+}
+
 /// Expects that a set matches random prefixes as a scan of its patterns does. Says how many it matches.
-fn expect_scan(random: &mut Random, set: &PatternSet, patterns: &[Pattern]) -> Result<u32, Fail> {
+fn expect_scan(numbers: &mut Numbers, set: &PatternSet, patterns: &[Pattern]) -> Result<u32, Fail> {
     let mut found = 0u32;
     for _prefix in 0..1000 {
-        let prefix = random.prefix().ok_or("no prefix")?;
-        let scanned = patterns.iter().any(|pattern| pattern.matches(&prefix));
+        let prefix = random_prefix(numbers).ok_or("no prefix")?;
+        let scanned = is_matched(patterns, &prefix);
         expect(set.matches(&prefix) == scanned, "a set and a scan")?;
         found = found.wrapping_add(u32::from(scanned));
     }
     Ok(found)
 }
 
+/// Expects that the set of so many random patterns matches as a scan of them does, and some prefixes if they are many.
+fn expect_random_set(alloc: Global, numbers: &mut Numbers, count: u32) -> Result<(), Fail> {
+    let patterns = random_patterns(alloc, numbers, count)?;
+    let set = PatternSet::build(alloc, &patterns)?;
+    let found = expect_scan(numbers, &set, &patterns)?;
+    expect(found > 0 || count < 12, "some prefixes are matched")
+}
+
 #[test]
 fn sets_match_as_a_scan_of_their_patterns(rt: HostRuntime) -> Result<(), Fail> {
-    let mut random = Random { state: 1 };
+    let mut numbers = Numbers::new(1);
     for count in [0, 1, 12, 13, 40, 200, 1024] {
-        let patterns = random_patterns(rt.alloc(), &mut random, count)?;
-        let set = PatternSet::build(rt.alloc(), &patterns)?;
-        let found = expect_scan(&mut random, &set, &patterns)?;
-        expect(found > 0 || count < 12, "some prefixes are matched")?;
+        expect_random_set(rt.alloc(), &mut numbers, count)?;
     }
     Ok(())
 }
@@ -357,28 +405,39 @@ fn expect_set(alloc: Global, patterns: &[Pattern], prefix: &Prefix) -> Result<()
     )
 }
 
-#[test]
-fn sets_have_at_most_1024_patterns(rt: HostRuntime) -> Result<(), Fail> {
-    let pattern = pattern(b"1.0.0.0/8", 8, 8).ok_or("no pattern")?;
-    let patterns = vec![in rt.alloc(); pattern; 1025]?;
-    for count in 0..1025 {
-        expect_set(rt.alloc(), &patterns[..count], &pattern.prefix())?;
+/// Expects sets of 0 to 1,024 equal patterns, and returns one pattern more.
+fn expect_sets(alloc: Global, pattern: Pattern) -> Result<Vec<Pattern>, Fail> {
+    let mut patterns = Vec::new(alloc);
+    for _count in 0..1025 {
+        expect_set(alloc, &patterns, &pattern.prefix())?;
+        patterns.push(pattern)?;
     }
-    let fault = PatternSet::build(rt.alloc(), &patterns).err();
-    expect(fault == Some(SetFault::TooManyPatterns), "1,025 patterns")
+    Ok(patterns)
 }
 
 #[test]
+fn sets_have_at_most_1024_patterns(rt: HostRuntime) -> Result<(), Fail> {
+    let pattern = pattern(b"1.0.0.0/8", 8, 8).ok_or("no pattern")?;
+    let patterns = expect_sets(rt.alloc(), pattern)?;
+    match PatternSet::build(rt.alloc(), &patterns) {
+        Err(fault) => expect(fault == SetFault::TooManyPatterns, "1,025 patterns"),
+        Ok(_) => Err(Fail::new("1,025 patterns are a set")),
+    }
+}
+
+/// The faults of sets, each with its code, its place and its text.
+const FAULTS: [(SetFault, &str); 2] = [
+    (
+        SetFault::TooManyPatterns,
+        "S1 0 more than 1024 patterns in a set",
+    ),
+    (SetFault::Memory, "S2 0 out of memory"),
+];
+
+#[test]
 fn faults_have_texts_and_codes(rt: HostRuntime) -> Result<(), Fail> {
-    let rows = [
-        (
-            SetFault::TooManyPatterns,
-            "S1 0 more than 1024 patterns in a set",
-        ),
-        (SetFault::Memory, "S2 0 out of memory"),
-    ];
-    for (fault, wanted) in rows {
-        expect_fault(rt.alloc(), fault.code(), fault.at(), &fault, wanted)?;
+    for (fault, wanted) in &FAULTS {
+        expect_fault(rt.alloc(), fault.code(), fault.at(), fault, wanted)?;
     }
     Ok(())
 }

@@ -1,11 +1,11 @@
 //! A set, a code and its file: built, read and written, with memory and without.
 
-use crate::refusals::answered;
+use crate::refusals::expect_refused;
 use code_file::{FileFault, read_code, write_code};
-use filter_code::{Code, Instr, Outcome, Route, run_checked};
+use expectations::expect;
+use filter_code::{Code, Instr, IntSet, Outcome, Route, run_checked};
 use prefix_patterns::{Ip, Pattern, PatternSet, Prefix, SetFault};
 use std::alloc::Global;
-use std::process::Abort;
 use std::test::Fail;
 
 /// A set of two patterns, a set of one range of ints, and nine instructions that use the first: two more for the nets that match,
@@ -20,46 +20,62 @@ fn patterns() -> Option<[Pattern; 2]> {
     Some([Pattern::new(first, 8, 16)?, Pattern::new(second, 8, 8)?])
 }
 
-/// Asserts that a code is that of the file.
-fn expect_code(rt: &impl Abort, code: &Code, patterns: &[Pattern]) {
-    let instrs = [
-        Instr::Net,
-        Instr::Member(0),
-        Instr::JumpIfNot(5),
-        Instr::Metric,
-        Instr::Int(2),
-        Instr::Add,
-        Instr::SetMetric,
-        Instr::Accept,
-        Instr::Reject,
-    ];
-    assert!(rt; code.locals() == 1);
-    assert!(rt; code.sets().len() == 1);
-    for set in code.sets() {
-        assert!(rt; set.patterns() == patterns);
+/// The instructions of the file.
+const INSTRS: [Instr; 9] = [
+    Instr::Net,
+    Instr::Member(0),
+    Instr::JumpIfNot(5),
+    Instr::Metric,
+    Instr::Int(2),
+    Instr::Add,
+    Instr::SetMetric,
+    Instr::Accept,
+    Instr::Reject,
+];
+
+/// Whether a set has the patterns of the file.
+fn has_patterns(set: &PatternSet) -> bool {
+    match patterns() {
+        Some(patterns) => set.patterns() == patterns.as_slice(),
+        None => false,
     }
-    assert!(rt; code.int_sets().len() == 1);
-    for set in code.int_sets() {
-        assert!(rt; set.ranges().len() == 1 && set.holds(2) && set.holds(5) && !set.holds(6));
-    }
-    assert!(rt; code.instrs() == instrs.as_slice());
 }
 
-/// Builds the set of some patterns, once more where memory was refused. It has them, and matches the prefix of each.
-fn expect_set_or_s2(rt: &impl Abort, alloc: Global, given: &[Pattern]) -> Result<(), Fail> {
-    match PatternSet::build(alloc, given) {
-        Ok(set) => {
-            assert!(rt; set.patterns() == given);
-            for pattern in given {
-                assert!(rt; set.matches(&pattern.prefix()));
-            }
-            Ok(())
+/// Whether a set has the range of the file, from 2 to 5.
+fn has_range(set: &IntSet) -> bool {
+    set.ranges().len() == 1 && set.holds(2) && set.holds(5) && !set.holds(6)
+}
+
+/// Whether a code is that of the file.
+fn is_code(code: &Code) -> bool {
+    match (code.sets(), code.int_sets()) {
+        ([set], [int_set]) => {
+            has_patterns(set)
+                && has_range(int_set)
+                && code.locals() == 1
+                && code.instrs() == INSTRS.as_slice()
         }
+        _ => false,
+    }
+}
+
+/// Whether a set has these patterns, and matches the prefix of each.
+fn matches_all(set: &PatternSet, given: &[Pattern]) -> bool {
+    for pattern in given {
+        if !set.matches(&pattern.prefix()) {
+            return false;
+        }
+    }
+    set.patterns() == given
+}
+
+/// Builds the set of some patterns, once more where memory was refused.
+fn expect_set_or_s2(alloc: Global, given: &[Pattern]) -> Result<(), Fail> {
+    match PatternSet::build(alloc, given) {
+        Ok(set) => expect(matches_all(&set, given), "a set is built"),
         Err(fault) => {
-            assert!(rt; fault == SetFault::Memory);
-            let set = PatternSet::build(alloc, given)?;
-            assert!(rt; set.patterns() == given);
-            Err(answered("build", "S2"))
+            let is_built = matches_all(&PatternSet::build(alloc, given)?, given);
+            expect_refused(is_built && fault == SetFault::Memory, "build", "S2")
         }
     }
 }
@@ -67,7 +83,7 @@ fn expect_set_or_s2(rt: &impl Abort, alloc: Global, given: &[Pattern]) -> Result
 #[test]
 fn a_set_is_built_or_s2(rt: HostRuntime) -> Result<(), Fail> {
     let given = patterns().ok_or("two patterns")?;
-    expect_set_or_s2(&rt, rt.alloc(), &given)
+    expect_set_or_s2(rt.alloc(), &given)
 }
 
 #[test]
@@ -75,53 +91,57 @@ fn a_large_set_is_built_or_s2(rt: HostRuntime) -> Result<(), Fail> {
     let [first, second] = patterns().ok_or("two patterns")?;
     let mut given = [second; 20];
     given[7] = first;
-    expect_set_or_s2(&rt, rt.alloc(), &given)
+    expect_set_or_s2(rt.alloc(), &given)
 }
 
 #[test]
 fn a_file_is_read_or_c7(rt: HostRuntime) -> Result<(), Fail> {
-    let patterns = patterns().ok_or("two patterns")?;
     match read_code(rt.alloc(), &FILE) {
-        Ok(code) => expect_code(&rt, &code, &patterns),
+        Ok(code) => expect(is_code(&code), "a file is read"),
         Err(fault) => {
-            assert!(rt; fault == FileFault::Memory);
-            expect_code(&rt, &read_code(rt.alloc(), &FILE)?, &patterns);
-            return Err(answered("read_code", "C7"));
+            let is_read = is_code(&read_code(rt.alloc(), &FILE)?);
+            expect_refused(is_read && fault == FileFault::Memory, "read_code", "C7")
         }
     }
-    Ok(())
+}
+
+/// Whether the file of a code is that one.
+fn is_written(alloc: Global, code: &Code) -> Result<bool, FileFault> {
+    let bytes = write_code(alloc, code)?;
+    Ok(bytes.as_slice() == FILE.as_slice())
 }
 
 #[test]
 fn a_file_is_written_or_c7(rt: HostRuntime) -> Result<(), Fail> {
-    let patterns = patterns().ok_or("two patterns")?;
     let code = read_code(rt.alloc(), &FILE)?;
-    match write_code(rt.alloc(), &code) {
-        Ok(bytes) => assert!(rt; bytes.as_slice() == FILE.as_slice()),
+    match is_written(rt.alloc(), &code) {
+        Ok(is_written) => expect(is_written, "a file is written"),
         Err(fault) => {
-            assert!(rt; fault == FileFault::Memory);
-            expect_code(&rt, &code, &patterns);
-            let bytes = write_code(rt.alloc(), &code)?;
-            assert!(rt; bytes.as_slice() == FILE.as_slice());
-            return Err(answered("write_code", "C7"));
+            let is_same = is_code(&code) && is_written(rt.alloc(), &code)?;
+            expect_refused(is_same && fault == FileFault::Memory, "write_code", "C7")
         }
     }
-    Ok(())
+}
+
+/// Nets, and what becomes of their routes at distance 3.
+const OUTCOMES: [(u32, u8, Outcome); 4] = [
+    (0x0a01_0000, 16, Outcome::Accept(5)),
+    (0x0b00_0000, 8, Outcome::Accept(5)),
+    (0x0b00_0000, 9, Outcome::Reject),
+    (0x0c00_0000, 8, Outcome::Reject),
+];
+
+/// The route to a net at distance 3 in a domain of 8 nodes.
+fn route(address: u32, len: u8) -> Option<Route> {
+    Route::new(Prefix::new(Ip(address), len)?, 3, 8)
 }
 
 #[test]
 fn a_route_runs_through_what_was_read(rt: HostRuntime) -> Result<(), Fail> {
     let code = read_code(rt.alloc(), &FILE)?;
-    let rows = [
-        (0x0a01_0000, 16, Outcome::Accept(5)),
-        (0x0b00_0000, 8, Outcome::Accept(5)),
-        (0x0b00_0000, 9, Outcome::Reject),
-        (0x0c00_0000, 8, Outcome::Reject),
-    ];
-    for (address, len, wanted) in rows {
-        let net = Prefix::new(Ip(address), len).ok_or("a prefix")?;
-        let route = Route::new(net, 3, 8).ok_or("a route within the limits")?;
-        assert!(rt; run_checked(&code, &route) == wanted);
+    for (address, len, wanted) in &OUTCOMES {
+        let route = route(*address, *len).ok_or("a route within the limits")?;
+        expect(run_checked(&code, &route) == *wanted, "a route's outcome")?;
     }
     Ok(())
 }

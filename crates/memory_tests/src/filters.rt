@@ -1,13 +1,14 @@
 //! A filter's text: read, judged and compiled, with memory and without.
 
-use crate::refusals::answered;
+use crate::refusals::expect_refused;
+use expectations::expect;
 use filter_code::{Code, Instr};
-use filter_compiler::{CompileFault, compile, compile_mapped};
+use filter_compiler::{CompileFault, MappedCode, compile, compile_mapped};
 use filter_parser::{Filter, ParseFault, parse};
 use filter_types::{TypeFault, Typed, check};
-use prefix_patterns::{Ip, Pattern, Prefix};
-use std::fmt::{self, Write};
-use std::process::Abort;
+use prefix_patterns::{Ip, Pattern, PatternSet, Prefix};
+use std::alloc::Global;
+use std::fmt::{self, Debug, Write};
 use std::test::Fail;
 
 /// Has what trees and code are built from: a declaration, an assignment, a sum, a suffix, parentheses, `!`, comparisons, a set, a
@@ -65,124 +66,146 @@ impl Write for Page {
     }
 }
 
-/// Asserts that a filter is that of the text `TEXT`.
-fn expect_tree(rt: &impl Abort, filter: &Filter) -> Result<(), fmt::Error> {
-    let (mut decls, mut body) = (Page::new(), Page::new());
-    write!(decls, "{:?}", filter.decls())?;
-    write!(body, "{:?}", filter.body())?;
-    assert!(rt; filter.name() == b"f".as_slice());
-    assert!(rt; decls.text() == DECLS.as_bytes());
-    assert!(rt; body.text() == BODY.as_bytes());
-    assert!(rt; filter.tokens().len() == 38);
-    Ok(())
+/// Whether what is shown of something is this. There is no room for more.
+fn is_shown<T: Debug>(shown: &T, wanted: &str) -> bool {
+    let mut page = Page::new();
+    let is_written = write!(page, "{shown:?}").is_ok();
+    is_written && page.text() == wanted.as_bytes()
 }
 
-/// Asserts that a filter is that of the text `TEXT`, and that its variable is the first one.
-fn expect_typed(rt: &impl Abort, typed: &Typed) -> Result<(), fmt::Error> {
-    assert!(rt; typed.number_of(b"a") == 0 && typed.number_of(b"other") == 1);
-    expect_tree(rt, typed.filter())
+/// Whether a filter is that of the text `TEXT`.
+fn is_tree(filter: &Filter) -> bool {
+    filter.name() == b"f".as_slice()
+        && is_shown(&filter.decls(), DECLS)
+        && is_shown(&filter.body(), BODY)
+        && filter.tokens().len() == 38
 }
 
-/// Asserts that a code is that of the text `TEXT`.
-fn expect_code(rt: &impl Abort, code: &Code) -> Result<(), Fail> {
-    let net = Prefix::new(Ip(0x0a00_0000), 8).ok_or("a prefix")?;
-    let pattern = Pattern::new(net, 8, 32).ok_or("a pattern")?;
-    let instrs = [
-        Instr::Int(0),
-        Instr::Store(0),
-        Instr::Int(1),
-        Instr::Net,
-        Instr::Len,
-        Instr::Add,
-        Instr::Store(0),
-        Instr::Load(0),
-        Instr::Int(9),
-        Instr::Le,
-        Instr::Not,
-        Instr::Not,
-        Instr::JumpIfNot(6),
-        Instr::Net,
-        Instr::Member(0),
-        Instr::JumpIfNot(2),
-        Instr::Accept,
-        Instr::Jump(1),
-        Instr::Reject,
-        Instr::Reject,
-    ];
-    assert!(rt; code.locals() == 1);
-    assert!(rt; code.sets().len() == 1);
-    for set in code.sets() {
-        assert!(rt; set.patterns() == [pattern].as_slice());
+/// Whether a filter is that of the text `TEXT`, and its variable is the first one.
+fn is_typed(typed: &Typed) -> bool {
+    typed.number_of(b"a") == 0 && typed.number_of(b"other") == 1 && is_tree(typed.filter())
+}
+
+/// The instructions of that text.
+const INSTRS: [Instr; 20] = [
+    Instr::Int(0),
+    Instr::Store(0),
+    Instr::Int(1),
+    Instr::Net,
+    Instr::Len,
+    Instr::Add,
+    Instr::Store(0),
+    Instr::Load(0),
+    Instr::Int(9),
+    Instr::Le,
+    Instr::Not,
+    Instr::Not,
+    Instr::JumpIfNot(6),
+    Instr::Net,
+    Instr::Member(0),
+    Instr::JumpIfNot(2),
+    Instr::Accept,
+    Instr::Jump(1),
+    Instr::Reject,
+    Instr::Reject,
+];
+
+/// The pattern of that text: 10.0.0.0/8 and all that is longer.
+fn pattern() -> Option<Pattern> {
+    Pattern::new(Prefix::new(Ip(0x0a00_0000), 8)?, 8, 32)
+}
+
+/// Whether a set is that of the text `TEXT`.
+fn is_set(set: &PatternSet) -> bool {
+    match pattern() {
+        Some(pattern) => set.patterns() == [pattern].as_slice(),
+        None => false,
     }
-    assert!(rt; code.instrs() == instrs.as_slice());
-    Ok(())
+}
+
+/// Whether a code is that of the text `TEXT`.
+fn is_code(code: &Code) -> bool {
+    match code.sets() {
+        [set] => is_set(set) && code.locals() == 1 && code.instrs() == INSTRS.as_slice(),
+        _ => false,
+    }
+}
+
+/// Whether a fault of the parser is P11.
+fn is_p11(fault: ParseFault) -> bool {
+    fault == ParseFault::Memory && fault.code() == "P11" && fault.at() == 0
 }
 
 #[test]
 fn a_text_is_read_or_p11(rt: HostRuntime) -> Result<(), Fail> {
     match parse(rt.alloc(), TEXT.as_bytes()) {
-        Ok(filter) => expect_tree(&rt, &filter)?,
+        Ok(filter) => expect(is_tree(&filter), "a text is read"),
         Err(fault) => {
-            assert!(rt; fault == ParseFault::Memory);
-            assert!(rt; fault.code() == "P11" && fault.at() == 0);
-            expect_tree(&rt, &parse(rt.alloc(), TEXT.as_bytes())?)?;
-            return Err(answered("parse", "P11"));
+            let is_read = is_tree(&parse(rt.alloc(), TEXT.as_bytes())?);
+            expect_refused(is_read && is_p11(fault), "parse", "P11")
         }
     }
-    Ok(())
 }
 
 #[test]
 fn a_filter_is_judged_without_memory(rt: HostRuntime) -> Result<(), Fail> {
-    let judged = check(rt.alloc(), parse(rt.alloc(), TEXT.as_bytes())?);
-    assert!(rt; judged.is_ok());
-    expect_typed(&rt, &judged?)?;
-    Ok(())
+    let filter = parse(rt.alloc(), TEXT.as_bytes())?;
+    match check(rt.alloc(), filter) {
+        Ok(typed) => expect(is_typed(&typed), "a filter is judged"),
+        Err(_) => expect(false, "a filter is judged without memory"),
+    }
+}
+
+/// Whether a fault of types is Y6.
+fn is_y6(fault: TypeFault) -> bool {
+    fault == TypeFault::Memory && fault.code() == "Y6" && fault.at() == 0
 }
 
 #[test]
 fn labels_are_judged_or_y6(rt: HostRuntime) -> Result<(), Fail> {
-    match check(rt.alloc(), parse(rt.alloc(), CASE.as_bytes())?) {
-        Ok(typed) => {
-            assert!(rt; typed.number_of(b"c") == 0);
-            Ok(())
-        }
-        Err(fault) => {
-            assert!(rt; fault == TypeFault::Memory);
-            assert!(rt; fault.code() == "Y6" && fault.at() == 0);
-            Err(answered("check", "Y6"))
-        }
+    let filter = parse(rt.alloc(), CASE.as_bytes())?;
+    match check(rt.alloc(), filter) {
+        Ok(typed) => expect(typed.number_of(b"c") == 0, "labels are judged"),
+        Err(fault) => expect_refused(is_y6(fault), "check", "Y6"),
     }
+}
+
+/// The filter of the text `TEXT`, judged.
+fn judged(alloc: Global) -> Result<Typed, Fail> {
+    let filter = parse(alloc, TEXT.as_bytes())?;
+    Ok(check(alloc, filter)?)
+}
+
+/// Whether a fault of the compiler is G3.
+fn is_g3(fault: CompileFault) -> bool {
+    fault == CompileFault::Memory && fault.code() == "G3" && fault.at() == 0
 }
 
 #[test]
 fn a_filter_is_compiled_or_g3(rt: HostRuntime) -> Result<(), Fail> {
-    let typed = check(rt.alloc(), parse(rt.alloc(), TEXT.as_bytes())?)?;
+    let typed = judged(rt.alloc())?;
     match compile(rt.alloc(), &typed) {
-        Ok(code) => expect_code(&rt, &code),
+        Ok(code) => expect(is_code(&code), "a filter is compiled"),
         Err(fault) => {
-            assert!(rt; fault == CompileFault::Memory);
-            assert!(rt; fault.code() == "G3" && fault.at() == 0);
-            expect_code(&rt, &compile(rt.alloc(), &typed)?)?;
-            Err(answered("compile", "G3"))
+            let is_compiled = is_code(&compile(rt.alloc(), &typed)?);
+            expect_refused(is_compiled && is_g3(fault), "compile", "G3")
         }
     }
 }
 
+/// Whether a code is that of the text `TEXT`, with its places.
+fn is_mapped(mapped: &MappedCode) -> bool {
+    is_code(&mapped.code) && mapped.places.as_slice() == PLACES.as_slice()
+}
+
 #[test]
 fn a_filter_is_compiled_with_its_places_or_g3(rt: HostRuntime) -> Result<(), Fail> {
-    let typed = check(rt.alloc(), parse(rt.alloc(), TEXT.as_bytes())?)?;
+    let typed = judged(rt.alloc())?;
     match compile_mapped(rt.alloc(), &typed) {
-        Ok(mapped) => {
-            expect_code(&rt, &mapped.code)?;
-            assert_eq!(rt; mapped.places.as_slice(), PLACES.as_slice());
-            Ok(())
-        }
+        Ok(mapped) => expect(is_mapped(&mapped), "a filter is compiled with its places"),
         Err(fault) => {
-            assert_eq!(rt; fault, CompileFault::Memory);
-            let again = compile_mapped(rt.alloc(), &typed)?;
-            assert_eq!(rt; again.places.as_slice(), PLACES.as_slice());
-            Err(answered("compile_mapped", "G3"))
+            let is_compiled = is_mapped(&compile_mapped(rt.alloc(), &typed)?);
+            expect_refused(is_compiled && is_g3(fault), "compile_mapped", "G3")
         }
     }
 }

@@ -1,11 +1,11 @@
 //! A journal and its replay, with memory and without.
 
-use crate::refusals::answered;
-use netchange_core::{Event, Message, Messages, Opening, Reply};
+use crate::refusals::expect_refused;
+use expectations::expect;
+use netchange_core::{Event, Message, Opening, Reply};
 use prefix_patterns::{Ip, Prefix};
 use route_history::{CallFault, Journal, ReplayFault, replay};
 use std::alloc::Global;
-use std::process::Abort;
 use std::test::Fail;
 
 /// Node 0 of a domain of two nodes.
@@ -24,66 +24,88 @@ pub fn event(at: u32) -> Event {
     }
 }
 
-/// Asserts that the event at a place was entered there, with the reply that it has with ample memory.
-pub fn expect_answer(
-    rt: &impl Abort,
-    alloc: Global,
-    at: u32,
-    answer: (u32, Reply),
-) -> Result<(), Fail> {
-    let told = [(0, 0), (1, 2), (1, 1)];
-    let wanted = match at {
-        0 => Reply::Opened(1),
-        1 => Reply::Done { changed: 1 },
-        _ => {
-            let mut items = Vec::new(alloc);
-            for (dest, dist) in told {
-                items.push(Message { dest, dist })?;
-            }
-            Reply::Messages(Messages::from_vec(items))
-        }
-    };
-    assert!(rt; answer.0 == at);
-    assert!(rt; answer.1.is_same(&wanted));
-    Ok(())
+/// What is taken at the end.
+const TAKEN: [Message; 3] = [
+    Message { dest: 0, dist: 0 },
+    Message { dest: 1, dist: 2 },
+    Message { dest: 1, dist: 1 },
+];
+
+/// Whether a reply is the one that the event at a place has with ample memory.
+fn is_reply(at: u32, reply: &Reply) -> bool {
+    match (at, reply) {
+        (0, Reply::Opened(session)) => *session == 1,
+        (1, Reply::Done { changed }) => *changed == 1,
+        (2, Reply::Messages(messages)) => messages.as_slice() == TAKEN.as_slice(),
+        _ => false,
+    }
+}
+
+/// Expects that the event at a place was entered there, with the reply that it has with ample memory.
+pub fn expect_answer(at: u32, found: u32, reply: &Reply) -> Result<(), Fail> {
+    expect(
+        found == at && is_reply(at, reply),
+        "an event's place and reply",
+    )
+}
+
+/// A journal with room for three entries.
+fn opened(alloc: Global) -> Result<Journal, Fail> {
+    Ok(Journal::open(alloc, opening(alloc)?, 3)?)
+}
+
+/// Whether a journal has room for three entries and has none.
+fn is_empty(journal: &Journal) -> bool {
+    journal.limit() == 3 && journal.entries().len() == 0
 }
 
 #[test]
 fn a_journal_is_opened_or_not(rt: HostRuntime) -> Result<(), Fail> {
-    let alloc = rt.alloc();
-    let Ok(journal) = Journal::open(alloc, opening(alloc)?, 3) else {
-        let again = Journal::open(alloc, opening(alloc)?, 3)?;
-        assert!(rt; again.limit() == 3 && again.entries().len() == 0);
-        return Err(answered("Journal::open", "AllocError"));
-    };
-    assert!(rt; journal.limit() == 3 && journal.entries().len() == 0);
-    Ok(())
+    let opening = opening(rt.alloc())?;
+    match Journal::open(rt.alloc(), opening, 3) {
+        Ok(journal) => expect(is_empty(&journal), "a journal is opened"),
+        Err(_) => {
+            let again = opened(rt.alloc())?;
+            expect_refused(is_empty(&again), "Journal::open", "AllocError")
+        }
+    }
+}
+
+/// Whether a fault is J2.
+fn is_j2(fault: CallFault) -> bool {
+    fault == CallFault::Memory && fault.code() == "J2" && fault.at() == 0
+}
+
+/// Enters the event at a place. Where memory is refused the journal stays, and the event is entered when the call is made again.
+fn expect_entered(journal: &mut Journal, at: u32) -> Result<(), Fail> {
+    match journal.apply(event(at)) {
+        Ok((found, reply)) => expect_answer(at, found, &reply),
+        Err(fault) => {
+            let is_so = is_j2(fault) && journal.entries().len() == at as usize;
+            let (found, reply) = journal.apply(event(at))?;
+            expect_answer(at, found, &reply)?;
+            expect_refused(is_so, "Journal::apply", "J2")
+        }
+    }
+}
+
+/// Replays a journal. Where memory is refused, it is replayed when the call is made again.
+fn expect_replayed(alloc: Global, journal: &Journal) -> Result<(), Fail> {
+    match replay(alloc, journal.opening(), journal.entries()) {
+        Ok(tables) => expect(tables.session(1) == 1, "a journal replays"),
+        Err(fault) => {
+            let tables = replay(alloc, journal.opening(), journal.entries())?;
+            let is_so = fault == ReplayFault::Memory && tables.session(1) == 1;
+            expect_refused(is_so, "replay", "Memory")
+        }
+    }
 }
 
 #[test]
 fn an_event_is_entered_or_j2_and_the_journal_stays(rt: HostRuntime) -> Result<(), Fail> {
-    let alloc = rt.alloc();
-    let mut journal = Journal::open(alloc, opening(alloc)?, 3)?;
+    let mut journal = opened(rt.alloc())?;
     for at in 0..3 {
-        match journal.apply(event(at)) {
-            Ok(answer) => expect_answer(&rt, alloc, at, answer)?,
-            Err(fault) => {
-                assert!(rt; fault == CallFault::Memory);
-                assert!(rt; fault.code() == "J2" && fault.at() == 0);
-                assert!(rt; journal.entries().len() == at as usize);
-                expect_answer(&rt, alloc, at, journal.apply(event(at))?)?;
-                return Err(answered("Journal::apply", "J2"));
-            }
-        }
+        expect_entered(&mut journal, at)?;
     }
-    match replay(alloc, journal.opening(), journal.entries()) {
-        Ok(tables) => assert!(rt; tables.session(1) == 1),
-        Err(fault) => {
-            assert!(rt; fault == ReplayFault::Memory);
-            let tables = replay(alloc, journal.opening(), journal.entries())?;
-            assert!(rt; tables.session(1) == 1);
-            return Err(answered("replay", "Memory"));
-        }
-    }
-    Ok(())
+    expect_replayed(rt.alloc(), &journal)
 }

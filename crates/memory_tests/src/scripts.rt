@@ -1,7 +1,8 @@
 //! A script, with memory and without.
 
-use crate::lines::{Page, Pieces};
-use crate::refusals::answered;
+use crate::lines::{Page, Pieces, begins_whole};
+use crate::refusals::expect_refused;
+use expectations::expect;
 use operator_cmds::{ScriptFault, run_script};
 use std::test::Fail;
 
@@ -18,14 +19,13 @@ fn a_script_is_answered_or_e3(rt: HostRuntime) -> Result<(), Fail> {
     let mut reader = Pieces { rest: SCRIPT };
     let mut out = Page::new();
     match run_script(rt.alloc(), &mut reader, &mut out) {
-        Ok(refused) => assert_eq!(rt; refused, 0),
+        Ok(refused) => expect(
+            refused == 0 && out.text() == ANSWERS,
+            "a script is answered",
+        ),
         Err(fault) => {
-            assert_eq!(rt; fault, ScriptFault::Memory);
-            assert!(rt; ANSWERS.starts_with(out.text()));
-            assert!(rt; out.text().is_empty() || out.text().ends_with(b"\n"));
-            return Err(answered("run_script", "E3"));
+            let is_so = fault == ScriptFault::Memory && begins_whole(out.text(), ANSWERS);
+            expect_refused(is_so, "run_script", "E3")
         }
     }
-    assert_eq!(rt; out.text(), ANSWERS);
-    Ok(())
 }

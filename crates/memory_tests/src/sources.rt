@@ -1,10 +1,11 @@
 //! A filter's text and a code file as sources of verified code, with memory and without.
 
-use crate::refusals::answered;
+use crate::refusals::expect_refused;
+use expectations::expect;
 use filter_code::{Code, Instr};
 use filter_source::{Failure, compile_text, read_file, read_hexadecimal, verify_code};
 use filter_verifier::Verified;
-use std::process::Abort;
+use std::alloc::Global;
 use std::test::Fail;
 
 /// A filter, whose code raises the metric by two.
@@ -19,78 +20,95 @@ const DIGITS: &str = "4e43463100000008130100000002201424157071";
 /// The size of the domain.
 const SIZE: u32 = 8;
 
-/// Asserts that a code is that of the filter.
-fn expect_code(rt: &impl Abort, code: &Code) {
-    let instrs = [
-        Instr::Metric,
-        Instr::Int(2),
-        Instr::Add,
-        Instr::Received,
-        Instr::Max,
-        Instr::SetMetric,
-        Instr::Accept,
-        Instr::Reject,
-    ];
-    assert!(rt; code.locals() == 0);
-    assert!(rt; code.sets().is_empty());
-    assert!(rt; code.instrs() == instrs.as_slice());
+/// The instructions of that code.
+const INSTRS: [Instr; 8] = [
+    Instr::Metric,
+    Instr::Int(2),
+    Instr::Add,
+    Instr::Received,
+    Instr::Max,
+    Instr::SetMetric,
+    Instr::Accept,
+    Instr::Reject,
+];
+
+/// Whether a code is that of the filter.
+fn is_code(code: &Code) -> bool {
+    code.locals() == 0 && code.sets().is_empty() && code.instrs() == INSTRS.as_slice()
 }
 
-/// Asserts that verified code is that of the filter, with its bounds.
-fn expect_verified(rt: &impl Abort, verified: &Verified) {
-    expect_code(rt, verified.code());
-    assert!(rt; verified.size() == SIZE && verified.budget() == 7 && verified.depth() == 2);
+/// Whether verified code is that of the filter, with its bounds.
+fn is_verified(verified: &Verified) -> bool {
+    is_code(verified.code())
+        && verified.size() == SIZE
+        && verified.budget() == 7
+        && verified.depth() == 2
+}
+
+/// What the filter's code is read from.
+#[derive(Clone, Copy)]
+enum Source {
+    Text,
+    File,
+    Digits,
+}
+
+/// The code of a source.
+fn read(alloc: Global, source: Source) -> Result<Code, Failure> {
+    match source {
+        Source::Text => compile_text(alloc, TEXT.as_bytes()),
+        Source::File => read_file(alloc, FILE),
+        Source::Digits => read_hexadecimal(alloc, DIGITS.as_bytes()),
+    }
+}
+
+/// Reads a source by a call. Where memory is refused, the source is read when the call is made again.
+fn expect_source(alloc: Global, source: Source, call: &str) -> Result<(), Fail> {
+    match read(alloc, source) {
+        Ok(code) => expect(is_code(&code), "the code of the filter"),
+        Err(failure) => {
+            let is_read = is_code(&read(alloc, source)?);
+            expect_refused(
+                is_read && matches!(failure, Failure::Memory),
+                call,
+                "Memory",
+            )
+        }
+    }
 }
 
 #[test]
 fn a_text_has_code_or_memory_is_refused(rt: HostRuntime) -> Result<(), Fail> {
-    match compile_text(rt.alloc(), TEXT.as_bytes()) {
-        Ok(code) => expect_code(&rt, &code),
-        Err(failure) => {
-            assert!(rt; matches!(failure, Failure::Memory));
-            expect_code(&rt, &compile_text(rt.alloc(), TEXT.as_bytes())?);
-            return Err(answered("compile_text", "Memory"));
-        }
-    }
-    Ok(())
+    expect_source(rt.alloc(), Source::Text, "compile_text")
 }
 
 #[test]
 fn a_file_has_code_or_memory_is_refused(rt: HostRuntime) -> Result<(), Fail> {
-    match read_file(rt.alloc(), FILE) {
-        Ok(code) => expect_code(&rt, &code),
-        Err(failure) => {
-            assert!(rt; matches!(failure, Failure::Memory));
-            expect_code(&rt, &read_file(rt.alloc(), FILE)?);
-            return Err(answered("read_file", "Memory"));
-        }
-    }
-    Ok(())
+    expect_source(rt.alloc(), Source::File, "read_file")
 }
 
 #[test]
 fn digits_have_code_or_memory_is_refused(rt: HostRuntime) -> Result<(), Fail> {
-    match read_hexadecimal(rt.alloc(), DIGITS.as_bytes()) {
-        Ok(code) => expect_code(&rt, &code),
-        Err(failure) => {
-            assert!(rt; matches!(failure, Failure::Memory));
-            expect_code(&rt, &read_hexadecimal(rt.alloc(), DIGITS.as_bytes())?);
-            return Err(answered("read_hexadecimal", "Memory"));
-        }
-    }
-    Ok(())
+    expect_source(rt.alloc(), Source::Digits, "read_hexadecimal")
+}
+
+/// The code of the file, as it is verified.
+fn verified(alloc: Global) -> Result<Result<Verified, Failure>, Fail> {
+    let code = read_file(alloc, FILE)?;
+    Ok(verify_code(alloc, code, SIZE))
 }
 
 #[test]
 fn code_is_verified_or_memory_is_refused(rt: HostRuntime) -> Result<(), Fail> {
-    match verify_code(rt.alloc(), read_file(rt.alloc(), FILE)?, SIZE) {
-        Ok(verified) => expect_verified(&rt, &verified),
+    match verified(rt.alloc())? {
+        Ok(verified) => expect(is_verified(&verified), "the filter is verified"),
         Err(failure) => {
-            assert!(rt; matches!(failure, Failure::Memory));
-            let again = verify_code(rt.alloc(), read_file(rt.alloc(), FILE)?, SIZE)?;
-            expect_verified(&rt, &again);
-            return Err(answered("verify_code", "Memory"));
+            let is_so = is_verified(&verified(rt.alloc())??);
+            expect_refused(
+                is_so && matches!(failure, Failure::Memory),
+                "verify_code",
+                "Memory",
+            )
         }
     }
-    Ok(())
 }

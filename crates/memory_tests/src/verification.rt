@@ -1,11 +1,11 @@
 //! Code that is verified, with memory and without.
 
-use crate::refusals::answered;
+use crate::refusals::expect_refused;
+use expectations::expect;
 use filter_code::{Code, Instr};
 use filter_verifier::{Verified, VerifyFault, verify};
 use prefix_patterns::{Ip, Pattern, PatternSet, Prefix};
 use std::alloc::Global;
-use std::process::Abort;
 use std::test::Fail;
 
 /// Two ways lead on to SETMETRIC, each with one int on the stack.
@@ -34,40 +34,52 @@ fn made(alloc: Global) -> Result<Code, Fail> {
     )?)
 }
 
-/// Asserts that a code is that one.
-fn expect_code(rt: &impl Abort, code: &Code) -> Result<(), Fail> {
-    let pattern = pattern().ok_or("a pattern")?;
-    assert!(rt; code.locals() == 1);
-    assert!(rt; code.sets().len() == 1);
-    for set in code.sets() {
-        assert!(rt; set.patterns() == [pattern].as_slice());
-    }
-    assert!(rt; code.instrs() == INSTRS.as_slice());
-    Ok(())
+/// Whether a set is the one of that pattern.
+fn is_set(set: &PatternSet) -> bool {
+    let Some(pattern) = pattern() else {
+        return false;
+    };
+    set.patterns() == [pattern].as_slice()
 }
 
-/// Asserts that it was verified for 8 nodes: its longest way has seven steps, and one operand on the stack.
-fn expect_verified(rt: &impl Abort, verified: &Verified) -> Result<(), Fail> {
-    assert!(rt; verified.size() == 8);
-    assert!(rt; verified.budget() == 7);
-    assert!(rt; verified.depth() == 1);
-    expect_code(rt, verified.code())
+/// Whether a code is that one.
+fn is_code(code: &Code) -> bool {
+    let are_instrs = code.locals() == 1 && code.instrs() == INSTRS.as_slice();
+    match code.sets() {
+        [set] => are_instrs && is_set(set),
+        _ => false,
+    }
+}
+
+/// Whether it was verified for 8 nodes: its longest way has seven steps, and one operand on the stack.
+fn is_verified(verified: &Verified) -> bool {
+    verified.size() == 8
+        && verified.budget() == 7
+        && verified.depth() == 1
+        && is_code(verified.code())
+}
+
+/// Whether a fault is V10.
+fn is_v10(fault: VerifyFault) -> bool {
+    fault == VerifyFault::Memory && fault.code() == "V10" && fault.at() == 0
+}
+
+/// Whether the code that came back is that one, and is verified when the call is made again.
+fn is_back(alloc: Global, code: Code) -> Result<bool, Fail> {
+    let is_same = is_code(&code);
+    match verify(alloc, code, 8) {
+        Ok(verified) => Ok(is_same && is_verified(&verified)),
+        Err((_, fault)) => Err(Fail::from(fault)),
+    }
 }
 
 #[test]
 fn a_code_is_verified_or_v10_with_the_same_code(rt: HostRuntime) -> Result<(), Fail> {
-    let code = made(rt.alloc())?;
-    match verify(rt.alloc(), code, 8) {
-        Ok(verified) => expect_verified(&rt, &verified),
+    match verify(rt.alloc(), made(rt.alloc())?, 8) {
+        Ok(verified) => expect(is_verified(&verified), "a code is verified"),
         Err((code, fault)) => {
-            assert!(rt; fault == VerifyFault::Memory);
-            assert!(rt; fault.code() == "V10" && fault.at() == 0);
-            expect_code(&rt, &code)?;
-            match verify(rt.alloc(), code, 8) {
-                Ok(verified) => expect_verified(&rt, &verified)?,
-                Err((_, fault)) => return Err(Fail::from(fault)),
-            }
-            Err(answered("verify", "V10"))
+            let is_back = is_back(rt.alloc(), code)?;
+            expect_refused(is_back && is_v10(fault), "verify", "V10")
         }
     }
 }

@@ -1,6 +1,6 @@
 //! What operators do meanwhile, in a thread of their own: they take a reader's session down and up, and they replace filters.
 
-ghost use Rattle.std.specs.Prelude.{◌×◌, IfOk};
+ghost use Rattle.std.specs.Prelude.{IfOk};
 ghost use Rattle.slot_lock.specs.Held.{IsPassOf};
 
 use crate::fixtures::{OpenGate, end, expect_entered, message, messages, opened};

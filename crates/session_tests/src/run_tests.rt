@@ -1,6 +1,6 @@
 //! Many sessions: their results come in the order of the jobs, and all their calls stand in one history.
 
-ghost use Rattle.std.specs.Prelude.{◌≡◌, ◌×◌, IfOk, vec_len};
+ghost use Rattle.std.specs.Prelude.{◌≡◌, IfOk, vec_len};
 ghost use Rattle.route_session.specs.Jobs.{AreBack, AreFor};
 ghost use Rattle.slot_lock.specs.Held.{IsPassOf};
 
