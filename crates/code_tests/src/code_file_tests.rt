@@ -16,19 +16,28 @@ pub fn fault_of(alloc: Global, bytes: &[u8]) -> Option<FileFault> {
     }
 }
 
-/// The smallest files, and their instructions.
-const SMALLEST: [(&[u8], &[Instr]); 4] = [
-    (b"NCF1\0\0\0\0", &[]),
-    (b"NCF1\0\0\0\x01\x70", &[Instr::Accept]),
-    (b"NCF2\0\0\0\0\0", &[]),
-    (b"NCF2\0\0\0\0\x01\x70", &[Instr::Accept]),
+/// The smallest files, and whether each has an ACCEPT.
+const SMALLEST: [(&[u8], bool); 4] = [
+    (b"NCF1\0\0\0\0", false),
+    (b"NCF1\0\0\0\x01\x70", true),
+    (b"NCF2\0\0\0\0\0", false),
+    (b"NCF2\0\0\0\0\x01\x70", true),
 ];
+
+/// Whether a code has an ACCEPT alone, or nothing.
+fn is_smallest(code: &Code, has_accept: bool) -> bool {
+    match code.instrs() {
+        [] => !has_accept,
+        [Instr::Accept] => has_accept,
+        _ => false,
+    }
+}
 
 #[test]
 fn the_smallest_files(rt: HostRuntime) -> Result<(), Fail> {
-    for (bytes, instrs) in &SMALLEST {
+    for (bytes, has_accept) in &SMALLEST {
         let code = read_code(rt.alloc(), bytes)?;
-        expect(code.instrs() == *instrs, "the instructions of a file")?;
+        expect(is_smallest(&code, *has_accept), "the smallest files")?;
     }
     Ok(())
 }

@@ -93,35 +93,23 @@ fn expect_outcome(
     Err(Fail::new(format_args!("{instrs:?}: {outcome:?}, and not {wanted:?}")))
 }
 
-/// Instructions, a metric, and the outcome: of a sum that wraps, of a reject, and of faults at their places.
-const OUTCOMES: [(&[Instr], u32, Outcome); 7] = [
-    (&WRAPPING, 3, Outcome::Fault(FaultKind::LowerMetric, 3)),
-    (&WRAPPING, 0, Outcome::Accept(8)),
-    (&[Instr::Reject], 3, Outcome::Reject),
-    (&[], 3, Outcome::Fault(FaultKind::OutsideCode, 0)),
-    (
-        &[Instr::Metric],
-        3,
-        Outcome::Fault(FaultKind::OutsideCode, 1),
-    ),
-    (
-        &[Instr::Metric, Instr::Add],
-        3,
-        Outcome::Fault(FaultKind::MissingOperand, 1),
-    ),
-    (
-        &[Instr::Metric; 33],
-        3,
-        Outcome::Fault(FaultKind::FullStack, 32),
-    ),
-];
+/// Expects that instructions have this fault at a place on metric 3.
+fn expect_fault(alloc: Global, instrs: &[Instr], kind: FaultKind, at: usize) -> Result<(), Fail> {
+    expect_outcome(alloc, instrs, 3, Outcome::Fault(kind, at))
+}
 
+/// Of a sum that wraps, of a reject, and of faults at their places.
 #[test]
 fn outcomes(rt: HostRuntime) -> Result<(), Fail> {
-    for (instrs, metric, wanted) in &OUTCOMES {
-        expect_outcome(rt.alloc(), instrs, *metric, *wanted)?;
-    }
-    Ok(())
+    let alloc = rt.alloc();
+    expect_fault(alloc, &WRAPPING, FaultKind::LowerMetric, 3)?;
+    expect_outcome(alloc, &WRAPPING, 0, Outcome::Accept(8))?;
+    expect_outcome(alloc, &[Instr::Reject], 3, Outcome::Reject)?;
+    expect_fault(alloc, &[], FaultKind::OutsideCode, 0)?;
+    expect_fault(alloc, &[Instr::Metric], FaultKind::OutsideCode, 1)?;
+    let adds = [Instr::Metric, Instr::Add];
+    expect_fault(alloc, &adds, FaultKind::MissingOperand, 1)?;
+    expect_fault(alloc, &[Instr::Metric; 33], FaultKind::FullStack, 32)
 }
 
 /// Three instructions, the fault that their run on metric 3 meets first, and its place.
@@ -221,7 +209,7 @@ const FIRST_FAULTS: [([Instr; 3], FaultKind, usize); 18] = [
 #[test]
 fn faults_come_in_their_order(rt: HostRuntime) -> Result<(), Fail> {
     for (instrs, kind, at) in &FIRST_FAULTS {
-        expect_outcome(rt.alloc(), instrs, 3, Outcome::Fault(*kind, *at))?;
+        expect_fault(rt.alloc(), instrs, *kind, *at)?;
     }
     Ok(())
 }
@@ -375,26 +363,17 @@ fn is_code_of(code: &Code, instrs: &[Instr]) -> bool {
         && code.instrs() == instrs
 }
 
-/// Instructions that are read back.
-const READ_BACK: [&[Instr]; 2] = [&[Instr::Accept; 1024], &[Instr::Int(5)]];
+/// Expects that a code of these instructions is read back.
+fn expect_read_back(alloc: Global, instrs: &[Instr]) -> Result<(), Fail> {
+    let code = code(alloc, instrs)?;
+    expect(is_code_of(&code, instrs), "a code is read back")
+}
 
 #[test]
 fn a_code_is_read_back(rt: HostRuntime) -> Result<(), Fail> {
-    for instrs in &READ_BACK {
-        let code = code(rt.alloc(), instrs)?;
-        expect(is_code_of(&code, instrs), "a code is read back")?;
-    }
-    Ok(())
+    expect_read_back(rt.alloc(), &[Instr::Accept; 1024])?;
+    expect_read_back(rt.alloc(), &[Instr::Int(5)])
 }
-
-/// Local variables, instructions, and whether there is a code with so many of them and no sets: 1,025 instructions, 17 variables and
-/// 33 bits are too many.
-const CODES: [(u8, &[Instr], bool); 4] = [
-    (0, &[Instr::Accept; 1025], false),
-    (17, &[], false),
-    (16, &[], true),
-    (0, &[Instr::Mask(33)], false),
-];
 
 /// Whether there is a code of these instructions, with so many local variables and no sets.
 fn is_code(alloc: Global, locals: u8, instrs: &[Instr]) -> Result<bool, Fail> {
@@ -402,13 +381,20 @@ fn is_code(alloc: Global, locals: u8, instrs: &[Instr]) -> Result<bool, Fail> {
     Ok(Code::new(locals, Vec::new(alloc), Vec::new(alloc), instrs).is_some())
 }
 
+/// Expects that there is a code of these instructions and so many local variables, or none.
+fn expect_code(alloc: Global, locals: u8, instrs: &[Instr], wanted: bool) -> Result<(), Fail> {
+    let is_code = is_code(alloc, locals, instrs)?;
+    expect(is_code == wanted, "the limits of a code")
+}
+
+/// 1,025 instructions, 17 variables and 33 bits are too many.
 #[test]
 fn a_code_is_within_the_limits(rt: HostRuntime) -> Result<(), Fail> {
-    for (locals, instrs, wanted) in &CODES {
-        let is_code = is_code(rt.alloc(), *locals, instrs)?;
-        expect(is_code == *wanted, "the limits of a code")?;
-    }
-    Ok(())
+    let alloc = rt.alloc();
+    expect_code(alloc, 0, &[Instr::Accept; 1025], false)?;
+    expect_code(alloc, 17, &[], false)?;
+    expect_code(alloc, 16, &[], true)?;
+    expect_code(alloc, 0, &[Instr::Mask(33)], false)
 }
 
 /// Whether there is a code with 65 sets of patterns.

@@ -1,13 +1,17 @@
 //! What a caller does in a thread of its own.
 
-ghost use Rattle.std.specs.Prelude.{IfSome};
+ghost use Rattle.std.specs.Prelude.{IfOk, IfSome};
 ghost use Rattle.slot_lock.specs.Held.{IsPassOf};
 
+use crate::fixtures::open;
 use crate::kinds::event_of;
+use expectations::expect;
 use netchange_core::Event;
+use route_history::Journal;
 use slot_lock::{Answer, Pass, Router, TryFault};
 use std::alloc::Global;
 use std::sync::Wait;
+use std::test::Fail;
 use std::thread;
 use std::thread::Threads;
 
@@ -117,4 +121,59 @@ pub fn serve_both<R: Threads + Wait + Sync>(
         { serve(rt, alloc, router, second) },
     );
     Some((a?, b?))
+}
+
+/// Two callers that have ended, as one.
+pub fn joined(router: &Router, one: Ended, other: Ended) -> Result<Ended, Fail>
+    requires { IsPassOf router.now one.pass × IsPassOf router.now other.pass }
+    ensures { IfOk result (λ e. IsPassOf router.now e.pass) }
+{
+    let Ended {
+        mut pass,
+        mut answers,
+    } = one;
+    let mut others = other.answers;
+    router.join(&mut pass, other.pass);
+    answers.append(&mut others)?;
+    Ok(Ended { pass, answers })
+}
+
+/// The same, after their passes have met. The first had 45,536 shares, the second 20,000.
+fn met_and_joined(router: &Router, mut one: Ended, other: Ended) -> Result<Ended, Fail>
+    requires { IsPassOf router.now one.pass × IsPassOf router.now other.pass }
+    ensures { IfOk result (λ e. IsPassOf router.now e.pass) }
+{
+    let pass = router.meet(&mut one.pass, other.pass);
+    let are_kept = one.pass.shares() == 45_536 && pass.shares() == 20_000;
+    let answers = other.answers;
+    let all = joined(router, one, Ended { pass, answers })?;
+    let is_whole = all.pass.shares() == 65_536;
+    expect(are_kept && is_whole, "passes keep their shares")?;
+    Ok(all)
+}
+
+/// Two callers of a router, each in a thread of its own, that call so often each: the router's journal, and all answers.
+pub fn serve_alone<R: Threads + Wait + Sync>(
+    rt: &R,
+    alloc: Global,
+    first_work: Work,
+    second_work: Work,
+    calls: u16,
+) -> Result<(Journal, Vec<Answer>), Fail> {
+    let (router, mut first) = open(alloc, 1_000)?;
+    let second = router.split(&mut first, 20_000);
+    let one = Caller {
+        pass: first,
+        work: first_work,
+        calls,
+    };
+    let other = Caller {
+        pass: second,
+        work: second_work,
+        calls,
+    };
+    let both = serve_both(rt, alloc, &router, one, other);
+    let (one, other) = both.ok_or("a caller was refused")?;
+    let Ended { pass, answers } = met_and_joined(&router, one, other)?;
+    Ok((router.close(pass)?, answers))
 }

@@ -2,9 +2,9 @@
 
 ghost use Rattle.slot_lock.specs.Held.{IsPassOf};
 
-use crate::callers::{Caller, Work, serve_both};
+use crate::callers::{Work, serve_alone};
 use crate::fixtures::{enter_once, expect_answers, open};
-use expectations::{expect, expect_number};
+use expectations::expect_number;
 use filter_source::{compile_text, verify_code};
 use filter_verifier::Verified;
 use netchange_core::Event;
@@ -76,22 +76,23 @@ fn expect_history(
     expect_answers(alloc, journal, answers)
 }
 
-/// The event of a number, once by a try and once by a call.
+/// Enters the event of a number, once by a try and once by a call, and adds the answers.
 fn enter_both<R: Wait>(
     rt: &R,
     alloc: Global,
     router: &Router,
     pass: &mut Pass,
     number: u16,
-) -> Result<(Answer, Answer), Fail>
+    answers: &mut Vec<Answer>,
+) -> Result<(), Fail>
     requires { IsPassOf router.now pass.old }
     ensures { IsPassOf router.now pass.new }
 {
     let event = event_of(alloc, number).ok_or("an event")?;
-    let first = enter_once(router, pass, event)?;
+    answers.push(enter_once(router, pass, event)?)?;
     let event = event_of(alloc, number).ok_or("an event")?;
-    let second = router.call(rt, pass, event)?;
-    Ok((first, second))
+    answers.push(router.call(rt, pass, event)?)?;
+    Ok(())
 }
 
 /// Two passes by turns enter so many events each, by tries and by calls, and are never refused.
@@ -108,11 +109,8 @@ fn enter_by_turns<R: Wait>(
 {
     let mut answers = Vec::new(alloc);
     for number in 0..events {
-        let (a, b) = enter_both(rt, alloc, router, first, number)?;
-        let (c, d) = enter_both(rt, alloc, router, second, number)?;
-        for answer in [a, b, c, d] {
-            answers.push(answer)?;
-        }
+        enter_both(rt, alloc, router, first, number, &mut answers)?;
+        enter_both(rt, alloc, router, second, number, &mut answers)?;
     }
     Ok(answers)
 }
@@ -134,26 +132,7 @@ fn two_passes_by_turns_enter_each_kind(rt: HostRuntime) -> Result<(), Fail> {
 #[test]
 fn two_callers_enter_each_kind(rt: HostRuntime) -> Result<(), Fail> {
     let alloc = rt.alloc();
-    let (router, mut first) = open(alloc, 1_000)?;
-    let second = router.split(&mut first, 20_000);
     let calls = 20 * KINDS;
-    let a = Caller {
-        pass: first,
-        work: Work::TryEach,
-        calls,
-    };
-    let b = Caller {
-        pass: second,
-        work: Work::CallEach,
-        calls,
-    };
-    let Some((a, b)) = serve_both(&rt, alloc, &router, a, b) else {
-        return Err(Fail::from("a caller was refused"));
-    };
-    let mut pass = a.pass;
-    router.join(&mut pass, b.pass);
-    let (mut answers, mut more) = (a.answers, b.answers);
-    answers.append(&mut more)?;
-    let journal = router.close(pass)?;
+    let (journal, answers) = serve_alone(&rt, alloc, Work::TryEach, Work::CallEach, calls)?;
     expect_history(alloc, &journal, 40, answers.as_slice())
 }

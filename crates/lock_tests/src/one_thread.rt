@@ -144,6 +144,12 @@ fn expect_try_fault(alloc: Global, fault: TryFault, wanted: &str) -> Result<(), 
     expect_fault(alloc, fault.code(), fault.at(), &fault, wanted)
 }
 
+/// The faults of the lock, each with its code, its place and its words.
+const LOCK_FAULTS: [(LockFault, &str); 2] = [
+    (LockFault::Held, "L2 0 the lock is held"),
+    (LockFault::Memory, "L3 0 out of memory"),
+];
+
 #[test]
 fn faults_have_codes_and_words(rt: HostRuntime) -> Result<(), Fail> {
     let alloc = rt.alloc();
@@ -151,11 +157,8 @@ fn faults_have_codes_and_words(rt: HostRuntime) -> Result<(), Fail> {
     expect_try_fault(alloc, busy, "L1 0 another caller has the lock")?;
     expect_try_fault(alloc, TryFault::Full, "J1 0 the history is full")?;
     expect_try_fault(alloc, TryFault::Memory, "J2 0 out of memory")?;
-    for (fault, wanted) in [
-        (LockFault::Held, "L2 0 the lock is held"),
-        (LockFault::Memory, "L3 0 out of memory"),
-    ] {
-        expect_fault(alloc, fault.code(), fault.at(), &fault, wanted)?;
+    for (fault, wanted) in &LOCK_FAULTS {
+        expect_fault(alloc, fault.code(), fault.at(), fault, wanted)?;
     }
     Ok(())
 }

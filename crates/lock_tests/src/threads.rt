@@ -3,7 +3,7 @@
 ghost use Rattle.std.specs.Prelude.{◌≡◌, IfOk, IfSome};
 ghost use Rattle.slot_lock.specs.Held.{IsPassOf};
 
-use crate::callers::{Caller, Ended, Work, serve_both};
+use crate::callers::{Caller, Ended, Work, joined, serve_alone, serve_both};
 use crate::fixtures::{enter_once, expect_answers, open};
 use expectations::{expect, expect_number};
 use netchange_core::Event;
@@ -14,12 +14,6 @@ use std::sync::Wait;
 use std::test::Fail;
 use std::thread;
 use std::thread::Threads;
-
-/// The answers of two callers.
-fn both_answers(mut first: Vec<Answer>, mut second: Vec<Answer>) -> Result<Vec<Answer>, Fail> {
-    first.append(&mut second)?;
-    Ok(first)
-}
 
 /// Whether all events of a history are looks.
 fn are_looks(entries: &[Entry]) -> bool {
@@ -38,43 +32,10 @@ fn expect_looks(alloc: Global, journal: &Journal, answers: &[Answer]) -> Result<
     expect_answers(alloc, journal, answers)
 }
 
-/// The pass of two that have met and are joined. The first had 45,536 shares, the second 20,000.
-fn meet_and_join(router: &Router, mut first: Pass, second: Pass) -> Result<Pass, Fail>
-    requires { IsPassOf router.now first × IsPassOf router.now second }
-    ensures { IfOk result (λ p. IsPassOf router.now p) }
-{
-    let second = router.meet(&mut first, second);
-    let are_kept = first.shares() == 45_536 && second.shares() == 20_000;
-    router.join(&mut first, second);
-    expect(
-        are_kept && first.shares() == 65_536,
-        "passes keep their shares",
-    )?;
-    Ok(first)
-}
-
 #[test]
 fn two_callers_look_500_times_each(rt: HostRuntime) -> Result<(), Fail> {
     let alloc = rt.alloc();
-    let (router, mut first) = open(alloc, 1_000)?;
-    let second = router.split(&mut first, 20_000);
-    let (work, calls) = (Work::Look, 500);
-    let a = Caller {
-        pass: first,
-        work,
-        calls,
-    };
-    let b = Caller {
-        pass: second,
-        work,
-        calls,
-    };
-    let Some((a, b)) = serve_both(&rt, alloc, &router, a, b) else {
-        return Err(Fail::from("a caller was refused"));
-    };
-    let answers = both_answers(a.answers, b.answers)?;
-    let pass = meet_and_join(&router, a.pass, b.pass)?;
-    let journal = router.close(pass)?;
+    let (journal, answers) = serve_alone(&rt, alloc, Work::Look, Work::Look, 500)?;
     expect_looks(alloc, &journal, answers.as_slice())
 }
 
@@ -148,71 +109,65 @@ fn serve_four<R: Threads + Wait + Sync>(
     )
 }
 
-/// The pass of four that are joined. The first and the third have 45,535 shares, the others 20,001.
+/// Four callers that have ended, as one. The passes of the first and the third have 45,535 shares, the others 20,001.
 fn join_four(
     router: &Router,
-    first: Pass,
-    second: Pass,
-    mut third: Pass,
-    mut fourth: Pass,
-) -> Result<Pass, Fail>
-    requires one { IsPassOf router.now first × IsPassOf router.now second }
-    requires other { IsPassOf router.now third × IsPassOf router.now fourth }
-    ensures { IfOk result (λ p. IsPassOf router.now p) }
+    first: Ended,
+    second: Ended,
+    third: Ended,
+    fourth: Ended,
+) -> Result<Ended, Fail>
+    requires one { IsPassOf router.now first.pass × IsPassOf router.now second.pass }
+    requires other { IsPassOf router.now third.pass × IsPassOf router.now fourth.pass }
+    ensures { IfOk result (λ e. IsPassOf router.now e.pass) }
 {
-    router.join(&mut fourth, second);
-    router.join(&mut third, first);
-    let are_kept = third.shares() == 45_535 && fourth.shares() == 20_001;
-    router.join(&mut third, fourth);
-    expect(
-        are_kept && third.shares() == 65_536,
-        "passes keep their shares",
-    )?;
-    Ok(third)
+    let fourth = joined(router, fourth, second)?;
+    let third = joined(router, third, first)?;
+    let are_kept = third.pass.shares() == 45_535 && fourth.pass.shares() == 20_001;
+    let all = joined(router, third, fourth)?;
+    let is_whole = all.pass.shares() == 65_536;
+    expect(are_kept && is_whole, "passes keep their shares")?;
+    Ok(all)
 }
 
-/// Answers, and behind them those of four callers.
-fn all_answers(mut answers: Vec<Answer>, others: [Vec<Answer>; 4]) -> Result<Vec<Answer>, Fail> {
-    for mut more in others {
-        answers.append(&mut more)?;
-    }
-    Ok(answers)
+/// A caller that calls 100 times.
+fn caller(pass: Pass, work: Work) -> Caller
+    ensures { result.pass ≡ pass }
+{
+    let calls = 100;
+    Caller { pass, work, calls }
+}
+
+/// Four callers by a router's first pass, whose parts are split and split again: two look, and two tell of distances.
+fn serve_split<R: Threads + Wait + Sync>(
+    rt: &R,
+    alloc: Global,
+    router: &Router,
+    mut first: Pass,
+) -> Result<Ended, Fail>
+    requires { IsPassOf router.now first × (first.part.shares ≡ 65536) }
+    ensures { IfOk result (λ e. IsPassOf router.now e.pass) }
+{
+    let mut second = router.split(&mut first, 30_000);
+    let third = router.split(&mut second, 10_000);
+    let fourth = router.split(&mut first, 1);
+    let a = caller(first, Work::Look);
+    let b = caller(second, Work::Tell(1));
+    let c = caller(third, Work::Look);
+    let d = caller(fourth, Work::Tell(2));
+    let (Some((a, c)), Some((b, d))) = serve_four(rt, alloc, router, a, c, b, d) else {
+        return Err(Fail::from("a caller was refused"));
+    };
+    join_four(router, a, b, c, d)
 }
 
 #[test]
 fn four_callers_with_splits_of_splits(rt: HostRuntime) -> Result<(), Fail> {
     let alloc = rt.alloc();
     let (router, mut first) = open(alloc, 1_000)?;
-    let ups = bring_up(alloc, &router, &mut first)?;
-    let mut second = router.split(&mut first, 30_000);
-    let third = router.split(&mut second, 10_000);
-    let fourth = router.split(&mut first, 1);
-    let calls = 100;
-    let a = Caller {
-        pass: first,
-        work: Work::Look,
-        calls,
-    };
-    let b = Caller {
-        pass: second,
-        work: Work::Tell(1),
-        calls,
-    };
-    let c = Caller {
-        pass: third,
-        work: Work::Look,
-        calls,
-    };
-    let d = Caller {
-        pass: fourth,
-        work: Work::Tell(2),
-        calls,
-    };
-    let (looked, told) = serve_four(&rt, alloc, &router, a, c, b, d);
-    let (a, c) = looked.ok_or("a caller was refused")?;
-    let (b, d) = told.ok_or("a caller was refused")?;
-    let answers = all_answers(ups, [a.answers, b.answers, c.answers, d.answers])?;
-    let pass = join_four(&router, a.pass, b.pass, c.pass, d.pass)?;
-    let journal = router.close(pass)?;
+    let mut answers = bring_up(alloc, &router, &mut first)?;
+    let mut ended = serve_split(&rt, alloc, &router, first)?;
+    let journal = router.close(ended.pass)?;
+    answers.append(&mut ended.answers)?;
     expect_all_calls(alloc, &journal, answers.as_slice())
 }

@@ -59,6 +59,32 @@ pub fn joined(
     Ok(text)
 }
 
+/// How many cases were read, and how many of these were taken by the verifier.
+#[derive(Clone, Copy)]
+pub struct Counts {
+    pub read: u32,
+    pub taken: u32,
+}
+
+impl Counts {
+    pub fn new() -> Counts {
+        Counts { read: 0, taken: 0 }
+    }
+
+    /// Counts a case: none that was not read, or whether it was taken.
+    pub fn add(&mut self, case: Option<bool>) {
+        if let Some(is_taken) = case {
+            self.read = self.read.saturating_add(1);
+            self.taken = self.taken.saturating_add(u32::from(is_taken));
+        }
+    }
+
+    /// How many of those that were read were not taken.
+    pub fn refused(&self) -> u32 {
+        self.read.saturating_sub(self.taken)
+    }
+}
+
 /// What a case came to. The seed of one that failed is told.
 pub fn named<T>(rt: &HostRuntime, seed: u64, outcome: Result<T, Fail>) -> Result<T, Fail> {
     if outcome.is_err() {

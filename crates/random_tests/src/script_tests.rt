@@ -1,9 +1,9 @@
 //! Scripts: they are answered in the same way whatever pieces they are read in, with a line for each line that is not skipped.
 
 use crate::inputs::{Pieces, damaged, joined, named};
+use expectations::expect;
 use operator_cmds::run_script;
 use std::alloc::{AllocError, Global};
-use std::process::Abort;
 use std::test::Fail;
 use worked_rows::Numbers;
 
@@ -68,39 +68,54 @@ fn answered_lines(script: &[u8]) -> usize {
     count
 }
 
-/// Asserts that a script is answered alike in pieces and whole. Says how many of its lines were refused.
-fn expect_alike(rt: &impl Abort, alloc: Global, seed: u64) -> Result<u32, Fail> {
+/// The answers to a script that is read in pieces of at most so many bytes, and how many of its lines were refused.
+fn answers(alloc: Global, script: &[u8], most: usize) -> Result<(Vec<u8>, u32), Fail> {
+    let mut answers = Vec::new(alloc);
+    let mut pieces = Pieces { rest: script, most };
+    let refused = run_script(alloc, &mut pieces, &mut answers)?;
+    Ok((answers, refused))
+}
+
+/// How many lines a text has.
+fn lines_of(text: &[u8]) -> usize {
+    let mut count: usize = 0;
+    for byte in text {
+        if *byte == b'\n' {
+            count = count.saturating_add(1);
+        }
+    }
+    count
+}
+
+/// Expects that a random script is answered alike in pieces and whole, with a line for each line that is not skipped. Says how many of
+/// its lines were refused.
+fn expect_alike(alloc: Global, seed: u64) -> Result<u32, Fail> {
     let mut numbers = Numbers::new(seed);
     let script = random_script(alloc, &mut numbers)?;
-    let (mut whole, mut pieced) = (Vec::new(alloc), Vec::new(alloc));
-    let mut pieces = Pieces {
-        rest: script.as_slice(),
-        most: numbers.place(9).saturating_add(1),
-    };
-    let refused = run_script(alloc, &mut script.as_slice(), &mut whole)?;
-    assert_eq!(rt;
-        run_script(alloc, &mut pieces, &mut pieced)?,
-        refused,
-        "seed {seed}"
-    );
-    assert_eq!(rt; pieced.as_slice(), whole.as_slice(), "seed {seed}");
-    let lines = whole
-        .as_slice()
-        .iter()
-        .filter(|byte| **byte == b'\n')
-        .count();
-    assert_eq!(rt; lines, answered_lines(script.as_slice()), "seed {seed}");
-    Ok(refused)
+    let most = numbers.place(9).saturating_add(1);
+    expect_answers(alloc, script.as_slice(), most)
+}
+
+/// Expects that a script is answered alike in pieces of at most so many bytes and whole.
+fn expect_answers(alloc: Global, script: &[u8], most: usize) -> Result<u32, Fail> {
+    let whole = answers(alloc, script, usize::MAX)?;
+    let pieced = answers(alloc, script, most)?;
+    let is_alike = are_same(&whole, &pieced) && lines_of(&whole.0) == answered_lines(script);
+    expect(is_alike, "a script is answered alike in pieces")?;
+    Ok(whole.1)
+}
+
+/// Whether two answers are the same.
+fn are_same(one: &(Vec<u8>, u32), other: &(Vec<u8>, u32)) -> bool {
+    one.0.as_slice() == other.0.as_slice() && one.1 == other.1
 }
 
 #[test]
 fn scripts_are_answered_alike_in_any_pieces(rt: HostRuntime) -> Result<(), Fail> {
-    let alloc = rt.alloc();
     let mut refused: u64 = 0;
     for seed in 0..2_000 {
-        let outcome = expect_alike(&rt, alloc, seed);
+        let outcome = expect_alike(rt.alloc(), seed);
         refused = refused.saturating_add(u64::from(named(&rt, seed, outcome)?));
     }
-    assert!(rt; refused > 2_000, "{refused} lines refused");
-    Ok(())
+    expect(refused > 2_000, "how many lines are refused")
 }

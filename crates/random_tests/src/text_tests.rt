@@ -1,14 +1,14 @@
 //! Texts, from the parser to the verifier. What is between the tokens of a filter means nothing.
 
-use crate::inputs::{damaged, joined, named};
+use crate::inputs::{Counts, damaged, joined, named};
 use crate::runs::expect_safe;
 use code_file::{read_code, write_code};
+use expectations::expect;
 use filter_code::Code;
 use filter_compiler::compile;
 use filter_parser::{Filter, ParseFault, parse};
 use filter_types::{TypeFault, check};
 use std::alloc::{AllocError, Global};
-use std::process::Abort;
 use std::test::Fail;
 use worked_rows::{FILTERS, Numbers};
 
@@ -63,17 +63,12 @@ fn spaced(alloc: Global, text: &[u8], filter: &Filter) -> Result<Vec<u8>, AllocE
 }
 
 /// A filter that parses; none where the text is refused, at a place of it or its end.
-fn filter_of(
-    rt: &impl Abort,
-    alloc: Global,
-    text: &[u8],
-    seed: u64,
-) -> Result<Option<Filter>, Fail> {
+fn filter_of(alloc: Global, text: &[u8]) -> Result<Option<Filter>, Fail> {
     match parse(alloc, text) {
         Ok(filter) => Ok(Some(filter)),
         Err(ParseFault::Memory) => Err(Fail::from("memory was refused")),
         Err(fault) => {
-            assert!(rt; fault.at() <= text.len(), "seed {seed}");
+            expect(fault.at() <= text.len(), "the place of a fault")?;
             Ok(None)
         }
     }
@@ -96,53 +91,61 @@ fn spaced_file(alloc: Global, spaced: &[u8]) -> Result<Option<Vec<u8>>, Fail> {
     }
 }
 
-/// Asserts the laws of a filter. Says whether its code was taken by the verifier.
-fn expect_laws(
-    rt: &impl Abort,
-    alloc: Global,
-    numbers: &mut Numbers,
-    text: &[u8],
-    seed: u64,
-) -> Result<Option<bool>, Fail> {
-    let Some(filter) = filter_of(rt, alloc, text, seed)? else {
+/// Expects that a code has a file, which is read as the same code, and which the spaced text has too.
+fn expect_file(alloc: Global, code: &Code, spaced: &Option<Vec<u8>>) -> Result<(), Fail> {
+    let file = write_code(alloc, code)?;
+    let is_same = match spaced {
+        Some(spaced) => spaced.as_slice() == file.as_slice(),
+        None => false,
+    };
+    expect(is_same, "the code of a text that is spaced")?;
+    let read = read_code(alloc, file.as_slice())?;
+    expect(read.instrs() == code.instrs(), "code that is read back")
+}
+
+/// Expects the laws of a random text. Says whether its code was taken by the verifier; none where it is no filter.
+fn expect_laws(alloc: Global, seed: u64) -> Result<Option<bool>, Fail> {
+    let mut numbers = Numbers::new(seed);
+    let text = random_text(alloc, &mut numbers)?;
+    let Some(filter) = filter_of(alloc, text.as_slice())? else {
         return Ok(None);
     };
-    let again = spaced_file(alloc, spaced(alloc, text, &filter)?.as_slice())?;
-    let Some(code) = code_of(alloc, filter)? else {
-        assert!(rt; again.is_none(), "seed {seed}");
-        return Ok(Some(false));
-    };
-    let file = write_code(alloc, &code)?;
-    assert_eq!(rt;
-        again.ok_or("spaced code")?.as_slice(),
-        file.as_slice(),
-        "seed {seed}"
-    );
-    let read = read_code(alloc, file.as_slice())?;
-    assert_eq!(rt; read.instrs(), code.instrs(), "seed {seed}");
-    Ok(Some(expect_safe(rt, alloc, numbers, code, seed)?))
+    let spaced = spaced(alloc, text.as_slice(), &filter)?;
+    let is_taken = expect_same(alloc, &mut numbers, filter, spaced.as_slice())?;
+    Ok(Some(is_taken))
+}
+
+/// Expects that a filter has the code that it has with its tokens spaced. Says whether its code was taken by the verifier.
+fn expect_same(
+    alloc: Global,
+    numbers: &mut Numbers,
+    filter: Filter,
+    spaced: &[u8],
+) -> Result<bool, Fail> {
+    let again = spaced_file(alloc, spaced)?;
+    match code_of(alloc, filter)? {
+        Some(code) => {
+            expect_file(alloc, &code, &again)?;
+            expect_safe(alloc, numbers, code)
+        }
+        None => {
+            expect(again.is_none(), "a text that is spaced is refused")?;
+            Ok(false)
+        }
+    }
 }
 
 #[test]
 fn filters_mean_the_same_however_they_are_laid_out(rt: HostRuntime) -> Result<(), Fail> {
-    let alloc = rt.alloc();
-    let (mut parsed, mut taken) = (0u32, 0u32);
+    let mut counts = Counts::new();
     for seed in 0..10_000 {
-        let mut numbers = Numbers::new(seed);
-        let text = random_text(alloc, &mut numbers)?;
-        let outcome = expect_laws(&rt, alloc, &mut numbers, text.as_slice(), seed);
-        match named(&rt, seed, outcome)? {
-            None => {}
-            Some(is_taken) => {
-                parsed = parsed.saturating_add(1);
-                taken = taken.saturating_add(u32::from(is_taken));
-            }
-        }
+        let outcome = expect_laws(rt.alloc(), seed);
+        counts.add(named(&rt, seed, outcome)?);
     }
     // Neither all texts nor none are filters, and neither all filters nor none are safe.
-    assert!(rt;
-        1_000 < taken && taken.saturating_add(500) < parsed && parsed < 9_000,
-        "{taken} of {parsed}"
-    );
-    Ok(())
+    let is_so = 1_000 < counts.taken && counts.refused() > 500 && counts.read < 9_000;
+    expect(
+        is_so,
+        "how many texts are filters, and how many filters are safe",
+    )
 }

@@ -33,6 +33,44 @@ pub struct Input {
     pub steps: Vec<Step>,
 }
 
+/// The words that lines begin with.
+#[derive(Clone, Copy)]
+enum Word {
+    Network,
+    Filter,
+    Begin,
+    Up,
+    Down,
+    Receive,
+    Take,
+    Import,
+    Export,
+    Show,
+}
+
+const WORDS: [(&[u8], Word); 10] = [
+    (b"network", Word::Network),
+    (b"filter", Word::Filter),
+    (b"begin", Word::Begin),
+    (b"up", Word::Up),
+    (b"down", Word::Down),
+    (b"recv", Word::Receive),
+    (b"take", Word::Take),
+    (b"import", Word::Import),
+    (b"export", Word::Export),
+    (b"show", Word::Show),
+];
+
+/// The word that a text is.
+fn word_of(text: &[u8]) -> Option<Word> {
+    for (word, kind) in &WORDS {
+        if text == *word {
+            return Some(*kind);
+        }
+    }
+    None
+}
+
 /// The next number of a line, and the rest of the line.
 fn next_number(line: &[u8]) -> Option<(u16, &[u8])> {
     let (word, rest) = next_word(line)?;
@@ -40,25 +78,32 @@ fn next_number(line: &[u8]) -> Option<(u16, &[u8])> {
     Some((u16::try_from(number).ok()?, rest))
 }
 
-/// The event of a word and the numbers after it.
-fn step_of(word: &[u8], rest: &[u8]) -> Option<Step> {
-    let (first, rest) = next_number(rest)?;
+/// The next two numbers of a line, and the rest of the line.
+fn next_two(line: &[u8]) -> Option<(u16, u16, &[u8])> {
+    let (first, rest) = next_number(line)?;
+    let (second, rest) = next_number(rest)?;
+    Some((first, second, rest))
+}
+
+/// The event of a word and one number.
+fn step_of(word: Word, rest: &[u8]) -> Option<Step> {
+    let (first, _) = next_number(rest)?;
     match word {
-        b"up" => Some(Step::Up(first)),
-        b"down" => Some(Step::Down(first)),
-        b"take" => Some(Step::Take(first)),
-        b"show" => Some(Step::Show(first)),
-        _ => step_of_more(word, first, rest),
+        Word::Up => Some(Step::Up(first)),
+        Word::Down => Some(Step::Down(first)),
+        Word::Take => Some(Step::Take(first)),
+        Word::Show => Some(Step::Show(first)),
+        _ => step_of_more(word, rest),
     }
 }
 
 /// The event of a word and more than one number.
-fn step_of_more(word: &[u8], first: u16, rest: &[u8]) -> Option<Step> {
-    let (second, rest) = next_number(rest)?;
+fn step_of_more(word: Word, rest: &[u8]) -> Option<Step> {
+    let (first, second, rest) = next_two(rest)?;
     match word {
-        b"import" => Some(Step::SetImport(first, usize::from(second))),
-        b"export" => Some(Step::SetExport(first, usize::from(second))),
-        b"recv" => {
+        Word::Import => Some(Step::SetImport(first, usize::from(second))),
+        Word::Export => Some(Step::SetExport(first, usize::from(second))),
+        Word::Receive => {
             let (third, _) = next_number(rest)?;
             Some(Step::Receive(first, second, third))
         }
@@ -75,6 +120,17 @@ fn filter_of(alloc: Global, rest: &[u8], size: u16) -> Option<Arc<Verified>> {
 }
 
 impl Input {
+    /// What was read before the first line.
+    pub fn new(alloc: Global) -> Input {
+        Input {
+            size: 0,
+            me: 0,
+            filters: Vec::new(alloc),
+            once: 0,
+            steps: Vec::new(alloc),
+        }
+    }
+
     /// The prefix of each node, `10.V.0.0/16`.
     pub fn prefixes(&self, alloc: Global) -> Option<Vec<Prefix>> {
         let mut prefixes = Vec::new(alloc);
@@ -95,20 +151,23 @@ impl Input {
         self.steps.get(self.once..).unwrap_or(&[])
     }
 
-    /// Takes one line in. False where it is wrong.
+    /// Takes one line in. None where it is wrong.
     fn take(&mut self, alloc: Global, line: &[u8]) -> Option<()> {
-        let (word, rest) = next_word(line)?;
-        match word {
-            b"network" => {
-                let (size, rest) = next_number(rest)?;
-                let (me, _) = next_number(rest)?;
-                self.size = size;
-                self.me = me;
-            }
-            b"begin" => self.once = self.steps.len(),
-            b"filter" => self.filters.push(filter_of(alloc, rest, self.size)?).ok()?,
-            _ => self.steps.push(step_of(word, rest)?).ok()?,
+        let (text, rest) = next_word(line)?;
+        match word_of(text)? {
+            Word::Network => self.open(rest)?,
+            Word::Begin => self.once = self.steps.len(),
+            Word::Filter => self.filters.push(filter_of(alloc, rest, self.size)?).ok()?,
+            word => self.steps.push(step_of(word, rest)?).ok()?,
         }
+        Some(())
+    }
+
+    /// Takes the domain in.
+    fn open(&mut self, rest: &[u8]) -> Option<()> {
+        let (size, me, _) = next_two(rest)?;
+        self.size = size;
+        self.me = me;
         Some(())
     }
 }

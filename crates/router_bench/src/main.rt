@@ -27,66 +27,89 @@ use std::thread::Threads;
 use std::{env, io};
 use sums::Sums;
 
-/// What the words of the command line ask for: a part, the rounds, and the events of standard input.
-fn asked(rt: &HostRuntime) -> Option<(String, u32, Input)> {
-    let alloc = rt.alloc();
-    let words: Vec<String> = env::args(rt).ok()?.collect(alloc).ok()?;
-    let [_, part, rounds] = words.as_slice() else {
-        return None;
-    };
-    let rounds = read_number(rounds.as_bytes(), u32::MAX)?;
-    let mut input = Input {
-        size: 0,
-        me: 0,
-        filters: Vec::new(alloc),
-        once: 0,
-        steps: Vec::new(alloc),
-    };
-    if answer_lines(alloc, &mut rt.stdin(), &mut io::writer(rt), &mut input).ok()? != 0 {
-        return None;
+/// What is measured.
+#[derive(Clone, Copy)]
+enum Part {
+    Tables,
+    Journal,
+    Replay,
+    Passes,
+    Mutex,
+}
+
+/// The parts by their names, and how many threads call.
+const PARTS: [(&str, Part, u32); 9] = [
+    ("tables", Part::Tables, 1),
+    ("journal", Part::Journal, 1),
+    ("replay", Part::Replay, 1),
+    ("callers1", Part::Passes, 1),
+    ("callers2", Part::Passes, 2),
+    ("callers4", Part::Passes, 4),
+    ("mutex1", Part::Mutex, 1),
+    ("mutex2", Part::Mutex, 2),
+    ("mutex4", Part::Mutex, 4),
+];
+
+/// The part of a name, and how many threads call.
+fn part_of(name: &str) -> Option<(Part, u32)> {
+    for (text, part, callers) in &PARTS {
+        if name == *text {
+            return Some((*part, *callers));
+        }
     }
-    Some((part.clone().ok()?, rounds, input))
+    None
+}
+
+/// What is asked for: a part, how many threads call, and the rounds.
+type Asked = (Part, u32, u32);
+
+/// What the words of the command line ask for.
+fn asked(rt: &HostRuntime) -> Option<Asked> {
+    let words: Vec<String> = env::args(rt).ok()?.collect(rt.alloc()).ok()?;
+    match words.as_slice() {
+        [_, part, rounds] => asked_by(part.as_str(), rounds.as_bytes()),
+        _ => None,
+    }
+}
+
+/// What two words ask for.
+fn asked_by(part: &str, rounds: &[u8]) -> Option<Asked> {
+    let (part, callers) = part_of(part)?;
+    Some((part, callers, read_number(rounds, u32::MAX)?))
+}
+
+/// The events of standard input.
+fn read_input(rt: &HostRuntime) -> Option<Input> {
+    let alloc = rt.alloc();
+    let mut input = Input::new(alloc);
+    match answer_lines(alloc, &mut rt.stdin(), &mut io::writer(rt), &mut input) {
+        Ok(0) => Some(input),
+        _ => None,
+    }
 }
 
 /// Has the router of a part answer its events.
 fn measured<R: Threads + Wait + Sync>(
     rt: &R,
     alloc: Global,
-    part: &str,
-    rounds: u32,
-    input: Input,
+    (part, callers, rounds): Asked,
+    input: &Input,
 ) -> Option<Sums> {
     match part {
-        "tables" => measure_tables(alloc, &input, rounds),
-        "journal" => measure_journal(alloc, &input, rounds),
-        "replay" => measure_replay(alloc, &input, rounds),
-        "callers1" => measure_passes(rt, alloc, input, 1, rounds),
-        "callers2" => measure_passes(rt, alloc, input, 2, rounds),
-        "callers4" => measure_passes(rt, alloc, input, 4, rounds),
-        "mutex1" => measure_mutex(rt, alloc, input, 1, rounds),
-        "mutex2" => measure_mutex(rt, alloc, input, 2, rounds),
-        "mutex4" => measure_mutex(rt, alloc, input, 4, rounds),
-        _ => None,
+        Part::Tables => measure_tables(alloc, input, rounds),
+        Part::Journal => measure_journal(alloc, input, rounds),
+        Part::Replay => measure_replay(alloc, input, rounds),
+        Part::Passes => measure_passes(rt, alloc, input, callers, rounds),
+        Part::Mutex => measure_mutex(rt, alloc, input, callers, rounds),
     }
 }
 
 fn main(rt: HostRuntime) -> io::Result<()> {
-    let Some((part, rounds, input)) = asked(&rt) else {
+    let (Some(asked), Some(input)) = (asked(&rt), read_input(&rt)) else {
         return Err(io::Error::from(io::ErrorKind::InvalidInput));
     };
-    let Some(
-        Sums {
-            events,
-            refused,
-            changed,
-            messages,
-            distances,
-        },
-    ) = measured(&rt, rt.alloc(), part.as_str(), rounds, input)
-    else {
+    let Some(sums) = measured(&rt, rt.alloc(), asked, &input) else {
         return Err(io::Error::from(io::ErrorKind::InvalidInput));
     };
-    println!(rt;
-        "events {events} refused {refused} changed {changed} messages {messages} distances {distances}"
-    )
+    println!(rt; "{sums}")
 }

@@ -1,22 +1,37 @@
 //! Events through a journal under a `Mutex`, which threads lock in turn: what the passes of a router are compared with.
 
 use crate::input::Input;
-use crate::router::opening_of;
+use crate::router::{counted, opened};
 use crate::sums::Sums;
 use crate::work::Work;
-use route_history::{Journal, LARGEST_LIMIT};
+use route_history::Journal;
 use std::alloc::Global;
 use std::sync::{Mutex, Wait};
 use std::thread;
 use std::thread::Threads;
 
 /// Enters the first events, and notes which sessions they open.
-fn enter_first(journal: &mut Journal, work: &mut Work, sums: &mut Sums) -> Option<()> {
-    for k in 0..work.input.once {
-        let step = *work.input.steps.get(k)?;
-        let (_, reply) = journal.apply(work.event(step)?).ok()?;
+fn enter_first(journal: &mut Journal, work: &mut Work) -> Option<Sums> {
+    let mut sums = Sums::default();
+    for step in work.input.first_steps() {
+        let (_, reply) = journal.apply(work.event(*step)?).ok()?;
         sums.add(&reply);
-        work.note(step, &reply);
+        work.note(*step, &reply);
+    }
+    Some(sums)
+}
+
+/// Enters the events of one round.
+fn enter_round<R: Wait>(
+    rt: &R,
+    journal: &Mutex<Journal>,
+    work: &Work,
+    sums: &mut Sums,
+) -> Option<()> {
+    for step in work.input.round_steps() {
+        let event = work.event(*step)?;
+        let (_, reply) = journal.lock(rt).apply(event).ok()?;
+        sums.add(&reply);
     }
     Some(())
 }
@@ -25,11 +40,7 @@ fn enter_first(journal: &mut Journal, work: &mut Work, sums: &mut Sums) -> Optio
 fn in_one<R: Wait>(rt: &R, journal: &Mutex<Journal>, work: &Work) -> Option<Sums> {
     let mut sums = Sums::default();
     for _round in 0..work.rounds {
-        for step in work.input.round_steps() {
-            let event = work.event(*step)?;
-            let (_, reply) = journal.lock(rt).apply(event).ok()?;
-            sums.add(&reply);
-        }
+        enter_round(rt, journal, work, &mut sums)?;
     }
     Some(sums)
 }
@@ -41,9 +52,7 @@ fn in_two<R: Threads + Wait + Sync>(rt: &R, journal: &Mutex<Journal>, work: &Wor
         move || in_one(rt, journal, work),
         move || in_one(rt, journal, work),
     );
-    let mut sums = a?;
-    sums.merge(&b?);
-    Some(sums)
+    Some(a?.with(b?))
 }
 
 /// Four callers, in four threads.
@@ -57,39 +66,36 @@ fn in_four<R: Threads + Wait + Sync>(
         move || in_two(rt, journal, work),
         move || in_two(rt, journal, work),
     );
-    let mut sums = a?;
-    sums.merge(&b?);
-    Some(sums)
+    Some(a?.with(b?))
+}
+
+/// So many callers: 1, 2 or 4.
+fn in_threads<R: Threads + Wait + Sync>(
+    rt: &R,
+    journal: &Mutex<Journal>,
+    work: &Work,
+    callers: u32,
+) -> Option<Sums> {
+    match callers {
+        1 => in_one(rt, journal, work),
+        2 => in_two(rt, journal, work),
+        4 => in_four(rt, journal, work),
+        _ => None,
+    }
 }
 
 /// Has a journal answer the first events once, and those of a round so many times for each of 1, 2 or 4 callers.
 pub fn measure_mutex<R: Threads + Wait + Sync>(
     rt: &R,
     alloc: Global,
-    input: Input,
+    input: &Input,
     callers: u32,
     rounds: u32,
 ) -> Option<Sums> {
-    let mut journal = Journal::open(alloc, opening_of(alloc, &input)?, LARGEST_LIMIT).ok()?;
-    let sessions = Vec::from_elem(alloc, 0, usize::from(input.size)).ok()?;
-    let mut work = Work {
-        input,
-        sessions,
-        rounds,
-    };
-    let mut sums = Sums::default();
-    enter_first(&mut journal, &mut work, &mut sums)?;
+    let mut work = Work::new(alloc, input, rounds)?;
+    let mut journal = opened(alloc, input)?;
+    let first = enter_first(&mut journal, &mut work)?;
     let shared = Mutex::new(journal);
-    let entered = match callers {
-        1 => in_one(rt, &shared, &work)?,
-        2 => in_two(rt, &shared, &work)?,
-        4 => in_four(rt, &shared, &work)?,
-        _ => return None,
-    };
-    sums.merge(&entered);
-    if shared.into_inner().entries().len() as u64 == sums.events {
-        Some(sums)
-    } else {
-        None
-    }
+    let others = in_threads(rt, &shared, &work, callers)?;
+    counted(&shared.into_inner(), first.with(others))
 }

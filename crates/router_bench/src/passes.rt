@@ -4,11 +4,10 @@ ghost use Rattle.std.specs.Prelude.{◌≡◌, ◌<◌, IfSome};
 ghost use Rattle.slot_lock.specs.Held.{IsPassOf};
 
 use crate::input::{Input, Step};
-use crate::router::opening_of;
+use crate::router::{counted, opened};
 use crate::sums::Sums;
 use crate::work::Work;
 use netchange_core::Reply;
-use route_history::{Journal, LARGEST_LIMIT};
 use slot_lock::{Pass, Router};
 use std::alloc::Global;
 use std::sync::Wait;
@@ -38,23 +37,17 @@ fn enter<R: Wait>(
 }
 
 /// Enters the first events, and notes which sessions they open.
-fn enter_first<R: Wait>(
-    rt: &R,
-    router: &Router,
-    pass: &mut Pass,
-    work: &mut Work,
-    sums: &mut Sums,
-) -> Option<()>
+fn enter_first<R: Wait>(rt: &R, router: &Router, pass: &mut Pass, work: &mut Work) -> Option<Sums>
     requires { IsPassOf router.now pass.old }
     ensures { IsPassOf router.now pass.new × (pass.new.part.shares ≡ pass.old.part.shares) }
 {
-    for k in 0..work.input.once {
-        let step = *work.input.steps.get(k)?;
-        let reply = enter(rt, router, pass, work, step)?;
+    let mut sums = Sums::default();
+    for step in work.input.first_steps() {
+        let reply = enter(rt, router, pass, work, *step)?;
         sums.add(&reply);
-        work.note(step, &reply);
+        work.note(*step, &reply);
     }
-    Some(())
+    Some(sums)
 }
 
 /// Enters the events of one round.
@@ -66,7 +59,7 @@ fn enter_round<R: Wait>(
     sums: &mut Sums,
 ) -> Option<()>
     requires { IsPassOf router.now pass.old }
-    ensures { IsPassOf router.now pass.new × (pass.new.part.shares ≡ pass.old.part.shares) }
+    ensures { IsPassOf router.now pass.new }
 {
     for step in work.input.round_steps() {
         sums.add(&enter(rt, router, pass, work, *step)?);
@@ -91,10 +84,12 @@ fn gathered(router: &Router, one: Ended, other: Ended) -> Ended
     requires { IsPassOf router.now one.pass × IsPassOf router.now other.pass }
     ensures { IsPassOf router.now result.pass }
 {
-    let Ended { mut pass, mut sums } = one;
+    let Ended { mut pass, sums } = one;
     router.join(&mut pass, other.pass);
-    sums.merge(&other.sums);
-    Ended { pass, sums }
+    Ended {
+        pass,
+        sums: sums.with(other.sums),
+    }
 }
 
 /// Two callers, in two threads.
@@ -149,35 +144,37 @@ fn in_four<R: Threads + Wait + Sync>(
     Some(gathered(router, a?, b?))
 }
 
+/// So many callers: 1, 2 or 4.
+fn in_threads<R: Threads + Wait + Sync>(
+    rt: &R,
+    router: &Router,
+    pass: Pass,
+    work: &Work,
+    callers: u32,
+) -> Option<Ended>
+    requires of { IsPassOf router.now pass }
+    requires shares { 3 < pass.part.shares }
+    ensures { IfSome result (λ e. IsPassOf router.now e.pass) }
+{
+    match callers {
+        1 => in_one(rt, router, pass, work),
+        2 => in_two(rt, router, pass, work),
+        4 => in_four(rt, router, pass, work),
+        _ => None,
+    }
+}
+
 /// Has a router answer the first events once, and those of a round so many times for each of 1, 2 or 4 callers.
 pub fn measure_passes<R: Threads + Wait + Sync>(
     rt: &R,
     alloc: Global,
-    input: Input,
+    input: &Input,
     callers: u32,
     rounds: u32,
 ) -> Option<Sums> {
-    let journal = Journal::open(alloc, opening_of(alloc, &input)?, LARGEST_LIMIT).ok()?;
-    let sessions = Vec::from_elem(alloc, 0, usize::from(input.size)).ok()?;
-    let mut work = Work {
-        input,
-        sessions,
-        rounds,
-    };
-    let mut sums = Sums::default();
-    let (router, mut pass) = Router::open(alloc, journal).ok()?;
-    enter_first(rt, &router, &mut pass, &mut work, &mut sums)?;
-    let ended = match callers {
-        1 => in_one(rt, &router, pass, &work)?,
-        2 => in_two(rt, &router, pass, &work)?,
-        4 => in_four(rt, &router, pass, &work)?,
-        _ => return None,
-    };
-    sums.merge(&ended.sums);
-    let journal = router.close(ended.pass).ok()?;
-    if journal.entries().len() as u64 == sums.events {
-        Some(sums)
-    } else {
-        None
-    }
+    let mut work = Work::new(alloc, input, rounds)?;
+    let (router, mut pass) = Router::open(alloc, opened(alloc, input)?).ok()?;
+    let first = enter_first(rt, &router, &mut pass, &mut work)?;
+    let Ended { pass, sums } = in_threads(rt, &router, pass, &work, callers)?;
+    counted(&router.close(pass).ok()?, first.with(sums))
 }

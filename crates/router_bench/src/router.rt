@@ -1,5 +1,7 @@
 //! Events through the tables, through a journal, and replayed.
 
+ghost use Rattle.std.specs.Prelude.{◌≡◌, [], IfSome};
+
 use crate::input::{Input, Step};
 use crate::sums::Sums;
 use filter_verifier::Verified;
@@ -39,6 +41,22 @@ pub fn neighbour_of(step: Step) -> u16 {
 /// The opening that the input asks for.
 pub fn opening_of(alloc: Global, input: &Input) -> Option<Opening> {
     Opening::new(input.size, input.me, input.prefixes(alloc)?)
+}
+
+/// A journal with the opening that the input asks for, and with as much room as there can be.
+pub fn opened(alloc: Global, input: &Input) -> Option<Journal>
+    ensures { IfSome result (λ j. j.entries ≡ []) }
+{
+    Journal::open(alloc, opening_of(alloc, input)?, LARGEST_LIMIT).ok()
+}
+
+/// The sums over the replies of a journal, if it has as many entries as there were replies.
+pub fn counted(journal: &Journal, sums: Sums) -> Option<Sums> {
+    if journal.entries().len() as u64 == sums.events {
+        Some(sums)
+    } else {
+        None
+    }
 }
 
 /// Has tables answer events.
@@ -95,7 +113,7 @@ fn enter(
 
 /// A journal that answered the first events once, and those of a round so many times.
 fn journal_of(alloc: Global, input: &Input, rounds: u32, sums: &mut Sums) -> Option<Journal> {
-    let mut journal = Journal::open(alloc, opening_of(alloc, input)?, LARGEST_LIMIT).ok()?;
+    let mut journal = opened(alloc, input)?;
     enter(
         &mut journal,
         input.first_steps(),

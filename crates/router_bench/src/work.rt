@@ -3,16 +3,27 @@
 use crate::input::{Input, Step};
 use crate::router::{event_of, neighbour_of};
 use netchange_core::{Event, Reply};
+use std::alloc::Global;
 
 /// The events of the input's round so many times, and the session of each neighbour, by node.
 #[derive(Drop)]
-pub struct Work {
-    pub input: Input,
-    pub sessions: Vec<u32>,
+pub struct Work<'a> {
+    pub input: &'a Input,
     pub rounds: u32,
+    sessions: Vec<u32>,
 }
 
-impl Work {
+impl<'a> Work<'a> {
+    /// The work of an input, before any session is opened.
+    pub fn new(alloc: Global, input: &'a Input, rounds: u32) -> Option<Work<'a>> {
+        let sessions = Vec::from_elem(alloc, 0, usize::from(input.size)).ok()?;
+        Some(Work {
+            input,
+            rounds,
+            sessions,
+        })
+    }
+
     /// The event of a step.
     pub fn event(&self, step: Step) -> Option<Event> {
         let node = usize::from(neighbour_of(step));
