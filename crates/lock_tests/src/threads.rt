@@ -130,14 +130,6 @@ fn join_four(
     Ok(all)
 }
 
-/// A caller that calls 100 times.
-fn caller(pass: Pass, work: Work) -> Caller
-    ensures { result.pass ≡ pass }
-{
-    let calls = 100;
-    Caller { pass, work, calls }
-}
-
 /// Four callers by a router's first pass, whose parts are split and split again: two look, and two tell of distances.
 fn serve_split<R: Threads + Wait + Sync>(
     rt: &R,
@@ -151,10 +143,27 @@ fn serve_split<R: Threads + Wait + Sync>(
     let mut second = router.split(&mut first, 30_000);
     let third = router.split(&mut second, 10_000);
     let fourth = router.split(&mut first, 1);
-    let a = caller(first, Work::Look);
-    let b = caller(second, Work::Tell(1));
-    let c = caller(third, Work::Look);
-    let d = caller(fourth, Work::Tell(2));
+    let calls = 100;
+    let a = Caller {
+        pass: first,
+        work: Work::Look,
+        calls,
+    };
+    let b = Caller {
+        pass: second,
+        work: Work::Tell(1),
+        calls,
+    };
+    let c = Caller {
+        pass: third,
+        work: Work::Look,
+        calls,
+    };
+    let d = Caller {
+        pass: fourth,
+        work: Work::Tell(2),
+        calls,
+    };
     let (Some((a, c)), Some((b, d))) = serve_four(rt, alloc, router, a, c, b, d) else {
         return Err(Fail::from("a caller was refused"));
     };

@@ -3,13 +3,13 @@
 use crate::link::RandomLink;
 use netchange_core::{Event, Message, Reply};
 use route_history::{Entry, Journal, replay};
-use route_session::{Cause, Ending};
+use route_session::{Cause, Ending, ReadEnd, WriteEnd};
 use slot_lock::Answer;
 use std::alloc::Global;
 use std::fmt;
 
 /// What is counted over all routers.
-#[derive(Default, Drop)]
+#[derive(Clone, Copy, Default)]
 pub struct Counts {
     pub routers: u64,
     pub entries: u64,
@@ -132,74 +132,86 @@ impl Account {
     pub fn add(&mut self, session: u32, ending: &Ending, link: &RandomLink) -> Option<()> {
         let cause = match ending {
             Ending::Read(end) => {
-                let mut entered = link.handed.as_slice();
-                if let Some(message) = end.lost {
-                    let (last, before) = entered.split_last()?;
-                    if *last != message {
-                        return None;
-                    }
-                    entered = before;
-                    self.lost = self.lost.wrapping_add(1);
-                }
-                if entered.len() as u64 != u64::from(end.entered) {
-                    return None;
-                }
-                self.told.add(self.alloc, session, entered)?;
+                self.add_read(session, end, link.handed.as_slice())?;
                 end.cause
             }
             Ending::Write(end) => {
-                if link.given.len() as u64 != end.sent {
-                    return None;
-                }
-                self.taken.add(self.alloc, session, link.given.as_slice())?;
-                self.taken.add(self.alloc, session, end.unsent.as_slice())?;
+                self.add_written(session, end, link.given.as_slice())?;
                 end.cause
             }
         };
-        self.failed = self
-            .failed
-            .wrapping_add(u64::from(cause == Cause::LinkFault));
+        let has_failed = u64::from(cause == Cause::LinkFault);
+        self.failed = self.failed.wrapping_add(has_failed);
         Some(())
+    }
+
+    /// Adds what a reader entered of what its link handed out.
+    fn add_read(&mut self, session: u32, end: &ReadEnd, handed: &[Message]) -> Option<()> {
+        let entered = without(handed, end.lost)?;
+        self.lost = self.lost.wrapping_add(u64::from(end.lost.is_some()));
+        if entered.len() as u64 != u64::from(end.entered) {
+            return None;
+        }
+        self.told.add(self.alloc, session, entered)
+    }
+
+    /// Adds what a writer gave its link, and what it left unsent.
+    fn add_written(&mut self, session: u32, end: &WriteEnd, given: &[Message]) -> Option<()> {
+        if given.len() as u64 != end.sent {
+            return None;
+        }
+        self.taken.add(self.alloc, session, given)?;
+        self.taken.add(self.alloc, session, end.unsent.as_slice())
     }
 
     /// What is counted of the router, if its journal replays and says the same.
     pub fn counts(&self, journal: &Journal) -> Option<Counts> {
         let _tables = replay(self.alloc, journal.opening(), journal.entries()).ok()?;
-        let mut entered = Account::new(self.alloc);
-        let (mut others, mut refused) = (0usize, 0u64);
-        for entry in journal.entries() {
-            others = others.wrapping_add(usize::from(!entered.enter(entry)?));
-            refused = refused.wrapping_add(u64::from(matches!(&entry.reply, Reply::Refused(_))));
-        }
-        if others != self.answers.len() || !self.answers_stand(journal.entries())? {
+        if !self.answers_stand(journal.entries())? {
             return None;
         }
+        let mut entered = Account::new(self.alloc);
+        entered.enter_all(journal.entries(), self.answers.len())?;
+        self.counts_with(journal.entries(), &entered)
+    }
+
+    /// What is counted of these entries, if they say what this account does.
+    fn counts_with(&self, entries: &[Entry], entered: &Account) -> Option<Counts> {
         Some(Counts {
             routers: 1,
-            entries: journal.entries().len() as u64,
+            entries: entries.len() as u64,
             answers: self.answers.len() as u64,
             told: self.told.count_if_same(&entered.told)?,
             taken: self.taken.count_if_same(&entered.taken)?,
-            refused,
+            refused: refusals(entries),
             lost: self.lost,
             failed: self.failed,
         })
     }
 
+    /// Adds what entries say of sessions. None where not just so many are none of a session's.
+    fn enter_all(&mut self, entries: &[Entry], others: usize) -> Option<()> {
+        let mut found: usize = 0;
+        for entry in entries {
+            let is_other = !self.enter(entry)?;
+            found = found.wrapping_add(usize::from(is_other));
+        }
+        if found == others { Some(()) } else { None }
+    }
+
     /// Adds what an entry says of a session. False where it is none of a session's.
     fn enter(&mut self, entry: &Entry) -> Option<bool> {
-        match (&entry.event, &entry.reply) {
-            (Event::Receive(session, dest, dist), _) => {
+        match &entry.event {
+            Event::Receive(session, dest, dist) => {
                 let (dest, dist) = (*dest, *dist);
                 self.told
                     .add(self.alloc, *session, &[Message { dest, dist }])?;
                 Some(true)
             }
-            (Event::Take(session, _), Reply::Messages(messages)) => {
-                self.taken.add(self.alloc, *session, messages.as_slice())?;
+            Event::Take(session, _) => {
+                self.taken.add(self.alloc, *session, taken(&entry.reply))?;
                 Some(true)
             }
-            (Event::Take(_, _), _) => Some(true),
             _ => Some(false),
         }
     }
@@ -208,13 +220,48 @@ impl Account {
     fn answers_stand(&self, entries: &[Entry]) -> Option<bool> {
         let mut found = Vec::from_elem(self.alloc, false, entries.len()).ok()?;
         for answer in &self.answers {
-            let at = answer.at as usize;
-            let was_found = found.get_mut(at)?;
-            if *was_found || !entries.get(at)?.reply.is_same(&answer.reply) {
+            if !is_first_at(entries, answer, found.as_mut_slice()) {
                 return Some(false);
             }
-            *was_found = true;
         }
         Some(true)
     }
+}
+
+/// Whether an answer is that of the entry at its position, and the first found there. Notes that it was found.
+fn is_first_at(entries: &[Entry], answer: &Answer, found: &mut [bool]) -> bool {
+    let at = answer.at as usize;
+    let (Some(entry), Some(was_found)) = (entries.get(at), found.get_mut(at)) else {
+        return false;
+    };
+    let is_first = !*was_found;
+    *was_found = true;
+    is_first && entry.reply.is_same(&answer.reply)
+}
+
+/// The messages that a reply gives.
+fn taken(reply: &Reply) -> &[Message] {
+    match reply {
+        Reply::Messages(messages) => messages.as_slice(),
+        _ => &[],
+    }
+}
+
+/// How many entries were refused.
+fn refusals(entries: &[Entry]) -> u64 {
+    let mut count: u64 = 0;
+    for entry in entries {
+        let is_refused = matches!(&entry.reply, Reply::Refused(_));
+        count = count.wrapping_add(u64::from(is_refused));
+    }
+    count
+}
+
+/// What a link handed out before the message that was lost, if one was. None where that is not the last one.
+fn without(handed: &[Message], lost: Option<Message>) -> Option<&[Message]> {
+    let Some(message) = lost else {
+        return Some(handed);
+    };
+    let (last, before) = handed.split_last()?;
+    if *last == message { Some(before) } else { None }
 }

@@ -27,17 +27,28 @@ use std::thread::Threads;
 use std::time::{Duration, Instant};
 use std::{env, io};
 
+/// The seconds and the seed that words ask for.
+fn asked_by(seconds: &[u8], seed: &[u8]) -> Option<(u32, u32)> {
+    Some((
+        read_number(seconds, 1_000_000)?,
+        read_number(seed, u32::MAX)?,
+    ))
+}
+
 /// The seconds and the seed of the command line.
 fn asked(rt: &HostRuntime) -> Option<(u32, u32)> {
     let words: Vec<String> = env::args(rt).ok()?.collect(rt.alloc()).ok()?;
     match words.as_slice() {
-        [_, seconds] => Some((read_number(seconds.as_bytes(), 1_000_000)?, 1)),
-        [_, seconds, seed] => Some((
-            read_number(seconds.as_bytes(), 1_000_000)?,
-            read_number(seed.as_bytes(), u32::MAX)?,
-        )),
+        [_, seconds] => asked_by(seconds.as_bytes(), b"1"),
+        [_, seconds, seed] => asked_by(seconds.as_bytes(), seed.as_bytes()),
         _ => None,
     }
+}
+
+/// Whether so many seconds have gone since. None where there is no clock.
+fn is_over<R: Clock>(rt: &R, start: &Instant, seconds: u32) -> Option<bool> {
+    let gone = start.elapsed(rt).ok()?;
+    Some(gone >= Duration::from_secs(u64::from(seconds)))
 }
 
 /// Runs routers for so long, the first from this seed, the others from those after it. None where a journal was wrong.
@@ -53,7 +64,7 @@ fn soak<R: Threads + Wait + Clock + Sync>(
     for round in 0..u32::MAX {
         let seed = u64::from(seed).wrapping_add(u64::from(round));
         counts.add(&soak_router(rt, alloc, seed, &filters)?);
-        if start.elapsed(rt).ok()? >= Duration::from_secs(u64::from(seconds)) {
+        if is_over(rt, &start, seconds)? {
             break;
         }
     }

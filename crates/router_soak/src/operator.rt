@@ -15,7 +15,7 @@ use worked_rows::Numbers;
 pub const LINKED: [u16; 2] = [1, 2];
 
 /// What an operator is to do.
-#[derive(Drop)]
+#[derive(Clone, Copy)]
 pub struct Orders {
     pub seed: u64,
     pub calls: u32,
@@ -33,10 +33,20 @@ pub struct Ended {
     pub sessions: [u32; 2],
 }
 
+/// An event that sets a filter of a node.
+fn filter_event(numbers: &mut Numbers, node: u16, filters: &[Arc<Verified>]) -> Option<Event> {
+    let filter = filters.get(numbers.place(filters.len()))?.clone().ok()?;
+    if numbers.below(2) == 0 {
+        Some(Event::SetImport(node, filter))
+    } else {
+        Some(Event::SetExport(node, filter))
+    }
+}
+
 /// The next event of an operator, and the linked neighbour that it brings up if it brings one up.
 fn next_event(
     numbers: &mut Numbers,
-    orders: &Orders,
+    restarts: bool,
     sessions: &[u32; 2],
     filters: &[Arc<Verified>],
 ) -> Option<(Event, usize)> {
@@ -44,21 +54,66 @@ fn next_event(
     let node = u16::try_from(numbers.below(9)).ok()?;
     let what = numbers.below(100);
     if what < 55 {
-        let filter = filters.get(numbers.place(filters.len()))?.clone().ok()?;
-        let event = if numbers.below(2) == 0 {
-            Event::SetImport(node, filter)
-        } else {
-            Event::SetExport(node, filter)
-        };
-        return Some((event, side));
+        return Some((filter_event(numbers, node, filters)?, side));
     }
-    if what < 62 && orders.restarts {
-        return Some((Event::Down(sessions[side]), side));
+    let event = match what {
+        0..=61 if restarts => Event::Down(*sessions.get(side)?),
+        0..=75 if restarts => Event::Up(*LINKED.get(side)?),
+        _ => Event::Show(node),
+    };
+    Some((event, side))
+}
+
+/// What an operator has done so far.
+#[derive(Drop)]
+struct Done {
+    numbers: Numbers,
+    sessions: [u32; 2],
+    answers: Vec<Answer>,
+}
+
+/// Makes the next call of an operator. Says whether the history had room. None where memory was refused.
+fn call<R: Wait>(
+    rt: &R,
+    router: &Router,
+    pass: &mut Pass,
+    restarts: bool,
+    filters: &[Arc<Verified>],
+    done: &mut Done,
+) -> Option<bool>
+    requires { IsPassOf router.now pass.old }
+    ensures { IsPassOf router.now pass.new }
+{
+    let (event, side) = next_event(&mut done.numbers, restarts, &done.sessions, filters)?;
+    match router.call(rt, pass, event) {
+        Ok(answer) => {
+            note(&mut done.sessions, side, &answer.reply);
+            done.answers.push(answer).ok()?;
+            Some(true)
+        }
+        Err(CallFault::Full) => Some(false),
+        Err(CallFault::Memory) => None,
     }
-    if what < 76 && orders.restarts {
-        return Some((Event::Up(LINKED[side]), side));
+}
+
+/// Makes an operator's calls, until the history is full. None where memory was refused.
+fn call_all<R: Wait>(
+    rt: &R,
+    router: &Router,
+    pass: &mut Pass,
+    orders: &Orders,
+    filters: &[Arc<Verified>],
+    done: &mut Done,
+) -> Option<()>
+    requires { IsPassOf router.now pass.old }
+    ensures { IsPassOf router.now pass.new }
+{
+    for _ in 0..orders.calls {
+        if !call(rt, router, pass, orders.restarts, filters, done)? {
+            break;
+        }
     }
-    Some((Event::Show(node), side))
+    Some(())
 }
 
 /// Does what an operator is to do, until the history is full. None where memory was refused.
@@ -73,24 +128,16 @@ pub fn operate<R: Wait>(
     requires { IsPassOf router.now pass }
     ensures { IfSome result (λ e. IsPassOf router.now e.pass) }
 {
-    let mut numbers = Numbers::new(orders.seed);
-    let mut sessions = orders.sessions;
-    let mut answers = Vec::new(alloc);
-    for _ in 0..orders.calls {
-        let (event, side) = next_event(&mut numbers, &orders, &sessions, filters)?;
-        match router.call(rt, &mut pass, event) {
-            Ok(answer) => {
-                note(&mut sessions, side, &answer.reply);
-                answers.push(answer).ok()?;
-            }
-            Err(CallFault::Full) => break,
-            Err(CallFault::Memory) => return None,
-        }
-    }
+    let mut done = Done {
+        numbers: Numbers::new(orders.seed),
+        sessions: orders.sessions,
+        answers: Vec::new(alloc),
+    };
+    call_all(rt, router, &mut pass, &orders, filters, &mut done)?;
     Some(Ended {
         pass,
-        answers,
-        sessions,
+        answers: done.answers,
+        sessions: done.sessions,
     })
 }
 

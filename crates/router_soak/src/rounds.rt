@@ -20,17 +20,21 @@ use worked_rows::Numbers;
 /// The shifts of a router. They make about 7,000 entries.
 const SHIFTS: u32 = 12;
 
-/// The router of node 0, whose nodes' prefixes are 10.V.0.0/16, with a history of so many entries at most, and its first pass.
-fn open(alloc: Global, limit: u32) -> Option<(Router, Pass)>
-    ensures { IfSome result (λ r. IsPassOf r.0 r.1) }
-{
+/// Node 0 of a domain whose nodes' prefixes are 10.V.0.0/16.
+fn opening(alloc: Global) -> Option<Opening> {
     let mut prefixes = Vec::new(alloc);
     for node in 0..SIZE {
         let address = Ip(0x0a00_0000 + 0x1_0000 * u32::from(node % 256));
         prefixes.push(Prefix::new(address, 16)?).ok()?;
     }
-    let opening = Opening::new(SIZE, 0, prefixes)?;
-    let journal = Journal::open(alloc, opening, limit.clamp(1, 1_000_000)).ok()?;
+    Opening::new(SIZE, 0, prefixes)
+}
+
+/// The router of that node, with a history of so many entries at most, and its first pass.
+fn open(alloc: Global, limit: u32) -> Option<(Router, Pass)>
+    ensures { IfSome result (λ r. IsPassOf r.0 r.1) }
+{
+    let journal = Journal::open(alloc, opening(alloc)?, limit.clamp(1, 1_000_000)).ok()?;
     Router::open(alloc, journal).ok()
 }
 
@@ -63,18 +67,18 @@ fn run_shifts<R: Threads + Wait + Clock + Sync>(
     Some(())
 }
 
-/// Runs a router from a seed, and counts what was done. None where its journal is wrong, or memory was refused.
-pub fn soak_router<R: Threads + Wait + Clock + Sync>(
+/// Runs a router from a seed, and keeps account: its journal.
+fn run_router<R: Threads + Wait + Clock + Sync>(
     rt: &R,
     alloc: Global,
     seed: u64,
     filters: &[Arc<Verified>],
-) -> Option<Counts> {
+    account: &mut Account,
+) -> Option<Journal> {
     let mut numbers = Numbers::new(seed);
     // About half of the histories fill up.
     let limit = numbers.below(12_000).saturating_add(1_000);
     let (router, mut pass) = open(alloc, limit)?;
-    let mut account = Account::new(alloc);
     run_shifts(
         rt,
         alloc,
@@ -82,8 +86,19 @@ pub fn soak_router<R: Threads + Wait + Clock + Sync>(
         &mut pass,
         &mut numbers,
         filters,
-        &mut account,
+        account,
     )?;
-    let journal = router.close(pass).ok()?;
+    router.close(pass).ok()
+}
+
+/// Runs a router from a seed, and counts what was done. None where its journal is wrong, or memory was refused.
+pub fn soak_router<R: Threads + Wait + Clock + Sync>(
+    rt: &R,
+    alloc: Global,
+    seed: u64,
+    filters: &[Arc<Verified>],
+) -> Option<Counts> {
+    let mut account = Account::new(alloc);
+    let journal = run_router(rt, alloc, seed, filters, &mut account)?;
     account.counts(&journal)
 }

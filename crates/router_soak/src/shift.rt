@@ -165,6 +165,49 @@ fn run_all<R: Threads + Wait + Clock + Sync>(
     )
 }
 
+/// What two operators and some sessions came to, who all had the memory that they asked for.
+type Callers = (Ended, Ended, Vec<Finished<RandomLink>>);
+
+/// Runs two operators and a session for each neighbour, whose passes are split off from another.
+fn run_callers<R: Threads + Wait + Clock + Sync>(
+    rt: &R,
+    alloc: Global,
+    router: &Router,
+    pass: &mut Pass,
+    numbers: &mut Numbers,
+    known: &[u32; 2],
+    filters: &[Arc<Verified>],
+) -> Option<Callers>
+    requires { IsPassOf router.now pass.old }
+    ensures pass { IsPassOf router.now pass.new }
+    ensures operated { IfSome result (λ r. IsPassOf router.now r.0.pass × IsPassOf router.now r.1.pass) }
+    ensures finished { IfSome result (λ r. AreBack router.now r.2.items) }
+{
+    let jobs = jobs(alloc, router, pass, numbers, known)?;
+    if pass.shares() < 3 {
+        return None;
+    }
+    let first = router.split(pass, 1);
+    let second = router.split(pass, 1);
+    let both = (orders(numbers, true, known), orders(numbers, false, known));
+    match run_all(rt, alloc, router, (first, second), both, filters, jobs) {
+        (Some((one, two)), Some(finished)) => Some((one, two, finished)),
+        _ => None,
+    }
+}
+
+/// Adds what sessions did. None where the end of one is not what its link saw.
+fn add_all(
+    account: &mut Account,
+    known: &[u32; 2],
+    finished: &[Finished<RandomLink>],
+) -> Option<()> {
+    for (session, job) in known.iter().zip(finished) {
+        account.add(*session, &job.ending, &job.link)?;
+    }
+    Some(())
+}
+
 /// Runs a shift, and adds what was done. None where memory was refused, or a session's end is not what its link saw.
 pub fn run_shift<R: Threads + Wait + Clock + Sync>(
     rt: &R,
@@ -182,41 +225,30 @@ pub fn run_shift<R: Threads + Wait + Clock + Sync>(
     bring_up(rt, router, pass, 0, sessions, account)?;
     bring_up(rt, router, pass, 1, sessions, account)?;
     let known = *sessions;
-    let jobs = jobs(alloc, router, pass, numbers, &known)?;
-    if pass.shares() < 3 {
-        return None;
-    }
-    let first = router.split(pass, 1);
-    let second = router.split(pass, 1);
-    let both = (
-        orders(numbers, true, &known),
-        orders(numbers, false, &known),
-    );
-    let (operated, finished) = run_all(rt, alloc, router, (first, second), both, filters, jobs);
-    let ((one, two), finished) = (operated?, finished?);
-    for (session, job) in known.iter().zip(&finished) {
-        account.add(*session, &job.ending, &job.link)?;
-    }
-    *sessions = gather(router, pass, account, one, two)?;
-    join_passes(router, pass, finished);
+    let callers = run_callers(rt, alloc, router, pass, numbers, &known, filters)?;
+    add_all(account, &known, &callers.2)?;
+    *sessions = gather(router, pass, account, callers)?;
     Some(())
 }
 
-/// Joins the passes of operators with another, and adds their answers: the sessions that the first one knows.
+/// Joins the passes of callers with another, and adds the operators' answers: the sessions that the first one knows.
 fn gather(
     router: &Router,
     pass: &mut Pass,
     account: &mut Account,
-    one: Ended,
-    two: Ended,
+    callers: Callers,
 ) -> Option<[u32; 2]>
-    requires { IsPassOf router.now pass.old × (IsPassOf router.now one.pass × IsPassOf router.now two.pass) }
+    requires pass { IsPassOf router.now pass.old }
+    requires operated { IsPassOf router.now callers.0.pass × IsPassOf router.now callers.1.pass }
+    requires finished { AreBack router.now callers.2.items }
     ensures { IsPassOf router.now pass.new }
 {
+    let (one, two, finished) = callers;
+    join_passes(router, pass, finished);
+    router.join(pass, one.pass);
+    router.join(pass, two.pass);
     let (mut answers, mut others) = (one.answers, two.answers);
     account.answers.append(&mut answers).ok()?;
     account.answers.append(&mut others).ok()?;
-    router.join(pass, one.pass);
-    router.join(pass, two.pass);
     Some(one.sessions)
 }

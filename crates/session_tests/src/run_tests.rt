@@ -78,8 +78,8 @@ fn jobs(
 /// Jobs that have run, with the router and the pass that theirs were split off from.
 #[derive(Drop)]
 pub struct Ran {
-    router: Router,
-    pass: Pass,
+    pub router: Router,
+    pub pass: Pass,
     pub finished: Vec<Finished<MemoryLink>>,
 }
 
