@@ -17,9 +17,12 @@ use std::test::Fail;
 /// How many kinds of event there are.
 pub const KINDS: u16 = 7;
 
-/// A filter that accepts, for domains of 4 nodes.
-fn filter(alloc: Global) -> Option<Arc<Verified>> {
-    let code = compile_text(alloc, b"filter f { accept; }").ok()?;
+/// A filter that accepts.
+const ACCEPTING: &[u8] = b"filter f { accept; }";
+
+/// The filter of a text, for domains of 4 nodes.
+fn filter(alloc: Global, text: &[u8]) -> Option<Arc<Verified>> {
+    let code = compile_text(alloc, text).ok()?;
     let verified = verify_code(alloc, code, 4).ok()?;
     Arc::new(alloc, verified).ok()
 }
@@ -32,8 +35,8 @@ pub fn event_of(alloc: Global, number: u16) -> Option<Event> {
         1 => Event::Receive(session, 1, 0),
         2 => Event::Take(session, 3),
         3 => Event::Show(1),
-        4 => Event::SetImport(1, filter(alloc)?),
-        5 => Event::SetExport(1, filter(alloc)?),
+        4 => Event::SetImport(1, filter(alloc, ACCEPTING)?),
+        5 => Event::SetExport(1, filter(alloc, ACCEPTING)?),
         _ => Event::Down(session),
     })
 }

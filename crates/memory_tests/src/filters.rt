@@ -136,21 +136,31 @@ fn is_p11(fault: ParseFault) -> bool {
     fault == ParseFault::Memory && fault.code() == "P11" && fault.at() == 0
 }
 
-#[test]
-fn a_text_is_read_or_p11(rt: HostRuntime) -> Result<(), Fail> {
-    match parse(rt.alloc(), TEXT.as_bytes()) {
+/// Reads a text, once more where memory was refused.
+fn expect_read(alloc: Global, text: &[u8]) -> Result<(), Fail> {
+    match parse(alloc, text) {
         Ok(filter) => expect(is_tree(&filter), "a text is read"),
         Err(fault) => {
-            let is_read = is_tree(&parse(rt.alloc(), TEXT.as_bytes())?);
+            let is_read = is_tree(&parse(alloc, text)?);
             expect_refused(is_read && is_p11(fault), "parse", "P11")
         }
     }
 }
 
 #[test]
+fn a_text_is_read_or_p11(rt: HostRuntime) -> Result<(), Fail> {
+    expect_read(rt.alloc(), TEXT.as_bytes())
+}
+
+/// The filter of a text, as it is judged. The text is read with the memory that it needs.
+fn judged(alloc: Global, text: &[u8]) -> Result<Result<Typed, TypeFault>, Fail> {
+    let filter = parse(alloc, text)?;
+    Ok(check(alloc, filter))
+}
+
+#[test]
 fn a_filter_is_judged_without_memory(rt: HostRuntime) -> Result<(), Fail> {
-    let filter = parse(rt.alloc(), TEXT.as_bytes())?;
-    match check(rt.alloc(), filter) {
+    match judged(rt.alloc(), TEXT.as_bytes())? {
         Ok(typed) => expect(is_typed(&typed), "a filter is judged"),
         Err(_) => expect(false, "a filter is judged without memory"),
     }
@@ -163,17 +173,10 @@ fn is_y6(fault: TypeFault) -> bool {
 
 #[test]
 fn labels_are_judged_or_y6(rt: HostRuntime) -> Result<(), Fail> {
-    let filter = parse(rt.alloc(), CASE.as_bytes())?;
-    match check(rt.alloc(), filter) {
+    match judged(rt.alloc(), CASE.as_bytes())? {
         Ok(typed) => expect(typed.number_of(b"c") == 0, "labels are judged"),
         Err(fault) => expect_refused(is_y6(fault), "check", "Y6"),
     }
-}
-
-/// The filter of the text `TEXT`, judged.
-fn judged(alloc: Global) -> Result<Typed, Fail> {
-    let filter = parse(alloc, TEXT.as_bytes())?;
-    Ok(check(alloc, filter)?)
 }
 
 /// Whether a fault of the compiler is G3.
@@ -181,16 +184,21 @@ fn is_g3(fault: CompileFault) -> bool {
     fault == CompileFault::Memory && fault.code() == "G3" && fault.at() == 0
 }
 
-#[test]
-fn a_filter_is_compiled_or_g3(rt: HostRuntime) -> Result<(), Fail> {
-    let typed = judged(rt.alloc())?;
-    match compile(rt.alloc(), &typed) {
+/// Compiles a filter, once more where memory was refused.
+fn expect_compiled(alloc: Global, typed: &Typed) -> Result<(), Fail> {
+    match compile(alloc, typed) {
         Ok(code) => expect(is_code(&code), "a filter is compiled"),
         Err(fault) => {
-            let is_compiled = is_code(&compile(rt.alloc(), &typed)?);
+            let is_compiled = is_code(&compile(alloc, typed)?);
             expect_refused(is_compiled && is_g3(fault), "compile", "G3")
         }
     }
+}
+
+#[test]
+fn a_filter_is_compiled_or_g3(rt: HostRuntime) -> Result<(), Fail> {
+    let typed = judged(rt.alloc(), TEXT.as_bytes())??;
+    expect_compiled(rt.alloc(), &typed)
 }
 
 /// Whether a code is that of the text `TEXT`, with its places.
@@ -198,14 +206,19 @@ fn is_mapped(mapped: &MappedCode) -> bool {
     is_code(&mapped.code) && mapped.places.as_slice() == PLACES.as_slice()
 }
 
-#[test]
-fn a_filter_is_compiled_with_its_places_or_g3(rt: HostRuntime) -> Result<(), Fail> {
-    let typed = judged(rt.alloc())?;
-    match compile_mapped(rt.alloc(), &typed) {
+/// Compiles a filter with its places, once more where memory was refused.
+fn expect_mapped(alloc: Global, typed: &Typed) -> Result<(), Fail> {
+    match compile_mapped(alloc, typed) {
         Ok(mapped) => expect(is_mapped(&mapped), "a filter is compiled with its places"),
         Err(fault) => {
-            let is_compiled = is_mapped(&compile_mapped(rt.alloc(), &typed)?);
+            let is_compiled = is_mapped(&compile_mapped(alloc, typed)?);
             expect_refused(is_compiled && is_g3(fault), "compile_mapped", "G3")
         }
     }
+}
+
+#[test]
+fn a_filter_is_compiled_with_its_places_or_g3(rt: HostRuntime) -> Result<(), Fail> {
+    let typed = judged(rt.alloc(), TEXT.as_bytes())??;
+    expect_mapped(rt.alloc(), &typed)
 }
