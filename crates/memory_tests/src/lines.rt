@@ -99,7 +99,10 @@ fn lines_are_answered_or_e3(rt: HostRuntime) -> Result<(), Fail> {
     let mut reader = Pieces { rest: LINES };
     let mut out = Page::new();
     match answer_lines(rt.alloc(), &mut reader, &mut out, &mut Echo) {
-        Ok(refused) => expect(refused == 1 && out.text() == ANSWERS, "lines are answered"),
+        Ok(refused) => expect(
+            refused == 1 && out.text() == ANSWERS,
+            "the answers to lines",
+        ),
         Err(fault) => {
             let is_so = fault == StreamFault::Memory && begins_whole(out.text(), ANSWERS);
             expect_refused(is_so, "answer_lines", "E3")

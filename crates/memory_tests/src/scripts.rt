@@ -21,7 +21,7 @@ fn a_script_is_answered_or_e3(rt: HostRuntime) -> Result<(), Fail> {
     match run_script(rt.alloc(), &mut reader, &mut out) {
         Ok(refused) => expect(
             refused == 0 && out.text() == ANSWERS,
-            "a script is answered",
+            "the answers to a script",
         ),
         Err(fault) => {
             let is_so = fault == ScriptFault::Memory && begins_whole(out.text(), ANSWERS);
