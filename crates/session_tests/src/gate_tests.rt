@@ -51,7 +51,7 @@ impl Gate for MeetingGate {
 }
 
 /// Two readers of two sessions, each with one message.
-const READERS: [JobRow; 2] = [(Role::Reader, 1, &[(1, 0)]), (Role::Reader, 2, &[(2, 0)])];
+const READERS: [JobRow<'static>; 2] = [(Role::Reader, 1, &[(1, 0)]), (Role::Reader, 2, &[(2, 0)])];
 
 /// Whether two readers entered one message each.
 fn have_read(finished: &[Finished<MemoryLink>]) -> bool {
@@ -91,7 +91,7 @@ impl Gate for NotingGate {
 }
 
 /// Three writers.
-const WRITERS: [JobRow; 3] = [
+const WRITERS: [JobRow<'static>; 3] = [
     (Role::Writer, 1, &[]),
     (Role::Writer, 2, &[]),
     (Role::Writer, 3, &[]),

@@ -11,7 +11,7 @@ use std::test::Fail;
 use std::thread::Threads;
 
 /// Readers of session 1, each of which is handed three messages.
-const READERS: [JobRow; 4] = [
+const READERS: [JobRow<'static>; 4] = [
     (Role::Reader, 1, &[(1, 0), (2, 1), (3, 0)]),
     (Role::Reader, 1, &[(1, 0), (2, 1), (3, 1)]),
     (Role::Reader, 1, &[(1, 0), (2, 1), (3, 2)]),

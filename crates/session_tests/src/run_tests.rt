@@ -23,10 +23,10 @@ use std::thread::Threads;
 const SHARES: u32 = 100;
 
 /// A job of a table: its role, its session, and what its link hands out.
-pub type JobRow = (Role, u32, &'static [(u16, u16)]);
+pub type JobRow<'a> = (Role, u32, &'a [(u16, u16)]);
 
 /// The row of a table for the job of a number: the rows in order, and from the first again.
-fn row_of(rows: &[JobRow], number: u16) -> Option<JobRow> {
+fn row_of<'a>(rows: &[JobRow<'a>], number: u16) -> Option<JobRow<'a>> {
     rows.get(usize::from(number).checked_rem(rows.len())?)
         .copied()
 }
@@ -36,7 +36,7 @@ fn job(
     alloc: Global,
     router: &Router,
     pass: &mut Pass,
-    row: JobRow,
+    row: JobRow<'_>,
 ) -> Result<Job<MemoryLink>, Fail>
     requires { IsPassOf router.now pass.old }
     ensures pass { IsPassOf router.now pass.new }
@@ -60,7 +60,7 @@ fn jobs(
     alloc: Global,
     router: &Router,
     pass: &mut Pass,
-    rows: &[JobRow],
+    rows: &[JobRow<'_>],
     count: u16,
 ) -> Result<Vec<Job<MemoryLink>>, Fail>
     requires { IsPassOf router.now pass.old }
@@ -90,7 +90,7 @@ pub fn run<R: Threads + Wait + Clock + Sync, G: Gate + Sync>(
     alloc: Global,
     limit: u32,
     last: u16,
-    rows: &[JobRow],
+    rows: &[JobRow<'_>],
     count: u16,
     gate: &G,
     turns: u32,
@@ -144,7 +144,7 @@ fn has_sent_all(one: &Finished<MemoryLink>) -> bool {
 }
 
 /// Readers of session 1, of which the first has no message, the second one, and so on.
-const READERS: [JobRow; 5] = [
+const READERS: [JobRow<'static>; 5] = [
     (Role::Reader, 1, &[]),
     (Role::Reader, 1, &[(1, 0)]),
     (Role::Reader, 1, &[(1, 0), (1, 1)]),
@@ -176,7 +176,7 @@ fn jobs_end_in_order(rt: HostRuntime) -> Result<(), Fail> {
 }
 
 /// A writer, and a reader with a message.
-const BOTH: [JobRow; 2] = [(Role::Writer, 1, &[]), (Role::Reader, 2, &[(2, 0)])];
+const BOTH: [JobRow<'static>; 2] = [(Role::Writer, 1, &[]), (Role::Reader, 2, &[(2, 0)])];
 
 /// Whether the writer sent all, and the reader entered its message.
 fn are_both_done(finished: &[Finished<MemoryLink>]) -> bool {
