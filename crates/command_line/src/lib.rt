@@ -8,6 +8,7 @@ mod filter_words;
 mod options;
 mod telling;
 mod terminals;
+mod test_words;
 mod words;
 
 pub use aid_words::{Aid, Checking, Engine, Importing, Running, Source};
@@ -15,4 +16,5 @@ pub use diff_words::Comparing;
 pub use filter_words::{NamedFile, WrongFilter, filters_in};
 pub use telling::{Telling, is_explained};
 pub use terminals::{Terminals, tell_that_input_is_read, waits_for_people};
+pub use test_words::Testing;
 pub use words::{Request, Words, read, request_of};

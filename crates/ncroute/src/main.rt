@@ -18,6 +18,7 @@ mod script;
 mod serve;
 #[cfg(test)]
 mod several_tests;
+mod testing;
 #[cfg(test)]
 mod tests;
 mod texts;

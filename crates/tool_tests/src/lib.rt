@@ -1,6 +1,8 @@
-//! Tests of what helps people with filters: refusals in words, filters that are tried on routes, and filters that are compared.
+//! Tests of what helps people with filters: refusals in words, filters that are tried on routes, filters that are compared, and test files.
 #![tactic(auto)]
 
+#[cfg(test)]
+mod checking_tests;
 #[cfg(test)]
 mod comparing_tests;
 #[cfg(test)]
