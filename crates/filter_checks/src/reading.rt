@@ -1,8 +1,9 @@
 //! A line of a test file is read as a test.
-ghost use Rattle.std.specs.Prelude.{◌≡◌, ◌==◌, ◌<◌, IfSome, length, position};
+ghost use Rattle.std.specs.Prelude.{◌≡◌, ◌==◌, ◌<◌, ◌≤◌, IfSome, length, position};
 ghost use Rattle.std.specs.Option.{option_map};
 ghost use Rattle.line_protocol.specs.Words.{words};
-ghost use Rattle.prefix_patterns.specs.Reading.{number_in, parts_at};
+ghost use Rattle.prefix_patterns.specs.Bits.{address_length};
+ghost use Rattle.prefix_patterns.specs.Reading.{parts_at};
 ghost use Rattle.filter_checks.specs.Reading as spec;
 
 use crate::keyword::{Keyword, find_keyword};
@@ -205,14 +206,11 @@ fn first_metrics(line: &[u8], size: u32) -> Option<((u32, u32), &[u8])>
 }
 
 /// The pattern of a prefix and two lengths.
-fn with_lengths(prefix: Prefix, low: u32, high: u32) -> Option<Pattern>
-    ensures { high ≤ address_length → spec.with_lengths prefix low high ≡ result }
+fn with_lengths(prefix: Prefix, low: u8, high: u8) -> Option<Pattern>
+    requires { high ≤ address_length }
+    ensures { spec.with_lengths prefix low high ≡ result }
 {
-    let limit = u32::from(ADDRESS_LENGTH);
-    if low > limit || high > limit {
-        return None;
-    }
-    Pattern::new(prefix, low as u8, high as u8)
+    Pattern::new(prefix, low, high)
 }
 
 /// A pattern with its lengths in braces, of which these are the texts before and behind the first brace.
@@ -226,7 +224,7 @@ fn braced(first: &[u8], behind: &[u8]) -> Option<Pattern>
     none_of(behind)?;
     let least = read_number(low, u32::from(ADDRESS_LENGTH))?;
     let greatest = read_number(high, u32::from(ADDRESS_LENGTH))?;
-    with_lengths(prefix, least, greatest)
+    with_lengths(prefix, least as u8, greatest as u8)
 }
 
 /// The pattern of a prefix and all within it.

@@ -1,15 +1,16 @@
 -- When the runs on the routes of a class end as is expected.
-use Rattle.std.proofs.Common.{◌≡◌, ◌⊎◌, inl, inr, ℕ, ◌≤◌, Bool, true, false, Option, Some, None, List, [], ◌∷◌, ◌++◌, length, refl, sym, ◌∙◌, subst, arith}
+use Rattle.std.proofs.Common.{◌≡◌, ◌⊎◌, inl, inr, ℕ, ◌≤◌, true, false, Some, List, [], ◌∷◌, ◌++◌, All, length, sym, ◌∙◌, subst, arith}
 use Rattle.std.specs.Prelude.{◌&&◌, nat_le}
 use Rattle.std.proofs.lemmas.Bool.Decides.{nat_tests}
 use Rattle.std.proofs.lemmas.List.{take_all}
+use Rattle.std.proofs.lemmas.List.Elements.{All-pop}
 use Rattle.prefix_patterns.proofs.Matches.{matches-Decides}
 use Rattle.prefix_patterns.specs.Matching.{matches}
 use Rattle.filter_code.specs.CodeView.{CodeView}
 use Rattle.filter_code.specs.Machine.{outcome_of}
 use Rattle.filter_code.specs.RouteView.{RouteView}
 use Rattle.filter_code.specs.declared.outcome.Outcome.{Outcome}
-use Rattle.filter_diff.specs.Classes.{Always, IsKnown, IsOf}
+use Rattle.filter_diff.specs.Classes.{Always, IsOf, IsOfSize}
 use Rattle.filter_diff.specs.Endings.{outcome_at}
 use Rattle.filter_diff.specs.Expectations.{EndsAs, IsCovered, IsMetAt, SaysMet}
 use Rattle.filter_diff.specs.Parts.{IsIn}
@@ -96,3 +97,8 @@ other_prefix program class expected none route of covered =
     let not_some : matches route.net expected.pattern ≡ false = none route of in
     let no : ⊥ = cc in
     absurd no
+
+-- of the classes that are left, the last is taken
+pub size_taken : (size : ℕ) (cs ds : List Class) (c : Class) → cs ≡ ds ++ (c ∷ []) → All (IsOfSize size) cs
+    → All (IsOfSize size) ds × IsOfSize size c
+size_taken size cs ds c e real = All-pop (IsOfSize size) cs ds (Some c) e real

@@ -1,5 +1,5 @@
 //! The search for a route on which a code does not end as is expected.
-ghost use Rattle.std.specs.Prelude.{◌≡◌, ◌+◌, ◌≤◌, ◌⊎◌, All, IfOk, IfSome, IsTrue, OnOk, Some, length, vec_len};
+ghost use Rattle.std.specs.Prelude.{◌≡◌, ◌+◌, ◌≤◌, ◌⊎◌, All, IfOk, IfSome, IsTrue, None, OnOk, Some, length, vec_len};
 ghost use Rattle.prefix_patterns.specs.Matching.{matches};
 ghost use Rattle.filter_code.specs.Limits.{largest_size};
 ghost use Rattle.filter_code.specs.RouteView.{RouteView};
@@ -172,6 +172,48 @@ fn failure(code: &Code, class: &Class, expected: &Expectation) -> Checked
     }
 }
 
+/// What a split that was not made leaves to say: nothing where it was made.
+fn unless_split(is_split: bool) -> Option<Checked>
+    ensures split { result ≡ None → IsTrue is_split }
+    ensures not_split { IfSome result (λ checked. checked ≡ Checked.Undecided) }
+{
+    if is_split {
+        None
+    } else {
+        Some(Checked::Undecided)
+    }
+}
+
+/// Deals with a class: the runs on its routes end as is expected, or they are in classes that are appended, or this is found.
+fn visit(
+    code: &Code,
+    class: &Class,
+    expected: &Expectation,
+    todo: &mut Vec<Class>,
+) -> Result<Option<Checked>, AllocError>
+    requires small { class.now.size ≤ 250 }
+    requires real { IsOfSize class.now.size class.now }
+    ensures found { IfOk result (λ end. IfSome end (IsFoundOf code.now class.now.size expected.now)) }
+    ensures covered { IfOk result (λ end. end ≡ None → (route : RouteView) → IsIn class.now.size route → IsOf class.now route
+        → IsMetAt code.now expected.now route ⊎ IsLeft route todo.new.items) }
+    ensures kept { OnOk result ((route : RouteView) → IsLeft route todo.old.items → IsLeft route todo.new.items) }
+    ensures real { OnOk result (All (IsOfSize class.now.size) todo.old.items → All (IsOfSize class.now.size) todo.new.items) }
+    ensures few { OnOk result (vec_len todo.new ≤ vec_len todo.old + 253) }
+{
+    match meets(code, class, expected) {
+        Found::Same => Ok(None),
+        Found::Differ(_, _) => Ok(Some(failure(code, class, expected))),
+        Found::AsksBits => {
+            let is_split = split(class, todo)?;
+            Ok(unless_split(is_split))
+        }
+        Found::AsksMetric => {
+            let is_split = split_by_metric(class, todo)?;
+            Ok(unless_split(is_split))
+        }
+    }
+}
+
 /// Whether the runs of a code end as is expected, on all routes of the domains of a size of which something is expected. It tries at
 /// most as many classes of routes as the limit says.
 pub fn check_expectation(
@@ -197,14 +239,9 @@ pub fn check_expectation(
             return Ok(Checked::Undecided);
         }
         left -= 1;
-        let is_split = match meets(code, &class, expected) {
-            Found::Same => true,
-            Found::Differ(_, _) => return Ok(failure(code, &class, expected)),
-            Found::AsksBits => split(&class, &mut todo)?,
-            Found::AsksMetric => split_by_metric(&class, &mut todo)?,
-        };
-        if !is_split {
-            return Ok(Checked::Undecided);
+        match visit(code, &class, expected, &mut todo)? {
+            None => {}
+            Some(found) => return Ok(found),
         }
     }
     Ok(Checked::Holds)
