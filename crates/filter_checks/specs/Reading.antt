@@ -1,5 +1,6 @@
 -- What the words of a test say: routes, and the verdict that is expected on them. (This project's own choice.)
 use Rattle.std.specs.Prelude.{ℕ, ◌==◌, Bool, List, [], ◌∷◌, Option, Some, None, if◌then◌else◌, length, nat_le, ⊤}
+use Rattle.std.specs.Str.{bytes_eq}
 use Rattle.filter_code.specs.declared.outcome.Outcome.TheVariants as outcome
 use Rattle.filter_diff.specs.declared.ending.Ending.{Ending}
 use Rattle.filter_diff.specs.declared.ending.Ending.TheVariants as ending
@@ -8,7 +9,7 @@ use Rattle.prefix_patterns.specs.Bits.{address_length}
 use Rattle.prefix_patterns.specs.Matching.{PrefixPattern}
 use Rattle.prefix_patterns.specs.Reading.{◌>>=◌, number_in, parts_at, prefix_in}
 use Rattle.prefix_patterns.specs.Token.{dot}
-use Rattle.filter_checks.specs.Keywords.{keyword_in}
+use Rattle.filter_checks.specs.Keywords.{keyword_in, keyword_text}
 use Rattle.filter_checks.specs.declared.keyword.Keyword.{Keyword}
 use Rattle.filter_checks.specs.declared.keyword.Keyword.TheVariants as word
 
@@ -183,12 +184,7 @@ one_in size ws = do
   end ← verdict_in size rest
   Some (record { pattern = pattern; least = metric.0; greatest = metric.0; ending = end })
 
--- a test by its first word
-abbrev pub test_by : ℕ → Option Keyword → List (List ℕ) → List (List ℕ) → Option Expectation
-test_by size (Some word.Every) all others = every_in size others
-test_by size _ all others = one_in size all
-
--- a test in a domain of a size
+-- a test in a domain of a size: of many routes, if its first word is `every`
 abbrev pub test_in : ℕ → List (List ℕ) → Option Expectation
 test_in size [] = None
-test_in size (first ∷ others) = test_by size (keyword_in first) (first ∷ others) others
+test_in size (first ∷ others) = if bytes_eq (keyword_text word.Every) first then every_in size others else one_in size (first ∷ others)

@@ -1,5 +1,6 @@
 //! The fixed words of a test file.
 ghost use Rattle.std.specs.Prelude.{◌≡◌, find};
+ghost use Rattle.std.specs.Str.{bytes_eq};
 ghost use Rattle.filter_checks.specs.Keywords as spec;
 
 /// A word that says what follows it.
@@ -69,4 +70,11 @@ fn first_spelled(keywords: &[Keyword], word: &[u8]) -> Option<Keyword>
         }
     }
     None
+}
+
+/// Whether a word is `every`.
+pub(crate) fn is_every(word: &[u8]) -> bool
+    ensures { result ≡ bytes_eq (spec.keyword_text Keyword.Every) word.now }
+{
+    Keyword::Every.text().as_bytes() == word
 }

@@ -6,7 +6,7 @@ ghost use Rattle.prefix_patterns.specs.Bits.{address_length};
 ghost use Rattle.prefix_patterns.specs.Reading.{parts_at};
 ghost use Rattle.filter_checks.specs.Reading as spec;
 
-use crate::keyword::{Keyword, find_keyword};
+use crate::keyword::{Keyword, find_keyword, is_every};
 use filter_code::Outcome;
 use filter_diff::{Ending, Expectation};
 use line_protocol::next_word;
@@ -306,8 +306,9 @@ pub(crate) fn test_in(line: &[u8], size: u32) -> Option<Expectation>
     ensures { spec.test_in size (words line.now) ≡ result }
 {
     let (first, others) = next_word(line)?;
-    match find_keyword(first) {
-        Some(Keyword::Every) => every_in(others, size),
-        _ => one_in(line, size),
+    if is_every(first) {
+        every_in(others, size)
+    } else {
+        one_in(line, size)
     }
 }

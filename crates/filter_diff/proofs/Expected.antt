@@ -10,7 +10,7 @@ use Rattle.filter_code.specs.CodeView.{CodeView}
 use Rattle.filter_code.specs.Machine.{outcome_of}
 use Rattle.filter_code.specs.RouteView.{RouteView}
 use Rattle.filter_code.specs.declared.outcome.Outcome.{Outcome}
-use Rattle.filter_diff.specs.Classes.{Always, IsOf, IsOfSize}
+use Rattle.filter_diff.specs.Classes.{Always, IsKnown, IsOf, IsOfSize}
 use Rattle.filter_diff.specs.Endings.{outcome_at}
 use Rattle.filter_diff.specs.Expectations.{EndsAs, IsCovered, IsMetAt, SaysMet}
 use Rattle.filter_diff.specs.Parts.{IsIn}
@@ -43,13 +43,15 @@ ends_one program class metric end ran before after (found.Differ a b) known long
 ends_one program class metric end ran before after found.AsksBits known long is before_is after_is asks = tt
 ends_one program class metric end ran before after found.AsksMetric known long is before_is after_is asks = tt
 
--- how the runs on all routes of a class end
-pub ends_compared : (program : CodeView) (class : Class) (end expected : Ending) (what : Found)
-    → Always class (λ route. outcome_of program route ≡ outcome_at route end) → Compare end expected what → EndsAs program class expected what
-ends_compared program class end expected found.Same ends same = λ route of. ends route of ∙ same route
-ends_compared program class end expected (found.Differ a b) ends differ = tt
-ends_compared program class end expected found.AsksBits ends asks = tt
-ends_compared program class end expected found.AsksMetric ends asks = tt
+-- how the runs on all routes of a class end, by what is known of the metric
+pub ends_compared : (program : CodeView) (class : Class) (end known expected : Ending) (what : Found)
+    → Always class (λ route. outcome_of program route ≡ outcome_at route end)
+    → ((route : RouteView) → IsKnown class.metric route.metric → outcome_at route known ≡ outcome_at route expected)
+    → Compare end known what → EndsAs program class expected what
+ends_compared program class end known expected found.Same ends is same = λ route of. ends route of ∙ (same route ∙ is route of.received)
+ends_compared program class end known expected (found.Differ a b) ends is differ = tt
+ends_compared program class end known expected found.AsksBits ends is asks = tt
+ends_compared program class end known expected found.AsksMetric ends is asks = tt
 
 -- what ends so everywhere ends so where something is expected
 pub met_of_ends : (program : CodeView) (class : Class) (expected : Expectation) (what : Found) → EndsAs program class expected.ending what

@@ -3,7 +3,8 @@ ghost use Rattle.std.specs.Prelude.{◌≡◌, ◌+◌, ◌≤◌, ◌⊎◌, Al
 ghost use Rattle.prefix_patterns.specs.Matching.{matches};
 ghost use Rattle.filter_code.specs.Limits.{largest_size};
 ghost use Rattle.filter_code.specs.RouteView.{RouteView};
-ghost use Rattle.filter_diff.specs.Classes.{Always, IsOf, IsOfSize};
+ghost use Rattle.filter_diff.specs.Classes.{Always, IsKnown, IsOf, IsOfSize};
+ghost use Rattle.filter_diff.specs.Endings.{outcome_at};
 ghost use Rattle.filter_diff.specs.Expectations.{EndsAs, IsFoundOf, IsMetAt, IsShown, SaysMet};
 ghost use Rattle.filter_diff.specs.Parts.{IsIn};
 ghost use Rattle.filter_diff.specs.Searches.{IsLeft};
@@ -64,12 +65,22 @@ fn ends_on_route(code: &Code, class: &Class, metric: u32, ending: Ending) -> Fou
     }
 }
 
+/// An ending on routes with this metric, where it is known.
+fn known_ending(ending: Ending, metric: Option<u32>) -> Ending
+    ensures { (route : RouteView) → IsKnown metric route.metric → outcome_at route result ≡ outcome_at route ending }
+{
+    match metric {
+        Some(metric) => Ending::Fixed(outcome_of(ending, metric)),
+        None => ending,
+    }
+}
+
 /// Whether the runs on all routes of a class end so.
 fn ends_on_class(code: &Code, class: &Class, ending: Ending) -> Found
     ensures { EndsAs code.now class.now ending result }
 {
     match trial(code, class) {
-        Turn::Ended(found) => endings(found, ending),
+        Turn::Ended(found) => endings(found, known_ending(ending, class.metric)),
         Turn::AsksMetric => Found::AsksMetric,
         _ => Found::AsksBits,
     }
