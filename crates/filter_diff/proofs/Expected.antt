@@ -1,5 +1,5 @@
 -- When the runs on the routes of a class end as is expected.
-use Rattle.std.proofs.Common.{◌≡◌, ◌⊎◌, inl, inr, ℕ, ◌≤◌, true, false, Some, List, [], ◌∷◌, ◌++◌, All, length, sym, ◌∙◌, subst, arith}
+use Rattle.std.proofs.Common.{◌≡◌, ◌≢◌, ◌⊎◌, inl, inr, ℕ, ◌≤◌, Bool, true, false, Some, List, [], ◌∷◌, ◌++◌, All, length, refl, sym, ◌∙◌, subst, arith}
 use Rattle.std.specs.Prelude.{◌&&◌, nat_le}
 use Rattle.std.proofs.lemmas.Bool.Decides.{nat_tests}
 use Rattle.std.proofs.lemmas.List.{take_all}
@@ -12,9 +12,10 @@ use Rattle.filter_code.specs.RouteView.{RouteView}
 use Rattle.filter_code.specs.declared.outcome.Outcome.{Outcome}
 use Rattle.filter_diff.specs.Classes.{Always, IsKnown, IsOf, IsOfSize}
 use Rattle.filter_diff.specs.Endings.{outcome_at}
-use Rattle.filter_diff.specs.Expectations.{EndsAs, IsCovered, IsMetAt, SaysMet}
+use Rattle.filter_diff.specs.Expectations.{EndsAs, IsCovered, IsMetAt, IsShown, SaysMet, route_of}
 use Rattle.filter_diff.specs.Parts.{IsIn}
 use Rattle.filter_diff.specs.Searches.{Compare, IsLeft}
+use Rattle.filter_diff.specs.declared.checking.Counterexample.{Counterexample}
 use Rattle.filter_diff.specs.declared.class.Class.{Class}
 use Rattle.filter_diff.specs.declared.ending.Ending.{Ending}
 use Rattle.filter_diff.specs.declared.ending.Ending.TheVariants as ending
@@ -104,3 +105,39 @@ other_prefix program class expected none route of covered =
 pub size_taken : (size : ℕ) (cs ds : List Class) (c : Class) → cs ≡ ds ++ (c ∷ []) → All (IsOfSize size) cs
     → All (IsOfSize size) ds × IsOfSize size c
 size_taken size cs ds c e real = All-pop (IsOfSize size) cs ds (Some c) e real
+
+-- the parts of a test that is passed
+and_first : (a b : Bool) → (a && b) ≡ true → a ≡ true
+and_first true b e = refl
+and_first false b e = let no : ⊥ = cc in absurd no
+
+and_second : (a b : Bool) → (a && b) ≡ true → b ≡ true
+and_second true b e = e
+and_second false b e = let no : ⊥ = cc in absurd no
+
+is_covered : (expected : Expectation) (route : RouteView)
+    → (matches route.net expected.pattern && (nat_le expected.least route.metric && nat_le route.metric expected.greatest)) ≡ true
+    → IsCovered expected route
+is_covered expected route e =
+    let metrics = and_second (matches route.net expected.pattern) _ e in
+    let least : nat_le expected.least route.metric ≡ true = and_first _ _ metrics in
+    let greatest : nat_le route.metric expected.greatest ≡ true = and_second (nat_le expected.least route.metric) _ metrics in
+    record {
+      matched = (matches-Decides route.net expected.pattern).0 (and_first (matches route.net expected.pattern) _ e);
+      least = grind (arith, nat_tests);
+      greatest = grind (arith, nat_tests);
+    }
+
+-- a route that is shown
+pub is_shown : (program : CodeView) (size : ℕ) (expected : Expectation) (found : Counterexample) (ran : RouteView) (other : Outcome)
+    → length found.prefix ≤ 32 → found.metric ≤ size → ran ≡ record { net = found.prefix; metric = found.metric; size = size }
+    → found.outcome ≡ outcome_of program ran
+    → ((route : RouteView) → route.metric ≡ found.metric → other ≡ outcome_at route expected.ending) → found.outcome ≢ other
+    → (matches found.prefix expected.pattern && (nat_le expected.least found.metric && nat_le found.metric expected.greatest)) ≡ true
+    → IsShown program size expected found
+is_shown program size expected found ran other fits reachable is outcome_is other_is differ covers = record {
+  is_in = record { fits = fits; reachable = reachable; domain = refl };
+  is_covered = is_covered expected (route_of size found) covers;
+  ends = subst (λ (r : RouteView). outcome_of program r ≡ found.outcome) is (sym outcome_is);
+  otherwise = λ same. differ (same ∙ sym (other_is (route_of size found) refl));
+}

@@ -152,7 +152,8 @@ fn split(class: &Class, todo: &mut Vec<Class>) -> Result<bool, AllocError>
     if push_bits(class, todo)? {
         return Ok(true);
     }
-    split_by_metric(class, todo)
+    let done = split_by_metric(class, todo)?;
+    Ok(done)
 }
 
 /// The first route of a class of which this is expected, if the run on it ends otherwise.
