@@ -8,7 +8,6 @@ mod filter_words;
 mod options;
 mod telling;
 mod terminals;
-mod test_words;
 mod words;
 
 pub use aid_words::{Aid, Checking, Engine, Importing, Running, Source};
@@ -16,5 +15,4 @@ pub use diff_words::Comparing;
 pub use filter_words::{NamedFile, WrongFilter, filters_in};
 pub use telling::{Telling, is_explained};
 pub use terminals::{Terminals, tell_that_input_is_read, waits_for_people};
-pub use test_words::Testing;
 pub use words::{Request, Words, read, request_of};

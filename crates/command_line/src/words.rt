@@ -12,7 +12,6 @@ use crate::options::{
     quiet_option, save_option, script_files, size_option, stop_option,
 };
 use crate::terminals::Terminals;
-use crate::test_words::{test_command, test_in};
 use clap::error::ErrorKind;
 use clap::{ArgMatches, Command, Error};
 use line_protocol::StreamFault;
@@ -132,9 +131,6 @@ fn filter_commands_in<R: Eprint>(
     }
     if let Some(list) = matches.subcommand_matches("list") {
         return Ok(Some(Words::Aided(list_in(alloc, list, terminals)?)));
-    }
-    if let Some(test) = matches.subcommand_matches("test") {
-        return Ok(Some(Words::Aided(test_in(alloc, test, terminals)?)));
     }
     Ok(None)
 }
@@ -313,8 +309,7 @@ fn add_filter_commands<'a>(alloc: Global, command: Command<'a>) -> Result<Comman
         .subcommand(explain_command(alloc)?)?
         .subcommand(filter_command(alloc)?)?
         .subcommand(import_command(alloc)?)?
-        .subcommand(list_command(alloc)?)?
-        .subcommand(test_command(alloc)?)
+        .subcommand(list_command(alloc)?)
 }
 
 /// Adds the commands on code files.

@@ -10,4 +10,3 @@ pub mod Adding
 pub mod Joined
 pub mod Real
 pub mod Witness
-pub mod Expected

@@ -2,7 +2,6 @@
 pub mod Endings
 pub mod Parts
 pub mod Answers
-pub mod Expectations
 -- What only bodies are proved against: classes of routes, and what symbols stand for.
 pub mod Classes
 pub mod Symbols

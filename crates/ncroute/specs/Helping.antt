@@ -104,7 +104,6 @@ fault_status (aid.Replay source) = 3
 fault_status (aid.Run how source) = 1
 fault_status (aid.RunJoined how sources) = 1
 fault_status (aid.Script engine source is_explained) = script_fault engine
-fault_status (aid.Test how sources) = 3
 
 -- `opens name` says what may come of opening a file of this name.
 module _ (opens : List ℕ → Result (Option (List ℕ)) Error → Type 0) where
@@ -204,7 +203,7 @@ module _ (opens : List ℕ → Result (Option (List ℕ)) Error → Type 0) wher
 
   -- `creates name` says what may come of making a file of this name: what it holds at first, or why there is none.
   module _ (creates : List ℕ → Result (Option (List ℕ)) Error → Type 0) where
-    -- What people asked for was done to its end, with this exit status. Of an import and of tests nothing more is said.
+    -- What people asked for was done to its end, with this exit status. Of an import nothing more is said.
     abbrev pub Helps : Aid → Streams → Streams → ℕ → Type 0
     Helps (aid.Check how sources) before after status = (refused : Bool)
         × ChecksFirst how sources.items (length sources.items) before after refused × (status ≡ (if refused then 1 else 0))
@@ -218,7 +217,6 @@ module _ (opens : List ℕ → Result (Option (List ℕ)) Error → Type 0) wher
     Helps (aid.Run how source) before after status = RunsGuided creates opens how source before after status
     Helps (aid.RunJoined how sources) before after status = RunsJoined creates opens how sources.items before after status
     Helps (aid.Script engine source is_explained) before after status = RunsSource engine source is_explained before after status
-    Helps (aid.Test how sources) before after status = status ≤ 3
 
     -- A fault ended it.
     abbrev pub StopsHelp : StreamFault → Aid → Streams → Streams → Type 0
@@ -233,7 +231,6 @@ module _ (opens : List ℕ → Result (Option (List ℕ)) Error → Type 0) wher
     StopsHelp fault (aid.Run how source) before after = StopsRun creates opens fault how source before after
     StopsHelp fault (aid.RunJoined how sources) before after = StopsJoined creates opens fault how sources.items before after
     StopsHelp fault (aid.Script engine source is_explained) before after = StopsSource fault engine source is_explained before after
-    StopsHelp fault (aid.Test how sources) before after = ⊤
 
     -- What people asked for ended with this exit status: it was done to its end; or a fault ended it, which standard error was told,
     -- and the status is that of a fault.

@@ -18,7 +18,6 @@ mod script;
 mod serve;
 #[cfg(test)]
 mod several_tests;
-mod testing;
 #[cfg(test)]
 mod tests;
 mod texts;

@@ -1,8 +1,6 @@
-//! Tests of what helps people with filters: refusals in words, filters that are tried on routes, filters that are compared, and test files.
+//! Tests of what helps people with filters: refusals in words, filters that are tried on routes, and filters that are compared.
 #![tactic(auto)]
 
-#[cfg(test)]
-mod checking_tests;
 #[cfg(test)]
 mod comparing_tests;
 #[cfg(test)]

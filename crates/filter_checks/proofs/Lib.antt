@@ -1,3 +1,0 @@
-pub mod FirstLine
-pub mod MoreTests
-pub mod Meant
