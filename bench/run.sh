@@ -5,7 +5,7 @@
 # usage: bench/run.sh [table|eval|check|machines|instructions|bird|router|callers|script|save|domain]     (without a word: eval and machines)
 #   table prints the first table of README.md: the instructions of eval, check and run on all inputs; with ROUNDS=N their times too
 #   instructions counts instructions of the machines with valgrind, in place of their time
-#   callers prints a table of calls through the lock and through a Mutex
+#   callers prints a table of calls through the lock and through a Mutex, with their tails
 #   bird compares the machine for verified code with BIRD 2.0, where that is installed
 #   save compares `ncroute run --save` with `ncroute run`
 #   NCROUTE=PATH       a proved `ncroute` that is built already: then none is built here
