@@ -14,8 +14,8 @@ returns-in-Ok-None-clause-finished g c =
     let tells = g.E.Write.contents c.load_filters.new.errors in
     let lacks = rw c.in-Ok-None.field-0-is at c.in-Ok-None.ensures.finished in
     inl (
-      subst (λ (files : List NamedFile). LacksFilters opens files c.args.plan.opening.size known left told tells) c.as_slice-named.ensures.value
-      (subst (λ (size : ℕ). LacksFilters opens c.as_slice-named.result.now size known left told tells) c.size_of-size.ensures lacks)
+    subst (λ (files : List NamedFile). LacksFilters opens files c.args.plan.opening.size known left told tells) c.as_slice-named.ensures.value
+    (subst (λ (size : ℕ). LacksFilters opens c.as_slice-named.result.now size known left told tells) c.size_of-size.ensures lacks)
     )
 
 pub returns-in-Err-clause-stopped : goal.returns-in-Err-clause-stopped
@@ -27,8 +27,8 @@ returns-in-Err-clause-stopped g c =
     let told = g.E.Write.contents c.args.errors.now in
     let tells = g.E.Write.contents c.load_filters.new.errors in
     inl (
-      subst (λ (files : List NamedFile). StopsLoading opens fault files c.args.plan.opening.size known left told tells)
-      c.as_slice-named.ensures.value
-      (subst (λ (size : ℕ). StopsLoading opens fault c.as_slice-named.result.now size known left told tells) c.size_of-size.ensures
-      c.in-Err.ensures.stopped)
+    subst (λ (files : List NamedFile). StopsLoading opens fault files c.args.plan.opening.size known left told tells)
+    c.as_slice-named.ensures.value
+    (subst (λ (size : ℕ). StopsLoading opens fault c.as_slice-named.result.now size known left told tells) c.size_of-size.ensures
+    c.in-Err.ensures.stopped)
     )
