@@ -1,6 +1,6 @@
 #!/usr/bin/env bash
 # The test command: proves every crate from nothing, tries the must-fail edits, runs all tests and the program, and then the examples
-# of the documents, the rows of tests/rows/, runs with their exit status, random domains, runs at the program's limits, refused
+# of the documents, the rows of tests/rows/, random inputs, runs with their exit status, random domains, runs at the program's limits, refused
 # allocations, the filters that BIRD answered, configurations that are imported, killed runs, routers that talk, broken filters and what
 # is installed. The last line is 'N passed, M failed', the sum of all.
 #
@@ -40,11 +40,11 @@ add() {
     "$@" 2>&1 | tee "$output"
     local status=${PIPESTATUS[0]} counts
     counts="$(tail -n 1 "$output" | sed -nE 's/^([0-9]+) passed, ([0-9]+) failed$/\1 \2/p')"
-    passed=$((passed + 0${counts% *}))
+    passed=$((passed + 10#0${counts% *}))
     if [ -z "$counts" ] || { [ "$status" != 0 ] && [ "${counts#* }" = 0 ]; }; then
         failed=$((failed + 1))
     else
-        failed=$((failed + ${counts#* }))
+        failed=$((failed + 10#${counts#* }))
     fi
 }
 
@@ -55,6 +55,7 @@ if [ -x crates/ncroute/out/ncroute ]; then
 fi
 add scripts/check_documents.py
 add scripts/check_rows.py
+add scripts/check_random.py
 add scripts/check_program_runs.py
 add scripts/check_domains.py
 add scripts/check_limits.py
