@@ -6,8 +6,14 @@ usage: scripts/check_domains.py [SCRIPTS [SEED]]        (100 scripts; NCROUTE=PA
 A script has 2 to 9 nodes and 20 to 80 lines: links, cuts, filters, questions about rest, `settle`, and now and then a node or a name that is none.
 Of `load` only the first word of the answer is compared: the slow program verifies no filter. A script that the two answer differently is written to
 standard error with its number, and the exit status is 1.
+
+With NCROUTE=PATH two more things are looked at. Small plans of 2 to 4 nodes: of all distances that there could be, just one choice is a fixed point of
+Bellman's equation, and it is the one that is answered, with the least next hops. And domains whose routers are runs of `ncroute run`: in whatever order
+they send and hear their messages, they come to the routes that `ncroute domain` computes.
 """
+import itertools
 import os
+import random
 import subprocess
 import sys
 
@@ -70,6 +76,136 @@ class Lines:
         yield from (f"table {u}" for u in range(self.size))
 
 
+# ---- small plans, by all distances that there could be
+
+# The filters of small plans, and what a distance from a node comes to under each.
+SMALL_FILTERS = (
+    ("same", "accept;", lambda size, node, dist: dist),
+    ("up1", "rip_metric = rip_metric + 1; accept;", lambda size, node, dist: min(dist + 1, size)),
+    ("up2", "rip_metric = rip_metric + 2; accept;", lambda size, node, dist: min(dist + 2, size)),
+    ("not1", "if net ~ [10.1.0.0/16] then reject; accept;", lambda size, node, dist: size if node == 1 else dist),
+    ("near", "if rip_metric > 1 then reject; accept;", lambda size, node, dist: size if dist > 1 else dist),
+)
+
+
+class SmallPlan:
+    """A random plan of a few nodes."""
+
+    def __init__(self, size, number):
+        numbers = random.Random(f"{size} {number}")
+        self.size, self.nodes = size, range(size)
+        self.links = [pair for pair in itertools.combinations(self.nodes, 2) if numbers.randrange(4)]
+        self.filters = {(kind, *pair): numbers.choice((None, None, None, *SMALL_FILTERS))
+                        for kind in ("import", "export") for pair in itertools.permutations(self.nodes, 2)}
+
+    def script(self):
+        yield f"domain {self.size}"
+        yield from (f"load {name} filter f {{ {body} }}" for name, body, _ in SMALL_FILTERS)
+        yield from (f"link {u} {w}" for u, w in self.links)
+        yield from (f"{kind} {u} {w} {used[0]}" for (kind, u, w), used in self.filters.items() if used)
+        yield from (f"route {u} {v}" for v in self.nodes for u in self.nodes)
+
+    def passed(self, used, node, dist):
+        return used[2](self.size, node, dist) if used else dist
+
+    def route(self, node, u, dists):
+        """The route of a node where all are at these distances: its distance, and its next hop."""
+        if u == node:
+            return 0, "local"
+        best = self.size, "none"
+        for w in self.nodes:
+            if (min(u, w), max(u, w)) in self.links:
+                way = self.passed(self.filters["import", u, w], node, self.passed(self.filters["export", w, u], node, dists[w])) + 1
+                if way < best[0]:
+                    best = way, f"via {w}"
+        return best
+
+    def answers(self):
+        """The routes at rest, as they are told; nothing where there is not just one rest."""
+        told = []
+        for node in self.nodes:
+            rests = [dists for dists in itertools.product(range(self.size + 1), repeat=self.size)
+                     if all(self.route(node, u, dists)[0] == dists[u] for u in self.nodes)]
+            if len(rests) != 1:
+                return None
+            told += ["route %d %s" % self.route(node, u, rests[0]) for u in self.nodes]
+        return told
+
+
+def small_plans(ncroute):
+    """How the routes of a small plan differ from those of its one rest, for each plan."""
+    for size, count in ((2, 40), (3, 60), (4, 30)):
+        for number in range(count):
+            plan = SmallPlan(size, number)
+            given = "".join(line + "\n" for line in plan.script()).encode()
+            said = subprocess.run([ncroute, "domain"], input=given, capture_output=True).stdout.decode().splitlines()
+            wanted = plan.answers()
+            yield None if wanted is not None and said[-len(wanted):] == wanted else f"plan {size} {number}: {said}, and not {wanted}"
+
+
+# ---- routers whose messages come in any order
+
+
+class Node:
+    """A router that is a run of `ncroute run`."""
+
+    def __init__(self, ncroute):
+        self.process = subprocess.Popen([ncroute, "run", "--explain", "never"], stdin=subprocess.PIPE, stdout=subprocess.PIPE)
+
+    def ask(self, line):
+        self.process.stdin.write(line.encode() + b"\n")
+        self.process.stdin.flush()
+        return self.process.stdout.readline().decode().rstrip("\n")
+
+    def close(self):
+        self.process.stdin.close()
+        self.process.stdout.close()
+        self.process.wait()
+
+
+def play(numbers, nodes, links):
+    """Lets nodes send all that waits for another, and messages be heard, in random order until nothing is left to do."""
+    ways = [way for u, w in links for way in ((u, w), (w, u))]
+    sent = {way: [] for way in ways}
+    while True:
+        waiting = [way for way in ways if sent[way]]
+        if waiting and numbers.randrange(3):
+            u, w = numbers.choice(waiting)
+            node, dist = sent[u, w].pop(0)
+            nodes[w].ask(f"recv {u} {node} {dist}")
+            continue
+        for u, w in [numbers.choice(ways)] if waiting else ways:
+            sent[u, w] += [word.split(":") for word in nodes[u].ask(f"take {w}").split()[1:]]
+        if not any(sent.values()):
+            return
+
+
+def any_order(ncroute, number):
+    """How the routes of routers that were played in a random order differ from those of their domain."""
+    numbers = random.Random(f"order {number}")
+    size = numbers.randint(2, 6)
+    links = [pair for pair in itertools.combinations(range(size), 2) if numbers.randrange(3)]
+    loads = [f"load {name} filter f {{ {body} }}" for name, body, _ in SMALL_FILTERS]
+    uses = [(numbers.choice(("import", "export")), u, w, numbers.choice(SMALL_FILTERS)[0])
+            for u, w in itertools.permutations(range(size), 2) if numbers.randrange(4) == 0]
+    asked = [f"route {u} {v}" for u in range(size) for v in range(size)]
+    script = [f"domain {size}", *loads, *(f"link {u} {w}" for u, w in links), *(f"{kind} {u} {w} {name}" for kind, u, w, name in uses), *asked]
+    wanted = subprocess.run([ncroute, "domain"], input="\n".join(script).encode(), capture_output=True).stdout.decode().splitlines()[-len(asked):]
+    nodes = [Node(ncroute) for _ in range(size)]
+    for me, node in enumerate(nodes):
+        for line in [f"network {size} {me}", *loads, *(f"{kind} {w} {name}" for kind, u, w, name in uses if u == me)]:
+            node.ask(line)
+    for u, w in links:
+        nodes[u].ask(f"up {w}")
+        nodes[w].ask(f"up {u}")
+    if links:
+        play(numbers, nodes, links)
+    said = [node.ask(f"show {v}") for node in nodes for v in range(size)]
+    for node in nodes:
+        node.close()
+    return None if said == wanted else f"order {number}: {script}: {said}, and not {wanted}"
+
+
 def answers(text):
     """The answers, without what was found of a filter."""
     return ["verified" if line.startswith("verified ") else line for line in text.decode().split("\n")]
@@ -90,7 +226,14 @@ def main(words):
         if answers(output) != answers(slow):
             failed += 1
             sys.stderr.write(f"script {number}\n{script.decode()}\nanswered\n{output.decode()}\nslowly\n{slow.decode()}\n")
-    program.finish(len(scripts) - failed, failed)
+    passed = len(scripts) - failed
+    if ncroute := os.environ.get("NCROUTE"):
+        ncroute = os.path.realpath(ncroute)
+        for wrong in itertools.chain(small_plans(ncroute), (any_order(ncroute, number) for number in range(100))):
+            passed, failed = passed + (not wrong), failed + bool(wrong)
+            if wrong:
+                sys.stderr.write(f"{wrong}\n")
+    program.finish(passed, failed)
 
 
 if __name__ == "__main__":

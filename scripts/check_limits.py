@@ -383,6 +383,40 @@ def longest_filter():
     return FILTER.ljust(TEXT), b"code 4e43463200000000027071\n" + VERIFIED, 0
 
 
+def full_file():
+    """The digits of a code file with 16 variables and 64 sets of 1,024 patterns, X.0.0.0/24 to X.3.255.0/24 with all that is longer, where X is
+    the number of the set: it rejects what a set matches, and accepts the rest. 767 instructions behind that are never run."""
+    patterns = ("".join(f"{number:02x}{index:04x}00181820" for index in range(1024)) for number in range(64))
+    tests = "".join(f"1251{number:02x}61000171" for number in range(64))
+    return ("4e434632" + "10" + "40" + "".join("0400" + it for it in patterns) + "00" + "0400" + tests + "70" + "040a00000008" * 767).encode()
+
+
+def checked_code():
+    """`check --code` of that file."""
+    return full_file(), b"code " + full_file() + b"\nverified 193 1\n", 0
+
+
+def checked_longer_code():
+    """The same with a byte more."""
+    return full_file() + b"00", b"refused C6 463940\n", 1
+
+
+def evaluated_code():
+    """`eval` of that file: the last set matches, none does, the first one does, and none does for want of a bit."""
+    routes = b"63.3.255.128/25 3 64\n63.4.0.0/24 3 64\n0.0.0.0/24 3 64\n0.0.0.0/23 3 64\n"
+    return full_file() + b"\n" + routes, b"reject\naccept 3\nreject\naccept 3\n", 0
+
+
+def full_filter(variables=16, sets=64, patterns=1024, settings=183, end="accept; accept; "):
+    """A filter at all limits, with 1,024 instructions: it rejects what its largest set matches, tests other sets in vain, counts up to 15 in its
+    variables, and sets the metric to that."""
+    names = "abcdefghijklmnopq"
+    largest = ",".join(f"10.{number // 256}.{number % 256}.0/24" for number in range(patterns))
+    counted = "".join(f"{later} = {earlier} + 1; " for earlier, later in zip(names[:15], names[1:16]))
+    return (f"filter full {''.join(f'int {name}; ' for name in names[:variables])}{{ if net ~ [{largest}] then reject; "
+            + "if net ~ [1.0.0.0/8] then ; " * (sets - 1) + counted + "rip_metric = p; " + "rip_metric = rip_metric; " * settings + end + "}").encode()
+
+
 def longest_labels():
     """`check` of a `case` with two labels of 16,000 ranges each; the last number of the second is in the first."""
     first = b"filter q { case 1 { " + b",".join([b"1"] * 16000) + b": ; "
@@ -464,6 +498,9 @@ ROWS = [
     ("check, an input at the limit", "check --size 250", longest_source),
     ("check, an input over the limit", "check --size 250", longer_source),
     ("check, a text at the limit", "check --size 250", longest_filter),
+    ("check, a code file at all limits", "check --size 250 --code", checked_code),
+    ("check, a code file with a byte more", "check --size 250 --code", checked_longer_code),
+    ("eval, a code file at all limits", "eval", evaluated_code),
     ("check, the longest labels", "check --size 250", longest_labels),
     ("check, too many ranges", "check --size 250", too_many_ranges),
     ("replay, a full history", "replay", saved_history),
@@ -504,6 +541,30 @@ def differs(said, wanted):
     if (shown, status) != ((wanted_shown or [b""])[0], wanted_status):
         return f"ended with {status} and {shown[:200]!r}, and not with {wanted_status}"
     return None
+
+
+def full_filters(ncroute):
+    """`check` of that filter, and of its code, has the same lines, and its code answers routes. One thing more of any sort is refused."""
+    output, shown, status = run(ncroute, "check --size 250", full_filter())
+    line, _, verdict = output.partition(b"\n")
+    if (verdict, shown, status) != (b"verified 1021 2\n", b"", 0) or not line.startswith(b"code 4e434632"):
+        return f"wrote {output[-100:]!r}, and ended with {status}"
+    code = line.removeprefix(b"code ")
+    routes = b"10.3.255.0/24 3 250\n10.4.0.0/24 3 250\n10.4.0.0/24 40 250\n1.0.0.0/8 64 250\n"
+    rows = [("check --size 250 --code", code, output, 0), ("eval", code + b"\n" + routes, b"reject\naccept 15\naccept 40\naccept 64\n", 0)]
+    more = [
+        (full_filter(end="accept; accept; accept; "), b"refused G1 0\n"),
+        (full_filter(sets=65, settings=182), b"refused G2 0\n"),
+        (full_filter(patterns=1025), b"refused G2 0\n"),
+        (full_filter(variables=17), b"refused Y5 128\n"),
+    ]
+    rows += [("check --size 250", text, wanted, 1) for text, wanted in more]
+    for words, given, *wanted in rows:
+        if wrong := differs(run(ncroute, words, given), wanted):
+            return wrong
+    # The last commands divide by what may be 0.
+    output, _, status = run(ncroute, "check --size 250", full_filter(settings=182, end="a = 1 / rip_metric; "))
+    return None if (output.partition(b"\n")[2], status) == (b"refused V3 1019\n", 1) else f"wrote {output[-100:]!r}"
 
 
 def hundred_files(ncroute):
@@ -620,6 +681,7 @@ def main(wanted):
         (name, lambda row=row: row(ncroute))
         for name, row in [
             ("check, a hundred files", hundred_files),
+            ("check, a filter at all limits", full_filters),
             ("filter, a million routes", million_routes),
             ("run, domains of each size", domains_of_each_size),
             ("run, the time of a long input", time_of_long_input),

@@ -12,6 +12,8 @@ A file has rows with empty lines between them. A row is lines that begin with a 
     > LINE      a line of standard output
     ! LINE      a line of standard error, which has no other
     = STATUS    the exit status; without this line 0
+    - LINE      a line of standard input of a further run of the same words, which the lines below belong to. Without a `=`, it ends with 1 where
+                the last line that it writes begins with `refused`, and with 0 otherwise
     ~ WORDS     what is a terminal: `input`, `errors`, or both
     @ NAME      a file; `<` below it are the lines that the row finds there, or else `>` those that it leaves
     # TEXT      a comment
@@ -70,6 +72,10 @@ class Wanted:
     def is_met(self, text):
         return re.fullmatch(ANY_LINES.join(map(re.escape, self.parts)), text, re.S) is not None
 
+    def last_line(self):
+        """The last line that is wanted."""
+        return self.parts[-1].rstrip(b"\n").rpartition(b"\n")[2]
+
     def __repr__(self):
         return " ... ".join(map(repr, self.parts))
 
@@ -80,7 +86,15 @@ class Row:
     def __init__(self, place, files):
         self.place, self.words, self.files = place, None, dict(files)
         self.given, self.output, self.errors, self.left = b"", Wanted(), Wanted(), {}
-        self.status, self.terminals, self.looks_at_errors, self.has_files = 0, set(), False, bool(files)
+        self.status, self.terminals, self.looks_at_errors, self.has_files = None, set(), False, bool(files)
+        self.is_further = False
+
+    def further(self, place, text):
+        """A further run of the same words, on this line."""
+        row = Row(place, self.files)
+        row.words, row.is_further = self.words, True
+        row.take("<", text, None)
+        return row
 
     def take(self, sign, text, file):
         """Takes a line of the row, below the line of a file if there is one. Returns the file that the next line is below."""
@@ -107,6 +121,12 @@ class Row:
             self.terminals = set(text.split())
         return file
 
+    def wanted_status(self):
+        """The exit status that is wanted."""
+        if self.status is None and self.is_further:
+            return int(self.output.last_line().startswith(b"refused"))
+        return self.status or 0
+
     def needs_program(self):
         return self.has_files or self.looks_at_errors or self.terminals or "examples/" in self.words
 
@@ -131,6 +151,10 @@ def rows_of(path):
         if line in (">...", "!..."):
             (row.output if line[0] == ">" else row.errors).add_any()
             row.looks_at_errors |= line[0] == "!"
+        elif line[0] == "-" and line[1:2] in ("", " ") and row.words:
+            if row.is_further:
+                yield row
+            row, file = row.further(f"{name}:{number}", line[2:]), None
         elif line[0] in "$<>!=~@" and line[1:2] in ("", " "):
             file = row.take(line[0], line[2:], file)
         else:
@@ -179,8 +203,8 @@ class Place:
             yield f"wrote {output!r}, and not {row.output}"
         if looks_at_errors and not row.errors.is_met(self.read(self.errors)):
             yield f"told {self.read(self.errors)!r}, and not {row.errors}"
-        if status != row.status:
-            yield f"ended with {status}, and not {row.status}"
+        if status != row.wanted_status():
+            yield f"ended with {status}, and not {row.wanted_status()}"
         for name, wanted in row.left.items():
             if self.read(name) is None or not wanted.is_met(self.read(name)):
                 yield f"left {self.read(name)!r} in {name}, and not {wanted}"

@@ -3,6 +3,7 @@
 With NCROUTE=PATH that program runs. Without, `rt try --cases` builds the sources as they are, unproved and with checks, and runs them on
 all inputs at once: a command that was not run yet stands for each input that the shell gave, and the shell runs again with its answers.
 """
+import concurrent.futures
 import hashlib
 import os
 import pty
@@ -88,7 +89,8 @@ class Program:
     def runs(self, lines):
         """The same for many lines with their input."""
         while True:
-            said = [self.shell(line, given) for line, given in lines]
+            with concurrent.futures.ThreadPoolExecutor() as pool:
+                said = list(pool.map(lambda it: self.shell(*it), lines))
             if not os.listdir(self.asked):
                 return said
             self.answer()

@@ -6,8 +6,6 @@ mod merge;
 mod range;
 mod search;
 mod set;
-#[cfg(test)]
-mod tests;
 
 pub use fault::SetFault;
 pub use range::IntRange;

@@ -1,0 +1,218 @@
+//! The machine for verified code beside the checked machine, on random verified code and random routes.
+
+use expectations::expect;
+use filter_code::{Code, Instr, IntRange, IntSet, Outcome, Route, run_counted};
+use filter_machine::{Verdict, run};
+use filter_verifier::{Verified, verify};
+use prefix_patterns::{Ip, Pattern, PatternSet, Prefix};
+use std::alloc::{AllocError, Global};
+use std::test::Fail;
+use worked_rows::Numbers;
+
+/// The size of the domain.
+const SIZE: u32 = 250;
+
+/// The instructions that take operands and give a value, and SETMETRIC.
+const OPERATIONS: [Instr; 20] = [
+    Instr::Add,
+    Instr::Sub,
+    Instr::Mul,
+    Instr::Div,
+    Instr::Max,
+    Instr::Eq,
+    Instr::Lt,
+    Instr::Le,
+    Instr::Not,
+    Instr::Addr,
+    Instr::Len,
+    Instr::Mask(0),
+    Instr::Mask(9),
+    Instr::Mask(32),
+    Instr::Within,
+    Instr::Member(0),
+    Instr::Member(1),
+    Instr::InSet(0),
+    Instr::InSet(1),
+    Instr::SetMetric,
+];
+
+/// The number of a local variable, one of four.
+fn local(numbers: &mut Numbers) -> u8 {
+    u8::try_from(numbers.below(4)).unwrap_or(0)
+}
+
+/// An instruction that pushes a value and takes none.
+fn literal(numbers: &mut Numbers) -> Option<Instr> {
+    Some(match numbers.below(9) {
+        0 => Instr::Int(numbers.int()),
+        1 => Instr::Bool(numbers.below(2) == 0),
+        2 => Instr::Ip(numbers.ip()),
+        3 => Instr::Prefix(numbers.prefix()?),
+        4 => Instr::Net,
+        5 => Instr::Metric,
+        6 => Instr::Received,
+        _ => Instr::Load(local(numbers)),
+    })
+}
+
+/// A few instructions to go on with.
+fn piece(numbers: &mut Numbers) -> Option<[Option<Instr>; 3]> {
+    Some(match numbers.below(20) {
+        0..=5 => [Some(literal(numbers)?), None, None],
+        6..=14 => [
+            OPERATIONS.get(numbers.below(20) as usize).copied(),
+            None,
+            None,
+        ],
+        15 | 16 => [Some(Instr::Store(local(numbers))), None, None],
+        17 => [
+            Some(Instr::JumpIfNot(2)),
+            Some(literal(numbers)?),
+            Some(Instr::Store(local(numbers))),
+        ],
+        18 => [
+            Some(Instr::Jump(2)),
+            Some(literal(numbers)?),
+            Some(Instr::Store(local(numbers))),
+        ],
+        _ => [
+            Some(Instr::JumpIfNot(1)),
+            Some(if numbers.below(2) == 0 {
+                Instr::Accept
+            } else {
+                Instr::Reject
+            }),
+            None,
+        ],
+    })
+}
+
+/// The patterns of the first set.
+fn patterns() -> Option<[Pattern; 2]> {
+    let longer = Pattern::new(Prefix::new(Ip(0x2000_0000), 3)?, 3, 31)?;
+    let short = Pattern::new(Prefix::new(Ip(0), 0)?, 0, 2)?;
+    Some([longer, short])
+}
+
+/// The sets of each code: of those patterns, and of none.
+fn sets(alloc: Global) -> Result<Vec<PatternSet>, Fail> {
+    let patterns = patterns().ok_or("patterns")?;
+    let mut sets = Vec::new(alloc);
+    for patterns in [patterns.as_slice(), &[]] {
+        sets.push(PatternSet::build(alloc, patterns)?)?;
+    }
+    Ok(sets)
+}
+
+/// The sets of ints of each code: of the ints of four ranges, and of none.
+fn int_sets(alloc: Global) -> Result<Vec<IntSet>, Fail> {
+    let mut ranges = Vec::new(alloc);
+    for (low, high) in [(0, 0), (3, 9), (7, 120), (200, 4_294_967_295)] {
+        ranges.push(IntRange::new(low, high).ok_or("a range")?)?;
+    }
+    let mut sets = Vec::new(alloc);
+    for ranges in [ranges.as_slice(), &[]] {
+        sets.push(IntSet::build(alloc, ranges)?)?;
+    }
+    Ok(sets)
+}
+
+/// The code of these instructions, if it verifies.
+fn verified(alloc: Global, instrs: &[Instr]) -> Result<Option<Verified>, Fail> {
+    let code = Code::new(4, sets(alloc)?, int_sets(alloc)?, instrs.to_vec(alloc)?).ok_or(
+        "a code within the limits",
+    )?;
+    Ok(verify(alloc, code, SIZE).ok())
+}
+
+/// Adds what there is of some instructions.
+fn extend(instrs: &mut Vec<Instr>, piece: &[Option<Instr>]) -> Result<(), AllocError> {
+    for instr in piece {
+        if let Some(instr) = instr {
+            instrs.push(*instr)?;
+        }
+    }
+    Ok(())
+}
+
+/// Whether instructions, ended by ACCEPT, verify.
+fn is_verified(alloc: Global, instrs: &[Instr]) -> Result<bool, Fail> {
+    let mut ended = instrs.to_vec(alloc)?;
+    ended.push(Instr::Accept)?;
+    Ok(verified(alloc, &ended)?.is_some())
+}
+
+/// Random code that verifies: a piece stays in it if the code with it, ended by ACCEPT, verifies.
+fn random_code(alloc: Global, numbers: &mut Numbers) -> Result<Vec<Instr>, Fail> {
+    let mut instrs = Vec::new(alloc);
+    for _ in 0..120 {
+        let length = instrs.len();
+        extend(&mut instrs, &piece(numbers).ok_or("a piece")?)?;
+        if !is_verified(alloc, &instrs)? {
+            instrs.truncate(length);
+        }
+    }
+    instrs.push(Instr::Accept)?;
+    Ok(instrs)
+}
+
+/// The outcome that a verdict is.
+fn outcome_of(verdict: Verdict) -> Outcome {
+    match verdict {
+        Verdict::Accept(metric) => Outcome::Accept(metric),
+        Verdict::Reject => Outcome::Reject,
+    }
+}
+
+/// Runs verified code by both machines on some routes, and counts the steps of all runs.
+fn compare(verified: &Verified, numbers: &mut Numbers) -> Result<u64, Fail> {
+    let mut steps: u64 = 0;
+    for _ in 0..12 {
+        let net = numbers.prefix().ok_or("a prefix")?;
+        let metric = numbers.below(SIZE + 1).min(verified.size());
+        let route = Route::new(net, metric, verified.size()).ok_or("a route")?;
+        let ran = run(verified, &net, metric);
+        let counted = run_counted(verified.code(), &route);
+        let is_same = outcome_of(ran.verdict) == counted.outcome && ran.steps == counted.steps;
+        expect(is_same, "both machines answer alike")?;
+        expect(ran.steps <= verified.budget(), "within the budget")?;
+        steps = steps.saturating_add(u64::from(ran.steps));
+    }
+    Ok(steps)
+}
+
+/// How many of the instructions have an opcode.
+fn count(instrs: &[Instr], opcode: u8) -> usize {
+    instrs
+        .iter()
+        .filter(|instr| instr.opcode() == opcode)
+        .count()
+}
+
+/// Runs random code by both machines, and adds it to the rest: how many steps its runs had.
+fn run_both(alloc: Global, numbers: &mut Numbers, all: &mut Vec<Instr>) -> Result<u64, Fail> {
+    let instrs = random_code(alloc, numbers)?;
+    all.extend_from_slice(&instrs)?;
+    let code = verified(alloc, &instrs)?.ok_or("code that verifies")?;
+    compare(&code, numbers)
+}
+
+/// All opcodes.
+const OPCODES: [u8; 29] =
+    *b"\x01\x02\x03\x04\x10\x11\x12\x13\x14\x15\x20\x21\x22\x23\x24\x30\x31\x32\x33\x40\x41\x42\x50\x51\x52\x60\x61\x70\x71";
+
+#[test]
+fn random_code_runs_the_same(rt: HostRuntime) -> Result<(), Fail> {
+    let mut numbers = Numbers::new(2026);
+    let mut all = Vec::new(rt.alloc());
+    let mut steps: u64 = 0;
+    for _ in 0..40 {
+        let ran = run_both(rt.alloc(), &mut numbers, &mut all)?;
+        steps = steps.saturating_add(ran);
+    }
+    // The code has each instruction, and the runs are long enough to tell the machines apart.
+    for opcode in OPCODES {
+        expect(count(&all, opcode) > 0, "each opcode")?;
+    }
+    expect(steps > 10_000, "long runs")
+}
