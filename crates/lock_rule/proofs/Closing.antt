@@ -10,7 +10,7 @@ use Rattle.route_history.specs.JournalView.{JournalView}
 use Rattle.route_history.specs.Positions.{times}
 use Rattle.lock_rule.specs.declared.rule.Part.{Part}
 use Rattle.lock_rule.specs.declared.rule.View.{View}
-use Rattle.lock_rule.specs.Closing.{Closed, HasEachOnce}
+use Rattle.lock_rule.specs.Closing.{AnotherHolds, Closed, HasEachOnce}
 use Rattle.lock_rule.specs.Desk.{router_view}
 use Rattle.lock_rule.specs.Rule.{IsKept, journal}
 use Rattle.lock_rule.specs.Views.{all_shares, claims, idle, shares_of}
@@ -74,4 +74,12 @@ held_by o l id n v words slots note guest (s, (kept, at), same, _, come) word ta
     let sum = kept.known.shares in
     let some_shares = holder_has_shares o l kept.log kept.log out.who (kept.known.fits out.holder out.who out.there) out.note in
     omega arith)
+    kept.lies
+
+-- where the word is not 0 at the end, it is 1
+pub held_elsewhere : (o : OpeningView) (l id n : ℕ) (v : View) (table : TableId) (words : List ℕ) (slots : List JournalView) → v.note ≡ None →
+    Final (Seen (IsKept o l) id v) words slots → get_elem? words 0 ≡ some n → n ≢ 0 → AnotherHolds (router_view table o l) v.own
+held_elsewhere o l id n v table words slots note (s, (kept, at), same, _, come) word taken = ⊎_elim
+    (λ home. absurd (taken (word_of s words n 0 home.words same word)))
+    (λ out. record { state = s; kept = kept; word = out.words; place = id; view = v; there = at; own = refl; note = note })
     kept.lies

@@ -1,11 +1,16 @@
 -- The journal of a router that is closed. (This project's own choice.)
-use Rattle.std.specs.Prelude.{◌≡◌, ℕ, ◌≤◌, List, length}
+use Rattle.std.specs.Prelude.{◌≡◌, ℕ, ◌≤◌, None, List, [], ◌∷◌, length}
+use mathlib.Core.Option.{some}
+use lib.ListN.{get_elem?}
+use Rattle.atomic_table.specs.Table.{State}
 use Rattle.route_history.specs.Beginning.{Begins}
 use Rattle.route_history.specs.History.{IsLegal}
 use Rattle.route_history.specs.JournalView.{JournalView}
 use Rattle.route_history.specs.Positions.{once_below, times}
 use Rattle.lock_rule.specs.declared.rule.Part.{Part}
+use Rattle.lock_rule.specs.declared.rule.View.{View}
 use Rattle.lock_rule.specs.Desk.{RouterView}
+use Rattle.lock_rule.specs.Rule.{IsKept}
 use Rattle.lock_rule.specs.Views.{all_shares}
 
 -- each position of a history of n entries stands in the list, once, and nothing else does
@@ -21,3 +26,15 @@ pub record Closed (r : RouterView) (p : Part) (j : JournalView) : Type 0 where
   pub room : length j.entries ≤ j.limit
   pub begins : Begins p.seen j.entries
   pub once : p.shares ≡ all_shares → HasEachOnce (length j.entries) p.mine
+
+-- a caller with this part closes the router while another one has the journal: the rule holds at the end, the word is 1, and the
+-- seat with the part has noted no history
+pub record AnotherHolds (r : RouterView) (p : Part) : Type 0 where
+  pub state : State JournalView View
+  pub kept : IsKept r.opening r.limit state
+  pub word : state.words ≡ 1 ∷ []
+  pub place : ℕ
+  pub view : View
+  pub there : get_elem? state.views place ≡ some view
+  pub own : view.own ≡ p
+  pub note : view.note ≡ None

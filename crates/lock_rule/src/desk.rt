@@ -1,7 +1,7 @@
 //! The table of a router and the places at it, as the crates above see them: they can make the steps of the lock, and no others.
 
 ghost use Rattle.std.specs.Prelude.{◌≡◌, ◌≢◌, ◌<◌, IfErr, IfNone, IfOk, IfSome, MatchBool, None, []};
-ghost use Rattle.lock_rule.specs.Closing.{Closed};
+ghost use Rattle.lock_rule.specs.Closing.{AnotherHolds, Closed};
 ghost use Rattle.lock_rule.specs.Entering.{Enters, EntersNot, IsHolding, IsMet, Shows};
 ghost use Rattle.lock_rule.specs.Steps.{Absorbs, Missed, Took};
 ghost use Rattle.lock_rule.specs.Views.{all_shares, cut_left, cut_right, idle, newcomer, shares_of, united};
@@ -160,6 +160,7 @@ impl Desk {
         requires free { (place.me.0.note ≡ None) × (place.me.0.guest ≡ idle) }
         ensures closed { IfSome result (λ j. Closed self place.me.0.own j) }
         ensures held { IfNone result (place.me.0.own.shares ≢ all_shares) }
+        ensures another { IfNone result (AnotherHolds self place.me.0.own) }
     {
         take_apart(self.table, place.seat)
     }

@@ -2,7 +2,7 @@
 //! tables and seats are out of their reach.
 
 ghost use Rattle.std.specs.Prelude.{◌≡◌, ◌≢◌, ◌<◌, IfErr, IfNone, IfOk, IfSome, MatchBool, None, []};
-ghost use Rattle.lock_rule.specs.Closing.{Closed};
+ghost use Rattle.lock_rule.specs.Closing.{AnotherHolds, Closed};
 ghost use Rattle.lock_rule.specs.Desk.{router_view};
 ghost use Rattle.lock_rule.specs.Entering.{Enters, EntersNot, IsAtDesk, IsHolding, IsMet, Shows};
 ghost use Rattle.lock_rule.specs.Steps.{Absorbs, Missed, Took};
@@ -115,6 +115,8 @@ pub(crate) fn take_apart(desk: LockTable, seat: LockSeat) -> Option<Journal>
     ensures closed { IfSome result (λ j.
         Closed (router_view desk.shared.table_id desk.shared.key.value.opening desk.shared.key.value.limit) seat.me.0.own j) }
     ensures held { IfNone result (seat.me.0.own.shares ≢ all_shares) }
+    ensures another { IfNone result
+        (AnotherHolds (router_view desk.shared.table_id desk.shared.key.value.opening desk.shared.key.value.limit) seat.me.0.own) }
 {
     let mut closed = desk.close_with(seat);
     let word = closed.word(0);

@@ -13,7 +13,7 @@ use Rattle.slot_lock.specs.declared.fault.TryFault.{TryFault}
 use Rattle.slot_lock.specs.declared.fault.TryFault.TheVariants as try_fault
 use Rattle.slot_lock.specs.Held.{PassView}
 use Rattle.lock_rule.specs.declared.rule.Part.{Part}
-pub use Rattle.lock_rule.specs.Closing.{Closed}
+pub use Rattle.lock_rule.specs.Closing.{AnotherHolds, Closed}
 use Rattle.lock_rule.specs.Desk.{RouterView}
 use Rattle.lock_rule.specs.Steps.{Agree, joined, showing}
 use Rattle.lock_rule.specs.Views.{all_shares, longer}

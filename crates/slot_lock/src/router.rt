@@ -1,7 +1,7 @@
 //! A router that many threads call.
 
 ghost use Rattle.std.specs.Prelude.{◌≡◌, ◌≢◌, ◌-◌, ◌<◌, ◌≤◌, [], IfErr, IfOk, length};
-ghost use Rattle.slot_lock.specs.Calls.{Answered, Closed, Joined, Met, Observed, Refused, TryRefused};
+ghost use Rattle.slot_lock.specs.Calls.{AnotherHolds, Answered, Closed, Joined, Met, Observed, Refused, TryRefused};
 ghost use Rattle.slot_lock.specs.declared.fault.LockFault.TheVariants as lock_fault;
 ghost use Rattle.slot_lock.specs.Held.{IsFirst, IsOwn, IsPassOf};
 
@@ -145,6 +145,7 @@ impl Router {
         ensures closed { IfOk result (λ j. Closed self pass.part j) }
         ensures count { IfOk result (λ j. pass.part.shares ≡ ALL_SHARES → length pass.part.mine ≡ length j.entries) }
         ensures held { IfErr result (λ f. (f ≡ lock_fault.Held) × (pass.part.shares ≢ ALL_SHARES)) }
+        ensures another { IfErr result (λ _. AnotherHolds self pass.part) }
     {
         match self.desk.close(pass.place) {
             Some(journal) => Ok(journal),
