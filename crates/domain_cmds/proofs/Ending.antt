@@ -1,38 +1,22 @@
 -- A script ends where its input does: no answer ends it before.
-use Rattle.std.proofs.Common.{◌≡◌, ℕ, Bool, true, false, ◌||◌, List, [], ◌∷◌, Option, Some, None, Ok, Err, refl, subst, ap, ◌∙◌, inl, inr, nat_lt, ◌&&◌}
-use Rattle.std.specs.Prelude.{MatchBool, ⊤}
+use Rattle.std.proofs.Common.{ℕ, Bool, List, Option, Some, None, Ok, Err, refl, inl, inr, nat_lt, ◌&&◌}
 use Rattle.filter_code.specs.CodeView.{CodeView}
 use Rattle.filter_source.specs.Sources.{IsRefusedText}
 use Rattle.filter_source.specs.declared.refusal.Refusal.{Refusal}
 use Rattle.filter_verifier.specs.VerifiedView.{VerifiedView}
-use Rattle.line_protocol.specs.Answers.{Answer, is_end, is_over}
-use Rattle.line_protocol.specs.Lines.{numbered}
-use Rattle.line_protocol.specs.Limits.{input_limit}
-use Rattle.line_protocol.specs.Runs.{Finishes, Runs, Stops}
-use Rattle.line_protocol.specs.declared.faults.StreamFault.{StreamFault}
+use Rattle.line_protocol.specs.Answers.{Answer}
 use Rattle.operator_cmds.specs.Script.{GivesFile, GivesText, IsRefusedFile}
 use Rattle.domain_routes.specs.Edits.{exporting, importing}
 use Rattle.domain_routes.specs.PlanView.{PlanView, is_linked}
 use Rattle.domain_routes.specs.declared.best.Best.{Best}
 use Rattle.domain_cmds.specs.CommandView.{CommandView, Domain, Prefix, Load, Code, Link, Cut, Import, Export, Route, Path, Table, Draw, Mark, Changes, Settle}
 use Rattle.domain_cmds.specs.Commands.{Read, command_in}
-use Rattle.domain_cmds.specs.Running.{IsBrokenOff, IsCarriedOut}
 use Rattle.domain_cmds.specs.Script
 use Rattle.domain_cmds.specs.Script.{AnswersLine}
 use Rattle.domain_cmds.specs.State.{PlanningView, filter_named}
-
--- the answer is one after which more is answered
-abbrev GoesOn : Answer → Type 0
-GoesOn answer = is_end answer.reply ≡ false
-
-like : (answer other : Answer) → answer ≡ other → GoesOn other → GoesOn answer
-like answer other e h = ap (λ (a : Answer). is_end a.reply) e ∙ h
+use Rattle.operator_cmds.proofs.Unended.{GoesOn, either, like}
 
 module _ (answer : Answer) where
-  either : (b : Bool) (P Q : Type 0) → (P → GoesOn answer) → (Q → GoesOn answer) → MatchBool b P Q → GoesOn answer
-  either true P Q f g h = f h
-  either false P Q f g h = g h
-
   source : (Gives : CodeView → Type 0) (Lacks : Refusal → Type 0) (p : PlanningView) (number : ℕ) (name : List ℕ) (after : PlanningView)
       → Script.AnswersSource Gives Lacks p number name answer after → GoesOn answer
   source Gives Lacks p number name after (inl (filter, good, h)) = like answer _ h.0 refl
@@ -117,23 +101,7 @@ module _ (answer : Answer) where
   read before number (Ok c) after h = command before number c after h
   read before number (Err why) after h = like answer _ h.0 refl
 
-not_over : (before : Option PlanningView) (lines : List (ℕ × List ℕ)) (given : List Answer) (after : Option PlanningView)
-    → Runs AnswersLine before lines given after → is_over given ≡ false
-not_over before [] [] after h = refl
-not_over before [] (a ∷ more) after h = absurd h
-not_over before (l ∷ ls) [] after h = absurd h
-not_over before (l ∷ ls) (a ∷ more) after h =
-    let on : GoesOn a = read a before l.0 (command_in l.1) h.0 h.1 in
-    let rest = subst (λ (b : Bool). MatchBool b ((more ≡ []) × (after ≡ h.0)) (Runs AnswersLine h.0 ls more after)) on h.2 in
-    ap (λ (b : Bool). b || is_over more) on ∙ not_over h.0 ls more after rest
-
-pub carried_out : (before after : Option PlanningView) (input : List ℕ) (left held holds : Option (List ℕ)) (n : ℕ) → before ≡ None
-    → Finishes AnswersLine input_limit before after input left held holds n → IsCarriedOut input left held holds n
-carried_out before after input left held holds n e f =
-    let g = subst (λ (s : Option PlanningView). Finishes AnswersLine input_limit s after input left held holds n) e f in
-    record { after = after; finishes = g; to_end = g.to_end (not_over None (numbered input) g.given after g.run) }
-
-pub broken_off : (fault : StreamFault) (before now : Option PlanningView) (input : List ℕ) (left held holds : Option (List ℕ))
-    → before ≡ None → Stops AnswersLine (λ _ _. ⊤) input_limit fault before now input left held holds → IsBrokenOff fault input left held holds
-broken_off fault before now input left held holds e f =
-    record { after = now; stops = subst (λ (s : Option PlanningView). Stops AnswersLine (λ _ _. ⊤) input_limit fault s now input left held holds) e f }
+-- more is answered after the answer to a line
+pub goes_on : (before : Option PlanningView) (number : ℕ) (line : List ℕ) (answer : Answer) (after : Option PlanningView)
+    → AnswersLine before number line answer after → GoesOn answer
+goes_on before number line answer after h = read answer before number (command_in line) after h

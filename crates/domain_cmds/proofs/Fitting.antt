@@ -1,17 +1,12 @@
 -- The size of the domain that a line sets up is one.
 use Rattle.std.proofs.Common.{◌≡◌, ℕ, Bool, true, false, List, [], ◌∷◌, Option, Some, None, Result, Ok, Err, if◌then◌else◌, nat_lt, length, refl, subst}
-use Rattle.hex.specs.Hex.{decode_of}
-use Rattle.hex.specs.declared.error.FromHexError.{FromHexError}
 use Rattle.line_protocol.specs.Limits.{line_limit}
 use Rattle.line_protocol.specs.Words.{words}
-use Rattle.prefix_patterns.specs.Reading.{number_in, prefix_in}
-use Rattle.operator_cmds.specs.Commands.{node_in, text_in}
-use Rattle.operator_cmds.specs.Limits.{number_limit}
-use Rattle.operator_cmds.specs.Names.{is_name}
+use Rattle.operator_cmds.specs.Commands.{code_in, load_in, made, node_in, node_prefix_in, text_in}
 use Rattle.operator_cmds.specs.WordLists.{one_of, two_of, three_of}
 use Rattle.operator_cmds.specs.declared.fault.CommandFault.{CommandFault}
 use Rattle.operator_cmds.specs.declared.fault.CommandFault.TheVariants as fault
-use Rattle.domain_cmds.specs.CommandView.{CommandView, Domain, Load, Link, Cut, Import, Export, Route, Path, Table, Draw, Mark, Changes, Settle}
+use Rattle.domain_cmds.specs.CommandView.{CommandView, Domain, Prefix, Load, Code, Link, Cut, Import, Export, Route, Path, Table, Draw, Mark, Changes, Settle}
 use Rattle.domain_cmds.specs.Commands
 use Rattle.domain_cmds.specs.Commands.{HasFitSize, Read, is_size}
 use Rattle.domain_cmds.specs.Verbs.{verb_in}
@@ -33,34 +28,8 @@ domain_fits (Ok size) = tested (is_size size) (Domain size) fault.Numbers (λ h.
 domain_fits (Err why) = tt
 
 -- the other commands have no size
-prefix_fits : (args : Option (List ℕ × List ℕ)) → Fits (Commands.prefix_of args)
-prefix_fits None = tt
-prefix_fits (Some (node, prefix)) = parts (number_in number_limit node) (prefix_in prefix)
-  where
-    parts : (n : Option ℕ) (p : Option (List Bool)) → Fits (Commands.prefix_parts n p)
-    parts None p = tt
-    parts (Some n) None = tt
-    parts (Some n) (Some p) = tt
-
-load_fits : (args : List (List ℕ)) (text : List ℕ) → Fits (Commands.load_of args text)
-load_fits [] text = tt
-load_fits (name ∷ []) text = tt
-load_fits (name ∷ (word ∷ more)) text = tested (is_name name) (Load name text) fault.Words (λ h. tt)
-
-code_fits : (args : Option (List ℕ × List ℕ)) → Fits (Commands.code_of args)
-code_fits None = tt
-code_fits (Some (name, digits)) = named (is_name name) (decode_of digits)
-  where
-    parts : (bytes : Result (List ℕ) FromHexError) → Fits (Commands.code_parts name bytes)
-    parts (Ok bytes) = tt
-    parts (Err why) = tt
-
-    named : (b : Bool) (bytes : Result (List ℕ) FromHexError) → Fits (if b then Commands.code_parts name bytes else Err fault.Words)
-    named true bytes = parts bytes
-    named false bytes = tt
-
 made_fits : {X : Type 0} (make : X → CommandView) (r : Result X CommandFault) → ((x : X) → HasFitSize (make x))
-    → Fits (Commands.made make r)
+    → Fits (made make r)
 made_fits make (Ok x) h = h x
 made_fits make (Err why) h = tt
 
@@ -71,9 +40,9 @@ alone_fits command (word ∷ more) h = tt
 command_fits : (v : Option Verb) (args : List (List ℕ)) (text : List ℕ) → Fits (Commands.command_of v args text)
 command_fits None args text = tt
 command_fits (Some verb.Domain) args text = domain_fits (node_in (one_of args))
-command_fits (Some verb.Prefix) args text = prefix_fits (two_of args)
-command_fits (Some verb.Load) args text = load_fits args text
-command_fits (Some verb.Code) args text = code_fits (two_of args)
+command_fits (Some verb.Prefix) args text = made_fits (λ p. Prefix p.0 p.1) (node_prefix_in (two_of args)) (λ p. tt)
+command_fits (Some verb.Load) args text = made_fits (λ p. Load p.0 p.1) (load_in args text) (λ p. tt)
+command_fits (Some verb.Code) args text = made_fits (λ p. Code p.0 p.1) (code_in (two_of args)) (λ p. tt)
 command_fits (Some verb.Link) args text = made_fits (λ p. Link p.0 p.1) (Commands.nodes_in (two_of args)) (λ p. tt)
 command_fits (Some verb.Cut) args text = made_fits (λ p. Cut p.0 p.1) (Commands.nodes_in (two_of args)) (λ p. tt)
 command_fits (Some verb.Import) args text = made_fits (λ p. Import p.0 p.1 p.2) (Commands.filter_in (three_of args)) (λ p. tt)

@@ -1,12 +1,10 @@
 -- What command a line gives, or the first thing that is wrong with it. (This project's own choice.)
 use Rattle.std.specs.Prelude.{◌≡◌, ℕ, Bool, true, ◌&&◌, List, [], ◌∷◌, length, nat_le, nat_lt, Option, Some, None, Result, Ok, Err, if◌then◌else◌}
 use Rattle.filter_code.specs.Limits.{smallest_size, largest_size}
-use Rattle.hex.specs.Hex.{decode_of}
-use Rattle.hex.specs.declared.error.FromHexError.{FromHexError}
 use Rattle.line_protocol.specs.Limits.{line_limit}
 use Rattle.line_protocol.specs.Words.{words}
-use Rattle.prefix_patterns.specs.Reading.{number_in, prefix_in}
-use Rattle.operator_cmds.specs.Commands.{node_in, text_in}
+use Rattle.prefix_patterns.specs.Reading.{number_in}
+use Rattle.operator_cmds.specs.Commands.{code_in, load_in, made, node_in, node_prefix_in, text_in}
 use Rattle.operator_cmds.specs.Limits.{number_limit}
 use Rattle.operator_cmds.specs.Names.{is_name}
 use Rattle.operator_cmds.specs.WordLists.{one_of, two_of, three_of}
@@ -33,31 +31,6 @@ domain_parts (Ok size) = if is_size size then Ok (Domain size) else Err fault.Nu
 abbrev pub domain_of : Option (List ℕ) → Read
 domain_of word = domain_parts (node_in word)
 
-abbrev pub prefix_parts : Option ℕ → Option (List Bool) → Read
-prefix_parts None prefix = Err fault.Numbers
-prefix_parts (Some node) None = Err fault.Prefix
-prefix_parts (Some node) (Some prefix) = Ok (Prefix node prefix)
-
--- `prefix V P`
-abbrev pub prefix_of : Option (List ℕ × List ℕ) → Read
-prefix_of None = Err fault.Words
-prefix_of (Some (node, prefix)) = prefix_parts (number_in number_limit node) (prefix_in prefix)
-
--- `load NAME TEXT`, where the text has at least one word
-abbrev pub load_of : List (List ℕ) → List ℕ → Read
-load_of [] text = Err fault.Words
-load_of (name ∷ []) text = Err fault.Words
-load_of (name ∷ (word ∷ more)) text = if is_name name then Ok (Load name text) else Err fault.Words
-
-abbrev pub code_parts : List ℕ → Result (List ℕ) FromHexError → Read
-code_parts name (Ok bytes) = Ok (Code name bytes)
-code_parts name (Err why) = Err fault.Hexadecimal
-
--- `code NAME HEX`
-abbrev pub code_of : Option (List ℕ × List ℕ) → Read
-code_of None = Err fault.Words
-code_of (Some (name, digits)) = if is_name name then code_parts name (decode_of digits) else Err fault.Words
-
 -- the numbers of two nodes that two texts write
 abbrev pub both_numbers : Option ℕ → Option ℕ → Result (ℕ × ℕ) CommandFault
 both_numbers None w = Err fault.Numbers
@@ -79,11 +52,6 @@ filter_in None = Err fault.Words
 filter_in (Some (u, w, name)) =
     if is_name name then named name (both_numbers (number_in number_limit u) (number_in number_limit w)) else Err fault.Words
 
--- the command that is made of what was read
-abbrev pub made : {X : Type 0} → (X → CommandView) → Result X CommandFault → Read
-made make (Ok x) = Ok (make x)
-made make (Err why) = Err why
-
 -- a command of one word
 abbrev pub alone : CommandView → List (List ℕ) → Read
 alone command [] = Ok command
@@ -93,9 +61,9 @@ alone command (word ∷ more) = Err fault.Words
 abbrev pub command_of : Option Verb → List (List ℕ) → List ℕ → Read
 command_of None args text = Err fault.Words
 command_of (Some verb.Domain) args text = domain_of (one_of args)
-command_of (Some verb.Prefix) args text = prefix_of (two_of args)
-command_of (Some verb.Load) args text = load_of args text
-command_of (Some verb.Code) args text = code_of (two_of args)
+command_of (Some verb.Prefix) args text = made (λ p. Prefix p.0 p.1) (node_prefix_in (two_of args))
+command_of (Some verb.Load) args text = made (λ p. Load p.0 p.1) (load_in args text)
+command_of (Some verb.Code) args text = made (λ p. Code p.0 p.1) (code_in (two_of args))
 command_of (Some verb.Link) args text = made (λ p. Link p.0 p.1) (nodes_in (two_of args))
 command_of (Some verb.Cut) args text = made (λ p. Cut p.0 p.1) (nodes_in (two_of args))
 command_of (Some verb.Import) args text = made (λ p. Import p.0 p.1 p.2) (filter_in (three_of args))

@@ -69,6 +69,7 @@ impl Engine {
             answer,
             size: self.planning.as_ref().map(|planning| planning.size()),
             filters: self.planning.as_ref().map(|planning| planning.filters()),
+            told: self.planning.as_ref().and_then(|planning| planning.told()),
         }
     }
 
@@ -134,8 +135,7 @@ impl<S: Watch + Drop> Service for Watched<S> {
     }
 }
 
-/// Does what `run_domain` does, and shows each line that is refused to who watches. A line that gives a filter is one of the
-/// script of a router, so `operator_cmds::refused_filter` finds what is wrong with it.
+/// Does what `run_domain` does, and shows each line that is refused to who watches.
 pub fn run_watched_domain<R: Read, W: Write, S: Watch + Drop>(
     alloc: Global,
     reader: &mut R,

@@ -13,7 +13,7 @@ use crate::playing::{Change, Playing};
 use crate::resting::RestingPlan;
 use crate::routes::Column;
 use domain_routes::Plan;
-use filter_source::{Failure, push_verified};
+use filter_source::{Diagnosis, Failure, push_verified};
 use filter_verifier::Verified;
 use line_protocol::Reply;
 use operator_cmds::{NamedFilters, confirm, default_prefixes, refuse, verify_file, verify_text};
@@ -35,6 +35,8 @@ pub(crate) struct Planning {
     marked: Option<Arc<Vec<Column>>>,
     /// Its routers.
     playing: Playing,
+    /// What is told of the last filter that was refused.
+    told: Option<Diagnosis>,
 }
 
 impl Model for Planning {
@@ -85,6 +87,7 @@ impl Planning {
             begun: false,
             marked: None,
             playing: Playing::new(alloc),
+            told: None,
         })
     }
 
@@ -100,6 +103,11 @@ impl Planning {
         ensures { named_in result.now ≡ self.now.filters }
     {
         self.filters.all()
+    }
+
+    /// What is told of the last filter that was refused.
+    pub(crate) fn told(&self) -> Option<Diagnosis> {
+        self.told
     }
 
     /// Carries out a command, and answers it.
@@ -188,6 +196,13 @@ impl Planning {
         self.name_filter(alloc, number, name, verified, out)
     }
 
+    /// Keeps what is told of a filter that is refused.
+    fn keep_told(&mut self, told: Diagnosis)
+        ensures { self.new ≡ self.old }
+    {
+        self.told = Some(told);
+    }
+
     /// Answers by what became of a source: verified code gets the name. A refused one leaves the filter that the name has.
     fn name_filter(
         &mut self,
@@ -209,6 +224,7 @@ impl Planning {
             }
             Err(Failure::Refused(told)) => {
                 let why = told.refusal;
+                self.keep_told(told);
                 refuse(out, why.code(), why.place_in_line(number))
             }
             Err(Failure::Memory) => Err(AllocError),

@@ -2,7 +2,6 @@
 ghost use Rattle.std.specs.Prelude.{◌≡◌, Some, Ok, Err, MatchResult};
 ghost use Rattle.line_protocol.specs.Words.{words, without_front_blanks};
 ghost use Rattle.prefix_patterns.specs.Reading.{number_in};
-ghost use Rattle.operator_cmds.specs.Commands.{node_in};
 ghost use Rattle.operator_cmds.specs.Limits.{number_limit};
 ghost use Rattle.operator_cmds.specs.WordLists.{after_word, one_of, two_of, three_of};
 ghost use Rattle.domain_cmds.specs.CommandView.{view_of};
@@ -12,26 +11,12 @@ ghost use Rattle.domain_cmds.specs.Readings.{IsRead, IsReadIn};
 use crate::command::Command;
 use crate::verb::{Verb, read_verb};
 use filter_code::{LARGEST_SIZE, SMALLEST_SIZE};
-use hex::FromHexError;
-use line_protocol::{LINE_LIMIT, next_word, trim_front_blanks};
+use line_protocol::{LINE_LIMIT, next_word};
 use operator_cmds::{
-    CommandFault, cut_word, is_name, one_word, read_small, three_words, two_words,
+    CommandFault, cut_word, is_name, read_code, read_load, read_node, read_node_prefix, read_small,
+    three_words, two_words,
 };
-use prefix_patterns::read_prefix;
 use std::alloc::Global;
-
-/// The number of a node, where nothing follows it.
-fn read_node(rest: &[u8]) -> Result<u16, CommandFault>
-    ensures { result ≡ node_in (one_of (words rest.now)) }
-{
-    let Some(node) = one_word(rest) else {
-        return Err(CommandFault::Words);
-    };
-    match read_small(node) {
-        Some(node) => Ok(node),
-        None => Err(CommandFault::Numbers),
-    }
-}
 
 /// The numbers of two nodes.
 fn read_both(first: &[u8], second: &[u8]) -> Result<(u16, u16), CommandFault>
@@ -69,55 +54,6 @@ fn read_domain<'a>(rest: &[u8]) -> Result<Command<'a>, CommandFault>
     }
 }
 
-/// A `prefix` command by the bytes after its first word.
-fn read_node_prefix<'a>(rest: &[u8]) -> Result<Command<'a>, CommandFault>
-    ensures { IsRead result (spec.prefix_of (two_of (words rest.now))) }
-{
-    let Some((node, prefix)) = two_words(rest) else {
-        return Err(CommandFault::Words);
-    };
-    let Some(node) = read_small(node) else {
-        return Err(CommandFault::Numbers);
-    };
-    match read_prefix(prefix) {
-        Some(prefix) => Ok(Command::Prefix { node, prefix }),
-        None => Err(CommandFault::Prefix),
-    }
-}
-
-/// A `load` command by the bytes after its first word.
-fn read_load(rest: &[u8]) -> Result<Command<'_>, CommandFault>
-    ensures { IsRead result (spec.load_of (words rest.now) (without_front_blanks (after_word rest.now))) }
-{
-    let Some((name, rest)) = cut_word(rest) else {
-        return Err(CommandFault::Words);
-    };
-    if next_word(rest).is_none() || !is_name(name) {
-        return Err(CommandFault::Words);
-    }
-    Ok(Command::Load {
-        name,
-        text: trim_front_blanks(rest),
-    })
-}
-
-/// A `code` command by the bytes after its first word.
-fn read_code(alloc: Global, rest: &[u8]) -> Result<Command<'_>, CommandFault>
-    ensures { IsReadIn result (spec.code_of (two_of (words rest.now))) }
-{
-    let Some((name, digits)) = two_words(rest) else {
-        return Err(CommandFault::Words);
-    };
-    if !is_name(name) {
-        return Err(CommandFault::Words);
-    }
-    match hex::decode(alloc, digits) {
-        Ok(bytes) => Ok(Command::Code { name, bytes }),
-        Err(FromHexError::OutOfMemory) => Err(CommandFault::Memory),
-        Err(_) => Err(CommandFault::Hexadecimal),
-    }
-}
-
 /// The numbers of two nodes and the name of a filter, where nothing follows them.
 fn read_filter(rest: &[u8]) -> Result<(u16, u16, &[u8]), CommandFault>
     ensures { MatchResult result (λ p. spec.filter_in (three_of (words rest.now)) ≡ Ok (p.0, p.1, p.2.now))
@@ -149,9 +85,18 @@ fn read_rest(alloc: Global, verb: Verb, rest: &[u8]) -> Result<Command<'_>, Comm
 {
     match verb {
         Verb::Domain => read_domain(rest),
-        Verb::Prefix => read_node_prefix(rest),
-        Verb::Load => read_load(rest),
-        Verb::Code => read_code(alloc, rest),
+        Verb::Prefix => {
+            let (node, prefix) = read_node_prefix(rest)?;
+            Ok(Command::Prefix { node, prefix })
+        }
+        Verb::Load => {
+            let (name, text) = read_load(rest)?;
+            Ok(Command::Load { name, text })
+        }
+        Verb::Code => {
+            let (name, bytes) = read_code(alloc, rest)?;
+            Ok(Command::Code { name, bytes })
+        }
         Verb::Link => {
             let (u, w) = read_nodes(rest)?;
             Ok(Command::Link(u, w))

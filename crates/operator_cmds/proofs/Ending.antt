@@ -1,6 +1,6 @@
 -- A script ends where its input does: no answer ends it before.
-use Rattle.std.proofs.Common.{◌≡◌, ℕ, ◌==◌, Bool, true, false, ◌||◌, List, [], ◌∷◌, length, Option, Some, None, Ok, Err, Global, refl, subst, ap, ◌∙◌, inl, inr, nat_lt}
-use Rattle.std.specs.Prelude.{MatchBool, codes, if◌then◌else◌, ⊤}
+use Rattle.std.proofs.Common.{◌≡◌, ℕ, ◌==◌, Bool, List, [], length, Option, Some, None, Ok, Err, Global, refl, ap, nat_lt}
+use Rattle.std.specs.Prelude.{codes}
 use Rattle.std.specs.BTreeMap.{BTreeMap, is_at}
 use Rattle.std.specs.Cmp.Lexicographic.{slice_cmp}
 use Rattle.std.specs.Map.{lookup}
@@ -11,38 +11,20 @@ use Rattle.filter_code.specs.CodeView.{CodeView}
 use Rattle.filter_source.specs.Sources.{IsRefusedText}
 use Rattle.filter_source.specs.declared.refusal.Refusal.{Refusal}
 use Rattle.filter_verifier.specs.VerifiedView.{VerifiedView}
-use Rattle.line_protocol.specs.Answers.{Answer, is_end, is_over}
-use Rattle.line_protocol.specs.Lines.{numbered}
-use Rattle.line_protocol.specs.Limits.{input_limit}
-use Rattle.line_protocol.specs.Runs.{Finishes, Runs, Stops}
-use Rattle.line_protocol.specs.declared.faults.StreamFault.{StreamFault}
+use Rattle.line_protocol.specs.Answers.{Answer}
 use Rattle.netchange_core.specs.declared.event.Event.{Event}
 use Rattle.netchange_core.specs.declared.event.Event.TheVariants as event
-use Rattle.netchange_core.specs.declared.reply.Reply.{Reply}
-use Rattle.netchange_core.specs.declared.reply.Reply.TheVariants as reply
 use Rattle.route_history.specs.JournalView.{JournalView}
 use Rattle.operator_cmds.specs.CommandView.{CommandView, Network, Prefix, Load, Code, Import, Export, Up, Down, Receive, Take, Show, Look, History}
 use Rattle.operator_cmds.specs.Commands.{Read, command_in}
 use Rattle.operator_cmds.specs.Limits.{number_limit}
 use Rattle.operator_cmds.specs.Looks.{can_look, look_text}
-use Rattle.operator_cmds.specs.Replies.{answered, refused, reply_answer}
-use Rattle.operator_cmds.specs.Running.{IsBrokenOff, IsCarriedOut}
 use Rattle.operator_cmds.specs.Script
 use Rattle.operator_cmds.specs.Script.{AnswersLine, ScriptView, fresh}
 use Rattle.operator_cmds.specs.Stages.{StageView, Empty, Setting, Open, journal_in, new_journal, session_in}
 use Rattle.operator_cmds.specs.State.{filter_at}
 use Rattle.operator_cmds.proofs.Naming.{Key}
-
--- the answer is one after which more is answered
-abbrev GoesOn : Answer → Type 0
-GoesOn answer = is_end answer.reply ≡ false
-
-like : (answer other : Answer) → answer ≡ other → GoesOn other → GoesOn answer
-like answer other e h = ap (λ (a : Answer). is_end a.reply) e ∙ h
-
-given : (b : Bool) (text code : List ℕ) (at : ℕ) → GoesOn (if b then answered text else refused code at)
-given true text code at = refl
-given false text code at = refl
+use Rattle.operator_cmds.proofs.Unended.{GoesOn, either, given, like, replied, source}
 
 looking : (found : Option JournalView) (number : ℕ) (look : JournalView → Answer) → ((journal : JournalView) → GoesOn (look journal))
     → GoesOn (Script.told_by found number look)
@@ -56,10 +38,6 @@ module _ (before : ScriptView) (answer : Answer) (after : ScriptView) where
   network (Setting o l) number size me limit h = like answer _ h.0 refl
   network (Open journal) number size me limit h = like answer _ h.0 refl
 
-  either : (b : Bool) (P Q : Type 0) → (P → GoesOn answer) → (Q → GoesOn answer) → MatchBool b P Q → GoesOn answer
-  either true P Q f g h = f h
-  either false P Q f g h = g h
-
   prefix : (stage : StageView) (number node : ℕ) (bits : List Bool)
       → Script.AnswersPrefix stage number node bits before answer after → GoesOn answer
   prefix Empty number node bits h = like answer _ h.0 refl
@@ -67,23 +45,11 @@ module _ (before : ScriptView) (answer : Answer) (after : ScriptView) where
       either (nat_lt node opening.size) _ _ (λ p. like answer _ p.0 refl) (λ q. like answer _ q.0 refl) h
   prefix (Open journal) number node bits h = like answer _ h.0 refl
 
-  source : (Gives : CodeView → Type 0) (Lacks : Refusal → Type 0) (size number : ℕ) (name : List ℕ)
-      → Script.AnswersSource Gives Lacks size number name before answer after → GoesOn answer
-  source Gives Lacks size number name (inl (filter, good, h)) = like answer _ h.0 refl
-  source Gives Lacks size number name (inr (why, bad, h)) = like answer _ h.0 refl
-
   filter : (stage : StageView) (Gives : CodeView → Type 0) (Lacks : Refusal → Type 0) (number : ℕ) (name : List ℕ)
       → Script.AnswersFilter stage Gives Lacks number name before answer after → GoesOn answer
   filter Empty Gives Lacks number name h = like answer _ h.0 refl
-  filter (Setting opening limit) Gives Lacks number name h = source Gives Lacks opening.size number name h
-  filter (Open journal) Gives Lacks number name h = source Gives Lacks journal.opening.size number name h
-
-  replied : (at : ℕ) (r : Reply) → GoesOn (reply_answer at r)
-  replied at (reply.Opened session) = refl
-  replied at (reply.Done count) = refl
-  replied at (reply.Messages messages) = refl
-  replied at (reply.Route dist through) = refl
-  replied at (reply.Refused why) = refl
+  filter (Setting opening limit) Gives Lacks number name h = source Gives Lacks opening.size number name before answer after h
+  filter (Open journal) Gives Lacks number name h = source Gives Lacks journal.opening.size number name before answer after h
 
   in_journal : (journal : JournalView) (event : Event) (later : JournalView) → Script.AnswersIn journal event answer later → GoesOn answer
   in_journal journal event later h =
@@ -128,15 +94,10 @@ module _ (before : ScriptView) (answer : Answer) (after : ScriptView) where
   read number (Ok c) h = command number c h
   read number (Err why) h = like answer _ h.0 refl
 
-not_over : (before : ScriptView) (lines : List (ℕ × List ℕ)) (given : List Answer) (after : ScriptView)
-    → Runs AnswersLine before lines given after → is_over given ≡ false
-not_over before [] [] after h = refl
-not_over before [] (a ∷ more) after h = absurd h
-not_over before (l ∷ ls) [] after h = absurd h
-not_over before (l ∷ ls) (a ∷ more) after h =
-    let on : GoesOn a = read before a h.0 l.0 (command_in l.1) h.1 in
-    let rest = subst (λ (b : Bool). MatchBool b ((more ≡ []) × (after ≡ h.0)) (Runs AnswersLine h.0 ls more after)) on h.2 in
-    ap (λ (b : Bool). b || is_over more) on ∙ not_over h.0 ls more after rest
+-- more is answered after the answer to a line
+pub goes_on : (before : ScriptView) (number : ℕ) (line : List ℕ) (answer : Answer) (after : ScriptView)
+    → AnswersLine before number line answer after → GoesOn answer
+goes_on before number line answer after h = read before answer after number (command_in line) h
 
 -- a script that no filter was named in and no domain set up in is a fresh one
 pub is_fresh : (filters : BTreeMap Key (Arc VerifiedView Global)) → filters.entries ≡ []
@@ -145,14 +106,3 @@ is_fresh filters e =
     let script : List (Key × Arc VerifiedView Global) → ScriptView =
     λ es. record { stage = Empty; filters = λ name. option_map (λ f. f.value) (lookup (is_at (λ key. slice_cmp nat_cmp name key.items)) es) } in
     ap script e
-
-pub carried_out : (before after : ScriptView) (input : List ℕ) (left held holds : Option (List ℕ)) (n : ℕ) → before ≡ fresh
-    → Finishes AnswersLine input_limit before after input left held holds n → IsCarriedOut input left held holds n
-carried_out before after input left held holds n e f =
-    let g = subst (λ (s : ScriptView). Finishes AnswersLine input_limit s after input left held holds n) e f in
-    record { after = after; finishes = g; to_end = g.to_end (not_over fresh (numbered input) g.given after g.run) }
-
-pub broken_off : (fault : StreamFault) (before now : ScriptView) (input : List ℕ) (left held holds : Option (List ℕ)) → before ≡ fresh
-    → Stops AnswersLine (λ _ _. ⊤) input_limit fault before now input left held holds → IsBrokenOff fault input left held holds
-broken_off fault before now input left held holds e f =
-    record { after = now; stops = subst (λ (s : ScriptView). Stops AnswersLine (λ _ _. ⊤) input_limit fault s now input left held holds) e f }

@@ -1,18 +1,15 @@
 -- The numbers of a command that a line gives fit.
 use Rattle.std.proofs.Common.{◌≡◌, ℕ, ◌≤◌, Bool, true, false, ◌&&◌, List, [], ◌∷◌, Option, Some, None, IfSome, Result, Ok, Err, if◌then◌else◌, nat_le, nat_lt, length, refl, subst, arith}
 use Rattle.std.proofs.lemmas.Bool.Decides.{nat_tests}
-use Rattle.hex.specs.Hex.{decode_of}
-use Rattle.hex.specs.declared.error.FromHexError.{FromHexError}
 use Rattle.line_protocol.specs.Limits.{line_limit}
 use Rattle.line_protocol.specs.Words.{words}
 use Rattle.prefix_patterns.specs.Number.{decimal_value}
-use Rattle.prefix_patterns.specs.Reading.{is_digits, number_in, prefix_in}
-use Rattle.operator_cmds.specs.CommandView.{CommandView, Network, Load, Import, Export, Up, Down, Take, Show, Look, History}
+use Rattle.prefix_patterns.specs.Reading.{is_digits, number_in}
+use Rattle.operator_cmds.specs.CommandView.{CommandView, Network, Prefix, Load, Code, Import, Export, Up, Down, Take, Show, Look, History}
 use Rattle.operator_cmds.specs.Commands
 use Rattle.operator_cmds.specs.Commands.{Read, is_network}
 use Rattle.operator_cmds.specs.Domain.{HasFitNumbers}
 use Rattle.operator_cmds.specs.Limits.{number_limit, largest_limit}
-use Rattle.operator_cmds.specs.Names.{is_name}
 use Rattle.operator_cmds.specs.Verbs.{verb_in}
 use Rattle.operator_cmds.specs.WordLists.{one_of, two_of, three_of}
 use Rattle.operator_cmds.specs.declared.command.Look.{Look as TablesLook}
@@ -76,32 +73,6 @@ domain_fits (size ∷ (me ∷ (limit ∷ []))) =
 domain_fits (size ∷ (me ∷ (limit ∷ (word ∷ more)))) = tt
 
 -- the other commands have no such numbers
-prefix_fits : (args : Option (List ℕ × List ℕ)) → Fits (Commands.prefix_of args)
-prefix_fits None = tt
-prefix_fits (Some (node, prefix)) = parts (number_in number_limit node) (prefix_in prefix)
-  where
-    parts : (n : Option ℕ) (p : Option (List Bool)) → Fits (Commands.prefix_parts n p)
-    parts None p = tt
-    parts (Some n) None = tt
-    parts (Some n) (Some p) = tt
-
-load_fits : (args : List (List ℕ)) (text : List ℕ) → Fits (Commands.load_of args text)
-load_fits [] text = tt
-load_fits (name ∷ []) text = tt
-load_fits (name ∷ (word ∷ more)) text = tested (is_name name) (Load name text) fault.Words (λ h. tt)
-
-code_fits : (args : Option (List ℕ × List ℕ)) → Fits (Commands.code_of args)
-code_fits None = tt
-code_fits (Some (name, digits)) = named (is_name name) (decode_of digits)
-  where
-    parts : (bytes : Result (List ℕ) FromHexError) → Fits (Commands.code_parts name bytes)
-    parts (Ok bytes) = tt
-    parts (Err why) = tt
-
-    named : (b : Bool) (bytes : Result (List ℕ) FromHexError) → Fits (if b then Commands.code_parts name bytes else Err fault.Words)
-    named true bytes = parts bytes
-    named false bytes = tt
-
 made_fits : {X : Type 0} (make : X → CommandView) (r : Result X CommandFault) → ((x : X) → HasFitNumbers (make x))
     → Fits (Commands.made make r)
 made_fits make (Ok x) h = h x
@@ -125,9 +96,9 @@ alone_fits what (word ∷ more) = tt
 command_fits : (v : Option Verb) (args : List (List ℕ)) (text : List ℕ) → Fits (Commands.command_of v args text)
 command_fits None args text = tt
 command_fits (Some verb.Network) args text = domain_fits args
-command_fits (Some verb.Prefix) args text = prefix_fits (two_of args)
-command_fits (Some verb.Load) args text = load_fits args text
-command_fits (Some verb.Code) args text = code_fits (two_of args)
+command_fits (Some verb.Prefix) args text = made_fits (λ p. Prefix p.0 p.1) (Commands.node_prefix_in (two_of args)) (λ p. tt)
+command_fits (Some verb.Load) args text = made_fits (λ p. Load p.0 p.1) (Commands.load_in args text) (λ p. tt)
+command_fits (Some verb.Code) args text = made_fits (λ p. Code p.0 p.1) (Commands.code_in (two_of args)) (λ p. tt)
 command_fits (Some verb.Import) args text = made_fits (λ p. Import p.0 p.1) (Commands.filter_in (two_of args)) (λ p. tt)
 command_fits (Some verb.Export) args text = made_fits (λ p. Export p.0 p.1) (Commands.filter_in (two_of args)) (λ p. tt)
 command_fits (Some verb.Up) args text = made_fits Up (Commands.node_in (one_of args)) (λ n. tt)

@@ -6,6 +6,7 @@ pub mod Entering
 pub mod Growing
 pub mod Going
 pub mod Viewed
+pub mod Unended
 pub mod Ending
 mod PlainLines
 mod Rows

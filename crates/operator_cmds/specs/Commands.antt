@@ -47,30 +47,30 @@ network_of (size ∷ (me ∷ (limit ∷ []))) =
     limited_parts (number_in number_limit size) (number_in number_limit me) (number_in largest_limit limit)
 network_of (size ∷ (me ∷ (limit ∷ (word ∷ more)))) = Err fault.Words
 
-abbrev pub prefix_parts : Option ℕ → Option (List Bool) → Read
+abbrev pub prefix_parts : Option ℕ → Option (List Bool) → Result (ℕ × List Bool) CommandFault
 prefix_parts None prefix = Err fault.Numbers
 prefix_parts (Some node) None = Err fault.Prefix
-prefix_parts (Some node) (Some prefix) = Ok (Prefix node prefix)
+prefix_parts (Some node) (Some prefix) = Ok (node, prefix)
 
--- `prefix V P`
-abbrev pub prefix_of : Option (List ℕ × List ℕ) → Read
-prefix_of None = Err fault.Words
-prefix_of (Some (node, prefix)) = prefix_parts (number_in number_limit node) (prefix_in prefix)
+-- the number and the prefix of a node, as the only two words
+abbrev pub node_prefix_in : Option (List ℕ × List ℕ) → Result (ℕ × List Bool) CommandFault
+node_prefix_in None = Err fault.Words
+node_prefix_in (Some (node, prefix)) = prefix_parts (number_in number_limit node) (prefix_in prefix)
 
--- `load NAME TEXT`, where the text has at least one word
-abbrev pub load_of : List (List ℕ) → List ℕ → Read
-load_of [] text = Err fault.Words
-load_of (name ∷ []) text = Err fault.Words
-load_of (name ∷ (word ∷ more)) text = if is_name name then Ok (Load name text) else Err fault.Words
+-- the name and the text of a filter, where the text has at least one word
+abbrev pub load_in : List (List ℕ) → List ℕ → Result (List ℕ × List ℕ) CommandFault
+load_in [] text = Err fault.Words
+load_in (name ∷ []) text = Err fault.Words
+load_in (name ∷ (word ∷ more)) text = if is_name name then Ok (name, text) else Err fault.Words
 
-abbrev pub code_parts : List ℕ → Result (List ℕ) FromHexError → Read
-code_parts name (Ok bytes) = Ok (Code name bytes)
+abbrev pub code_parts : List ℕ → Result (List ℕ) FromHexError → Result (List ℕ × List ℕ) CommandFault
+code_parts name (Ok bytes) = Ok (name, bytes)
 code_parts name (Err why) = Err fault.Hexadecimal
 
--- `code NAME HEX`
-abbrev pub code_of : Option (List ℕ × List ℕ) → Read
-code_of None = Err fault.Words
-code_of (Some (name, digits)) = if is_name name then code_parts name (decode_of digits) else Err fault.Words
+-- the name of a filter and the bytes that the digits of its code file write, as the only two words
+abbrev pub code_in : Option (List ℕ × List ℕ) → Result (List ℕ × List ℕ) CommandFault
+code_in None = Err fault.Words
+code_in (Some (name, digits)) = if is_name name then code_parts name (decode_of digits) else Err fault.Words
 
 -- the number that a text writes
 abbrev pub number_or : Option ℕ → Result ℕ CommandFault
@@ -92,7 +92,7 @@ filter_in None = Err fault.Words
 filter_in (Some (node, name)) = if is_name name then named name (number_in number_limit node) else Err fault.Words
 
 -- the command that is made of what was read
-abbrev pub made : {X : Type 0} → (X → CommandView) → Result X CommandFault → Read
+abbrev pub made : {X Command : Type 0} → (X → Command) → Result X CommandFault → Result Command CommandFault
 made make (Ok x) = Ok (make x)
 made make (Err why) = Err why
 
@@ -122,9 +122,9 @@ position_in (Some from) = number_or (number_in largest_limit from)
 abbrev pub command_of : Option Verb → List (List ℕ) → List ℕ → Read
 command_of None args text = Err fault.Words
 command_of (Some verb.Network) args text = network_of args
-command_of (Some verb.Prefix) args text = prefix_of (two_of args)
-command_of (Some verb.Load) args text = load_of args text
-command_of (Some verb.Code) args text = code_of (two_of args)
+command_of (Some verb.Prefix) args text = made (λ p. Prefix p.0 p.1) (node_prefix_in (two_of args))
+command_of (Some verb.Load) args text = made (λ p. Load p.0 p.1) (load_in args text)
+command_of (Some verb.Code) args text = made (λ p. Code p.0 p.1) (code_in (two_of args))
 command_of (Some verb.Import) args text = made (λ p. Import p.0 p.1) (filter_in (two_of args))
 command_of (Some verb.Export) args text = made (λ p. Export p.0 p.1) (filter_in (two_of args))
 command_of (Some verb.Up) args text = made Up (node_in (one_of args))

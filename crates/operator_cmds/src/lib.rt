@@ -23,14 +23,12 @@ pub use filter::{verify_file, verify_text};
 pub use laws::one_line_one_entry;
 pub use look::{answer_history, answer_look};
 pub use name::is_name;
-pub use read::{read_command, read_small};
+pub use read::{read_code, read_command, read_load, read_node, read_node_prefix, read_small};
 pub use reply::{answer_reply, confirm, push_via, refuse};
 pub use script::{Script, ScriptFault, run_script};
 pub use stage::default_prefixes;
-pub use watch::{
-    NamedFilters, Nobody, RefusedFilter, RefusedLine, Watch, refused_filter, run_watched_script,
-};
-pub use words::{cut_word, one_word, three_words, two_words};
+pub use watch::{NamedFilters, Nobody, RefusedLine, Watch, run_watched_script};
+pub use words::{cut_word, one_word, text_in, three_words, two_words};
 
 /// A number of a command, the limit of a history excepted, is at most this.
 pub const NUMBER_LIMIT: u32 = 65_535;

@@ -4,7 +4,7 @@ ghost use Rattle.line_protocol.specs.Words.{words, without_front_blanks};
 ghost use Rattle.prefix_patterns.specs.Reading.{number_in};
 ghost use Rattle.operator_cmds.specs.Commands as spec;
 ghost use Rattle.operator_cmds.specs.Limits.{largest_limit, number_limit};
-ghost use Rattle.operator_cmds.specs.Readings.{IsRead, IsReadIn};
+ghost use Rattle.operator_cmds.specs.Readings.{IsCodeFault, IsRead, IsReadIn};
 ghost use Rattle.operator_cmds.specs.WordLists.{after_word, one_of, two_of, three_of};
 
 use crate::NUMBER_LIMIT;
@@ -16,7 +16,7 @@ use crate::words::{cut_word, one_word, three_words, two_words};
 use filter_code::{LARGEST_SIZE, SMALLEST_SIZE};
 use hex::FromHexError;
 use line_protocol::{LINE_LIMIT, next_word, trim_front_blanks};
-use prefix_patterns::{read_number, read_prefix};
+use prefix_patterns::{Prefix, read_number, read_prefix};
 use route_history::LARGEST_LIMIT;
 use std::alloc::Global;
 
@@ -93,9 +93,9 @@ fn read_domain<'a>(rest: &[u8]) -> Result<Command<'a>, CommandFault>
     }
 }
 
-/// A `prefix` command by the bytes after its first word.
-fn read_node_prefix<'a>(rest: &[u8]) -> Result<Command<'a>, CommandFault>
-    ensures { IsRead result (spec.prefix_of (two_of (words rest.now))) }
+/// The number and the prefix of a node, where nothing follows them.
+pub fn read_node_prefix(rest: &[u8]) -> Result<(u16, Prefix), CommandFault>
+    ensures { result ≡ spec.node_prefix_in (two_of (words rest.now)) }
 {
     let Some((node, prefix)) = two_words(rest) else {
         return Err(CommandFault::Words);
@@ -104,14 +104,15 @@ fn read_node_prefix<'a>(rest: &[u8]) -> Result<Command<'a>, CommandFault>
         return Err(CommandFault::Numbers);
     };
     match read_prefix(prefix) {
-        Some(prefix) => Ok(Command::Prefix { node, prefix }),
+        Some(prefix) => Ok((node, prefix)),
         None => Err(CommandFault::Prefix),
     }
 }
 
-/// A `load` command by the bytes after its first word.
-fn read_load(rest: &[u8]) -> Result<Command<'_>, CommandFault>
-    ensures { IsRead result (spec.load_of (words rest.now) (without_front_blanks (after_word rest.now))) }
+/// The name and the text of a filter.
+pub fn read_load(rest: &[u8]) -> Result<(&[u8], &[u8]), CommandFault>
+    ensures { MatchResult result (λ p. spec.load_in (words rest.now) (without_front_blanks (after_word rest.now)) ≡ Ok (p.0.now, p.1.now))
+        (λ why. spec.load_in (words rest.now) (without_front_blanks (after_word rest.now)) ≡ Err why) }
 {
     let Some((name, rest)) = cut_word(rest) else {
         return Err(CommandFault::Words);
@@ -119,15 +120,13 @@ fn read_load(rest: &[u8]) -> Result<Command<'_>, CommandFault>
     if next_word(rest).is_none() || !is_name(name) {
         return Err(CommandFault::Words);
     }
-    Ok(Command::Load {
-        name,
-        text: trim_front_blanks(rest),
-    })
+    Ok((name, trim_front_blanks(rest)))
 }
 
-/// A `code` command by the bytes after its first word.
-fn read_code(alloc: Global, rest: &[u8]) -> Result<Command<'_>, CommandFault>
-    ensures { IsReadIn result (spec.code_of (two_of (words rest.now))) }
+/// The name of a filter and the bytes of its code file, where nothing follows them.
+pub fn read_code(alloc: Global, rest: &[u8]) -> Result<(&[u8], Vec<u8>), CommandFault>
+    ensures { MatchResult result (λ p. spec.code_in (two_of (words rest.now)) ≡ Ok (p.0.now, p.1.items))
+        (λ why. IsCodeFault why (spec.code_in (two_of (words rest.now)))) }
 {
     let Some((name, digits)) = two_words(rest) else {
         return Err(CommandFault::Words);
@@ -136,7 +135,7 @@ fn read_code(alloc: Global, rest: &[u8]) -> Result<Command<'_>, CommandFault>
         return Err(CommandFault::Words);
     }
     match hex::decode(alloc, digits) {
-        Ok(bytes) => Ok(Command::Code { name, bytes }),
+        Ok(bytes) => Ok((name, bytes)),
         Err(FromHexError::OutOfMemory) => Err(CommandFault::Memory),
         Err(_) => Err(CommandFault::Hexadecimal),
     }
@@ -160,7 +159,7 @@ fn read_filter(rest: &[u8]) -> Result<(u16, &[u8]), CommandFault>
 }
 
 /// The number of a node, where nothing follows it.
-fn read_node(rest: &[u8]) -> Result<u16, CommandFault>
+pub fn read_node(rest: &[u8]) -> Result<u16, CommandFault>
     ensures { result ≡ spec.node_in (one_of (words rest.now)) }
 {
     let Some(node) = one_word(rest) else {
@@ -220,9 +219,18 @@ fn read_rest(alloc: Global, verb: Verb, rest: &[u8]) -> Result<Command<'_>, Comm
 {
     match verb {
         Verb::Network => read_domain(rest),
-        Verb::Prefix => read_node_prefix(rest),
-        Verb::Load => read_load(rest),
-        Verb::Code => read_code(alloc, rest),
+        Verb::Prefix => {
+            let (node, prefix) = read_node_prefix(rest)?;
+            Ok(Command::Prefix { node, prefix })
+        }
+        Verb::Load => {
+            let (name, text) = read_load(rest)?;
+            Ok(Command::Load { name, text })
+        }
+        Verb::Code => {
+            let (name, bytes) = read_code(alloc, rest)?;
+            Ok(Command::Code { name, bytes })
+        }
         Verb::Import => {
             let (node, name) = read_filter(rest)?;
             Ok(Command::Import { node, name })

@@ -12,7 +12,7 @@ use crate::read::read_command;
 use crate::reply::{confirm, refuse};
 use crate::stage::{Setup, Stage};
 use crate::watch::{NamedFilters, Nobody, RefusedLine, run_watched_script};
-use filter_source::{Failure, push_verified};
+use filter_source::{Diagnosis, Failure, push_verified};
 use filter_verifier::Verified;
 use line_protocol::{Reply, Service, StreamFault};
 use netchange_core::Event;
@@ -33,6 +33,8 @@ pub struct Script {
     stage: Stage,
     /// The filter of each name, in the names' order: no choice of names makes it slow to find one.
     filters: NamedFilters,
+    /// What is told of the last filter that was refused.
+    told: Option<Diagnosis>,
 }
 
 impl Service for Script {
@@ -81,6 +83,7 @@ impl Script {
         Script {
             stage: Stage::Empty,
             filters: BTreeMap::new(alloc),
+            told: None,
         }
     }
 
@@ -120,7 +123,20 @@ impl Script {
             answer,
             size: self.size(),
             filters: Some(&self.filters),
+            told: self.told,
         }
+    }
+
+    /// The filters that have names.
+    pub fn into_filters(self) -> NamedFilters
+        ensures { filter_at result ≡ (script_of self).filters }
+    {
+        let Script {
+            stage: _stage,
+            filters,
+            told: _told,
+        } = self;
+        filters
     }
 
     /// Gives a filter a name, as `load` and `code` do.
@@ -344,6 +360,7 @@ impl Script {
                 Ok(Reply::Answered)
             }
             Err(Failure::Refused(told)) => {
+                self.told = Some(told);
                 let why = told.refusal;
                 refuse(out, why.code(), why.place_in_line(number))
             }

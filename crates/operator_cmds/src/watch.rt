@@ -2,27 +2,14 @@
 ghost use Rattle.std.specs.Prelude.{◌≡◌, IfErr, IfOk, IfSome};
 ghost use Rattle.operator_cmds.specs.Running.{IsBrokenOff, IsCarriedOut};
 
-use crate::command::Command;
-use crate::filter::{verify_file, verify_text};
-use crate::read::read_command;
 use crate::script::{Script, ScriptFault};
-use crate::words::three_words;
-use filter_source::{Diagnosis, Failure};
+use filter_source::Diagnosis;
 use filter_verifier::Verified;
 use line_protocol::{Reply, Service, answer_lines};
 use std::alloc::{AllocError, Global};
 use std::collections::BTreeMap;
 use std::io::{Read, Write};
 use std::sync::Arc;
-
-/// A filter that a line of a script gives, and that is refused.
-#[derive(Clone, Copy, Debug)]
-pub struct RefusedFilter<'a> {
-    /// The filter's text, with which the line ends, or the hexadecimal digits of its code file.
-    pub source: &'a [u8],
-    /// What is told of the refusal.
-    pub told: Diagnosis,
-}
 
 /// The filters of a script by their names, in the names' order.
 pub type NamedFilters = BTreeMap<Vec<u8>, Arc<Verified>>;
@@ -40,6 +27,8 @@ pub struct RefusedLine<'a> {
     pub size: Option<u16>,
     /// The filters that have names, if there can be any yet.
     pub filters: Option<&'a NamedFilters>,
+    /// What is told of the last filter that was refused: of the one that this line gives, if the answer refuses that.
+    pub told: Option<Diagnosis>,
 }
 
 /// Somebody who watches a script.
@@ -54,30 +43,6 @@ pub struct Nobody;
 
 impl Watch for Nobody {
     fn see_refused(&mut self, _alloc: Global, _refused: &RefusedLine<'_>) {}
-}
-
-/// The code file that a line gives, where it is refused.
-fn refused_file(line: &[u8], told: Diagnosis) -> Option<RefusedFilter<'_>> {
-    let (_, _, digits) = three_words(line)?;
-    Some(RefusedFilter {
-        source: digits,
-        told,
-    })
-}
-
-/// The filter that a line gives for a domain of a size, if it gives one that is refused. `None` also where memory is refused.
-pub fn refused_filter(alloc: Global, line: &[u8], size: u16) -> Option<RefusedFilter<'_>> {
-    match read_command(alloc, line) {
-        Ok(Command::Load { text, .. }) => match verify_text(alloc, text, size) {
-            Err(Failure::Refused(told)) => Some(RefusedFilter { source: text, told }),
-            _ => None,
-        },
-        Ok(Command::Code { bytes, .. }) => match verify_file(alloc, bytes.as_slice(), size) {
-            Err(Failure::Refused(told)) => refused_file(line, told),
-            _ => None,
-        },
-        _ => None,
-    }
 }
 
 /// A script and who watches it.

@@ -2,9 +2,10 @@
 ghost use Rattle.std.specs.Prelude.{◌≡◌, [], ◌∷◌, IfNone, IfSome};
 ghost use Rattle.std.specs.Option.{option_map};
 ghost use Rattle.line_protocol.specs.Words.{words};
+ghost use Rattle.operator_cmds.specs.Commands.{text_in};
 ghost use Rattle.operator_cmds.specs.WordLists as spec;
 
-use line_protocol::next_word;
+use line_protocol::{next_word, trim_front_blanks};
 
 /// The first word of a line, and the bytes after it.
 pub fn cut_word(line: &[u8]) -> Option<(&[u8], &[u8])>
@@ -13,6 +14,23 @@ pub fn cut_word(line: &[u8]) -> Option<(&[u8], &[u8])>
     ensures after { IfSome result (λ cut. spec.after_word line.now ≡ cut.1.now) }
 {
     next_word(line)
+}
+
+/// The bytes after the first word of a line.
+fn after_word(line: &[u8]) -> &[u8]
+    ensures { result.now ≡ spec.after_word line.now }
+{
+    match next_word(line) {
+        Some((_, rest)) => rest,
+        None => trim_front_blanks(line),
+    }
+}
+
+/// The text of a filter in a line that gives one: what follows the second word, from its first byte that is no blank.
+pub fn text_in(line: &[u8]) -> &[u8]
+    ensures { result.now ≡ text_in line.now }
+{
+    trim_front_blanks(after_word(after_word(line)))
 }
 
 /// The word of a line of just one.

@@ -6,7 +6,7 @@ use Rattle.line_protocol.specs.declared.answers.Reply.{Reply as LineReply}
 use Rattle.operator_cmds.specs.CommandView.{CommandView}
 use Rattle.operator_cmds.specs.Commands.{Read, command_in}
 use Rattle.operator_cmds.specs.Faults.{fault_code}
-use Rattle.operator_cmds.specs.Readings.{IsFault}
+use Rattle.operator_cmds.specs.Readings.{IsFault, is_code}
 use Rattle.operator_cmds.specs.Replies.{Adds, Answers, refused}
 use Rattle.operator_cmds.specs.Script as script
 use Rattle.operator_cmds.specs.declared.fault.CommandFault.{CommandFault}
@@ -63,7 +63,7 @@ module _ {E : Type 0} (before after : OperatorView) (number : ℕ) (line : List 
       (by_test line asks is false e)
       (subst (λ (read : Read). AnswersRead before number read answer after) (sym reads) q)) h
 
-  pub by_fault : (why : CommandFault) → asks ≡ false → IsFault why (command_in line) → (why ≡ fault.Memory → ⊥) → after ≡ before
+  pub by_fault : (why : CommandFault) → asks ≡ false → IsFault is_code why (command_in line) → (why ≡ fault.Memory → ⊥) → after ≡ before
       → IfOk r (Adds (refused (fault_code why) number) old new)
       → IfOk r (Answers (λ answer. AnswersLine before number line answer after) old new)
   by_fault why e faulty other same h =
@@ -72,7 +72,7 @@ module _ {E : Type 0} (before after : OperatorView) (number : ℕ) (line : List 
       (by_test line asks is false e)
       (subst (λ (read : Read). AnswersRead before number read answer after) (sym (reads why faulty other)) (is_a, same))) h
     where
-      reads : (f : CommandFault) → IsFault f (command_in line) → (f ≡ fault.Memory → ⊥) → command_in line ≡ Err f
+      reads : (f : CommandFault) → IsFault is_code f (command_in line) → (f ≡ fault.Memory → ⊥) → command_in line ≡ Err f
       reads fault.Words h n = h
       reads fault.Numbers h n = h
       reads fault.Hexadecimal h n = h

@@ -1,10 +1,8 @@
 -- An operator's lines end where their input does, or at `quit`.
 use Rattle.std.proofs.Common.{◌≡◌, ℕ, Bool, true, false, ◌||◌, List, [], ◌∷◌, Option, Some, None, Ok, Err, Global, refl, ap, ◌∙◌, inl, inr}
-use Rattle.std.specs.Prelude.{MatchBool, ◌⊎◌, codes, if◌then◌else◌}
+use Rattle.std.specs.Prelude.{MatchBool, ◌⊎◌, codes}
 use Rattle.std.specs.declared.sync.Arc.{Arc}
-use Rattle.filter_code.specs.CodeView.{CodeView}
 use Rattle.filter_source.specs.Sources.{IsRefusedText}
-use Rattle.filter_source.specs.declared.refusal.Refusal.{Refusal}
 use Rattle.filter_verifier.specs.VerifiedView.{VerifiedView}
 use Rattle.line_protocol.specs.Answers.{Answer, is_end, is_over}
 use Rattle.line_protocol.specs.Lines.{numbered}
@@ -12,46 +10,16 @@ use Rattle.line_protocol.specs.Runs.{Finishes, Runs, Stops}
 use Rattle.line_protocol.specs.declared.faults.StreamFault.{StreamFault}
 use Rattle.netchange_core.specs.declared.event.Event.{Event}
 use Rattle.netchange_core.specs.declared.event.Event.TheVariants as event
-use Rattle.netchange_core.specs.declared.reply.Reply.{Reply}
-use Rattle.netchange_core.specs.declared.reply.Reply.TheVariants as reply
 use Rattle.operator_cmds.specs.CommandView.{CommandView, Network, Prefix, Load, Code, Import, Export, Up, Down, Receive, Take, Show, Look, History}
 use Rattle.operator_cmds.specs.Commands.{Read, command_in}
 use Rattle.operator_cmds.specs.Looks.{can_look, look_text}
-use Rattle.operator_cmds.specs.Replies.{answered, refused, reply_answer}
 use Rattle.operator_cmds.specs.Script as script
-use Rattle.operator_cmds.specs.Script.{ScriptView}
 use Rattle.operator_cmds.specs.Stages.{Open, session_in}
 use Rattle.router_operator.specs.OperatorView.{OperatorView, filter_of, journal_seen, journal_with, script_of}
 use Rattle.router_operator.specs.Operators.{AnswersCommand, AnswersEvent, AnswersLine, AnswersRead, AnswersUse, BreaksOff, Enters, IsFull, has_link, is_quit}
 use Rattle.router_operator.specs.Running.{IsBrokenOff, IsServed, input_limit}
 use Rattle.router_operator.proofs.Staying.{by_front, by_reach, by_run, stays_then}
-
--- the answer is one after which more is answered
-abbrev GoesOn : Answer → Type 0
-GoesOn answer = is_end answer.reply ≡ false
-
-like : (answer other : Answer) → answer ≡ other → GoesOn other → GoesOn answer
-like answer other e h = ap (λ (a : Answer). is_end a.reply) e ∙ h
-
-given : (b : Bool) (text code : List ℕ) (at : ℕ) → GoesOn (if b then answered text else refused code at)
-given true text code at = refl
-given false text code at = refl
-
-replied : (at : ℕ) (r : Reply) → GoesOn (reply_answer at r)
-replied at (reply.Opened session) = refl
-replied at (reply.Done count) = refl
-replied at (reply.Messages messages) = refl
-replied at (reply.Route dist through) = refl
-replied at (reply.Refused why) = refl
-
-either : (b : Bool) (P Q R : Type 0) → (P → R) → (Q → R) → MatchBool b P Q → R
-either true P Q R f g h = f h
-either false P Q R f g h = g h
-
-source : (Gives : CodeView → Type 0) (Lacks : Refusal → Type 0) (size number : ℕ) (name : List ℕ) (before : ScriptView) (answer : Answer)
-    (after : ScriptView) → script.AnswersSource Gives Lacks size number name before answer after → GoesOn answer
-source Gives Lacks size number name before answer after (inl (filter, good, h)) = like answer _ h.0 refl
-source Gives Lacks size number name before answer after (inr (why, bad, h)) = like answer _ h.0 refl
+use Rattle.operator_cmds.proofs.Unended.{GoesOn, either, given, like, replied, source}
 
 module _ (before : OperatorView) (answer : Answer) (after : OperatorView) where
   happening : (happened : Event) → AnswersEvent before happened answer after → GoesOn answer
@@ -79,9 +47,9 @@ command before answer after number (Import node name) h =
 command before answer after number (Export node name) h =
     by_name before answer after (filter_of before.names name) (λ f. event.SetExport node f) number h
 command before answer after number (Up node) h =
-    either (has_link before.links node) _ _ _ (λ p. like answer _ p.0 refl) (λ q. happening before answer after (event.Up node) q) h
+    either (has_link before.links node) _ _ (λ p. like answer _ p.0 refl) (λ q. happening before answer after (event.Up node) q) h
 command before answer after number (Down node) h =
-    either (has_link before.links node) _ _ _ (λ p. like answer _ p.0 refl)
+    either (has_link before.links node) _ _ (λ p. like answer _ p.0 refl)
     (λ q. happening q.0 answer after (event.Down (session_in (Open (journal_seen q.0)) node)) q.2) h
 command before answer after number (Receive node dest dist) h = like answer _ h.0 refl
 command before answer after number (Take node) h = like answer _ h.0 refl
@@ -99,7 +67,7 @@ read before answer after number (Err why) h = like answer _ h.0 refl
 quits : (before : OperatorView) (number : ℕ) (line : List ℕ) (answer : Answer) (after : OperatorView)
     → AnswersLine before number line answer after → is_end answer.reply ≡ true → after.has_quit ≡ true
 quits before number line answer after h ends =
-    either (is_quit line) _ _ (after.has_quit ≡ true) (λ p. ap (λ (o : OperatorView). o.has_quit) p.1)
+    either (is_quit line) _ _ (λ p. ap (λ (o : OperatorView). o.has_quit) p.1)
     (λ q. let on : is_end answer.reply ≡ false = read before answer after number (command_in line) q in cc) h
 
 over_next : (b : Bool) (before mid after : OperatorView) (line : ℕ × List ℕ) (lines : List (ℕ × List ℕ)) (a : Answer) (more : List Answer)

@@ -1,6 +1,6 @@
 -- An operator stays at the router, and sees its history grow.
-use Rattle.std.proofs.Common.{◌≡◌, ℕ, Bool, true, false, List, [], ◌∷◌, Option, Some, None, Ok, Err, ap, ◌∙◌, inl, inr}
-use Rattle.std.specs.Prelude.{MatchBool, ◌⊎◌}
+use Rattle.std.proofs.Common.{◌≡◌, ℕ, List, [], ◌∷◌, Option, Some, None, Ok, Err, ap, ◌∙◌, inl, inr}
+use Rattle.std.specs.Prelude.{◌⊎◌}
 use Rattle.std.specs.declared.sync.Arc.{Arc}
 use Rattle.std.proofs.Common.{Global}
 use Rattle.filter_verifier.specs.VerifiedView.{VerifiedView}
@@ -19,6 +19,7 @@ use Rattle.router_operator.specs.OperatorView.{OperatorView, filter_of, journal_
 use Rattle.router_operator.specs.Operators.{AnswersCommand, AnswersDown, AnswersEvent, AnswersLine, AnswersRead, AnswersUse, AsScript, BreaksOff, Enters, IsFull, Looks, OnlyPass, Quits, has_link, is_quit}
 use Rattle.router_operator.specs.Running.{Stays}
 use Rattle.router_operator.proofs.Entering.{begins_more, begins_same, begins_then}
+use Rattle.operator_cmds.proofs.Unended.{either}
 
 by_same : (before after : OperatorView) → after ≡ before → Stays before after
 by_same before after e = record {
@@ -67,10 +68,6 @@ by_use : (found : Option VerifiedView) (happens : Arc VerifiedView Global → Ev
 by_use None happens number before answer after h = by_same before after h.1
 by_use (Some f) happens number before answer after h = by_event before (happens h.0) answer after h.2
 
-either : (b : Bool) (P Q R : Type 0) → (P → R) → (Q → R) → MatchBool b P Q → R
-either true P Q R f g h = f h
-either false P Q R f g h = g h
-
 by_down : (node : ℕ) (before : OperatorView) (answer : Answer) (after : OperatorView) → AnswersDown node before answer after → Stays before after
 by_down node before answer after (mid, looks, h) =
     stays_then before mid after (by_look before mid looks) (by_event mid (event.Down (session_in (Open (journal_seen mid)) node)) answer after h)
@@ -86,9 +83,9 @@ by_command before number (Import node name) answer after h =
 by_command before number (Export node name) answer after h =
     by_use (filter_of before.names name) (λ filter. event.SetExport node filter) number before answer after h
 by_command before number (Up node) answer after h =
-    either (has_link before.links node) _ _ _ (λ p. by_same before after p.1) (λ q. by_event before (event.Up node) answer after q) h
+    either (has_link before.links node) _ _ (λ p. by_same before after p.1) (λ q. by_event before (event.Up node) answer after q) h
 by_command before number (Down node) answer after h =
-    either (has_link before.links node) _ _ _ (λ p. by_same before after p.1) (λ q. by_down node before answer after q) h
+    either (has_link before.links node) _ _ (λ p. by_same before after p.1) (λ q. by_down node before answer after q) h
 by_command before number (Receive node dest dist) answer after h = by_same before after h.1
 by_command before number (Take node) answer after h = by_same before after h.1
 by_command before number (Show node) answer after h = by_event before (event.Show node) answer after h
@@ -110,7 +107,7 @@ by_quit before answer after h = record {
 by_line : (before : OperatorView) (number : ℕ) (line : List ℕ) (answer : Answer) (after : OperatorView)
     → AnswersLine before number line answer after → Stays before after
 by_line before number line answer after h =
-    either (is_quit line) _ _ _ (λ p. by_quit before answer after p) (λ q. by_read before number (command_in line) answer after q) h
+    either (is_quit line) _ _ (λ p. by_quit before answer after p) (λ q. by_read before number (command_in line) answer after q) h
 
 pub by_run : (before : OperatorView) (lines : List (ℕ × List ℕ)) (given : List Answer) (after : OperatorView)
     → Runs AnswersLine before lines given after → Stays before after
@@ -119,7 +116,7 @@ by_run before [] (a ∷ more) after h = absurd h
 by_run before (l ∷ ls) [] after h = absurd h
 by_run before (l ∷ ls) (a ∷ more) after (mid, first, rest) =
     stays_then before mid after (by_line before l.0 l.1 a mid first)
-    (either (is_end a.reply) _ _ _ (λ p. by_same mid after p.1) (λ q. by_run mid ls more after q) rest)
+    (either (is_end a.reply) _ _ (λ p. by_same mid after p.1) (λ q. by_run mid ls more after q) rest)
 
 pub by_front : (before : OperatorView) (lines : List (ℕ × List ℕ)) (given : List Answer) (after : OperatorView)
     → RunsFront AnswersLine before lines given after → Stays before after
@@ -127,7 +124,7 @@ by_front before lines [] after h = by_same before after h
 by_front before [] (a ∷ more) after h = absurd h
 by_front before (l ∷ ls) (a ∷ more) after (mid, first, rest) =
     stays_then before mid after (by_line before l.0 l.1 a mid first)
-    (either (is_end a.reply) _ _ _ (λ p. by_same mid after p.1) (λ q. by_front mid ls more after q) rest)
+    (either (is_end a.reply) _ _ (λ p. by_same mid after p.1) (λ q. by_front mid ls more after q) rest)
 
 left_so : (after now : OperatorView) → IsLeft BreaksOff after now → Stays after now
 left_so after now (inl same) = by_same after now same

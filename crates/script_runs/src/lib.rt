@@ -4,5 +4,5 @@
 mod naming;
 mod saving;
 
-pub use naming::{NamedFilter, Unfit};
+pub use naming::{NamedFilter, Unfit, name_filters};
 pub use saving::run_saved_script;

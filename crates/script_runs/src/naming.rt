@@ -69,7 +69,7 @@ fn unfit_at(index: usize, failure: Failure) -> Result<Option<Unfit>, AllocError>
 }
 
 /// Verifies each of some filters for domains of a size, and gives it its name, up to the first that is refused, which is returned.
-fn name_filters(
+pub fn name_filters(
     alloc: Global,
     script: &mut Script,
     filters: &[NamedFilter],

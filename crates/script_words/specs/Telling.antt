@@ -1,11 +1,12 @@
 -- What people are told of a refused line of a script. (This project's own choice.)
-use Rattle.std.specs.Prelude.{◌≡◌, ℕ, List, Option, Some, None, IfSome}
+use Rattle.std.specs.Prelude.{◌≡◌, ℕ, List, Option, Some, None}
 use Rattle.std.specs.Option.{option_map}
 use Rattle.filter_source.specs.declared.diagnosis.Diagnosis.{Diagnosis}
 use Rattle.filter_tools.specs.Explanations.{IsLineExplanation, told_at}
 use Rattle.filter_tools.specs.Places.{before_first_feed}
 use Rattle.filter_tools.specs.Shown.{shown}
 use Rattle.line_protocol.specs.Words.{words}
+use Rattle.operator_cmds.specs.Commands.{text_in}
 use Rattle.operator_cmds.specs.WordLists.{three_of}
 use Rattle.script_words.specs.Causes.{cause_code, cause_in}
 use Rattle.script_words.specs.declared.cause.Cause.{Cause}
@@ -31,16 +32,19 @@ abbrev pub TellsCause : List ℕ → ℕ → List ℕ → Cause → List ℕ →
 TellsCause name number line cause out =
     (plain : List ℕ) × (byte : Option ℕ) × (out ≡ told_at name (Some number) line (shown plain) (cause_code cause) byte)
 
--- the refusal of the filter with which the line ends is told
-abbrev pub TellsFilter : List ℕ → ℕ → List ℕ → List ℕ → Type 0
-TellsFilter name number line out = (source : List ℕ) × (told : Diagnosis) × IsLineExplanation name number line source told out
+-- the refusal of the filter with which the line ends is told, if it is known why it is refused
+abbrev pub TellsFilter : Option Diagnosis → List ℕ → ℕ → List ℕ → Option (List ℕ) → Type 0
+TellsFilter (Some told) name number line (Some out) = IsLineExplanation name number line (text_in line) told out
+TellsFilter (Some told) name number line None = ⊥
+TellsFilter None name number line out = out ≡ None
 
--- what people are told of a line by the cause that its answer names: of each cause; and where it names none, of a filter alone, if of that
-abbrev pub TellsBy : Option Cause → List ℕ → ℕ → List ℕ → Option (List ℕ) → Type 0
-TellsBy (Some cause) name number line (Some out) = TellsCause name number line cause out
-TellsBy (Some cause) name number line None = ⊥
-TellsBy None name number line told = IfSome told (TellsFilter name number line)
+-- what people are told of a line by the cause that its answer names: of each cause; and where it names none, of the filter
+abbrev pub TellsBy : Option Cause → Option Diagnosis → List ℕ → ℕ → List ℕ → Option (List ℕ) → Type 0
+TellsBy (Some cause) told name number line (Some out) = TellsCause name number line cause out
+TellsBy (Some cause) told name number line None = ⊥
+TellsBy None told name number line out = TellsFilter told name number line out
 
--- what people are told of a refused line with this number and this answer, in a script that they know by a name
-abbrev pub Tells : List ℕ → ℕ → List ℕ → List ℕ → Option (List ℕ) → Type 0
-Tells name number line answer told = TellsBy (cause_of answer) name number line told
+-- what people are told of a refused line with this number and this answer, in a script that they know by a name; `told` is what is
+-- known of the filter that the line gives
+abbrev pub Tells : List ℕ → ℕ → List ℕ → List ℕ → Option Diagnosis → Option (List ℕ) → Type 0
+Tells name number line answer told out = TellsBy (cause_of answer) told name number line out

@@ -1,6 +1,6 @@
 //! What people are told of a refused line.
 ghost use Rattle.std.specs.Option.{option_map};
-ghost use Rattle.std.specs.Prelude.{◌≡◌, IfOk, IfSome};
+ghost use Rattle.std.specs.Prelude.{◌≡◌, IfOk};
 ghost use Rattle.script_words.specs.Causes.{cause_in};
 ghost use Rattle.script_words.specs.Telling.{Tells, TellsCause, TellsFilter, cause_of, code_in};
 
@@ -9,7 +9,7 @@ use crate::finding::Finding;
 use crate::forms::ScriptKind;
 use crate::line_words::line_words;
 use filter_tools::{explain_line, place_in, push_shown, tell_at};
-use operator_cmds::{RefusedLine, refused_filter, three_words};
+use operator_cmds::{RefusedLine, text_in, three_words};
 use std::alloc::{AllocError, Global};
 
 /// The code and the place of an answer `refused CODE AT`.
@@ -72,25 +72,21 @@ fn tell_found(
     )
 }
 
-/// Why the filter that a line gives is refused, if it gives one that is.
+/// Why the filter that a line gives is refused, if that is known.
 fn tell_filter(
     alloc: Global,
     name: &[u8],
     refused: &RefusedLine<'_>,
 ) -> Result<Option<Vec<u8>>, AllocError>
-    ensures { IfOk result (λ told. IfSome told (λ out. TellsFilter name.now refused.now.number refused.now.line.now out.items)) }
+    ensures { IfOk result (λ out. TellsFilter refused.now.told name.now refused.now.number refused.now.line.now
+        (option_map (λ out. out.items) out)) }
 {
-    let Some(size) = refused.size else {
+    let Some(told) = refused.told else {
         return Ok(None);
     };
     let (number, line) = (refused.number, refused.line);
-    match refused_filter(alloc, line, size) {
-        Some(filter) => {
-            let words = explain_line(alloc, name, number, line, filter.source, &filter.told)?;
-            Ok(Some(words))
-        }
-        None => Ok(None),
-    }
+    let words = explain_line(alloc, name, number, line, text_in(line), &told)?;
+    Ok(Some(words))
 }
 
 /// What is said of a line that is refused for a cause.
@@ -108,15 +104,15 @@ fn tell_cause(
 }
 
 /// Why a line of a script that people know by a name is refused, for people: `NAME:NUMBER:COLUMN: WORDS (CODE)`, and the line with a
-/// caret under the word that is wrong. None if the answer is no refusal, or one of a filter that is not refused now.
+/// caret under the word that is wrong. None if the answer is a refusal of a filter of which nothing is known.
 pub fn explain_refused(
     alloc: Global,
     kind: ScriptKind,
     name: &[u8],
     refused: &RefusedLine<'_>,
 ) -> Result<Option<Vec<u8>>, AllocError>
-    ensures { IfOk result (λ told. Tells name.now refused.now.number refused.now.line.now refused.now.answer.now
-        (option_map (λ out. out.items) told)) }
+    ensures { IfOk result (λ out. Tells name.now refused.now.number refused.now.line.now refused.now.answer.now refused.now.told
+        (option_map (λ out. out.items) out)) }
 {
     match cause_of(refused.answer) {
         Some(placed) => Ok(Some(tell_cause(alloc, kind, name, refused, placed)?)),

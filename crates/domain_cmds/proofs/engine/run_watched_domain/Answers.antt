@@ -1,8 +1,10 @@
 -- Each end follows from how the lines were answered.
 use Rattle.std.proofs.lemmas.Result.{IfErr-weaker, IfOk-weaker}
+use Rattle.std.specs.Prelude.{None}
+use Rattle.operator_cmds.proofs.Unended.{broken_off, carried_out}
 use Rattle.operator_cmds.proofs.Viewed.{finishes, if_known, stops}
 use Rattle.domain_cmds.specs.Script.{AnswersLine}
-use Rattle.domain_cmds.proofs.Ending.{broken_off, carried_out}
+use Rattle.domain_cmds.proofs.Ending.{goes_on}
 use Rattle.domain_cmds.proofs.engine.run_watched_domain.Goals as goal
 
 pub returns-clause-finished : goal.returns-clause-finished
@@ -14,7 +16,7 @@ returns-clause-finished g c =
     let after = c.answer_lines.new.service in
     IfOk-weaker c.answer_lines.result _ _
     (λ n h. if_known known
-    (λ input f. carried_out _ _ input left held holds n c.new.ensures
+    (λ input f. carried_out AnswersLine goes_on None _ _ input left held holds n c.new.ensures
     (finishes (λ s. s.engine.planning) AnswersLine (record { engine = c.new.result; watcher = c.args.watcher }) after input left held holds n f)) h)
     c.answer_lines.ensures.ok
 
@@ -27,6 +29,6 @@ returns-clause-broken_off g c =
     let after = c.answer_lines.new.service in
     IfErr-weaker c.answer_lines.result _ _
     (λ fault h. if_known known
-    (λ input f. broken_off fault _ _ input left held holds c.new.ensures
+    (λ input f. broken_off AnswersLine goes_on fault None _ _ input left held holds c.new.ensures
     (stops (λ s. s.engine.planning) AnswersLine fault (record { engine = c.new.result; watcher = c.args.watcher }) after input left held holds f)) h)
     c.answer_lines.ensures.err

@@ -1,9 +1,10 @@
 -- Each end follows from how the lines were answered.
 use Rattle.std.proofs.lemmas.Result.{IfErr-weaker, IfOk-weaker}
-use Rattle.operator_cmds.specs.Script.{AnswersLine}
+use Rattle.operator_cmds.specs.Script.{AnswersLine, fresh}
 use Rattle.operator_cmds.specs.State.{script_of}
 use Rattle.operator_cmds.specs.declared.watch.Watched.{Watched}
-use Rattle.operator_cmds.proofs.Ending.{broken_off, carried_out}
+use Rattle.operator_cmds.proofs.Ending.{goes_on}
+use Rattle.operator_cmds.proofs.Unended.{broken_off, carried_out}
 use Rattle.operator_cmds.proofs.Viewed.{finishes, if_known, stops}
 use Rattle.operator_cmds.proofs.watch.run_watched_script.Goals as goal
 
@@ -16,7 +17,7 @@ returns-clause-finished g c =
     let after = c.answer_lines.new.service in
     IfOk-weaker c.answer_lines.result _ _
     (λ n h. if_known known
-    (λ input f. carried_out _ _ input left held holds n c.new.ensures
+    (λ input f. carried_out AnswersLine goes_on fresh _ _ input left held holds n c.new.ensures
     (finishes (λ s. script_of s.script) AnswersLine (record { script = c.new.result; watcher = c.args.watcher }) after input left held holds n f)) h)
     c.answer_lines.ensures.ok
 
@@ -29,6 +30,6 @@ returns-clause-broken_off g c =
     let after = c.answer_lines.new.service in
     IfErr-weaker c.answer_lines.result _ _
     (λ fault h. if_known known
-    (λ input f. broken_off fault _ _ input left held holds c.new.ensures
+    (λ input f. broken_off AnswersLine goes_on fault fresh _ _ input left held holds c.new.ensures
     (stops (λ s. script_of s.script) AnswersLine fault (record { script = c.new.result; watcher = c.args.watcher }) after input left held holds f)) h)
     c.answer_lines.ensures.err
