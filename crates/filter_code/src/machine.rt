@@ -314,6 +314,9 @@ fn carry_out(
 
 /// Runs a code on a route, and answers how the run ends and after how many steps. The step that ends the run counts.
 /// It allocates nothing.
+///
+/// It is inlined, since a call of it would take longer than a run of code that only accepts.
+#[inline(always)]
 pub fn run_counted(code: &Code, route: &Route) -> Counted
     ensures outcome { result.outcome ≡ outcome_of code.now route.now }
     ensures steps { EndsAfter code.now route.now result.steps result.outcome }
@@ -361,6 +364,7 @@ pub fn run_counted(code: &Code, route: &Route) -> Counted
 }
 
 /// Runs a code on a route, and answers how the run ends. It allocates nothing.
+#[inline(always)]
 pub fn run_checked(code: &Code, route: &Route) -> Outcome
     ensures outcome { result ≡ outcome_of code.now route.now }
     ensures accepted { (d : ℕ) → result ≡ Outcome.Accept d → (route.now.metric ≤ d) × (d ≤ route.now.size) }
