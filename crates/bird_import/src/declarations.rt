@@ -15,12 +15,29 @@ fn declares(words: &[Word<'_>], at: usize) -> bool {
     }
 }
 
+/// Whether the kind at an index is one of sets, `KIND set`.
+fn is_set_at(words: &[Word<'_>], at: usize) -> bool {
+    match words.get(at.saturating_add(1)) {
+        Some(word) => word.is_foreign(b"set"),
+        None => false,
+    }
+}
+
+/// Whether a kind stands at an index, and the name of a variable at another.
+fn declares_at(words: &[Word<'_>], at: usize, name: usize) -> bool {
+    match words.get(at) {
+        Some(word) => word.is_kind() && is_name_at(words, name),
+        None => false,
+    }
+}
+
 /// The first variable that a body declares without a value: BIRD 2.0.12 ends each run there.
 pub fn first_without_value<'a>(words: &[Word<'a>]) -> Option<Reason<'a>> {
     let open = first_block(words, 0)?;
     for at in open..words.len() {
-        if declares(words, at) && is_at(words, at.saturating_add(2), Symbol::Semicolon) {
-            let name = word_at(words, at.saturating_add(1))?;
+        let name = at.saturating_add(if is_set_at(words, at) { 2 } else { 1 });
+        if declares_at(words, at, name) && is_at(words, name.saturating_add(1), Symbol::Semicolon) {
+            let name = word_at(words, name)?;
             return Some(Reason {
                 at: name.at,
                 why: Why::NoValue(name.bytes),

@@ -4,7 +4,7 @@ use crate::config::Config;
 use crate::items::Definition;
 use crate::reason::{Reason, Why};
 use crate::step::{Plan, Rule, Step, push_words};
-use crate::word::{Word, closing, is_at, is_before, is_name_at};
+use crate::word::{Word, WordKind, closing, is_at, is_before, is_name_at};
 use filter_tokens::Symbol;
 use std::alloc::{AllocError, Global};
 
@@ -107,10 +107,58 @@ pub fn push_after<'a>(
     }
 }
 
+/// Whether the word at an index is within the brackets of a set.
+fn is_in_brackets(words: &[Word<'_>], at: usize) -> bool {
+    let mut depth = 0usize;
+    for word in words.iter().take(at) {
+        if word.is(Symbol::LeftBracket) {
+            depth = depth.saturating_add(1);
+        } else if word.is(Symbol::RightBracket) {
+            depth = depth.saturating_sub(1);
+        }
+    }
+    depth > 0
+}
+
+/// Whether the word at an index belongs to a label of a `case`: from it on there are constants and a `:`.
+fn is_in_label(words: &[Word<'_>], at: usize) -> bool {
+    for word in words.iter().skip(at) {
+        if word.is(Symbol::Colon) {
+            return true;
+        }
+        let is_constant = matches!(
+            word.kind,
+            WordKind::Name | WordKind::Number | WordKind::Address(_)
+        );
+        if !(is_constant || word.is(Symbol::Comma) || word.is(Symbol::DotDot)) {
+            return false;
+        }
+    }
+    false
+}
+
+/// Whether the word at an index is the argument of `.mask`.
+fn is_masked(words: &[Word<'_>], at: usize) -> bool {
+    match (at.checked_sub(2), at.checked_sub(3)) {
+        (Some(mask), Some(dot)) => {
+            is_before(words, at, Symbol::LeftParen)
+                && is_named_at(words, mask, b"mask")
+                && is_at(words, dot, Symbol::Dot)
+        }
+        _ => false,
+    }
+}
+
+/// Whether only one word can stand at an index: in a set, a label or a mask, where nothing is computed.
+fn wants_one_word(words: &[Word<'_>], at: usize) -> bool {
+    is_in_brackets(words, at) || is_in_label(words, at) || is_masked(words, at)
+}
+
 /// The step that puts a definition in the place of the name at an index.
 fn place<'a>(
     alloc: Global,
     config: &Config<'a>,
+    words: &[Word<'a>],
     definition: Definition,
     word: Word<'a>,
     at: usize,
@@ -130,6 +178,12 @@ fn place<'a>(
     };
     if value.is_empty() {
         return Ok(Plan::Stuck(stuck));
+    }
+    if !is_closed_value(value) && wants_one_word(words, at) {
+        return Ok(Plan::Stuck(Reason {
+            at: word.at,
+            why: Why::OneWord(word.bytes),
+        }));
     }
     Ok(Plan::Step(Step {
         rule: Rule::Defined,
@@ -154,7 +208,7 @@ pub fn plan_definition<'a>(
         match look_up(config, word.bytes) {
             Found::Never => {}
             _ if is_declared(words, word.bytes) => {}
-            Found::Once(definition) => return place(alloc, config, definition, word, at),
+            Found::Once(definition) => return place(alloc, config, words, definition, word, at),
             Found::Twice => return Ok(Plan::Stuck(Reason {
                 at: word.at,
                 why: Why::DefinedTwice(word.bytes),

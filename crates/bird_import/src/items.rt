@@ -228,7 +228,9 @@ fn push_bytes_of(name: &mut Vec<u8>, words: &[Word<'_>], at: usize) -> Result<()
 /// The kind of the item with a name that begins at an index of the outermost level, if one does.
 fn named_kind(words: &[Word<'_>], at: usize) -> Option<ItemKind> {
     let word = word_at(words, at)?;
-    if !is_name_at(words, at.saturating_add(1)) {
+    let named = word_at(words, at.saturating_add(1))?;
+    // A name in quotes is none of this language: its filter is left out, and not overlooked.
+    if !(named.is_name() || named.bytes.starts_with(b"'")) {
         None
     } else if word.is(Symbol::Filter) {
         Some(ItemKind::Filter)

@@ -26,6 +26,8 @@ pub enum Why<'a> {
     DefinedLater(&'a [u8]),
     /// A name with two definitions.
     DefinedTwice(&'a [u8]),
+    /// A name that is defined as more than one word, where only one can stand.
+    OneWord(&'a [u8]),
     /// A call of what is no function of the configuration.
     UnknownCall(&'a [u8]),
     /// A call with arguments.
@@ -124,6 +126,11 @@ fn words_for(name: &str) -> &'static str {
         "include" => "names a file that was not read",
         "unset" => "takes an attribute away, and none is taken",
         "roa_check" => "asks a table of origins, and there is none",
+        "error" => "ends a run as an error, and there are none: write `reject`",
+        "rt" | "ro" | "generic" | "unknown" => "makes a community, and none is taken",
+        _ if name.starts_with("RTS_") || name.starts_with("RTD_") || name.starts_with("SCOPE_") =>
+            "is a value of an attribute that this router does not keep",
+        _ if name.starts_with('\'') => "is a name in quotes: take one of letters, digits and `_`",
         "net_type" | "NET_IP4" | "NET_IP6" => "is not taken in this place",
         _ => "is not taken",
     }
@@ -154,6 +161,10 @@ impl<'a> fmt::Display for Why<'a> {
                 "`{text}` is used before its definition ends: move the definition up"
             ),
             Why::DefinedTwice(_) => write!(f, "`{text}` has two definitions"),
+            Why::OneWord(_) => write!(
+                f,
+                "`{text}` is defined by more than one word, and a set, a label or a mask takes one: define it as its value"
+            ),
             Why::UnknownCall(_) => write!(f, "`{text}` is no function of this configuration"),
             Why::FunctionArguments(_) => write!(
                 f,
@@ -189,7 +200,7 @@ impl<'a> Why<'a> {
             Why::FunctionArguments(name) | Why::FunctionShape(name) | Why::SetVariable(name) => {
                 *name
             }
-            Why::Unset(name) | Why::NoValue(name) => *name,
+            Why::Unset(name) | Why::NoValue(name) | Why::OneWord(name) => *name,
             _ => b"",
         }
     }

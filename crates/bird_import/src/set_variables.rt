@@ -3,7 +3,9 @@
 use crate::defines::{is_named_at, push_after};
 use crate::reason::{Reason, Why};
 use crate::step::{Plan, Rule, Step, push_words};
-use crate::word::{Word, closing, is_at, is_name_at, stands_alone, word_at};
+use crate::word::{
+    Word, begins_command, closes, closing, is_at, is_name_at, opens, stands_alone, word_at,
+};
 use filter_tokens::Symbol;
 use std::alloc::{AllocError, Global};
 
@@ -34,17 +36,20 @@ fn first_declaration(words: &[Word<'_>]) -> Option<usize> {
     None
 }
 
-/// How many blocks are open at an index.
-fn depth_at(words: &[Word<'_>], at: usize) -> usize {
+/// The index of what closes the block round an index: that of the end of the words where nothing does.
+fn block_end(words: &[Word<'_>], from: usize) -> usize {
     let mut depth = 0usize;
-    for word in words.iter().take(at) {
-        if word.is(Symbol::LeftBrace) {
+    for at in from..words.len() {
+        if opens(words[at]) {
             depth = depth.saturating_add(1);
-        } else if word.is(Symbol::RightBrace) {
-            depth = depth.saturating_sub(1);
+        } else if closes(words[at]) {
+            if depth == 0 {
+                return at;
+            }
+            depth -= 1;
         }
     }
-    depth
+    words.len()
 }
 
 /// The index of the `;` behind the set that begins at an index, if a set does.
@@ -70,11 +75,14 @@ fn find_name(words: &[Word<'_>], from: usize, name: &[u8]) -> Option<usize> {
     None
 }
 
-/// The variable that is declared at an index: its first use is the assignment of a set, which no condition is before.
+/// The variable that is declared at an index: its first use is the assignment of a set, which no condition is before, in its block.
 fn variable_at(words: &[Word<'_>], declared: usize) -> Option<SetVariable> {
     let name = declared.checked_add(2)?;
     let named = declared.checked_add(3)?;
     if is_at(words, named, Symbol::Equal) {
+        if !stands_alone(words, declared) {
+            return None;
+        }
         let from = declared.checked_add(4)?;
         return Some(SetVariable {
             declared,
@@ -86,8 +94,7 @@ fn variable_at(words: &[Word<'_>], declared: usize) -> Option<SetVariable> {
     }
     let assigned = find_name(words, named, word_at(words, name)?.bytes)?;
     let from = assigned.checked_add(2)?;
-    let is_first = stands_alone(words, assigned) && depth_at(words, assigned) == 1;
-    if !is_first || !is_at(words, assigned.checked_add(1)?, Symbol::Equal) {
+    if !stands_alone(words, assigned) || !is_at(words, assigned.checked_add(1)?, Symbol::Equal) {
         return None;
     }
     Some(SetVariable {
@@ -104,7 +111,7 @@ fn is_assigned(words: &[Word<'_>], from: usize, name: &[u8]) -> bool {
     for at in from..words.len() {
         if is_named_at(words, at, name)
             && is_at(words, at.saturating_add(1), Symbol::Equal)
-            && stands_alone(words, at)
+            && begins_command(words, at)
         {
             return true;
         }
@@ -129,11 +136,12 @@ fn push_placed<'a>(
     Ok(())
 }
 
-/// The words of a filter from the declaration of a set on, without the variable.
+/// The words of a filter from the declaration of a set on, up to an index, without the variable.
 fn without<'a>(
     alloc: Global,
     words: &[Word<'a>],
     variable: SetVariable,
+    end: usize,
     name: &[u8],
 ) -> Result<Vec<Word<'a>>, AllocError> {
     let mut placed = Vec::new(alloc);
@@ -141,7 +149,7 @@ fn without<'a>(
     let between = words.get(variable.named.saturating_add(1)..variable.assigned);
     let (Some(set), Some(later)) = (
         words.get(variable.from..variable.to),
-        words.get(variable.to.saturating_add(1)..),
+        words.get(variable.to.saturating_add(1)..end),
     ) else {
         return Ok(placed);
     };
@@ -164,16 +172,18 @@ pub fn plan_sets<'a>(alloc: Global, words: &[Word<'a>]) -> Result<Plan<'a>, Allo
         at: name.at,
         why: Why::SetVariable(name.bytes),
     };
-    match variable_at(words, declared) {
-        Some(variable) if !is_assigned(words, variable.to, name.bytes) => {
-            Ok(Plan::Step(Step {
-                rule: Rule::SetPlaced,
-                origin: 0,
-                from: declared,
-                to: words.len(),
-                words: without(alloc, words, variable, name.bytes)?,
-            }))
-        }
-        _ => Ok(Plan::Stuck(stuck)),
+    let Some(variable) = variable_at(words, declared) else {
+        return Ok(Plan::Stuck(stuck));
+    };
+    let end = block_end(words, variable.to);
+    if is_assigned(words, variable.to, name.bytes) || find_name(words, end, name.bytes).is_some() {
+        return Ok(Plan::Stuck(stuck));
     }
+    Ok(Plan::Step(Step {
+        rule: Rule::SetPlaced,
+        origin: 0,
+        from: declared,
+        to: end,
+        words: without(alloc, words, variable, end, name.bytes)?,
+    }))
 }
