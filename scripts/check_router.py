@@ -3,8 +3,8 @@
 
 usage: scripts/check_router.py [ROW..]        (NCROUTE=PATH: the program, without which nothing is run)
 
-Each row starts node 0 of a domain of 8 nodes with links to node 1, which does what the row says, and to node 2, which is as a neighbour should be. It
-compares what standard error says, looks that node 2 is served all the while, has the router quit, and replays the history that was saved.
+Most rows start node 0 of a domain of 8 nodes with links to node 1, which does what the row says, and to node 2, which is as a neighbour should be.
+They compare what standard error says, look that node 2 is served all the while, have the router quit, and replay the history that was saved.
 """
 import os
 import re
@@ -19,6 +19,11 @@ import time
 
 SIZE = 8
 PATIENCE = 10.0
+
+GIGABYTE = 1 << 30
+
+# What a line without an end may cost: the bytes that are taken of it, of which a FIFO holds 65,536, and kilobytes of memory.
+MOST_TAKEN, MOST_MEMORY = 1 << 17, 4096
 
 
 class Neighbour:
@@ -36,12 +41,26 @@ class Neighbour:
         self.reads = os.open(self.back, os.O_RDONLY)
         self.writes = os.open(self.there, os.O_WRONLY)
 
+    def open_early(self):
+        """Opens what the router reads before anybody reads it."""
+        self.writes = os.open(self.there, os.O_RDWR)
+
     def greet(self, size=SIZE, node=None):
         self.say(b"netchange 1 %d %d\n" % (size, self.node if node is None else node))
 
     def say(self, text):
         while text:
             text = text[os.write(self.writes, text):]
+
+    def say_without_end(self, count):
+        """Says so many bytes without a line feed, or as many as are taken: how many were."""
+        taken, some = 0, b"x" * (1 << 16)
+        try:
+            while taken < count:
+                taken += os.write(self.writes, some[:count - taken])
+        except BrokenPipeError:
+            pass
+        return taken
 
     def hear(self, enough, patience=PATIENCE):
         """Reads until what came contains these bytes: whether it does."""
@@ -67,16 +86,18 @@ class Neighbour:
 class Run:
     """One router and its neighbours."""
 
-    def __init__(self, program, nodes=(1, 2), more=(), size=SIZE, prepare=None, saves=True):
+    def __init__(self, program, nodes=(1, 2), more=(), size=SIZE, prepare=None, saves=True, node=0, early=()):
         self.program, self.folder = program, tempfile.mkdtemp(prefix="router.")
         self.neighbours = {node: Neighbour(self.folder, node) for node in nodes}
         self.history = os.path.join(self.folder, "history")
         self.errors = os.path.join(self.folder, "errors")
-        words = [program, "router", "--size", str(size), "--node", "0", *more]
+        words = [program, "router", "--size", str(size), "--node", str(node), *more]
         if saves:
             words += ["--save", self.history]
-        for node, neighbour in self.neighbours.items():
-            words += ["--link", f"{node}={neighbour.there},{neighbour.back}"]
+        for other, neighbour in self.neighbours.items():
+            words += ["--link", f"{other}={neighbour.there},{neighbour.back}"]
+        for other in early:
+            self.neighbours[other].open_early()
         with open(self.errors, "wb") as errors:
             self.process = subprocess.Popen(words, stdin=subprocess.PIPE, stdout=subprocess.PIPE, stderr=errors, preexec_fn=prepare)
 
@@ -103,6 +124,25 @@ class Run:
             if wanted in text or time.monotonic() > until:
                 return text
             time.sleep(0.01)
+
+    def rests(self):
+        """The history, once it is the same twice."""
+        before = None
+        found = self.ask("history 0")
+        until = time.monotonic() + PATIENCE
+        while before != found and time.monotonic() < until:
+            time.sleep(0.2)
+            before, found = found, self.ask("history 0")
+        return found
+
+    def status(self, name):
+        """What the system says of the process."""
+        with open(f"/proc/{self.process.pid}/status") as it:
+            return re.search(name + r":\s*(.*)", it.read())[1]
+
+    def memory(self):
+        """The most kilobytes that it had at a time."""
+        return int(self.status("VmHWM").split()[0])
 
     def quit(self):
         answer = self.ask("quit")
@@ -181,13 +221,55 @@ class Rows:
         self.with_one(behave, "link 1: the stream ended within line 2: closed\n", history=r"up 1 opened 1 .*down 1 done")
 
     def row_no_line_feed(self):
-        def behave(one):
-            one.greet()
-            one.say(b"x" * (1 << 20))
-        self.with_one(behave, "link 1: line 2 has more than 64 bytes: closed\n")
+        """Node 1 says a gigabyte without a line feed: it gets rid of what the FIFO holds."""
+        self.say_without_end(2, lambda one: one.greet(), history=r"up 1 opened 1 .*down 1 done")
 
     def row_no_line_feed_in_greeting(self):
-        self.with_one(lambda one: one.say(b"x" * (1 << 20)), "link 1: line 1 has more than 64 bytes: closed\n", history=r"^(?!.*up 1)")
+        self.say_without_end(1, lambda one: None, history=r"^(?!.*up 1)")
+
+    def say_without_end(self, line, begin, history):
+        run = Run(self.program)
+        try:
+            one = run.neighbours[1]
+            one.open()
+            begin(one)
+            before = run.memory()
+            taken = one.say_without_end(GIGABYTE)
+            print(f"a gigabyte without a line feed: {taken} bytes were taken", file=sys.stderr)
+            self.judge("taken", taken <= MOST_TAKEN, taken)
+            self.judge_too_long(run, line, before, history)
+        finally:
+            run.close()
+
+    def judge_too_long(self, run, line, before, history):
+        """The line was too long, and cost no memory."""
+        wanted = f"link 1: line {line} has more than 64 bytes: closed\n"
+        text = run.said(wanted)
+        self.judge("says", wanted in text, text)
+        more = run.memory() - before
+        print(f"a gigabyte without a line feed: {more} kB more memory", file=sys.stderr)
+        self.judge("memory", more <= MOST_MEMORY, more)
+        self.serve_two(run)
+        found = run.asks_until("history 0", history)
+        self.judge("history", re.search(history, found), found)
+        self.end(run)
+
+    def row_gigabyte_of_a_file(self):
+        """IN is a file that has a gigabyte behind its greeting, without a line feed."""
+        run = Run(self.program)
+        try:
+            one = run.neighbours[1]
+            # The router waits for its output to be opened.
+            os.remove(one.there)
+            with open(one.there, "wb") as it:
+                it.write(b"netchange 1 8 1\n")
+                it.truncate(GIGABYTE)
+            run.ask("routes")
+            before = run.memory()
+            one.open()
+            self.judge_too_long(run, 2, before, r"up 1 opened 1 .*down 1 done")
+        finally:
+            run.close()
 
     def row_binary(self):
         def behave(one):
@@ -214,7 +296,7 @@ class Rows:
         def behave(one):
             one.greet()
             one.say(b"3 9\n9 0\n3 1\n")
-        self.with_one(behave, "", history=r"recv 1 3 9 refused N5 .*recv 1 9 0 refused N4 .*recv 1 3 1 done 1")
+        self.with_one(behave, "", history=r"recv (\d+) 3 9 refused N5 .*recv \1 9 0 refused N4 .*recv \1 3 1 done 1")
 
     def row_closes_at_each_byte(self):
         text = b"netchange 1 8 1\n1 0\n"
@@ -307,6 +389,29 @@ class Rows:
         finally:
             run.close()
 
+    def row_ends_while_quiet(self):
+        """Node 1 ends while all is quiet: who writes to it takes nothing for it any more."""
+        run = Run(self.program)
+        try:
+            self.serve_two(run)
+            one = run.neighbours[1]
+            one.open()
+            one.greet()
+            one.say(b"1 0\n")
+            self.judge("1 is up", run.asks_until("show 1", "via 1") == "route 1 via 1")
+            run.rests()
+            one.close()
+            self.judge("1 is down", run.asks_until("show 1", "none") == "route 8 none")
+            run.neighbours[2].say(b"3 0\n3 1\n" * 20)
+            found = run.rests()
+            session = re.search(r"up 1 opened (\d+)", found)[1]
+            later = found.split(f" down {session} ")[-1]
+            self.judge("one down", found.count(f" down {session} ") == 1, found)
+            self.judge("nothing is taken for it", f" take {session} " not in later, later)
+            self.end(run)
+        finally:
+            run.close()
+
     def row_operator(self):
         run = Run(self.program, more=("--prefix", "3=192.168.0.0/24"))
         try:
@@ -334,6 +439,38 @@ class Rows:
             self.judge("ends", run.process.wait(timeout=PATIENCE) == 0)
             said = run.replays()
             self.judge("replay", said.startswith("replay ok "), said)
+        finally:
+            run.close()
+
+    def row_no_standard_input(self):
+        """The router is started without standard input: what its neighbour says is not the operator's, though IN is opened first."""
+        for _ in range(5):
+            run = Run(self.program, nodes=(1,), more=("--stay",), prepare=lambda: os.close(0), node=3, saves=False, early=(1,))
+            try:
+                one = run.neighbours[1]
+                one.reads = os.open(one.back, os.O_RDONLY | os.O_NONBLOCK)
+                one.greet()
+                one.say(b"quit\n")
+                wanted = "link 1: line 2 is no message: closed\n"
+                text = run.said(wanted)
+                self.judge("says", wanted in text, text)
+                self.judge("stays", run.process.poll() is None)
+                run.process.kill()
+                answers = run.process.stdout.read()
+                self.judge("answers nothing", answers == b"", answers)
+            finally:
+                run.close()
+
+    def row_no_standard_output(self):
+        """The router is started without standard output: no answer gets into the history."""
+        run = Run(self.program, prepare=lambda: os.close(1))
+        try:
+            run.process.stdin.write(b"show 2\nroutes\nquit\n")
+            run.process.stdin.close()
+            status = run.process.wait(timeout=PATIENCE)
+            said = run.replays()
+            self.judge("status", status == 1, status)
+            self.judge("replay", said == "replay ok 1", said)
         finally:
             run.close()
 
@@ -410,10 +547,7 @@ class Rows:
             last = run.neighbours[count]
             for node in nodes:
                 self.judge(f"{count} hears of {node}", last.hear(b"\n%d 1\n" % node))
-            with open(f"/proc/{run.process.pid}/status") as it:
-                text = it.read()
-            memory, threads = (re.search(name + r":\s*(.*)", text)[1] for name in ("VmRSS", "Threads"))
-            print(f"{count} links: {memory}, {threads} threads", file=sys.stderr)
+            print(f"{count} links: {run.status('VmRSS')}, {run.status('Threads')} threads", file=sys.stderr)
             self.end(run)
         finally:
             run.close()

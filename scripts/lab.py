@@ -1,14 +1,14 @@
 #!/usr/bin/env python3
 """Starts a router process for each node of a domain, with FIFOs between them, and compares what they find with what `ncroute domain` computes.
 
-usage: scripts/lab.py [--keep] [TOPOLOGY..]        (a script of `ncroute domain`; without one, examples/ring_of_five.domain and
+usage: scripts/lab.py [--keep] [--idle SECONDS] [TOPOLOGY..]        (a script of `ncroute domain`; without one, examples/ring_of_five.domain and
                                                     examples/grid_of_sixteen.domain; NCROUTE=PATH: the program, without which nothing is run)
 
 Of a topology the lines `domain`, `prefix`, `load`, `link`, `import` and `export` count. Between the files of two neighbours stands a `cat` in each
 direction, so that a link can be cut by ending both. For each topology the lab
 
   1. starts the routers, waits until all is quiet, and compares `routes` of each with `table` of `ncroute domain`;
-  2. looks a while at the idle routers: no entry is made, and no processor time is used;
+  2. looks at the idle routers for 2 seconds, or for as long as `--idle` says: no entry is made, and no processor time is used;
   3. cuts a link, and compares again; mends it, and compares again;
   4. replaces the import filter of a node by one that counts one link more, and compares again;
   5. kills a router (SIGKILL), compares the others, starts it again, and compares again;
@@ -16,6 +16,7 @@ direction, so that a link can be cut by ending both. For each topology the lab
 
 The last line is 'N passed, M failed'. With --keep the folder with the FIFOs and histories stays, and standard error says where it is.
 """
+import argparse
 import os
 import re
 import resource
@@ -30,7 +31,8 @@ TOP = os.path.realpath(os.path.join(os.path.dirname(os.path.abspath(__file__)), 
 TOPOLOGIES = ("examples/ring_of_five.domain", "examples/grid_of_sixteen.domain")
 SETUP = ("domain", "prefix", "load", "link", "import", "export")
 
-# Seconds: what is quiet makes no entry for so long; nothing takes longer than that to be quiet; how long idle routers are looked at.
+# Seconds: what is quiet makes no entry for so long; nothing takes longer than that to be quiet; how long idle routers are looked at, if no
+# option says otherwise.
 QUIET, PATIENCE, IDLE = 0.5, 30.0, 2.0
 
 
@@ -125,8 +127,8 @@ class Router:
 class Lab:
     """The routers of a domain, and the streams between them."""
 
-    def __init__(self, program, path):
-        self.program, self.name = program, os.path.basename(path)
+    def __init__(self, program, path, idle):
+        self.program, self.name, self.idle = program, os.path.basename(path), idle
         self.topology = Topology(path)
         self.folder = tempfile.mkdtemp(prefix="lab.")
         self.passed = self.failed = 0
@@ -204,8 +206,10 @@ class Lab:
 
     def look_at_idle(self):
         before = [(router.saved(), router.processor_time()) for router in self.routers]
-        time.sleep(IDLE)
+        time.sleep(self.idle)
         after = [(router.saved(), router.processor_time()) for router in self.routers]
+        most = max(t - s for (_, s), (_, t) in zip(before, after))
+        print(f"{self.name}: idle for {self.idle:g} s: at most {most:.2f} s of processor time", file=sys.stderr)
         for node, ((a, s), (b, t)) in enumerate(zip(before, after)):
             self.judge(f"idle: node {node}", a == b and t - s < 0.02, f"{b - a} bytes, {t - s:.2f} s")
 
@@ -264,10 +268,11 @@ class Lab:
 
 
 def main(words):
-    keep = "--keep" in words
-    paths = [word for word in words if word != "--keep"] or [os.path.join(TOP, path) for path in TOPOLOGIES]
-    if any(path.startswith("-") for path in paths):
-        sys.exit(__doc__)
+    parser = argparse.ArgumentParser(usage=__doc__)
+    parser.add_argument("--keep", action="store_true")
+    parser.add_argument("--idle", type=float, default=IDLE)
+    parser.add_argument("paths", nargs="*", default=[os.path.join(TOP, path) for path in TOPOLOGIES])
+    asked = parser.parse_args(words)
     program = os.environ.get("NCROUTE")
     if not program:
         print("lab: no program is named by NCROUTE, so nothing is run")
@@ -277,13 +282,13 @@ def main(words):
     # A process has two threads for each link.
     resource.setrlimit(resource.RLIMIT_NOFILE, (min(4096, resource.getrlimit(resource.RLIMIT_NOFILE)[1]),) * 2)
     passed = failed = 0
-    for path in paths:
-        lab = Lab(program, path)
+    for path in asked.paths:
+        lab = Lab(program, path, asked.idle)
         begun = time.monotonic()
         try:
             lab.run()
         finally:
-            lab.close(keep)
+            lab.close(asked.keep)
         print(f"{lab.name}: {lab.passed} passed, {lab.failed} failed, {time.monotonic() - begun:.1f} s", file=sys.stderr)
         passed, failed = passed + lab.passed, failed + lab.failed
     print(f"{passed} passed, {failed} failed")

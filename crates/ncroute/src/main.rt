@@ -15,21 +15,28 @@ mod planning;
 mod replay;
 mod respond;
 mod routing;
-#[cfg(test)]
-mod routing_tests;
 mod script;
 mod serve;
-#[cfg(test)]
-mod tests;
 mod texts;
 mod watcher;
 
 use command_line::{Terminals, Words, tell_that_input_is_read, waits_for_people};
 use respond::respond;
+use std::fs;
 use std::io::{self, IsTerminal};
 use std::process::ExitCode;
 
+/// What stands for a standard stream with which the program was not started: a folder, which can be opened, and neither read nor written.
+const NO_STREAM: &str = "/";
+
 fn main(rt: HostRuntime) -> ExitCode {
+    // A file that is opened gets the least number that is free. If the program was started without its standard streams, that would be
+    // theirs: what the file says would count as the operator's, and answers would go into it. So these come first, and stay open.
+    let _held = [
+        fs::open(&rt, NO_STREAM),
+        fs::open(&rt, NO_STREAM),
+        fs::open(&rt, NO_STREAM),
+    ];
     let (reader, writer, errors) = (&mut rt.stdin(), &mut io::writer(&rt), &mut rt.stderr());
     let terminals = Terminals {
         input: rt.stdin().is_terminal(),

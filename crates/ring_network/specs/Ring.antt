@@ -1,9 +1,10 @@
 -- Three nodes in a ring, and the journal of each. (This project's own choice.)
-use Rattle.std.specs.Prelude.{◌≡◌, ℕ, ◌+◌, ◌*◌, ◌≤◌, Bool, List, [], ◌∷◌, length}
+use Rattle.std.specs.Prelude.{◌≡◌, ℕ, ◌+◌, ◌*◌, ◌≤◌, Bool, List, [], ◌∷◌, length, Result, Ok, Err}
 use Rattle.netchange_core.specs.OpeningView.{OpeningView}
 use Rattle.prefix_patterns.specs.Bits.{prefix_bits}
 use Rattle.route_history.specs.History.{IsLegal}
 use Rattle.route_history.specs.JournalView.{JournalView}
+use Rattle.ring_network.specs.declared.fault.NetworkFault.{NetworkFault}
 
 -- the prefix of a node: 10.V.0.0/16
 abbrev pub node_prefix : ℕ → List Bool
@@ -19,3 +20,13 @@ pub record IsJournalOf (me : ℕ) (j : JournalView) : Type 0 where
   pub limit : j.limit ≡ 1000000
   pub legal : IsLegal j.opening j.entries
   pub room : length j.entries ≤ j.limit
+
+-- what a node came to: its journal, or a fault
+abbrev pub NodeEnd : Type 0
+NodeEnd = Result JournalView NetworkFault
+
+-- the fault of the first node that has one
+abbrev pub IsFirstFault : NodeEnd → NodeEnd → NodeEnd → NetworkFault → Type 0
+IsFirstFault (Err why) one two fault = fault ≡ why
+IsFirstFault (Ok zero) (Err why) two fault = fault ≡ why
+IsFirstFault (Ok zero) (Ok one) two fault = two ≡ Err fault

@@ -1,7 +1,7 @@
 //! Three nodes in a ring, and the channels between them.
 
-ghost use Rattle.std.specs.Prelude.{◌≡◌, IfOk, IfSome};
-ghost use Rattle.ring_network.specs.Ring.{IsJournalOf};
+ghost use Rattle.std.specs.Prelude.{◌≡◌, IfErr, IfOk, IfSome, Ok};
+ghost use Rattle.ring_network.specs.Ring.{IsFirstFault, IsJournalOf};
 
 use crate::fault::NetworkFault;
 use crate::node::{Node, Side, run_node};
@@ -22,6 +22,24 @@ pub struct Ring {
     pub one: Journal,
     /// That of node 2.
     pub two: Journal,
+}
+
+impl Ring {
+    /// The ring of three nodes that came to this. Of several faults that of the first node.
+    pub fn of(
+        zero: Result<Journal, NetworkFault>,
+        one: Result<Journal, NetworkFault>,
+        two: Result<Journal, NetworkFault>,
+    ) -> Result<Ring, NetworkFault>
+        ensures ok { IfOk result (λ r. (zero ≡ Ok r.zero) × (one ≡ Ok r.one) × (two ≡ Ok r.two)) }
+        ensures first { IfErr result (IsFirstFault zero one two) }
+    {
+        Ok(Ring {
+            zero: zero?,
+            one: one?,
+            two: two?,
+        })
+    }
 }
 
 /// What a thread promises: the journal of the node of this number.
@@ -81,8 +99,7 @@ fn end_of<R: Threads>(
     }
 }
 
-/// Runs three routers in a ring, each in threads of its own, until all their sessions have ended: their journals. Of several faults
-/// the one of the first node.
+/// Runs three routers in a ring, each in threads of its own, until all their sessions have ended: their journals, by `Ring::of`.
 ///
 /// Each node brings its two neighbours up, and has a reader and a writer for each, of 200 turns.
 pub fn run_ring<R: Threads + Wait + Clock + Sync>(
@@ -130,11 +147,7 @@ pub fn run_ring<R: Threads + Wait + Clock + Sync>(
             let zero = end_of(rt, 0, zero);
             let one = end_of(rt, 1, one);
             let two = end_of(rt, 2, two);
-            Ok(Ring {
-                zero: zero?,
-                one: one?,
-                two: two?,
-            })
+            Ring::of(zero, one, two)
         },
     )
 }

@@ -21,8 +21,6 @@ mod shared;
 mod signals;
 mod starting;
 mod telling;
-#[cfg(test)]
-mod tests;
 mod writer;
 
 pub use fault::DaemonFault;
