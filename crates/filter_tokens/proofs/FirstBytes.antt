@@ -12,7 +12,7 @@ by_test byte wanted P true e here other = subst P (sym (eqb-true byte wanted e))
 by_test byte wanted P false e here other = other e (ne_eqb wanted byte (λ same. eqb-false byte wanted e (sym same)))
 
 -- a byte is the one that is wanted, or it is not
-at_byte : (byte wanted : ℕ) (P : ℕ → Type 0) → P wanted → (eqb byte wanted ≡ false → eqb wanted byte ≡ false → P byte) → P byte
+pub at_byte : (byte wanted : ℕ) (P : ℕ → Type 0) → P wanted → (eqb byte wanted ≡ false → eqb wanted byte ≡ false → P byte) → P byte
 at_byte byte wanted P here other = by_test byte wanted P (eqb byte wanted) refl here other
 
 -- a byte with which no punctuator of two bytes begins

@@ -1,3 +1,4 @@
+pub mod ByteParts
 pub mod Finding
 pub mod FirstBytes
 pub mod Forms

@@ -291,3 +291,25 @@ part_of text len = if len == 0 then token_in text else Some (part.Gap len)
 -- the part at the front of a text
 unfoldable pub part_in : List ℕ → Option Part
 part_in text = gap_len text >>= part_of text
+
+-- a punctuator of one byte
+abbrev pub byte_token : Symbol → Option Part
+byte_token symbol = Some (part.Token (kind.Symbol symbol) 1)
+
+-- the part that a byte is whatever follows it: a space, or a punctuator with which neither a longer one nor a comment begins
+abbrev pub byte_part : ℕ → Option Part
+byte_part byte =
+    if byte == 32 then Some (part.Gap 1)
+    else (if byte == 40 then byte_token symbol.LeftParen
+    else (if byte == 41 then byte_token symbol.RightParen
+    else (if byte == 123 then byte_token symbol.LeftBrace
+    else (if byte == 125 then byte_token symbol.RightBrace
+    else (if byte == 91 then byte_token symbol.LeftBracket
+    else (if byte == 93 then byte_token symbol.RightBracket
+    else (if byte == 59 then byte_token symbol.Semicolon
+    else (if byte == 44 then byte_token symbol.Comma
+    else (if byte == 61 then byte_token symbol.Equal
+    else (if byte == 43 then byte_token symbol.Plus
+    else (if byte == 45 then byte_token symbol.Minus
+    else (if byte == 42 then byte_token symbol.Times
+    else None))))))))))))

@@ -2,6 +2,7 @@
 #![tactic(auto)]
 
 mod byte_class;
+mod bytes;
 mod fault;
 mod gaps;
 mod leading;

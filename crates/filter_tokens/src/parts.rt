@@ -5,6 +5,7 @@ ghost use Rattle.filter_tokens.specs.Codes.{fault_place};
 ghost use Rattle.filter_tokens.specs.Tokenization.{part_len};
 ghost use Rattle.filter_tokens.specs.Reading as spec;
 
+use crate::bytes::leading_byte;
 use crate::fault::TokenFault;
 use crate::gaps::gap_len;
 use crate::leading::prefix_token;
@@ -13,8 +14,20 @@ use crate::part::Part;
 use crate::shapes::longest_shape;
 
 /// The part at the front of a text that has a byte at least. The text begins at `at`.
-#[tactic(auto, unfolding(crate::specs::Reading::part_in))]
 pub fn next_part(text: &[u8], at: usize) -> Result<Part, TokenFault>
+    ensures is { spec.OkWhereSome result (spec.part_in text.now) }
+    ensures within { IfOk result (λ part. (0 < part_len part) × (part_len part ≤ length text.now)) }
+    ensures placed { IfErr result (λ fault. fault_place fault ≡ at) }
+{
+    match leading_byte(text) {
+        Some(part) => Ok(part),
+        None => longer_part(text, at),
+    }
+}
+
+/// The part at the front of a text, where its first byte may not tell it alone.
+#[tactic(auto, unfolding(crate::specs::Reading::part_in))]
+fn longer_part(text: &[u8], at: usize) -> Result<Part, TokenFault>
     ensures is { spec.OkWhereSome result (spec.part_in text.now) }
     ensures within { IfOk result (λ part. (0 < part_len part) × (part_len part ≤ length text.now)) }
     ensures placed { IfErr result (λ fault. fault_place fault ≡ at) }

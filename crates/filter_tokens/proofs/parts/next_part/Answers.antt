@@ -1,8 +1,6 @@
-use Rattle.filter_tokens.proofs.PartLaws.{token-answer, gap-answer}
+use Rattle.filter_tokens.proofs.PartLaws.{part-bounds, part-found}
 use Rattle.filter_tokens.proofs.parts.next_part.Goals as goal
 
-pub returns-in-Some-eq0-clause-within : goal.returns-in-Some-eq0-clause-within
-returns-in-Some-eq0-clause-within c = token-answer c.args.text.now c.token.result c.token.ensures.is
-
 pub returns-in-Some-clause-within : goal.returns-in-Some-clause-within
-returns-in-Some-clause-within c = gap-answer c.args.text.now c.in-Some.len c.in-Some.ensures c.in-Some.len-test.1
+returns-in-Some-clause-within c =
+    part-bounds c.args.text.now c.in-Some.part (part-found c.args.text.now c.in-Some.part c.in-Some.ensures)
