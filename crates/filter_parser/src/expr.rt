@@ -112,8 +112,9 @@ pub fn parse_expr<'a>(
     unmixed(whole, rest)
 }
 
-/// The operators of a level after their first operand, as long as they follow.
+/// The operators of a level after their first operand, if any follow.
 #[cycle(expr)]
+#[inline(always)]
 fn parse_chain<'a>(
     alloc: Global,
     depth: usize,
@@ -123,7 +124,25 @@ fn parse_chain<'a>(
 ) -> Result<(Expr, Input<'a>), ParseFault>
     ensures { ReadsOn 0 (expr_kept first) view expr_kept (spec.chain_with (spec.unary_at depth) level (view first)) input.entry result }
 {
-    let mut more = Vec::new(alloc);
+    // Most operands stand alone: then nothing is called, and no list made.
+    if eat_operator(level, input).is_none() {
+        return Ok((first, input));
+    }
+    parse_operators(alloc, depth, level, first, input)
+}
+
+/// The operators of a level after their first operand, as long as they follow.
+#[cycle(expr)]
+fn parse_operators<'a>(
+    alloc: Global,
+    depth: usize,
+    level: Level,
+    first: Expr,
+    input: Input<'a>,
+) -> Result<(Expr, Input<'a>), ParseFault>
+    ensures { ReadsOn 0 (expr_kept first) view expr_kept (spec.chain_with (spec.unary_at depth) level (view first)) input.entry result }
+{
+    let mut more = Vec::with_capacity(alloc, 1)?;
     let mut rest = input;
     while let Some((op, after)) = eat_operator(level, rest) {
         match parse_operand(alloc, depth, level, after) {

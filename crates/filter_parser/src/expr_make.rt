@@ -38,7 +38,7 @@ pub fn binary(alloc: Global, at: usize, op: Op, left: Expr, right: Expr) -> Resu
     ensures is { IfOk result (λ t. view t ≡ ExprView.binary op (view left) (view right)) }
     ensures placed { IfOk result (λ t. expr_kept t ≡ expr_kept left ++ Some at ∷ expr_kept right) }
 {
-    let mut more = Vec::new(alloc);
+    let mut more = Vec::with_capacity(alloc, 1)?;
     more.push((at, op, right))?;
     chain(alloc, left, more)
 }

@@ -15,8 +15,8 @@ use Rattle.filter_parser.proofs.Chains.{expr_read, group_none, group_read}
 use Rattle.filter_parser.proofs.Within.{failed, unread}
 use Rattle.filter_parser.proofs.expr.+expr.Goals as goal
 
-pub parse_chain-loop-op-preserved : goal.parse_chain-loop-op-preserved
-parse_chain-loop-op-preserved t c = record {
+pub parse_operators-loop-op-preserved : goal.parse_operators-loop-op-preserved
+parse_operators-loop-op-preserved t c = record {
   goes = rw (c.in_ok-push-in-Ok.ensures.items, more_one c.loop-op.more.items c.at.result c.in-Some.op c.in-Ok.right, chain_more)
       (chain_on (next_with (unary_at c.args.depth) c.args.level) c.args.level c.in-Some.ensures.found c.in-Ok.ensures.reads
       (omega (arith, c.in-Ok.ensures.shorter, c.in-Some.ensures.shorter)) c.loop-op.invariant.goes);
@@ -27,8 +27,8 @@ parse_chain-loop-op-preserved t c = record {
   shorter = omega (arith, c.in-Ok.ensures.shorter, c.in-Some.ensures.shorter);
 }
 
-pub parse_chain-returns-in-Err : goal.parse_chain-returns-in-Err
-parse_chain-returns-in-Err t c = record {
+pub parse_operators-returns-in-Err : goal.parse_operators-returns-in-Err
+parse_operators-returns-in-Err t c = record {
   reads = λ other. chain_stops (next_with (unary_at c.args.depth) c.args.level) c.args.level c.in-Some.ensures.found
       (c.in-Err.ensures.reads other) c.loop-op.invariant.goes;
   shorter = search rules;
@@ -37,8 +37,8 @@ parse_chain-returns-in-Err t c = record {
       c.in-Err.ensures.within len (c.in-Some.ensures.within len (c.loop-op.invariant.within len start));
 }
 
-pub parse_chain-returns : goal.parse_chain-returns
-parse_chain-returns t c = record {
+pub parse_operators-returns : goal.parse_operators-returns
+parse_operators-returns t c = record {
   reads = rw (c.in_ok-chain.ensures.is, c.loop-op.invariant.kept)
       (chain_ends (next_with (unary_at c.args.depth) c.args.level) c.args.level c.in_default.ensures.found c.loop-op.invariant.goes);
   shorter = search rules;

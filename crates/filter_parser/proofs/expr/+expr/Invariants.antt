@@ -12,43 +12,46 @@ use Rattle.filter_parser.proofs.expr.+expr.Given as goal
 -- a function of a greater number calls those of lesser ones at the same depth
 abbrev height : Level → ℕ
 height l.Product = 3
-height l.Sum = 6
-height l.Comparison = 9
-height l.And = 11
-height l.Or = 11
+height l.Sum = 7
+height l.Comparison = 11
+height l.And = 13
+height l.Or = 13
 
 abbrev pub decreases-parse_primary : goal.decreases-parse_primary
-decreases-parse_primary l = 14 * l.depth
+decreases-parse_primary l = 17 * l.depth
 
 abbrev pub decreases-parse_postfix : goal.decreases-parse_postfix
-decreases-parse_postfix l = 14 * l.depth + 1
+decreases-parse_postfix l = 17 * l.depth + 1
 
 abbrev pub decreases-parse_unary : goal.decreases-parse_unary
-decreases-parse_unary l = 14 * l.depth + 2
+decreases-parse_unary l = 17 * l.depth + 2
 
 abbrev pub decreases-parse_operand : goal.decreases-parse_operand
-decreases-parse_operand l = 14 * l.depth + height l.level
+decreases-parse_operand l = 17 * l.depth + height l.level
+
+abbrev pub decreases-parse_operators : goal.decreases-parse_operators
+decreases-parse_operators l = 17 * l.depth + height l.level + 1
 
 abbrev pub decreases-parse_chain : goal.decreases-parse_chain
-decreases-parse_chain l = 14 * l.depth + height l.level + 1
+decreases-parse_chain l = 17 * l.depth + height l.level + 2
 
 abbrev pub decreases-parse_product : goal.decreases-parse_product
-decreases-parse_product l = 14 * l.depth + 5
+decreases-parse_product l = 17 * l.depth + 6
 
 abbrev pub decreases-parse_sum : goal.decreases-parse_sum
-decreases-parse_sum l = 14 * l.depth + 8
+decreases-parse_sum l = 17 * l.depth + 10
 
 abbrev pub decreases-parse_right_operand : goal.decreases-parse_right_operand
-decreases-parse_right_operand l = 14 * l.depth + 9
+decreases-parse_right_operand l = 17 * l.depth + 11
 
 abbrev pub decreases-parse_comparison : goal.decreases-parse_comparison
-decreases-parse_comparison l = 14 * l.depth + 10
+decreases-parse_comparison l = 17 * l.depth + 12
 
 abbrev pub decreases-parse_expr : goal.decreases-parse_expr
-decreases-parse_expr l = 14 * l.depth + 13
+decreases-parse_expr l = 17 * l.depth + 16
 
-abbrev pub invariant-parse_chain-loop-op : goal.invariant-parse_chain-loop-op
-invariant-parse_chain-loop-op l = record {
+abbrev pub invariant-parse_operators-loop-op : goal.invariant-parse_operators-loop-op
+invariant-parse_operators-loop-op l = record {
   goes : Goes (joins (next_with (unary_at l.depth) l.level) l.level)
       (chain_of (view l.fn.first) (view_more l.more.items))
       (remaining l.rest)
@@ -59,5 +62,5 @@ invariant-parse_chain-loop-op l = record {
   shorter : length (remaining l.rest) ≤ length (remaining l.input);
 }
 
-abbrev pub decreases-parse_chain-loop-op : goal.decreases-parse_chain-loop-op
-decreases-parse_chain-loop-op l = length (remaining l.rest)
+abbrev pub decreases-parse_operators-loop-op : goal.decreases-parse_operators-loop-op
+decreases-parse_operators-loop-op l = length (remaining l.rest)
