@@ -10,3 +10,4 @@ pub mod Rewriting
 pub mod Saying
 -- What only the bodies of this crate are proved against.
 pub mod Steps
+pub mod Judges

@@ -8,10 +8,10 @@ ghost use Rattle.filter_commands.specs.Evaluation.{Breaks, Evaluates, IsCut};
 ghost use Rattle.filter_commands.specs.Faults.{stream_fault};
 
 use crate::fault::ProgramFault;
+use crate::judge::Judge;
 use crate::line_fault::LineFault;
 use crate::route_line::read_route;
-use crate::verdict_line::push_verdict;
-use filter_code::{Code, run_checked};
+use filter_code::Code;
 use filter_source::{Failure, check_length, read_hexadecimal};
 use line_protocol::{Reply, Service, answer_lines, push_refusal, trim_blanks, write_text};
 use std::alloc::{AllocError, Global};
@@ -21,7 +21,7 @@ use std::io::{Read, Write};
 #[derive(Drop)]
 struct Evaluator {
     /// The code of the filter, once its line has come.
-    code: Option<Code>,
+    code: Judge,
 }
 
 impl Service for Evaluator {
@@ -39,12 +39,12 @@ impl Service for Evaluator {
         line: &[u8],
         out: &mut Vec<u8>,
     ) -> Result<Reply, AllocError> {
-        if let Some(code) = &self.code {
-            return answer_route(code, number, line, out);
+        if !self.code.is_awaiting() {
+            return answer_route(alloc, &mut self.code, number, line, out);
         }
         match read_code_line(alloc, line) {
             Ok(code) => {
-                self.code = Some(code);
+                self.code = Judge::of(code);
                 Ok(Reply::Answered)
             }
             Err(Failure::Refused(told)) => {
@@ -66,19 +66,23 @@ fn read_code_line(alloc: Global, line: &[u8]) -> Result<Code, Failure>
 }
 
 /// Answers a route line under a filter's code.
+#[inline(always)]
 fn answer_route(
-    code: &Code,
+    alloc: Global,
+    code: &mut Judge,
     number: u32,
     line: &[u8],
     out: &mut Vec<u8>,
 ) -> Result<Reply, AllocError>
-    ensures ok { IfOk result (λ reply. (out.new.items ≡ out.old.items ++ (route_answer code.now (number, line.now)).text)
-        × (reply ≡ (route_answer code.now (number, line.now)).reply)) }
+    ensures ok { IfSome code.old (λ program. IfOk result (λ reply.
+        (out.new.items ≡ out.old.items ++ (route_answer program (number, line.now)).text)
+        × (reply ≡ (route_answer program (number, line.now)).reply))) }
+    ensures kept { code.new ≡ code.old }
     ensures err { OnErr result (StartsWith out.new.items out.old.items) }
 {
     match read_route(line) {
         Ok(route) => {
-            push_verdict(out, run_checked(code, &route))?;
+            code.answer(alloc, &route, out)?;
             Ok(Reply::Answered)
         }
         Err(fault) => {
@@ -100,9 +104,11 @@ pub fn eval_lines<R: Read, W: Write>(
     ensures broken_off { IfErr result (λ fault. IfSome (R.remaining reader.old) (λ input.
         Breaks (stream_fault fault) input (R.remaining reader.new) (W.contents writer.old) (W.contents writer.new))) }
 {
-    let mut evaluator = Evaluator { code: None };
+    let mut evaluator = Evaluator {
+        code: Judge::awaiting(),
+    };
     let refused = answer_lines(alloc, reader, writer, &mut evaluator)?;
-    if refused == 0 && evaluator.code.is_none() {
+    if refused == 0 && evaluator.code.is_awaiting() {
         return refuse_empty(alloc, writer);
     }
     Ok(refused)

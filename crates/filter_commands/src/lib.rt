@@ -4,6 +4,7 @@
 mod check;
 mod eval;
 mod fault;
+mod judge;
 mod laws;
 mod line_fault;
 mod report;

@@ -1,55 +1,55 @@
 -- Each exit follows from how the lines were answered.
-use Rattle.std.proofs.Common.{◌≡◌, ℕ, None, refl, sym, subst}
+use Rattle.std.proofs.Common.{◌≡◌, ℕ, None, sym, subst}
 use Rattle.filter_source.proofs.Refused.{of_error}
 use Rattle.filter_commands.specs.Evaluation.{Evaluates}
 use Rattle.filter_commands.specs.Faults.{stream_fault}
 use Rattle.filter_commands.specs.declared.fault.ProgramFault.TheVariants.{Stream}
 use Rattle.filter_commands.proofs.Endings.{breaks_at_refusal, breaks_off, ends_empty, ends_well, if_answered, if_known, if_refused, no_code_is_none, silent_run, some_code_is_some}
 use Rattle.filter_commands.proofs.eval.eval_lines.Goals as goal
-use Rattle.filter_commands.proofs.eval.eval_lines.Goals.{else-refused-eq0-via-then-refused-eq0+else-is_none, else-refused-eq0-via-else-refused-eq0}
+use Rattle.filter_commands.proofs.eval.eval_lines.Goals.{else-refused-eq0-via-then-refused-eq0+else-is_awaiting, else-refused-eq0-via-else-refused-eq0}
 
 pub returns-in_err-refused-clause-broken_off : goal.returns-in_err-refused-clause-broken_off
 returns-in_err-refused-clause-broken_off g c =
     let fault = c.in_err-refused.field-0.0 in
     of_error c.from_residual.result _ (Stream fault) c.from_residual.ensures.1
-    (if_known _ (λ input f. breaks_off fault (record { code = None }) c.answer_lines.new.service input _ _ _ refl f) c.in_err-refused.ensures.err)
+    (if_known _ (λ input f. breaks_off fault (record { code = c.awaiting.result }) c.answer_lines.new.service input _ _ _ c.awaiting.ensures f) c.in_err-refused.ensures.err)
 
-pub returns-then-is_none-clause-finished : goal.returns-then-is_none-clause-finished
-returns-then-is_none-clause-finished g c =
+pub returns-then-is_awaiting-clause-finished : goal.returns-then-is_awaiting-clause-finished
+returns-then-is_awaiting-clause-finished g c =
     let left = g.R.Read.remaining c.answer_lines.new.reader in
     let held = g.W.Write.contents c.args.writer.now in
     let mid = g.W.Write.contents c.answer_lines.new.writer in
     let holds = g.W.Write.contents c.refuse_empty.new.writer in
     let after = c.answer_lines.new.service in
-    let none : c.answer_lines.new.service.code ≡ None = no_code_is_none _ c.if-is_none.ensures in
+    let none : c.answer_lines.new.service.code ≡ None = no_code_is_none _ c.if-is_awaiting.ensures in
     if_answered c.refuse_empty.result
     (λ n w. if_known _
     (λ input f. subst (λ (k : ℕ). Evaluates input left held holds k) (sym w.0)
     (ends_empty input left held mid holds
-    (silent_run (record { code = None }) after input left held mid c.in_ok-refused.refused refl c.if-refused-eq0.true none f) w.1))
+    (silent_run (record { code = c.awaiting.result }) after input left held mid c.in_ok-refused.refused c.awaiting.ensures c.if-refused-eq0.true none f) w.1))
     c.in_ok-refused.ensures.ok)
     c.refuse_empty.ensures.ok
 
-pub returns-then-is_none-clause-broken_off : goal.returns-then-is_none-clause-broken_off
-returns-then-is_none-clause-broken_off g c =
+pub returns-then-is_awaiting-clause-broken_off : goal.returns-then-is_awaiting-clause-broken_off
+returns-then-is_awaiting-clause-broken_off g c =
     let left = g.R.Read.remaining c.answer_lines.new.reader in
     let held = g.W.Write.contents c.args.writer.now in
     let mid = g.W.Write.contents c.answer_lines.new.writer in
     let holds = g.W.Write.contents c.refuse_empty.new.writer in
     let after = c.answer_lines.new.service in
-    let none : c.answer_lines.new.service.code ≡ None = no_code_is_none _ c.if-is_none.ensures in
+    let none : c.answer_lines.new.service.code ≡ None = no_code_is_none _ c.if-is_awaiting.ensures in
     if_refused c.refuse_empty.result
     (λ fault w. if_known _
     (λ input f. breaks_at_refusal (stream_fault fault) input left held mid holds
-    (silent_run (record { code = None }) after input left held mid c.in_ok-refused.refused refl c.if-refused-eq0.true none f) w)
+    (silent_run (record { code = c.awaiting.result }) after input left held mid c.in_ok-refused.refused c.awaiting.ensures c.if-refused-eq0.true none f) w)
     c.in_ok-refused.ensures.ok)
     c.refuse_empty.ensures.err
 
 pub returns-clause-finished : goal.returns-clause-finished
 returns-clause-finished g c =
-    if_known _ (λ input f. ends_well (record { code = None }) c.answer_lines.new.service input _ _ _ c.in_ok-refused.refused refl
+    if_known _ (λ input f. ends_well (record { code = c.awaiting.result }) c.answer_lines.new.service input _ _ _ c.in_ok-refused.refused c.awaiting.ensures
     (λ zero none. elim c.else-refused-eq0.branch [
-      | else-refused-eq0-via-then-refused-eq0+else-is_none w ↦ some_code_is_some _ w.if-is_none.ensures none
+      | else-refused-eq0-via-then-refused-eq0+else-is_awaiting w ↦ some_code_is_some _ w.if-is_awaiting.ensures none
       | else-refused-eq0-via-else-refused-eq0 w ↦ w.if-refused-eq0.false zero
     ])
     f) c.in_ok-refused.ensures.ok

@@ -1,0 +1,11 @@
+-- The code that the routes of `eval` go through. (This project's own choice.)
+use Rattle.std.specs.Prelude.{Option, Some, None}
+use Rattle.filter_code.specs.CodeView.{CodeView}
+use Rattle.filter_commands.specs.declared.judge.Stage.{Stage}
+use Rattle.filter_commands.specs.declared.judge.Stage.TheVariants as stage
+
+-- the code, once it has come
+abbrev pub code_at : Stage → Option CodeView
+code_at stage.Awaited = None
+code_at (stage.Checked code) = Some code
+code_at (stage.Verified verified) = Some verified.program
