@@ -13,12 +13,16 @@ pub fn program<'a>(alloc: Global) -> Result<Command<'a>, AllocError> {
     for (name, about) in all_commands() {
         commands.push(command_of(alloc, *name, *about)?)?;
     }
+    bare_program(alloc).subcommands(commands)
+}
+
+/// The program without its commands.
+fn bare_program<'a>(alloc: Global) -> Command<'a> {
     Command::new(alloc, "ncroute")
         .about("Check route filters, take routes through their code, and run a router with them")
         .version(VERSION)
         .subcommand_required(true)
         .arg_required_else_help(true)
-        .subcommands(commands)
 }
 
 /// A command as the parser of words knows it.
