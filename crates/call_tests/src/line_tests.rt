@@ -11,19 +11,28 @@ use std::io::{ErrorKind, Read, Write};
 use std::test::Fail;
 use worked_rows::{FailingReader, FailingWriter, Terminal};
 
-// Gives a few bytes a read, with an interruption before each, and then ends or fails.
+/// How many signals interrupt each read and each write before it is made.
+const INTERRUPTIONS: u32 = 4;
+
+/// Whether a signal interrupts this call too, after as many as the count says.
+fn interrupts(count: &mut u32) -> bool {
+    let again = *count < INTERRUPTIONS;
+    *count = if again { *count + 1 } else { 0 };
+    again
+}
+
+// Gives a few bytes a read, with interruptions before each, and then ends or fails.
 #[derive(Drop)]
 struct Pieces<'a> {
     rest: &'a [u8],
     most: usize,
-    interrupted: bool,
+    interrupted: u32,
     fails: bool,
 }
 
 impl Read for Pieces<'_> {
     fn read(&mut self, buf: &mut [u8]) -> io::Result<usize> {
-        self.interrupted = !self.interrupted;
-        if self.interrupted {
+        if interrupts(&mut self.interrupted) {
             return Err(io::Error::from(ErrorKind::Interrupted));
         }
         if self.rest.is_empty() && self.fails {
@@ -36,14 +45,14 @@ impl Read for Pieces<'_> {
     }
 }
 
-// Takes a few bytes a write, with an interruption before each, until it is full. It needs no memory.
+// Takes a few bytes a write, with interruptions before each, until it is full. It needs no memory.
 #[derive(Drop)]
 struct Sink {
     held: [u8; 64],
     len: usize,
     most: usize,
     room: usize,
-    interrupted: bool,
+    interrupted: u32,
     flushed: usize,
 }
 
@@ -62,8 +71,7 @@ impl Sink {
 
 impl Write for Sink {
     fn write(&mut self, buf: &[u8]) -> io::Result<usize> {
-        self.interrupted = !self.interrupted;
-        if self.interrupted {
+        if interrupts(&mut self.interrupted) {
             return Err(io::Error::from(ErrorKind::Interrupted));
         }
         let n = self.most.min(buf.len()).min(self.room);
@@ -127,7 +135,7 @@ fn make_sink(most: usize, room: usize) -> Sink {
         len: 0,
         most,
         room,
-        interrupted: false,
+        interrupted: 0,
         flushed: 0,
     }
 }
@@ -136,7 +144,7 @@ fn make_pieces(rest: &[u8], most: usize, fails: bool) -> Pieces<'_> {
     Pieces {
         rest,
         most,
-        interrupted: false,
+        interrupted: 0,
         fails,
     }
 }
