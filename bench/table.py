@@ -24,6 +24,7 @@ EVAL = (
     ("200,000 routes through a test for a set of 1,024 patterns", "set_of_1024"),
     ("200,000 routes through a `case` of 64 parts", "case_of_64"),
     ("100,000 routes through 1,000 instructions of arithmetic and branches", "straight_filter"),
+    ("the same, all routes of networks of 64 nodes", "straight_filter 100000 1 64"),
 )
 CHECK = (
     ("61 KB of tests for sets of 100 patterns each", "text_of_sets"),
@@ -42,8 +43,8 @@ RUN = (
 
 def rows():
     """For each row its command, what its input is, the words that write it, and its file's name."""
-    for label, name in EVAL:
-        yield "eval", label, ["generate.py", name], name
+    for label, words in EVAL:
+        yield "eval", label, ["generate.py", *words.split()], words.replace(" ", "_")
     for label, name in CHECK:
         yield "check --size 64", label, ["generate.py", name], name
     for label, kind in RUN:
