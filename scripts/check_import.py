@@ -55,6 +55,9 @@ TAKEN = [
     ("protocols without a name, each kind by itself", "protocol device { }\nprotocol rip { ipv4 { import filter { accept; }; }; }\n"
      "protocol bgp { ipv4 { export where true; }; }\nprotocol rip { ipv4 { import filter { reject; }; }; }",
      {"rip1_import": "{ accept; }", "bgp1_export": "{ if true then accept; reject; }", "rip2_import": "{ reject; }"}),
+    ("protocols of a kind of two words, and from a template", "protocol ospf v2 core { ipv4 { import filter { accept; }; }; }\n"
+     "protocol ospf v3 { ipv4 { export filter { accept; }; }; }\nprotocol rip from t { ipv4 { import filter { reject; }; }; }",
+     {"core_import": "{ accept; }", "ospf1_export": "{ accept; }", "rip1_import": "{ reject; }"}),
     ("a condition", "define OWN = 10.0.0.0/8;\nprotocol rip a { ipv4 { import where net ~ OWN; }; }", {"a_import": DEFINED}),
     ("mixed operators", "filter f { if true || true && false then accept; reject; }", {"f": "{ if ( true || true ) && false then accept; reject; }"}),
     ("more of them", "filter f bool b; { b = true && false || true && true; if b then accept; }",
@@ -104,6 +107,10 @@ TAKEN = [
     ("a case of addresses", "filter f { case net.ip { 10.0.0.0: accept; else: reject; 10.0.0.1, 10.1.0.0..10.2.0.0: rip_metric = 3; } }",
      {"f": "{ if net.ip = 10.0.0.0 then { accept; } else if net.ip = 10.0.0.1 || ( net.ip >= 10.1.0.0 && net.ip <= 10.2.0.0 ) then "
       "{ rip_metric = 3; } else { reject; } }"}),
+    ("a set in the last part of a case", "filter f prefix set s; { case net.len { 8: rip_metric = 2; 9: rip_metric = 3; s = [ 10.0.0.0/8 ]; if net ~ s then accept; } reject; }",
+     {"f": "{ case net.len { 8: rip_metric = 2; 9: rip_metric = 3; if net ~ [ 10.0.0.0/8 ] then accept; } reject; }"}),
+    ("a case of addresses before a label of another", "filter f { case net.len { 8: rip_metric = 3; case net.ip { 10.0.0.0: accept; } else: reject; } accept; }",
+     {"f": "{ case net.len { 8: rip_metric = 3; if net.ip = 10.0.0.0 then { accept; } else: reject; } accept; }"}),
     ("a case of addresses before an else", "filter f { if net.len = 8 then case net.ip { 10.0.0.0: accept; } else reject; accept; }",
      {"f": "{ if net.len = 8 then { if net.ip = 10.0.0.0 then { accept; } } else reject; accept; }"}),
     ("a function that prints", "function g() { print \"g\"; return net.len > 8; }\nfilter f { if g() then accept; }",
@@ -131,6 +138,8 @@ LEFT_OUT = [
     ("a set that is assigned twice", "filter f prefix set s; { s = [ 10.0.0.0/8 ]; s = [ 11.0.0.0/8 ]; if net ~ s then accept; }", "1:21", "f: the set `s`"),
     ("a set that is assigned on a condition", "filter f prefix set s; { if net.len > 8 then s = [ 10.0.0.0/8 ]; if net ~ s then accept; }", "1:21", "f: the set `s`"),
     ("a set that is used behind its block", "filter f { if net.len > 8 then { prefix set s = [ 10.0.0.0/8+ ]; } if net ~ s then accept; reject; }", "1:45", "f: the set `s`"),
+    ("a set that another part of a case uses", "filter f prefix set s; { case net.len { 8: rip_metric = 2; s = [ 10.0.0.0/8 ]; 9: if net ~ s then accept; } reject; }",
+     "1:21", "f: the set `s`"),
     ("a set without a value in the body", "filter f { prefix set s; s = [ 10.0.0.0/8 ]; if net ~ s then accept; }", "1:23", "f: `s` has no value in the body"),
     ("a label of several words", "define FAR = 2 + 3;\nfilter f { case net.len { FAR: accept; else: reject; } }", "2:27", "f: `FAR` is defined by more than one word"),
     ("a mask of several words", "define FAR = 2 + 3;\nfilter f { if net.ip.mask(FAR) = 10.0.0.0 then accept; }", "2:27", "f: `FAR` is defined by more than one word"),

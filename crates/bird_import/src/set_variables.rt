@@ -52,6 +52,21 @@ fn block_end(words: &[Word<'_>], from: usize) -> usize {
     words.len()
 }
 
+/// Whether a label of a `case` stands between two indexes, outside of what is opened there: another part of it begins then.
+fn has_label(words: &[Word<'_>], from: usize, end: usize) -> bool {
+    let mut depth = 0usize;
+    for at in from..end.min(words.len()) {
+        if opens(words[at]) {
+            depth = depth.saturating_add(1);
+        } else if closes(words[at]) {
+            depth = depth.saturating_sub(1);
+        } else if depth == 0 && is_at(words, at, Symbol::Colon) {
+            return true;
+        }
+    }
+    false
+}
+
 /// The index of the `;` behind the set that begins at an index, if a set does.
 fn set_end(words: &[Word<'_>], from: usize) -> Option<usize> {
     if !is_at(words, from, Symbol::LeftBracket) {
@@ -119,6 +134,14 @@ fn is_assigned(words: &[Word<'_>], from: usize, name: &[u8]) -> bool {
     false
 }
 
+/// Whether a variable that has its set before an index is assigned again, is used where its block has ended, or was assigned in one
+/// part of a `case` that goes on.
+fn is_used_otherwise(words: &[Word<'_>], from: usize, end: usize, name: &[u8]) -> bool {
+    is_assigned(words, from, name)
+        || has_label(words, from, end)
+        || find_name(words, end, name).is_some()
+}
+
 /// Puts words behind others, with a set in the place of each word of a name.
 fn push_placed<'a>(
     words: &mut Vec<Word<'a>>,
@@ -176,7 +199,7 @@ pub fn plan_sets<'a>(alloc: Global, words: &[Word<'a>]) -> Result<Plan<'a>, Allo
         return Ok(Plan::Stuck(stuck));
     };
     let end = block_end(words, variable.to);
-    if is_assigned(words, variable.to, name.bytes) || find_name(words, end, name.bytes).is_some() {
+    if is_used_otherwise(words, variable.to, end, name.bytes) {
         return Ok(Plan::Stuck(stuck));
     }
     Ok(Plan::Step(Step {
