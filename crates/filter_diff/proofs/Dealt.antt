@@ -57,6 +57,10 @@ left_split route [] c (inr none) = elim none [ ]
 left_split route (x ∷ xs) c (inl of) = inl (inl of)
 left_split route (x ∷ xs) c (inr there) = before (left_split route xs c there)
 
+pub left_taken : (route : RouteView) (cs ds : List Class) (c : Class) → cs ≡ ds ++ (c ∷ []) → IsLeft route cs →
+    IsLeft route ds ⊎ IsOf c route
+left_taken route cs ds c e left = left_split route ds c (subst (IsLeft route) e left)
+
 pub dealt_taken : (old new : CodeView) (route : RouteView) (ps : List Part) (cs ds : List Class) (c : Class) → cs ≡ ds ++ (c ∷ []) →
     IsDealt old new ps cs route → IsDealt old new ps ds route ⊎ IsOf c route
 dealt_taken old new route ps cs ds c e (inl found) = inl (inl found)
@@ -105,7 +109,7 @@ length_step class route xs ys step = length_step_by class route xs ys step _ ref
 abbrev pub resized : Class → ℕ → Class
 resized next size = record { known = next.known; len = next.len; metric = next.metric; size = size }
 
-of_resized : (next : Class) (size : ℕ) (route : RouteView) → IsIn size route → IsOf next route → IsOf (resized next size) route
+pub of_resized : (next : Class) (size : ℕ) (route : RouteView) → IsIn size route → IsOf next route → IsOf (resized next size) route
 of_resized next size route is_in of =
     record { begins = of.begins; long = of.long; fits = of.fits; received = of.received; size = is_in.domain }
 

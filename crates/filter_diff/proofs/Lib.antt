@@ -10,3 +10,4 @@ pub mod Adding
 pub mod Joined
 pub mod Real
 pub mod Witness
+pub mod Expected

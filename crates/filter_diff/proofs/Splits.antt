@@ -69,7 +69,7 @@ pub kept_left : (route : RouteView) (xs ys zs : List Class) (one zero : Class) �
 kept_left route xs ys zs one zero e f h =
     subst (IsLeft route) (sym f) (left_more route ys (zero ∷ []) (subst (IsLeft route) (sym e) (left_more route xs (one ∷ []) h)))
 
-known_is : (known : Option ℕ) (m metric : ℕ) → known ≡ Some m → IsKnown known metric → metric ≡ m
+pub known_is : (known : Option ℕ) (m metric : ℕ) → known ≡ Some m → IsKnown known metric → metric ≡ m
 known_is known m metric e h = subst (λ (k : Option ℕ). IsKnown k metric) e h
 
 abbrev view : List Bool → ℕ → ℕ → RouteView

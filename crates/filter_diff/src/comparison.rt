@@ -42,7 +42,7 @@ fn all_of(len: u8, size: u32) -> Class
 }
 
 /// All routes, by their lengths.
-fn all_classes(alloc: Global, size: u32) -> Result<Vec<Class>, AllocError>
+pub(crate) fn all_classes(alloc: Global, size: u32) -> Result<Vec<Class>, AllocError>
     ensures all { IfOk result (λ todo. (route : RouteView) → IsIn size route → IsLeft route todo.items) }
     ensures real { IfOk result (λ todo. All (IsOfSize size) todo.items) }
 {

@@ -2,10 +2,12 @@
 #![tactic(auto)]
 
 mod answer;
+mod checking;
 mod class;
 mod comparison;
 mod computing;
 mod ending;
+mod expectation;
 mod found;
 mod joining;
 mod judge;
@@ -18,8 +20,10 @@ mod trials;
 mod turn;
 
 pub use answer::{Answer, answer_of, count_undecided, has_difference};
+pub use checking::{Checked, Counterexample, check_expectation};
 pub use comparison::{CLASS_LIMIT, Comparison, compare};
 pub use ending::Ending;
+pub use expectation::Expectation;
 pub use joining::join_all;
 pub use laws::parts_are_patterns;
 pub use part::{Finding, Part};

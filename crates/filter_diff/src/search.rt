@@ -18,7 +18,7 @@ use prefix_patterns::{ADDRESS_LENGTH, Ip, Prefix};
 use std::alloc::AllocError;
 
 /// Whether two outcomes are the same.
-fn outcomes(before: Outcome, after: Outcome) -> Found
+pub(crate) fn outcomes(before: Outcome, after: Outcome) -> Found
     ensures { Compare (ending.Fixed before) (ending.Fixed after) result }
 {
     if before == after {
@@ -50,7 +50,7 @@ fn unchanged_now(before: Outcome) -> Found
 }
 
 /// Whether two endings are the same.
-fn endings(before: Ending, after: Ending) -> Found
+pub(crate) fn endings(before: Ending, after: Ending) -> Found
     ensures { Compare before after result }
 {
     match before {
@@ -158,7 +158,7 @@ pub(crate) fn part_of(class: &Class, finding: Finding) -> Part
 }
 
 /// Appends the classes with each metric in place of any.
-fn push_metrics(class: &Class, todo: &mut Vec<Class>) -> Result<(), AllocError>
+pub(crate) fn push_metrics(class: &Class, todo: &mut Vec<Class>) -> Result<(), AllocError>
     requires small { class.now.size ≤ 250 }
     requires real { IsOfSize class.now.size class.now }
     ensures kept { OnOk result ((route : RouteView) → IsLeft route todo.old.items → IsLeft route todo.new.items) }
@@ -178,7 +178,7 @@ fn push_metrics(class: &Class, todo: &mut Vec<Class>) -> Result<(), AllocError>
 }
 
 /// Appends the two classes with one more bit known. None if there is no more bit.
-fn push_bits(class: &Class, todo: &mut Vec<Class>) -> Result<bool, AllocError>
+pub(crate) fn push_bits(class: &Class, todo: &mut Vec<Class>) -> Result<bool, AllocError>
     requires { IsOfSize class.now.size class.now }
     ensures kept { OnOk result ((route : RouteView) → IsLeft route todo.old.items → IsLeft route todo.new.items) }
     ensures real { OnOk result (All (IsOfSize class.now.size) todo.old.items → All (IsOfSize class.now.size) todo.new.items) }
