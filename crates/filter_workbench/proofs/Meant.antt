@@ -31,7 +31,7 @@ one_verdict v w (outcome.Accept metric) a b = a ∙ sym b
 one_verdict v w outcome.Reject a b = a ∙ sym b
 one_verdict v w (outcome.Fault why at) a b = absurd a
 
-one_outcome : (v : Verdict) (a b : Outcome) → Says v a → Says v b → a ≡ b
+pub one_outcome : (v : Verdict) (a b : Outcome) → Says v a → Says v b → a ≡ b
 one_outcome v (outcome.Accept metric) (outcome.Accept other) a b = cc
 one_outcome v (outcome.Accept metric) outcome.Reject a b = let no : ⊥ = cc in absurd no
 one_outcome v outcome.Reject (outcome.Accept other) a b = let no : ⊥ = cc in absurd no

@@ -9,4 +9,4 @@ mod part_lines;
 pub use comparing::{Compared, compare_named};
 pub use laws::{comparison_is_of_filters, parts_are_of_filters};
 pub use named_text::NamedText;
-pub use part_lines::parts_text;
+pub use part_lines::{parts_text, push_outcome, push_prefix};

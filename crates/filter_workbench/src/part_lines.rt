@@ -10,7 +10,7 @@ use prefix_patterns::Prefix;
 use std::alloc::{AllocError, Global};
 
 /// Puts the outcome of a run at the end of `out`.
-fn push_outcome(out: &mut Vec<u8>, end: Outcome) -> Result<(), AllocError>
+pub fn push_outcome(out: &mut Vec<u8>, end: Outcome) -> Result<(), AllocError>
     ensures { OnOk result (out.new.items ≡ out.old.items ++ spec.outcome_text end) }
 {
     match end {
@@ -64,7 +64,7 @@ fn push_endings(out: &mut Vec<u8>, found: Finding) -> Result<(), AllocError>
 }
 
 /// Puts a prefix at the end of `out`.
-fn push_prefix(alloc: Global, out: &mut Vec<u8>, prefix: Prefix) -> Result<(), AllocError>
+pub fn push_prefix(alloc: Global, out: &mut Vec<u8>, prefix: Prefix) -> Result<(), AllocError>
     ensures { OnOk result (out.new.items ≡ out.old.items ++ prefix_text prefix) }
 {
     let text = format!(in alloc; "{prefix}")?;
