@@ -233,6 +233,15 @@ pub fn new_file<'a>(alloc: Global) -> Arg<'a> {
     .required(true)
 }
 
+/// The test files.
+pub fn test_files<'a>(alloc: Global) -> Arg<'a> {
+    Arg::new(alloc, "file")
+        .value_name("FILE")
+        .action(ArgAction::Append)
+        .num_args(0..)
+        .help("A test file in place of standard input; - is standard input")
+}
+
 /// The folder of imported filters.
 pub fn out_option<'a>(alloc: Global) -> Arg<'a> {
     valued(

@@ -13,6 +13,7 @@ use crate::options::{
 };
 use crate::router_words::{RouterWords, router_command, router_in};
 use crate::terminals::Terminals;
+use crate::test_words::{test_command, test_in};
 use clap::error::ErrorKind;
 use clap::{ArgMatches, Command, Error};
 use line_protocol::StreamFault;
@@ -134,6 +135,9 @@ fn filter_commands_in<R: Eprint>(
     }
     if let Some(list) = matches.subcommand_matches("list") {
         return Ok(Some(Words::Aided(list_in(alloc, list, terminals)?)));
+    }
+    if let Some(test) = matches.subcommand_matches("test") {
+        return Ok(Some(Words::Aided(test_in(alloc, test, terminals)?)));
     }
     Ok(None)
 }
@@ -324,7 +328,8 @@ fn add_filter_commands<'a>(alloc: Global, command: Command<'a>) -> Result<Comman
         .subcommand(explain_command(alloc)?)?
         .subcommand(filter_command(alloc)?)?
         .subcommand(import_command(alloc)?)?
-        .subcommand(list_command(alloc)?)
+        .subcommand(list_command(alloc)?)?
+        .subcommand(test_command(alloc)?)
 }
 
 /// Adds the commands on code files.

@@ -1,0 +1,3 @@
+pub mod FirstLine
+pub mod MoreTests
+pub mod Meant
