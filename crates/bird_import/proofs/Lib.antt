@@ -1,3 +1,5 @@
+mod Outside
 mod Reached
 mod Spelled
 mod Splits
+mod Tests

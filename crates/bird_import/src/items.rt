@@ -173,9 +173,33 @@ fn is_protocol(words: &[Word<'_>], head: usize) -> bool {
     }
 }
 
+/// Whether a word behind the kind of a protocol belongs to it: there are `ospf v2`, `ospf v3` and `rip ng`.
+fn is_variant(kind: &[u8], word: &[u8]) -> bool {
+    match kind {
+        b"ospf" => matches!(word, b"v2" | b"v3"),
+        b"rip" => matches!(word, b"ng"),
+        _ => false,
+    }
+}
+
+/// The index of the name of the protocol that begins at an index, if it has one.
+fn name_of_protocol(words: &[Word<'_>], head: usize) -> Option<usize> {
+    let (kind, second) = (head.checked_add(1)?, head.checked_add(2)?);
+    let at = if is_variant(bytes_at(words, kind), bytes_at(words, second)) {
+        second.checked_add(1)?
+    } else {
+        second
+    };
+    if is_name_at(words, at) && !matches!(bytes_at(words, at), b"from") {
+        Some(at)
+    } else {
+        None
+    }
+}
+
 /// Whether a protocol without a name begins at an index.
 fn is_nameless(words: &[Word<'_>], head: usize) -> bool {
-    is_protocol(words, head) && !is_name_at(words, head.saturating_add(2))
+    is_protocol(words, head) && name_of_protocol(words, head).is_none()
 }
 
 /// Whether a channel of IPv6 begins at an index.
@@ -204,11 +228,10 @@ fn name_of_owner(
 ) -> Result<Vec<u8>, AllocError> {
     let mut name = Vec::new(alloc);
     if let Some(owner) = blocks.owner(words) {
-        let (kind, own) = (owner.saturating_add(1), owner.saturating_add(2));
-        if is_name_at(words, own) {
+        if let Some(own) = name_of_protocol(words, owner) {
             push_bytes_of(&mut name, words, own)?;
         } else {
-            push_bytes_of(&mut name, words, kind)?;
+            push_bytes_of(&mut name, words, owner.saturating_add(1))?;
             push_number(&mut name, blocks.number_of(words, owner))?;
         }
         name.push(b'_')?;

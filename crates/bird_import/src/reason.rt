@@ -56,6 +56,14 @@ pub enum Why<'a> {
     Unwritten,
 }
 
+/// What is said where nothing else can be.
+pub fn unwritten<'a>(at: usize) -> Reason<'a> {
+    Reason {
+        at,
+        why: Why::Unwritten,
+    }
+}
+
 /// Whether an attribute is one of BGP's.
 fn is_of_bgp(name: &str) -> bool {
     name.starts_with("bgp_")

@@ -117,14 +117,14 @@ impl<'a> Word<'a> {
 
     /// Whether it is this name.
     pub fn is_named(self, name: &[u8]) -> bool
-        ensures { IsTrue result → IsNamed name.now self.entry }
+        ensures { IsTrue result ↔ IsNamed name.now self.entry }
     {
         self.is_name() && self.bytes == name
     }
 
     /// Whether it is this word of BIRD's.
     pub fn is_foreign(self, name: &[u8]) -> bool
-        ensures { IsTrue result → IsForeign name.now self.entry }
+        ensures { IsTrue result ↔ IsForeign name.now self.entry }
     {
         self.kind == WordKind::Foreign && self.bytes == name
     }
