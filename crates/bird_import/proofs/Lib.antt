@@ -1,4 +1,3 @@
-mod Outside
 mod Reached
 mod Spelled
 mod Splits

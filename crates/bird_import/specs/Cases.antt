@@ -1,9 +1,9 @@
 -- `case` of addresses: the commands of a label stand in an `if`, and the other labels in its `else`.
-use Rattle.std.specs.Prelude.{◌≡◌, ◌≢◌, ◌⊎◌, ◌<◌, ℕ, zero, suc, Bool, true, false, List, [], ◌∷◌, ◌++◌, Some, All, drop}
+use Rattle.std.specs.Prelude.{◌≡◌, ◌⊎◌, ℕ, zero, suc, Bool, true, false, List, [], ◌∷◌, ◌++◌, Some, All}
 use Rattle.filter_tokens.specs.declared.symbol.Symbol.{Symbol}
 use Rattle.filter_tokens.specs.declared.symbol.Symbol.TheVariants as symbol
 use Rattle.bird_import.specs.Alike.{AreAlike}
-use Rattle.bird_import.specs.Blocks.{AreCommands, IsOutside}
+use Rattle.bird_import.specs.Blocks.{AreCommands}
 use Rattle.bird_import.specs.Functions.{IsBlock}
 use Rattle.bird_import.specs.Rules.{Is, IsSame, open_behind}
 use Rattle.bird_import.specs.declared.word.Word.{Word}
@@ -22,6 +22,11 @@ is_simple (kind.Symbol symbol.LeftParen) = true
 is_simple (kind.Symbol symbol.RightParen) = true
 is_simple other = false
 
+-- a word is an address
+abbrev pub is_address : WordKind → Bool
+is_address (kind.Address number) = true
+is_address other = false
+
 -- a word of a label
 abbrev pub is_of_label : WordKind → Bool
 is_of_label (kind.Address number) = true
@@ -29,23 +34,6 @@ is_of_label (kind.Symbol symbol.Comma) = true
 is_of_label (kind.Symbol symbol.DotDot) = true
 is_of_label (kind.Symbol symbol.Else) = true
 is_of_label other = false
-
--- an address is less than a range of them, or greater
-abbrev pub IsBeside : ℕ → ℕ → ℕ → Type 0
-IsBeside low high number = (number < low) ⊎ (high < number)
-
--- Words begin with no address of a range in a label: an address before a `,`, a `:` or a `..` is in one. Another range ends before this one
--- begins, or begins behind its end.
-abbrev pub IsFreeAt : ℕ → ℕ → List Word → Type 0
-IsFreeAt low high words =
-    (word next : Word) (others : List Word) (number : ℕ) → words ≡ word ∷ next ∷ others → word.kind ≡ kind.Address number
-    → ((Is symbol.Comma next ⊎ Is symbol.Colon next) → IsBeside low high number)
-    × (Is symbol.DotDot next → (last : Word) (more : List Word) (end : ℕ) → others ≡ last ∷ more → last.kind ≡ kind.Address end
-    → (end < low) ⊎ (high < number))
-
--- no label of these parts of a `case` has an address of a range
-abbrev pub IsFree : ℕ → ℕ → List Word → Type 0
-IsFree low high parts = (k : ℕ) → IsOutside parts k → IsFreeAt low high (drop k parts)
 
 -- `SUBJECT OPERATOR BOUND`
 pub record IsCompared (operator : Symbol) (subject : List Word) (bound : Word) (words : List Word) : Type 0 where
@@ -58,12 +46,10 @@ pub record IsCompared (operator : Symbol) (subject : List Word) (bound : Word) (
   pub is_bound : IsSame bound again
 
 -- one address of a label is tested: `SUBJECT = ADDRESS`
-pub record IsEqualTest (subject parts label test : List Word) : Type 0 where
+pub record IsEqualTest (subject label test : List Word) : Type 0 where
   pub address : Word
-  pub number : ℕ
   pub whole : label ≡ address ∷ []
-  pub is_address : address.kind ≡ kind.Address number
-  pub free : IsFree number number parts
+  pub is_address : is_address address.kind ≡ true
   pub written : IsCompared symbol.Equal subject address test
 
 -- `( SUBJECT >= LOW && SUBJECT <= HIGH )`
@@ -81,24 +67,21 @@ pub record IsBetweenTest (subject : List Word) (low high : Word) (test : List Wo
   pub at_most : IsCompared symbol.LessEqual subject high upper
 
 -- a range of addresses in a label is tested
-pub record IsRangeTest (subject parts label test : List Word) : Type 0 where
+pub record IsRangeTest (subject label test : List Word) : Type 0 where
   pub low : Word
   pub dots : Word
   pub high : Word
-  pub least : ℕ
-  pub greatest : ℕ
   pub whole : label ≡ low ∷ dots ∷ high ∷ []
-  pub is_low : low.kind ≡ kind.Address least
+  pub is_low : is_address low.kind ≡ true
   pub are_dots : Is symbol.DotDot dots
-  pub is_high : high.kind ≡ kind.Address greatest
-  pub free : IsFree least greatest parts
+  pub is_high : is_address high.kind ≡ true
   pub written : IsBetweenTest subject low high test
 
-abbrev pub IsOneTest : List Word → List Word → List Word → List Word → Type 0
-IsOneTest subject parts label test = IsEqualTest subject parts label test ⊎ IsRangeTest subject parts label test
+abbrev pub IsOneTest : List Word → List Word → List Word → Type 0
+IsOneTest subject label test = IsEqualTest subject label test ⊎ IsRangeTest subject label test
 
 -- the first of several addresses or ranges: `ONE, OTHERS` is tested by `TEST || TESTS`
-pub record IsFirstTest (subject parts label test others tests : List Word) : Type 0 where
+pub record IsFirstTest (subject label test others tests : List Word) : Type 0 where
   pub one : List Word
   pub comma : Word
   pub first : List Word
@@ -107,17 +90,17 @@ pub record IsFirstTest (subject parts label test others tests : List Word) : Typ
   pub written : test ≡ first ++ operator ∷ tests
   pub is_comma : Is symbol.Comma comma
   pub is_operator : Is symbol.Or operator
-  pub tested : IsOneTest subject parts one first
+  pub tested : IsOneTest subject one first
 
 -- a label of one address or range and so many more is tested
-unfoldable pub AreTests : List Word → List Word → ℕ → List Word → List Word → Type 0
-AreTests subject parts zero label test = IsOneTest subject parts label test
-AreTests subject parts (suc n) label test =
-    (others : List Word) × (tests : List Word) × IsFirstTest subject parts label test others tests × AreTests subject parts n others tests
+unfoldable pub AreTests : List Word → ℕ → List Word → List Word → Type 0
+AreTests subject zero label test = IsOneTest subject label test
+AreTests subject (suc n) label test =
+    (others : List Word) × (tests : List Word) × IsFirstTest subject label test others tests × AreTests subject n others tests
 
 -- a label is tested
-abbrev pub AreSomeTests : List Word → List Word → List Word → List Word → Type 0
-AreSomeTests subject parts label test = (n : ℕ) × AreTests subject parts n label test
+abbrev pub AreSomeTests : List Word → List Word → List Word → Type 0
+AreSomeTests subject label test = (n : ℕ) × AreTests subject n label test
 
 -- `else: COMMANDS`
 pub record IsElsePart (words commands : List Word) : Type 0 where
@@ -240,7 +223,7 @@ pub record IsCaseTaken (old new back : List Word) : Type 0 where
   pub block : List Word
   pub rest : List Word
   pub written : IsTested new test block rest
-  pub tested : AreSomeTests subject after label test
+  pub tested : AreSomeTests subject label test
   pub is_block : IsBlock commands block
   pub otherwise : IsOtherwise subject before after rest back
 

@@ -119,10 +119,14 @@ pub record IsFunction (name : List ℕ) (words between body : List Word) (end : 
   pub is_closing : Is symbol.RightParen closing
   pub has_body : HasBody rest between body end
 
+-- two words that follow one another declare a variable
+abbrev pub IsDeclaration : Word → Word → Type 0
+IsDeclaration first second = (is_kind first.kind ≡ true) × (second.kind ≡ kind.Name)
+
 -- no variable is declared among some words
 abbrev pub DeclaresNothing : List Word → Type 0
 DeclaresNothing words =
-    (k : ℕ) (x y : Word) → slice_get words k ≡ Some x → slice_get words (k + 1) ≡ Some y → is_kind x.kind ≡ true → y.kind ≢ kind.Name
+    (k : ℕ) (x y : Word) → slice_get words k ≡ Some x → slice_get words (k + 1) ≡ Some y → IsDeclaration x y → ⊥
 
 -- between a function's name and its body nothing is declared: there is nothing, or `-> KIND`
 abbrev pub IsPlain : List Word → Type 0

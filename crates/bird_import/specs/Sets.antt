@@ -19,11 +19,19 @@ pub record IsKept (name : List ℕ) (word : Word) (written : List Word) : Type 0
 abbrev pub StandsFor : List ℕ → List Word → Word → List Word → Type 0
 StandsFor name set word written = (IsNamed name word × AreAlike IsSame set written) ⊎ IsKept name word written
 
+-- the first of some words is written; `later` and `others` are behind it
+pub record IsFirstReplaced (name : List ℕ) (set words written later others : List Word) : Type 0 where
+  pub word : Word
+  pub first : List Word
+  pub whole : words ≡ word ∷ later
+  pub parts : written ≡ first ++ others
+  pub stands : StandsFor name set word first
+
 -- words with the set in the place of each word of a name
 unfoldable pub IsReplaced : List ℕ → List Word → List Word → List Word → Type 0
 IsReplaced name set [] written = written ≡ []
 IsReplaced name set (word ∷ words) written =
-    (first : List Word) × (others : List Word) × (written ≡ first ++ others) × StandsFor name set word first × IsReplaced name set words others
+    (others : List Word) × IsFirstReplaced name set (word ∷ words) written words others × IsReplaced name set words others
 
 -- no word of this name is among some words
 abbrev pub AreOthers : List ℕ → List Word → Type 0

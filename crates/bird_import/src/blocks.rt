@@ -1,39 +1,45 @@
 //! Whether words are whole commands.
-ghost use Rattle.std.specs.Prelude.{◌≡◌, [], ◌∷◌, IfSome, IsTrue, Some};
+ghost use Rattle.std.specs.Prelude.{◌≡◌, IfSome, IsTrue, true};
 ghost use Rattle.bird_import.specs.Blocks as spec;
-ghost use Rattle.bird_import.specs.Rules.{open_behind};
 
 use crate::rules::{are_balanced, closes, opens};
-use crate::word::Word;
+use crate::word::{Word, WordKind};
 use filter_tokens::Symbol;
 
-/// How many parentheses, brackets and braces are open behind a word, where so many are before it; none where it closes one that is not.
-#[tactic(auto, unfolding(crate::specs::Rules::open_behind))]
-pub fn depth_behind(depth: usize, word: &Word<'_>) -> Option<usize>
-    ensures { IfSome result (λ after. open_behind depth (word.now ∷ []) ≡ Some after) }
+/// How many parentheses, brackets and braces are open behind a word, where so many are before it.
+pub fn depth_behind(depth: usize, kind: WordKind) -> Option<usize>
+    ensures { IfSome result (λ after. after ≡ spec.depth_behind depth kind) }
 {
-    if opens(word.kind) {
+    if opens(kind) {
         depth.checked_add(1)
-    } else if closes(word.kind) {
-        depth.checked_sub(1)
+    } else if closes(kind) {
+        Some(depth.saturating_sub(1))
     } else {
         Some(depth)
     }
 }
 
+/// Whether a word is `:`.
+fn is_colon(kind: WordKind) -> bool
+    ensures { result ≡ spec.is_colon kind }
+{
+    matches!(kind, WordKind::Symbol(Symbol::Colon))
+}
+
 /// Whether no label is among some words, but for those of a `case` that begins there.
+#[tactic(auto, unfolding(crate::specs::Blocks::has_no_label))]
 fn has_no_label(words: &[Word<'_>]) -> bool
-    ensures { IsTrue result → spec.HasNoLabel words.now }
+    ensures { IsTrue result → (spec.has_no_label 0 words.now ≡ true) }
 {
     let mut depth = 0usize;
     for word in words {
-        if depth == 0 && word.is(Symbol::Colon) {
+        if depth == 0 && is_colon(word.kind) {
             return false;
         }
-        match depth_behind(depth, word) {
-            Some(after) => depth = after,
+        depth = match depth_behind(depth, word.kind) {
+            Some(after) => after,
             None => return false,
-        }
+        };
     }
     true
 }

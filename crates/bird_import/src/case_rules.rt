@@ -1,12 +1,11 @@
 //! `case` of addresses: whether what is written for one means the same.
-ghost use Rattle.std.specs.Prelude.{◌≡◌, ◌↔◌, ℕ, All, IfSome, IsTrue, Some, true};
+ghost use Rattle.std.specs.Prelude.{◌≡◌, All, IfSome, IsTrue, true};
 ghost use Rattle.bird_import.specs.Cases as spec;
-ghost use Rattle.bird_import.specs.declared.word.WordKind.TheVariants as kind;
 
 use crate::blocks::{are_commands, depth_behind};
 use crate::functions::is_block;
 use crate::rules::{are_balanced, are_same, is_same, split};
-use crate::word::{Word, WordKind};
+use crate::word::{Word, WordKind, is_at};
 use filter_tokens::Symbol;
 
 /// Whether an expression of such words may be computed for each label again.
@@ -41,66 +40,42 @@ fn are_simple(words: &[Word<'_>]) -> bool
     words.iter().all(|word| is_simple(word.kind))
 }
 
-/// The address that a word is.
-fn address_of(word: &Word<'_>) -> Option<u32>
-    ensures { (number : ℕ) → (result ≡ Some number) ↔ (word.now.kind ≡ kind.Address number) }
+/// Whether a word is an address.
+fn is_address(kind: WordKind) -> bool
+    ensures { result ≡ spec.is_address kind }
 {
+    matches!(kind, WordKind::Address(_))
+}
+
+/// The number of an address.
+fn number_of(word: &Word<'_>) -> u32 {
     match word.kind {
-        WordKind::Address(number) => Some(number),
-        _ => None,
+        WordKind::Address(number) => number,
+        _ => 0,
     }
 }
 
-/// A range of addresses.
-#[derive(Clone, Copy)]
-struct Range {
-    /// The least.
-    low: u32,
-    /// The greatest.
-    high: u32,
-}
-
-/// Whether a range begins with no address of a label at the front of some words, and reaches none.
-fn is_free_at(range: Range, words: &[Word<'_>]) -> bool
-    ensures { IsTrue result → spec.IsFreeAt range.low range.high words.now }
-{
-    let Some((word, others)) = words.split_first() else {
-        return true;
+/// Whether the address or the range at the front of some words is in a label, and not apart from another range.
+fn touches(low: &Word<'_>, high: &Word<'_>, words: &[Word<'_>]) -> bool {
+    let (from, to) = match words {
+        [first, dots, last, ..] if dots.is(Symbol::DotDot) => (first, last),
+        [first, next, ..] if next.is(Symbol::Comma) || next.is(Symbol::Colon) => (first, first),
+        _ => return false,
     };
-    let Some((next, others)) = others.split_first() else {
-        return true;
-    };
-    let Some(number) = address_of(word) else {
-        return true;
-    };
-    if next.is(Symbol::Comma) || next.is(Symbol::Colon) {
-        return number < range.low || range.high < number;
-    }
-    if !next.is(Symbol::DotDot) {
-        return true;
-    }
-    let Some((last, _)) = others.split_first() else {
-        return true;
-    };
-    match address_of(last) {
-        Some(end) => end < range.low || range.high < number,
-        None => true,
-    }
+    is_address(from.kind)
+        && is_address(to.kind)
+        && number_of(from) <= number_of(high)
+        && number_of(low) <= number_of(to)
 }
 
 /// Whether no label of some parts of a `case` has an address of a range.
-fn is_free(range: Range, parts: &[Word<'_>]) -> bool
-    ensures { IsTrue result → spec.IsFree range.low range.high parts.now }
-{
+fn is_free(low: &Word<'_>, high: &Word<'_>, parts: &[Word<'_>]) -> bool {
     let mut depth = 0usize;
     for at in 0..parts.len() {
-        if depth == 0 && !is_free_at(range, &parts[at..]) {
+        if depth == 0 && touches(low, high, &parts[at..]) {
             return false;
         }
-        match depth_behind(depth, &parts[at]) {
-            Some(after) => depth = after,
-            None => return false,
-        }
+        depth = depth_behind(depth, parts[at].kind).unwrap_or(0);
     }
     true
 }
@@ -124,27 +99,15 @@ fn is_compared(
 }
 
 /// Whether a label of one address is tested.
-fn is_equal_test(
-    subject: &[Word<'_>],
-    parts: &[Word<'_>],
-    label: &[Word<'_>],
-    test: &[Word<'_>],
-) -> bool
-    ensures { IsTrue result → spec.IsEqualTest subject.now parts.now label.now test.now }
+fn is_equal_test(subject: &[Word<'_>], label: &[Word<'_>], test: &[Word<'_>]) -> bool
+    ensures { IsTrue result → spec.IsEqualTest subject.now label.now test.now }
 {
-    let [address] = label else {
-        return false;
-    };
-    let Some(number) = address_of(address) else {
-        return false;
-    };
-    is_free(
-        Range {
-            low: number,
-            high: number,
-        },
-        parts,
-    ) && is_compared(Symbol::Equal, subject, address, test)
+    match label {
+        [address] => {
+            is_address(address.kind) && is_compared(Symbol::Equal, subject, address, test)
+        }
+        _ => false,
+    }
 }
 
 /// Whether a range of addresses is tested by two comparisons in parentheses.
@@ -171,45 +134,34 @@ fn is_between(subject: &[Word<'_>], low: &Word<'_>, high: &Word<'_>, test: &[Wor
 }
 
 /// Whether a label of one range is tested.
-fn is_range_test(
-    subject: &[Word<'_>],
-    parts: &[Word<'_>],
-    label: &[Word<'_>],
-    test: &[Word<'_>],
-) -> bool
-    ensures { IsTrue result → spec.IsRangeTest subject.now parts.now label.now test.now }
+fn is_range_test(subject: &[Word<'_>], label: &[Word<'_>], test: &[Word<'_>]) -> bool
+    ensures { IsTrue result → spec.IsRangeTest subject.now label.now test.now }
 {
-    let [first, dots, last] = label else {
-        return false;
-    };
-    let (Some(low), Some(high)) = (address_of(first), address_of(last)) else {
-        return false;
-    };
-    dots.is(Symbol::DotDot)
-        && is_free(Range { low, high }, parts)
-        && is_between(subject, first, last, test)
+    match label {
+        [low, dots, high] => {
+            is_address(low.kind)
+                && dots.is(Symbol::DotDot)
+                && is_address(high.kind)
+                && is_between(subject, low, high, test)
+        }
+        _ => false,
+    }
 }
 
 /// Whether a label of one address or range is tested.
-fn is_one_test(
-    subject: &[Word<'_>],
-    parts: &[Word<'_>],
-    label: &[Word<'_>],
-    test: &[Word<'_>],
-) -> bool
-    ensures { IsTrue result → spec.IsOneTest subject.now parts.now label.now test.now }
+fn is_one_test(subject: &[Word<'_>], label: &[Word<'_>], test: &[Word<'_>]) -> bool
+    ensures { IsTrue result → spec.IsOneTest subject.now label.now test.now }
 {
-    is_equal_test(subject, parts, label, test) || is_range_test(subject, parts, label, test)
+    is_equal_test(subject, label, test) || is_range_test(subject, label, test)
 }
 
 /// The label and the test behind the first address or range, if that is tested.
 fn without_first<'w, 'a>(
     subject: &[Word<'_>],
-    parts: &[Word<'_>],
     label: &'w [Word<'a>],
     test: &'w [Word<'a>],
 ) -> Option<(&'w [Word<'a>], &'w [Word<'a>])>
-    ensures { IfSome result (λ left. spec.IsFirstTest subject.now parts.now label.now test.now left.0.now left.1.now) }
+    ensures { IfSome result (λ left. spec.IsFirstTest subject.now label.now test.now left.0.now left.1.now) }
 {
     let len = label.iter().position(|word| word.is(Symbol::Comma))?;
     let (one, labels) = split(label, len)?;
@@ -217,10 +169,7 @@ fn without_first<'w, 'a>(
     let len = test.iter().position(|word| word.is(Symbol::Or))?;
     let (first, tests) = split(test, len)?;
     let (operator, left) = tests.split_first()?;
-    if comma.is(Symbol::Comma)
-        && operator.is(Symbol::Or)
-        && is_one_test(subject, parts, one, first)
-    {
+    if comma.is(Symbol::Comma) && operator.is(Symbol::Or) && is_one_test(subject, one, first) {
         Some((others, left))
     } else {
         None
@@ -228,27 +177,37 @@ fn without_first<'w, 'a>(
 }
 
 /// Whether a label is tested.
-fn are_tests<'w, 'a>(
-    subject: &[Word<'_>],
-    parts: &[Word<'_>],
-    label: &'w [Word<'a>],
-    test: &'w [Word<'a>],
-) -> bool
-    ensures { IsTrue result → spec.AreSomeTests subject.now parts.now label.now test.now }
+fn are_tests<'w, 'a>(subject: &[Word<'_>], label: &'w [Word<'a>], test: &'w [Word<'a>]) -> bool
+    ensures { IsTrue result → spec.AreSomeTests subject.now label.now test.now }
 {
     let (_, mut labels) = label.split_at(0);
     let (_, mut tests) = test.split_at(0);
     for _ in 0..label.len() {
-        if is_one_test(subject, parts, labels, tests) {
+        if is_one_test(subject, labels, tests) {
             return true;
         }
-        let Some((others, left)) = without_first(subject, parts, labels, tests) else {
+        let Some((others, left)) = without_first(subject, labels, tests) else {
             return false;
         };
         labels = others;
         tests = left;
     }
     false
+}
+
+/// Whether no address of a label is in a label of other parts.
+fn is_apart(label: &[Word<'_>], parts: &[Word<'_>]) -> bool {
+    for at in 0..label.len() {
+        let is_range = is_at(label, at.saturating_add(1), Symbol::DotDot);
+        let to = if is_range { at.saturating_add(2) } else { at };
+        let (Some(low), Some(high)) = (label.get(at), label.get(to)) else {
+            return false;
+        };
+        if is_address(low.kind) && !is_free(low, high, parts) {
+            return false;
+        }
+    }
+    true
 }
 
 /// The commands of the part of a `case` for all other values.
@@ -328,7 +287,7 @@ fn commands_len(words: &[Word<'_>]) -> usize {
         if depth == 0 && word.is(Symbol::Colon) {
             return len;
         }
-        depth = depth_behind(depth, &word).unwrap_or(0);
+        depth = depth_behind(depth, word.kind).unwrap_or(0);
         if depth == 0 && (word.is(Symbol::Semicolon) || word.is(Symbol::RightBrace)) {
             len = at.saturating_add(1);
         }
@@ -529,7 +488,8 @@ pub fn is_case_taken<'w, 'a>(
     let Some((test, block, rest)) = tested(new, made.commands.len()) else {
         return false;
     };
-    are_tests(subject, made.after, made.label, test)
+    are_tests(subject, made.label, test)
+        && is_apart(made.label, made.after)
         && is_block(made.commands, block)
         && is_otherwise(subject, made.before, made.after, rest, back)
 }

@@ -1,5 +1,5 @@
 //! Functions without parameters: whether what is written for one means the same.
-ghost use Rattle.std.specs.Prelude.{◌≡◌, ◌≢◌, [], ◌∷◌, All, IfSome, IsTrue, codes};
+ghost use Rattle.std.specs.Prelude.{◌≡◌, ◌≢◌, ◌↔◌, [], ◌∷◌, All, IfSome, IsTrue, codes};
 ghost use Rattle.bird_import.specs.Functions as spec;
 ghost use Rattle.bird_import.specs.Rules.{Is, IsForeign};
 ghost use Rattle.bird_import.specs.declared.word.Word.{Word as TheWord};
@@ -278,12 +278,19 @@ pub fn function_of<'w, 'a>(words: &'w [Word<'a>]) -> Option<Function<'w, 'a>>
     }
 }
 
+/// Whether two words that follow one another declare a variable.
+fn is_declaration(kind: &Word<'_>, name: &Word<'_>) -> bool
+    ensures { IsTrue result ↔ spec.IsDeclaration kind.now name.now }
+{
+    is_kind(kind.kind) && name.is_name()
+}
+
 /// Whether no variable is declared among some words.
 fn declares_nothing(words: &[Word<'_>]) -> bool
     ensures { IsTrue result → spec.DeclaresNothing words.now }
 {
     for at in 1..words.len() {
-        if is_kind(words[at - 1].kind) && words[at].is_name() {
+        if is_declaration(&words[at - 1], &words[at]) {
             return false;
         }
     }

@@ -1,7 +1,6 @@
 //! Variables that are sets: whether the set is written in the right places.
-ghost use Rattle.std.specs.Prelude.{◌≡◌, ◌++◌, List, IfSome, IsTrue};
+ghost use Rattle.std.specs.Prelude.{◌≡◌, [], IfSome, IsTrue};
 ghost use Rattle.bird_import.specs.Sets as spec;
-ghost use Rattle.bird_import.specs.declared.word.Word.{Word as TheWord};
 
 use crate::blocks::are_commands;
 use crate::functions::stands_alone;
@@ -30,38 +29,47 @@ fn stands_for(name: &[u8], set: &[Word<'_>], word: &Word<'_>, written: &[Word<'_
     }
 }
 
-/// The words behind those that stand for a word.
-fn behind_word<'w, 'a>(
+/// The words behind the first one, and those behind what stands for it.
+fn without_word<'w, 'a>(
     name: &[u8],
     set: &[Word<'_>],
-    word: &Word<'_>,
+    words: &'w [Word<'a>],
     written: &'w [Word<'a>],
-) -> Option<&'w [Word<'a>]>
-    ensures { IfSome result (λ others. (first : List TheWord) × (written.now ≡ first ++ others.now)
-        × spec.StandsFor name.now set.now word.now first) }
+) -> Option<(&'w [Word<'a>], &'w [Word<'a>])>
+    ensures { IfSome result (λ left. spec.IsFirstReplaced name.now set.now words.now written.now left.0.now left.1.now) }
 {
+    let (word, later) = words.split_first()?;
     let len = if word.is_named(name) { set.len() } else { 1 };
     let (first, others) = split(written, len)?;
-    if stands_for(name, set, word, first) { Some(others) } else { None }
+    if stands_for(name, set, word, first) { Some((later, others)) } else { None }
+}
+
+/// Whether no word is among some, nor among others.
+fn are_both_empty(words: &[Word<'_>], others: &[Word<'_>]) -> bool
+    ensures { IsTrue result → (words.now ≡ []) × (others.now ≡ []) }
+{
+    words.is_empty() && others.is_empty()
 }
 
 /// Whether words are written with a set in the place of each word of a name.
 fn is_replaced<'w, 'a>(
     name: &[u8],
-    set: &[Word<'a>],
-    words: &[Word<'a>],
+    set: &[Word<'_>],
+    words: &'w [Word<'a>],
     written: &'w [Word<'a>],
 ) -> bool
     ensures { IsTrue result → spec.IsReplaced name.now set.now words.now written.now }
 {
+    let (_, mut left) = words.split_at(0);
     let (_, mut rest) = written.split_at(0);
-    for word in words {
-        let Some(others) = behind_word(name, set, word, rest) else {
+    for _ in 0..words.len() {
+        let Some((later, others)) = without_word(name, set, left, rest) else {
             return false;
         };
+        left = later;
         rest = others;
     }
-    rest.is_empty()
+    are_both_empty(left, rest)
 }
 
 /// Whether no word of a name is among some words.
