@@ -1,4 +1,4 @@
--- Explanations that are cut.
+-- Explanations and warnings that are cut.
 use Rattle.std.proofs.Common.{◌≡◌, ℕ, List, Option, sym, subst}
 use Rattle.filter_source.specs.declared.diagnosis.Diagnosis.{Diagnosis}
 use Rattle.line_protocol.specs.Runs.{AppendsFront}
@@ -6,6 +6,7 @@ use Rattle.line_protocol.specs.declared.faults.StreamFault.{StreamFault}
 use Rattle.line_protocol.specs.declared.faults.StreamFault.TheVariants.{Write}
 use Rattle.filter_tools.specs.Explanations.{IsExplanation}
 use Rattle.filter_tools.specs.Telling.{IsCutExplanation}
+use Rattle.filter_tools.specs.Warnings.{MayBeWarnings, IsCutWarning}
 
 -- an explanation that a writer cut
 pub cut_explanation : (fault : StreamFault) (name text : List ℕ) (told : Diagnosis) (out shown : List ℕ) (held holds : Option (List ℕ))
@@ -14,3 +15,10 @@ pub cut_explanation : (fault : StreamFault) (name text : List ℕ) (told : Diagn
 cut_explanation fault name text told out shown held holds is same explains cut =
     subst (λ (f : StreamFault). IsCutExplanation f name text told held holds) (sym is)
     (out, explains, subst (λ (s : List ℕ). AppendsFront held holds s) same cut)
+
+-- warnings that a writer cut
+pub cut_warning : (fault : StreamFault) (name text out shown : List ℕ) (held holds : Option (List ℕ))
+    → fault ≡ Write → shown ≡ out → MayBeWarnings name text out → AppendsFront held holds shown → IsCutWarning fault name text held holds
+cut_warning fault name text out shown held holds is same warns cut =
+    subst (λ (f : StreamFault). IsCutWarning f name text held holds) (sym is)
+    (out, warns, subst (λ (s : List ℕ). AppendsFront held holds s) same cut)

@@ -7,3 +7,4 @@ mod Rows
 pub mod HeadWords
 pub mod Harmless
 pub mod Indents
+mod Warned

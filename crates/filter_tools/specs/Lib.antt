@@ -5,6 +5,7 @@ pub mod HeadWords
 pub mod Ranges
 pub mod Explanations
 pub mod Telling
+pub mod Warnings
 pub mod RouteOfSize
 pub mod Filtering
 pub mod Listing

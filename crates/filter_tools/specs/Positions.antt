@@ -3,7 +3,7 @@ use Rattle.std.specs.Prelude.{◌≡◌, ℕ, ◌+◌, ◌*◌, ◌<◌, ◌≤�
 use Rattle.filter_tools.specs.Places.{column_at, line_at}
 use Rattle.filter_tools.specs.declared.position.Position.{Position}
 
--- This is the position of a byte of a text, and of its end.
+-- This is the position of a byte of a text, or of its end. Both numbers fit: neither exceeds the number of bytes before it and one.
 pub record IsPosition (text : List ℕ) (at : ℕ) (position : Position) : Type 0 where
   pub line : position.line ≡ line_at text at
   pub column : position.column ≡ column_at text at

@@ -6,6 +6,8 @@ mod explanation;
 mod filter;
 mod finding;
 mod head_word;
+mod host_bit_scan;
+mod host_bits;
 mod laws;
 mod listing;
 mod named;

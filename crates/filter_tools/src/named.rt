@@ -4,11 +4,14 @@ ghost use Rattle.std.specs.Io.KnownBytes.{Appends};
 ghost use Rattle.filter_commands.specs.Evaluation.{IsCut};
 ghost use Rattle.filter_commands.specs.Faults.{stream_fault};
 ghost use Rattle.filter_source.specs.declared.diagnosis.Diagnosis.{Diagnosis as TheDiagnosis};
-ghost use Rattle.filter_tools.specs.Naming.{ChecksNamed, ChecksNamedOff, IsCutTelling, ListsNamed, ListsNamedOff, TellsInWords, TellsOf, named_refusal};
+ghost use Rattle.filter_tools.specs.Naming.{ChecksNamed, ChecksNamedOff, IsCutChecked, IsCutTelling, IsCutWhere, ListsNamed, ListsNamedOff};
+ghost use Rattle.filter_tools.specs.Naming.{TellsChecked, TellsInWords, TellsOf, WarnsWhere, named_refusal};
 ghost use Rattle.filter_tools.specs.Telling.{Explains, IsCutExplanation};
+ghost use Rattle.filter_tools.specs.Warnings.{IsCutWarning, Warns};
 
 use crate::explanation::explain;
 use crate::filter::refusal_line;
+use crate::host_bits::warnings;
 use crate::listing::write_told_listing;
 use crate::shown::push_shown;
 use filter_commands::{ProgramFault, write_report};
@@ -95,8 +98,62 @@ pub fn tell_refusal<E: Write>(
     }
 }
 
+/// Warns of what a filter's text of this name writes otherwise than it is read.
+fn warn<E: Write>(
+    alloc: Global,
+    errors: &mut E,
+    name: &[u8],
+    text: &[u8],
+) -> Result<(), ProgramFault>
+    ensures ok { OnOk result (Warns name.now text.now (E.contents errors.old) (E.contents errors.new)) }
+    ensures err { IfErr result (λ fault. IsCutWarning (stream_fault fault) name.now text.now (E.contents errors.old) (E.contents errors.new)) }
+{
+    let lines = warnings(alloc, name, text)?;
+    write_text(errors, lines.as_slice())?;
+    Ok(())
+}
+
+/// Warns so, if that is wanted.
+fn warn_where<E: Write>(
+    alloc: Global,
+    errors: &mut E,
+    name: &[u8],
+    text: &[u8],
+    is_warned: bool,
+) -> Result<(), ProgramFault>
+    ensures ok { OnOk result (WarnsWhere is_warned name.now text.now (E.contents errors.old) (E.contents errors.new)) }
+    ensures err { IfErr result (λ fault. IsCutWhere (stream_fault fault) is_warned name.now text.now (E.contents errors.old) (E.contents errors.new)) }
+{
+    if is_warned {
+        warn(alloc, errors, name, text)
+    } else {
+        Ok(())
+    }
+}
+
+/// Tells why a source of this name is refused, if it is, as `tell_refusal` does, and warns of a filter that is not, where words are told.
+fn tell_checked<E: Write>(
+    alloc: Global,
+    errors: &mut E,
+    name: &[u8],
+    text: &[u8],
+    told: &Option<Diagnosis>,
+    is_code: bool,
+    is_explained: bool,
+) -> Result<(), ProgramFault>
+    ensures ok { OnOk result (TellsChecked is_code is_explained name.now text.now told.now (E.contents errors.old) (E.contents errors.new)) }
+    ensures err { IfErr result (λ fault. IsCutChecked (stream_fault fault) is_code is_explained name.now text.now told.now
+        (E.contents errors.old) (E.contents errors.new)) }
+{
+    match told {
+        None => warn_where(alloc, errors, name, text, is_explained && !is_code),
+        Some(_) => tell_refusal(alloc, errors, name, text, told, is_explained),
+    }
+}
+
 /// Writes the report on a source, and tells on `errors` why it is refused, if it is: in words where `is_explained` says so, and
-/// otherwise by its name and its refusal. Returns what is told of the refusal.
+/// otherwise by its name and its refusal. Where words are told of a filter that is not refused, a line warns of each prefix with host
+/// bits, bits past its length, up to 20 of them. Returns what is told of the refusal.
 pub fn check_named<W: Write, E: Write>(
     alloc: Global,
     text: &[u8],
@@ -113,7 +170,7 @@ pub fn check_named<W: Write, E: Write>(
         (W.contents writer.old) (W.contents writer.new) (E.contents errors.old) (E.contents errors.new)) }
 {
     let told = write_report(alloc, text, writer, size, is_code)?;
-    tell_refusal(alloc, errors, name, text, &told, is_explained)?;
+    tell_checked(alloc, errors, name, text, &told, is_code, is_explained)?;
     Ok(told)
 }
 
