@@ -384,7 +384,7 @@ was refused; 2 if the command line is wrong; 3 if a fault ended the run.
 /// The command `explain`.
 pub fn explain_command<'a>(alloc: Global) -> Result<Command<'a>, AllocError> {
     Command::new(alloc, "explain")
-        .about("Say what a code means, with an example that earns it, and how to mend it")
+        .about("Explain a refusal code, with an example and a fix")
         .arg(explained_code(alloc))
 }
 

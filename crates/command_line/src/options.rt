@@ -92,7 +92,7 @@ pub fn explain_option<'a>(alloc: Global) -> Arg<'a> {
         alloc,
         "explain",
         "WHEN",
-        "Say in words on standard error why something is refused, with its line and column: always, never, or auto (the default), which is where standard error is a terminal, and of files that are named",
+        "When to say on standard error why something is refused, with its line and column; auto, the default, does so on a terminal and for files that are named",
     )
     .value_parser(ValueParser::Names(&["auto", "always", "never"]))
 }
