@@ -1,4 +1,5 @@
 pub mod Bodies
+pub mod Keeping
 pub mod Labelling
 pub mod Lists
 pub mod Names

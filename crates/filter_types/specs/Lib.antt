@@ -1,5 +1,6 @@
 -- What callers cite.
 pub mod Codes
+pub mod Kept
 pub mod Kinds
 pub mod Labels
 pub mod Table

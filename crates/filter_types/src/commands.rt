@@ -1,9 +1,12 @@
 //! The names and kinds of commands.
 
-ghost use Rattle.std.specs.Prelude.{◌≡◌, Some, map};
+ghost use Rattle.std.specs.Prelude.{◌≡◌, [], ◌∷◌, IfErr, Some, map};
+ghost use Rattle.filter_parser.specs.Placed.{command_kept, expr_kept, joined, part_kept};
+ghost use Rattle.filter_parser.specs.Places.{expr_place};
 ghost use Rattle.filter_parser.specs.Syntax.{view};
 ghost use Rattle.filter_parser.specs.SyntaxCommands.{commands_of, parts_of, view_command, view_decl, view_part, view_target};
 ghost use Rattle.filter_types.specs.Answers.{AnswersKind, DoPartsFit, Judges};
+ghost use Rattle.filter_types.specs.Kept.{IsAt};
 ghost use Rattle.filter_types.specs.Kinds.{KindsFit, KindsFitAll, HasSameKind, target_kind, kind_in};
 ghost use Rattle.filter_types.specs.Table.{argument_kind, condition_kind};
 
@@ -17,7 +20,8 @@ use std::alloc::Global;
 
 /// The kind of what an assignment sets.
 fn target_kind(at: usize, target: &Target, variables: &[Decl]) -> Result<Kind, TypeFault>
-    ensures { AnswersKind result (target_kind (map view_decl variables.now) (view_target target.now)) }
+    ensures kind { AnswersKind result (target_kind (map view_decl variables.now) (view_target target.now)) }
+    ensures placed { IfErr result (IsAt (Some at ∷ [])) }
 {
     match target {
         Target::Name(name) => resolve(at, name, variables),
@@ -28,7 +32,8 @@ fn target_kind(at: usize, target: &Target, variables: &[Decl]) -> Result<Kind, T
 
 /// Judges an operand where a kind is expected.
 fn check_kind(operand: Operand, expected: Kind) -> Result<(), TypeFault>
-    ensures { Judges result (operand.entry.kind ≡ expected) }
+    ensures judged { Judges result (operand.entry.kind ≡ expected) }
+    ensures placed { IfErr result (IsAt (Some (expr_place operand.entry.expr.now) ∷ [])) }
 {
     if operand.kind == expected {
         Ok(())
@@ -39,7 +44,8 @@ fn check_kind(operand: Operand, expected: Kind) -> Result<(), TypeFault>
 
 /// Judges the condition of an `if`.
 fn check_test(test: &Expr, variables: &[Decl]) -> Result<(), TypeFault>
-    ensures { Judges result (kind_in (map view_decl variables.now) (view test.now) ≡ Some condition_kind) }
+    ensures judged { Judges result (kind_in (map view_decl variables.now) (view test.now) ≡ Some condition_kind) }
+    ensures placed { IfErr result (IsAt (expr_kept test.now)) }
 {
     let kind = kind_of(test, variables)?;
     check_kind(Operand { expr: test, kind }, Kind::Bool)
@@ -52,8 +58,9 @@ fn check_assignment(
     value: &Expr,
     variables: &[Decl],
 ) -> Result<(), TypeFault>
-    ensures { Judges result (HasSameKind (target_kind (map view_decl variables.now) (view_target target.now))
+    ensures judged { Judges result (HasSameKind (target_kind (map view_decl variables.now) (view_target target.now))
         (kind_in (map view_decl variables.now) (view value.now))) }
+    ensures placed { IfErr result (IsAt (Some at ∷ expr_kept value.now)) }
 {
     let expected = target_kind(at, target, variables)?;
     let kind = kind_of(value, variables)?;
@@ -62,7 +69,8 @@ fn check_assignment(
 
 /// Judges the argument of a `case`.
 fn check_argument(argument: &Expr, variables: &[Decl]) -> Result<(), TypeFault>
-    ensures { Judges result (kind_in (map view_decl variables.now) (view argument.now) ≡ Some argument_kind) }
+    ensures judged { Judges result (kind_in (map view_decl variables.now) (view argument.now) ≡ Some argument_kind) }
+    ensures placed { IfErr result (IsAt (expr_kept argument.now)) }
 {
     let kind = kind_of(argument, variables)?;
     check_kind(
@@ -81,7 +89,8 @@ pub(crate) fn check_commands(
     commands: &[Command],
     variables: &[Decl],
 ) -> Result<(), TypeFault>
-    ensures { Judges result (KindsFitAll (map view_decl variables.now) (commands_of (map view_command commands.now))) }
+    ensures judged { Judges result (KindsFitAll (map view_decl variables.now) (commands_of (map view_command commands.now))) }
+    ensures placed { IfErr result (IsAt (joined (map command_kept commands.now))) }
 {
     for command in commands {
         check_command(alloc, command, variables)?;
@@ -96,7 +105,8 @@ fn check_parts(
     parts: &[(Label, Vec<Command>)],
     variables: &[Decl],
 ) -> Result<(), TypeFault>
-    ensures { Judges result (DoPartsFit (map view_decl variables.now) (parts_of (map view_part parts.now))) }
+    ensures judged { Judges result (DoPartsFit (map view_decl variables.now) (parts_of (map view_part parts.now))) }
+    ensures placed { IfErr result (IsAt (joined (map part_kept parts.now))) }
 {
     let shared = first_shared_label(alloc, parts)?;
     for (number, (label, commands)) in parts.iter().enumerate() {
@@ -111,7 +121,8 @@ fn check_parts(
 /// Judges a command.
 #[cycle(command)]
 fn check_command(alloc: Global, command: &Command, variables: &[Decl]) -> Result<(), TypeFault>
-    ensures { Judges result (KindsFit (map view_decl variables.now) (view_command command.now)) }
+    ensures judged { Judges result (KindsFit (map view_decl variables.now) (view_command command.now)) }
+    ensures placed { IfErr result (IsAt (command_kept command.now)) }
 {
     match command {
         Command::Empty(_) | Command::Accept(_, _) | Command::Reject(_, _) => Ok(()),

@@ -1,9 +1,12 @@
 //! The kinds of expressions.
 
-ghost use Rattle.std.specs.Prelude.{map};
+ghost use Rattle.std.specs.Prelude.{[], ◌∷◌, IfErr, Some, map};
+ghost use Rattle.filter_parser.specs.Placed.{expr_kept, joined, kept_more, operand_kept};
+ghost use Rattle.filter_parser.specs.Places.{expr_place};
 ghost use Rattle.filter_parser.specs.Syntax.{view, view_more};
 ghost use Rattle.filter_parser.specs.SyntaxCommands.{view_decl};
 ghost use Rattle.filter_types.specs.Answers.{AnswersKind};
+ghost use Rattle.filter_types.specs.Kept.{IsAt};
 ghost use Rattle.filter_types.specs.Kinds.{kind_in};
 ghost use Rattle.filter_types.specs.Turns.{kind_after, kind_with};
 
@@ -14,7 +17,8 @@ use filter_parser::{Decl, Expr, Kind, Op, Suffix};
 
 /// The kind of an operand with the suffixes after it.
 fn kind_with_suffixes(operand: Operand, suffixes: &[Suffix]) -> Result<Kind, TypeFault>
-    ensures { AnswersKind result (kind_after operand.entry.kind suffixes.now) }
+    ensures kind { AnswersKind result (kind_after operand.entry.kind suffixes.now) }
+    ensures placed { IfErr result (IsAt (Some (expr_place operand.entry.expr.now) ∷ [])) }
 {
     let mut operand = operand;
     for suffix in suffixes {
@@ -30,7 +34,8 @@ fn kind_of_chain(
     first: Operand,
     variables: &[Decl],
 ) -> Result<Kind, TypeFault>
-    ensures { AnswersKind result (kind_with (map view_decl variables.now) first.entry.kind (view_more more.now)) }
+    ensures kind { AnswersKind result (kind_with (map view_decl variables.now) first.entry.kind (view_more more.now)) }
+    ensures placed { IfErr result (IsAt (Some (expr_place first.entry.expr.now) ∷ joined (map operand_kept (kept_more more.now)))) }
 {
     let mut kind = first.kind;
     for (_, op, right) in more {
@@ -54,7 +59,8 @@ fn kind_of_chain(
 /// The kind of an expression.
 #[cycle(kinds)]
 pub(crate) fn kind_of(expr: &Expr, variables: &[Decl]) -> Result<Kind, TypeFault>
-    ensures { AnswersKind result (kind_in (map view_decl variables.now) (view expr.now)) }
+    ensures kind { AnswersKind result (kind_in (map view_decl variables.now) (view expr.now)) }
+    ensures placed { IfErr result (IsAt (expr_kept expr.now)) }
 {
     match expr {
         Expr::Number(_, _) => Ok(Kind::Int),

@@ -3,6 +3,7 @@
 ghost use Rattle.std.specs.Prelude.{◌≡◌, ◌≢◌, IfOk, IfErr};
 ghost use Rattle.filter_parser.specs.SyntaxText.{view_filter};
 ghost use Rattle.filter_types.specs.declared.fault.TypeFault.TheVariants as fault;
+ghost use Rattle.filter_types.specs.Kept.{IsAt, filter_kept};
 ghost use Rattle.filter_types.specs.Kinds.{IsTyped, number_of};
 
 use crate::commands::check_commands;
@@ -60,6 +61,7 @@ pub fn check(alloc: Global, filter: Filter) -> Result<Typed, TypeFault>
     ensures same { IfOk result (λ typed. typed ≡ filter) }
     ensures typed { IfOk result (λ _. IsTyped (view_filter filter)) }
     ensures refused { IfErr result (λ why. why ≢ fault.Memory → IsTyped (view_filter filter) → ⊥) }
+    ensures placed { IfErr result (IsAt (filter_kept filter)) }
 {
     check_variables(filter.decls())?;
     check_commands(alloc, filter.body(), filter.decls())?;
