@@ -22,7 +22,7 @@ use std::rt::Env;
 use std::{env, io};
 
 /// The version of the project, and the kit that it is written for, as `rt version` says.
-const VERSION: &str = "0.1.0 (rattle-kit-13b logic dac8208d650f15bf)";
+const VERSION: &str = "0.1.0 (rattle-kit-13f logic dac8208d650f15bf)";
 
 /// The exit status of a run whose words were wrong.
 const WRONG_WORDS: u8 = 2;
