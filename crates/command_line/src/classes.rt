@@ -3,7 +3,7 @@ use refusal_texts::explanation_of;
 use std::alloc::{AllocError, Global};
 
 /// The codes that begin with one letter.
-#[derive(Clone, Copy, Debug)]
+#[derive(Clone, Copy)]
 struct Class {
     /// The letter.
     letter: &'static str,

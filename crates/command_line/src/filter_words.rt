@@ -7,7 +7,7 @@ use operator_cmds::is_name;
 use std::alloc::{AllocError, Global};
 
 /// A filter that a script is started with.
-#[derive(Debug, PartialEq, Eq, Drop)]
+#[derive(Drop)]
 pub struct NamedFile {
     /// Its name.
     pub name: String,
@@ -16,7 +16,7 @@ pub struct NamedFile {
 }
 
 /// What is wrong with a word of `--filter`.
-#[derive(Clone, Copy, Debug)]
+#[derive(Clone, Copy)]
 pub enum WrongFilter<'a> {
     /// It is not `NAME=FILE`, with a name as scripts have them.
     Word(&'a str),

@@ -3,8 +3,10 @@
 
 mod aid_words;
 mod classes;
+mod commands;
 mod diff_words;
 mod filter_words;
+mod help;
 mod options;
 mod router_words;
 mod telling;

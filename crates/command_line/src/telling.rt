@@ -5,7 +5,7 @@ ghost use Rattle.command_line.specs.Telling.{is_explained};
 use clap::ArgMatches;
 
 /// What the option `--explain` says.
-#[derive(Clone, Copy, Debug, PartialEq, Eq)]
+#[derive(Clone, Copy)]
 pub enum Telling {
     /// Where people read: on a terminal, and of files that are named.
     Auto,

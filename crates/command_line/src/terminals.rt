@@ -4,7 +4,7 @@ use crate::filter_words::NamedFile;
 use crate::words::Words;
 
 /// Which of the standard streams that people type into or read are terminals.
-#[derive(Clone, Copy, Debug, PartialEq, Eq)]
+#[derive(Clone, Copy)]
 pub struct Terminals {
     /// Standard input is one.
     pub input: bool,
@@ -14,12 +14,12 @@ pub struct Terminals {
 
 /// Whether standard input is among these sources.
 fn has_input(sources: &[Source]) -> bool {
-    sources.iter().any(|source| *source == Source::Input)
+    sources.iter().any(|source| source.is_input())
 }
 
 /// Whether one of these filters is on standard input.
 fn reads_filter(filters: &[NamedFile]) -> bool {
-    filters.iter().any(|named| named.source == Source::Input)
+    filters.iter().any(|named| named.source.is_input())
 }
 
 /// Whether what is asked for reads standard input.
@@ -27,11 +27,9 @@ fn reads_input(words: &Words) -> bool {
     match words {
         Words::Asked(_) | Words::Router(_) => true,
         Words::Aided(Aid::Check { sources, .. }) => has_input(sources.as_slice()),
-        Words::Aided(Aid::Diff { old, new, .. }) => {
-            *old == Source::Input || *new == Source::Input
-        }
+        Words::Aided(Aid::Diff { old, new, .. }) => { old.is_input() || new.is_input() }
         Words::Aided(Aid::Run { how, source }) => {
-            *source == Source::Input || reads_filter(how.filters.as_slice())
+            source.is_input() || reads_filter(how.filters.as_slice())
         }
         Words::Aided(Aid::RunJoined { how, sources }) => {
             has_input(sources.as_slice()) || reads_filter(how.filters.as_slice())
@@ -41,7 +39,7 @@ fn reads_input(words: &Words) -> bool {
             | Aid::List { source, .. }
             | Aid::Replay { source }
             | Aid::Script { source, .. },
-        ) => { *source == Source::Input }
+        ) => source.is_input(),
         Words::Aided(Aid::Filter { .. }) => true,
         Words::Aided(Aid::Explain { .. }) | Words::Network | Words::Shown(_) => false,
     }

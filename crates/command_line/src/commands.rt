@@ -1,0 +1,440 @@
+//! The commands of the program, each with its options and arguments, and their help.
+use crate::help::help_of;
+use crate::options::{Kind, Parameter, arg_of};
+use clap::{Arg, Command};
+use std::alloc::{AllocError, Global};
+
+/// The version of the project, and the kit that it is written for, as `rt version` says.
+const VERSION: &str = "0.1.0 (rattle-kit-13f logic dac8208d650f15bf)";
+
+/// The program, with all commands.
+pub fn program<'a>(alloc: Global) -> Result<Command<'a>, AllocError> {
+    let mut commands = Vec::new(alloc);
+    for (name, about) in &COMMANDS {
+        commands.push(command_of(alloc, *name, *about)?)?;
+    }
+    Command::new(alloc, "ncroute")
+        .about("Check route filters, take routes through their code, and run a router with them")
+        .version(VERSION)
+        .subcommand_required(true)
+        .arg_required_else_help(true)
+        .subcommands(commands)
+}
+
+/// A command as the parser of words knows it.
+fn command_of<'a>(
+    alloc: Global,
+    name: &'static str,
+    about: &'static str,
+) -> Result<Command<'a>, AllocError> {
+    let command = Command::new(alloc, name).about(about);
+    let command = match help_of(name) {
+        Some(help) => command.after_help(help),
+        None => command,
+    };
+    command.args(args_of(alloc, name)?)
+}
+
+/// The options and arguments of a command, in order.
+fn args_of<'a>(alloc: Global, command: &str) -> Result<Vec<Arg<'a>>, AllocError> {
+    let mut args = Vec::new(alloc);
+    for (name, parameter) in &PARAMETERS {
+        if *name == command {
+            args.push(arg_of(alloc, parameter))?;
+        }
+    }
+    Ok(args)
+}
+
+/// The commands and what each does, in the order in which the help shows them.
+static COMMANDS: [(&str, &str); 13] = [
+    ("check", "Compile a filter, and verify its code"),
+    (
+        "diff",
+        "Compare two filters on all routes, and say where they differ",
+    ),
+    (
+        "explain",
+        "Say what a code means, with an example that earns it, and how to mend it",
+    ),
+    ("filter", "Verify a filter, and take routes through it"),
+    (
+        "import",
+        "Take a configuration of BIRD apart, and verify each filter of it",
+    ),
+    (
+        "list",
+        "List the code of a filter, with what the verifier knows before each instruction",
+    ),
+    (
+        "eval",
+        "Take routes through a code file, and print the verdict of each",
+    ),
+    (
+        "rewrite",
+        "Write a code file in the newer form, or in the older one",
+    ),
+    (
+        "domain",
+        "Compute the routes of a whole domain, by a script of commands",
+    ),
+    (
+        "net",
+        "Run three routers in a ring, and replay what happened at each",
+    ),
+    (
+        "replay",
+        "Replay the history of a router, and say whether each reply in it is right",
+    ),
+    (
+        "router",
+        "Run a router that talks to its neighbours over files, as FIFOs",
+    ),
+    (
+        "run",
+        "Run a router by a script of commands, and answer each of them",
+    ),
+];
+
+/// The options and arguments of each command, in the order in which its help shows them.
+static PARAMETERS: [(&str, Parameter); 42] = [
+    ("check", SIZE),
+    ("check", CODE),
+    ("check", NAMES),
+    ("check", QUIET),
+    ("check", EXPLAIN),
+    ("check", CHECKED),
+    ("diff", OPTIONAL_SIZE),
+    ("diff", LIMIT),
+    ("diff", EXPLAIN),
+    ("diff", OLD_FILE),
+    ("diff", NEW_FILE),
+    ("explain", EXPLAINED),
+    ("filter", SIZE),
+    ("filter", EXPLAIN),
+    ("filter", TRIED),
+    ("import", OPTIONAL_SIZE),
+    ("import", OUT),
+    ("import", IMPORTED),
+    ("list", VERIFIED_SIZE),
+    ("list", CODE),
+    ("list", EXPLAIN),
+    ("list", LISTED),
+    ("rewrite", OLD),
+    ("domain", EXPLAIN),
+    ("domain", SCRIPT),
+    ("replay", REPLAYED),
+    ("router", ROUTER_SIZE),
+    ("router", NODE),
+    ("router", HISTORY_LIMIT),
+    ("router", RETRY),
+    ("router", PREFIX),
+    ("router", NAMED_FILTER),
+    ("router", IMPORT),
+    ("router", EXPORT),
+    ("router", LINK),
+    ("router", SAVE),
+    ("router", STAY),
+    ("run", FILTER),
+    ("run", SAVE),
+    ("run", STOP),
+    ("run", EXPLAIN),
+    ("run", SCRIPTS),
+];
+
+/// The number of nodes of the domain.
+const SIZE: Parameter = Parameter {
+    name: "size",
+    value: "N",
+    help: "The number of nodes of the routing domain (2 to 250)",
+    kind: Kind::Size,
+    is_required: true,
+};
+
+/// A source is a code file.
+const CODE: Parameter = Parameter {
+    name: "code",
+    value: "",
+    help: "Read a code file in hexadecimal in place of a filter",
+    kind: Kind::Flag,
+    is_required: false,
+};
+
+/// The name of its source stands before each line of a report.
+const NAMES: Parameter = Parameter {
+    name: "names",
+    value: "",
+    help: "Begin each line of the output with the name of its file, as `FILE: `",
+    kind: Kind::Flag,
+    is_required: false,
+};
+
+/// Only refusals are written.
+const QUIET: Parameter = Parameter {
+    name: "quiet",
+    value: "",
+    help: "Print nothing but the lines that refuse something",
+    kind: Kind::Letter('q'),
+    is_required: false,
+};
+
+/// A refusal is told in words on standard error.
+const EXPLAIN: Parameter = Parameter {
+    name: "explain",
+    value: "WHEN",
+    help: "Say in words on standard error why something is refused, with its line and column: always, never, or auto (the default), which is where standard error is a terminal, and of files that are named",
+    kind: Kind::When,
+    is_required: false,
+};
+
+/// The files to check.
+const CHECKED: Parameter = Parameter {
+    name: "file",
+    value: "FILE",
+    help: "A file to check in place of standard input; - is standard input",
+    kind: Kind::Arguments,
+    is_required: false,
+};
+
+/// The number of nodes that filters are verified for, which need not be said.
+const OPTIONAL_SIZE: Parameter = Parameter {
+    name: "size",
+    value: "N",
+    help: "Verify the filters for a routing domain of N nodes (2 to 250; 16)",
+    kind: Kind::Size,
+    is_required: false,
+};
+
+/// The number of classes of routes after which a comparison ends.
+const LIMIT: Parameter = Parameter {
+    name: "limit",
+    value: "CLASSES",
+    help: "Try at most so many classes of routes (1000000)",
+    kind: Kind::Count,
+    is_required: false,
+};
+
+/// The file of the filter as it was.
+const OLD_FILE: Parameter = Parameter {
+    name: "old",
+    value: "OLD",
+    help: "The file of the filter as it was; - is standard input",
+    kind: Kind::Argument,
+    is_required: true,
+};
+
+/// The file of the filter as it will be.
+const NEW_FILE: Parameter = Parameter {
+    name: "new",
+    value: "NEW",
+    help: "The file of the filter as it will be; - is standard input",
+    kind: Kind::Argument,
+    is_required: true,
+};
+
+/// The code that is explained.
+const EXPLAINED: Parameter = Parameter {
+    name: "code",
+    value: "CODE",
+    help: "A code by which something was refused, as P2, or a letter, whose codes are listed; without it the letters are",
+    kind: Kind::Argument,
+    is_required: false,
+};
+
+/// The file of a filter that is tried.
+const TRIED: Parameter = Parameter {
+    name: "file",
+    value: "FILE",
+    help: "The file of the filter's text",
+    kind: Kind::Argument,
+    is_required: true,
+};
+
+/// The folder of imported filters.
+const OUT: Parameter = Parameter {
+    name: "out",
+    value: "FOLDER",
+    help: "Write each filter into a new file of this folder, which has to be there",
+    kind: Kind::Text,
+    is_required: false,
+};
+
+/// The configuration that is imported.
+const IMPORTED: Parameter = Parameter {
+    name: "file",
+    value: "FILE",
+    help: "The configuration, in place of standard input; - is standard input",
+    kind: Kind::Argument,
+    is_required: false,
+};
+
+/// The number of nodes that a listing is verified for.
+const VERIFIED_SIZE: Parameter = Parameter {
+    name: "size",
+    value: "N",
+    help: "Verify the code for a routing domain of N nodes (2 to 250), and say what is known before each instruction",
+    kind: Kind::Size,
+    is_required: false,
+};
+
+/// The file to list.
+const LISTED: Parameter = Parameter {
+    name: "file",
+    value: "FILE",
+    help: "The file to list in place of standard input; - is standard input",
+    kind: Kind::Argument,
+    is_required: false,
+};
+
+/// A code file is written in the older form.
+const OLD: Parameter = Parameter {
+    name: "old",
+    value: "",
+    help: "Write the older form, NCF1",
+    kind: Kind::Flag,
+    is_required: false,
+};
+
+/// The file of a domain's script.
+const SCRIPT: Parameter = Parameter {
+    name: "file",
+    value: "FILE",
+    help: "The file of the commands in place of standard input; - is standard input",
+    kind: Kind::Argument,
+    is_required: false,
+};
+
+/// The file to replay.
+const REPLAYED: Parameter = Parameter {
+    name: "file",
+    value: "FILE",
+    help: "The text of a history, in place of standard input; - is standard input",
+    kind: Kind::Argument,
+    is_required: false,
+};
+
+/// The number of nodes of a router's domain.
+const ROUTER_SIZE: Parameter = Parameter {
+    name: "size",
+    value: "N",
+    help: "The number of nodes of the routing domain (2 to 250)",
+    kind: Kind::Number,
+    is_required: true,
+};
+
+/// The node that a router is.
+const NODE: Parameter = Parameter {
+    name: "node",
+    value: "ME",
+    help: "The node that the router is, below N",
+    kind: Kind::Number,
+    is_required: true,
+};
+
+/// The most entries of a router's history.
+const HISTORY_LIMIT: Parameter = Parameter {
+    name: "limit",
+    value: "L",
+    help: "The most entries of the history (1 to 1,000,000)",
+    kind: Kind::Number,
+    is_required: false,
+};
+
+/// How long a closed link waits before it is opened again.
+const RETRY: Parameter = Parameter {
+    name: "retry",
+    value: "SECONDS",
+    help: "Open a link that was closed again after so many seconds",
+    kind: Kind::Number,
+    is_required: false,
+};
+
+/// The prefixes of nodes.
+const PREFIX: Parameter = Parameter {
+    name: "prefix",
+    value: "V=PREFIX",
+    help: "The prefix of node V; otherwise it is 10.V.0.0/16",
+    kind: Kind::Texts,
+    is_required: false,
+};
+
+/// The filters of a router.
+const NAMED_FILTER: Parameter = Parameter {
+    name: "filter",
+    value: "NAME=FILE",
+    help: "Give the filter of FILE this name; where one is refused, nothing is started",
+    kind: Kind::Texts,
+    is_required: false,
+};
+
+/// The import filters of a router.
+const IMPORT: Parameter = Parameter {
+    name: "import",
+    value: "W=NAME",
+    help: "The filter of what neighbour W tells",
+    kind: Kind::Texts,
+    is_required: false,
+};
+
+/// The export filters of a router.
+const EXPORT: Parameter = Parameter {
+    name: "export",
+    value: "W=NAME",
+    help: "The filter of what neighbour W is told",
+    kind: Kind::Texts,
+    is_required: false,
+};
+
+/// The links of a router.
+const LINK: Parameter = Parameter {
+    name: "link",
+    value: "W=IN,OUT",
+    help: "Read what neighbour W says from IN, and write what it is told to OUT",
+    kind: Kind::Texts,
+    is_required: false,
+};
+
+/// The file in which a router's history is kept.
+const SAVE: Parameter = Parameter {
+    name: "save",
+    value: "FILE",
+    help: "Keep the router's history in FILE, which must not be there yet; see `ncroute replay`",
+    kind: Kind::Text,
+    is_required: false,
+};
+
+/// A router goes on where its standard input ends.
+const STAY: Parameter = Parameter {
+    name: "stay",
+    value: "",
+    help: "Go on where standard input ends, until the process is ended",
+    kind: Kind::Flag,
+    is_required: false,
+};
+
+/// The filters that a script is started with.
+const FILTER: Parameter = Parameter {
+    name: "filter",
+    value: "NAME=FILE",
+    help: "Give the filter of FILE this name when the domain is set up; a run whose filter is refused ends there",
+    kind: Kind::Texts,
+    is_required: false,
+};
+
+/// A script ends at its first refused line.
+const STOP: Parameter = Parameter {
+    name: "stop",
+    value: "",
+    help: "End at the first refused line, and say on standard error which line that is",
+    kind: Kind::Flag,
+    is_required: false,
+};
+
+/// The files of a router's script.
+const SCRIPTS: Parameter = Parameter {
+    name: "file",
+    value: "FILE",
+    help: "A file of the commands in place of standard input; - is standard input; several are one script, in order",
+    kind: Kind::Arguments,
+    is_required: false,
+};

@@ -1,0 +1,294 @@
+//! What the help of a command says behind its options.
+
+/// What the help of this command says, if it says more than the options do.
+pub fn help_of(command: &str) -> Option<&'static str> {
+    match command {
+        "check" => Some(CHECK_HELP),
+        "diff" => Some(DIFF_HELP),
+        "domain" => Some(DOMAIN_HELP),
+        "eval" => Some(EVAL_HELP),
+        "filter" => Some(FILTER_HELP),
+        "import" => Some(IMPORT_HELP),
+        "list" => Some(LIST_HELP),
+        "net" => Some(NET_HELP),
+        "replay" => Some(REPLAY_HELP),
+        "rewrite" => Some(REWRITE_HELP),
+        "router" => Some(ROUTER_HELP),
+        "run" => Some(RUN_HELP),
+        _ => None,
+    }
+}
+
+/// Of `check`.
+const CHECK_HELP: &str = "\
+Standard input is one filter, or with --code a code file in hexadecimal. Where files are
+named, each of them is, in order; `-` is standard input. Of a file that is refused standard
+error gets the name and the refusal. With --names each line that is printed begins with the
+name of its file, as `FILE: verified 7 2`, and with -q only refusals are printed.
+
+Two lines are printed:
+  code HEX                the filter's code, as `ncroute eval` reads it
+  verified BUDGET DEPTH   the code can never go wrong, takes at most BUDGET steps on
+                          a route, and holds at most DEPTH operands at a time
+For a filter or code that is refused, the last line is `refused CODE AT` instead:
+  P1 to P10   the text is not a filter: a syntax error at byte AT
+  Y1 to Y7    a name, a kind or a label is wrong at byte AT
+  G1, G2      the code would be too long, or have too many sets
+  V1 to V9    instruction AT might go wrong on some route; V8: N is not 2 to 250
+  C1 to C6    not a code file: an error at byte AT
+  O3, O7      not hexadecimal; more than 1,048,576 bytes
+
+Example:
+  echo 'filter up { rip_metric = rip_metric + 2; accept; }' | ncroute check --size 16
+The exit status is 0; 1 if something was refused or a fault ended the run; 2 if
+the command line is wrong.
+";
+
+/// Of `diff`.
+const DIFF_HELP: &str = "\
+OLD and NEW are filters. Both are verified first, as by `ncroute check`. If one is refused,
+standard error says why, and nothing is printed. Routes are all prefixes, with each metric
+from 0 to N.
+
+For each part of the routes on which the filters differ, or may differ, a line is printed:
+  differ PREFIX{LOW,HIGH}, metrics LEAST..MOST: BEFORE | AFTER
+             the routes whose prefix is within PREFIX and has a length from LOW to HIGH, with
+             a metric from LEAST to MOST: OLD does BEFORE with each of them, and NEW AFTER
+  undecided PREFIX{LOW,HIGH}, metrics LEAST..MOST
+             whether they differ on these was not found out within CLASSES
+BEFORE and AFTER are `reject`, `accept METRIC`, or `accept`, which is with the metric received.
+The last line is one of these:
+  same on all routes         there is no other line: the filters do the same
+  same on all other routes   they do the same outside of these parts
+  undecided on COUNT parts   so many parts are undecided; outside of the parts they do the same
+
+Example:
+  sed 's/> 12/> 10/' examples/backup_link.filter | ncroute diff examples/backup_link.filter -
+prints `differ 0.0.0.0/0{0,32}, metrics 8..8: accept 11 | reject`, the same of metric 9 with
+`accept 12`, and `same on all other routes`.
+The exit status is 0 if they are the same on all routes; 1 if they differ; 2 if the command
+line is wrong; 3 if that is undecided, if a filter was refused, or if a fault ended the run, as
+a file that cannot be read.
+";
+
+/// Of `filter`.
+const FILTER_HELP: &str = "\
+The filter is verified first. If it is refused, as by `ncroute check`, the line
+`refused CODE AT` is all that is printed, and no route is answered.
+
+Standard input is lines, each a route: its prefix and the metric that a neighbour sent.
+Empty lines and lines that begin with # are skipped. Each route is answered on standard
+output by what the filter means for it:
+  accept D         the filter accepts it with the metric D
+  reject           the filter rejects it
+  refused O AT     line AT is not a route (O1 words, O2 numbers, O7 length, O8 prefix)
+
+Example:
+  echo '8.8.8.0/24 9' | ncroute filter --size 16 examples/backup_link.filter
+prints `accept 12`. The exit status is 0; 1 if something was refused; 2 if the command
+line is wrong; 3 if a fault ended the run, as a file that cannot be read.
+";
+
+/// Of `import`.
+const IMPORT_HELP: &str = "\
+FILE is a configuration of BIRD 2.0. Its filters are found, with those that a protocol has
+without a name, and each is written in this language: definitions and functions stand where
+they are used. Files that it includes are read. What has no counterpart is left out, and so
+is the whole filter that it stands in: no filter is written that means something else.
+
+For each filter a line is printed:
+  FILE:LINE:COL filter NAME verified BUDGET DEPTH
+                    it is taken; with --out behind its name ` -> FOLDER/NAME.filter`, a new
+                    file with its text and the places that it comes from
+  FILE:LINE:COL filter NAME: WHY: this filter was left out
+                    what stands there is not taken
+
+Example:
+  ncroute import --out filters examples/customers.bird
+The exit status is 0; 1 if something was left out or a fault ended the run; 2 if the command
+line is wrong.
+";
+
+/// Of `list`.
+const LIST_HELP: &str = "\
+Each line is an instruction: its index, its name, where it jumps to, and behind ; the line
+and the column of the text that it comes from. With --size N a line before it says what
+the verifier knows there: the operands on the stack, the top first, and the variables.
+  0..16             an int in this range
+  0..16>=received   one that is at least the metric received
+  bool, ip, prefix  another kind
+  ?                 nothing, or no value
+The last line is then `verified BUDGET DEPTH`, or the listing ends at the instruction that
+is refused, with `refused CODE AT`.
+
+Example:
+  echo 'filter up { rip_metric = rip_metric + 2; accept; }' | ncroute list --size 16
+The exit status is 0; 1 if something was refused; 2 if the command line is wrong;
+3 if a fault ended the run, as a file that cannot be read.
+";
+
+/// Of `eval`.
+const EVAL_HELP: &str = "\
+Standard input is lines. The first is a code file in hexadecimal; each other line is a route:
+its prefix, the metric that a neighbour sent, and the domain's number of nodes (2 to 250).
+Empty lines and lines that begin with # are skipped.
+
+Each route is answered on standard output:
+  accept D         the filter accepts it with the metric D
+  reject           the filter rejects it
+  fault K AT       the code went wrong at instruction AT (K1 to K7)
+  refused O AT     line AT is not a route (O1 words, O2 numbers, O7 length, O8 prefix)
+A first line that is not a code file is refused, and ends the run.
+
+Example:
+  printf '4e4346310000000170\\n10.0.0.0/8 3 8\\n' | ncroute eval
+prints `accept 3`. The exit status is 0; 1 if a line was refused or a fault
+ended the run; 2 if the command line is wrong.
+";
+
+/// Of `rewrite`.
+const REWRITE_HELP: &str = "\
+Standard input is a code file in hexadecimal, of either form. One line is printed: the file of
+the same code in the newer form, NCF2, or with --old in the older one, NCF1. Each code has one
+file in the newer form; in the older one a code with sets of ints has none.
+For input that is refused the line is `refused CODE AT` instead:
+  C1 to C6   not a code file: an error at byte AT
+  C8         the code has sets of ints, which the older form has not
+  O3, O7     not hexadecimal; more than 1,048,576 bytes
+
+Example:
+  echo 4e4346310000000170 | ncroute rewrite
+prints `4e434632000000000170`. The exit status is 0; 1 if the input was refused or a
+fault ended the run; 2 if the command line is wrong.
+";
+
+/// Of `domain`.
+const DOMAIN_HELP: &str = "\
+The input is commands, one a line. Empty lines and lines that begin with # are skipped.
+  domain N               a domain of N nodes (2 to 250), without links
+  prefix V P             P is the prefix of node V; otherwise it is 10.V.0.0/16
+  load NAME TEXT         name a filter: the rest of the line is its text
+  code NAME HEX          name a filter by its code file in hexadecimal
+  link U W, cut U W      U and W are neighbours from now on, or no more
+  import U W NAME        the filter of what U hears from W
+  export U W NAME        the filter of what U tells W
+  route U V              U's route to V when the domain is at rest
+  path U V               the nodes on the way
+  table U                all routes of U
+  draw V                 a picture of the routes to V, for Graphviz
+  mark                   remember all routes
+  changes                the routes that are not what they were at the last mark
+  settle                 have the routers exchange messages until none is left
+
+Each command is answered on standard output before more input is read:
+  ok                     domain, prefix, link, cut, import, export, mark
+  verified BUDGET DEPTH  load, code
+  route D local, route D via W, route D none
+  path U .. V, path none
+  table V:D:W V:D ..     to V at distance D through W
+  changes U:V U:V ..     of U to V
+  settled ROUNDS COUNT   COUNT messages were heard
+  digraph { .. }         draw
+  refused CODE AT        the command was refused, and nothing changed:
+    O1 to O8     the command is wrong (AT is the number of its line)
+    D1 to D4     the domain refuses it (AT is the number of its line)
+    P, Y, G, V   the filter is refused, as `ncroute check` refuses it; C: its code file
+
+Example:
+  printf 'domain 3\\nlink 0 1\\nlink 1 2\\nroute 0 2\\n' | ncroute domain
+prints `ok` three times and `route 2 via 1`. The exit status is 0; 1 if a command
+was refused; 2 if the command line is wrong; 3 if a fault ended the run.
+";
+
+/// Of `net`.
+const NET_HELP: &str = "\
+Three routers are neighbours of one another. Each reads and writes its links in
+threads of their own, 200 turns each, and then replays its whole history. It
+takes about a second, and no input.
+
+Three lines are printed, `node 0 replay ok` to `node 2 replay ok`, or none and a
+fault on standard error: E2 output, E3 memory, J1 or J2 a call that a router
+refused, L3 a router, X1 or X2 sessions or threads that were not run.
+The exit status is 0; 1 if a fault ended the run; 2 if the command line is wrong.
+";
+
+/// Of `replay`.
+const REPLAY_HELP: &str = "\
+FILE is the text of a history, of at most 1,073,741,824 bytes: a line for the router's
+opening, and a line for each entry with the reply that was given. The entries are carried
+out again, in order, and one line is printed:
+  replay ok ENTRIES                   each reply is right, of so many
+  differs AT saved REPLY right REPLY  the reply at position AT is the first that is wrong
+  cut LINE                            line LINE was not written to its end; all before it
+                                      is right
+  refused H1 LINE                     line LINE is not as a history has it
+
+Example:
+  ncroute replay examples/one_neighbour.history
+prints `replay ok 8`. The exit status is 0 for `replay ok`; 1 for the other lines; 2 if the
+command line is wrong; 3 if a fault ended the run, as a file that cannot be read.
+";
+
+/// Of `router`.
+const ROUTER_HELP: &str = "\
+Of two neighbours the one with the lower number opens its OUT first, the other its IN, so
+that FIFOs meet. Each writes a line, `netchange 1 N ME`, and reads the other's. Then the
+neighbour is up, and each line is a message, `V D`: node V is at distance D. When a stream
+ends or has another line, the neighbour is down, and standard error says why.
+
+Standard input has the operator's commands, as `ncroute run` answers them, without
+`network`, `recv` and `take`. `up` and `down` of a node with a link are refused as O9.
+`quit`, or the end of standard input, ends the router.
+
+Example, in two terminals after `mkfifo a b`:
+  ncroute router --size 2 --node 0 --link 1=a,b
+  ncroute router --size 2 --node 1 --link 0=b,a
+The exit status is 0; 1 if a filter was refused or a fault ended the run or the saving; 2 if
+the command line is wrong.
+";
+
+/// Of `run`.
+const RUN_HELP: &str = "\
+The input is commands, one a line. Empty lines and lines that begin with # are skipped. Several
+FILEs are one script, one after another, and all are read before the first line is answered.
+  network N ME [LIMIT]   a domain of N nodes (2 to 250), of which the router is node ME;
+                         its history has at most LIMIT entries (1,000,000)
+  prefix V P             P is the prefix of node V; otherwise it is 10.V.0.0/16
+  load NAME TEXT         name a filter: the rest of the line is its text
+  code NAME HEX          name a filter by its code file in hexadecimal
+  import W NAME          the filter of what neighbour W tells
+  export W NAME          the filter of what neighbour W is told
+  up W, down W           the channel to neighbour W works, or failed
+  recv W V D             neighbour W told distance D to node V
+  take W                 take the messages that wait for neighbour W
+  show V                 the route to node V
+  routes                 the route to each node
+  neighbours             the up neighbours, with their present sessions
+  told W                 what neighbour W told, and what its import filter made of it
+  history FROM           the history from entry FROM on, at most 100 entries
+
+Each command is answered on standard output before more input is read:
+  ok                     network, prefix
+  verified BUDGET DEPTH  load, code
+  opened SESSION         up
+  done C                 import, export, down, recv: C distances changed
+  messages V:D V:D ..    take
+  route D local, route D via W, route D none
+  routes V:D:W V:D:W ..  and `V:D` where there is no next hop
+  neighbours W:S W:S ..
+  told V:D V:D>E ..      the filter made E of distance D
+  history ENTRY | ENTRY ..
+  refused CODE AT        the command was refused, and nothing changed:
+    O1 to O8     the command is wrong (AT is the number of its line)
+    N1 to N5     the router refused it (AT is its position in the history)
+    J1           the history is full (AT is the number of its entries)
+    P, Y, G, V   the filter is refused, as `ncroute check` refuses it; C: its code file
+
+With --save each event's line is in FILE before its answer is written, so a run that is
+killed leaves a history that `ncroute replay` reads up to its last whole line.
+
+Example:
+  printf 'network 4 0\\nup 1\\nrecv 1 1 0\\nshow 1\\n' | ncroute run
+prints `ok`, `opened 1`, `done 1` and `route 1 via 1`. The exit status is 0; 1 if
+a command was refused or a fault ended the run; 2 if the command line is wrong.
+";
