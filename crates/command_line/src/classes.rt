@@ -71,6 +71,11 @@ static CLASSES: [Class; 14] = [
     },
 ];
 
+/// The table of classes. What handles it is not to know its texts: the checker would carry them along with each step.
+fn class_table() -> &'static [Class] {
+    &CLASSES
+}
+
 /// No class has more codes than this.
 const MOST_CODES: u32 = 20;
 
@@ -83,7 +88,7 @@ pub fn page_of(alloc: Global, word: &str) -> Result<Option<String>, AllocError> 
     if let Some(page) = explanation_of(word.as_str()) {
         return Ok(Some(String::from_str(alloc, page)?));
     }
-    for class in &CLASSES {
+    for class in class_table() {
         if word.as_str() == class.letter {
             return Ok(Some(codes_of(alloc, *class)?));
         }
@@ -103,7 +108,7 @@ fn in_capitals(alloc: Global, word: &str) -> Result<String, AllocError> {
 /// The letters, a line each.
 fn all_classes(alloc: Global) -> Result<String, AllocError> {
     let mut page = String::from_str(alloc, "A code is a letter and a number. The letters are:\n")?;
-    for class in &CLASSES {
+    for class in class_table() {
         push_class(&mut page, *class)?;
     }
     page.push_str(

@@ -10,7 +10,7 @@ const VERSION: &str = "0.1.0 (rattle-kit-13f logic dac8208d650f15bf)";
 /// The program, with all commands.
 pub fn program<'a>(alloc: Global) -> Result<Command<'a>, AllocError> {
     let mut commands = Vec::new(alloc);
-    for (name, about) in &COMMANDS {
+    for (name, about) in all_commands() {
         commands.push(command_of(alloc, *name, *about)?)?;
     }
     Command::new(alloc, "ncroute")
@@ -35,10 +35,20 @@ fn command_of<'a>(
     command.args(args_of(alloc, name)?)
 }
 
+/// The table of commands. What handles it is not to know its texts: the checker would carry them along with each step.
+fn all_commands() -> &'static [(&'static str, &'static str)] {
+    &COMMANDS
+}
+
+/// The table of options and arguments, likewise.
+fn all_parameters() -> &'static [(&'static str, Parameter)] {
+    &PARAMETERS
+}
+
 /// The options and arguments of a command, in order.
 fn args_of<'a>(alloc: Global, command: &str) -> Result<Vec<Arg<'a>>, AllocError> {
     let mut args = Vec::new(alloc);
-    for (name, parameter) in &PARAMETERS {
+    for (name, parameter) in all_parameters() {
         if *name == command {
             args.push(arg_of(alloc, parameter))?;
         }
