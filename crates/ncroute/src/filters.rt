@@ -15,7 +15,7 @@ use std::alloc::Global;
 use std::io::{Read, Write};
 
 /// The source of a filter that was not read, and why.
-#[derive(Debug, Drop)]
+#[derive(Drop)]
 pub struct UnreadFilter<'a> {
     /// The source.
     pub source: &'a Source,

@@ -7,7 +7,7 @@ use router_options::{Numbers, OptionFault, RouterPlan};
 use std::alloc::{AllocError, Global};
 
 /// What an option adds to a plan.
-#[derive(Clone, Copy, Debug, PartialEq, Eq)]
+#[derive(Clone, Copy)]
 pub enum OptionKind {
     /// The prefix of a node.
     Prefix,

@@ -61,7 +61,7 @@ impl<F: Files> Folder for F {
 }
 
 /// Why a source was not read.
-#[derive(Debug, Drop)]
+#[derive(Drop)]
 pub enum Unread {
     /// E1: a file could not be opened or read, for this reason.
     Broken(Error),
