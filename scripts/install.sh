@@ -7,7 +7,7 @@ set -eu
 top="$(cd "$(dirname "$0")/.." && pwd)"
 prefix="${1:-/usr/local}"
 if [ -z "${NCROUTE:-}" ]; then
-    echo "proving and building ncroute, which takes about 20 minutes from nothing" >&2
+    echo "proving and building ncroute, which takes an hour or more from nothing" >&2
     (cd "$top/crates/ncroute" && rt run -- --version >&2)
     NCROUTE="$top/crates/ncroute/out/ncroute"
 fi

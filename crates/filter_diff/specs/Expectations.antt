@@ -25,10 +25,11 @@ IsMetAt program expected route = IsCovered expected route → outcome_of program
 abbrev pub IsMet : CodeView → ℕ → Expectation → Type 0
 IsMet program size expected = (route : RouteView) → IsIn size route → IsMetAt program expected route
 
--- a route of the domain of which something is expected, and the run on it ends otherwise
+-- the route that a counterexample shows
 abbrev pub route_of : ℕ → Counterexample → RouteView
 route_of size shown = record { net = shown.prefix; metric = shown.metric; size = size }
 
+-- It is a route of the domain of which something is expected, and the run on it ends otherwise.
 pub record IsShown (program : CodeView) (size : ℕ) (expected : Expectation) (shown : Counterexample) : Type 0 where
   pub is_in : IsIn size (route_of size shown)
   pub is_covered : IsCovered expected (route_of size shown)
