@@ -39,6 +39,7 @@ fn run_and_replay<R: Threads + Wait + Clock + Sync>(
     rt: &R,
     alloc: Global,
 ) -> Result<(), NetworkFault> {
+    // The ring is let go of once, whatever its replay comes to: each further path on which it is would have to be proved.
     let ring = run_ring(rt, alloc)?;
-    Ok(replay_ring(alloc, &ring)?)
+    replay_ring(alloc, &ring)
 }

@@ -1,14 +1,17 @@
 //! One node of a ring.
 
-ghost use Rattle.std.specs.Prelude.{◌≡◌, ◌+◌, ◌<◌, IfOk};
+ghost use Rattle.std.specs.Prelude.{◌≡◌, ◌+◌, ◌<◌, IfOk, vec_len};
 ghost use Rattle.ring_network.specs.Ring.{IsJournalOf, node_prefix, ring_opening};
+ghost use Rattle.route_session.specs.Jobs.{AreFor};
 ghost use Rattle.slot_lock.specs.Held.{IsPassOf, all_shares};
 
 use crate::fault::NetworkFault;
 use netchange_core::{Event, Opening, Reply};
 use prefix_patterns::{Ip, Prefix};
 use route_history::{CallFault, Journal, LARGEST_LIMIT};
-use route_session::{Cause, ChannelLink, Ending, Gate, Job, Role, join_passes, run_sessions};
+use route_session::{
+    Cause, ChannelLink, Ending, Finished, Gate, Job, Role, join_passes, run_sessions,
+};
 use slot_lock::{Pass, Router};
 use std::alloc::Global;
 use std::rt::Clock;
@@ -155,6 +158,38 @@ fn refused_call(ending: &Ending) -> Result<(), CallFault> {
     }
 }
 
+/// The fault of the first call that ended one of these sessions, if one did.
+fn refused_calls(finished: &[Finished<ChannelLink>]) -> Result<(), CallFault> {
+    for job in finished {
+        refused_call(&job.ending)?;
+    }
+    Ok(())
+}
+
+/// Brings both neighbours up: a reader and a writer for each, the one of the lower number first.
+fn start_jobs<R: Wait>(
+    rt: &R,
+    alloc: Global,
+    router: &Router,
+    pass: &mut Pass,
+    low: Side,
+    high: Side,
+) -> Result<Vec<Job<ChannelLink>>, NetworkFault>
+    requires of { IsPassOf router.now pass.old }
+    requires shares { pass.old.part.shares ≡ all_shares }
+    ensures pass { IsPassOf router.now pass.new }
+    ensures jobs { IfOk result (λ v. AreFor router.now v.items × (vec_len v ≡ 4)) }
+{
+    let (first, second) = bring_up(rt, router, pass, low)?;
+    let (third, fourth) = bring_up(rt, router, pass, high)?;
+    let mut jobs = Vec::with_capacity(alloc, 4)?;
+    jobs.push_reserved(first);
+    jobs.push_reserved(second);
+    jobs.push_reserved(third);
+    jobs.push_reserved(fourth);
+    Ok(jobs)
+}
+
 /// Runs a node: brings its neighbours up, runs a reader and a writer for each, joins their passes and closes the journal.
 pub(crate) fn run_node<R: Threads + Wait + Clock + Sync>(
     rt: &R,
@@ -165,17 +200,9 @@ pub(crate) fn run_node<R: Threads + Wait + Clock + Sync>(
 {
     let Node { me, low, high } = node;
     let (router, mut pass) = open(alloc, me)?;
-    let (first, second) = bring_up(rt, &router, &mut pass, low)?;
-    let (third, fourth) = bring_up(rt, &router, &mut pass, high)?;
-    let mut jobs = Vec::with_capacity(alloc, 4)?;
-    jobs.push_reserved(first);
-    jobs.push_reserved(second);
-    jobs.push_reserved(third);
-    jobs.push_reserved(fourth);
+    let jobs = start_jobs(rt, alloc, &router, &mut pass, low, high)?;
     let finished = run_sessions(rt, alloc, &router, jobs, &PacingGate, TURNS)?;
-    for job in &finished {
-        refused_call(&job.ending)?;
-    }
+    refused_calls(finished.as_slice())?;
     join_passes(&router, &mut pass, finished);
     match router.close(pass) {
         Ok(journal) => Ok(journal),

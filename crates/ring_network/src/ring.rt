@@ -55,33 +55,39 @@ impl Promise<Result<Journal, NetworkFault>> for RunsNode {
     ghost kept_by = { λ p r. IfOk r (IsJournalOf p.me) };
 }
 
+/// Two nodes, the one of the lower number first, as neighbours of one another, with a channel from each to the other.
+fn neighbours(alloc: Global, low: u16, high: u16) -> Result<(Side, Side), AllocError> {
+    let (low_to_high, at_high) = ChannelLink::pair(alloc)?;
+    let (high_to_low, at_low) = ChannelLink::pair(alloc)?;
+    Ok((
+        Side::to(low, at_high, high_to_low),
+        Side::to(high, at_low, low_to_high),
+    ))
+}
+
 /// The three nodes, with a channel from each to each other one.
 fn nodes(alloc: Global) -> Result<(Node, Node, Node), AllocError>
     ensures { IfOk result (λ n. (n.0.me ≡ 0) × (n.1.me ≡ 1) × (n.2.me ≡ 2)) }
 {
-    let (to_one, from_zero_at_one) = ChannelLink::pair(alloc)?;
-    let (to_two, from_zero_at_two) = ChannelLink::pair(alloc)?;
-    let (one_to_zero, from_one_at_zero) = ChannelLink::pair(alloc)?;
-    let (one_to_two, from_one_at_two) = ChannelLink::pair(alloc)?;
-    let (two_to_zero, from_two_at_zero) = ChannelLink::pair(alloc)?;
-    let (two_to_one, from_two_at_one) = ChannelLink::pair(alloc)?;
-    Ok((
-        Node {
-            me: 0,
-            low: Side::to(1, from_one_at_zero, to_one),
-            high: Side::to(2, from_two_at_zero, to_two),
-        },
-        Node {
-            me: 1,
-            low: Side::to(0, from_zero_at_one, one_to_zero),
-            high: Side::to(2, from_two_at_one, one_to_two),
-        },
-        Node {
-            me: 2,
-            low: Side::to(0, from_zero_at_two, two_to_zero),
-            high: Side::to(1, from_one_at_two, two_to_one),
-        },
-    ))
+    let (zero_of_one, one_of_zero) = neighbours(alloc, 0, 1)?;
+    let (zero_of_two, two_of_zero) = neighbours(alloc, 0, 2)?;
+    let (one_of_two, two_of_one) = neighbours(alloc, 1, 2)?;
+    let zero = Node {
+        me: 0,
+        low: one_of_zero,
+        high: two_of_zero,
+    };
+    let one = Node {
+        me: 1,
+        low: zero_of_one,
+        high: two_of_one,
+    };
+    let two = Node {
+        me: 2,
+        low: zero_of_two,
+        high: one_of_two,
+    };
+    Ok((zero, one, two))
 }
 
 /// What became of a node, whose thread may not have been started.
