@@ -3,16 +3,19 @@
 ghost use Rattle.std.specs.Prelude.{IfOk};
 ghost use Rattle.slot_lock.specs.Held.{IsPassOf};
 
+use expectations::expect;
 use netchange_core::{Event, Message, Opening};
 use prefix_patterns::{Ip, Prefix};
 use route_history::{Journal, replay};
 use route_session::Gate;
 use slot_lock::{Pass, Router};
 use std::alloc::Global;
-use std::process::Abort;
 use std::rt::Clock;
 use std::sync::Wait;
 use std::test::Fail;
+
+/// Messages, each a node and a distance, that a router of four nodes enters.
+pub const FOUR: &[(u16, u16)] = &[(1, 0), (2, 1), (3, 2), (1, 1)];
 
 /// The router of node 0 of so many, whose nodes' prefixes are 10.V.0.0/16, with a history of so many entries at most, and its first
 /// pass.
@@ -54,26 +57,42 @@ pub fn messages(alloc: Global, told: &[(u16, u16)]) -> Result<Vec<Message>, Fail
     Ok(items)
 }
 
-/// Asserts that the messages that a journal entered in a session are these, in order, and that the journal replays.
+/// The messages that a journal entered in a session, in order.
+pub fn received(alloc: Global, journal: &Journal, session: u32) -> Result<Vec<Message>, Fail> {
+    let mut entered = Vec::new(alloc);
+    for entry in journal.entries() {
+        if let Event::Receive(under, dest, dist) = entry.event
+            && under == session
+        {
+            entered.push(message(dest, dist))?;
+        }
+    }
+    Ok(entered)
+}
+
+/// Expects that the messages that a journal entered in a session are these, in order, and that the journal replays.
 pub fn expect_entered(
-    rt: &impl Abort,
     alloc: Global,
     journal: &Journal,
     session: u32,
     wanted: &[Message],
 ) -> Result<(), Fail> {
-    let mut entered = Vec::new(alloc);
-    for entry in journal.entries() {
-        if let Event::Receive(under, dest, dist) = entry.event {
-            if under == session {
-                entered.push(message(dest, dist))?;
-            }
-        }
-    }
-    assert!(rt; entered.as_slice() == wanted);
+    let entered = received(alloc, journal, session)?;
+    expect(
+        entered.as_slice() == wanted,
+        "the messages that were entered",
+    )?;
+    expect_replay(alloc, journal)
+}
+
+/// Expects that a journal replays.
+pub fn expect_replay(alloc: Global, journal: &Journal) -> Result<(), Fail> {
     let tables = replay(alloc, journal.opening(), journal.entries())?;
     for node in 0..4 {
-        assert!(rt; tables.session(node) == journal.session(node));
+        expect(
+            tables.session(node) == journal.session(node),
+            "a journal replays",
+        )?;
     }
     Ok(())
 }
@@ -83,22 +102,17 @@ pub fn message(dest: u16, dist: u16) -> Message {
     Message { dest, dist }
 }
 
-/// A gate that lets every turn go.
-#[derive(Drop)]
-pub struct OpenGate;
-
-impl Gate for OpenGate {
-    fn may_go<R: Wait + Clock>(&self, _rt: &R, _job: u32, _turn: u32) -> bool {
-        true
-    }
+/// A gate that lets the first of so many turns go, and none if so many are 0.
+#[derive(Clone, Copy)]
+pub struct EachGate {
+    pub step: u32,
 }
 
-/// A gate that lets turns of even number go.
-#[derive(Drop)]
-pub struct EvenGate;
-
-impl Gate for EvenGate {
+impl Gate for EachGate {
     fn may_go<R: Wait + Clock>(&self, _rt: &R, _job: u32, turn: u32) -> bool {
-        turn % 2 == 0
+        self.step > 0 && turn % self.step == 0
     }
 }
+
+/// A gate that lets every turn go.
+pub const OPEN: EachGate = EachGate { step: 1 };

@@ -1,7 +1,8 @@
 //! Sessions run at the same time, and ask the gate before each turn.
 
 use crate::fixtures::{bring_up, open};
-use crate::run_tests::{JobRow, expect_read, jobs};
+use crate::run_tests::{JobRow, has_read, jobs};
+use expectations::expect;
 use route_session::{Cause, Gate, Role, run_sessions};
 use std::rt::Clock;
 use std::sync::atomic::{AtomicBool, AtomicU64, Ordering};
@@ -50,6 +51,9 @@ impl Gate for MeetingGate {
     }
 }
 
+/// Readers of two sessions, each with one message.
+const READERS: [JobRow<'static>; 2] = [(Role::Reader, 1, &[(1, 0)]), (Role::Reader, 2, &[(2, 0)])];
+
 /// The gate row: two readers of two sessions, each with one message, both get through a gate that lets one go only once the
 /// other has asked.
 #[test]
@@ -57,20 +61,21 @@ fn jobs_run_at_the_same_time(rt: HostRuntime) -> Result<(), Fail> {
     let alloc = rt.alloc();
     let (router, mut pass) = open(alloc, 4, 100)?;
     bring_up(&rt, &router, &mut pass, 2)?;
-    let rows: [JobRow; 2] = [(Role::Reader, 1, &[(1, 0)]), (Role::Reader, 2, &[(2, 0)])];
-    let jobs = jobs(alloc, &router, &mut pass, &rows)?;
+    let jobs = jobs(alloc, &router, &mut pass, &READERS)?;
     let gate = MeetingGate {
         asks: [AtomicU64::new(0), AtomicU64::new(0)],
         has_given_up: AtomicBool::new(false),
     };
     let finished = run_sessions(&rt, alloc, &router, jobs, &gate, 10)?;
-    assert!(&rt; finished.len() == 2);
-    for one in &finished {
-        expect_read(&rt, &one.ending, Cause::LinkEnded, 1);
-    }
-    assert!(&rt; gate.asks(0) > 0 && gate.asks(1) > 0);
-    assert!(&rt; !gate.has_given_up.load(Ordering::SeqCst));
-    Ok(())
+    let [one, two] = finished.as_slice() else {
+        return Err(Fail::from("two jobs"));
+    };
+    let have_read = has_read(&one.ending, Cause::LinkEnded, 1)
+        && has_read(&two.ending, Cause::LinkEnded, 1);
+    let have_met = gate.asks(0) > 0
+        && gate.asks(1) > 0
+        && !gate.has_given_up.load(Ordering::SeqCst);
+    expect(have_read && have_met, "both jobs get through the gate")
 }
 
 /// A gate that notes who asked, and lets all go.
@@ -85,6 +90,25 @@ impl Gate for NotingGate {
     }
 }
 
+/// Writers of three sessions.
+const WRITERS: [JobRow<'static>; 3] = [
+    (Role::Writer, 1, &[]),
+    (Role::Writer, 2, &[]),
+    (Role::Writer, 3, &[]),
+];
+
+/// Whether three jobs asked for five turns each, in order.
+fn are_in_order(asked: &[(u32, u32)]) -> bool {
+    let mut next = [0u32; 3];
+    for (job, turn) in asked {
+        match next.get_mut(*job as usize) {
+            Some(wanted) if *turn == *wanted => *wanted = turn.saturating_add(1),
+            _ => return false,
+        }
+    }
+    next == [5, 5, 5]
+}
+
 /// Each job asks before each of its turns, in order, under its own number.
 #[test]
 fn each_turn_is_asked_for(rt: HostRuntime) -> Result<(), Fail> {
@@ -94,25 +118,11 @@ fn each_turn_is_asked_for(rt: HostRuntime) -> Result<(), Fail> {
     let gate = NotingGate {
         asked: Mutex::new(Vec::new(alloc)),
     };
-    let rows: [JobRow; 3] = [
-        (Role::Writer, 1, &[]),
-        (Role::Writer, 2, &[]),
-        (Role::Writer, 3, &[]),
-    ];
-    let jobs = jobs(alloc, &router, &mut pass, &rows)?;
+    let jobs = jobs(alloc, &router, &mut pass, &WRITERS)?;
     let finished = run_sessions(&rt, alloc, &router, jobs, &gate, 5)?;
-    assert!(&rt; finished.len() == 3);
     let asked = gate.asked.lock(&rt);
-    assert!(&rt; asked.len() == 15);
-    for number in 0..3u32 {
-        let mut next = 0;
-        for (job, turn) in asked.iter() {
-            if *job == number {
-                assert!(&rt; *turn == next);
-                next = turn.saturating_add(1);
-            }
-        }
-        assert!(&rt; next == 5);
-    }
-    Ok(())
+    expect(
+        finished.len() == 3 && are_in_order(asked.as_slice()),
+        "each job asks for its turns in order",
+    )
 }

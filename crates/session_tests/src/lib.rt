@@ -2,15 +2,13 @@
 #![tactic(auto)]
 
 #[cfg(test)]
-mod failing_tests;
+mod end_tests;
 #[cfg(test)]
 mod fixtures;
 #[cfg(test)]
 mod gate_tests;
 #[cfg(test)]
 mod link_tests;
-#[cfg(test)]
-mod many_tests;
 #[cfg(test)]
 mod meanwhile_tests;
 #[cfg(test)]
@@ -19,7 +17,5 @@ mod network_tests;
 mod ring_tests;
 #[cfg(test)]
 mod run_tests;
-#[cfg(test)]
-mod session_tests;
 #[cfg(test)]
 mod turn_tests;

@@ -1,7 +1,8 @@
 //! Links over channels, and a link of one's own.
 
-use crate::fixtures::{OpenGate, bring_up, message, open};
-use netchange_core::{Event, Message, Reply};
+use crate::fixtures::{OPEN, bring_up, message, open};
+use expectations::expect;
+use netchange_core::{Event, Message, Reply, Via};
 use route_session::{Cause, ChannelLink, Got, Link, LinkFault, read_session, write_session};
 use std::io::{ErrorKind, Read, Write};
 use std::rt::Clock;
@@ -15,13 +16,15 @@ use std::time::Duration;
 #[test]
 fn a_channel_hands_on(rt: HostRuntime) -> Result<(), Fail> {
     let (mut writer, mut reader) = ChannelLink::pair(rt.alloc())?;
-    assert!(&rt; writer.recv(&rt) == Err(LinkFault));
-    assert!(&rt; reader.send(&rt, message(1, 1)) == Err(LinkFault));
+    let fails = writer.recv(&rt) == Err(LinkFault)
+        && reader.send(&rt, message(1, 1)) == Err(LinkFault);
+    expect(fails, "an end has one direction")?;
     for node in 0..64u16 {
-        assert!(&rt; writer.send(&rt, message(node, 3)) == Ok(()));
+        expect(writer.send(&rt, message(node, 3)) == Ok(()), "sent")?;
     }
     for node in 0..64u16 {
-        assert!(&rt; reader.recv(&rt) == Ok(Got::Message(message(node, 3))));
+        let is_next = reader.recv(&rt) == Ok(Got::Message(message(node, 3)));
+        expect(is_next, "in order")?;
     }
     Ok(())
 }
@@ -30,18 +33,19 @@ fn a_channel_hands_on(rt: HostRuntime) -> Result<(), Fail> {
 #[test]
 fn a_channel_is_closed(rt: HostRuntime) -> Result<(), Fail> {
     let (mut writer, mut reader) = ChannelLink::pair(rt.alloc())?;
-    assert!(&rt; writer.send(&rt, message(1, 1)) == Ok(()));
+    let is_sent = writer.send(&rt, message(1, 1)) == Ok(());
     writer.close();
-    assert!(&rt; writer.send(&rt, message(1, 2)) == Err(LinkFault));
-    assert!(&rt; writer.recv(&rt) == Ok(Got::Ended));
-    assert!(&rt; reader.recv(&rt) == Ok(Got::Message(message(1, 1))));
-    assert!(&rt; reader.recv(&rt) == Ok(Got::Ended));
+    let is_closed = writer.send(&rt, message(1, 2)) == Err(LinkFault)
+        && writer.recv(&rt) == Ok(Got::Ended);
+    let is_left = reader.recv(&rt) == Ok(Got::Message(message(1, 1)))
+        && reader.recv(&rt) == Ok(Got::Ended);
+    expect(is_sent && is_closed && is_left, "a closed writer")?;
     reader.close();
-    assert!(&rt; reader.recv(&rt) == Ok(Got::Ended));
+    expect(reader.recv(&rt) == Ok(Got::Ended), "a closed reader")?;
     let (mut writer, mut reader) = ChannelLink::pair(rt.alloc())?;
     reader.close();
-    assert!(&rt; writer.send(&rt, message(1, 1)) == Err(LinkFault));
-    Ok(())
+    let fails = writer.send(&rt, message(1, 1)) == Err(LinkFault);
+    expect(fails, "nobody is left to read")
 }
 
 /// Sends so many messages, and counts those that were taken.
@@ -88,8 +92,7 @@ fn a_full_channel_waits(rt: HostRuntime) -> Result<(), Fail> {
         || -> bool { send_all(&rt, &mut writer, 2_000, &sent) },
         || -> Option<u64> { receive_late(&rt, &mut reader, 2_000, &sent) },
     );
-    assert!(&rt; are_sent && full == Some(64));
-    Ok(())
+    expect(are_sent && full == Some(64), "a channel takes 64 messages")
 }
 
 // The next lines are the example of docs/SESSIONS.md.
@@ -136,41 +139,32 @@ impl<I: Read + Drop, O: Write + Drop> Link for StreamLink<I, O> {
     }
 }
 
+/// A message for each of the four nodes, and one for each distance that was heard.
+const SENT: &[u8] = &[
+    0, 0, 0, 0, 0, 1, 0, 4, 0, 2, 0, 4, 0, 3, 0, 4, 0, 1, 0, 1, 0, 2, 0, 2,
+];
+
 /// A neighbour's bytes are entered, and what the router queued goes out as bytes.
 #[test]
 fn a_link_of_ones_own(rt: HostRuntime) -> Result<(), Fail> {
-    let (router, mut pass) = open(rt.alloc(), 4, 100)?;
+    let alloc = rt.alloc();
+    let (router, mut pass) = open(alloc, 4, 100)?;
     bring_up(&rt, &router, &mut pass, 1)?;
-    let input: &[u8] = &[0, 1, 0, 0, 0, 2, 0, 1];
     let mut link = StreamLink {
-        input,
-        output: Vec::new(rt.alloc()),
+        input: [0, 1, 0, 0, 0, 2, 0, 1].as_slice(),
+        output: Vec::new(alloc),
         is_closed: false,
     };
-    let end = read_session(&rt, &router, &mut pass, 1, &mut link, &OpenGate, 0, 10);
-    assert!(&rt; end.cause == Cause::LinkEnded && end.entered == 2);
-    let end = write_session(
-        &rt,
-        rt.alloc(),
-        &router,
-        &mut pass,
-        1,
-        &mut link,
-        &OpenGate,
-        0,
-        1,
-    );
-    assert!(&rt; end.cause == Cause::Turns && end.sent == 6);
-    let sent = [
-        0, 0, 0, 0, 0, 1, 0, 4, 0, 2, 0, 4, 0, 3, 0, 4, 0, 1, 0, 1, 0, 2, 0, 2,
-    ];
-    assert!(&rt; link.output.as_slice() == sent.as_slice());
-    let Ok(answer) = router.call(&rt, &mut pass, Event::Show(2)) else {
-        return Err(Fail::from("the history is full"));
+    let read = read_session(&rt, &router, &mut pass, 1, &mut link, &OPEN, 0, 10);
+    let sent = write_session(&rt, alloc, &router, &mut pass, 1, &mut link, &OPEN, 0, 1);
+    let has_read = read.cause == Cause::LinkEnded && read.entered == 2;
+    let has_sent = sent.cause == Cause::Turns && sent.sent == 6;
+    let are_bytes = link.output.as_slice() == SENT;
+    expect(has_read && has_sent && are_bytes, "a link of one's own")?;
+    let answer = router.call(&rt, &mut pass, Event::Show(2))?;
+    let route = Reply::Route {
+        dist: 2,
+        via: Via::Node(1),
     };
-    match answer.reply {
-        Reply::Route { dist, via: _ } => assert!(&rt; dist == 2),
-        _ => return Err(Fail::from("a route")),
-    }
-    Ok(())
+    expect(answer.reply.is_same(&route), "a route of distance 2")
 }

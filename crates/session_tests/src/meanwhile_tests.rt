@@ -3,8 +3,9 @@
 ghost use Rattle.std.specs.Prelude.{IfSome};
 ghost use Rattle.slot_lock.specs.Held.{IsPassOf};
 
-use crate::fixtures::{OpenGate, bring_up, expect_entered, message, messages, open};
-use crate::session_tests::end;
+use crate::end_tests::end;
+use crate::fixtures::{FOUR, OPEN, bring_up, expect_entered, message, messages, open};
+use expectations::{expect, expect_str};
 use filter_code::{Code, Instr};
 use filter_verifier::{Verified, verify};
 use netchange_core::{Event, Message};
@@ -125,7 +126,7 @@ fn a_held_reader_goes_on_in_an_old_session(rt: HostRuntime) -> Result<(), Fail> 
         return Err(Fail::from("two shares"));
     }
     let other = router.split(&mut pass, 1);
-    let waiting = messages(alloc, &[(1, 0), (2, 1), (3, 2), (1, 1)])?;
+    let waiting = messages(alloc, FOUR)?;
     let gate = HoldingGate {
         is_reached: AtomicBool::new(false),
         is_open: AtomicBool::new(false),
@@ -135,15 +136,12 @@ fn a_held_reader_goes_on_in_an_old_session(rt: HostRuntime) -> Result<(), Fail> 
         || read(&rt, alloc, &router, pass, waiting, &gate),
         || restart(&rt, &router, other, &gate),
     );
-    assert!(&rt; is_restarted);
-    assert!(&rt; ended == end(Cause::Stale, 3, None));
+    let is_so = is_restarted && ended == end(Cause::Stale, 3, None);
     router.join(&mut pass, other);
     look(&rt, &router, &mut pass);
-    let Ok(journal) = router.close(pass) else {
-        return Err(Fail::from("the router is closed"));
-    };
-    assert!(&rt; text_of(alloc, &journal)?.as_str() == RESTARTED);
-    Ok(())
+    let journal = router.close(pass)?;
+    expect(is_so, "a reader of an old session ends")?;
+    expect_str(text_of(alloc, &journal)?.as_str(), RESTARTED)
 }
 
 /// A filter for domains of 4 nodes that ends at once.
@@ -195,14 +193,12 @@ fn filters_are_replaced_under_a_reader(rt: HostRuntime) -> Result<(), Fail> {
     let waiting = told.as_slice().to_vec(alloc)?;
     let ((mut pass, ended), replaced) = thread::join(
         &rt,
-        || read(&rt, alloc, &router, pass, waiting, &OpenGate),
+        || read(&rt, alloc, &router, pass, waiting, &OPEN),
         || replace(&rt, &router, other, &filters, 100),
     );
-    assert!(&rt; ended == end(Cause::LinkEnded, 200, None));
     router.join(&mut pass, replaced.ok_or("a filter was refused")?);
-    let Ok(journal) = router.close(pass) else {
-        return Err(Fail::from("the router is closed"));
-    };
-    assert!(&rt; journal.entries().len() == 301);
-    expect_entered(&rt, alloc, &journal, 1, told.as_slice())
+    let journal = router.close(pass)?;
+    let is_so = ended == end(Cause::LinkEnded, 200, None) && journal.entries().len() == 301;
+    expect(is_so, "each message and each filter is entered")?;
+    expect_entered(alloc, &journal, 1, told.as_slice())
 }

@@ -1,31 +1,18 @@
 //! The journals of three routers in a ring.
 
-use crate::fixtures::message;
+use crate::fixtures::{message, received};
+use expectations::expect;
 use netchange_core::{Event, Message, Reply, Via};
 use ring_network::{net_lines, run_ring};
 use route_history::{Journal, replay};
 use std::alloc::Global;
 use std::io;
-use std::process::Abort;
 use std::rt::Clock;
 use std::sync::Wait;
 use std::sync::atomic::{AtomicU64, Ordering};
 use std::test::Fail;
 use std::thread::Threads;
 use std::time::Duration;
-
-/// The messages that a journal entered in a session, in order.
-fn received(alloc: Global, journal: &Journal, session: u32) -> Result<Vec<Message>, Fail> {
-    let mut messages = Vec::new(alloc);
-    for entry in journal.entries() {
-        if let Event::Receive(under, dest, dist) = entry.event {
-            if under == session {
-                messages.push(message(dest, dist))?;
-            }
-        }
-    }
-    Ok(messages)
-}
 
 /// The messages that were taken from a journal's queue of a session, in order.
 fn taken(alloc: Global, journal: &Journal, session: u32) -> Result<Vec<Message>, Fail> {
@@ -51,10 +38,9 @@ fn ups(journal: &Journal) -> u32 {
     count
 }
 
-/// Asserts that a node has a neighbour at distance 1, and that all it received from the neighbour is what the neighbour took from
+/// Expects that a node has a neighbour at distance 1, and that all it received from the neighbour is what the neighbour took from
 /// its queue for the node, the neighbour itself at distance 0 among it.
 fn expect_neighbour(
-    rt: &impl Abort,
     alloc: Global,
     (me, here): (u16, &Journal),
     (neighbour, there): (u16, &Journal),
@@ -64,12 +50,15 @@ fn expect_neighbour(
         dist: 1,
         via: Via::Node(neighbour),
     };
-    assert!(rt; tables.apply(&Event::Show(neighbour))?.is_same(&route));
+    let is_near = tables.apply(&Event::Show(neighbour))?.is_same(&route);
+    expect(is_near && ups(here) == 2, "a node has its neighbours")?;
     let came = received(alloc, here, here.session(neighbour))?;
     let went = taken(alloc, there, there.session(me))?;
-    assert!(rt; came.contains(&message(neighbour, 0)));
-    assert!(rt; went.as_slice().starts_with(came.as_slice()));
-    Ok(())
+    let are_told = went.as_slice().starts_with(came.as_slice());
+    expect(
+        are_told && came.contains(&message(neighbour, 0)),
+        "a node hears what its neighbour sends",
+    )
 }
 
 /// Each node brought two neighbours up, is at distance 1 of each, and heard from each what that one sent.
@@ -79,10 +68,9 @@ fn each_node_hears_its_neighbours(rt: HostRuntime) -> Result<(), Fail> {
     let ring = run_ring(&rt, alloc)?;
     let nodes = [(0, &ring.zero), (1, &ring.one), (2, &ring.two)];
     for (me, here) in nodes {
-        assert!(&rt; ups(here) == 2);
         for (neighbour, there) in nodes {
             if neighbour != me {
-                expect_neighbour(&rt, alloc, (me, here), (neighbour, there))?;
+                expect_neighbour(alloc, (me, here), (neighbour, there))?;
             }
         }
     }
@@ -124,7 +112,7 @@ fn the_lines_are_earned(rt: HostRuntime) -> Result<(), Fail> {
         sleeps: AtomicU64::new(0),
     };
     let mut writer = Vec::new(alloc);
-    assert!(&rt; net_lines(&counting, alloc, &mut writer) == Ok(()));
-    assert!(&rt; counting.sleeps.load(Ordering::SeqCst) == 1200);
-    Ok(())
+    let is_run = net_lines(&counting, alloc, &mut writer) == Ok(());
+    let sleeps = counting.sleeps.load(Ordering::SeqCst);
+    expect(is_run && sleeps == 1200, "each writer waits at each turn")
 }

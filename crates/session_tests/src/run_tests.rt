@@ -4,20 +4,20 @@ ghost use Rattle.std.specs.Prelude.{◌≡◌, ◌≤◌, IfOk, vec_len};
 ghost use Rattle.route_session.specs.Jobs.{AreFor};
 ghost use Rattle.slot_lock.specs.Held.{IsPassOf};
 
-use crate::fixtures::{OpenGate, bring_up, message, messages, open};
+use crate::fixtures::{FOUR, OPEN, bring_up, expect_replay, messages, open};
+use expectations::{expect, expect_fault, expect_number};
 use netchange_core::Message;
-use route_history::replay;
 use route_session::{
     Cause, Ending, Finished, Gate, Job, MemoryLink, Role, RunFault, join_passes, run_sessions,
 };
 use slot_lock::{Pass, Router};
 use std::alloc::Global;
 use std::fs;
-use std::process::Abort;
 use std::rt::{Clock, Files};
 use std::sync::Wait;
 use std::sync::atomic::{AtomicU64, Ordering};
 use std::test::Fail;
+use std::thread::Threads;
 
 /// The shares of each job's pass.
 const SHARES: u32 = 100;
@@ -72,29 +72,27 @@ pub fn jobs(
     Ok(jobs)
 }
 
-/// Asserts how a reader ended.
-pub fn expect_read(rt: &impl Abort, ending: &Ending, cause: Cause, entered: u32) {
-    let is_so = match ending {
+/// Whether a reader ended so.
+pub fn has_read(ending: &Ending, cause: Cause, entered: u32) -> bool {
+    match ending {
         Ending::Read(end) => end.cause == cause && end.entered == entered,
         Ending::Write(_) => false,
-    };
-    assert!(rt; is_so);
+    }
 }
 
-/// Asserts that a writer used up its turns and sent all that it took.
-fn expect_all_sent(rt: &impl Abort, one: &Finished<MemoryLink>) {
-    let is_so = match &one.ending {
+/// Whether a writer used up its turns and sent all that it took.
+fn has_sent_all(one: &Finished<MemoryLink>) -> bool {
+    match &one.ending {
         Ending::Write(end) => {
             end.cause == Cause::Turns
                 && end.sent == one.link.given().len() as u64
                 && end.unsent.as_slice().is_empty()
         }
         Ending::Read(_) => false,
-    };
-    assert!(rt; is_so);
+    }
 }
 
-/// Readers of session 1, of which the first has no message, the second one, and so on.
+/// Readers of session 1, of which the first has no message, the second one, and so on up to four, and then none again.
 fn readers(
     alloc: Global,
     router: &Router,
@@ -107,40 +105,59 @@ fn readers(
 {
     let mut jobs = Vec::new(alloc);
     for number in 0..count {
-        let mut waiting = Vec::new(alloc);
-        for dist in 0..number {
-            waiting.push(message(1, dist % 4))?;
-        }
+        let told = FOUR.get(..usize::from(number % 5)).unwrap_or(&[]);
+        let waiting = messages(alloc, told)?;
         jobs.push(job(alloc, router, pass, Role::Reader, 1, waiting)?)?;
     }
     Ok(jobs)
 }
 
-/// Five jobs, and what they come to, in their order; the journal has all their calls, and replays.
+/// Expects that such readers ended with their links, in order, each with what its own link handed out: how many messages that is.
+fn expect_all_read(finished: &[Finished<MemoryLink>], count: u16) -> Result<u64, Fail> {
+    expect_number(finished.len() as u64, u64::from(count))?;
+    let mut total = 0u64;
+    for (number, one) in (0..count).zip(finished) {
+        let entered = u32::from(number % 5);
+        let is_so = has_read(&one.ending, Cause::LinkEnded, entered) && one.link.is_closed();
+        expect(is_so, "a reader ends with its link")?;
+        total = total.saturating_add(u64::from(entered));
+    }
+    Ok(total)
+}
+
+/// Runs so many readers. Each ends with what its own link handed out, their passes are all that there are, and the journal has all their calls
+/// and replays.
+fn expect_readers<R: Threads + Wait + Clock + Sync>(
+    rt: &R,
+    alloc: Global,
+    count: u16,
+) -> Result<(), Fail> {
+    let (router, mut pass) = open(alloc, 4, 1_000)?;
+    bring_up(rt, &router, &mut pass, 1)?;
+    let jobs = readers(alloc, &router, &mut pass, count)?;
+    let finished = run_sessions(rt, alloc, &router, jobs, &OPEN, 10)?;
+    let total = expect_all_read(finished.as_slice(), count)?;
+    join_passes(&router, &mut pass, finished);
+    expect(pass.shares() == 65_536, "one pass has all shares")?;
+    let journal = router.close(pass)?;
+    // The Up, and all messages.
+    expect_number(journal.entries().len() as u64, total.saturating_add(1))?;
+    expect_replay(alloc, &journal)
+}
+
+/// Any number of jobs, up to more than there are processors.
+const COUNTS: [u16; 7] = [0, 1, 2, 3, 5, 8, 65];
+
 #[test]
 fn jobs_end_in_order(rt: HostRuntime) -> Result<(), Fail> {
-    let alloc = rt.alloc();
-    let (router, mut pass) = open(alloc, 4, 100)?;
-    bring_up(&rt, &router, &mut pass, 1)?;
-    let jobs = readers(alloc, &router, &mut pass, 5)?;
-    let finished = run_sessions(&rt, alloc, &router, jobs, &OpenGate, 10)?;
-    assert!(&rt; finished.len() == 5);
-    let mut entered = 0;
-    for one in &finished {
-        expect_read(&rt, &one.ending, Cause::LinkEnded, entered);
-        assert!(&rt; one.link.is_closed());
-        entered = entered.saturating_add(1);
+    for count in &COUNTS {
+        expect_readers(&rt, rt.alloc(), *count)?;
     }
-    join_passes(&router, &mut pass, finished);
-    assert!(&rt; pass.shares() == 65_536);
-    let Ok(journal) = router.close(pass) else {
-        return Err(Fail::from("the router is closed"));
-    };
-    // The Up, and 0 + 1 + 2 + 3 + 4 messages.
-    assert!(&rt; journal.entries().len() == 11);
-    let _tables = replay(alloc, journal.opening(), journal.entries())?;
     Ok(())
 }
+
+/// A writer, and a reader that is handed one message.
+const TWO: [JobRow<'static>; 2] = [(Role::Writer, 1, &[]), (Role::Reader, 2, &[(2, 0)])];
 
 /// A reader and a writer side by side.
 #[test]
@@ -148,25 +165,24 @@ fn a_reader_and_a_writer(rt: HostRuntime) -> Result<(), Fail> {
     let alloc = rt.alloc();
     let (router, mut pass) = open(alloc, 4, 100)?;
     bring_up(&rt, &router, &mut pass, 2)?;
-    let rows: [JobRow; 2] = [(Role::Writer, 1, &[]), (Role::Reader, 2, &[(2, 0)])];
-    let jobs = jobs(alloc, &router, &mut pass, &rows)?;
-    let finished = run_sessions(&rt, alloc, &router, jobs, &OpenGate, 1)?;
-    assert!(&rt; finished.len() == 2);
-    expect_all_sent(&rt, &finished[0]);
-    expect_read(&rt, &finished[1].ending, Cause::Turns, 1);
-    Ok(())
+    let jobs = jobs(alloc, &router, &mut pass, &TWO)?;
+    let finished = run_sessions(&rt, alloc, &router, jobs, &OPEN, 1)?;
+    let [writer, reader] = finished.as_slice() else {
+        return Err(Fail::from("two jobs"));
+    };
+    let are_so = has_sent_all(writer) && has_read(&reader.ending, Cause::Turns, 1);
+    expect(are_so, "a reader and a writer end")
 }
 
-/// No jobs come to nothing.
+/// The faults of a run have codes, and no place.
 #[test]
-fn no_jobs(rt: HostRuntime) -> Result<(), Fail> {
-    let alloc = rt.alloc();
-    let (router, mut pass) = open(alloc, 4, 100)?;
-    let jobs = readers(alloc, &router, &mut pass, 0)?;
-    let finished = run_sessions(&rt, alloc, &router, jobs, &OpenGate, 10)?;
-    assert!(&rt; finished.is_empty());
-    assert!(&rt; RunFault::Memory.code() == "X1" && RunFault::NotStarted.code() == "X2");
-    assert!(&rt; RunFault::Memory.at() == 0 && RunFault::NotStarted.at() == 0);
+fn faults_of_runs_have_codes(rt: HostRuntime) -> Result<(), Fail> {
+    for (fault, wanted) in [
+        (RunFault::Memory, "X1 0 out of memory"),
+        (RunFault::NotStarted, "X2 0 a thread was not started"),
+    ] {
+        expect_fault(rt.alloc(), fault.code(), fault.at(), &fault, wanted)?;
+    }
     Ok(())
 }
 
@@ -198,16 +214,19 @@ impl<F: Files + AllocGlobal + Drop> Gate for ThreadGate<F> {
     }
 }
 
+/// Numbers of jobs, and how often others than the first are asked for.
+const OTHERS: [(u16, u64); 2] = [(1, 0), (3, 4)];
+
 /// One job runs on the caller's thread; of three jobs the first does.
 #[test]
 fn one_job_stays_on_the_thread(rt: HostRuntime) -> Result<(), Fail> {
     let alloc = rt.alloc();
     let own = thread_number(&rt);
-    assert!(&rt; own.is_some());
-    for (count, elsewhere) in [(1, 0), (3, 4)] {
+    expect(own.is_some(), "a thread has a number")?;
+    for (count, elsewhere) in &OTHERS {
         let (router, mut pass) = open(alloc, 4, 100)?;
         bring_up(&rt, &router, &mut pass, 1)?;
-        let jobs = readers(alloc, &router, &mut pass, count)?;
+        let jobs = readers(alloc, &router, &mut pass, *count)?;
         let gate = ThreadGate {
             files: &rt,
             own,
@@ -215,9 +234,10 @@ fn one_job_stays_on_the_thread(rt: HostRuntime) -> Result<(), Fail> {
             elsewhere: AtomicU64::new(0),
         };
         let finished = run_sessions(&rt, alloc, &router, jobs, &gate, 2)?;
-        assert!(&rt; finished.len() == usize::from(count));
-        assert!(&rt; gate.here.load(Ordering::SeqCst) == 1);
-        assert!(&rt; gate.elsewhere.load(Ordering::SeqCst) == elsewhere);
+        let are_asked = gate.here.load(Ordering::SeqCst) == 1
+            && gate.elsewhere.load(Ordering::SeqCst) == *elsewhere;
+        let is_so = are_asked && finished.len() == usize::from(*count);
+        expect(is_so, "the first job has the caller's thread")?;
     }
     Ok(())
 }

@@ -1,6 +1,7 @@
 //! Sessions use up all their turns, however many these are and whatever the link and the router answer.
 
 use crate::fixtures::{bring_up, message, open};
+use expectations::expect;
 use netchange_core::Message;
 use route_session::{Cause, Gate, Got, Link, LinkFault, MemoryLink, read_session, write_session};
 use std::rt::Clock;
@@ -74,10 +75,13 @@ fn a_reader_uses_up_its_turns(rt: HostRuntime) -> Result<(), Fail> {
         is_closed: false,
     };
     let end = read_session(&rt, &router, &mut pass, 1, &mut link, &gate, 0, 999);
-    assert!(&rt; end.cause == Cause::Turns && end.entered == 333 && end.lost.is_none());
-    assert!(&rt; gate.asks.load(Ordering::SeqCst) == 999 && link.asks == 666);
-    assert!(&rt; router.close(pass)?.entries().len() == 334);
-    Ok(())
+    let is_so = end.cause == Cause::Turns && end.entered == 333 && end.lost.is_none();
+    let are_asked = gate.asks.load(Ordering::SeqCst) == 999 && link.asks == 666;
+    let entries = router.close(pass)?.entries().len();
+    expect(
+        is_so && are_asked && entries == 334,
+        "a reader uses up its turns",
+    )
 }
 
 /// A writer of 999 turns: at each that the gate lets go it takes from the queue, which is empty after the first.
@@ -89,8 +93,11 @@ fn a_writer_uses_up_its_turns(rt: HostRuntime) -> Result<(), Fail> {
     let gate = CountingGate::new();
     let mut link = MemoryLink::new(alloc, Vec::new(alloc), None);
     let end = write_session(&rt, alloc, &router, &mut pass, 1, &mut link, &gate, 0, 999);
-    assert!(&rt; end.cause == Cause::Turns && end.sent == link.given().len() as u64);
-    assert!(&rt; gate.asks.load(Ordering::SeqCst) == 999);
-    assert!(&rt; router.close(pass)?.entries().len() == 667);
-    Ok(())
+    let is_so = end.cause == Cause::Turns && end.sent == link.given().len() as u64;
+    let is_asked = gate.asks.load(Ordering::SeqCst) == 999;
+    let entries = router.close(pass)?.entries().len();
+    expect(
+        is_so && is_asked && entries == 667,
+        "a writer uses up its turns",
+    )
 }
