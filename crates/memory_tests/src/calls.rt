@@ -2,7 +2,7 @@
 
 use crate::refusals::answered;
 use code_file::{FileFault, read_code, write_code};
-use filter_code::{Code, Instr, Outcome, Route, run_checked};
+use filter_code::{Code, Instr, IntSet, Outcome, Route, run_checked};
 use prefix_patterns::{Ip, Pattern, PatternSet, Prefix, SetFault};
 use std::alloc::Global;
 use std::process::Abort;
@@ -20,29 +20,29 @@ fn patterns() -> Option<[Pattern; 2]> {
     Some([Pattern::new(first, 8, 16)?, Pattern::new(second, 8, 8)?])
 }
 
+/// The instructions of that file.
+const INSTRS: [Instr; 9] = [
+    Instr::Net,
+    Instr::Member(0),
+    Instr::JumpIfNot(5),
+    Instr::Metric,
+    Instr::Int(2),
+    Instr::Add,
+    Instr::SetMetric,
+    Instr::Accept,
+    Instr::Reject,
+];
+
+/// Whether a set has the ints from 2 to 5.
+fn is_range(set: &IntSet) -> bool {
+    set.ranges().len() == 1 && set.holds(2) && set.holds(5) && !set.holds(6)
+}
+
 /// Asserts that a code is that of the file.
 fn expect_code(rt: &impl Abort, code: &Code, patterns: &[Pattern]) {
-    let instrs = [
-        Instr::Net,
-        Instr::Member(0),
-        Instr::JumpIfNot(5),
-        Instr::Metric,
-        Instr::Int(2),
-        Instr::Add,
-        Instr::SetMetric,
-        Instr::Accept,
-        Instr::Reject,
-    ];
-    assert!(rt; code.locals() == 1);
-    assert!(rt; code.sets().len() == 1);
-    for set in code.sets() {
-        assert!(rt; set.patterns() == patterns);
-    }
-    assert!(rt; code.int_sets().len() == 1);
-    for set in code.int_sets() {
-        assert!(rt; set.ranges().len() == 1 && set.holds(2) && set.holds(5) && !set.holds(6));
-    }
-    assert!(rt; code.instrs() == instrs.as_slice());
+    assert!(rt; code.locals() == 1 && code.instrs() == INSTRS.as_slice());
+    assert!(rt; matches!(code.sets(), [set] if set.patterns() == patterns));
+    assert!(rt; matches!(code.int_sets(), [set] if is_range(set)));
 }
 
 /// Builds the set of some patterns, once more where memory was refused. It has them, and matches the prefix of each.
@@ -109,19 +109,21 @@ fn a_file_is_written_or_c7(rt: HostRuntime) -> Result<(), Fail> {
     Ok(())
 }
 
+/// The address and the length of a route, and what the code answers.
+const ROUTES: [(u32, u8, Outcome); 4] = [
+    (0x0a01_0000, 16, Outcome::Accept(5)),
+    (0x0b00_0000, 8, Outcome::Accept(5)),
+    (0x0b00_0000, 9, Outcome::Reject),
+    (0x0c00_0000, 8, Outcome::Reject),
+];
+
 #[test]
 fn a_route_runs_through_what_was_read(rt: HostRuntime) -> Result<(), Fail> {
     let code = read_code(rt.alloc(), &FILE)?;
-    let rows = [
-        (0x0a01_0000, 16, Outcome::Accept(5)),
-        (0x0b00_0000, 8, Outcome::Accept(5)),
-        (0x0b00_0000, 9, Outcome::Reject),
-        (0x0c00_0000, 8, Outcome::Reject),
-    ];
-    for (address, len, wanted) in rows {
-        let net = Prefix::new(Ip(address), len).ok_or("a prefix")?;
+    for (address, len, wanted) in &ROUTES {
+        let net = Prefix::new(Ip(*address), *len).ok_or("a prefix")?;
         let route = Route::new(net, 3, 8).ok_or("a route within the limits")?;
-        assert!(rt; run_checked(&code, &route) == wanted);
+        assert!(rt; run_checked(&code, &route) == *wanted);
     }
     Ok(())
 }

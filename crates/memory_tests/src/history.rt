@@ -24,6 +24,13 @@ pub fn event(at: u32) -> Event {
     }
 }
 
+/// What neighbour 1 is told by then.
+const TOLD: [Message; 3] = [
+    Message { dest: 0, dist: 0 },
+    Message { dest: 1, dist: 2 },
+    Message { dest: 1, dist: 1 },
+];
+
 /// Asserts that the event at a place was entered there, with the reply that it has with ample memory.
 pub fn expect_answer(
     rt: &impl Abort,
@@ -31,20 +38,16 @@ pub fn expect_answer(
     at: u32,
     answer: (u32, Reply),
 ) -> Result<(), Fail> {
-    let told = [(0, 0), (1, 2), (1, 1)];
     let wanted = match at {
         0 => Reply::Opened(1),
         1 => Reply::Done { changed: 1 },
         _ => {
             let mut items = Vec::new(alloc);
-            for (dest, dist) in told {
-                items.push(Message { dest, dist })?;
-            }
+            items.extend_from_slice(&TOLD)?;
             Reply::Messages(Messages::from_vec(items))
         }
     };
-    assert!(rt; answer.0 == at);
-    assert!(rt; answer.1.is_same(&wanted));
+    assert!(rt; answer.0 == at && answer.1.is_same(&wanted));
     Ok(())
 }
 
@@ -68,9 +71,8 @@ fn an_event_is_entered_or_j2_and_the_journal_stays(rt: HostRuntime) -> Result<()
         match journal.apply(event(at)) {
             Ok(answer) => expect_answer(&rt, alloc, at, answer)?,
             Err(fault) => {
-                assert!(rt; fault == CallFault::Memory);
-                assert!(rt; fault.code() == "J2" && fault.at() == 0);
-                assert!(rt; journal.entries().len() == at as usize);
+                let is_memory = fault == CallFault::Memory && fault.code() == "J2";
+                assert!(rt; is_memory && journal.entries().len() == at as usize);
                 expect_answer(&rt, alloc, at, journal.apply(event(at))?)?;
                 return Err(answered("Journal::apply", "J2"));
             }

@@ -15,6 +15,8 @@ mod lines;
 #[cfg(test)]
 mod lock;
 #[cfg(test)]
+mod page;
+#[cfg(test)]
 mod refusals;
 #[cfg(test)]
 mod scripts;

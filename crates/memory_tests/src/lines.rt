@@ -1,9 +1,10 @@
 //! Lines that are answered block by block, with memory and without.
 
+use crate::page::Page;
 use crate::refusals::answered;
 use line_protocol::{Reply, Service, StreamFault, answer_lines, push_decimal, push_refusal};
 use std::alloc::{AllocError, Global};
-use std::io::{self, Read, Write};
+use std::io::{self, Read};
 use std::test::Fail;
 
 /// Gives a few bytes a read.
@@ -18,40 +19,6 @@ impl Read for Pieces<'_> {
         buf[..count].copy_from_slice(&self.rest[..count]);
         self.rest = &self.rest[count..];
         Ok(count)
-    }
-}
-
-/// Holds what was written. It needs no memory.
-#[derive(Drop)]
-pub struct Page {
-    held: [u8; 96],
-    len: usize,
-}
-
-impl Page {
-    pub fn new() -> Page {
-        Page {
-            held: [0; 96],
-            len: 0,
-        }
-    }
-
-    pub fn text(&self) -> &[u8] {
-        &self.held[..self.len.min(96)]
-    }
-}
-
-impl Write for Page {
-    fn write(&mut self, buf: &[u8]) -> io::Result<usize> {
-        let from = self.len.min(96);
-        let count = buf.len().min(96 - from);
-        self.held[from..from + count].copy_from_slice(&buf[..count]);
-        self.len = from + count;
-        Ok(count)
-    }
-
-    fn flush(&mut self) -> io::Result<()> {
-        Ok(())
     }
 }
 
@@ -83,22 +50,25 @@ impl Service for Echo {
     }
 }
 
+/// Whether a text is some of the first lines of another.
+pub fn is_front(text: &[u8], whole: &[u8]) -> bool {
+    whole.starts_with(text) && (text.is_empty() || text.ends_with(b"\n"))
+}
+
 #[test]
 fn lines_are_answered_or_e3(rt: HostRuntime) -> Result<(), Fail> {
     let mut reader = Pieces {
         rest: b"one\n# two\n!three\nfour and a long one\nfive",
     };
     let mut out = Page::new();
-    let wanted = b"1 one\nrefused O9 3\n4 four and a long one\n5 five\n";
+    let wanted = b"1 one\nrefused O9 3\n4 four and a long one\n5 five\n".as_slice();
     match answer_lines(rt.alloc(), &mut reader, &mut out, &mut Echo) {
         Ok(refused) => assert!(rt; refused == 1),
         Err(fault) => {
-            assert!(rt; fault == StreamFault::Memory);
-            assert!(rt; wanted.starts_with(out.text()));
-            assert!(rt; out.text().is_empty() || out.text().ends_with(b"\n"));
+            assert!(rt; fault == StreamFault::Memory && is_front(out.text(), wanted));
             return Err(answered("answer_lines", "E3"));
         }
     }
-    assert!(rt; out.text() == wanted.as_slice());
+    assert!(rt; out.text() == wanted);
     Ok(())
 }

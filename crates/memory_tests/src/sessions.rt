@@ -58,31 +58,24 @@ fn jobs(alloc: Global, router: &Router, pass: &mut Pass) -> Result<Vec<Job<Memor
     Ok(jobs)
 }
 
-/// Asserts that a reader entered all that its link handed out, or all but the message that it lost. Says whether it lost one.
-fn expect_read(rt: &impl Abort, end: &ReadEnd) -> bool {
+/// Whether a reader entered all that its link handed out, or was refused memory for the message that it lost.
+fn is_read(end: &ReadEnd) -> bool {
     let entered = end.entered as usize;
     match end.cause {
-        Cause::Memory => {
-            assert!(rt; end.lost == TOLD.get(entered).copied());
-            assert!(rt; end.lost.is_some());
-            true
-        }
-        cause => {
-            assert!(rt; cause == Cause::LinkEnded && entered == 2 && end.lost == None);
-            false
-        }
+        Cause::Memory => end.lost.is_some() && end.lost == TOLD.get(entered).copied(),
+        cause => cause == Cause::LinkEnded && entered == 2 && end.lost == None,
     }
 }
 
-/// Asserts that a writer sent what it took, or the beginning of that to a link that found no memory. Says whether it was stopped.
-fn expect_written(rt: &impl Abort, end: &WriteEnd, given: &[Message]) -> bool {
-    assert!(rt; given.len() as u64 == end.sent);
-    match end.cause {
-        Cause::Memory => assert!(rt; end.unsent.as_slice().is_empty()),
-        Cause::LinkFault => assert!(rt; !end.unsent.as_slice().is_empty()),
-        cause => assert!(rt; cause == Cause::Turns && end.unsent.as_slice().len() == 0),
-    }
-    end.cause != Cause::Turns
+/// Whether a writer sent what it took, or the beginning of that to a link that found no memory.
+fn is_written(end: &WriteEnd, given: &[Message]) -> bool {
+    let is_whole = end.unsent.as_slice().is_empty();
+    let is_so = match end.cause {
+        Cause::Memory => is_whole,
+        Cause::LinkFault => !is_whole,
+        cause => cause == Cause::Turns && is_whole,
+    };
+    is_so && given.len() as u64 == end.sent
 }
 
 /// Asserts how jobs ended. Says whether all had the memory that they asked for.
@@ -90,21 +83,20 @@ fn expect_ends(rt: &impl Abort, finished: &[Finished<MemoryLink>]) -> bool {
     assert!(rt; finished.len() == 2);
     let mut had_memory = true;
     for job in finished {
-        assert!(rt; job.link.is_closed());
-        let was_refused = match &job.ending {
-            Ending::Read(end) => expect_read(rt, end),
-            Ending::Write(end) => expect_written(rt, end, job.link.given()),
+        let (is_so, cause) = match &job.ending {
+            Ending::Read(end) => (is_read(end), end.cause),
+            Ending::Write(end) => (is_written(end, job.link.given()), end.cause),
         };
-        had_memory = had_memory && !was_refused;
+        assert!(rt; is_so && job.link.is_closed());
+        had_memory = had_memory && (cause == Cause::LinkEnded || cause == Cause::Turns);
     }
     had_memory
 }
 
 /// Asserts that a router's history, at the end, replays and has the Up.
 fn expect_replay(rt: &impl Abort, alloc: Global, journal: &Journal) -> Result<(), Fail> {
-    assert!(rt; !journal.entries().is_empty());
     let tables = replay(alloc, journal.opening(), journal.entries())?;
-    assert!(rt; tables.session(1) == 1);
+    assert!(rt; tables.session(1) == 1 && !journal.entries().is_empty());
     Ok(())
 }
 

@@ -4,6 +4,7 @@ use crate::refusals::answered;
 use filter_code::{Code, Instr};
 use filter_source::{Failure, compile_text, read_file, read_hexadecimal, verify_code};
 use filter_verifier::Verified;
+use std::alloc::Global;
 use std::process::Abort;
 use std::test::Fail;
 
@@ -19,21 +20,22 @@ const DIGITS: &str = "4e43463100000008130100000002201424157071";
 /// The size of the domain.
 const SIZE: u32 = 8;
 
+/// That code.
+const INSTRS: [Instr; 8] = [
+    Instr::Metric,
+    Instr::Int(2),
+    Instr::Add,
+    Instr::Received,
+    Instr::Max,
+    Instr::SetMetric,
+    Instr::Accept,
+    Instr::Reject,
+];
+
 /// Asserts that a code is that of the filter.
 fn expect_code(rt: &impl Abort, code: &Code) {
-    let instrs = [
-        Instr::Metric,
-        Instr::Int(2),
-        Instr::Add,
-        Instr::Received,
-        Instr::Max,
-        Instr::SetMetric,
-        Instr::Accept,
-        Instr::Reject,
-    ];
-    assert!(rt; code.locals() == 0);
-    assert!(rt; code.sets().is_empty());
-    assert!(rt; code.instrs() == instrs.as_slice());
+    let is_plain = code.locals() == 0 && code.sets().is_empty();
+    assert!(rt; is_plain && code.instrs() == INSTRS.as_slice());
 }
 
 /// Asserts that verified code is that of the filter, with its bounds.
@@ -42,43 +44,49 @@ fn expect_verified(rt: &impl Abort, verified: &Verified) {
     assert!(rt; verified.size() == SIZE && verified.budget() == 7 && verified.depth() == 2);
 }
 
-#[test]
-fn a_text_has_code_or_memory_is_refused(rt: HostRuntime) -> Result<(), Fail> {
-    match compile_text(rt.alloc(), TEXT.as_bytes()) {
-        Ok(code) => expect_code(&rt, &code),
+/// What the code is made of.
+#[derive(Clone, Copy)]
+enum Source {
+    Text,
+    File,
+    Digits,
+}
+
+/// The code that is made of a source.
+fn made(alloc: Global, source: Source) -> Result<Code, Failure> {
+    match source {
+        Source::Text => compile_text(alloc, TEXT.as_bytes()),
+        Source::File => read_file(alloc, FILE),
+        Source::Digits => read_hexadecimal(alloc, DIGITS.as_bytes()),
+    }
+}
+
+/// Makes the code of a source by this call, once more where memory was refused.
+fn expect_made(rt: &impl Abort, alloc: Global, source: Source, call: &str) -> Result<(), Fail> {
+    match made(alloc, source) {
+        Ok(code) => expect_code(rt, &code),
         Err(failure) => {
             assert!(rt; matches!(failure, Failure::Memory));
-            expect_code(&rt, &compile_text(rt.alloc(), TEXT.as_bytes())?);
-            return Err(answered("compile_text", "Memory"));
+            expect_code(rt, &made(alloc, source)?);
+            return Err(answered(call, "Memory"));
         }
     }
     Ok(())
+}
+
+#[test]
+fn a_text_has_code_or_memory_is_refused(rt: HostRuntime) -> Result<(), Fail> {
+    expect_made(&rt, rt.alloc(), Source::Text, "compile_text")
 }
 
 #[test]
 fn a_file_has_code_or_memory_is_refused(rt: HostRuntime) -> Result<(), Fail> {
-    match read_file(rt.alloc(), FILE) {
-        Ok(code) => expect_code(&rt, &code),
-        Err(failure) => {
-            assert!(rt; matches!(failure, Failure::Memory));
-            expect_code(&rt, &read_file(rt.alloc(), FILE)?);
-            return Err(answered("read_file", "Memory"));
-        }
-    }
-    Ok(())
+    expect_made(&rt, rt.alloc(), Source::File, "read_file")
 }
 
 #[test]
 fn digits_have_code_or_memory_is_refused(rt: HostRuntime) -> Result<(), Fail> {
-    match read_hexadecimal(rt.alloc(), DIGITS.as_bytes()) {
-        Ok(code) => expect_code(&rt, &code),
-        Err(failure) => {
-            assert!(rt; matches!(failure, Failure::Memory));
-            expect_code(&rt, &read_hexadecimal(rt.alloc(), DIGITS.as_bytes())?);
-            return Err(answered("read_hexadecimal", "Memory"));
-        }
-    }
-    Ok(())
+    expect_made(&rt, rt.alloc(), Source::Digits, "read_hexadecimal")
 }
 
 #[test]

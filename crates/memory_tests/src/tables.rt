@@ -41,38 +41,46 @@ fn tables(alloc: Global) -> Result<Tables, Fail> {
     Ok(tables)
 }
 
+/// The session of neighbour 1, and how many messages wait for sessions 1 and 2.
+fn state(tables: &Tables) -> (u32, usize, usize) {
+    (tables.session(1), tables.queued(1), tables.queued(2))
+}
+
 /// Asserts that the tables are those.
 fn expect_tables(rt: &impl Abort, tables: &mut Tables) -> Result<(), Fail> {
-    assert!(rt; tables.session(1) == 1 && tables.session(2) == 2);
-    assert!(rt; tables.queued(1) == 0 && tables.queued(2) == 4);
+    assert!(rt; tables.session(2) == 2 && state(tables) == (1, 0, 4));
     let near = Reply::Route {
         dist: 1,
         via: Via::Node(1),
     };
-    assert!(rt; tables.apply(&Event::Show(1))?.is_same(&near));
     let none = Reply::Route {
         dist: 3,
         via: Via::Nowhere,
     };
-    assert!(rt; tables.apply(&Event::Show(2))?.is_same(&none));
+    let is_near = tables.apply(&Event::Show(1))?.is_same(&near);
+    assert!(rt; is_near && tables.apply(&Event::Show(2))?.is_same(&none));
     Ok(())
 }
 
-/// Applies an event. Where memory is refused the tables are as they were, and the event has its reply when it is applied again.
-fn apply_twice(
+/// Applies an event, by which so many distances change, and which leaves this state. Where memory is refused the tables are as they were, and
+/// the event has its reply when it is applied again.
+fn expect_applied(
     rt: &impl Abort,
-    tables: &mut Tables,
+    alloc: Global,
     event: &Event,
-    wanted: &Reply,
+    changed: u16,
+    left: (u32, usize, usize),
 ) -> Result<(), Fail> {
+    let mut tables = tables(alloc)?;
+    let wanted = Reply::Done { changed };
     match tables.apply(event) {
         Ok(reply) => {
-            assert!(rt; reply.is_same(wanted));
+            assert!(rt; reply.is_same(&wanted) && state(&tables) == left);
             Ok(())
         }
         Err(_) => {
-            expect_tables(rt, tables)?;
-            assert!(rt; tables.apply(event)?.is_same(wanted));
+            expect_tables(rt, &mut tables)?;
+            assert!(rt; tables.apply(event)?.is_same(&wanted) && state(&tables) == left);
             Err(answered("Tables::apply", "AllocError"))
         }
     }
@@ -109,29 +117,16 @@ fn a_neighbour_joins_or_nothing_changes(rt: HostRuntime) -> Result<(), Fail> {
 
 #[test]
 fn a_neighbour_leaves_or_nothing_changes(rt: HostRuntime) -> Result<(), Fail> {
-    let mut tables = tables(rt.alloc())?;
-    apply_twice(
-        &rt,
-        &mut tables,
-        &Event::Down(1),
-        &Reply::Done { changed: 1 },
-    )?;
-    assert!(rt; tables.session(1) == 0 && tables.queued(2) == 5);
-    Ok(())
+    expect_applied(&rt, rt.alloc(), &Event::Down(1), 1, (0, 0, 5))
 }
 
 #[test]
 fn a_distance_is_received_or_nothing_changes(rt: HostRuntime) -> Result<(), Fail> {
-    let mut tables = tables(rt.alloc())?;
-    apply_twice(
-        &rt,
-        &mut tables,
-        &Event::Receive(2, 2, 0),
-        &Reply::Done { changed: 1 },
-    )?;
-    assert!(rt; tables.queued(1) == 1 && tables.queued(2) == 5);
-    Ok(())
+    expect_applied(&rt, rt.alloc(), &Event::Receive(2, 2, 0), 1, (1, 1, 5))
 }
+
+/// What is told to neighbour 2 first.
+const FIRST: [Message; 2] = [Message { dest: 0, dist: 0 }, Message { dest: 1, dist: 3 }];
 
 #[test]
 fn messages_are_taken_or_stay(rt: HostRuntime) -> Result<(), Fail> {
@@ -143,29 +138,20 @@ fn messages_are_taken_or_stay(rt: HostRuntime) -> Result<(), Fail> {
     let Reply::Messages(messages) = told else {
         return Err(Fail::from("messages"));
     };
-    let first = Message { dest: 0, dist: 0 };
-    let second = Message { dest: 1, dist: 3 };
-    assert!(rt; messages.as_slice() == [first, second].as_slice());
-    assert!(rt; tables.queued(2) == 2);
+    assert!(rt; messages.as_slice() == FIRST.as_slice() && tables.queued(2) == 2);
     Ok(())
 }
 
 #[test]
 fn an_import_filter_is_set_or_nothing_changes(rt: HostRuntime) -> Result<(), Fail> {
-    let mut tables = tables(rt.alloc())?;
     let event = Event::SetImport(1, rejecting(rt.alloc())?);
-    apply_twice(&rt, &mut tables, &event, &Reply::Done { changed: 1 })?;
-    assert!(rt; tables.queued(1) == 1 && tables.queued(2) == 5);
-    Ok(())
+    expect_applied(&rt, rt.alloc(), &event, 1, (1, 1, 5))
 }
 
 #[test]
 fn an_export_filter_is_set_or_nothing_changes(rt: HostRuntime) -> Result<(), Fail> {
-    let mut tables = tables(rt.alloc())?;
     let event = Event::SetExport(1, rejecting(rt.alloc())?);
-    apply_twice(&rt, &mut tables, &event, &Reply::Done { changed: 0 })?;
-    assert!(rt; tables.queued(1) == 3 && tables.queued(2) == 4);
-    Ok(())
+    expect_applied(&rt, rt.alloc(), &event, 0, (1, 3, 4))
 }
 
 #[test]
