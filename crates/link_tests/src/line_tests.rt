@@ -23,66 +23,77 @@ fn lines_are_written(rt: HostRuntime) -> Result<(), Fail> {
     expect_bytes(&text, b"netchange 1 10 3\n7 2\n0 65535\n")
 }
 
-/// Lines that are messages, and lines that are none.
+/// Lines that are messages.
+const SAID: [(&str, Message); 3] = [
+    ("7 2", Message { dest: 7, dist: 2 }),
+    ("0 0", Message { dest: 0, dist: 0 }),
+    (
+        "65535 10",
+        Message {
+            dest: 65_535,
+            dist: 10,
+        },
+    ),
+];
+
+/// Lines that are none.
+const OTHERS: [&str; 16] = [
+    "", " ", "7", "7 ", " 7 2", "7  2", "7 2 ", "7 2 1", "07 2", "7 02", "+7 2", "-7 2", "7 65536",
+    "7\t2", "7 2\r", "a b",
+];
+
 #[test]
 fn only_messages_are_read(_rt: HostRuntime) -> Result<(), Fail> {
-    let said = [("7 2", 7, 2), ("0 0", 0, 0), ("65535 10", 65_535, 10)];
-    for (line, dest, dist) in said {
-        expect(
-            read_message(line.as_bytes()) == Some(Message { dest, dist }),
-            line,
-        )?;
+    for (line, message) in &SAID {
+        expect(read_message(line.as_bytes()) == Some(*message), line)?;
     }
-    let others = [
-        "", " ", "7", "7 ", " 7 2", "7  2", "7 2 ", "7 2 1", "07 2", "7 02", "+7 2", "-7 2",
-        "7 65536", "7\t2", "7 2\r", "a b",
-    ];
-    for line in others {
+    for line in &OTHERS {
         expect(read_message(line.as_bytes()).is_none(), line)?;
     }
     Ok(())
 }
 
+/// Lines, what a greeting of node 3 of 10 makes of them, and the words of the fault.
+const GREETINGS: [(&str, Result<(), GreetingFault>, &str); 7] = [
+    ("netchange 1 10 3", Ok(()), ""),
+    (
+        "netchange 1 10 4",
+        Err(GreetingFault::OtherNode(4)),
+        "the neighbour is node 4",
+    ),
+    (
+        "netchange 1 9 3",
+        Err(GreetingFault::OtherSize(9)),
+        "the neighbour's domain has 9 nodes",
+    ),
+    (
+        "netchange 2 10 3",
+        Err(GreetingFault::NoGreeting),
+        "this is no greeting of version 1",
+    ),
+    (
+        "netchange 1 10 3 ",
+        Err(GreetingFault::NoGreeting),
+        "this is no greeting of version 1",
+    ),
+    (
+        "netchange 1 10",
+        Err(GreetingFault::NoGreeting),
+        "this is no greeting of version 1",
+    ),
+    (
+        "3 10",
+        Err(GreetingFault::NoGreeting),
+        "this is no greeting of version 1",
+    ),
+];
+
 /// A greeting is taken from the expected node of the expected size alone.
 #[test]
 fn greetings_are_checked(rt: HostRuntime) -> Result<(), Fail> {
-    let expected = Greeting { size: 10, node: 3 };
-    let rows = [
-        ("netchange 1 10 3", Ok(()), ""),
-        (
-            "netchange 1 10 4",
-            Err(GreetingFault::OtherNode(4)),
-            "the neighbour is node 4",
-        ),
-        (
-            "netchange 1 9 3",
-            Err(GreetingFault::OtherSize(9)),
-            "the neighbour's domain has 9 nodes",
-        ),
-        (
-            "netchange 2 10 3",
-            Err(GreetingFault::NoGreeting),
-            "this is no greeting of version 1",
-        ),
-        (
-            "netchange 1 10 3 ",
-            Err(GreetingFault::NoGreeting),
-            "this is no greeting of version 1",
-        ),
-        (
-            "netchange 1 10",
-            Err(GreetingFault::NoGreeting),
-            "this is no greeting of version 1",
-        ),
-        (
-            "3 10",
-            Err(GreetingFault::NoGreeting),
-            "this is no greeting of version 1",
-        ),
-    ];
-    for (line, wanted, words) in rows {
-        let found = check_greeting(line.as_bytes(), expected);
-        expect(found == wanted, line)?;
+    for (line, wanted, words) in &GREETINGS {
+        let found = check_greeting(line.as_bytes(), Greeting { size: 10, node: 3 });
+        expect(found == *wanted, line)?;
         if let Err(fault) = found {
             expect_text(rt.alloc(), &fault, words)?;
         }

@@ -1,6 +1,6 @@
 //! Messages over streams, and links over them.
 
-use expectations::{expect, expect_bytes, expect_number, expect_text};
+use expectations::{expect, expect_bytes, expect_text};
 use link_lines::{Greeting, GreetingFault};
 use message_streams::{MessageReader, MessageWriter, StreamEnd};
 use netchange_core::Message;
@@ -31,53 +31,53 @@ impl Write for Narrow {
     }
 }
 
+/// Streams, how many messages come before the end, the end, and its words.
+const ENDS: [(&[u8], u64, StreamEnd, &str); 7] = [
+    (b"", 0, StreamEnd::Ended, "the stream ended"),
+    (b"1 2\n3 4\n", 2, StreamEnd::Ended, "the stream ended"),
+    (
+        b"1 2\n3 4",
+        1,
+        StreamEnd::Unfinished,
+        "the stream ended within a line",
+    ),
+    (
+        b"1 2\n\n3 4\n",
+        1,
+        StreamEnd::NoMessage,
+        "the line is no message",
+    ),
+    (
+        b"1 2\nx\n3 4\n",
+        1,
+        StreamEnd::NoMessage,
+        "the line is no message",
+    ),
+    (
+        &[b'1'; 70],
+        0,
+        StreamEnd::TooLong,
+        "the line has more than 64 bytes",
+    ),
+    (
+        b"\xff\x00\n",
+        0,
+        StreamEnd::NoMessage,
+        "the line is no message",
+    ),
+];
+
 /// Each end of a reader: what was handed out before it, and the line at which it came.
 #[test]
 fn readers_end(rt: HostRuntime) -> Result<(), Fail> {
-    let long = [b'1'; 70];
-    let rows: [(&[u8], u64, StreamEnd, &str); 7] = [
-        (b"", 0, StreamEnd::Ended, "the stream ended"),
-        (b"1 2\n3 4\n", 2, StreamEnd::Ended, "the stream ended"),
-        (
-            b"1 2\n3 4",
-            1,
-            StreamEnd::Unfinished,
-            "the stream ended within a line",
-        ),
-        (
-            b"1 2\n\n3 4\n",
-            1,
-            StreamEnd::NoMessage,
-            "the line is no message",
-        ),
-        (
-            b"1 2\nx\n3 4\n",
-            1,
-            StreamEnd::NoMessage,
-            "the line is no message",
-        ),
-        (
-            &long,
-            0,
-            StreamEnd::TooLong,
-            "the line has more than 64 bytes",
-        ),
-        (
-            b"\xff\x00\n",
-            0,
-            StreamEnd::NoMessage,
-            "the line is no message",
-        ),
-    ];
-    for (bytes, count, wanted, words) in rows {
-        let mut reader = MessageReader::new(bytes);
-        for _ in 0..count {
+    for (bytes, count, wanted, words) in &ENDS {
+        let mut reader = MessageReader::new(*bytes);
+        for _ in 0..*count {
             expect(reader.next_message().is_ok(), words)?;
         }
-        expect(reader.next_message() == Err(wanted), words)?;
-        expect(reader.next_message() == Err(wanted), words)?;
-        expect_number(reader.line(), count.saturating_add(1))?;
-        expect_text(rt.alloc(), &wanted, words)?;
+        let ends = reader.next_message() == Err(*wanted) && reader.next_message() == Err(*wanted);
+        expect(ends && reader.line() == count.saturating_add(1), words)?;
+        expect_text(rt.alloc(), wanted, words)?;
     }
     Ok(())
 }
@@ -87,15 +87,13 @@ fn readers_end(rt: HostRuntime) -> Result<(), Fail> {
 fn greetings_are_read(rt: HostRuntime) -> Result<(), Fail> {
     let expected = Greeting { size: 10, node: 3 };
     let mut reader = MessageReader::new(b"netchange 1 10 3\n1 2\n".as_slice());
-    expect(reader.read_greeting(expected) == Ok(()), "greeting")?;
-    expect(
-        reader.next_message() == Ok(Message { dest: 1, dist: 2 }),
-        "message",
-    )?;
+    let is_read = reader.read_greeting(expected) == Ok(())
+        && reader.next_message() == Ok(Message { dest: 1, dist: 2 });
+    expect(is_read, "a greeting and a message")?;
     let mut other = MessageReader::new(b"netchange 1 10 4\n1 2\n".as_slice());
     let end = StreamEnd::Greeting(GreetingFault::OtherNode(4));
-    expect(other.read_greeting(expected) == Err(end), "other node")?;
-    expect(other.next_message() == Err(end), "after a refused greeting")?;
+    let is_refused = other.read_greeting(expected) == Err(end) && other.next_message() == Err(end);
+    expect(is_refused, "the greeting of another node")?;
     expect_text(rt.alloc(), &end, "the neighbour is node 4")
 }
 
@@ -105,29 +103,14 @@ fn links_hand_on(rt: HostRuntime) -> Result<(), Fail> {
     let input = MessageReader::new(b"1 2\n3 4\n".as_slice());
     let output = MessageWriter::new(rt.alloc(), Narrow { room: 6 });
     let mut link = StreamLink::new(Some(input), Some(output));
-    expect(
-        link.recv(&rt) == Ok(Got::Message(Message { dest: 1, dist: 2 })),
-        "first",
-    )?;
-    expect(
-        link.recv(&rt) == Ok(Got::Message(Message { dest: 3, dist: 4 })),
-        "second",
-    )?;
-    expect(link.recv(&rt) == Ok(Got::Ended), "end")?;
-    expect(link.end() == Some(StreamEnd::Ended), "why")?;
-    expect_number(link.line(), 3)?;
-    expect(
-        link.send(&rt, Message { dest: 1, dist: 2 }) == Ok(()),
-        "sent",
-    )?;
-    expect(
-        link.send(&rt, Message { dest: 1, dist: 2 }) == Err(LinkFault),
-        "no room",
-    )?;
-    expect(
-        link.send(&rt, Message { dest: 1, dist: 2 }) == Err(LinkFault),
-        "after a fault",
-    )?;
+    let (first, second) = (Message { dest: 1, dist: 2 }, Message { dest: 3, dist: 4 });
+    let are_read = link.recv(&rt) == Ok(Got::Message(first))
+        && link.recv(&rt) == Ok(Got::Message(second));
+    let has_ended = link.recv(&rt) == Ok(Got::Ended) && link.end() == Some(StreamEnd::Ended);
+    expect(are_read && has_ended && link.line() == 3, "what is read")?;
+    let is_sent = link.send(&rt, first) == Ok(());
+    let fails = link.send(&rt, first) == Err(LinkFault) && link.send(&rt, first) == Err(LinkFault);
+    expect(is_sent && fails, "there is room for one message")?;
     link.close();
     expect(link.recv(&rt) == Ok(Got::Ended), "closed")
 }
