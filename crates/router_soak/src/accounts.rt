@@ -3,59 +3,49 @@
 use crate::link::RandomLink;
 use netchange_core::{Event, Message, Reply};
 use route_history::{Entry, Journal, replay};
-use route_session::{Cause, Ending};
+use route_session::{Cause, Ending, ReadEnd, WriteEnd};
 use slot_lock::Answer;
 use std::alloc::Global;
 use std::fmt;
 
-/// What is counted over all routers.
-#[derive(Default, Drop)]
+/// What is counted of routers.
+const COUNTED: [&str; 8] = [
+    "routers",
+    "entries",
+    "calls of operators",
+    "messages entered",
+    "messages taken",
+    "events refused",
+    "messages lost",
+    "links failed",
+];
+
+/// Counts in the order of `COUNTED`, over all routers.
+#[derive(Drop)]
 pub struct Counts {
-    pub routers: u64,
-    pub entries: u64,
-    pub answers: u64,
-    pub told: u64,
-    pub taken: u64,
-    pub refused: u64,
-    pub lost: u64,
-    pub failed: u64,
+    counts: [u64; 8],
 }
 
 impl Counts {
+    /// Those of no router.
+    pub fn new() -> Counts {
+        Counts { counts: [0; 8] }
+    }
+
     /// What was counted elsewhere, too.
     pub fn add(&mut self, other: &Counts) {
-        self.routers = self.routers.wrapping_add(other.routers);
-        self.entries = self.entries.wrapping_add(other.entries);
-        self.answers = self.answers.wrapping_add(other.answers);
-        self.told = self.told.wrapping_add(other.told);
-        self.taken = self.taken.wrapping_add(other.taken);
-        self.refused = self.refused.wrapping_add(other.refused);
-        self.lost = self.lost.wrapping_add(other.lost);
-        self.failed = self.failed.wrapping_add(other.failed);
+        for at in 0..8 {
+            self.counts[at] = self.counts[at].wrapping_add(other.counts[at]);
+        }
     }
 }
 
 impl fmt::Display for Counts {
     fn fmt<W: fmt::Write>(&self, f: &mut fmt::Formatter<W>) -> fmt::Result {
-        let Counts {
-            routers,
-            entries,
-            answers,
-            told,
-            taken,
-            refused,
-            lost,
-            failed,
-        } = self;
-        write!(
-            f,
-            "{routers} routers, {entries} entries: {answers} calls of operators, "
-        )?;
-        write!(
-            f,
-            "{told} messages entered, {taken} taken; {refused} refused, "
-        )?;
-        write!(f, "{lost} messages lost, {failed} links failed")
+        for (count, name) in self.counts.iter().zip(&COUNTED) {
+            write!(f, "{count} {name}, ")?;
+        }
+        f.write_str("and no journal was wrong")
     }
 }
 
@@ -130,60 +120,70 @@ impl Account {
 
     /// Adds what a session did. None where its end is not what its link saw.
     pub fn add(&mut self, session: u32, ending: &Ending, link: &RandomLink) -> Option<()> {
-        let cause = match ending {
-            Ending::Read(end) => {
-                let mut entered = link.handed.as_slice();
-                if let Some(message) = end.lost {
-                    let (last, before) = entered.split_last()?;
-                    if *last != message {
-                        return None;
-                    }
-                    entered = before;
-                    self.lost = self.lost.wrapping_add(1);
-                }
-                if entered.len() as u64 != u64::from(end.entered) {
-                    return None;
-                }
-                self.told.add(self.alloc, session, entered)?;
-                end.cause
-            }
-            Ending::Write(end) => {
-                if link.given.len() as u64 != end.sent {
-                    return None;
-                }
-                self.taken.add(self.alloc, session, link.given.as_slice())?;
-                self.taken.add(self.alloc, session, end.unsent.as_slice())?;
-                end.cause
-            }
-        };
+        match ending {
+            Ending::Read(end) => self.add_read(session, end, link.handed.as_slice()),
+            Ending::Write(end) => self.add_written(session, end, link.given.as_slice()),
+        }
+    }
+
+    /// Adds what a reader entered of what its link handed out, of which the last message may be lost.
+    fn add_read(&mut self, session: u32, end: &ReadEnd, handed: &[Message]) -> Option<()> {
+        self.note_cause(end.cause);
+        let lost = usize::from(end.lost.is_some());
+        let (entered, last) = handed.split_at(handed.len().checked_sub(lost)?);
+        if last.first().copied() != end.lost || entered.len() as u64 != u64::from(end.entered) {
+            return None;
+        }
+        self.lost = self.lost.wrapping_add(lost as u64);
+        self.told.add(self.alloc, session, entered)
+    }
+
+    /// Adds what a writer took: what its link was given, and what is left unsent.
+    fn add_written(&mut self, session: u32, end: &WriteEnd, given: &[Message]) -> Option<()> {
+        self.note_cause(end.cause);
+        if given.len() as u64 != end.sent {
+            return None;
+        }
+        self.taken.add(self.alloc, session, given)?;
+        self.taken.add(self.alloc, session, end.unsent.as_slice())
+    }
+
+    /// Counts a link that failed.
+    fn note_cause(&mut self, cause: Cause) {
         self.failed = self
             .failed
             .wrapping_add(u64::from(cause == Cause::LinkFault));
-        Some(())
     }
 
     /// What is counted of the router, if its journal replays and says the same.
     pub fn counts(&self, journal: &Journal) -> Option<Counts> {
         let _tables = replay(self.alloc, journal.opening(), journal.entries()).ok()?;
         let mut entered = Account::new(self.alloc);
-        let (mut others, mut refused) = (0usize, 0u64);
-        for entry in journal.entries() {
-            others = others.wrapping_add(usize::from(!entered.enter(entry)?));
-            refused = refused.wrapping_add(u64::from(matches!(&entry.reply, Reply::Refused(_))));
-        }
+        let others = entered.enter_all(journal.entries())?;
         if others != self.answers.len() || !self.answers_stand(journal.entries())? {
             return None;
         }
         Some(Counts {
-            routers: 1,
-            entries: journal.entries().len() as u64,
-            answers: self.answers.len() as u64,
-            told: self.told.count_if_same(&entered.told)?,
-            taken: self.taken.count_if_same(&entered.taken)?,
-            refused,
-            lost: self.lost,
-            failed: self.failed,
+            counts: [
+                1,
+                journal.entries().len() as u64,
+                self.answers.len() as u64,
+                self.told.count_if_same(&entered.told)?,
+                self.taken.count_if_same(&entered.taken)?,
+                refused(journal.entries()),
+                self.lost,
+                self.failed,
+            ],
         })
+    }
+
+    /// Adds what entries say of sessions: how many say nothing of them.
+    fn enter_all(&mut self, entries: &[Entry]) -> Option<usize> {
+        let mut others = 0usize;
+        for entry in entries {
+            others = others.wrapping_add(usize::from(!self.enter(entry)?));
+        }
+        Some(others)
     }
 
     /// Adds what an entry says of a session. False where it is none of a session's.
@@ -217,4 +217,15 @@ impl Account {
         }
         Some(true)
     }
+}
+
+/// How many entries are refused events.
+fn refused(entries: &[Entry]) -> u64 {
+    let mut count = 0u64;
+    for entry in entries {
+        if let Reply::Refused(_) = &entry.reply {
+            count = count.wrapping_add(1);
+        }
+    }
+    count
 }

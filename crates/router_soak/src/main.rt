@@ -49,7 +49,7 @@ fn soak<R: Threads + Wait + Clock + Sync>(
 ) -> Option<Counts> {
     let filters = filters(alloc)?;
     let start = Instant::now(rt).ok()?;
-    let mut counts = Counts::default();
+    let mut counts = Counts::new();
     for round in 0..u32::MAX {
         let seed = u64::from(seed).wrapping_add(u64::from(round));
         counts.add(&soak_router(rt, alloc, seed, &filters)?);

@@ -165,6 +165,34 @@ fn run_all<R: Threads + Wait + Clock + Sync>(
     )
 }
 
+/// Two operators and a session for each neighbour, each with a pass that is split off from another.
+fn run_split<R: Threads + Wait + Clock + Sync>(
+    rt: &R,
+    alloc: Global,
+    router: &Router,
+    pass: &mut Pass,
+    numbers: &mut Numbers,
+    sessions: &[u32; 2],
+    filters: &[Arc<Verified>],
+) -> Option<Shift>
+    requires { IsPassOf router.now pass.old }
+    ensures pass { IsPassOf router.now pass.new }
+    ensures operated { IfSome result (λ s. IfSome s.0 (λ r. IsPassOf router.now r.0.pass × IsPassOf router.now r.1.pass)) }
+    ensures finished { IfSome result (λ s. IfSome s.1 (λ v. AreBack router.now v.items)) }
+{
+    let jobs = jobs(alloc, router, pass, numbers, sessions)?;
+    if pass.shares() < 3 {
+        return None;
+    }
+    let first = router.split(pass, 1);
+    let second = router.split(pass, 1);
+    let both = (
+        orders(numbers, true, sessions),
+        orders(numbers, false, sessions),
+    );
+    Some(run_all(rt, alloc, router, (first, second), both, filters, jobs))
+}
+
 /// Runs a shift, and adds what was done. None where memory was refused, or a session's end is not what its link saw.
 pub fn run_shift<R: Threads + Wait + Clock + Sync>(
     rt: &R,
@@ -182,22 +210,25 @@ pub fn run_shift<R: Threads + Wait + Clock + Sync>(
     bring_up(rt, router, pass, 0, sessions, account)?;
     bring_up(rt, router, pass, 1, sessions, account)?;
     let known = *sessions;
-    let jobs = jobs(alloc, router, pass, numbers, &known)?;
-    if pass.shares() < 3 {
-        return None;
-    }
-    let first = router.split(pass, 1);
-    let second = router.split(pass, 1);
-    let both = (
-        orders(numbers, true, &known),
-        orders(numbers, false, &known),
-    );
-    let (operated, finished) = run_all(rt, alloc, router, (first, second), both, filters, jobs);
-    let ((one, two), finished) = (operated?, finished?);
-    for (session, job) in known.iter().zip(&finished) {
+    let (operated, finished) = run_split(rt, alloc, router, pass, numbers, &known, filters)?;
+    *sessions = gather(router, pass, account, operated)?;
+    gather_sessions(router, pass, account, &known, finished?)
+}
+
+/// Adds what sessions did, one for each neighbour, and joins their passes with another.
+fn gather_sessions(
+    router: &Router,
+    pass: &mut Pass,
+    account: &mut Account,
+    sessions: &[u32; 2],
+    finished: Vec<Finished<RandomLink>>,
+) -> Option<()>
+    requires { IsPassOf router.now pass.old × AreBack router.now finished.items }
+    ensures { IsPassOf router.now pass.new }
+{
+    for (session, job) in sessions.iter().zip(&finished) {
         account.add(*session, &job.ending, &job.link)?;
     }
-    *sessions = gather(router, pass, account, one, two)?;
     join_passes(router, pass, finished);
     Some(())
 }
@@ -207,16 +238,16 @@ fn gather(
     router: &Router,
     pass: &mut Pass,
     account: &mut Account,
-    one: Ended,
-    two: Ended,
+    operated: Option<(Ended, Ended)>,
 ) -> Option<[u32; 2]>
-    requires { IsPassOf router.now pass.old × (IsPassOf router.now one.pass × IsPassOf router.now two.pass) }
+    requires { IsPassOf router.now pass.old × IfSome operated (λ r. IsPassOf router.now r.0.pass × IsPassOf router.now r.1.pass) }
     ensures { IsPassOf router.now pass.new }
 {
+    let (one, two) = operated?;
+    router.join(pass, one.pass);
+    router.join(pass, two.pass);
     let (mut answers, mut others) = (one.answers, two.answers);
     account.answers.append(&mut answers).ok()?;
     account.answers.append(&mut others).ok()?;
-    router.join(pass, one.pass);
-    router.join(pass, two.pass);
     Some(one.sessions)
 }
