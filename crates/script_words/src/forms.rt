@@ -1,7 +1,7 @@
 //! The commands of scripts, and the words that each of them takes.
 
 /// Whose script it is.
-#[derive(Clone, Copy, Debug, PartialEq, Eq)]
+#[derive(Clone, Copy)]
 pub enum ScriptKind {
     /// That of a router: `ncroute run`.
     Router,
@@ -35,7 +35,7 @@ static DOMAIN_VERBS: [&str; 15] = [
 ];
 
 /// The words that follow the first of a command.
-#[derive(Clone, Copy, Debug)]
+#[derive(Clone, Copy)]
 pub(crate) struct Form {
     /// How they are written.
     pub words: &'static str,
@@ -49,48 +49,21 @@ pub(crate) struct Form {
     pub name: Option<usize>,
 }
 
-impl Form {
-    /// So many numbers.
-    fn of_numbers(words: &'static str, count: usize) -> Form {
-        Form {
-            words,
-            least: count,
-            most: count,
-            numbers: count,
-            name: None,
-        }
-    }
-
-    /// So many numbers, and the name of a filter.
-    fn with_name(words: &'static str, numbers: usize) -> Form {
-        let name = numbers.saturating_add(1);
-        Form {
-            words,
-            least: name,
-            most: name,
-            numbers,
-            name: Some(name),
-        }
-    }
-
-    /// The name of a filter, and what gives it.
-    fn of_filter(words: &'static str, most: usize) -> Form {
-        Form {
-            words,
-            least: 2,
-            most,
-            numbers: 0,
-            name: Some(1),
-        }
-    }
-}
-
 /// The words of `network`, of which the third may be left out.
 const NETWORK: Form = Form {
     words: "N ME [LIMIT]",
     least: 2,
     most: 3,
     numbers: 3,
+    name: None,
+};
+
+/// The words of `domain`.
+const DOMAIN: Form = Form {
+    words: "N",
+    least: 1,
+    most: 1,
+    numbers: 1,
     name: None,
 };
 
@@ -103,39 +76,151 @@ const PREFIX: Form = Form {
     name: None,
 };
 
-/// The words of a command of a router's script that begins with this word, if one does.
-fn router_form(verb: &[u8]) -> Option<Form> {
-    match verb {
-        b"network" => Some(NETWORK),
-        b"prefix" => Some(PREFIX),
-        b"load" => Some(Form::of_filter("NAME TEXT", usize::MAX)),
-        b"code" => Some(Form::of_filter("NAME HEX", 2)),
-        b"import" | b"export" => Some(Form::with_name("W NAME", 1)),
-        b"up" | b"down" | b"take" | b"told" => Some(Form::of_numbers("W", 1)),
-        b"recv" => Some(Form::of_numbers("W V D", 3)),
-        b"show" => Some(Form::of_numbers("V", 1)),
-        b"history" => Some(Form::of_numbers("FROM", 1)),
-        b"routes" | b"neighbours" => Some(Form::of_numbers("", 0)),
-        _ => None,
-    }
-}
+/// The words of `load`.
+const TEXT: Form = Form {
+    words: "NAME TEXT",
+    least: 2,
+    most: usize::MAX,
+    numbers: 0,
+    name: Some(1),
+};
 
-/// The words of a command of a domain's script that begins with this word, if one does.
-fn domain_form(verb: &[u8]) -> Option<Form> {
-    match verb {
-        b"domain" => Some(Form::of_numbers("N", 1)),
-        b"prefix" => Some(PREFIX),
-        b"load" => Some(Form::of_filter("NAME TEXT", usize::MAX)),
-        b"code" => Some(Form::of_filter("NAME HEX", 2)),
-        b"link" | b"cut" => Some(Form::of_numbers("U W", 2)),
-        b"import" | b"export" => Some(Form::with_name("U W NAME", 2)),
-        b"route" | b"path" => Some(Form::of_numbers("U V", 2)),
-        b"table" => Some(Form::of_numbers("U", 1)),
-        b"draw" => Some(Form::of_numbers("V", 1)),
-        b"mark" | b"changes" | b"settle" => Some(Form::of_numbers("", 0)),
-        _ => None,
-    }
-}
+/// The words of `code`.
+const FILE: Form = Form {
+    words: "NAME HEX",
+    least: 2,
+    most: 2,
+    numbers: 0,
+    name: Some(1),
+};
+
+/// The words of `import` and `export` in a router's script.
+const NAMED: Form = Form {
+    words: "W NAME",
+    least: 2,
+    most: 2,
+    numbers: 1,
+    name: Some(2),
+};
+
+/// The words of `import` and `export` in a domain's script.
+const NAMED_PAIR: Form = Form {
+    words: "U W NAME",
+    least: 3,
+    most: 3,
+    numbers: 2,
+    name: Some(3),
+};
+
+/// The words of commands about a neighbour.
+const NEIGHBOUR: Form = Form {
+    words: "W",
+    least: 1,
+    most: 1,
+    numbers: 1,
+    name: None,
+};
+
+/// The words of `recv`.
+const DISTANCE: Form = Form {
+    words: "W V D",
+    least: 3,
+    most: 3,
+    numbers: 3,
+    name: None,
+};
+
+/// The words of commands about a destination.
+const DESTINATION: Form = Form {
+    words: "V",
+    least: 1,
+    most: 1,
+    numbers: 1,
+    name: None,
+};
+
+/// The words of `history`.
+const POSITION: Form = Form {
+    words: "FROM",
+    least: 1,
+    most: 1,
+    numbers: 1,
+    name: None,
+};
+
+/// The words of commands about two neighbours.
+const PAIR: Form = Form {
+    words: "U W",
+    least: 2,
+    most: 2,
+    numbers: 2,
+    name: None,
+};
+
+/// The words of commands about a node and a destination.
+const ROUTE: Form = Form {
+    words: "U V",
+    least: 2,
+    most: 2,
+    numbers: 2,
+    name: None,
+};
+
+/// The words of `table`.
+const NODE: Form = Form {
+    words: "U",
+    least: 1,
+    most: 1,
+    numbers: 1,
+    name: None,
+};
+
+/// The words of commands that are one word.
+const ALONE: Form = Form {
+    words: "",
+    least: 0,
+    most: 0,
+    numbers: 0,
+    name: None,
+};
+
+/// The words of the commands of a router's script, in the order of `ROUTER_VERBS`.
+static ROUTER_FORMS: [Form; 15] = [
+    NETWORK,
+    PREFIX,
+    TEXT,
+    FILE,
+    NAMED,
+    NAMED,
+    NEIGHBOUR,
+    NEIGHBOUR,
+    DISTANCE,
+    NEIGHBOUR,
+    DESTINATION,
+    ALONE,
+    ALONE,
+    NEIGHBOUR,
+    POSITION,
+];
+
+/// The words of the commands of a domain's script, in the order of `DOMAIN_VERBS`.
+static DOMAIN_FORMS: [Form; 15] = [
+    DOMAIN,
+    PREFIX,
+    TEXT,
+    FILE,
+    PAIR,
+    PAIR,
+    NAMED_PAIR,
+    NAMED_PAIR,
+    ROUTE,
+    ROUTE,
+    NODE,
+    DESTINATION,
+    ALONE,
+    ALONE,
+    ALONE,
+];
 
 impl ScriptKind {
     /// The command of the program that carries such scripts out.
@@ -170,11 +255,21 @@ impl ScriptKind {
         }
     }
 
+    /// The words of such commands, in the order of their first words.
+    fn forms(self) -> &'static [Form] {
+        match self {
+            ScriptKind::Router => ROUTER_FORMS.as_slice(),
+            ScriptKind::Domain => DOMAIN_FORMS.as_slice(),
+        }
+    }
+
     /// The words of a command that begins with this word, if there is such a command.
     pub(crate) fn form_of(self, verb: &[u8]) -> Option<Form> {
-        match self {
-            ScriptKind::Router => router_form(verb),
-            ScriptKind::Domain => domain_form(verb),
+        for (text, form) in self.verbs().iter().zip(self.forms()) {
+            if text.as_bytes() == verb {
+                return Some(*form);
+            }
         }
+        None
     }
 }
