@@ -2,7 +2,7 @@
 use prefix_patterns::Prefix;
 
 /// One command with the words after it. Contracts see it as a `CommandView`. Whether there are such nodes is judged by the script.
-#[derive(Debug, Drop)]
+#[derive(Drop)]
 pub enum Command<'a> {
     /// `domain N`: a domain of N nodes, 2 to 250.
     Domain(u16),

@@ -2,7 +2,7 @@
 ghost use Rattle.std.specs.Prelude.{◌≡◌};
 
 /// Why the state of a domain's script refuses a command.
-#[derive(Clone, Copy, Debug, PartialEq, Eq)]
+#[derive(Clone, Copy)]
 pub(crate) enum StateFault {
     /// O2: the node of a `prefix` is not in the domain.
     NoSuchNode,

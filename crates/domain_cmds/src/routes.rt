@@ -11,7 +11,7 @@ use std::alloc::{AllocError, Global};
 use std::marker::Model;
 
 /// The routes of all nodes to one destination, by the node's number. A contract sees them as a list.
-#[derive(Debug, Drop)]
+#[derive(Drop)]
 pub(crate) struct Column {
     routes: Vec<Best>,
 }

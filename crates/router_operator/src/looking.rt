@@ -7,7 +7,7 @@ use slot_lock::Observer;
 use std::alloc::{AllocError, Global};
 
 /// What a look asks for.
-#[derive(Clone, Copy, Debug, PartialEq, Eq)]
+#[derive(Clone, Copy)]
 pub(crate) enum Asked {
     /// A look at the tables.
     Tables(Look),

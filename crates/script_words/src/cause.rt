@@ -3,7 +3,7 @@ ghost use Rattle.std.specs.Prelude.{◌≡◌, find};
 ghost use Rattle.script_words.specs.Causes as spec;
 
 /// Why a line of a script is refused, where no filter in it is.
-#[derive(Clone, Copy, Debug, PartialEq, Eq)]
+#[derive(Clone, Copy)]
 pub enum Cause {
     /// O1: it is no command, or has other words than that command.
     Words,
