@@ -1,323 +1,21 @@
 //! From a configuration of BIRD to verified filters, in files of their own: the engine of `import`.
 ghost use Rattle.std.specs.Prelude.{◌≤◌, IfOk};
 
+use crate::including::{Whole, push_place, push_texts, read_whole, write_line};
 use crate::serve::FAILED;
-use crate::texts::{Folder, Unread, name_of, read_source, tell_unmade, tell_unread};
+use crate::texts::{Folder, tell_unmade};
 use bird_import::{
-    Config, Definition, Draft, Fate, Include, Item, Outcome, Why, Word, cut_words,
-    find_definitions, find_includes, find_items, make_drafts, origin_of, write_filter,
+    Config, Definition, Draft, Fate, FilterText, Item, Outcome, Why, Word, cut_words,
+    find_definitions, find_items, make_drafts, origin_of, write_filter,
 };
 use command_line::{Importing, Source};
 use filter_commands::ProgramFault;
 use filter_source::{Diagnosis, Failure, compile_text_mapped, push_verified, verify_mapped};
-use filter_tools::{explain, place_in, push_shown};
-use line_protocol::{INPUT_LIMIT, push_decimal, write_text};
+use filter_tools::{explain, push_shown};
+use filter_verifier::Verified;
+use line_protocol::write_text;
 use std::alloc::{AllocError, Global};
 use std::io::{Read, Write};
-
-/// How deep files include files at most, as in BIRD.
-const INCLUDE_DEPTH: u8 = 8;
-
-/// A file of a configuration.
-#[derive(Drop)]
-struct File {
-    /// Where it is.
-    source: Source,
-    /// Its text.
-    text: Vec<u8>,
-}
-
-/// A stretch of a configuration that comes from one file.
-#[derive(Clone, Copy)]
-struct Stretch {
-    /// The place of its first byte in the configuration.
-    from: usize,
-    /// The index of its file.
-    file: usize,
-    /// The place of its first byte in the file.
-    at: usize,
-}
-
-/// A configuration with the files that it includes in their places.
-#[derive(Drop)]
-struct Whole {
-    /// Its text.
-    text: Vec<u8>,
-    /// Where the text comes from, in order.
-    stretches: Vec<Stretch>,
-    /// The files.
-    files: Vec<File>,
-    /// Something of it was not read.
-    is_partial: bool,
-}
-
-/// The stretch that a byte of a configuration is in.
-fn stretch_of(whole: &Whole, byte: usize) -> Option<Stretch> {
-    let mut found = None;
-    for stretch in whole.stretches.as_slice() {
-        if stretch.from <= byte {
-            found = Some(*stretch);
-        }
-    }
-    found
-}
-
-/// Puts the file, the line and the column of a byte of a configuration at the end of `out`.
-fn push_place(
-    alloc: Global,
-    out: &mut Vec<u8>,
-    whole: &Whole,
-    byte: usize,
-) -> Result<(), AllocError> {
-    let Some(stretch) = stretch_of(whole, byte) else {
-        return Ok(());
-    };
-    match whole.files.get(stretch.file) {
-        Some(file) => {
-            let at = stretch.at.saturating_add(byte.saturating_sub(stretch.from));
-            push_file_place(alloc, out, file, at)
-        }
-        None => Ok(()),
-    }
-}
-
-/// Puts the name of a file, and the line and the column of a byte of it, at the end of `out`.
-fn push_file_place(
-    alloc: Global,
-    out: &mut Vec<u8>,
-    file: &File,
-    at: usize,
-) -> Result<(), AllocError> {
-    let place = place_in(file.text.as_slice(), at);
-    push_shown(alloc, out, name_of(&file.source))?;
-    out.push(b':')?;
-    push_decimal(out, place.line as u64)?;
-    out.push(b':')?;
-    push_decimal(out, place.column as u64)
-}
-
-/// Adds bytes of a file to a configuration.
-fn push_stretch(
-    whole: &mut Whole,
-    file: usize,
-    text: &[u8],
-    from: usize,
-    to: usize,
-) -> Result<(), AllocError> {
-    let Some(bytes) = text.get(from..to) else {
-        return Ok(());
-    };
-    whole.stretches.push(Stretch {
-        from: whole.text.len(),
-        file,
-        at: from,
-    })?;
-    whole.text.extend_from_slice(bytes)
-}
-
-/// The name of a file that another one includes: one that is not absolute is in the folder of the other.
-fn included_name(alloc: Global, by: &Source, name: &str) -> Result<String, AllocError> {
-    let mut path = String::new(alloc);
-    if let Source::File(by) = by {
-        if !name.starts_with('/') {
-            if let Some((folder, _)) = by.as_str().rsplit_once('/') {
-                path.push_str(folder)?;
-                path.push_str("/")?;
-            }
-        }
-    }
-    path.push_str(name)?;
-    Ok(path)
-}
-
-/// Whether one of these files has a name.
-fn is_open(files: &[File], open: &[usize], name: &str) -> bool {
-    open.iter().any(|index| match files.get(*index) {
-        Some(
-            File {
-                source: Source::File(file),
-                ..
-            },
-        ) => file.as_str() == name,
-        _ => false,
-    })
-}
-
-/// A file that another one includes.
-#[derive(Drop)]
-struct Included {
-    /// The place of the word `include`.
-    from: usize,
-    /// The place behind the command.
-    to: usize,
-    /// Its name, as it is written.
-    name: Vec<u8>,
-}
-
-/// The files that a text includes.
-fn included_in(alloc: Global, text: &[u8]) -> Result<Vec<Included>, AllocError> {
-    let cut = cut_words(alloc, text)?;
-    let found: Vec<Include<'_>> = find_includes(alloc, cut.words.as_slice())?;
-    let mut included = Vec::new(alloc);
-    for include in found.as_slice() {
-        included.push(Included {
-            from: include.from,
-            to: include.to,
-            name: Vec::from_slice(alloc, include.name)?,
-        })?;
-    }
-    Ok(included)
-}
-
-/// Why a file is not included, or its name.
-enum Inclusion {
-    /// It is read.
-    Read(Source),
-    /// It is not, for this reason.
-    Left(&'static str),
-}
-
-/// What becomes of a file that is included by the last of those that are open.
-fn inclusion_of(
-    alloc: Global,
-    whole: &Whole,
-    open: &[usize],
-    name: &[u8],
-) -> Result<Inclusion, AllocError> {
-    let Ok(name) = str::from_utf8(name) else {
-        return Ok(Inclusion::Left("its name is no text"));
-    };
-    if name.contains('*') || name.contains('?') || name.contains('[') {
-        return Ok(Inclusion::Left("include each file by its own name"));
-    }
-    let Some(by) = open.last() else {
-        return Ok(Inclusion::Left("it was not read"));
-    };
-    let path = match whole.files.get(*by) {
-        Some(file) => included_name(alloc, &file.source, name)?,
-        None => String::from_str(alloc, name)?,
-    };
-    if is_open(whole.files.as_slice(), open, path.as_str()) {
-        return Ok(Inclusion::Left("the file includes itself"));
-    }
-    Ok(Inclusion::Read(Source::File(path)))
-}
-
-/// Tells that a file was not included at a place of another one, and why.
-fn tell_left<W: Write>(
-    alloc: Global,
-    whole: &mut Whole,
-    file: Option<usize>,
-    included: &Included,
-    why: &str,
-    writer: &mut W,
-) -> Result<(), ProgramFault> {
-    whole.is_partial = true;
-    let mut line = Vec::new(alloc);
-    if let Some(file) = file {
-        if let Some(file) = whole.files.get(file) {
-            push_file_place(alloc, &mut line, file, included.from)?;
-        }
-    }
-    line.extend_from_slice(b" include ")?;
-    push_shown(alloc, &mut line, included.name.as_slice())?;
-    line.extend_from_slice(b": ")?;
-    line.extend_from_slice(why.as_bytes())?;
-    line.extend_from_slice(b": this file was left out\n")?;
-    write_text(writer, line.as_slice())?;
-    Ok(())
-}
-
-/// Reads a file of a configuration. One that cannot be read is told of.
-fn read_config<F: Folder, R: Read, E: Write>(
-    files: &F,
-    alloc: Global,
-    source: &Source,
-    reader: &mut R,
-    errors: &mut E,
-) -> Result<Option<Vec<u8>>, ProgramFault> {
-    let why = match read_source(files, alloc, source, INPUT_LIMIT, reader) {
-        Ok(text) if text.len() <= INPUT_LIMIT => return Ok(Some(text)),
-        Ok(_) => Unread::TooLong,
-        Err(why) => why,
-    };
-    tell_unread(alloc, errors, source, why)?;
-    Ok(None)
-}
-
-/// Puts the text of a source behind a configuration, with the files that it includes.
-#[cycle(including)]
-fn push_source<F: Folder, R: Read, W: Write, E: Write>(
-    files: &F,
-    alloc: Global,
-    whole: &mut Whole,
-    open: &mut Vec<usize>,
-    source: Source,
-    text: &[u8],
-    depth: u8,
-    reader: &mut R,
-    writer: &mut W,
-    errors: &mut E,
-) -> Result<(), ProgramFault> {
-    let file = whole.files.len();
-    whole.files.push(File {
-        source,
-        text: Vec::from_slice(alloc, text)?,
-    })?;
-    open.push(file)?;
-    let included = included_in(alloc, text)?;
-    let mut done = 0;
-    for one in included.as_slice() {
-        push_stretch(whole, file, text, done, one.from)?;
-        push_included(
-            files, alloc, whole, open, one, depth, reader, writer, errors,
-        )?;
-        done = one.to;
-    }
-    push_stretch(whole, file, text, done, text.len())?;
-    whole.text.push(b'\n')?;
-    let _ = open.pop();
-    Ok(())
-}
-
-/// Puts a file that is included behind a configuration, or tells why it is left out.
-#[cycle(including)]
-fn push_included<F: Folder, R: Read, W: Write, E: Write>(
-    files: &F,
-    alloc: Global,
-    whole: &mut Whole,
-    open: &mut Vec<usize>,
-    included: &Included,
-    depth: u8,
-    reader: &mut R,
-    writer: &mut W,
-    errors: &mut E,
-) -> Result<(), ProgramFault> {
-    let by = open.last().copied();
-    let Some(depth) = depth.checked_sub(1) else {
-        let why = "files are included at most 8 deep";
-        return tell_left(alloc, whole, by, included, why, writer);
-    };
-    let source = match inclusion_of(alloc, whole, open.as_slice(), included.name.as_slice())? {
-        Inclusion::Left(why) => return tell_left(alloc, whole, by, included, why, writer),
-        Inclusion::Read(source) => source,
-    };
-    match read_config(files, alloc, &source, reader, errors)? {
-        Some(text) => push_source(
-            files,
-            alloc,
-            whole,
-            open,
-            source,
-            text.as_slice(),
-            depth,
-            reader,
-            writer,
-            errors,
-        ),
-        None => tell_left(alloc, whole, by, included, "it cannot be read", writer),
-    }
-}
 
 /// The words of a refusal, without its place.
 fn words_of(alloc: Global, text: &[u8], told: &Diagnosis) -> Result<Vec<u8>, AllocError> {
@@ -369,14 +67,17 @@ fn verified(
         Err(Failure::Memory) => return Err(AllocError),
     };
     match verify_mapped(alloc, mapped.code, mapped.places.as_slice(), size) {
-        Ok(verified) => {
-            let mut line = Vec::new(alloc);
-            push_verified(&mut line, &verified)?;
-            Ok(Ok(line))
-        }
+        Ok(verified) => Ok(Ok(verified_line(alloc, &verified)?)),
         Err(Failure::Refused(told)) => Ok(Err(told)),
         Err(Failure::Memory) => Err(AllocError),
     }
+}
+
+/// The line of a filter that is verified.
+fn verified_line(alloc: Global, verified: &Verified) -> Result<Vec<u8>, AllocError> {
+    let mut line = Vec::new(alloc);
+    push_verified(&mut line, verified)?;
+    Ok(line)
 }
 
 /// Where the words of a filter come from, as comments at the head of its text.
@@ -388,21 +89,31 @@ fn head_of(
     words: &[Word<'_>],
 ) -> Result<Vec<u8>, AllocError> {
     let mut head = Vec::new(alloc);
-    head.extend_from_slice(b"# From ")?;
-    push_place(alloc, &mut head, whole, at)?;
-    head.push(b'\n')?;
+    push_origin(alloc, &mut head, whole, b"# From ", at)?;
     let mut last = at;
     for word in words {
         let is_outside = word.at < at || word.at > end;
         let was_outside = last < at || last > end;
         if is_outside && !was_outside {
-            head.extend_from_slice(b"# and ")?;
-            push_place(alloc, &mut head, whole, word.at)?;
-            head.push(b'\n')?;
+            push_origin(alloc, &mut head, whole, b"# and ", word.at)?;
         }
         last = word.at;
     }
     Ok(head)
+}
+
+/// Adds a comment that tells a place of a configuration.
+fn push_origin(
+    alloc: Global,
+    head: &mut Vec<u8>,
+    whole: &Whole,
+    words: &[u8],
+    at: usize,
+) -> Result<(), AllocError> {
+    head.extend_from_slice(words)?;
+    push_place(alloc, head, whole, at)?;
+    head.push(b'\n')?;
+    Ok(())
 }
 
 /// The name that stands at a byte of a text.
@@ -428,31 +139,45 @@ fn make_filter(
     let head = head_of(alloc, whole, draft.at, draft.end, words)?;
     let written = write_filter(alloc, head.as_slice(), words)?;
     match written.fate {
-        Fate::Garbled => return left_out(alloc, draft.at, Why::Unwritten),
+        Fate::Garbled => left_out(alloc, draft.at, Why::Unwritten),
         Fate::Unset(byte) => {
-            let at = origin_of(written.origins.as_slice(), byte).unwrap_or(draft.at);
             let name = name_at(written.text.as_slice(), byte);
-            return left_out(alloc, at, Why::Unset(name));
+            left_out(
+                alloc,
+                place_of(&written, Some(byte), draft.at),
+                Why::Unset(name),
+            )
         }
-        Fate::Taken | Fate::Refused(_) => {}
+        Fate::Taken | Fate::Refused(_) => verify_filter(alloc, size, draft.at, written),
     }
+}
+
+/// The place of a configuration from which a byte of a filter's text comes; that of the filter if there is none.
+fn place_of(written: &FilterText, byte: Option<usize>, filter: usize) -> usize {
+    match byte {
+        Some(byte) => origin_of(written.origins.as_slice(), byte).unwrap_or(filter),
+        None => filter,
+    }
+}
+
+/// Verifies the text of a filter, which begins at a place.
+fn verify_filter(
+    alloc: Global,
+    size: u32,
+    at: usize,
+    written: FilterText,
+) -> Result<Made, AllocError> {
     match verified(alloc, written.text.as_slice(), size)? {
-        Ok(line) => Ok(Made {
+        Ok(words) => Ok(Made {
             text: Some(written.text),
-            at: draft.at,
-            words: line,
+            at,
+            words,
         }),
-        Err(told) => {
-            let at = match told.byte {
-                Some(byte) => origin_of(written.origins.as_slice(), byte).unwrap_or(draft.at),
-                None => draft.at,
-            };
-            Ok(Made {
-                text: None,
-                at,
-                words: words_of(alloc, written.text.as_slice(), &told)?,
-            })
-        }
+        Err(told) => Ok(Made {
+            text: None,
+            at: place_of(&written, told.byte, at),
+            words: words_of(alloc, written.text.as_slice(), &told)?,
+        }),
     }
 }
 
@@ -498,6 +223,43 @@ fn save<F: Folder, E: Write>(
     }
 }
 
+/// The line that tells what comes of a filter. `path` is the name of its file, where it has one.
+fn made_line(
+    alloc: Global,
+    whole: &Whole,
+    name: &[u8],
+    made: &Made,
+    path: Option<&str>,
+) -> Result<Vec<u8>, AllocError> {
+    let mut line = Vec::new(alloc);
+    push_place(alloc, &mut line, whole, made.at)?;
+    line.extend_from_slice(b" filter ")?;
+    push_shown(alloc, &mut line, name)?;
+    push_path(alloc, &mut line, path)?;
+    push_fate(&mut line, made)?;
+    Ok(line)
+}
+
+/// Adds the name of the file of a filter, where it has one.
+fn push_path(alloc: Global, line: &mut Vec<u8>, path: Option<&str>) -> Result<(), AllocError> {
+    match path {
+        Some(path) => {
+            line.extend_from_slice(b" -> ")?;
+            push_shown(alloc, line, path.as_bytes())
+        }
+        None => Ok(()),
+    }
+}
+
+/// Adds what comes of a filter, to the end of the line.
+fn push_fate(line: &mut Vec<u8>, made: &Made) -> Result<(), AllocError> {
+    let words = made.words.as_slice();
+    match made.text {
+        Some(_) => push_texts(line, &[b" ", words]),
+        None => push_texts(line, &[b": ", words, b": this filter was left out\n"]),
+    }
+}
+
 /// Tells what comes of a filter. `path` is the name of its file, where it has one.
 fn tell_made<W: Write>(
     alloc: Global,
@@ -507,24 +269,8 @@ fn tell_made<W: Write>(
     path: Option<&str>,
     writer: &mut W,
 ) -> Result<(), ProgramFault> {
-    let mut line = Vec::new(alloc);
-    push_place(alloc, &mut line, whole, made.at)?;
-    line.extend_from_slice(b" filter ")?;
-    push_shown(alloc, &mut line, name)?;
-    if let Some(path) = path {
-        line.extend_from_slice(b" -> ")?;
-        push_shown(alloc, &mut line, path.as_bytes())?;
-    }
-    if made.text.is_some() {
-        line.push(b' ')?;
-        line.extend_from_slice(made.words.as_slice())?;
-    } else {
-        line.extend_from_slice(b": ")?;
-        line.extend_from_slice(made.words.as_slice())?;
-        line.extend_from_slice(b": this filter was left out\n")?;
-    }
-    write_text(writer, line.as_slice())?;
-    Ok(())
+    let line = made_line(alloc, whole, name, made, path)?;
+    write_line(writer, line.as_slice())
 }
 
 /// Writes a filter into its file, if there is a folder for it and it is verified, and tells what came of it. Returns whether it was
@@ -551,6 +297,14 @@ fn import_one<F: Folder, W: Write, E: Write>(
     Ok(true)
 }
 
+/// The line that tells of a byte of a configuration.
+fn byte_line(alloc: Global, whole: &Whole, at: usize, words: &str) -> Result<Vec<u8>, AllocError> {
+    let mut line = Vec::new(alloc);
+    push_place(alloc, &mut line, whole, at)?;
+    push_texts(&mut line, &[b" ", words.as_bytes(), b"\n"])?;
+    Ok(line)
+}
+
 /// Tells of a byte of a configuration that begins no word, or behind which nothing is known.
 fn tell_byte<W: Write>(
     alloc: Global,
@@ -559,13 +313,8 @@ fn tell_byte<W: Write>(
     words: &str,
     writer: &mut W,
 ) -> Result<(), ProgramFault> {
-    let mut line = Vec::new(alloc);
-    push_place(alloc, &mut line, whole, at)?;
-    line.extend_from_slice(b" ")?;
-    line.extend_from_slice(words.as_bytes())?;
-    line.push(b'\n')?;
-    write_text(writer, line.as_slice())?;
-    Ok(())
+    let line = byte_line(alloc, whole, at, words)?;
+    write_line(writer, line.as_slice())
 }
 
 /// Imports the filters that drafts are of. Returns whether all of them were.
@@ -683,36 +432,15 @@ pub fn import_source<F: Folder, R: Read, W: Write, E: Write>(
 ) -> Result<u8, ProgramFault>
     ensures { IfOk result (λ status. status ≤ 1) }
 {
-    let mut whole = Whole {
-        text: Vec::new(alloc),
-        stretches: Vec::new(alloc),
-        files: Vec::new(alloc),
-        is_partial: false,
-    };
-    let Some(text) = read_config(files, alloc, source, reader, errors)? else {
-        return Ok(FAILED);
-    };
-    let source = match source {
-        Source::Input => Source::Input,
-        Source::File(name) => Source::File(String::from_str(alloc, name.as_str())?),
-    };
-    let mut open = Vec::new(alloc);
-    push_source(
-        files,
-        alloc,
-        &mut whole,
-        &mut open,
-        source,
-        text.as_slice(),
-        INCLUDE_DEPTH,
-        reader,
-        writer,
-        errors,
-    )?;
-    let is_whole = import_whole(files, alloc, how, &whole, writer, errors)?;
-    Ok(if is_whole && !whole.is_partial {
-        0
-    } else {
-        FAILED
-    })
+    match read_whole(files, alloc, source, reader, writer, errors)? {
+        Some(whole) => {
+            let is_whole = import_whole(files, alloc, how, &whole, writer, errors)?;
+            Ok(if is_whole && !whole.is_partial {
+                0
+            } else {
+                FAILED
+            })
+        }
+        None => Ok(FAILED),
+    }
 }

@@ -7,6 +7,7 @@ mod comparing;
 mod filters;
 mod guided;
 mod importing;
+mod including;
 mod joined;
 mod lines;
 mod loading;

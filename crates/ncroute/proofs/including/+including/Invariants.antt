@@ -1,5 +1,5 @@
 use Rattle.std.proofs.Common.{◌+◌, ◌*◌}
-use Rattle.ncroute.proofs.importing.+including.Given as goal
+use Rattle.ncroute.proofs.including.+including.Given as goal
 
 abbrev pub decreases-push_source : goal.decreases-push_source
 decreases-push_source g l = 2 * l.depth + 1

@@ -1,0 +1,380 @@
+//! A configuration of BIRD, with the files that it includes in their places.
+use crate::texts::{Folder, Unread, name_of, read_source, tell_unread};
+use bird_import::{Include, cut_words, find_includes};
+use command_line::Source;
+use filter_commands::ProgramFault;
+use filter_tools::{place_in, push_shown};
+use line_protocol::{INPUT_LIMIT, push_decimal, write_text};
+use std::alloc::{AllocError, Global};
+use std::io::{Read, Write};
+
+/// How deep files include files at most, as in BIRD.
+const INCLUDE_DEPTH: u8 = 8;
+
+/// A file of a configuration.
+#[derive(Drop)]
+struct File {
+    /// Where it is.
+    source: Source,
+    /// Its text.
+    text: Vec<u8>,
+}
+
+/// A stretch of a configuration that comes from one file.
+#[derive(Clone, Copy)]
+struct Stretch {
+    /// The place of its first byte in the configuration.
+    from: usize,
+    /// The index of its file.
+    file: usize,
+    /// The place of its first byte in the file.
+    at: usize,
+}
+
+/// A configuration with the files that it includes in their places.
+#[derive(Drop)]
+pub struct Whole {
+    /// Its text.
+    pub text: Vec<u8>,
+    /// Where the text comes from, in order.
+    stretches: Vec<Stretch>,
+    /// The files.
+    files: Vec<File>,
+    /// The indexes of the files that are being read, each of which includes the next one.
+    open: Vec<usize>,
+    /// Something of it was not read.
+    pub is_partial: bool,
+}
+
+/// Puts texts at the end of `out`, one behind another.
+pub fn push_texts(out: &mut Vec<u8>, texts: &[&[u8]]) -> Result<(), AllocError> {
+    for text in texts {
+        out.extend_from_slice(text)?;
+    }
+    Ok(())
+}
+
+/// Writes a line.
+pub fn write_line<W: Write>(writer: &mut W, line: &[u8]) -> Result<(), ProgramFault> {
+    write_text(writer, line)?;
+    Ok(())
+}
+
+/// The stretch that a byte of a configuration is in.
+fn stretch_of(whole: &Whole, byte: usize) -> Option<Stretch> {
+    let mut found = None;
+    for stretch in whole.stretches.as_slice() {
+        if stretch.from <= byte {
+            found = Some(*stretch);
+        }
+    }
+    found
+}
+
+/// Puts the file, the line and the column of a byte of a configuration at the end of `out`.
+pub fn push_place(
+    alloc: Global,
+    out: &mut Vec<u8>,
+    whole: &Whole,
+    byte: usize,
+) -> Result<(), AllocError> {
+    match stretch_of(whole, byte) {
+        Some(stretch) => {
+            let at = stretch.at.saturating_add(byte.saturating_sub(stretch.from));
+            push_file_place(alloc, out, whole.files.get(stretch.file), at)
+        }
+        None => Ok(()),
+    }
+}
+
+/// Puts the name of a file, and the line and the column of a byte of it, at the end of `out`, if there is a file.
+fn push_file_place(
+    alloc: Global,
+    out: &mut Vec<u8>,
+    file: Option<&File>,
+    at: usize,
+) -> Result<(), AllocError> {
+    match file {
+        Some(file) => {
+            let place = place_in(file.text.as_slice(), at);
+            push_shown(alloc, out, name_of(&file.source))?;
+            push_number(out, place.line)?;
+            push_number(out, place.column)
+        }
+        None => Ok(()),
+    }
+}
+
+/// Puts a number behind a colon at the end of `out`.
+fn push_number(out: &mut Vec<u8>, number: usize) -> Result<(), AllocError> {
+    out.push(b':')?;
+    push_decimal(out, number as u64)
+}
+
+/// Adds bytes of a file to a configuration.
+fn push_stretch(
+    whole: &mut Whole,
+    file: usize,
+    text: &[u8],
+    from: usize,
+    to: usize,
+) -> Result<(), AllocError> {
+    let Some(bytes) = text.get(from..to) else {
+        return Ok(());
+    };
+    whole.stretches.push(Stretch {
+        from: whole.text.len(),
+        file,
+        at: from,
+    })?;
+    whole.text.extend_from_slice(bytes)
+}
+
+/// The name of a file that another one includes: one that is not absolute is in the folder of the other.
+fn included_name(alloc: Global, by: &Source, name: &str) -> Result<String, AllocError> {
+    let mut path = String::new(alloc);
+    if let Source::File(by) = by {
+        if !name.starts_with('/') {
+            if let Some((folder, _)) = by.as_str().rsplit_once('/') {
+                path.push_str(folder)?;
+                path.push_str("/")?;
+            }
+        }
+    }
+    path.push_str(name)?;
+    Ok(path)
+}
+
+/// Whether a file that is being read has this name.
+fn is_open(whole: &Whole, name: &str) -> bool {
+    for index in whole.open.as_slice() {
+        if let Some(file) = whole.files.get(*index) {
+            if is_named(&file.source, name) {
+                return true;
+            }
+        }
+    }
+    false
+}
+
+/// Whether a source is the file of this name.
+fn is_named(source: &Source, name: &str) -> bool {
+    match source {
+        Source::File(file) => file.as_str() == name,
+        Source::Input => false,
+    }
+}
+
+/// The files that a text includes.
+fn included_in<'a>(alloc: Global, text: &'a [u8]) -> Result<Vec<Include<'a>>, AllocError> {
+    let cut = cut_words(alloc, text)?;
+    find_includes(alloc, cut.words.as_slice())
+}
+
+/// Why a file is not included, or its name.
+enum Inclusion {
+    /// It is read.
+    Read(Source),
+    /// It is not, for this reason.
+    Left(&'static str),
+}
+
+/// What becomes of a file that is included by the last of those that are being read.
+fn inclusion_of(alloc: Global, whole: &Whole, name: &[u8]) -> Result<Inclusion, AllocError> {
+    let Ok(name) = str::from_utf8(name) else {
+        return Ok(Inclusion::Left("its name is no text"));
+    };
+    if name.contains('*') || name.contains('?') || name.contains('[') {
+        return Ok(Inclusion::Left("include each file by its own name"));
+    }
+    let Some(by) = last_file(whole) else {
+        return Ok(Inclusion::Left("it was not read"));
+    };
+    let path = included_name(alloc, &by.source, name)?;
+    if is_open(whole, path.as_str()) {
+        return Ok(Inclusion::Left("the file includes itself"));
+    }
+    Ok(Inclusion::Read(Source::File(path)))
+}
+
+/// The last of the files that are being read.
+fn last_file(whole: &Whole) -> Option<&File> {
+    match whole.open.last() {
+        Some(index) => whole.files.get(*index),
+        None => None,
+    }
+}
+
+/// The line that tells that a file was not included at a place of another one, and why.
+fn left_line(
+    alloc: Global,
+    whole: &Whole,
+    included: &Include<'_>,
+    why: &str,
+) -> Result<Vec<u8>, AllocError> {
+    let mut line = Vec::new(alloc);
+    push_file_place(alloc, &mut line, last_file(whole), included.from)?;
+    line.extend_from_slice(b" include ")?;
+    push_shown(alloc, &mut line, included.name)?;
+    push_texts(
+        &mut line,
+        &[b": ", why.as_bytes(), b": this file was left out\n"],
+    )?;
+    Ok(line)
+}
+
+/// Tells that a file was not included at a place of another one, and why.
+fn tell_left<W: Write>(
+    alloc: Global,
+    whole: &mut Whole,
+    included: &Include<'_>,
+    why: &str,
+    writer: &mut W,
+) -> Result<(), ProgramFault> {
+    whole.is_partial = true;
+    let line = left_line(alloc, whole, included, why)?;
+    write_line(writer, line.as_slice())
+}
+
+/// Reads a file of a configuration. One that cannot be read is told of.
+fn read_config<F: Folder, R: Read, E: Write>(
+    files: &F,
+    alloc: Global,
+    source: &Source,
+    reader: &mut R,
+    errors: &mut E,
+) -> Result<Option<Vec<u8>>, ProgramFault> {
+    let why = match read_source(files, alloc, source, INPUT_LIMIT, reader) {
+        Ok(text) if text.len() <= INPUT_LIMIT => return Ok(Some(text)),
+        Ok(_) => Unread::TooLong,
+        Err(why) => why,
+    };
+    tell_unread(alloc, errors, source, why)?;
+    Ok(None)
+}
+
+/// Begins to read a file: its index.
+fn open_file(
+    alloc: Global,
+    whole: &mut Whole,
+    source: Source,
+    text: &[u8],
+) -> Result<usize, AllocError> {
+    let index = whole.files.len();
+    let text = Vec::from_slice(alloc, text)?;
+    whole.files.push(File { source, text })?;
+    whole.open.push(index)?;
+    Ok(index)
+}
+
+/// Adds what stands behind the last file that a file includes, and ends the file.
+fn close_file(whole: &mut Whole, file: usize, text: &[u8], done: usize) -> Result<(), AllocError> {
+    push_stretch(whole, file, text, done, text.len())?;
+    whole.text.push(b'\n')?;
+    let _ = whole.open.pop();
+    Ok(())
+}
+
+/// Puts the text of a source behind a configuration, with the files that it includes.
+#[cycle(including)]
+fn push_source<F: Folder, R: Read, W: Write, E: Write>(
+    files: &F,
+    alloc: Global,
+    whole: &mut Whole,
+    source: Source,
+    text: &[u8],
+    depth: u8,
+    reader: &mut R,
+    writer: &mut W,
+    errors: &mut E,
+) -> Result<(), ProgramFault> {
+    let file = open_file(alloc, whole, source, text)?;
+    let included = included_in(alloc, text)?;
+    let mut done = 0;
+    for one in included.as_slice() {
+        push_stretch(whole, file, text, done, one.from)?;
+        push_included(files, alloc, whole, one, depth, reader, writer, errors)?;
+        done = one.to;
+    }
+    close_file(whole, file, text, done)?;
+    Ok(())
+}
+
+/// Puts a file that is included behind a configuration, or tells why it is left out.
+#[cycle(including)]
+fn push_included<F: Folder, R: Read, W: Write, E: Write>(
+    files: &F,
+    alloc: Global,
+    whole: &mut Whole,
+    included: &Include<'_>,
+    depth: u8,
+    reader: &mut R,
+    writer: &mut W,
+    errors: &mut E,
+) -> Result<(), ProgramFault> {
+    let Some(depth) = depth.checked_sub(1) else {
+        let why = "files are included at most 8 deep";
+        return tell_left(alloc, whole, included, why, writer);
+    };
+    match inclusion_of(alloc, whole, included.name)? {
+        Inclusion::Left(why) => tell_left(alloc, whole, included, why, writer),
+        Inclusion::Read(source) => match read_config(files, alloc, &source, reader, errors)? {
+            Some(text) => {
+                let text = text.as_slice();
+                push_source(
+                    files, alloc, whole, source, text, depth, reader, writer, errors,
+                )
+            }
+            None => tell_left(alloc, whole, included, "it cannot be read", writer),
+        },
+    }
+}
+
+/// A copy of a source.
+fn copy_of(alloc: Global, source: &Source) -> Result<Source, AllocError> {
+    match source {
+        Source::Input => Ok(Source::Input),
+        Source::File(name) => Ok(Source::File(String::from_str(alloc, name.as_str())?)),
+    }
+}
+
+/// A configuration of which nothing is read.
+fn nothing(alloc: Global) -> Whole {
+    Whole {
+        text: Vec::new(alloc),
+        stretches: Vec::new(alloc),
+        files: Vec::new(alloc),
+        open: Vec::new(alloc),
+        is_partial: false,
+    }
+}
+
+/// Reads the configuration that a source is, with the files that it includes. What is not read is told of; None if the source itself is
+/// not.
+pub fn read_whole<F: Folder, R: Read, W: Write, E: Write>(
+    files: &F,
+    alloc: Global,
+    source: &Source,
+    reader: &mut R,
+    writer: &mut W,
+    errors: &mut E,
+) -> Result<Option<Whole>, ProgramFault> {
+    match read_config(files, alloc, source, reader, errors)? {
+        Some(text) => {
+            let mut whole = nothing(alloc);
+            push_source(
+                files,
+                alloc,
+                &mut whole,
+                copy_of(alloc, source)?,
+                text.as_slice(),
+                INCLUDE_DEPTH,
+                reader,
+                writer,
+                errors,
+            )?;
+            Ok(Some(whole))
+        }
+        None => Ok(None),
+    }
+}
