@@ -1,3 +1,4 @@
 pub mod Holding
 pub mod Merging
 pub mod Rows
+pub mod Searching

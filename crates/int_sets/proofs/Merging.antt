@@ -1,56 +1,13 @@
 -- Ranges in order: what a search of them finds, and what merging two of them keeps.
-use Rattle.std.proofs.Common.{◌≡◌, ℕ, ◌+◌, ◌-◌, ◌<◌, ◌≤◌, ◌||◌, ◌⊎◌, inl, inr, nat_le, max, Bool, true, false, List, [], ◌∷◌, ◌++◌, length}
+use Rattle.std.proofs.Common.{◌≡◌, ℕ, ◌+◌, ◌-◌, ◌<◌, ◌≤◌, ◌||◌, max, Bool, true, false, List, [], ◌∷◌, ◌++◌, length}
 use Rattle.std.proofs.Common.{get_or, set, take, refl, sym, ap, ◌∙◌, arith}
-use Rattle.std.proofs.lemmas.Bool.{cases_lt, leb-true, leb-false}
 use Rattle.std.proofs.lemmas.Bool.Decides.{nat_tests}
-use Rattle.std.proofs.lemmas.List.{get_or_default, length-set, take_all, take_more, take_more_set}
-use Rattle.std.proofs.lemmas.List.Folds.{list_any-append, list_any_at, list_any_none}
+use Rattle.std.proofs.lemmas.List.{length-set, take_all, take_more, take_more_set}
+use Rattle.std.proofs.lemmas.List.Folds.{list_any-append}
 use Rattle.std.proofs.lemmas.List.Sorted.{IsNonDecreasingBy-push}
-use Rattle.std.specs.List.{All, AllWithin}
-use Rattle.std.specs.List.Sorted.{IsNonDecreasingBy, IsPartitionPoint}
+use Rattle.std.specs.List.{All}
 use Rattle.int_sets.specs.Holding.{NumberRange, holds, holds_any}
 use Rattle.int_sets.specs.Merged.{AreRising}
-
-same_test : (a b : Bool) → (a ≡ true → b ≡ true) → (a ≡ false → b ≡ false) → a ≡ b
-same_test true b if_true if_false = sym (if_true refl)
-same_test false b if_true if_false = sym (if_false refl)
-
-held : (number : ℕ) (r : NumberRange) → r.low ≤ number → number ≤ r.high → holds number r ≡ true
-held number r above below = grind (arith, nat_tests)
-
-begins_later : (number : ℕ) (r : NumberRange) → number < r.low → holds number r ≡ false
-begins_later number r later = grind (arith, nat_tests)
-
-ends_before : (number : ℕ) (r : NumberRange) → r.high < number → holds number r ≡ false
-ends_before number r before = grind (arith, nat_tests)
-
--- none of rising ranges holds a number, if it is past the last of those that begin at it or before it
-not_held : (number count k : ℕ) (ranges : List NumberRange) (d : NumberRange) → IsNonDecreasingBy (λ r. r.high) ranges →
-    0 < count → count ≤ length ranges → AllWithin (λ r. nat_le r.low number ≡ false) ranges count (length ranges) →
-    (get_or ranges (count - 1) d).high < number → k < length ranges → (k < count) ⊎ (count ≤ k) →
-    holds number (get_or ranges k d) ≡ false
-not_held number count k ranges d rising some within later past inside (inl early) =
-    ends_before number _ (omega (arith, rising k (count - 1) d (omega arith) (omega arith)))
-not_held number count k ranges d rising some within later past inside (inr late) =
-    begins_later number _ (leb-false _ _ (later k d late inside))
-
--- of rising ranges, those that begin at a number or before it hold it if and only if the last of them does
-pub last_tells : (number count : ℕ) (ranges : List NumberRange) (last : NumberRange) → AreRising ranges →
-    0 < count → count ≤ length ranges → IsPartitionPoint (λ r. nat_le r.low number ≡ true) (λ r. nat_le r.low number ≡ false) ranges count →
-    last ≡ get_or ranges (count - 1) last → nat_le number last.high ≡ holds_any number ranges
-last_tells number count ranges last rising some within point is =
-    let low : last.low ≤ number = rw is (leb-true _ _ (point.0 (count - 1) last (omega arith) (omega arith))) in
-    same_test _ _
-    (λ e. list_any_at (holds number) ranges (count - 1) last (omega arith) (rw (← is) (held number last low (leb-true _ _ e))))
-    (λ e. list_any_none (holds number) ranges (λ k d inside.
-    let same : get_or ranges (count - 1) d ≡ last = get_or_default ranges (count - 1) d last (omega arith) ∙ sym is in
-    not_held number count k ranges d rising.high some within point.1 (rw same (leb-false _ _ e)) inside (cases_lt k count)))
-
--- if none begins at a number or before it, none holds it
-pub none_tells : (number : ℕ) (ranges : List NumberRange) →
-    IsPartitionPoint (λ r. nat_le r.low number ≡ true) (λ r. nat_le r.low number ≡ false) ranges 0 → holds_any number ranges ≡ false
-none_tells number ranges point =
-    list_any_none (holds number) ranges (λ k d inside. begins_later number _ (leb-false _ _ (point.1 k d (omega arith) inside)))
 
 -- two ranges of which the first reaches the second hold together what one from the first number to the greater last one holds
 widened : (number : ℕ) (last range : NumberRange) → last.low ≤ range.low → range.low ≤ last.high →

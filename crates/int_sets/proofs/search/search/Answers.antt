@@ -1,18 +1,16 @@
-use Rattle.std.proofs.Common.{rules, ◌≡◌, nat_le, sym, arith}
-use Rattle.std.proofs.lemmas.List.Sorted.{IsPartitionPoint-from_clause, IsPartitionedBy-leb}
-use Rattle.int_sets.proofs.Merging.{last_tells, none_tells}
+use Rattle.std.proofs.Common.{◌≡◌, ◌+◌, ◌-◌, ◌/◌, ◌∙◌, arith}
+use Rattle.std.proofs.Math.Nat.{mul-div-le}
+use Rattle.int_sets.proofs.Searching.{left_tells, still_left}
 use Rattle.int_sets.proofs.search.search.Goals as goal
 
-pub returns-then-count-gt0 : goal.returns-then-count-gt0
-returns-then-count-gt0 c =
-    let parted = IsPartitionedBy-leb (λ r. r.low) _ c.args.number c.requires.low in
-    let point = IsPartitionPoint-from_clause (λ r. nat_le r.low c.args.number) _ _ c.partition_point-count.ensures.partitioned parted (λ a r q k. search rules) in
-    rw c.high.ensures
-    (last_tells c.args.number _ _ c.index-ranges-count.result c.requires c.if-count-gt0.true c.partition_point-count.ensures.bound point c.index-ranges-count.is)
+pub loop-size-preserved : goal.loop-size-preserved
+loop-size-preserved c =
+    still_left c.args.number c.loop-size.base c.loop-size.size (c.loop-size.size / 4) c.part_of.result c.args.ranges.now c.requires c.loop-size.invariant
+    (mul-div-le c.loop-size.size 4) (omega (arith, c.loop-size-test.true)) c.part_of.ensures.limit c.part_of.ensures.begun c.part_of.ensures.later
 
-pub returns-else-count-gt0 : goal.returns-else-count-gt0
-returns-else-count-gt0 c =
-    let parted = IsPartitionedBy-leb (λ r. r.low) _ c.args.number c.requires.low in
-    let point = IsPartitionPoint-from_clause (λ r. nat_le r.low c.args.number) _ _ c.partition_point-count.ensures.partitioned parted (λ a r q k. search rules) in
-    let none : c.partition_point-count.result ≡ 0 = omega arith in
-    rw none (sym (none_tells c.args.number _ (rw none at point)))
+pub returns : goal.returns
+returns c =
+    let base = c.loop-size.base in
+    let size = c.loop-size.size in
+    let count : base + size - base ≡ size = omega arith in
+    c.scan.ensures ∙ rw count (left_tells c.args.number base size c.args.ranges.now c.requires c.loop-size.invariant)
