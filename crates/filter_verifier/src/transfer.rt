@@ -193,42 +193,43 @@ pub fn transfer(
 {
     let length = Fact::Int(Range::of_length(size));
     match instr {
-        Instr::Int(number) => give_int(Range::of_number(size, number), stack)?,
-        Instr::Bool(_) => give(Fact::Bool, stack)?,
-        Instr::Ip(_) => give(Fact::Ip, stack)?,
-        Instr::Prefix(_) | Instr::Net => give(Fact::Prefix, stack)?,
-        Instr::Load(local) => give(load(locals, local)?, stack)?,
+        Instr::Int(number) => give_int(Range::of_number(size, number), stack),
+        Instr::Bool(_) => give(Fact::Bool, stack),
+        Instr::Ip(_) => give(Fact::Ip, stack),
+        Instr::Prefix(_) | Instr::Net => give(Fact::Prefix, stack),
+        Instr::Load(local) => give(load(locals, local)?, stack),
         Instr::Store(local) => {
             check_name(local, locals.len())?;
             locals[usize::from(local)] = Some(stack.take_one()?);
+            Ok(())
         }
-        Instr::Metric | Instr::Received => give_int(Range::of_metric(size), stack)?,
-        Instr::SetMetric => not_lower(take_int(stack)?)?,
-        Instr::Add => give_int(Range::sum(size, take_two_ints(stack)?), stack)?,
-        Instr::Sub => give_int(Range::difference(size, take_two_ints(stack)?), stack)?,
-        Instr::Mul => give_int(Range::product(size, take_two_ints(stack)?), stack)?,
-        Instr::Div => give_int(quotient(size, take_two_ints(stack)?)?, stack)?,
-        Instr::Max => give_int(Range::greater(size, take_two_ints(stack)?), stack)?,
-        Instr::Eq => give(equal(stack.take_two()?)?, stack)?,
-        Instr::Lt | Instr::Le => give(ordered(stack.take_two()?)?, stack)?,
-        Instr::Not => give(take_bool(stack, Fact::Bool)?, stack)?,
-        Instr::Addr => give(take_prefix(stack, Fact::Ip)?, stack)?,
-        Instr::Len => give(take_prefix(stack, length)?, stack)?,
-        Instr::Mask(_) => give(take_ip(stack, Fact::Ip)?, stack)?,
-        Instr::Within => give(within(stack.take_two()?)?, stack)?,
+        Instr::Metric | Instr::Received => give_int(Range::of_metric(size), stack),
+        Instr::SetMetric => not_lower(take_int(stack)?),
+        Instr::Add => give_int(Range::sum(size, take_two_ints(stack)?), stack),
+        Instr::Sub => give_int(Range::difference(size, take_two_ints(stack)?), stack),
+        Instr::Mul => give_int(Range::product(size, take_two_ints(stack)?), stack),
+        Instr::Div => give_int(quotient(size, take_two_ints(stack)?)?, stack),
+        Instr::Max => give_int(Range::greater(size, take_two_ints(stack)?), stack),
+        Instr::Eq => give(equal(stack.take_two()?)?, stack),
+        Instr::Lt | Instr::Le => give(ordered(stack.take_two()?)?, stack),
+        Instr::Not => give(take_bool(stack, Fact::Bool)?, stack),
+        Instr::Addr => give(take_prefix(stack, Fact::Ip)?, stack),
+        Instr::Len => give(take_prefix(stack, length)?, stack),
+        Instr::Mask(_) => give(take_ip(stack, Fact::Ip)?, stack),
+        Instr::Within => give(within(stack.take_two()?)?, stack),
         Instr::Member(set) => {
             check_name(set, code.sets().len())?;
-            give(take_prefix(stack, Fact::Bool)?, stack)?;
+            give(take_prefix(stack, Fact::Bool)?, stack)
         }
         Instr::InSet(set) => {
             check_name(set, code.int_sets().len())?;
             take_int(stack)?;
-            give(Fact::Bool, stack)?;
+            give(Fact::Bool, stack)
         }
         Instr::JumpIfNot(_) => {
             take_bool(stack, Fact::Bool)?;
+            Ok(())
         }
-        Instr::Jump(_) | Instr::Accept | Instr::Reject => {}
+        Instr::Jump(_) | Instr::Accept | Instr::Reject => Ok(()),
     }
-    Ok(())
 }
