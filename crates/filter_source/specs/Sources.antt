@@ -62,6 +62,12 @@ IsRefusedText text Hexadecimal = ⊥
 IsRefusedText text (File why) = ⊥
 IsRefusedText text (Verify why) = ⊥
 
+-- Two refusals of one text are the same. Only which fault of its spelling is answered, or which of its names and kinds, is left open.
+abbrev pub AreAlike : Refusal → Refusal → Type 0
+AreAlike (Parse why) (Parse other) = Unit {0}
+AreAlike (Typing why) (Typing other) = Unit {0}
+AreAlike why other = why ≡ other
+
 -- the code of a file, or the fault of its bytes
 abbrev pub code_or_fault : Result CodeView FileFault → Result CodeView Refusal
 code_or_fault (Ok program) = Ok program

@@ -5,6 +5,7 @@ pub mod Sourced
 pub mod Entering
 pub mod Growing
 pub mod Going
+pub mod Alike
 pub mod Viewed
 pub mod Unended
 pub mod Ending

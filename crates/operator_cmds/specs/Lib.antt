@@ -15,5 +15,6 @@ pub mod Looks
 pub mod Script
 pub mod Entries
 pub mod Running
+pub mod Alike
 -- What contracts see of a script.
 pub mod State

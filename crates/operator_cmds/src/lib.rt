@@ -20,7 +20,7 @@ mod words;
 pub use command::{Command, Look};
 pub use fault::CommandFault;
 pub use filter::{verify_file, verify_text};
-pub use laws::one_line_one_entry;
+pub use laws::{one_line_one_entry, two_runs_are_answered_alike};
 pub use look::{answer_history, answer_look};
 pub use name::is_name;
 pub use read::{read_code, read_command, read_load, read_node, read_node_prefix, read_small};
