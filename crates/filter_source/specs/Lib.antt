@@ -6,3 +6,4 @@ pub mod Failures
 pub mod Sources
 pub mod TextPlaces
 pub mod VerifiedLine
+pub mod BoundsLine

@@ -34,7 +34,7 @@ impl Diagnosis {
     }
 
     /// That of code whose instructions come from these places of a text.
-    pub(crate) fn of_code(fault: VerifyFault, range: Option<Range>, places: &[usize]) -> Diagnosis
+    pub fn of_code(fault: VerifyFault, range: Option<Range>, places: &[usize]) -> Diagnosis
         ensures { result ≡ spec.of_code fault range places.now }
     {
         Diagnosis {

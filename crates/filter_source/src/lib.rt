@@ -17,4 +17,4 @@ pub use source::{
     SOURCE_LIMIT, check_length, compile_text, compile_text_mapped, read_file, read_hexadecimal,
     verify_code, verify_mapped, write_file,
 };
-pub use verified_line::push_verified;
+pub use verified_line::{push_bounds, push_verified};

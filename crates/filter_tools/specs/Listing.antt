@@ -1,22 +1,27 @@
 -- The listing of a code: a line for each instruction, with the place in the text that it comes from, and, for domains of a size, a
 -- line before it that says what the verifier knows there. (This project's own choice.)
-use Rattle.std.specs.Prelude.{◌≡◌, ℕ, zero, suc, ◌+◌, ◌⊎◌, Bool, true, false, if◌then◌else◌, List, [], ◌∷◌, ◌++◌, Option, Some, None, IfSome, codes, decimal, length, slice_get}
+use Rattle.std.specs.Prelude.{◌≡◌, ℕ, zero, suc, ◌+◌, ◌⊎◌, Bool, true, false, if◌then◌else◌, List, [], ◌∷◌, ◌++◌, Option, Some, None, IfSome, Result, Ok, Err, codes, decimal, length, slice_get}
 use Rattle.std.specs.Option.{option_map}
 use Rattle.std.specs.Io.KnownBytes.{Appends}
 use Rattle.filter_code.specs.CodeView.{CodeView}
 use Rattle.filter_code.specs.declared.instruction.Instr.{Instr}
 use Rattle.filter_code.specs.declared.instruction.Instr.TheVariants as instr
-use Rattle.filter_source.specs.Diagnoses.{TellsOfCode, of_source}
+use Rattle.filter_source.specs.Diagnoses.{TellsOfCode, of_code, of_source}
 use Rattle.filter_source.specs.Sources.{IsUnsafe}
+use Rattle.filter_source.specs.BoundsLine.{bounds_line}
 use Rattle.filter_source.specs.declared.diagnosis.Diagnosis.{Diagnosis}
 use Rattle.filter_source.specs.declared.refusal.Refusal.{Refusal}
 use Rattle.filter_source.specs.declared.refusal.Refusal.TheVariants.{Verify}
+use Rattle.filter_verifier.specs.Faults.{fault_code, fault_place}
 use Rattle.filter_verifier.specs.FirstFault.{the_fault}
 use Rattle.filter_verifier.specs.InStateView.{InStateView, Unreached, UnlikeDepths, Known}
 use Rattle.filter_verifier.specs.InStates.{in_state}
 use Rattle.filter_verifier.specs.Surveys.{surveyed}
 use Rattle.filter_verifier.specs.declared.fact.Fact.{Fact}
 use Rattle.filter_verifier.specs.declared.fact.Fact.TheVariants as fact
+use Rattle.filter_verifier.specs.declared.fault.Unverified.{Unverified}
+use Rattle.filter_verifier.specs.declared.survey.RunBounds.{RunBounds}
+use Rattle.line_protocol.specs.Answers.{refusal}
 use Rattle.line_protocol.specs.Runs.{AppendsFront}
 use Rattle.line_protocol.specs.declared.faults.StreamFault.{StreamFault}
 use Rattle.line_protocol.specs.declared.faults.StreamFault.TheVariants.{Read, Write, Memory, TooLong}
@@ -91,6 +96,12 @@ IsListing (Some size) program origin text why = (front : List ℕ)
     × Lists program.instrs (known_before program size) origin (surveyed program size (the_fault program size)) front
     × (text ≡ front ++ (verdict_on program (the_fault program size)).text)
     × (why ≡ option_map (λ fault. Verify fault) (the_fault program size))
+
+-- A listing ends so: with the bounds that are found, or with the first thing that is not known, and this is told of it.
+abbrev pub EndsListing : List ℕ → Result RunBounds Unverified → List ℕ → List ℕ → Option Diagnosis → Type 0
+EndsListing places (Ok bounds) front text told = (text ≡ front ++ bounds_line bounds.budget bounds.depth) × (told ≡ None)
+EndsListing places (Err found) front text told =
+    (text ≡ front ++ refusal (fault_code found.fault) (fault_place found.fault)) × (told ≡ Some (of_code found.fault found.range places))
 
 -- the listing of a source, or the line that refuses it
 abbrev pub IsListed : Option ℕ → Bool → List ℕ → List ℕ → Option Refusal → Type 0

@@ -2,15 +2,13 @@
 ghost use Rattle.std.specs.Prelude.{◌≡◌, ◌≤◌, ◌<◌, ◌++◌, ℕ, List, [], Some, IfOk, IfErr, IfSome, OnOk, length, slice_get};
 ghost use Rattle.std.specs.Io.KnownBytes.{Appends};
 ghost use Rattle.filter_code.specs.Limits.{instruction_limit};
-ghost use Rattle.filter_commands.specs.Check.{verdict_on};
 ghost use Rattle.filter_commands.specs.Faults.{stream_fault};
 ghost use Rattle.filter_source.specs.Diagnoses.{TellsOfCode};
 ghost use Rattle.filter_source.specs.Sources.{IsUnsafe};
-ghost use Rattle.filter_verifier.specs.FirstFault.{the_fault};
 ghost use Rattle.filter_verifier.specs.InStateView.{Known};
-ghost use Rattle.filter_verifier.specs.Pass.{in_state_view};
-ghost use Rattle.filter_verifier.specs.Surveys.{surveyed};
-ghost use Rattle.filter_tools.specs.Listing.{IsCutListing, IsListed, IsListing, Lists, fact_text, instruction_line, known_before, mark};
+ghost use Rattle.filter_verifier.specs.InStates.{in_state};
+ghost use Rattle.filter_verifier.specs.Pass.{in_state_view, state_at};
+ghost use Rattle.filter_tools.specs.Listing.{EndsListing, IsCutListing, IsListed, IsListing, Lists, fact_text, instruction_line, known_before, mark};
 ghost use Rattle.filter_tools.specs.Listing.{IsToldOfCode, IsToldOfListing, WritesListing, refusal_in};
 ghost use Rattle.filter_tools.specs.Listing.{nothing_known, origin_in, place_text, places_text, state_text, target_text};
 
@@ -19,8 +17,8 @@ use crate::position::Positions;
 use filter_code::{Code, Instr};
 use filter_commands::{ProgramFault, code_of};
 use filter_compiler::MappedCode;
-use filter_source::{Diagnosis, Failure, Refusal, place_at, push_verified, verify_mapped};
-use filter_verifier::{AbstractFrame, Fact, InState, Range, survey_code};
+use filter_source::{Diagnosis, Failure, Refusal, place_at, push_bounds};
+use filter_verifier::{AbstractFrame, Fact, InState, Range, RunBounds, Unverified, survey_code};
 use line_protocol::{push_decimal, push_refusal, write_text};
 use std::alloc::{AllocError, Global};
 use std::io::Write;
@@ -166,68 +164,81 @@ fn list_instructions(alloc: Global, code: &Code, origins: &Origins) -> Result<Ve
     Ok(out)
 }
 
-/// The lines of the instructions that the verifier visits in domains of a size, each behind what it knows there.
+/// The lines of the first instructions of a code, each behind what the verifier knows there in domains of a size.
 fn list_visited(
     alloc: Global,
     code: &Code,
     origins: &Origins,
     size: u32,
+    in_states: &[InState],
 ) -> Result<Vec<u8>, AllocError>
+    requires known { (k : ℕ) → k < length in_states.now → state_at in_states.now k ≡ in_state code.now size k }
+    requires within { length in_states.now ≤ length code.now.instrs }
     ensures { IfOk result (λ text. Lists code.now.instrs (known_before code.now size) (origin_in origins.now.source origins.now.places.now)
-        (surveyed code.now size (the_fault code.now size)) text.items) }
+        (length in_states.now) text.items) }
 {
-    let survey = survey_code(alloc, code, size)?;
     let instrs = code.instrs();
     let mut out = Vec::new(alloc);
-    for (at, state) in survey.in_states.iter().enumerate() {
+    for (at, state) in in_states.iter().enumerate() {
         push_state(&mut out, state)?;
         push_instruction(alloc, &mut out, origins, at, instrs[at])?;
     }
     Ok(out)
 }
 
+/// The end of a listing: the bounds of the code, or why it is refused.
+fn end_listing(
+    text: Vec<u8>,
+    places: &[usize],
+    verdict: Result<RunBounds, Unverified>,
+) -> Result<Listing, AllocError>
+    ensures listing { IfOk result (λ listing. EndsListing places.now verdict text.items listing.text.items listing.told) }
+{
+    let mut text = text;
+    match verdict {
+        Ok(bounds) => {
+            push_bounds(&mut text, bounds)?;
+            Ok(Listing { text, told: None })
+        }
+        Err(Unverified { fault, range }) => {
+            push_refusal(&mut text, fault.code(), fault.at() as u64)?;
+            Ok(Listing {
+                text,
+                told: Some(Diagnosis::of_code(fault, range, places)),
+            })
+        }
+    }
+}
+
 /// The listing of code for domains of a size: it ends with the bounds of the code, or with why it is refused.
 fn list_verified(
     alloc: Global,
-    code: Code,
+    code: &Code,
     origins: &Origins,
     size: u32,
 ) -> Result<Listing, AllocError>
-    ensures listing { IfOk result (λ listing. IsListing (Some size) code (origin_in origins.now.source origins.now.places.now) listing.text.items (refusal_in listing.told)) }
-    ensures told { IfOk result (λ listing. IfSome listing.told (λ told. IsUnsafe code size told.refusal × TellsOfCode code origins.now.places.now size told)) }
+    ensures listing { IfOk result (λ listing. IsListing (Some size) code.now (origin_in origins.now.source origins.now.places.now) listing.text.items (refusal_in listing.told)) }
+    ensures told { IfOk result (λ listing. IfSome listing.told (λ told. IsUnsafe code.now size told.refusal × TellsOfCode code.now origins.now.places.now size told)) }
 {
-    let mut text = list_visited(alloc, &code, origins, size)?;
-    match verify_mapped(alloc, code, origins.places, size) {
-        Ok(verified) => {
-            push_verified(&mut text, &verified)?;
-            Ok(Listing { text, told: None })
-        }
-        Err(Failure::Refused(told)) => {
-            let why = told.refusal;
-            push_refusal(&mut text, why.code(), why.at() as u64)?;
-            Ok(Listing {
-                text,
-                told: Some(told),
-            })
-        }
-        Err(Failure::Memory) => Err(AllocError),
-    }
+    let survey = survey_code(alloc, code, size)?;
+    let text = list_visited(alloc, code, origins, size, survey.in_states.as_slice())?;
+    end_listing(text, origins.places, survey.verdict)
 }
 
 /// The listing of code.
 fn list(
     alloc: Global,
-    code: Code,
+    code: &Code,
     origins: &Origins,
     size: Option<u32>,
 ) -> Result<Listing, AllocError>
-    ensures listing { IfOk result (λ listing. IsListing size code (origin_in origins.now.source origins.now.places.now) listing.text.items (refusal_in listing.told)) }
-    ensures told { IfOk result (λ listing. IfSome listing.told (IsToldOfCode size code origins.now.places.now)) }
+    ensures listing { IfOk result (λ listing. IsListing size code.now (origin_in origins.now.source origins.now.places.now) listing.text.items (refusal_in listing.told)) }
+    ensures told { IfOk result (λ listing. IfSome listing.told (IsToldOfCode size code.now origins.now.places.now)) }
 {
     match size {
         Some(size) => list_verified(alloc, code, origins, size),
         None => Ok(Listing {
-            text: list_instructions(alloc, &code, origins)?,
+            text: list_instructions(alloc, code, origins)?,
             told: None,
         }),
     }
@@ -249,7 +260,7 @@ fn list_source(
                 source: Positions::new(alloc, source)?,
                 places: places.as_slice(),
             };
-            list(alloc, code, &origins, size)
+            list(alloc, &code, &origins, size)
         }
         Err(Failure::Refused(told)) => Ok(Listing {
             text: refusal_line(alloc, told.refusal)?,

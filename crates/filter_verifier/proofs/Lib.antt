@@ -19,3 +19,4 @@ pub mod Sizes
 pub mod Sound
 pub mod Steps
 pub mod Surveys
+pub mod Verdicts

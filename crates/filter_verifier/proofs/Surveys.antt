@@ -14,33 +14,27 @@ use Rattle.filter_verifier.specs.declared.in_state.InState.{InState}
 use Rattle.filter_verifier.specs.AbstractFrameView.{AbstractFrameView}
 use Rattle.filter_verifier.specs.Facts.{all_known, fact_fault, fact_given, kind_of_fact}
 use Rattle.filter_verifier.specs.Faults.{fault_place, refusal_of}
-use Rattle.filter_verifier.specs.FirstFault.{first_fault, or_else, refused_by}
-use Rattle.filter_verifier.specs.InStates.{in_state, out_state_at, propagated}
+use Rattle.filter_verifier.specs.FirstFault.{first_fault, refused_by}
+use Rattle.filter_verifier.specs.InStates.{in_state, propagated}
 use Rattle.filter_verifier.specs.InStateView.{InStateView, Known, UnlikeDepths, Unreached}
 use Rattle.filter_verifier.specs.OutStateView.{OutStateView, Passed, Refused, Skipped}
 use Rattle.filter_verifier.specs.PairwiseJoin.{join_two_states}
-use Rattle.filter_verifier.specs.Pass.{as_in_state, entry_state, frame_of, in_state_view, joined_below, state_at}
+use Rattle.filter_verifier.specs.Pass.{as_in_state, frame_of, in_state_view, state_at}
 use Rattle.filter_verifier.specs.Surveys.{reach}
 use Rattle.filter_verifier.specs.Transfer.{frame_after, if_inside, judge, leads_below, out_state, out_state_of_frame}
 use Rattle.filter_verifier.specs.Transfer.{out_state_of_known, unless_over, unless_refused}
-use Rattle.filter_verifier.proofs.Passes.{Before, fault_next, first_stays, next_joined}
-use Rattle.filter_verifier.proofs.Propagation.{joined_at_entry}
+use Rattle.filter_verifier.proofs.Passes.{Before, refused}
 
 -- before the visit of an index: what waits, and what was kept
-pub record Kept (program : CodeView) (size n : ℕ) (waiting in_states : List InState) : Type 0 where
-  pub wide : length waiting ≡ length program.instrs
-  pub none : first_fault program size n ≡ None
-  pub waits : (k : ℕ) → state_at waiting k ≡ joined_below program size n k
+pub record Kept (program : CodeView) (size n : ℕ) (waiting in_states : List InState) (depth : ℕ) : Type 0 where
+  pub before : Before program size n waiting depth
   pub counted : length in_states ≡ n
   pub kept : (k : ℕ) → k < n → state_at in_states k ≡ in_state program size k
 
-pub begun : (program : CodeView) (size : ℕ) (waiting in_states : List InState) → length waiting ≡ length program.instrs →
-    ((k : ℕ) → state_at waiting k ≡ entry_state program k) → in_states ≡ [] → Kept program size 0 waiting in_states
-unfolding first_fault
-begun program size waiting in_states wide waits empty = record {
-  wide = wide;
-  none = refl;
-  waits = λ k. waits k ∙ sym (joined_at_entry program size k);
+pub begun : (program : CodeView) (size : ℕ) (waiting in_states : List InState) → Before program size 0 waiting 0 → in_states ≡ [] →
+    Kept program size 0 waiting in_states 0
+begun program size waiting in_states before empty = record {
+  before = before;
   counted = ap (λ (s : List InState). length s) empty;
   kept = λ k h. absurd (omega arith);
 }
@@ -60,38 +54,25 @@ count_more [] w = refl
 count_more (v ∷ in_states) w = omega (arith, count_more in_states w)
 
 -- the states that are kept with one more
-pub kept_more : (program : CodeView) (size n : ℕ) (waiting in_states : List InState) (w : InState) →
-    Kept program size n waiting in_states → in_state_view w ≡ state_at waiting n →
+pub kept_more : (program : CodeView) (size n : ℕ) (waiting in_states : List InState) (depth : ℕ) (w : InState) →
+    Kept program size n waiting in_states depth → in_state_view w ≡ state_at waiting n →
     (k : ℕ) → k < n + 1 → state_at (in_states ++ w ∷ []) k ≡ in_state program size k
-kept_more program size n waiting in_states w before is =
+kept_more program size n waiting in_states depth w so_far is =
     below_more (λ k. state_at (in_states ++ w ∷ []) k ≡ in_state program size k) n
-    (λ k h. let inside : k < length in_states = omega (arith, before.counted) in
-    state_before in_states w k inside ∙ before.kept k h)
-    (subst (λ (m : ℕ). state_at (in_states ++ w ∷ []) m ≡ in_state program size n) before.counted
-    (state_here in_states w ∙ (is ∙ before.waits n)))
+    (λ k h. let inside : k < length in_states = omega (arith, so_far.counted) in
+    state_before in_states w k inside ∙ so_far.kept k h)
+    (subst (λ (m : ℕ). state_at (in_states ++ w ∷ []) m ≡ in_state program size n) so_far.counted
+    (state_here in_states w ∙ (is ∙ so_far.before.waits n)))
 
 -- an index that is not refused
-pub advanced : (program : CodeView) (size n : ℕ) (waiting next in_states : List InState) (w : InState) →
-    Kept program size n waiting in_states →
-    in_state_view w ≡ state_at waiting n →
-    length next ≡ length waiting →
-    refused_by (out_state program size n (state_at waiting n)) ≡ None →
-    ((k : ℕ) → state_at next k
-    ≡ join_two_states (state_at waiting k) (as_in_state (propagated program n (out_state program size n (state_at waiting n)) k))) →
-    Kept program size (n + 1) next (in_states ++ w ∷ [])
-advanced program size n waiting next in_states w before is wide none waits =
-    let same : out_state program size n (state_at waiting n) ≡ out_state_at program size n = ap (out_state program size n) (before.waits n) in
-    record {
-      wide = wide ∙ before.wide;
-      none = fault_next program size n ∙ (ap (λ (o : Option VerifyFault). or_else o
-          (refused_by (out_state_at program size n))) before.none ∙ (sym (ap refused_by same) ∙ none));
-      waits = λ k. waits k ∙ (ap (λ (a : InStateView). join_two_states a
-          (as_in_state (propagated program n (out_state program size n (state_at waiting n)) k))) (before.waits k)
-          ∙ (ap (λ (v : OutStateView). join_two_states (joined_below program size n k) (as_in_state (propagated program n v k))) same
-          ∙ sym (next_joined program size n k)));
-      counted = count_more in_states w ∙ ap (λ (m : ℕ). m + 1) before.counted;
-      kept = kept_more program size n waiting in_states w before is;
-    }
+pub advanced : (program : CodeView) (size n : ℕ) (waiting next in_states : List InState) (depth deeper : ℕ) (w : InState) →
+    Kept program size n waiting in_states depth → in_state_view w ≡ state_at waiting n → Before program size (n + 1) next deeper →
+    Kept program size (n + 1) next (in_states ++ w ∷ []) deeper
+advanced program size n waiting next in_states depth deeper w so_far is before = record {
+  before = before;
+  counted = count_more in_states w ∙ ap (λ (m : ℕ). m + 1) so_far.counted;
+  kept = kept_more program size n waiting in_states depth w so_far is;
+}
 
 -- a refusal stands at the index that it names
 abbrev IsAt : ℕ → Option VerifyFault → Type 0
@@ -156,34 +137,22 @@ pub is_at : (program : CodeView) (size at : ℕ) (a : InStateView) (why : Verify
 is_at program size at a why found = subst (IsAt at) found (found_is_at at (out_state program size at a) (visit_is_at program size at a))
 
 -- the survey ends at an index that is refused
-pub refused : (program : CodeView) (size n : ℕ) (waiting in_states : List InState) (why : VerifyFault) →
-    Kept program size n waiting in_states →
+pub reached : (program : CodeView) (size n : ℕ) (waiting in_states : List InState) (depth : ℕ) (w : InState) (why : VerifyFault) →
+    Kept program size n waiting in_states depth →
     refused_by (out_state program size n (state_at waiting n)) ≡ Some why →
     n < length program.instrs →
-    Some why ≡ first_fault program size (length program.instrs)
-refused program size n waiting in_states why before found inside =
-    let same : out_state program size n (state_at waiting n) ≡ out_state_at program size n = ap (out_state program size n) (before.waits n) in
-    let here : first_fault program size (n + 1) ≡ Some why = fault_next program size n
-    ∙ (ap (λ (o : Option VerifyFault). or_else o (refused_by (out_state_at program size n))) before.none
-    ∙ (sym (ap refused_by same) ∙ found)) in
-    let P : ℕ → Type 0 = λ m. first_fault program size m ≡ Some why in
-    let reaches : ((n + 1) + (length program.instrs - (n + 1))) ≡ length program.instrs = omega arith in
-    sym (subst P reaches (first_stays program size (n + 1) (length program.instrs - (n + 1)) why here))
-
-pub reached : (program : CodeView) (size n : ℕ) (waiting in_states : List InState) (w : InState) (why : VerifyFault) →
-    Kept program size n waiting in_states →
-    refused_by (out_state program size n (state_at waiting n)) ≡ Some why →
-    n < length program.instrs → length (in_states ++ w ∷ []) ≡ reach program (Some why)
-reached program size n waiting in_states w why before found inside =
+    length (in_states ++ w ∷ []) ≡ reach program (first_fault program size (length program.instrs))
+reached program size n waiting in_states depth w why so_far found inside =
     let placed : fault_place why ≡ n = is_at program size n (state_at waiting n) why found in
-    omega (arith, placed, count_more in_states w, before.counted)
+    let counted : length (in_states ++ w ∷ []) ≡ reach program (Some why) = omega (arith, placed, count_more in_states w, so_far.counted) in
+    counted ∙ ap (reach program) (sym (refused program size n waiting depth why so_far.before found inside))
 
 -- the states that are kept at the end
-pub kept_all : (program : CodeView) (size n : ℕ) (waiting in_states : List InState) (w : InState) →
-    Kept program size n waiting in_states → in_state_view w ≡ state_at waiting n →
+pub kept_all : (program : CodeView) (size n : ℕ) (waiting in_states : List InState) (depth : ℕ) (w : InState) →
+    Kept program size n waiting in_states depth → in_state_view w ≡ state_at waiting n →
     (k : ℕ) → k < length (in_states ++ w ∷ []) → state_at (in_states ++ w ∷ []) k ≡ in_state program size k
-kept_all program size n waiting in_states w before is k h =
-    kept_more program size n waiting in_states w before is k (omega (arith, h, count_more in_states w, before.counted))
+kept_all program size n waiting in_states depth w so_far is k h =
+    kept_more program size n waiting in_states depth w so_far is k (omega (arith, h, count_more in_states w, so_far.counted))
 
 -- a visit that refuses an index hands on nothing
 kept_where_refused : (program : CodeView) (at k : ℕ) (v : OutStateView) (why : VerifyFault) (s : InStateView) → refused_by v ≡ Some why →

@@ -15,6 +15,7 @@ pub mod Safe
 pub mod Surveys
 pub mod Transfer
 pub mod ValueWords
+pub mod Verdicts
 pub mod VerifiedView
 -- What only bodies are proved against.
 pub mod PairwiseJoin

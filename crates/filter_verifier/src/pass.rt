@@ -115,7 +115,7 @@ pub(crate) fn visit(
 }
 
 /// The range of the int that is refused, by what is known before the instruction.
-fn refused_int(fault: VerifyFault, known: &InState) -> Option<Range>
+pub(crate) fn refused_int(fault: VerifyFault, known: &InState) -> Option<Range>
     ensures { result ≡ refused_int fault (in_state_view known.now) }
 {
     match fault {
