@@ -1,8 +1,9 @@
--- What callers cite: the limits, the instructions and their table, code, routes and values, the machine and its outcomes,
--- and the codes of faults.
+-- What callers cite: the limits, the instructions, their table and how they are displayed, code, routes and values, the machine and
+-- its outcomes, and the codes of faults.
 pub mod CodeView
 pub mod Limits
 pub mod Machine
+pub mod Names
 pub mod Outcomes
 pub mod RouteView
 pub mod Table

@@ -1,4 +1,5 @@
-ghost use Rattle.std.specs.Prelude.{◌≡◌, ◌↔◌, IsTrue};
+ghost use Rattle.std.specs.Prelude.{◌≡◌, ◌↔◌, IsTrue, Some};
+ghost use Rattle.filter_code.specs.Names.{instruction_text, name_of};
 ghost use Rattle.filter_code.specs.Table.{opcode};
 
 use prefix_patterns::{ADDRESS_LENGTH, Ip, Prefix};
@@ -85,7 +86,8 @@ impl Instr {
 
     /// Its opcode, which is its first byte in a code file, and its name.
     fn row(&self) -> (u8, &'static str)
-        ensures { result.0 ≡ opcode self.now }
+        ensures opcode { result.0 ≡ opcode self.now }
+        ensures name { result.1.now ≡ name_of self.now }
     {
         match self {
             Instr::Int(_) => (0x01, "INT"),
@@ -129,20 +131,22 @@ impl Instr {
 }
 
 impl fmt::Display for Instr {
+    ghost output = { λ i. Some (instruction_text i) };
+
     fn fmt<W: fmt::Write>(&self, f: &mut fmt::Formatter<W>) -> fmt::Result {
-        f.write_str(self.row().1)?;
+        let (_, name) = self.row();
         match self {
-            Instr::Int(number) => write!(f, " {number}"),
-            Instr::Bool(flag) => write!(f, " {flag}"),
-            Instr::Ip(ip) => write!(f, " {ip}"),
-            Instr::Prefix(prefix) => write!(f, " {prefix}"),
+            Instr::Int(number) => write!(f, "{name} {number}"),
+            Instr::Bool(flag) => write!(f, "{name} {flag}"),
+            Instr::Ip(ip) => write!(f, "{name} {ip}"),
+            Instr::Prefix(prefix) => write!(f, "{name} {prefix}"),
             Instr::Load(byte)
             | Instr::Store(byte)
             | Instr::Mask(byte)
             | Instr::Member(byte)
-            | Instr::InSet(byte) => write!(f, " {byte}"),
-            Instr::Jump(skipped) | Instr::JumpIfNot(skipped) => write!(f, " {skipped}"),
-            _ => Ok(()),
+            | Instr::InSet(byte) => write!(f, "{name} {byte}"),
+            Instr::Jump(skipped) | Instr::JumpIfNot(skipped) => write!(f, "{name} {skipped}"),
+            _ => f.write_str(name),
         }
     }
 }

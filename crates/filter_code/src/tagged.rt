@@ -82,7 +82,7 @@ impl Tagged {
         Tagged((PREFIX + u64::from(prefix.len())) * HALF + u64::from(prefix.address().0))
     }
 
-    /// The number of an int. None if and only if it is none.
+    /// The number of an int, or `None` for a value of another kind.
     #[inline(always)]
     pub(crate) fn as_int(self) -> Option<u32>
         ensures { MatchOption result (is_int (kind_of self) ≡ false) (λ number. self ≡ value.Int number) }
@@ -107,7 +107,7 @@ impl Tagged {
         }
     }
 
-    /// The truth value of a bool. None if and only if it is none.
+    /// The truth value of a bool, or `None` for a value of another kind.
     #[inline(always)]
     pub(crate) fn as_bool(self) -> Option<bool>
         ensures { MatchOption result (is_bool (kind_of self) ≡ false) (λ truth. self ≡ value.Bool truth) }
@@ -119,7 +119,7 @@ impl Tagged {
         }
     }
 
-    /// The address of an ip. None if and only if it is none.
+    /// The address of an ip, or `None` for a value of another kind.
     #[inline(always)]
     pub(crate) fn as_ip(self) -> Option<Ip>
         ensures { MatchOption result (is_ip (kind_of self) ≡ false) (λ ip. self ≡ value.Addr ip) }
@@ -131,7 +131,7 @@ impl Tagged {
         }
     }
 
-    /// A prefix itself. None if and only if it is none.
+    /// A prefix itself, or `None` for a value of another kind.
     #[inline(always)]
     pub(crate) fn as_prefix(self) -> Option<Prefix>
         ensures { MatchOption result (is_prefix (kind_of self) ≡ false) (λ prefix. self ≡ value.Net prefix) }
