@@ -38,11 +38,11 @@ unfolding Lists
 none_listed instrs known origin text empty = empty
 
 -- one instruction more
-pub listed_more : (instrs : List Instr) (known origin : ℕ → List ℕ) (n : ℕ) (i : Instr) (words front text : List ℕ)
+pub listed_more : (instrs : List Instr) (known origin : ℕ → List ℕ) (n : ℕ) (i : Instr) (front text : List ℕ)
     → slice_get instrs n ≡ Some i → Lists instrs known origin n front
-    → text ≡ front ++ known n ++ instruction_line n words i (origin n) → Lists instrs known origin (n + 1) text
+    → text ≡ front ++ known n ++ instruction_line n i (origin n) → Lists instrs known origin (n + 1) text
 unfolding Lists
-listed_more instrs known origin n i words front text is listed more = rw add-one (front, i, words, listed, is, more)
+listed_more instrs known origin n i front text is listed more = rw add-one (front, i, listed, is, more)
 
 -- a survey does not come behind the last instruction
 within : (found : Option VerifyFault) (program : CodeView) → reach program found ≤ length program.instrs

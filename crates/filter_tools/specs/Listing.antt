@@ -4,6 +4,7 @@ use Rattle.std.specs.Prelude.{◌≡◌, ℕ, zero, suc, ◌+◌, ◌⊎◌, Boo
 use Rattle.std.specs.Option.{option_map}
 use Rattle.std.specs.Io.KnownBytes.{Appends}
 use Rattle.filter_code.specs.CodeView.{CodeView}
+use Rattle.filter_code.specs.Names.{instruction_text}
 use Rattle.filter_code.specs.declared.instruction.Instr.{Instr}
 use Rattle.filter_code.specs.declared.instruction.Instr.TheVariants as instr
 use Rattle.filter_source.specs.Diagnoses.{TellsOfCode, of_code, of_source}
@@ -72,15 +73,15 @@ origin_text source (Some byte) = codes " ; " ++ decimal (line_at source byte) ++
 abbrev pub origin_in : List ℕ → List ℕ → ℕ → List ℕ
 origin_in source places at = origin_text source (slice_get places at)
 
--- the line of an instruction: its index, its words, where it jumps to, and where it comes from
-abbrev pub instruction_line : ℕ → List ℕ → Instr → List ℕ → List ℕ
-instruction_line at words i origin = decimal at ++ 32 ∷ [] ++ words ++ target_text at i ++ origin ++ 10 ∷ []
+-- the line of an instruction: its index, the instruction itself, where it jumps to, and where it comes from
+abbrev pub instruction_line : ℕ → Instr → List ℕ → List ℕ
+instruction_line at i origin = decimal at ++ 32 ∷ [] ++ instruction_text i ++ target_text at i ++ origin ++ 10 ∷ []
 
 -- a text lists the first n instructions of a code, each behind what is known before it, with where it comes from
 unfoldable pub Lists : List Instr → (ℕ → List ℕ) → (ℕ → List ℕ) → ℕ → List ℕ → Type 0
 Lists instrs known origin zero text = text ≡ []
-Lists instrs known origin (suc n) text = (front : List ℕ) × (i : Instr) × (words : List ℕ) × Lists instrs known origin n front
-    × (slice_get instrs n ≡ Some i) × (text ≡ front ++ known n ++ instruction_line n words i (origin n))
+Lists instrs known origin (suc n) text = (front : List ℕ) × (i : Instr) × Lists instrs known origin n front
+    × (slice_get instrs n ≡ Some i) × (text ≡ front ++ known n ++ instruction_line n i (origin n))
 
 -- nothing, and what the verifier knows before an instruction in a domain of a size
 abbrev pub nothing_known : ℕ → List ℕ

@@ -140,13 +140,13 @@ fn push_instruction(
     instr: Instr,
 ) -> Result<(), AllocError>
     requires { at ≤ instruction_limit }
-    ensures { OnOk result ((words : List ℕ) × (out.new.items
-        ≡ out.old.items ++ instruction_line at words instr (origin_in origins.now.source origins.now.places.now at))) }
+    ensures { OnOk result (out.new.items
+        ≡ out.old.items ++ instruction_line at instr (origin_in origins.now.source origins.now.places.now at)) }
 {
-    let words = format!(in alloc; "{instr}")?;
+    let text = format!(in alloc; "{instr}")?;
     push_decimal(out, at as u64)?;
     out.push(b' ')?;
-    out.extend_from_slice(words.as_bytes())?;
+    out.extend_from_slice(text.as_bytes())?;
     push_target(out, at, instr)?;
     push_origin(out, origins, at)?;
     out.push(b'\n')?;

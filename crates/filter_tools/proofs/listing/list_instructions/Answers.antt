@@ -13,7 +13,6 @@ loop-at-preserved c =
     let origin : ℕ → List ℕ = origin_in c.args.origins.now.source c.args.origins.now.places.now in
     let is = slice_get_read c.instrs-instr-items.result.now (length c.instrs-instr-items.result.now) c.loop-at.at c.instr-item.result refl
     c.loop-at-test.true c.instr-item.is in
-    let said = c.in_ok-push_instruction.ensures in
-    listed_more c.args.code.now.instrs nothing_known origin c.loop-at.at c.instr-item.result said.0 c.loop-at.out.items
+    listed_more c.args.code.now.instrs nothing_known origin c.loop-at.at c.instr-item.result c.loop-at.out.items
     c.push_instruction.new.out.items (rw c.instrs-instr-items.ensures.value at is) c.loop-at.invariant
-    (said.1 ∙ ap (λ (t : List ℕ). t ++ instruction_line c.loop-at.at said.0 c.instr-item.result (origin c.loop-at.at)) (sym (append-nil c.loop-at.out.items)))
+    (c.in_ok-push_instruction.ensures ∙ ap (λ (t : List ℕ). t ++ instruction_line c.loop-at.at c.instr-item.result (origin c.loop-at.at)) (sym (append-nil c.loop-at.out.items)))

@@ -20,8 +20,7 @@ loop-at-preserved c =
     below c.index-instrs-at.is in
     let here = state_is c.args.in_states.now c.loop-at.at c.index-in_states-at.result inside c.index-in_states-at.is
     ∙ c.requires.known c.loop-at.at inside in
-    let said = c.in_ok-push_instruction.ensures in
-    listed_more c.args.code.now.instrs (known_before c.args.code.now c.args.size) origin c.loop-at.at c.index-instrs-at.result said.0
+    listed_more c.args.code.now.instrs (known_before c.args.code.now c.args.size) origin c.loop-at.at c.index-instrs-at.result
     c.loop-at.out.items c.push_instruction.new.out.items (rw c.instrs-instrs.ensures.value at is) c.loop-at.invariant
-    (said.1 ∙ ap (λ (t : List ℕ). t ++ instruction_line c.loop-at.at said.0 c.index-instrs-at.result (origin c.loop-at.at))
+    (c.in_ok-push_instruction.ensures ∙ ap (λ (t : List ℕ). t ++ instruction_line c.loop-at.at c.index-instrs-at.result (origin c.loop-at.at))
     (c.in_ok-push_state.ensures ∙ ap (λ (s : InStateView). c.loop-at.out.items ++ state_text s) here))
