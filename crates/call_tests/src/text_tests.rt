@@ -252,11 +252,11 @@ fn faults_of_kinds_say(rt: HostRuntime) -> Result<(), Fail> {
 const COMPILE_FAULTS: [(CompileFault, &str); 3] = [
     (
         CompileFault::TooManyInstructions,
-        "G1 0 at most 1024 instructions are wanted, and the filter's code has more",
+        "G1 0 the compiled filter exceeds 1024 instructions",
     ),
     (
         CompileFault::TooManySets,
-        "G2 0 at most 64 sets of at most 1024 patterns or ranges each are wanted, of patterns and of ints, and the filter has more",
+        "G2 0 more than 64 sets of patterns or of ints, or more than 1024 patterns or ranges in one",
     ),
     (CompileFault::Memory, "G3 0 out of memory"),
 ];

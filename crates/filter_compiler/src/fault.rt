@@ -11,11 +11,11 @@ use thiserror::Error;
 #[derive(Clone, Copy, Debug, PartialEq, Eq, Error)]
 pub enum CompileFault {
     /// G1: its code would have more than 1,024 instructions.
-    #[error("at most 1024 instructions are wanted, and the filter's code has more")]
+    #[error("the compiled filter exceeds 1024 instructions")]
     TooManyInstructions,
     /// G2: it has more than 64 sets of patterns, or a set of more than 1,024 patterns; or more than 64 sets of ints, or one of more
     /// than 1,024 ranges.
-    #[error("at most 64 sets of at most 1024 patterns or ranges each are wanted, of patterns and of ints, and the filter has more")]
+    #[error("more than 64 sets of patterns or of ints, or more than 1024 patterns or ranges in one")]
     TooManySets,
     /// G3: memory was refused.
     #[error("out of memory")]

@@ -14,10 +14,10 @@ use thiserror::Error;
 #[derive(Clone, Copy, Debug, PartialEq, Eq, Error)]
 pub enum Refusal {
     /// O7: the source is longer than its limit.
-    #[error("a source has at most 1048576 bytes")]
+    #[error("the source is longer than 1048576 bytes")]
     TooLong,
     /// O3: the digits of a code file are not hexadecimal.
-    #[error("not an even number of hexadecimal digits")]
+    #[error("expected pairs of hexadecimal digits")]
     Hexadecimal,
     /// C1 to C6: the bytes are no code file; C8: its code has no file in the older form.
     #[error(transparent)]

@@ -8,7 +8,6 @@ use crate::nearest::nearest_word;
 use crate::remedies::{
     IPV6, in_place_of, in_place_of_character, in_place_of_found, in_place_of_name,
 };
-use filter_compiler::CompileFault;
 use filter_parser::{Expected, ParseFault};
 use filter_source::{Diagnosis, Refusal};
 use filter_tokens::{Symbol, Token, TokenFault, TokenKind, lex};
@@ -30,9 +29,7 @@ pub(crate) fn words_of(alloc: Global, text: &[u8], told: &Diagnosis) -> Result<S
     match told.refusal {
         Refusal::Parse(fault) => parse_words(alloc, text, fault),
         Refusal::Typing(fault) => kind_words(alloc, text, fault),
-        Refusal::Compile(fault) => String::from_str(alloc, compile_words(fault)),
         Refusal::Verify(fault) => code_words(alloc, fault, told.byte.is_some()),
-        Refusal::Hexadecimal => String::from_str(alloc, "expected pairs of hexadecimal digits"),
         _ => format!(in alloc; "{}", told.refusal),
     }
 }
@@ -315,17 +312,6 @@ fn name_words(alloc: Global, text: &[u8], name: &str) -> Result<String, AllocErr
         None => format!(in alloc;
             "`{name}` is no variable, and a route has only `net` and `rip_metric`"
         ),
-    }
-}
-
-/// Which limit a filter's code is over.
-fn compile_words(fault: CompileFault) -> &'static str {
-    match fault {
-        CompileFault::TooManyInstructions => "the compiled filter exceeds 1024 instructions",
-        CompileFault::TooManySets => {
-            "more than 64 sets of patterns or of ints, or more than 1024 patterns or ranges in one"
-        }
-        CompileFault::Memory => "out of memory",
     }
 }
 
