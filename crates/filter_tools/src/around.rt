@@ -1,5 +1,6 @@
 //! What stands in a text at the place where it is refused.
 
+use crate::place::begins_character;
 use filter_tokens::{Symbol, Token, TokenKind};
 use std::alloc::{AllocError, Global};
 
@@ -40,6 +41,17 @@ pub(crate) fn quoted(text: &[u8], from: usize, to: usize) -> Option<&str> {
         return None;
     }
     str::from_utf8(bytes).ok()
+}
+
+/// The character that begins at a byte of a text, if it is one of UTF-8.
+pub(crate) fn character_at(text: &[u8], at: usize) -> Option<&str> {
+    let next = at.checked_add(1)?;
+    let rest = text.get(next..)?;
+    let more = rest
+        .iter()
+        .take_while(|byte| !begins_character(**byte))
+        .count();
+    quoted(text, at, next.saturating_add(more))
 }
 
 /// The name that a token of a text is, if it is one.

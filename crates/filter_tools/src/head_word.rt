@@ -1,4 +1,4 @@
-//! The word at the head of a command that is none.
+//! The word with which a misspelt command begins: a refusal is shown there.
 ghost use Rattle.std.specs.Prelude.{◌≡◌, None};
 ghost use Rattle.filter_tools.specs.HeadWords.{missing_assign, name_before, named, place_or};
 

@@ -1,7 +1,7 @@
 //! What is wrong with a refused source, in words.
 
 use crate::around::{
-    Around, declared, is_ipv6, is_symbol, name_of, quoted, tokens_around, word_at,
+    Around, character_at, declared, is_ipv6, is_symbol, name_of, quoted, tokens_around, word_at,
 };
 use crate::head_word::Word;
 use crate::nearest::nearest_word;
@@ -101,10 +101,7 @@ fn character_words(alloc: Global, text: &[u8], at: usize) -> Result<String, Allo
         return String::from_str(alloc, IPV6);
     }
     let (_, rest) = text.split_at(at.min(text.len()));
-    match (
-        quoted(text, at, at.saturating_add(1)),
-        in_place_of_character(rest),
-    ) {
+    match (character_at(text, at), in_place_of_character(rest)) {
         (Some(character), Some(remedy)) => {
             format!(in alloc; "unexpected character `{character}`: {remedy}")
         }
