@@ -1,5 +1,5 @@
 -- Nothing that is shown is hidden.
-use Rattle.std.proofs.Common.{◌≡◌, ℕ, Bool, true, false, List, [], ◌∷◌, map, refl, sym, ap, ◌∙◌}
+use Rattle.std.proofs.Common.{◌≡◌, ℕ, Bool, true, false, List, [], ◌∷◌, map, refl}
 use Rattle.std.proofs.lemmas.List.Elements.{All-cons, All-nil}
 use Rattle.std.specs.Prelude.{All, if◌then◌else◌, nat_lt, not}
 use Rattle.filter_tools.specs.Shown.{is_hidden, shown_character}

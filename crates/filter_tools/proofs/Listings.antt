@@ -1,5 +1,5 @@
 -- How a listing grows, line by line.
-use Rattle.std.proofs.Common.{◌≡◌, ℕ, zero, suc, ◌+◌, ◌≤◌, ◌<◌, Bool, true, false, List, [], ◌∷◌, ◌++◌, length, min, take, get_or, Option, Some, None}
+use Rattle.std.proofs.Common.{◌≡◌, ℕ, ◌+◌, ◌≤◌, ◌<◌, Bool, true, false, List, [], ◌∷◌, ◌++◌, length, take, get_or, Option, Some, None}
 use Rattle.std.proofs.Common.{refl, sym, ap, ◌∙◌, add-one, append_assoc, arith}
 use Rattle.std.proofs.lemmas.List.{append-nil, take_more}
 use Rattle.std.specs.Prelude.{IfSome, Result, Ok, Err, slice_get, if◌then◌else◌}
@@ -13,7 +13,6 @@ use Rattle.filter_source.specs.declared.diagnosis.Diagnosis.{Diagnosis}
 use Rattle.filter_source.specs.declared.refusal.Refusal.{Refusal}
 use Rattle.filter_source.specs.declared.refusal.Refusal.TheVariants.{Verify}
 use Rattle.filter_verifier.specs.FirstFault.{is_size, the_fault}
-use Rattle.filter_verifier.specs.Faults.{fault_place}
 use Rattle.filter_verifier.specs.Bounds.{cost}
 use Rattle.filter_verifier.specs.Ranges.{RangeView}
 use Rattle.filter_verifier.specs.Surveys.{reach, surveyed}

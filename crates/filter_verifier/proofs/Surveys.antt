@@ -1,5 +1,5 @@
 -- A survey keeps what the pass knows before each instruction that it visits.
-use Rattle.std.proofs.Common.{◌≡◌, ℕ, zero, suc, ◌+◌, ◌-◌, ◌<◌, Bool, true, false, Option, Some, None, List, [], ◌∷◌}
+use Rattle.std.proofs.Common.{◌≡◌, ℕ, zero, suc, ◌+◌, ◌<◌, Bool, true, false, Option, Some, None, List, [], ◌∷◌}
 use Rattle.std.proofs.Common.{◌++◌, length, refl, sym, ◌∙◌, ap, subst, arith, below_more}
 use Rattle.std.specs.Prelude.{slice_get}
 use Rattle.filter_code.specs.declared.instruction.Instr.{Instr}

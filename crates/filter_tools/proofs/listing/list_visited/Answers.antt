@@ -1,4 +1,4 @@
-use Rattle.std.proofs.Common.{◌≡◌, ◌<◌, ℕ, List, ◌++◌, ◌∙◌, length, refl, ap, arith}
+use Rattle.std.proofs.Common.{◌<◌, ℕ, List, ◌++◌, ◌∙◌, length, refl, ap, arith}
 use Rattle.std.proofs.lemmas.Option.{slice_get_read}
 use Rattle.filter_verifier.proofs.Passes.{state_is}
 use Rattle.filter_verifier.specs.InStateView.{InStateView}

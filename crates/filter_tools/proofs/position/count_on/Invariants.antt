@@ -1,4 +1,3 @@
-use Rattle.std.proofs.Common.{◌≤◌}
 use Rattle.filter_tools.specs.Positions.{IsPosition}
 use Rattle.filter_tools.proofs.position.count_on.Given as goal
 
