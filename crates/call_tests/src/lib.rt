@@ -7,6 +7,8 @@ mod check_tests;
 #[cfg(test)]
 mod code_tests;
 #[cfg(test)]
+mod embedding_tests;
+#[cfg(test)]
 mod eval_tests;
 #[cfg(test)]
 mod int_sets_tests;

@@ -1,0 +1,49 @@
+//! The function that `docs/EMBEDDING.md` shows: filters in a program of one's own.
+
+ghost use Rattle.std.specs.Prelude.{◌≤◌};
+
+use expectations::{expect, expect_str};
+use filter_machine::{Verdict, run};
+use filter_source::{Failure, compile_text, verify_code};
+use prefix_patterns::{Ip, Prefix};
+use std::alloc::Global;
+use std::test::Fail;
+
+/// The metric that a filter gives a route in a domain of 16 nodes, or none where it rejects the route.
+fn metric_of(
+    alloc: Global,
+    text: &[u8],
+    net: &Prefix,
+    metric: u32,
+) -> Result<Option<u32>, Failure>
+    requires { metric ≤ 16 }
+{
+    let code = compile_text(alloc, text)?;
+    let verified = verify_code(alloc, code, 16)?;
+    match run(&verified, net, metric).verdict {
+        Verdict::Accept(metric) => Ok(Some(metric)),
+        Verdict::Reject => Ok(None),
+    }
+}
+
+#[test]
+fn filters_run_in_a_program(rt: HostRuntime) -> Result<(), Fail> {
+    let net = Prefix::masked(Ip(0x0808_0800), 24);
+    let up_two = b"filter up { rip_metric = rip_metric + 2; accept; }".as_slice();
+    let none = b"filter none { reject; }".as_slice();
+    let raised = metric_of(rt.alloc(), up_two, &net, 3)?;
+    expect(raised == Some(5), "raised by two")?;
+    let rejected = metric_of(rt.alloc(), none, &net, 3)?;
+    expect(rejected == None, "rejected")
+}
+
+/// A filter that may go wrong gives no code that runs.
+#[test]
+fn a_filter_that_may_divide_by_0_is_refused(rt: HostRuntime) -> Result<(), Fail> {
+    let net = Prefix::masked(Ip(0x0808_0800), 24);
+    let divides = b"filter q { rip_metric = 9 / rip_metric; accept; }".as_slice();
+    match metric_of(rt.alloc(), divides, &net, 3) {
+        Err(Failure::Refused(why)) => expect_str(why.refusal.code(), "V3"),
+        _ => expect(false, "refused"),
+    }
+}
