@@ -69,7 +69,7 @@ static COMMANDS: [(&str, &str); 13] = [
     ),
     (
         "explain",
-        "Say what a code means, with an example that earns it, and how to mend it",
+        "Explain a refusal code, with an example and a fix",
     ),
     ("filter", "Verify a filter, and take routes through it"),
     (
@@ -196,7 +196,7 @@ const QUIET: Parameter = Parameter {
 const EXPLAIN: Parameter = Parameter {
     name: "explain",
     value: "WHEN",
-    help: "Say in words on standard error why something is refused, with its line and column: always, never, or auto (the default), which is where standard error is a terminal, and of files that are named",
+    help: "When to say on standard error why something is refused, with its line and column; auto, the default, does so on a terminal and for files that are named",
     kind: Kind::When,
     is_required: false,
 };

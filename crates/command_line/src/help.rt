@@ -22,9 +22,10 @@ pub fn help_of(command: &str) -> Option<&'static str> {
 /// Of `check`.
 const CHECK_HELP: &str = "\
 Standard input is one filter, or with --code a code file in hexadecimal. Where files are
-named, each of them is, in order; `-` is standard input. Of a file that is refused standard
-error gets the name and the refusal. With --names each line that is printed begins with the
-name of its file, as `FILE: verified 7 2`, and with -q only refusals are printed.
+named, each of them is, in order; `-` is standard input. For each refused file, standard
+error says why, or with --explain never just its name and the refusal. With --names each
+printed line begins with the name of its file, as `FILE: verified 7 2`, and with -q only
+refusals are printed.
 
 Two lines are printed:
   code HEX                the filter's code, as `ncroute eval` reads it
