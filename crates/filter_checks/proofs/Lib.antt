@@ -1,0 +1,4 @@
+pub mod Endings
+pub mod FirstLine
+pub mod MoreTests
+pub mod Meant

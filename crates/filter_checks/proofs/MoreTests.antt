@@ -1,0 +1,33 @@
+-- Tests that are read or run one after another.
+use Rattle.std.proofs.Common.{◌≡◌, ℕ, ◌+◌, ◌<◌, List, [], ◌∷◌, ◌++◌, Result, Ok, Err, get_or, length, map, take, sym, subst, ◌∙◌, ap}
+use Rattle.std.proofs.lemmas.List.{map-append, take_more}
+use Rattle.filter_code.specs.CodeView.{CodeView}
+use Rattle.filter_checks.specs.Files.{TestView, test_view}
+use Rattle.filter_checks.specs.Testing.{AreRun, IsRun}
+use Rattle.filter_checks.specs.declared.test_file.FileFault.{FileFault}
+use Rattle.filter_checks.specs.declared.test_file.Test.{Test}
+use Rattle.filter_checks.specs.declared.testing.Ran.{Ran}
+
+-- tests before what is read of the rest
+abbrev pub behind : List TestView → Result (List TestView) FileFault → Result (List TestView) FileFault
+behind done (Ok more) = Ok (done ++ more)
+behind done (Err why) = Err why
+
+-- one run more
+one_run : (program : CodeView) (size : ℕ) (tests : List TestView) (all : List Ran) (test : TestView) (ran : Ran)
+    → AreRun program size tests all → IsRun program size test ran → AreRun program size (tests ++ (test ∷ [])) (all ++ (ran ∷ []))
+one_run program size [] [] test ran are is = (is, tt)
+one_run program size (t ∷ ts) (r ∷ rs) test ran are is = (are.0, one_run program size ts rs test ran are.1 is)
+one_run program size [] (r ∷ rs) test ran are is = absurd are
+one_run program size (t ∷ ts) [] test ran are is = absurd are
+
+pub more_run : (program : CodeView) (size : ℕ) (tests : List Test) (i : ℕ) (test : Test) (all now : List Ran) (ran : Ran) → i < length tests
+    → test ≡ get_or tests i test → now ≡ all ++ (ran ∷ []) → AreRun program size (map test_view (take i tests)) all
+    → IsRun program size (test_view test) ran → AreRun program size (map test_view (take (i + 1) tests)) now
+more_run program size tests i test all now ran low is grown are is_run =
+    let longer : take (i + 1) tests ≡ take i tests ++ (test ∷ []) = take_more tests i test low ∙ ap (λ (t : Test). take i tests ++ (t ∷ [])) (sym is) in
+    let viewed : map test_view (take (i + 1) tests) ≡ map test_view (take i tests) ++ (test_view test ∷ []) =
+    ap (map test_view) longer ∙ map-append test_view (take i tests) (test ∷ []) in
+    subst (λ (ts : List TestView). AreRun program size ts now) (sym viewed)
+    (subst (AreRun program size (map test_view (take i tests) ++ (test_view test ∷ []))) (sym grown)
+    (one_run program size (map test_view (take i tests)) all (test_view test) ran are is_run))

@@ -1,0 +1,27 @@
+-- The fixed words of a test file. (This project's own choice.)
+use Rattle.std.specs.Prelude.{ℕ, Bool, List, [], ◌∷◌, Option, find, codes}
+use Rattle.std.specs.Str.{bytes_eq}
+use Rattle.filter_checks.specs.declared.keyword.Keyword.{Keyword}
+use Rattle.filter_checks.specs.declared.keyword.Keyword.TheVariants as word
+
+-- how each is written
+abbrev pub keyword_text : Keyword → List ℕ
+keyword_text word.Filter = codes "filter"
+keyword_text word.Size = codes "size"
+keyword_text word.Every = codes "every"
+keyword_text word.Metric = codes "metric"
+keyword_text word.Arrow = codes "->"
+keyword_text word.Accept = codes "accept"
+keyword_text word.Reject = codes "reject"
+
+-- all of them
+abbrev pub keywords : List Keyword
+keywords = word.Filter ∷ word.Size ∷ word.Every ∷ word.Metric ∷ word.Arrow ∷ word.Accept ∷ word.Reject ∷ []
+
+-- whether a keyword is written so
+abbrev pub is_spelled : List ℕ → Keyword → Bool
+is_spelled text keyword = bytes_eq (keyword_text keyword) text
+
+-- the keyword that is written so
+unfoldable pub keyword_in : List ℕ → Option Keyword
+keyword_in text = find (is_spelled text) keywords

@@ -1,0 +1,65 @@
+-- The lines that tell whether tests hold: those of the Test Anything Protocol, and words for people. (The words are this project's own choice.)
+use Rattle.std.specs.Prelude.{ℕ, ◌+◌, Bool, true, false, List, [], ◌∷◌, ◌++◌, codes, decimal, flat_map}
+use Rattle.filter_diff.specs.declared.checking.Checked.{Checked}
+use Rattle.filter_diff.specs.declared.checking.Checked.TheVariants as checked
+use Rattle.filter_diff.specs.declared.checking.Counterexample.{Counterexample}
+use Rattle.filter_tools.specs.Shown.{shown}
+use Rattle.filter_workbench.specs.PartLines.{outcome_text}
+use Rattle.prefix_patterns.specs.Spelling.{prefix_text}
+use Rattle.filter_checks.specs.declared.testing.Ran.{Ran}
+
+-- whether a test does not hold, or that is not decided
+abbrev pub fails : Checked → Bool
+fails checked.Holds = false
+fails (checked.Fails found) = true
+fails checked.Undecided = true
+
+abbrev pub is_failure : Ran → Bool
+is_failure ran = fails ran.checked
+
+-- how the line of a test begins
+abbrev pub result_word : Checked → List ℕ
+result_word checked.Holds = codes "ok "
+result_word (checked.Fails found) = codes "not ok "
+result_word checked.Undecided = codes "not ok "
+
+-- a route and its verdict, as a test of one route has them
+abbrev pub found_text : Counterexample → List ℕ
+found_text found = prefix_text found.prefix ++ codes " " ++ decimal found.metric ++ codes " -> " ++ outcome_text found.outcome
+
+-- the comment behind the line of a test that does not hold
+abbrev pub note : Checked → List ℕ
+note checked.Holds = []
+note (checked.Fails found) = codes "# " ++ found_text found ++ 10 ∷ []
+note checked.Undecided = codes "# undecided" ++ 10 ∷ []
+
+-- the lines of a test, by its number in the stream
+abbrev pub test_lines : ℕ → Ran → List ℕ
+test_lines number ran = result_word ran.checked ++ decimal number ++ codes " - " ++ ran.line.items ++ 10 ∷ note ran.checked
+
+-- the lines of tests, before which the stream has so many others
+abbrev pub all_lines : ℕ → List Ran → List ℕ
+all_lines before [] = []
+all_lines before (ran ∷ others) = test_lines (before + 1) ran ++ all_lines (before + 1) others
+
+-- where a test stands: the name of its file as it is shown, and the number of its line
+abbrev pub place_text : List ℕ → ℕ → List ℕ
+place_text name line = shown name ++ codes ":" ++ decimal line ++ codes ": "
+
+-- what people are told of a test that does not hold
+abbrev pub told_by : List ℕ → ℕ → Checked → List ℕ
+told_by name line checked.Holds = []
+told_by name line (checked.Fails found) = place_text name line ++ codes "does not hold: " ++ found_text found ++ 10 ∷ []
+told_by name line checked.Undecided = place_text name line ++ codes "undecided" ++ 10 ∷ []
+
+abbrev pub told_of : List ℕ → Ran → List ℕ
+told_of name ran = told_by name ran.number ran.checked
+
+-- and of tests, where words are wanted
+abbrev pub told_of_all : Bool → List ℕ → List Ran → List ℕ
+told_of_all false name all = []
+told_of_all true name all = flat_map (told_of name) all
+
+-- the last line of the stream: how many tests it has
+abbrev pub plan : ℕ → List ℕ
+plan count = codes "1.." ++ decimal count ++ 10 ∷ []

@@ -1,0 +1,88 @@
+//! How it is told that a text is no test file.
+ghost use Rattle.std.specs.Prelude.{◌≡◌, ◌++◌, IfOk, OnOk};
+ghost use Rattle.filter_checks.specs.Faults as spec;
+
+use crate::test_file::FileFault;
+use filter_tools::push_shown;
+use line_protocol::push_decimal;
+use std::alloc::{AllocError, Global};
+
+impl FileFault {
+    /// The code that names the fault.
+    pub fn code(self) -> &'static str
+        ensures { result.now ≡ spec.fault_code self }
+    {
+        match self {
+            FileFault::Line(_) | FileFault::Ended | FileFault::Name => "O1",
+            FileFault::TooLong => "O7",
+            FileFault::Memory => "E3",
+        }
+    }
+
+    /// The number of the line that it names: 0 for what is lacking at the end.
+    pub fn at(self) -> usize
+        ensures { result ≡ spec.fault_line self }
+    {
+        match self {
+            FileFault::Line(at) => at,
+            FileFault::TooLong => 1,
+            FileFault::Ended | FileFault::Name | FileFault::Memory => 0,
+        }
+    }
+}
+
+/// What is said of a line that is not as a test file has it.
+#[tactic(auto, unfolding(crate::specs::Faults::line_words))]
+fn line_words() -> &'static [u8]
+    ensures { result.now ≡ spec.line_words }
+{
+    b": not as a test file has it, which is `filter FILE`, `size N`, and tests `PREFIX METRIC -> VERDICT` and `every PATTERN -> VERDICT` (O1)"
+}
+
+/// Puts what is wrong at the end of `out`, in words.
+fn push_words(out: &mut Vec<u8>, why: FileFault) -> Result<(), AllocError>
+    ensures { OnOk result (out.new.items ≡ out.old.items ++ spec.fault_words why) }
+{
+    match why {
+        FileFault::Line(at) => {
+            out.extend_from_slice(b":")?;
+            push_decimal(out, at as u64)?;
+            out.extend_from_slice(line_words())
+        }
+        FileFault::Ended => {
+            out.extend_from_slice(b": it ends before its `filter FILE` and `size N` (O1)")
+        }
+        FileFault::Name => { out.extend_from_slice(b": the name of its filter is not UTF-8 (O1)") }
+        FileFault::TooLong => out.extend_from_slice(b": longer than 1048576 bytes (O7)"),
+        FileFault::Memory => out.extend_from_slice(b": memory was refused (E3)"),
+    }
+}
+
+/// Puts the refusal of a test file at the end of `out`, or what is wrong in words.
+fn push_tail(out: &mut Vec<u8>, is_explained: bool, why: FileFault) -> Result<(), AllocError>
+    ensures { OnOk result (out.new.items ≡ out.old.items ++ spec.fault_tail is_explained why) }
+{
+    if is_explained {
+        return push_words(out, why);
+    }
+    out.extend_from_slice(b": refused ")?;
+    out.extend_from_slice(why.code().as_bytes())?;
+    out.extend_from_slice(b" ")?;
+    push_decimal(out, why.at() as u64)
+}
+
+/// The line that tells why the text of a file of this name is no test file: in words where `is_explained` says so.
+pub fn fault_text(
+    alloc: Global,
+    is_explained: bool,
+    name: &[u8],
+    why: FileFault,
+) -> Result<Vec<u8>, AllocError>
+    ensures { IfOk result (λ out. out.items ≡ spec.fault_text is_explained name.now why) }
+{
+    let mut out = Vec::new(alloc);
+    push_shown(alloc, &mut out, name)?;
+    push_tail(&mut out, is_explained, why)?;
+    out.push(b'\n')?;
+    Ok(out)
+}

@@ -1,0 +1,152 @@
+//! The lines that tell whether tests hold.
+ghost use Rattle.std.specs.Prelude.{◌≡◌, ◌+◌, ◌<◌, ◌≤◌, ◌^◌, ◌++◌, IfOk, OnOk, count_by, length};
+ghost use Rattle.prefix_patterns.specs.Spelling.{prefix_text};
+ghost use Rattle.filter_checks.specs.Tap as spec;
+
+use crate::testing::Ran;
+use filter_diff::{Checked, Counterexample};
+use filter_tools::push_shown;
+use filter_workbench::{push_outcome, push_prefix};
+use line_protocol::push_decimal;
+use std::alloc::{AllocError, Global};
+
+/// How the line of a test begins.
+fn result_word(checked: &Checked) -> &'static [u8]
+    ensures { result.now ≡ spec.result_word checked.now }
+{
+    match checked {
+        Checked::Holds => b"ok ",
+        Checked::Fails(_) | Checked::Undecided => b"not ok ",
+    }
+}
+
+/// Puts a route and its verdict at the end of `out`.
+fn push_found(alloc: Global, out: &mut Vec<u8>, found: &Counterexample) -> Result<(), AllocError>
+    ensures { OnOk result (out.new.items ≡ out.old.items ++ spec.found_text found.now) }
+{
+    push_prefix(alloc, out, found.prefix)?;
+    out.extend_from_slice(b" ")?;
+    push_decimal(out, u64::from(found.metric))?;
+    out.extend_from_slice(b" -> ")?;
+    push_outcome(out, found.outcome)
+}
+
+/// Puts the comment behind the line of a test at the end of `out`, if the test does not hold.
+fn push_note(alloc: Global, out: &mut Vec<u8>, checked: &Checked) -> Result<(), AllocError>
+    ensures { OnOk result (out.new.items ≡ out.old.items ++ spec.note checked.now) }
+{
+    match checked {
+        Checked::Holds => Ok(()),
+        Checked::Fails(found) => {
+            out.extend_from_slice(b"# ")?;
+            push_found(alloc, out, found)?;
+            out.push(b'\n')?;
+            Ok(())
+        }
+        Checked::Undecided => out.extend_from_slice(b"# undecided\n"),
+    }
+}
+
+/// Puts the lines of a test at the end of `out`, by its number in the stream.
+fn push_test(alloc: Global, out: &mut Vec<u8>, number: u64, ran: &Ran) -> Result<(), AllocError>
+    ensures { OnOk result (out.new.items ≡ out.old.items ++ spec.test_lines number ran.now) }
+{
+    out.extend_from_slice(result_word(&ran.checked))?;
+    push_decimal(out, number)?;
+    out.extend_from_slice(b" - ")?;
+    out.extend_from_slice(ran.line.as_slice())?;
+    out.push(b'\n')?;
+    push_note(alloc, out, &ran.checked)
+}
+
+/// The lines of tests, before which the stream has so many others.
+pub(crate) fn all_lines(alloc: Global, before: u64, all: &[Ran]) -> Result<Vec<u8>, AllocError>
+    requires { before + length all.now < 2 ^ 64 }
+    ensures { IfOk result (λ out. out.items ≡ spec.all_lines before all.now) }
+{
+    let mut out = Vec::new(alloc);
+    let mut number = before;
+    for ran in all {
+        number += 1;
+        push_test(alloc, &mut out, number, ran)?;
+    }
+    Ok(out)
+}
+
+/// Puts where a test stands at the end of `out`.
+fn push_place(alloc: Global, out: &mut Vec<u8>, name: &[u8], line: usize) -> Result<(), AllocError>
+    ensures { OnOk result (out.new.items ≡ out.old.items ++ spec.place_text name.now line) }
+{
+    push_shown(alloc, out, name)?;
+    out.extend_from_slice(b":")?;
+    push_decimal(out, line as u64)?;
+    out.extend_from_slice(b": ")
+}
+
+/// Puts what people are told of a test at the end of `out`, if it does not hold.
+fn push_told(alloc: Global, out: &mut Vec<u8>, name: &[u8], ran: &Ran) -> Result<(), AllocError>
+    ensures { OnOk result (out.new.items ≡ out.old.items ++ spec.told_of name.now ran.now) }
+{
+    match &ran.checked {
+        Checked::Holds => Ok(()),
+        Checked::Fails(found) => {
+            push_place(alloc, out, name, ran.number)?;
+            out.extend_from_slice(b"does not hold: ")?;
+            push_found(alloc, out, found)?;
+            out.push(b'\n')?;
+            Ok(())
+        }
+        Checked::Undecided => {
+            push_place(alloc, out, name, ran.number)?;
+            out.extend_from_slice(b"undecided\n")
+        }
+    }
+}
+
+/// What people are told of tests, where words are wanted.
+pub(crate) fn told_of_all(
+    alloc: Global,
+    is_explained: bool,
+    name: &[u8],
+    all: &[Ran],
+) -> Result<Vec<u8>, AllocError>
+    ensures { IfOk result (λ out. out.items ≡ spec.told_of_all is_explained name.now all.now) }
+{
+    let mut out = Vec::new(alloc);
+    if !is_explained {
+        return Ok(out);
+    }
+    for ran in all {
+        push_told(alloc, &mut out, name, ran)?;
+    }
+    Ok(out)
+}
+
+/// Whether a test does not hold, or that is not decided.
+fn is_failure(ran: &Ran) -> bool
+    ensures { result ≡ spec.is_failure ran.now }
+{
+    match ran.checked {
+        Checked::Holds => false,
+        Checked::Fails(_) | Checked::Undecided => true,
+    }
+}
+
+/// How many tests do not hold.
+pub(crate) fn count_failures(all: &[Ran]) -> usize
+    ensures count { result ≡ count_by spec.is_failure all.now }
+    ensures few { result ≤ length all.now }
+{
+    all.iter().filter(|ran| is_failure(ran)).count()
+}
+
+/// The last line of the stream, by the number of its tests.
+pub fn plan_line(alloc: Global, count: u64) -> Result<Vec<u8>, AllocError>
+    ensures { IfOk result (λ out. out.items ≡ spec.plan count) }
+{
+    let mut out = Vec::new(alloc);
+    out.extend_from_slice(b"1..")?;
+    push_decimal(&mut out, count)?;
+    out.push(b'\n')?;
+    Ok(out)
+}

@@ -1,0 +1,225 @@
+//! `ncroute test`: whether a filter says of routes what the tests of a file say.
+ghost use Rattle.std.specs.Prelude.{◌≡◌, ◌+◌, ◌<◌, ◌≤◌, ◌^◌, IfErr, IfOk, OnOk, count_by, length, map, vec_len};
+ghost use Rattle.std.specs.Io.KnownBytes.{Appends};
+ghost use Rattle.filter_code.specs.Limits.{largest_size};
+ghost use Rattle.filter_commands.specs.Faults.{stream_fault};
+ghost use Rattle.filter_workbench.specs.Comparing.{named};
+ghost use Rattle.filter_checks.specs.Files.{file_view, test_view};
+ghost use Rattle.filter_checks.specs.Tap.{is_failure, all_lines as lines_of, told_of_all as words_of};
+ghost use Rattle.filter_checks.specs.Testing as spec;
+ghost use Rattle.filter_checks.specs.declared.testing.Tested.TheVariants as tested;
+
+use crate::tap::{all_lines, count_failures, told_of_all};
+use crate::test_file::{Test, TestFile};
+use filter_code::Code;
+use filter_commands::ProgramFault;
+use filter_diff::{Checked, check_expectation};
+use filter_source::Failure;
+use filter_tools::{tell_refusal, verified_filter};
+use filter_verifier::Verified;
+use filter_workbench::NamedText;
+use line_protocol::{StreamFault, write_text};
+use std::alloc::{AllocError, Global};
+use std::io::Write;
+
+/// A test that was run.
+#[derive(Drop)]
+pub struct Ran {
+    /// The number of its line, counted from 1.
+    pub number: usize,
+    /// Its line.
+    pub line: Vec<u8>,
+    /// What was found.
+    pub checked: Checked,
+}
+
+/// What comes of the tests of a file.
+#[derive(Clone, Copy)]
+pub enum Tested {
+    /// The filter is refused, and no test was run.
+    Refused,
+    /// The tests were run, and so many of them do not hold or are not decided.
+    Ran(usize),
+}
+
+/// Runs a test.
+fn run_test(
+    alloc: Global,
+    code: &Code,
+    size: u32,
+    limit: u64,
+    test: &Test,
+) -> Result<Ran, AllocError>
+    requires { size ≤ largest_size }
+    ensures { IfOk result (λ ran. spec.IsRun code.now size (test_view test.now) ran) }
+{
+    let checked = check_expectation(alloc, code, &test.expected, size, limit)?;
+    Ok(Ran {
+        number: test.number,
+        line: Vec::from_slice(alloc, test.line.as_slice())?,
+        checked,
+    })
+}
+
+/// Runs tests, in order.
+fn run_all(
+    alloc: Global,
+    code: &Code,
+    size: u32,
+    limit: u64,
+    tests: &[Test],
+) -> Result<Vec<Ran>, AllocError>
+    requires { size ≤ largest_size }
+    ensures run { IfOk result (λ all. spec.AreRun code.now size (map test_view tests.now) all.items) }
+    ensures count { IfOk result (λ all. vec_len all ≡ length tests.now) }
+{
+    let mut all = Vec::new(alloc);
+    for test in tests {
+        let ran = run_test(alloc, code, size, limit, test)?;
+        all.push(ran)?;
+    }
+    Ok(all)
+}
+
+/// What is found of the tests of a file, as it is written and told.
+#[derive(Drop)]
+struct Report {
+    /// The lines that are written.
+    lines: Vec<u8>,
+    /// What is told in words.
+    words: Vec<u8>,
+    /// How many tests do not hold.
+    failed: usize,
+}
+
+/// The report on tests that were run, before which the stream has the lines of `before` others.
+fn report_on(
+    alloc: Global,
+    before: u64,
+    is_explained: bool,
+    name: &[u8],
+    all: &[Ran],
+) -> Result<Report, AllocError>
+    requires { before + length all.now < 2 ^ 64 }
+    ensures lines { IfOk result (λ report. report.lines.items ≡ lines_of before all.now) }
+    ensures words { IfOk result (λ report. report.words.items ≡ words_of is_explained name.now all.now) }
+    ensures counted { IfOk result (λ report. report.failed ≡ count_by is_failure all.now) }
+{
+    let lines = all_lines(alloc, before, all)?;
+    let words = told_of_all(alloc, is_explained, name, all)?;
+    Ok(Report {
+        lines,
+        words,
+        failed: count_failures(all),
+    })
+}
+
+/// Runs the tests of a file by the code of its filter, and reports what is found.
+fn report_of(
+    alloc: Global,
+    code: &Verified,
+    before: u64,
+    limit: u64,
+    is_explained: bool,
+    name: &[u8],
+    file: &TestFile,
+) -> Result<Report, AllocError>
+    requires size { code.now.size ≡ file.now.size }
+    requires fits { before + length file.now.tests.items < 2 ^ 64 }
+    ensures { IfOk result (λ report. spec.IsReport code.now.program before is_explained name.now (file_view file.now)
+        report.lines.items report.words.items report.failed) }
+{
+    let tests = file.tests.as_slice();
+    let all = run_all(alloc, code.code(), code.size(), limit, tests)?;
+    report_on(alloc, before, is_explained, name, all.as_slice())
+}
+
+/// Writes a report.
+fn write_report<W: Write, E: Write>(
+    report: &Report,
+    writer: &mut W,
+    errors: &mut E,
+) -> Result<(), ProgramFault>
+    ensures written { OnOk result (Appends (W.contents writer.old) (W.contents writer.new) report.now.lines.items) }
+    ensures told { OnOk result (Appends (E.contents errors.old) (E.contents errors.new) report.now.words.items) }
+    ensures cut { IfErr result (λ fault. (stream_fault fault ≡ StreamFault.Write)
+        × spec.CutsReport report.now.lines.items report.now.words.items (W.contents writer.old) (W.contents writer.new) (E.contents errors.old) (E.contents errors.new)) }
+{
+    write_text(writer, report.lines.as_slice())?;
+    write_text(errors, report.words.as_slice())?;
+    Ok(())
+}
+
+/// Runs the tests of a file by the code of its filter, and writes and tells what is found.
+fn run_tests<W: Write, E: Write>(
+    alloc: Global,
+    code: &Verified,
+    before: u64,
+    limit: u64,
+    is_explained: bool,
+    name: &[u8],
+    file: &TestFile,
+    writer: &mut W,
+    errors: &mut E,
+) -> Result<usize, ProgramFault>
+    requires size { code.now.size ≡ file.now.size }
+    requires fits { before + length file.now.tests.items < 2 ^ 64 }
+    ensures finished { IfOk result (spec.RunsTests code.now.program before is_explained name.now (file_view file.now)
+        (W.contents writer.old) (W.contents writer.new) (E.contents errors.old) (E.contents errors.new)) }
+    ensures broken_off { IfErr result (λ fault. spec.StopsTests (stream_fault fault) code.now.program before is_explained name.now (file_view file.now)
+        (W.contents writer.old) (W.contents writer.new) (E.contents errors.old) (E.contents errors.new)) }
+{
+    let report = report_of(alloc, code, before, limit, is_explained, name, file)?;
+    write_report(&report, writer, errors)?;
+    Ok(report.failed)
+}
+
+/// Runs the tests of a file by a filter that a text spells, and writes the lines of each, before which the stream has the lines of
+/// `before` others. A test that does not hold is told on `errors` too, under the name of the test file, in words where `is_explained` says so. A
+/// filter that is refused is told on `errors` under its own name, and no test is run. Each test tries at most `limit` classes of routes.
+pub fn test_named<W: Write, E: Write>(
+    alloc: Global,
+    before: u64,
+    limit: u64,
+    is_explained: bool,
+    name: &[u8],
+    file: &TestFile,
+    filter: &NamedText<'_>,
+    writer: &mut W,
+    errors: &mut E,
+) -> Result<Tested, ProgramFault>
+    requires { before + length file.now.tests.items < 2 ^ 64 }
+    ensures finished { IfOk result (spec.TestsNamed before is_explained name.now (file_view file.now) (named filter.now)
+        (W.contents writer.old) (W.contents writer.new) (E.contents errors.old) (E.contents errors.new)) }
+    ensures broken_off { IfErr result (λ fault. spec.TestsNamedOff (stream_fault fault) before is_explained name.now (file_view file.now)
+        (named filter.now) (W.contents writer.old) (W.contents writer.new) (E.contents errors.old) (E.contents errors.new)) }
+{
+    match verified_filter(alloc, filter.text, file.size) {
+        Ok(code) => {
+            let failed = run_tests(
+                alloc,
+                &code,
+                before,
+                limit,
+                is_explained,
+                name,
+                file,
+                writer,
+                errors,
+            )?;
+            Ok(Tested::Ran(failed))
+        }
+        Err(Failure::Refused(told)) => {
+            tell_refusal(
+                alloc,
+                errors,
+                filter.name,
+                filter.text,
+                &Some(told),
+                is_explained,
+            )?;
+            Ok(Tested::Refused)
+        }
+        Err(Failure::Memory) => Err(ProgramFault::MEMORY),
+    }
+}
