@@ -145,6 +145,7 @@ def bash_differs(prefix):
         (["ncroute", "check", "--explain", "a"], ["auto", "always"]),
         (["ncroute", "filter", "--size", "16", "examples/no"], ["examples/no_bogons.filter"]),
         (["ncroute", "diff", "examples/no"], ["examples/no_bogons.filter"]),
+        (["ncroute", "test", "examples/customer_list.t"], ["examples/customer_list.test"]),
         (["ncroute", "eval", "--e"], []),
     )
     for words, wanted in rows:

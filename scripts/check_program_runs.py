@@ -85,6 +85,19 @@ RUNS = [
     ("diff no_such.filter", b"", b"", 2),
     ("diff --limit x no_such.filter -", FILTER, b"", 2),
     ("diff no_such.filter -", FILTER, b"", 3),
+    ("test no_such.test", b"", b"TAP version 13\nBail out!\n", 3),
+    ("test", b"filter no_such.filter\nsize 8\n", b"TAP version 13\nBail out!\n", 3),
+    ("test", b"filter examples/no_bogons.filter\nsize 8\n10.0.0.0/8 9 -> reject\n", b"TAP version 13\nBail out!\n", 3),
+    ("test", b"filter examples/no_bogons.filter\nsize 8\n", b"TAP version 13\n1..0\n", 0),
+    (
+        "test examples/customer_list.test -",
+        b"filter examples/no_bogons.filter\nsize 8\n10.0.0.0/8 8 -> accept",
+        b"TAP version 13\nok 1 - 192.0.36.0/22 4 -> accept 4\nok 2 - 192.0.36.0/25 4 -> reject\nok 3 - every 192.0.32.0/20{20,24} -> accept\n"
+        b"ok 4 - every 192.0.32.0/20{25,32} -> reject\nok 5 - every 10.0.0.0/8+ -> reject\nok 6 - every 0.0.0.0/0 -> reject\n"
+        b"not ok 7 - 10.0.0.0/8 8 -> accept\n# 10.0.0.0/8 8 -> reject\n1..7\n",
+        1,
+    ),
+    ("test --limit x", b"", b"", 2),
     ("replay", HISTORY, b"replay ok 2\n", 0),
     ("replay -", HISTORY.replace(b"opened 1", b"opened 2"), b"differs 0 saved opened 2 right opened 1\n", 1),
     ("replay", HISTORY[:-1], b"cut 3\n", 1),

@@ -170,7 +170,9 @@ class Place:
         os.makedirs(self.folder)
         os.symlink(os.path.join(program.TOP, "examples"), os.path.join(self.folder, "examples"))
         for name, text in [*row.files.items(), ("../given", row.given)]:
-            with open(os.path.join(self.folder, name), "wb") as it:
+            path = os.path.join(self.folder, name)
+            os.makedirs(os.path.dirname(path), exist_ok=True)
+            with open(path, "wb") as it:
                 it.write(text)
         self.row = row
 

@@ -1,5 +1,5 @@
 //! The words of what helps people: `domain`, `explain`, `filter`, `import`, `list`, `replay`, and `check` of files; and `check` and `run` with
-//! refusals in words. Those of `diff` stand apart.
+//! refusals in words. Those of `diff` and `test` stand apart.
 ghost use Rattle.std.specs.Prelude.{◌≡◌, [], ◌∷◌, IfOk, map};
 ghost use Rattle.command_line.specs.Sources.{AreNamed, AreSources, IsNamed};
 
@@ -7,6 +7,7 @@ use crate::diff_words::Comparing;
 use crate::filter_words::{NamedFile, WrongFilter, filters_in};
 use crate::telling::{Telling, is_explained};
 use crate::terminals::Terminals;
+use crate::test_words::Testing;
 use clap::ArgMatches;
 use std::alloc::{AllocError, Global};
 
@@ -153,6 +154,13 @@ pub enum Aid {
         source: Source,
         /// Why a filter is refused is told in words too.
         is_explained: bool,
+    },
+    /// Run test files.
+    Test {
+        /// How they are run.
+        how: Testing,
+        /// The files, in order.
+        sources: Vec<Source>,
     },
 }
 

@@ -61,7 +61,7 @@ fn args_of<'a>(alloc: Global, command: &str) -> Result<Vec<Arg<'a>>, AllocError>
 }
 
 /// The commands and what each does, in the order in which the help shows them.
-static COMMANDS: [(&str, &str); 13] = [
+static COMMANDS: [(&str, &str); 14] = [
     ("check", "Compile a filter, and verify its code"),
     (
         "diff",
@@ -79,6 +79,10 @@ static COMMANDS: [(&str, &str); 13] = [
     (
         "list",
         "List the code of a filter, with what the verifier knows before each instruction",
+    ),
+    (
+        "test",
+        "Run test files: what the verdict of a filter is to be on some routes",
     ),
     (
         "eval",
@@ -111,7 +115,7 @@ static COMMANDS: [(&str, &str); 13] = [
 ];
 
 /// The options and arguments of each command, in the order in which its help shows them.
-static PARAMETERS: [(&str, Parameter); 42] = [
+static PARAMETERS: [(&str, Parameter); 45] = [
     ("check", SIZE),
     ("check", CODE),
     ("check", NAMES),
@@ -134,6 +138,9 @@ static PARAMETERS: [(&str, Parameter); 42] = [
     ("list", CODE),
     ("list", EXPLAIN),
     ("list", LISTED),
+    ("test", LIMIT),
+    ("test", EXPLAIN),
+    ("test", TEST_FILES),
     ("rewrite", OLD),
     ("domain", EXPLAIN),
     ("domain", SCRIPT),
@@ -219,7 +226,7 @@ const OPTIONAL_SIZE: Parameter = Parameter {
     is_required: false,
 };
 
-/// The number of classes of routes after which a comparison ends.
+/// The number of classes of routes after which a comparison or a test ends.
 const LIMIT: Parameter = Parameter {
     name: "limit",
     value: "CLASSES",
@@ -297,6 +304,15 @@ const LISTED: Parameter = Parameter {
     value: "FILE",
     help: "The file to list in place of standard input; - is standard input",
     kind: Kind::Argument,
+    is_required: false,
+};
+
+/// The test files.
+const TEST_FILES: Parameter = Parameter {
+    name: "file",
+    value: "FILE",
+    help: "A test file in place of standard input; - is standard input",
+    kind: Kind::Arguments,
     is_required: false,
 };
 

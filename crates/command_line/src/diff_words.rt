@@ -17,7 +17,7 @@ pub struct Comparing {
 }
 
 /// The largest number of classes of routes that are tried where none is said.
-const USUAL_LIMIT: u64 = 1_000_000;
+pub(crate) const USUAL_LIMIT: u64 = 1_000_000;
 
 /// How the words of `diff` have two filters compared, of which one is in a file.
 fn comparing_in(matches: &ArgMatches<'_>, terminals: Terminals) -> Comparing {

@@ -15,6 +15,7 @@ pub fn help_of(command: &str) -> Option<&'static str> {
         "rewrite" => Some(REWRITE_HELP),
         "router" => Some(ROUTER_HELP),
         "run" => Some(RUN_HELP),
+        "test" => Some(TEST_HELP),
         _ => None,
     }
 }
@@ -126,6 +127,32 @@ Example:
   echo 'filter up { rip_metric = rip_metric + 2; accept; }' | ncroute list --size 16
 The exit status is 0; 1 if something was refused; 2 if the command line is wrong;
 3 if a fault ended the run, as a file that cannot be read.
+";
+
+/// Of `test`.
+const TEST_HELP: &str = "\
+A test file names a filter, the number of nodes of the routing domain, and tests, a line each:
+  filter FILE                 the filter; its name is taken from the folder of the test file
+  size N                      2 to 250
+  PREFIX METRIC -> VERDICT    a route, and the verdict on it
+  every PATTERN -> VERDICT    all routes whose prefix matches, with each metric
+  every PATTERN metric A..B -> VERDICT    and those with these metrics, or with one
+PATTERN is PREFIX, PREFIX+ or PREFIX{LOW,HIGH}; VERDICT is `accept METRIC`, `reject`, or
+`accept`, which is with the metric received. Empty lines and lines that begin with # are
+skipped. The filter is verified first.
+
+The output is that of the Test Anything Protocol, version 13, with one plan for all files:
+  ok N - TEST          on all of its routes the verdict is the expected one
+  not ok N - TEST      it is not on the route that the next line shows, as
+                       `# PREFIX METRIC -> VERDICT`; or the next line is `# undecided`:
+                       that was not found out within CLASSES
+  1..N                 how many tests there are
+  Bail out!            a file was not read or refused, and nothing more is run
+
+Example:
+  ncroute test examples/customer_list.test
+The exit status is 0 if each test holds; 1 if one does not or is undecided; 2 if the command
+line is wrong; 3 if a file was refused or not read, or a fault ended the run.
 ";
 
 /// Of `eval`.

@@ -11,6 +11,7 @@ mod options;
 mod router_words;
 mod telling;
 mod terminals;
+mod test_words;
 mod words;
 
 pub use aid_words::{Aid, Checking, Engine, Importing, Running, Source};
@@ -19,4 +20,5 @@ pub use filter_words::{NamedFile, WrongFilter, filters_in};
 pub use router_words::RouterWords;
 pub use telling::{Telling, is_explained};
 pub use terminals::{Terminals, tell_that_input_is_read, waits_for_people};
+pub use test_words::Testing;
 pub use words::{Request, Words, read, request_of};

@@ -9,6 +9,7 @@ use crate::diff_words::diff_in;
 use crate::filter_words::WrongFilter;
 use crate::router_words::{RouterWords, router_in};
 use crate::terminals::Terminals;
+use crate::test_words::test_in;
 use clap::error::ErrorKind;
 use clap::{ArgMatches, Error};
 use line_protocol::StreamFault;
@@ -112,6 +113,7 @@ fn words_in<R: Eprint>(
         })),
         "router" => router_words(rt, alloc, words),
         "run" => run_words(rt, alloc, words, terminals),
+        "test" => aided(test_in(alloc, words, terminals)),
         _ => Ok(Words::Asked(Request::Eval)),
     }
 }

@@ -25,6 +25,7 @@ use Rattle.ncroute.specs.Replaying.{CutsReplay, ReplaysText, replay_limit}
 use Rattle.ncroute.specs.Scripts.{RunsScript, StopsScript, script_fault}
 use Rattle.ncroute.specs.Serving.{fault_line, status_of}
 use Rattle.ncroute.specs.Streaming.{Streams}
+use Rattle.ncroute.specs.Testing.{StopsSources, TestsSources}
 use Rattle.command_line.specs.declared.aid_words.Aid.{Aid}
 use Rattle.command_line.specs.declared.aid_words.Aid.TheVariants as aid
 use Rattle.command_line.specs.declared.aid_words.Checking.{Checking}
@@ -104,6 +105,7 @@ fault_status (aid.Replay source) = 3
 fault_status (aid.Run how source) = 1
 fault_status (aid.RunJoined how sources) = 1
 fault_status (aid.Script engine source is_explained) = script_fault engine
+fault_status (aid.Test how sources) = 3
 
 -- `opens name` says what may come of opening a file of this name.
 module _ (opens : List ℕ → Result (Option (List ℕ)) Error → Type 0) where
@@ -217,6 +219,7 @@ module _ (opens : List ℕ → Result (Option (List ℕ)) Error → Type 0) wher
     Helps (aid.Run how source) before after status = RunsGuided creates opens how source before after status
     Helps (aid.RunJoined how sources) before after status = RunsJoined creates opens how sources.items before after status
     Helps (aid.Script engine source is_explained) before after status = RunsSource engine source is_explained before after status
+    Helps (aid.Test how sources) before after status = TestsSources opens how sources.items before after status
 
     -- A fault ended it.
     abbrev pub StopsHelp : StreamFault → Aid → Streams → Streams → Type 0
@@ -231,6 +234,7 @@ module _ (opens : List ℕ → Result (Option (List ℕ)) Error → Type 0) wher
     StopsHelp fault (aid.Run how source) before after = StopsRun creates opens fault how source before after
     StopsHelp fault (aid.RunJoined how sources) before after = StopsJoined creates opens fault how sources.items before after
     StopsHelp fault (aid.Script engine source is_explained) before after = StopsSource fault engine source is_explained before after
+    StopsHelp fault (aid.Test how sources) before after = StopsSources opens fault how sources.items before after
 
     -- What people asked for ended with this exit status: it was done to its end; or a fault ended it, which standard error was told,
     -- and the status is that of a fault.

@@ -14,3 +14,4 @@ pub mod Routing
 pub mod Scripts
 pub mod Serving
 pub mod Streaming
+pub mod Testing

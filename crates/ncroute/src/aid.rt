@@ -20,6 +20,7 @@ use crate::lines::check_lines;
 use crate::replay::{REPLAY_LIMIT, replay_text};
 use crate::script::{FAULT, carry_out, script_fault};
 use crate::serve::{FAILED, report_fault};
+use crate::testing::test_sources;
 use crate::texts::{Folder, name_of, read_source, tell_unread};
 use command_line::{Aid, Checking, Engine, Source};
 use filter_commands::ProgramFault;
@@ -514,6 +515,10 @@ fn help<F: Folder, R: Read, W: Write, E: Write>(
             writer,
             errors,
         ),
+        Aid::Test { how, sources } => {
+            let sources = sources.as_slice();
+            test_sources(files, alloc, *how, sources, reader, writer, errors)
+        }
     }
 }
 
@@ -527,7 +532,11 @@ pub fn fault_status(aid: &Aid) -> u8
         | Aid::Import { .. }
         | Aid::Run { .. }
         | Aid::RunJoined { .. } => FAILED,
-        Aid::Diff { .. } | Aid::Filter { .. } | Aid::List { .. } | Aid::Replay { .. } => FAULT,
+        Aid::Diff { .. }
+        | Aid::Filter { .. }
+        | Aid::List { .. }
+        | Aid::Replay { .. }
+        | Aid::Test { .. } => FAULT,
         Aid::Script { engine, .. } => script_fault(*engine),
     }
 }

@@ -18,6 +18,7 @@ mod respond;
 mod routing;
 mod script;
 mod serve;
+mod testing;
 mod texts;
 mod watcher;
 

@@ -13,6 +13,7 @@ Place: the number of the line
     refused O1 1
 
 `ncroute run --help` has the commands. A line of `eval` is a prefix, a metric and a size.
+`ncroute test --help` has the lines of a test file.
 ",
     },
     Page {
