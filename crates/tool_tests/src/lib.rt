@@ -3,6 +3,8 @@
 #![tactic(auto)]
 
 #[cfg(test)]
+mod checking_tests;
+#[cfg(test)]
 mod comparing_tests;
 #[cfg(test)]
 mod explanation_tests;
