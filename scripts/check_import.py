@@ -109,10 +109,22 @@ TAKEN = [
       "{ rip_metric = 3; } else { reject; } }"}),
     ("a set in the last part of a case", "filter f prefix set s; { case net.len { 8: rip_metric = 2; 9: rip_metric = 3; s = [ 10.0.0.0/8 ]; if net ~ s then accept; } reject; }",
      {"f": "{ case net.len { 8: rip_metric = 2; 9: rip_metric = 3; if net ~ [ 10.0.0.0/8 ] then accept; } reject; }"}),
-    ("a case of addresses before a label of another", "filter f { case net.len { 8: rip_metric = 3; case net.ip { 10.0.0.0: accept; } else: reject; } accept; }",
-     {"f": "{ case net.len { 8: rip_metric = 3; if net.ip = 10.0.0.0 then { accept; } else: reject; } accept; }"}),
     ("a case of addresses before an else", "filter f { if net.len = 8 then case net.ip { 10.0.0.0: accept; } else reject; accept; }",
      {"f": "{ if net.len = 8 then { if net.ip = 10.0.0.0 then { accept; } } else reject; accept; }"}),
+    ("a case of addresses in an else", "filter f { if net.len = 8 then accept; else case net.ip { 10.0.0.0: reject; 11.0.0.0: accept; } reject; }",
+     {"f": "{ if net.len = 8 then accept; else if net.ip = 10.0.0.0 then { reject; } else if net.ip = 11.0.0.0 then { accept; } reject; }"}),
+    ("a case of addresses in an else, before an else",
+     "filter f { if net.len > 4 then if net.len = 8 then accept; else case net.ip { 10.0.0.0: accept; } else reject; accept; }",
+     {"f": "{ if net.len > 4 then if net.len = 8 then accept; else { if net.ip = 10.0.0.0 then { accept; } } else reject; accept; }"}),
+    ("a case of addresses before a label of another", "filter f { case net.len { 8: rip_metric = 3; case net.ip { 10.0.0.0: accept; } else: reject; } accept; }",
+     {"f": "{ case net.len { 8: rip_metric = 3; { if net.ip = 10.0.0.0 then { accept; } } else: reject; } accept; }"}),
+    ("a case in a case", "filter f { case net.ip.mask(8) { 10.0.0.0: case net.ip.mask(16) { 10.1.0.0: accept; else: reject; } else: rip_metric = 4; "
+     "11.0.0.0: accept; } reject; }",
+     {"f": "{ if net.ip.mask(8) = 10.0.0.0 then { if net.ip.mask(16) = 10.1.0.0 then { accept; } else { reject; } } else if net.ip.mask(8) = "
+      "11.0.0.0 then { accept; } else { rip_metric = 4; } reject; }"}),
+    ("a function with one case in another's else", "function f() { if net.len = 1 then return true; else if net.len = 2 then return false; else return net.len > 8; }\n"
+     "filter g { if f() then accept; }",
+     {"g": "{ if ( ( net.len = 1 ) || ( ! ( net.len = 2 ) && ( net.len > 8 ) ) ) then accept; }"}),
     ("a function that prints", "function g() { print \"g\"; return net.len > 8; }\nfilter f { if g() then accept; }",
      {"f": "{ if ( net.len > 8 ) then accept; }"}),
     ("other blocks", "log \"/var/log/x\" { debug, trace };\nrouter id 1.2.3.4;\nprotocol bgp p { local as 65000; neighbor 2001:db8::1 as 65001; hold time 240; "
@@ -140,6 +152,8 @@ LEFT_OUT = [
     ("a set that is used behind its block", "filter f { if net.len > 8 then { prefix set s = [ 10.0.0.0/8+ ]; } if net ~ s then accept; reject; }", "1:45", "f: the set `s`"),
     ("a set that another part of a case uses", "filter f prefix set s; { case net.len { 8: rip_metric = 2; s = [ 10.0.0.0/8 ]; 9: if net ~ s then accept; } reject; }",
      "1:21", "f: the set `s`"),
+    ("a condition in a condition of a function", "function g() { if net.len > 20 then if net.len < 22 then return true; return false; }\nfilter f { if g() then accept; }",
+     "2:15", "f: the function `g` cannot"),
     ("a set without a value in the body", "filter f { prefix set s; s = [ 10.0.0.0/8 ]; if net ~ s then accept; }", "1:23", "f: `s` has no value in the body"),
     ("a label of several words", "define FAR = 2 + 3;\nfilter f { case net.len { FAR: accept; else: reject; } }", "2:27", "f: `FAR` is defined by more than one word"),
     ("a mask of several words", "define FAR = 2 + 3;\nfilter f { if net.ip.mask(FAR) = 10.0.0.0 then accept; }", "2:27", "f: `FAR` is defined by more than one word"),

@@ -1,3 +1,6 @@
+mod Pairs
+mod Placed
 mod Reached
 mod Spelled
 mod Splits
+mod Tests

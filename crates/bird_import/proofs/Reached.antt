@@ -1,22 +1,31 @@
 -- How steps follow one another, and drafts.
-use Rattle.std.proofs.Common.{Option, subst, ◌≡◌, ℕ, zero, suc, ◌+◌, ◌++◌, List, [], Some, refl, add-one}
-use Rattle.std.specs.Prelude.{IfSome, slice_get}
-use Rattle.bird_import.specs.Drafts.{BeginsAs, ComesOf, HasDraft, HaveDrafts, words_of}
-use Rattle.bird_import.specs.Steps.{Becomes, Fits, Reaches, Writes}
-use Rattle.bird_import.specs.declared.step.Rule.{Rule}
+use Rattle.std.proofs.Common.{Option, subst, sym, ◌≡◌, ℕ, suc, ◌+◌, ◌-◌, ◌++◌, List, [], Some, refl, add-one}
+use Rattle.std.specs.Prelude.{IfOk, IfSome, Result, Ok, Err, slice_get}
+use Rattle.bird_import.specs.Drafts.{BeginsAs, ComesOf, HasDraft, HaveDrafts, IsCallee, IsNext, words_of}
+use Rattle.bird_import.specs.Functions.{IsCallOf}
+use Rattle.bird_import.specs.Steps.{Becomes, BecomesWithin, BySteps, IsCallWritten, IsPart, Reaches, Replaces, Writes}
 use Rattle.bird_import.specs.declared.drafts.Draft.{Draft}
+use Rattle.bird_import.specs.declared.drafts.Next.{Next}
+use Rattle.bird_import.specs.declared.drafts.Next.TheVariants.{Done, Stuck, Words}
 use Rattle.bird_import.specs.declared.items.Item.{Item}
 use Rattle.bird_import.specs.declared.word.Word.{Word}
 
 -- no step
-pub no_step : (config words : List Word) → Becomes config words words
+pub no_step : (config : List Word) (Becoming : List Word → List Word → Type 0) (words : List Word) → BySteps config Becoming words words
 unfolding Reaches
-no_step config words = (0, refl)
+no_step config Becoming words = (0, refl)
 
 -- one more
-pub one_step : (config before mid after : List Word) → Becomes config before mid → Writes config mid after → Becomes config before after
+pub one_step : (config : List Word) (Becoming : List Word → List Word → Type 0) (before mid after : List Word)
+    → BySteps config Becoming before mid → Writes config Becoming mid after → BySteps config Becoming before after
 unfolding Reaches
-one_step config before mid after steps step = (suc steps.0, (mid, steps.1, step))
+one_step config Becoming before mid after steps step = (suc steps.0, (mid, steps.1, step))
+
+-- what a function's words become that is called where functions may call functions once more
+pub less_deep : (config : List Word) (depth less : ℕ) (before after : List Word) → depth ≡ less + 1 → Becomes config less before after
+    → BecomesWithin config depth before after
+unfolding BecomesWithin
+less_deep config depth less before after is becomes = rw (is, add-one) becomes
 
 -- no item
 pub no_draft : (words : List Word) (items : List Item) (drafts : List Draft) → drafts ≡ [] → HaveDrafts words items 0 drafts
@@ -29,25 +38,78 @@ pub one_draft : (words : List Word) (items : List Item) (n : ℕ) (one : Item) (
 unfolding HaveDrafts
 one_draft words items n one before after is drafts more = rw add-one (one, before, is, drafts, more)
 
--- a step that fits its rule
-pub step_made : (config words front rest old new back after : List Word) (by : Rule) → words ≡ front ++ rest → rest ≡ old ++ back
-    → after ≡ front ++ new ++ back → Fits config by front old new back → Writes config words after
-step_made config words front rest old new back after by first second is fits = record {
-  by = by;
+-- a part of some words is written as another
+pub replaced : (Way : List Word → List Word → List Word → List Word → Type 0) (words front old new back after : List Word)
+    → words ≡ front ++ (old ++ back) → after ≡ front ++ new ++ back → Way front old new back → Replaces Way words after
+replaced Way words front old new back after was is way = record {
   front = front;
   old = old;
   new = new;
   back = back;
-  was = rw (first, second) refl;
+  was = was;
   is = is;
-  fits = fits;
+  way = way;
 }
 
 -- what holds of a value that there is
 pub of_some : {A : Type 0} (P : A → Type 0) (made : Option A) (value : A) → made ≡ Some value → IfSome made P → P value
 of_some P made value is holds = subst (λ m. IfSome m P) is holds
 
+-- the words of an item are those of a function that is called
+pub callee : (config : List Word) (one : Item) (depth : ℕ) (source : List Word) (less : ℕ) → source ≡ words_of config one → depth ≡ less + 1
+    → IsCallee config depth source less
+callee config one depth source less is deep = record { part = record { at = one.from; len = one.to - one.from; is = is }; deep = deep }
+
+-- what stands for a call of a function, whose words have become others, is written in its place
+called : (config : List Word) (Becoming : List Word → List Word → Type 0) (source function words after : List Word) → IsPart config source
+    → Becoming source function → Replaces (λ front old new back. IsCallOf source function front old new) words after
+    → Replaces (IsCallWritten config Becoming) words after
+called config Becoming source function words after part becomes step = record {
+  front = step.front;
+  old = step.old;
+  new = step.new;
+  back = step.back;
+  was = step.was;
+  is = step.is;
+  way = record { source = source; part = part; function = function; becomes = becomes; call = step.way };
+}
+
+-- more is said of the words that come next
+next_more : (P Q : List Word → Type 0) → ((words : List Word) → P words → Q words) → (next : Next) → IsNext P next → IsNext Q next
+next_more P Q more (Words after) is = more after.items is
+next_more P Q more (Stuck reason) is = is
+next_more P Q more Done is = is
+
+pub more_of_next : {E : Type 0} (P Q : List Word → Type 0) (next : Result Next E) → ((words : List Word) → P words → Q words)
+    → IfOk next (IsNext P) → IfOk next (IsNext Q)
+more_of_next P Q (Ok next) more is = next_more P Q more next is
+more_of_next P Q (Err error) more is = is
+
+-- a copy of a function's words has become others, and so have these
+within_depth : (config : List Word) (depth less : ℕ) (source copy function slice : List Word) → IsCallee config depth source less
+    → copy ≡ source → slice ≡ function → Becomes config less copy function → BecomesWithin config depth source slice
+within_depth config depth less source copy function slice of same sliced becomes =
+    let whole : Becomes config less source function = subst (λ list. Becomes config less list function) same becomes in
+    less_deep config depth less source slice of.deep (subst (λ list. Becomes config less source list) (sym sliced) whole)
+
+-- so what comes next is a call that is written
+pub call_is_next : {E : Type 0} (config words : List Word) (depth less : ℕ) (source copy function slice : List Word) (next : Result Next E)
+    → IsCallee config depth source less → copy ≡ source → slice ≡ function → Becomes config less copy function
+    → IfOk next (IsNext (Replaces (λ front old new back. IsCallOf source slice front old new) words))
+    → IfOk next (IsNext (Replaces (IsCallWritten config (BecomesWithin config depth)) words))
+call_is_next config words depth less source copy function slice next of same sliced becomes is =
+    let within = within_depth config depth less source copy function slice of same sliced becomes in
+    more_of_next (Replaces (λ front old new back. IsCallOf source slice front old new) words)
+    (Replaces (IsCallWritten config (BecomesWithin config depth)) words) next
+    (λ after step. called config (BecomesWithin config depth) source slice words after of.part within step) is
+
+-- one more step, of the words that are there
+pub steps_on : (config : List Word) (Becoming : List Word → List Word → Type 0) (before mid slice after : List Word) → slice ≡ mid
+    → BySteps config Becoming before mid → Writes config Becoming slice after → BySteps config Becoming before after
+steps_on config Becoming before mid slice after same steps step =
+    one_step config Becoming before mid after steps (subst (λ list. Writes config Becoming list after) same step)
+
 -- the words of an item become these
 pub comes : (words : List Word) (one : Item) (first after : List Word) → BeginsAs one.kind one.name.items (words_of words one) first
-    → Becomes words first after → ComesOf words one after
+    → Becomes words 16 first after → ComesOf words one after
 comes words one first after begins becomes = record { first = first; begins = begins; becomes = becomes }

@@ -1,6 +1,5 @@
 -- Tokens that are words, one by one.
-use Rattle.std.proofs.Common.{◌≡◌, ℕ, ◌+◌, ◌<◌, ◌⊎◌, List, Some, length, subst, sym, inl, inr, arith}
-use Rattle.std.specs.Prelude.{slice_get}
+use Rattle.std.proofs.Common.{◌≡◌, ℕ, ◌+◌, ◌<◌, ◌⊎◌, List, length, subst, sym, inl, inr, arith}
 use Rattle.std.proofs.lemmas.Option.{slice_get_within}
 use Rattle.filter_parser.specs.SyntaxText.{FilterView, IsText}
 use Rattle.filter_tokens.specs.declared.token.Token.{Token}

@@ -1,7 +1,9 @@
 -- What becomes of the filters of a configuration.
-use Rattle.std.specs.Prelude.{◌≡◌, ℕ, zero, suc, ◌-◌, List, Some, [], ◌∷◌, ◌++◌, drop, map, slice_get, take, ⊤}
+use Rattle.std.specs.Prelude.{◌≡◌, ℕ, zero, suc, ◌+◌, ◌-◌, List, Some, [], ◌∷◌, ◌++◌, drop, map, slice_get, take, ⊤}
 use Rattle.filter_tokens.specs.declared.symbol.Symbol.TheVariants as symbol
 use Rattle.bird_import.specs.declared.drafts.Draft.{Draft}
+use Rattle.bird_import.specs.declared.drafts.Next.{Next}
+use Rattle.bird_import.specs.declared.drafts.Next.TheVariants.{Done, Stuck, Words}
 use Rattle.bird_import.specs.declared.drafts.Outcome.{Outcome}
 use Rattle.bird_import.specs.declared.drafts.Outcome.TheVariants.{Drafted, LeftOut}
 use Rattle.bird_import.specs.declared.items.Item.{Item}
@@ -11,16 +13,27 @@ use Rattle.bird_import.specs.declared.word.Word.{Word}
 use Rattle.bird_import.specs.declared.word.WordKind.{WordKind}
 use Rattle.bird_import.specs.declared.word.WordKind.TheVariants as kind
 use Rattle.bird_import.specs.Rules.{Is, IsNamed}
-use Rattle.bird_import.specs.Steps.{Becomes}
+use Rattle.bird_import.specs.Steps.{Becomes, IsPart}
 
 -- a fact of the words of a filter that is drafted
 abbrev pub IfDrafted : (List Word → Type 0) → Outcome → Type 0
 IfDrafted P (Drafted words) = P words.items
 IfDrafted P (LeftOut reason) = ⊤
 
+-- a fact of the words that come next
+abbrev pub IsNext : (List Word → Type 0) → Next → Type 0
+IsNext P (Words after) = P after.items
+IsNext P (Stuck reason) = ⊤
+IsNext P Done = ⊤
+
 -- the words of an item
 abbrev pub words_of : List Word → Item → List Word
 words_of words one = take (one.to - one.from) (drop one.from words)
+
+-- words of the configuration are those of a function, in which functions call functions less deep by one
+pub record IsCallee (words : List Word) (depth : ℕ) (source : List Word) (less : ℕ) : Type 0 where
+  pub part : IsPart words source
+  pub deep : depth ≡ less + 1
 
 -- the kinds of words
 abbrev pub kinds_of : List Word → List WordKind
@@ -55,11 +68,11 @@ BeginsAs item.Anonymous name other first = first ≡ []
 BeginsAs item.Condition name other first = first ≡ []
 BeginsAs kind name all first = first ≡ all
 
--- the words of an item become these, from its first ones on
+-- The words of an item become these, from its first ones on. Functions call functions at most 16 deep.
 pub record ComesOf (words : List Word) (one : Item) (after : List Word) : Type 0 where
   pub first : List Word
   pub begins : BeginsAs one.kind one.name.items (words_of words one) first
-  pub becomes : Becomes words first after
+  pub becomes : Becomes words 16 first after
 
 -- a draft is that of an item: it has its name, and the words that are drafted come of the item's
 abbrev pub IsDraft : List Word → Item → Draft → Type 0

@@ -1,6 +1,10 @@
 pub mod Alike
 pub mod Spelling
 pub mod Rules
+pub mod Blocks
+pub mod Functions
+pub mod Sets
+pub mod Cases
 pub mod Steps
 pub mod Drafts
 pub mod Texts

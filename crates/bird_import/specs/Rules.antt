@@ -7,8 +7,6 @@ use Rattle.filter_tokens.specs.declared.symbol.Symbol.TheVariants as symbol
 use Rattle.bird_import.specs.declared.word.Word.{Word}
 use Rattle.bird_import.specs.declared.word.WordKind.{WordKind}
 use Rattle.bird_import.specs.declared.word.WordKind.TheVariants as kind
-use Rattle.bird_import.specs.declared.step.Rule.{Rule}
-use Rattle.bird_import.specs.declared.step.Rule.TheVariants as rule
 
 -- a word is this keyword or punctuator
 abbrev pub Is : Symbol → Word → Type 0

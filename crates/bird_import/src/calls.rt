@@ -1,11 +1,12 @@
 //! Calls of functions: the function's commands or its value stand where it is called.
 
 use crate::config::Config;
-use crate::defines::push_after;
-use crate::items::{Item, ItemKind, first_block};
-use crate::reason::{Reason, Why};
-use crate::step::{Plan, Rule, Step, push_words};
-use crate::word::{Word, begins_command, find_outside, is_at, is_before, is_name_at, word_at};
+use crate::functions::{Decision, begins_command, decision_of, function_of, is_between, value_of};
+use crate::items::{Item, ItemKind};
+use crate::reason::{Reason, Why, unwritten};
+use crate::rules::split;
+use crate::step::{Call, Plan, Rule, Step, push_words};
+use crate::word::{Word, closing, find_outside, is_at, is_before, is_name_at, word_at};
 use filter_tokens::Symbol;
 use std::alloc::{AllocError, Global};
 
@@ -32,7 +33,7 @@ pub fn first_call(words: &[Word<'_>]) -> Option<usize> {
 }
 
 /// The function of this name, if there is just one, and it ends before a place.
-pub fn function_of<'a>(config: &Config<'a>, word: Word<'a>) -> Result<&'a Item, Reason<'a>> {
+pub fn item_of<'a>(config: &Config<'a>, word: Word<'a>) -> Result<&'a Item, Reason<'a>> {
     let mut found = None;
     for item in config.items {
         if item.kind == ItemKind::Function && item.name.as_slice() == word.bytes {
@@ -66,136 +67,6 @@ fn ends_before(config: &Config<'_>, item: &Item, at: usize) -> bool {
     }
 }
 
-/// The words between the braces of a function without parameters and without variables of its own.
-fn body_of<'w, 'a>(function: &'w [Word<'a>]) -> Option<&'w [Word<'a>]> {
-    if !(is_at(function, 2, Symbol::LeftParen) && is_at(function, 3, Symbol::RightParen)) {
-        return None;
-    }
-    let open = first_block(function, 4)?;
-    let is_plain = open == 4 || is_at(function, 4, Symbol::Minus);
-    let last = function.len().checked_sub(1)?;
-    if !is_plain || declares(function) {
-        return None;
-    }
-    function.get(open.checked_add(1)?..last)
-}
-
-/// Whether some words declare a variable.
-fn declares(words: &[Word<'_>]) -> bool {
-    for at in 1..words.len() {
-        if words[at - 1].is_kind() && is_name_at(words, at) {
-            return true;
-        }
-    }
-    false
-}
-
-/// Whether a function returns a value anywhere.
-fn returns(words: &[Word<'_>]) -> bool {
-    words.iter().any(|word| word.is_foreign(b"return"))
-}
-
-/// The commands of a function, in braces, where a command calls it.
-fn commands_of<'a>(
-    alloc: Global,
-    body: &[Word<'a>],
-    call: Word<'a>,
-) -> Result<Option<Vec<Word<'a>>>, AllocError> {
-    if returns(body) {
-        return Ok(None);
-    }
-    let mut words = Vec::new(alloc);
-    words.push(Word::made(Symbol::LeftBrace, call.at).after(call.gap))?;
-    push_words(&mut words, body)?;
-    words.push(Word::made(Symbol::RightBrace, call.at))?;
-    Ok(Some(words))
-}
-
-/// A part of a function's value: a condition on which it is true, or on which it is false.
-#[derive(Clone, Copy)]
-struct Case<'w, 'a> {
-    /// The condition.
-    condition: &'w [Word<'a>],
-    /// What the function returns there.
-    value: bool,
-    /// The index of the word behind the part.
-    behind: usize,
-}
-
-/// The bool that `return` at an index returns, and the index behind its `;`.
-fn returned_bool(words: &[Word<'_>], at: usize) -> Option<(bool, usize)> {
-    if !word_at(words, at)?.is_foreign(b"return") {
-        return None;
-    }
-    let value = word_at(words, at.checked_add(1)?)?;
-    let end = at.checked_add(2)?;
-    if !is_at(words, end, Symbol::Semicolon) {
-        return None;
-    }
-    if value.is(Symbol::True) {
-        Some((true, end.checked_add(1)?))
-    } else if value.is(Symbol::False) {
-        Some((false, end.checked_add(1)?))
-    } else {
-        None
-    }
-}
-
-/// The same, also in braces.
-fn returned_in_braces(words: &[Word<'_>], at: usize) -> Option<(bool, usize)> {
-    if !is_at(words, at, Symbol::LeftBrace) {
-        return returned_bool(words, at);
-    }
-    let (value, end) = returned_bool(words, at.checked_add(1)?)?;
-    if is_at(words, end, Symbol::RightBrace) {
-        Some((value, end.checked_add(1)?))
-    } else {
-        None
-    }
-}
-
-/// The case at an index of a function's body: `if C then return true;`, or `false`.
-fn case_at<'w, 'a>(body: &'w [Word<'a>], at: usize) -> Option<Case<'w, 'a>> {
-    if !is_at(body, at, Symbol::If) {
-        return None;
-    }
-    let from = at.checked_add(1)?;
-    let then = find_outside(body, from, Symbol::Then)?;
-    let (value, end) = returned_in_braces(body, then.checked_add(1)?)?;
-    // What is returned otherwise is what follows.
-    let behind = if is_at(body, end, Symbol::Else) {
-        end.checked_add(1)?
-    } else {
-        end
-    };
-    Some(Case {
-        condition: body.get(from..then)?,
-        value,
-        behind,
-    })
-}
-
-/// The words of the last `return` of a body, if it begins at an index and ends the body.
-fn last_value<'w, 'a>(body: &'w [Word<'a>], at: usize) -> Option<&'w [Word<'a>]> {
-    let is_braced = is_at(body, at, Symbol::LeftBrace);
-    let start = if is_braced { at.checked_add(1)? } else { at };
-    if !word_at(body, start)?.is_foreign(b"return") {
-        return None;
-    }
-    let from = start.checked_add(1)?;
-    let end = find_outside(body, from, Symbol::Semicolon)?;
-    let behind = end.checked_add(if is_braced { 2 } else { 1 })?;
-    if behind != body.len() || from == end {
-        return None;
-    }
-    body.get(from..end)
-}
-
-/// Whether a value is this constant.
-fn is_constant(value: &[Word<'_>], symbol: Symbol) -> bool {
-    value.len() == 1 && is_at(value, 0, symbol)
-}
-
 /// Puts words in parentheses behind others.
 fn push_grouped<'a>(
     words: &mut Vec<Word<'a>>,
@@ -208,104 +79,171 @@ fn push_grouped<'a>(
     Ok(())
 }
 
-/// Puts a case of a function's value behind others: what follows is the value otherwise, in parentheses that are opened here.
-fn push_case<'a>(
+/// Puts `return` with a value that is one of two, by a condition, behind others. The word `return` comes from the words that are left out,
+/// and what is put in beside it from a place.
+fn push_decided<'a>(
     words: &mut Vec<Word<'a>>,
-    case: Case<'_, 'a>,
+    made: Decision<'_, 'a>,
+    command: Word<'a>,
     at: usize,
 ) -> Result<(), AllocError> {
-    if !case.value {
+    let is_true = made.answer.is(Symbol::True);
+    words.push(command)?;
+    if !is_true {
         words.push(Word::made(Symbol::Not, at))?;
     }
-    push_grouped(words, case.condition, at)?;
-    words.push(Word::made(if case.value { Symbol::Or } else { Symbol::And }, at))?;
-    words.push(Word::made(Symbol::LeftParen, at))?;
+    push_grouped(words, made.condition, at)?;
+    words.push(Word::made(if is_true { Symbol::Or } else { Symbol::And }, at))?;
+    push_grouped(words, made.other, at)?;
+    words.push(Word::made(Symbol::Semicolon, at).after(b""))?;
     Ok(())
 }
 
-/// The value of a function whose body is cases and a last `return`.
-fn value_of<'a>(
+/// The index behind the `return` that begins at an index, in braces or not.
+fn return_end(words: &[Word<'_>], at: usize) -> Option<usize> {
+    let end = if is_at(words, at, Symbol::LeftBrace) {
+        closing(words, at)?
+    } else {
+        find_outside(words, at, Symbol::Semicolon)?
+    };
+    end.checked_add(1)
+}
+
+/// The index behind two commands that return, the first of them on a condition, which begin at an index.
+fn decided_end(words: &[Word<'_>], at: usize) -> Option<usize> {
+    let first = find_outside(words, at, Symbol::Then)?.checked_add(1)?;
+    let mut last = return_end(words, first)?;
+    for _ in last..words.len() {
+        if !(is_at(words, last, Symbol::Semicolon) || is_at(words, last, Symbol::Else)) {
+            break;
+        }
+        last = last.saturating_add(1);
+    }
+    return_end(words, last)
+}
+
+/// The first word that is `return`, if there is one.
+fn first_return<'a>(words: &[Word<'a>]) -> Option<Word<'a>> {
+    words
+        .iter()
+        .find(|word| word.is_foreign(b"return"))
+        .copied()
+}
+
+/// The step that writes two commands of a function as one which begin at an index, if they return.
+fn decide<'a>(
+    alloc: Global,
+    words: &[Word<'a>],
+    at: usize,
+) -> Result<Option<Step<'a>>, AllocError> {
+    let Some(to) = decided_end(words, at) else {
+        return Ok(None);
+    };
+    let (Some((front, _)), Some(old)) = (split(words, at), words.get(at..to)) else {
+        return Ok(None);
+    };
+    let (Some(made), Some(command), Some(head)) = (decision_of(old), first_return(old), old.first())
+    else {
+        return Ok(None);
+    };
+    if !is_between(front, made.middle) {
+        return Ok(None);
+    }
+    let mut written = Vec::new(alloc);
+    push_decided(&mut written, made, command, head.at)?;
+    Ok(Some(Step {
+        rule: Rule::Returned,
+        origin: 0,
+        from: at,
+        to,
+        words: written,
+        stuck: unwritten(command.at),
+    }))
+}
+
+/// Writes the first two commands of a function as one that return one value or another by a condition.
+pub fn plan_return<'a>(alloc: Global, words: &[Word<'a>]) -> Result<Plan<'a>, AllocError> {
+    if !words
+        .first()
+        .is_some_and(|word| word.is_foreign(b"function"))
+    {
+        return Ok(Plan::Done);
+    }
+    for at in 0..words.len() {
+        if is_at(words, at, Symbol::If) {
+            if let Some(step) = decide(alloc, words, at)? {
+                return Ok(Plan::Step(step));
+            }
+        }
+    }
+    Ok(Plan::Done)
+}
+
+/// What stands for a call at an index as a command: the commands of the function, in braces.
+fn commands_of<'a>(
     alloc: Global,
     body: &[Word<'a>],
     call: Word<'a>,
-) -> Result<Option<Vec<Word<'a>>>, AllocError> {
+) -> Result<Vec<Word<'a>>, AllocError> {
     let mut words = Vec::new(alloc);
-    words.push(Word::made(Symbol::LeftParen, call.at).after(call.gap))?;
-    let mut opened = 1usize;
-    let mut at = 0;
-    for _ in 0..body.len() {
-        if let Some(value) = last_value(body, at) {
-            push_words(&mut words, value)?;
-            for _ in 0..opened {
-                words.push(Word::made(Symbol::RightParen, call.at))?;
-            }
-            return Ok(Some(words));
-        }
-        if is_at(body, at, Symbol::Semicolon) {
-            at = at.saturating_add(1);
-            continue;
-        }
-        let Some(case) = case_at(body, at) else {
-            return Ok(None);
-        };
-        push_case(&mut words, case, call.at)?;
-        opened = opened.saturating_add(1);
-        at = case.behind;
-    }
-    Ok(None)
+    words.push(Word::made(Symbol::LeftBrace, call.at).after(call.gap))?;
+    push_words(&mut words, body)?;
+    words.push(Word::made(Symbol::RightBrace, call.at))?;
+    Ok(words)
 }
 
-/// The step that puts a function in the place of its call at an index.
-pub fn place_call<'a>(
+/// What stands for it as a value: what the function returns, in parentheses.
+fn value_for<'a>(
+    alloc: Global,
+    value: &[Word<'a>],
+    call: Word<'a>,
+) -> Result<Vec<Word<'a>>, AllocError> {
+    let mut words = Vec::new(alloc);
+    words.push(Word::made(Symbol::LeftParen, call.at).after(call.gap))?;
+    push_words(&mut words, value)?;
+    words.push(Word::made(Symbol::RightParen, call.at))?;
+    Ok(words)
+}
+
+/// What stands for the call at an index of a function whose words have become others, or why there is nothing.
+pub fn call_at<'a>(
     alloc: Global,
     words: &[Word<'a>],
     at: usize,
     function: &[Word<'a>],
-) -> Result<Plan<'a>, AllocError> {
-    let Some(call) = word_at(words, at) else {
-        return Ok(Plan::Done);
-    };
-    let stuck = Reason {
-        at: call.at,
-        why: Why::FunctionShape(call.bytes),
+) -> Result<Result<Call<'a>, Reason<'a>>, AllocError> {
+    let (Some(call), Some((front, _))) = (word_at(words, at), split(words, at)) else {
+        return Ok(Err(unwritten(0)));
     };
     if !is_at(words, at.saturating_add(2), Symbol::RightParen) {
-        return Ok(Plan::Stuck(Reason {
+        return Ok(Err(Reason {
             at: call.at,
             why: Why::FunctionArguments(call.bytes),
         }));
     }
-    let Some(body) = body_of(function) else {
-        return Ok(Plan::Stuck(stuck));
+    let stuck = Reason {
+        at: call.at,
+        why: Why::FunctionShape(call.bytes),
+    };
+    let Some(made) = function_of(call.bytes, function) else {
+        return Ok(Err(stuck));
     };
     let behind = at.saturating_add(3);
-    let is_command = begins_command(words, at) && is_at(words, behind, Symbol::Semicolon);
-    let (placed, to) = if is_command {
-        (commands_of(alloc, body, call)?, behind.saturating_add(1))
-    } else {
-        (value_of(alloc, body, call)?, behind)
-    };
-    Ok(match placed {
-        Some(placed) => Plan::Step(Step {
-            rule: Rule::Called,
-            origin: 0,
+    if begins_command(front) && is_at(words, behind, Symbol::Semicolon) {
+        return Ok(Ok(Call {
             from: at,
-            to,
-            words: placed,
-        }),
-        None => Plan::Stuck(stuck),
-    })
-}
-
-/// The words of a function, the first of them with this before it.
-pub fn words_of_item<'a>(
-    alloc: Global,
-    config: &Config<'a>,
-    item: &Item,
-) -> Result<Vec<Word<'a>>, AllocError> {
-    let mut words = Vec::new(alloc);
-    if let Some(all) = config.words.get(item.from..item.to) {
-        push_after(&mut words, all, b"")?;
+            to: behind.saturating_add(1),
+            words: commands_of(alloc, made.body, call)?,
+            stuck,
+        }));
     }
-    Ok(words)
+    let Some(value) = value_of(made.body) else {
+        return Ok(Err(stuck));
+    };
+    Ok(Ok(Call {
+        from: at,
+        to: behind,
+        words: value_for(alloc, value, call)?,
+        stuck,
+    }))
 }

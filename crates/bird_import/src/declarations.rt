@@ -1,7 +1,7 @@
 //! Declarations: they stand before the body, and a value that they have is assigned where they stood.
 
 use crate::items::first_block;
-use crate::reason::{Reason, Why};
+use crate::reason::{Reason, Why, unwritten};
 use crate::step::{Plan, Rule, Step, push_words};
 use crate::word::{Word, is_at, is_name_at, word_at};
 use filter_tokens::Symbol;
@@ -107,6 +107,7 @@ fn hoist<'a>(
         from: open,
         to: end.saturating_add(1),
         words: written,
+        stuck: unwritten(kind.at),
     }))
 }
 

@@ -76,7 +76,7 @@ fn is_closed_value(value: &[Word<'_>]) -> bool {
 }
 
 /// The words of a value where a word stood.
-pub fn placed<'a>(
+fn placed<'a>(
     alloc: Global,
     value: &[Word<'a>],
     word: Word<'a>,
@@ -191,6 +191,7 @@ fn place<'a>(
         from: at,
         to: at.saturating_add(1),
         words: placed(alloc, value, word)?,
+        stuck,
     }))
 }
 

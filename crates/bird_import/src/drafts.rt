@@ -1,23 +1,25 @@
 //! The filters of a configuration, word by word.
 ghost use Rattle.std.specs.Prelude.{◌≡◌, [], ◌∷◌, List, IfOk, IfSome, OnOk, length};
-ghost use Rattle.bird_import.specs.Drafts.{BeginsAs, ComesOf, HasDraft, HaveDrafts, IfDrafted, IsDraft, kinds_of, words_of};
-ghost use Rattle.bird_import.specs.Steps.{Becomes};
+ghost use Rattle.bird_import.specs.Drafts.{BeginsAs, ComesOf, HasDraft, HaveDrafts, IfDrafted, IsCallee, IsDraft, IsNext, kinds_of, words_of};
+ghost use Rattle.bird_import.specs.Functions.{IsCallOf};
+ghost use Rattle.bird_import.specs.Steps.{Becomes, BecomesWithin, Fits, IsCallWritten, Replaces, Writes};
+ghost use Rattle.bird_import.specs.declared.step.Rule.{Rule as TheRule};
 ghost use Rattle.bird_import.specs.declared.items.ItemKind.TheVariants as item_kind;
 ghost use Rattle.bird_import.specs.declared.word.Word.{Word as TheWord};
 ghost use Rattle.bird_import.specs.declared.word.WordKind.TheVariants as word_kind;
 ghost use Rattle.filter_tokens.specs.declared.symbol.Symbol.TheVariants as symbol;
 
-use crate::calls::{first_call, function_of, place_call, words_of_item};
+use crate::calls::{call_at, first_call, item_of, plan_return};
 use crate::cases::plan_case;
 use crate::config::Config;
 use crate::declarations::{first_without_value, plan_declaration};
-use crate::defines::{plan_definition, push_after};
+use crate::defines::plan_definition;
 use crate::items::{Item, ItemKind};
 use crate::operators::{plan_grouping, plan_semicolon, plan_type_test};
 use crate::printing::plan_printing;
-use crate::reason::{Reason, Why};
+use crate::reason::{Reason, Why, unwritten};
 use crate::set_variables::plan_sets;
-use crate::step::{Plan, apply, push_words};
+use crate::step::{Plan, apply, apply_call, push_words};
 use crate::unknown::first_unknown;
 use crate::word::{Word, word_at};
 use filter_tokens::Symbol;
@@ -98,49 +100,134 @@ fn plan_forms<'a>(alloc: Global, words: &[Word<'a>]) -> Result<Plan<'a>, AllocEr
     if !matches!(test, Plan::Done) {
         return Ok(test);
     }
-    plan_grouping(alloc, words)
+    let grouping = plan_grouping(alloc, words)?;
+    if !matches!(grouping, Plan::Done) {
+        return Ok(grouping);
+    }
+    plan_return(alloc, words)
 }
 
-/// The plan for the call at an index.
+/// What comes next for some words.
+#[derive(Drop)]
+pub enum Next<'a> {
+    /// They become these.
+    Words(Vec<Word<'a>>),
+    /// The filter has to be left out.
+    Stuck(Reason<'a>),
+    /// Nothing.
+    Done,
+}
+
+/// Makes the next step by a rule.
+fn next_step<'a>(
+    alloc: Global,
+    config: &Config<'a>,
+    words: &[Word<'a>],
+) -> Result<Next<'a>, AllocError>
+    ensures { IfOk result (IsNext (λ after. (by : TheRule) × Replaces (Fits config.now.words.now by) words.now after)) }
+{
+    match plan(alloc, config, words)? {
+        Plan::Step(step) => match apply(alloc, config.words, words, &step)? {
+            Some(after) => Ok(Next::Words(after)),
+            None => Ok(Next::Stuck(step.stuck)),
+        },
+        Plan::Stuck(reason) => Ok(Next::Stuck(reason)),
+        Plan::Done => Ok(Next::Done),
+    }
+}
+
+/// Puts what stands for a call in its place, whose function had the words `source`, which have become others.
+fn place_call<'a>(
+    alloc: Global,
+    words: &[Word<'a>],
+    at: usize,
+    source: &[Word<'a>],
+    function: &[Word<'a>],
+) -> Result<Next<'a>, AllocError>
+    ensures { IfOk result (IsNext (Replaces (λ front old new back. IsCallOf source.now function.now front old new) words.now)) }
+{
+    let call = match call_at(alloc, words, at, function)? {
+        Ok(call) => call,
+        Err(reason) => return Ok(Next::Stuck(reason)),
+    };
+    match apply_call(alloc, words, source, function, &call)? {
+        Some(after) => Ok(Next::Words(after)),
+        None => Ok(Next::Stuck(call.stuck)),
+    }
+}
+
+/// A function that is called.
+#[derive(Clone, Copy)]
+struct Callee<'a> {
+    /// Its words in the configuration.
+    source: &'a [Word<'a>],
+    /// How deep functions call functions in it at most.
+    less: u8,
+}
+
+/// The function that is called at an index, where functions call functions so deep at most.
+#[tactic(auto, using(crate::proofs::Reached::callee))]
+fn callee_of<'a>(
+    config: &Config<'a>,
+    words: &[Word<'a>],
+    at: usize,
+    depth: u8,
+) -> Result<Callee<'a>, Reason<'a>>
+    ensures { IfOk result (λ found. IsCallee config.now.words.now depth found.source.now found.less) }
+{
+    let Some(word) = word_at(words, at) else {
+        return Err(unwritten(0));
+    };
+    let item = match item_of(config, word) {
+        Ok(item) => item,
+        Err(reason) => return Err(reason),
+    };
+    let (Some(source), Some(less)) = (words_of_item_at(config.words, item), depth.checked_sub(1))
+    else {
+        return Err(Reason {
+            at: word.at,
+            why: Why::TooLong,
+        });
+    };
+    Ok(Callee { source, less })
+}
+
+/// Makes the step for the call at an index.
 #[cycle(rewriting)]
-fn plan_call<'a>(
+fn next_call<'a>(
     alloc: Global,
     config: &Config<'a>,
     words: &[Word<'a>],
     at: usize,
     depth: u8,
-) -> Result<Plan<'a>, AllocError> {
-    let Some(word) = word_at(words, at) else {
-        return Ok(Plan::Done);
+) -> Result<Next<'a>, AllocError>
+    ensures { IfOk result (IsNext (Replaces (IsCallWritten config.now.words.now (BecomesWithin config.now.words.now depth)) words.now)) }
+{
+    let callee = match callee_of(config, words, at, depth) {
+        Ok(callee) => callee,
+        Err(reason) => return Ok(Next::Stuck(reason)),
     };
-    let item = match function_of(config, word) {
-        Ok(item) => item,
-        Err(reason) => return Ok(Plan::Stuck(reason)),
-    };
-    if depth == 0 {
-        return Ok(Plan::Stuck(Reason {
-            at: word.at,
-            why: Why::TooLong,
-        }));
-    }
-    let function = words_of_item(alloc, config, item)?;
-    match rewrite(alloc, config, function, depth - 1)? {
-        Outcome::Drafted(function) => place_call(alloc, words, at, function.as_slice()),
-        Outcome::LeftOut(reason) => Ok(Plan::Stuck(reason)),
+    match rewrite(alloc, config, copy_of(alloc, callee.source)?, callee.less)? {
+        Outcome::Drafted(function) => {
+            place_call(alloc, words, at, callee.source, function.as_slice())
+        }
+        Outcome::LeftOut(reason) => Ok(Next::Stuck(reason)),
     }
 }
 
-/// The next step for some words.
+/// Makes the next step for some words.
 #[cycle(rewriting)]
-fn next_plan<'a>(
+fn next_words<'a>(
     alloc: Global,
     config: &Config<'a>,
     words: &[Word<'a>],
     depth: u8,
-) -> Result<Plan<'a>, AllocError> {
+) -> Result<Next<'a>, AllocError>
+    ensures { IfOk result (IsNext (Writes config.now.words.now (BecomesWithin config.now.words.now depth) words.now)) }
+{
     match first_call(words) {
-        Some(at) => plan_call(alloc, config, words, at, depth),
-        None => plan(alloc, config, words),
+        Some(at) => next_call(alloc, config, words, at, depth),
+        None => next_step(alloc, config, words),
     }
 }
 
@@ -152,20 +239,17 @@ fn rewrite<'a>(
     words: Vec<Word<'a>>,
     depth: u8,
 ) -> Result<Outcome<'a>, AllocError>
-    ensures { IfOk result (IfDrafted (Becomes config.now.words.now words.entry.items)) }
+    ensures { IfOk result (IfDrafted (Becomes config.now.words.now depth words.entry.items)) }
 {
     let mut words = words;
     for _ in 0..STEP_LIMIT {
         if words.len() > WORD_LIMIT {
             break;
         }
-        match next_plan(alloc, config, words.as_slice(), depth)? {
-            Plan::Step(step) => match apply(alloc, config.words, words.as_slice(), &step)? {
-                Some(after) => words = after,
-                None => break,
-            },
-            Plan::Stuck(reason) => return Ok(Outcome::LeftOut(reason)),
-            Plan::Done => return Ok(Outcome::Drafted(words)),
+        match next_words(alloc, config, words.as_slice(), depth)? {
+            Next::Words(after) => words = after,
+            Next::Stuck(reason) => return Ok(Outcome::LeftOut(reason)),
+            Next::Done => return Ok(Outcome::Drafted(words)),
         }
     }
     Ok(Outcome::LeftOut(Reason {

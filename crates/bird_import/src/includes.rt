@@ -5,7 +5,7 @@ use filter_tokens::Symbol;
 use std::alloc::{AllocError, Global};
 
 /// A file that a configuration includes: `include "NAME";`, the bytes `from..to` of its text.
-#[derive(Clone, Copy, Debug)]
+#[derive(Clone, Copy)]
 pub struct Include<'a> {
     /// The place of the word `include`.
     pub from: usize,

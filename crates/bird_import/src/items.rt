@@ -5,7 +5,7 @@ use filter_tokens::Symbol;
 use std::alloc::{AllocError, Global};
 
 /// What a part of a configuration is.
-#[derive(Clone, Copy, Debug, PartialEq, Eq)]
+#[derive(Clone, Copy, PartialEq, Eq)]
 pub enum ItemKind {
     /// A filter with a name.
     Filter,
@@ -18,7 +18,7 @@ pub enum ItemKind {
 }
 
 /// A filter or a function of a configuration.
-#[derive(Debug, Drop)]
+#[derive(Drop)]
 pub struct Item {
     /// What it is.
     pub kind: ItemKind,
@@ -35,7 +35,7 @@ pub struct Item {
 }
 
 /// A constant or a set that is defined.
-#[derive(Clone, Copy, Debug)]
+#[derive(Clone, Copy)]
 pub struct Definition {
     /// The index of its name.
     pub name: usize,

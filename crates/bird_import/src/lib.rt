@@ -2,13 +2,17 @@
 //! left out with the reason.
 #![tactic(auto)]
 
+mod blocks;
 mod calls;
+mod case_rules;
 mod cases;
 mod config;
 mod cut;
 mod declarations;
 mod defines;
 mod drafts;
+mod fits;
+mod functions;
 mod includes;
 mod items;
 mod operators;
@@ -16,6 +20,7 @@ mod printing;
 mod reason;
 mod rules;
 mod set_variables;
+mod sets;
 mod step;
 mod text;
 mod unknown;

@@ -1,5 +1,6 @@
 //! Parentheses and semicolons that this language wants, and tests of the kind of a prefix.
 
+use crate::reason::unwritten;
 use crate::step::{Plan, Rule, Step, push_words};
 use crate::word::{Word, WordKind, is_at, is_before, word_at};
 use filter_tokens::Symbol;
@@ -114,6 +115,7 @@ pub fn plan_grouping<'a>(alloc: Global, words: &[Word<'a>]) -> Result<Plan<'a>, 
         from: start,
         to: at,
         words: written,
+        stuck: unwritten(first.at),
     }))
 }
 
@@ -160,6 +162,7 @@ pub fn plan_semicolon<'a>(alloc: Global, words: &[Word<'a>]) -> Result<Plan<'a>,
                 from: at,
                 to: at,
                 words: written,
+                stuck: unwritten(words[at].at),
             }));
         }
     }
@@ -201,6 +204,7 @@ pub fn plan_type_test<'a>(alloc: Global, words: &[Word<'a>]) -> Result<Plan<'a>,
                 from: at,
                 to: at.saturating_add(5),
                 words: written,
+                stuck: unwritten(word.at),
             }));
         }
     }

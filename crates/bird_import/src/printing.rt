@@ -1,7 +1,6 @@
 //! What BIRD writes to its log: it changes no route, and is left out.
 
 use crate::reason::{Reason, Why};
-use crate::rules::are_harmless;
 use crate::step::{Plan, Rule, Step};
 use crate::word::{Word, WordKind, begins_command, find_outside, is_at};
 use filter_tokens::Symbol;
@@ -42,13 +41,6 @@ fn leave_out<'a>(
     let Some(word) = words.get(at).copied() else {
         return Ok(Plan::Done);
     };
-    let terms = words.get(at.saturating_add(1)..end);
-    if !terms.is_some_and(|terms| are_harmless(terms)) {
-        return Ok(Plan::Stuck(Reason {
-            at: word.at,
-            why: Why::PrintDoesMore,
-        }));
-    }
     let mut written = Vec::new(alloc);
     written.push(Word::made(Symbol::Semicolon, word.at).after(word.gap))?;
     Ok(Plan::Step(Step {
@@ -57,6 +49,10 @@ fn leave_out<'a>(
         from: at,
         to: end.saturating_add(1),
         words: written,
+        stuck: Reason {
+            at: word.at,
+            why: Why::PrintDoesMore,
+        },
     }))
 }
 
@@ -71,12 +67,6 @@ fn shorten<'a>(
     let (Some(word), Some(terms)) = (words.get(at), words.get(from..end)) else {
         return Ok(Plan::Done);
     };
-    if !are_harmless(terms) {
-        return Ok(Plan::Stuck(Reason {
-            at: word.at,
-            why: Why::PrintDoesMore,
-        }));
-    }
     let mut written = Vec::new(alloc);
     if let Some(first) = terms.first() {
         if is_text_at(terms, 0) {
@@ -89,6 +79,10 @@ fn shorten<'a>(
         from,
         to: end,
         words: written,
+        stuck: Reason {
+            at: word.at,
+            why: Why::PrintDoesMore,
+        },
     }))
 }
 

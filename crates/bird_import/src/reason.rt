@@ -3,7 +3,7 @@
 use std::fmt;
 
 /// Why a filter is left out, and at which byte of the configuration.
-#[derive(Clone, Copy, Debug)]
+#[derive(Clone, Copy)]
 pub struct Reason<'a> {
     /// The place.
     pub at: usize,
@@ -12,7 +12,7 @@ pub struct Reason<'a> {
 }
 
 /// Why a filter is left out.
-#[derive(Clone, Copy, Debug)]
+#[derive(Clone, Copy)]
 pub enum Why<'a> {
     /// A name that is neither a variable nor defined: an attribute or a word of BIRD's.
     Unknown(&'a [u8]),
@@ -54,6 +54,14 @@ pub enum Why<'a> {
     TooLong,
     /// The words could not be written.
     Unwritten,
+}
+
+/// What is said where nothing else can be.
+pub fn unwritten<'a>(at: usize) -> Reason<'a> {
+    Reason {
+        at,
+        why: Why::Unwritten,
+    }
 }
 
 /// Whether an attribute is one of BGP's.
@@ -104,11 +112,11 @@ fn owner_of_word(name: &str) -> Option<&'static str> {
     }
 }
 
-/// What is said of a word of BIRD's.
-fn words_for(name: &str) -> &'static str {
+/// What is said of a word of BIRD's, if it is one of these.
+fn words_for(name: &str) -> Option<&'static str> {
     match name {
-        "for" | "do" => "belongs to a loop, and there are no loops",
-        "return" => "is a command of a function",
+        "for" | "do" => Some("belongs to a loop, and there are no loops"),
+        "return" => Some("is a command of a function"),
         "bgppath"
         | "bgpmask"
         | "clist"
@@ -121,18 +129,34 @@ fn words_for(name: &str) -> &'static str {
         | "string"
         | "rd"
         | "bytestring"
-        | "enum" => "is a type that is not taken: a variable is an int, a bool, an ip or a prefix",
-        "set" => "makes a variable of sets that is not taken",
-        "include" => "names a file that was not read",
-        "unset" => "takes an attribute away, and none is taken",
-        "roa_check" => "asks a table of origins, and there is none",
-        "error" => "ends a run as an error, and there are none: write `reject`",
-        "rt" | "ro" | "generic" | "unknown" => "makes a community, and none is taken",
+        | "enum" => {
+            Some("is a type that is not taken: a variable is an int, a bool, an ip or a prefix")
+        }
+        "set" => Some("makes a variable of sets that is not taken"),
+        "include" => Some("names a file that was not read"),
+        "unset" => Some("takes an attribute away, and none is taken"),
+        "roa_check" => Some("asks a table of origins, and there is none"),
+        "error" => Some("ends a run as an error, and there are none: write `reject`"),
+        "rt" | "ro" | "generic" | "unknown" => Some("makes a community, and none is taken"),
         _ if name.starts_with("RTS_") || name.starts_with("RTD_") || name.starts_with("SCOPE_") =>
-            "is a value of an attribute that this router does not keep",
-        _ if name.starts_with('\'') => "is a name in quotes: take one of letters, digits and `_`",
-        "net_type" | "NET_IP4" | "NET_IP6" => "is not taken in this place",
-        _ => "is not taken",
+            Some("is a value of an attribute that this router does not keep"),
+        _ if name.starts_with('\'') => {
+            Some("is a name in quotes: take one of letters, digits and `_`")
+        }
+        "net_type" | "NET_IP4" | "NET_IP6" => Some("is not taken in this place"),
+        _ => None,
+    }
+}
+
+/// What is said of a word that is neither a variable nor defined, or of one of BIRD's.
+fn words_of_word(name: &str, is_foreign: bool) -> &'static str {
+    if let Some(words) = owner_of(name) {
+        return words;
+    }
+    match words_for(name) {
+        Some(words) => words,
+        None if is_foreign => "is not taken",
+        None => "is no variable, no attribute, and not defined",
     }
 }
 
@@ -146,77 +170,67 @@ fn text_of(bytes: &[u8]) -> &str {
 
 impl<'a> fmt::Display for Why<'a> {
     fn fmt<W: fmt::Write>(&self, f: &mut fmt::Formatter<W>) -> fmt::Result {
-        let text = text_of(self.name());
-        match self {
-            Why::Unknown(_) | Why::Foreign(_) => match owner_of(text) {
-                Some(words) => write!(f, "`{text}` {words}"),
-                None => self.write_other(text, f),
-            },
-            Why::Property(_) => write!(
-                f,
-                "`.{text}` is not taken: a prefix has `.ip` and `.len`, an address `.mask(n)`"
-            ),
-            Why::DefinedLater(_) => write!(
-                f,
-                "`{text}` is used before its definition ends: move the definition up"
-            ),
-            Why::DefinedTwice(_) => write!(f, "`{text}` has two definitions"),
-            Why::OneWord(_) => write!(
-                f,
-                "`{text}` is defined by more than one word, and a set, a label or a mask takes one: define it as its value"
-            ),
-            Why::UnknownCall(_) => write!(f, "`{text}` is no function of this configuration"),
-            Why::FunctionArguments(_) => write!(
-                f,
-                "`{text}` is called with arguments: write its commands in place"
-            ),
-            Why::FunctionShape(_) => write!(
-                f,
-                "the function `{text}` cannot be put in place: it has variables, or returns where it is not at its end"
-            ),
-            Why::SetVariable(_) => write!(
-                f,
-                "the set `{text}` is not assigned just once, before all else: `define` it"
-            ),
-            Why::Unset(_) => write!(
-                f,
-                "`{text}` may be read before it is assigned, and is void in BIRD then: assign it before"
-            ),
-            Why::NoValue(_) => write!(
-                f,
-                "`{text}` has no value in the body, so BIRD 2.0.12 rejects each route there: give it one"
-            ),
-            _ => self.write_plain(f),
+        match self.name() {
+            Some(name) => {
+                let text = text_of(name);
+                write!(f, "{}{}` {}", self.front(), text, self.words(text))
+            }
+            None => f.write_str(self.plain_words()),
         }
     }
 }
 
 impl<'a> Why<'a> {
-    /// The name that it is about, or none.
-    fn name(&self) -> &'a [u8] {
+    /// The name that it is about, if it is about one.
+    fn name(&self) -> Option<&'a [u8]> {
         match self {
-            Why::Unknown(name) | Why::Foreign(name) | Why::Property(name) => *name,
-            Why::DefinedLater(name) | Why::DefinedTwice(name) | Why::UnknownCall(name) => *name,
-            Why::FunctionArguments(name) | Why::FunctionShape(name) | Why::SetVariable(name) => {
-                *name
+            Why::Unknown(name) | Why::Foreign(name) | Why::Property(name) => Some(*name),
+            Why::DefinedLater(name) | Why::DefinedTwice(name) | Why::UnknownCall(name) => {
+                Some(*name)
             }
-            Why::Unset(name) | Why::NoValue(name) | Why::OneWord(name) => *name,
-            _ => b"",
+            Why::FunctionArguments(name) | Why::FunctionShape(name) | Why::SetVariable(name) => {
+                Some(*name)
+            }
+            Why::Unset(name) | Why::NoValue(name) | Why::OneWord(name) => Some(*name),
+            _ => None,
         }
     }
 
-    /// What is said of a word that is no attribute.
-    fn write_other<W: fmt::Write>(&self, text: &str, f: &mut fmt::Formatter<W>) -> fmt::Result {
+    /// What stands before the name.
+    fn front(&self) -> &'static str {
         match self {
-            Why::Foreign(_) => write!(f, "`{}` {}", text, words_for(text)),
-            _ if words_for(text) != "is not taken" => write!(f, "`{}` {}", text, words_for(text)),
-            _ => write!(f, "`{text}` is no variable, no attribute, and not defined"),
+            Why::Property(_) => "`.",
+            Why::FunctionShape(_) => "the function `",
+            Why::SetVariable(_) => "the set `",
+            _ => "`",
+        }
+    }
+
+    /// What is said of the name, whose text this is.
+    fn words(&self, text: &str) -> &'static str {
+        match self {
+            Why::Unknown(_) => words_of_word(text, false),
+            Why::Foreign(_) => words_of_word(text, true),
+            Why::Property(_) =>
+                "is not taken: a prefix has `.ip` and `.len`, an address `.mask(n)`",
+            Why::DefinedLater(_) => "is used before its definition ends: move the definition up",
+            Why::DefinedTwice(_) => "has two definitions",
+            Why::OneWord(_) =>
+                "is defined by more than one word, and a set, a label or a mask takes one: define it as its value",
+            Why::UnknownCall(_) => "is no function of this configuration",
+            Why::FunctionArguments(_) => "is called with arguments: write its commands in place",
+            Why::FunctionShape(_) =>
+                "cannot be put in place: it has variables, or returns where it is not at its end",
+            Why::SetVariable(_) => "is not assigned just once, before all else: `define` it",
+            Why::Unset(_) =>
+                "may be read before it is assigned, and is void in BIRD then: assign it before",
+            _ => "has no value in the body, so BIRD 2.0.12 rejects each route there: give it one",
         }
     }
 
     /// What is said where no name is.
-    fn write_plain<W: fmt::Write>(&self, f: &mut fmt::Formatter<W>) -> fmt::Result {
-        let words = match self {
+    fn plain_words(&self) -> &'static str {
+        match self {
             Why::Strange => "no word of a configuration begins with this byte",
             Why::PrintDoesMore =>
                 "what is printed here is computed by more than attributes: take it out",
@@ -227,7 +241,6 @@ impl<'a> Why<'a> {
             Why::Ipv6 => "IPv6 is not supported",
             Why::TooLong => "it is longer than 65536 bytes with all definitions in place",
             _ => "its words could not be written",
-        };
-        f.write_str(words)
+        }
     }
 }

@@ -1,25 +1,23 @@
-//! Whether a step is one of its rule.
+//! Whether words are written as others by the rules that look at few of them.
 ghost use Rattle.bird_import.specs.Alike.{AreAlike};
 ghost use Rattle.std.specs.Prelude.{◌≡◌, ◌≢◌, ◌⊎◌, ◌∷◌, ◌++◌, List, false, All, IfSome, IsTrue, Some};
 ghost use Rattle.bird_import.specs.declared.word.Word.{Word as TheWord};
 ghost use Rattle.bird_import.specs.Rules as spec;
-ghost use Rattle.bird_import.specs.Steps.{Fits};
 ghost use Rattle.bird_import.specs.declared.word.WordKind.TheVariants as kind;
 ghost use Rattle.filter_tokens.specs.declared.symbol.Symbol.TheVariants as symbols;
 
-use crate::step::Rule;
 use crate::word::{Word, WordKind};
 use filter_tokens::Symbol;
 
 /// Whether two words are the same, wherever they stand.
-fn is_same(one: &Word<'_>, other: &Word<'_>) -> bool
+pub fn is_same(one: &Word<'_>, other: &Word<'_>) -> bool
     ensures { IsTrue result → spec.IsSame one.now other.now }
 {
     one.kind == other.kind && one.bytes == other.bytes
 }
 
 /// Whether words are the same, one by one.
-fn are_same(words: &[Word<'_>], others: &[Word<'_>]) -> bool
+pub fn are_same(words: &[Word<'_>], others: &[Word<'_>]) -> bool
     ensures { IsTrue result → AreAlike spec.IsSame words.now others.now }
 {
     if words.len() != others.len() {
@@ -34,7 +32,7 @@ fn are_same(words: &[Word<'_>], others: &[Word<'_>]) -> bool
 }
 
 /// Whether words are others in parentheses.
-fn is_grouped(inner: &[Word<'_>], new: &[Word<'_>]) -> bool
+pub fn is_grouped(inner: &[Word<'_>], new: &[Word<'_>]) -> bool
     ensures { IsTrue result → spec.IsGrouped inner.now new.now }
 {
     let Some((open, rest)) = new.split_first() else {
@@ -108,7 +106,7 @@ fn is_defined_by(words: &[Word<'_>], name: &Word<'_>, new: &[Word<'_>]) -> bool
 }
 
 /// Whether a name is written as the value of the definition that begins at an index of the configuration.
-fn is_defined(config: &[Word<'_>], at: usize, old: &[Word<'_>], new: &[Word<'_>]) -> bool
+pub fn is_defined(config: &[Word<'_>], at: usize, old: &[Word<'_>], new: &[Word<'_>]) -> bool
     ensures { IsTrue result → spec.IsDefined config.now old.now new.now }
 {
     let (Some((name, none)), Some((_, words))) = (old.split_first(), config.split_at_checked(at))
@@ -149,7 +147,7 @@ pub fn are_harmless(words: &[Word<'_>]) -> bool
 }
 
 /// Whether a command that prints is left out.
-fn is_unprinted(old: &[Word<'_>], new: &[Word<'_>]) -> bool
+pub fn is_unprinted(old: &[Word<'_>], new: &[Word<'_>]) -> bool
     ensures { IsTrue result → spec.IsUnprinted old.now new.now }
 {
     let (Some((print, rest)), Some((stop, none))) = (old.split_first(), new.split_first()) else {
@@ -179,7 +177,7 @@ fn is_first_text(old: &[Word<'_>], new: &[Word<'_>]) -> bool
 }
 
 /// Whether what is printed behind `accept` or `reject` is cut to its first text.
-fn is_shortened(front: &[Word<'_>], old: &[Word<'_>], new: &[Word<'_>]) -> bool
+pub fn is_shortened(front: &[Word<'_>], old: &[Word<'_>], new: &[Word<'_>]) -> bool
     ensures { IsTrue result → spec.IsShortened front.now old.now new.now }
 {
     let Some((command, _)) = front.split_last() else {
@@ -191,7 +189,7 @@ fn is_shortened(front: &[Word<'_>], old: &[Word<'_>], new: &[Word<'_>]) -> bool
 }
 
 /// Whether a `;` is put in before `else` or a closing brace.
-fn is_separated(old: &[Word<'_>], new: &[Word<'_>], back: &[Word<'_>]) -> bool
+pub fn is_separated(old: &[Word<'_>], new: &[Word<'_>], back: &[Word<'_>]) -> bool
     ensures { IsTrue result → spec.IsSeparated old.now new.now back.now }
 {
     let (Some((stop, none)), Some((next, _))) = (new.split_first(), back.split_first()) else {
@@ -214,7 +212,7 @@ fn is_test(compare: &Word<'_>, family: &Word<'_>, answer: &Word<'_>) -> bool
 }
 
 /// Whether a test of the kind of a prefix is written as its answer.
-fn is_type_test(old: &[Word<'_>], new: &[Word<'_>]) -> bool
+pub fn is_type_test(old: &[Word<'_>], new: &[Word<'_>]) -> bool
     ensures { IsTrue result → spec.IsTypeTest old.now new.now }
 {
     match (old, new) {
@@ -229,7 +227,7 @@ fn is_type_test(old: &[Word<'_>], new: &[Word<'_>]) -> bool
 }
 
 /// Whether a word opens parentheses, brackets or braces.
-fn opens(kind: WordKind) -> bool
+pub fn opens(kind: WordKind) -> bool
     ensures { result ≡ spec.opens kind }
 {
     matches!(
@@ -239,7 +237,7 @@ fn opens(kind: WordKind) -> bool
 }
 
 /// Whether a word closes them.
-fn closes(kind: WordKind) -> bool
+pub fn closes(kind: WordKind) -> bool
     ensures { result ≡ spec.closes kind }
 {
     matches!(
@@ -250,7 +248,7 @@ fn closes(kind: WordKind) -> bool
 
 /// Whether all that is opened among some words is closed among them, and nothing else.
 #[tactic(auto, unfolding(crate::specs::Rules::open_behind))]
-fn are_balanced(words: &[Word<'_>]) -> bool
+pub fn are_balanced(words: &[Word<'_>]) -> bool
     ensures { IsTrue result → (spec.open_behind 0 words.now ≡ Some 0) }
 {
     let mut depth = 0usize;
@@ -288,14 +286,14 @@ fn is_separator(kind: WordKind) -> bool
 }
 
 /// Whether none of some words ends an expression.
-fn are_of_one(words: &[Word<'_>]) -> bool
+pub fn are_of_one(words: &[Word<'_>]) -> bool
     ensures { IsTrue result → All (λ word. spec.is_separator word.kind ≡ false) words.now }
 {
     words.iter().all(|word| !is_separator(word.kind))
 }
 
 /// Whether a command begins behind a word.
-fn ends_command(kind: WordKind) -> bool
+pub fn ends_command(kind: WordKind) -> bool
     ensures { result ≡ spec.ends_command kind }
 {
     matches!(
@@ -350,7 +348,7 @@ fn begins_expression(front: &[Word<'_>]) -> bool
 }
 
 /// Whether operands of a chain are put into parentheses.
-fn is_chain_grouped(
+pub fn is_chain_grouped(
     front: &[Word<'_>],
     old: &[Word<'_>],
     new: &[Word<'_>],
@@ -369,7 +367,7 @@ fn is_chain_grouped(
 }
 
 /// Whether a word is the name of a kind.
-fn is_kind(kind: WordKind) -> bool
+pub fn is_kind(kind: WordKind) -> bool
     ensures { result ≡ spec.is_kind kind }
 {
     matches!(
@@ -426,7 +424,7 @@ fn is_moved(front: &[Word<'_>], declaration: &[Word<'_>], new: &[Word<'_>]) -> b
 }
 
 /// Whether a declaration is moved before the brace of its body.
-fn is_hoisted(old: &[Word<'_>], new: &[Word<'_>]) -> bool
+pub fn is_hoisted(old: &[Word<'_>], new: &[Word<'_>]) -> bool
     ensures { IsTrue result → spec.IsHoisted old.now new.now }
 {
     let Some(len) = old.len().checked_sub(3) else {
@@ -439,28 +437,4 @@ fn is_hoisted(old: &[Word<'_>], new: &[Word<'_>]) -> bool
         return false;
     };
     brace.is(Symbol::LeftBrace) && is_moved(front, declaration, new)
-}
-
-/// Whether a step is one of its rule. `at` is the index of the definition that it places.
-pub fn fits(
-    config: &[Word<'_>],
-    rule: Rule,
-    at: usize,
-    front: &[Word<'_>],
-    old: &[Word<'_>],
-    new: &[Word<'_>],
-    back: &[Word<'_>],
-) -> bool
-    ensures { IsTrue result → Fits config.now rule front.now old.now new.now back.now }
-{
-    match rule {
-        Rule::Defined => is_defined(config, at, old, new),
-        Rule::Unprinted => is_unprinted(old, new),
-        Rule::Shortened => is_shortened(front, old, new),
-        Rule::Separated => is_separated(old, new, back),
-        Rule::Ipv4Only => is_type_test(old, new),
-        Rule::Grouped => is_chain_grouped(front, old, new, back),
-        Rule::Declared => is_hoisted(old, new),
-        Rule::Called | Rule::SetPlaced | Rule::CaseOfAddresses => true,
-    }
 }

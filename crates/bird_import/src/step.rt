@@ -1,19 +1,22 @@
 //! Single steps from a filter of BIRD's to one of this language.
 ghost use Rattle.std.specs.Prelude.{◌≡◌, ◌++◌, IfOk, IfSome, OnOk};
-ghost use Rattle.bird_import.specs.Steps.{Writes};
+ghost use Rattle.bird_import.specs.Functions.{IsCallOf};
+ghost use Rattle.bird_import.specs.Steps.{Fits, Replaces};
 
+use crate::fits::fits;
+use crate::functions::is_call_of;
 use crate::reason::Reason;
-use crate::rules::{fits, split};
+use crate::rules::split;
 use crate::word::Word;
 use std::alloc::{AllocError, Global};
 
 /// Why words of a filter are written as others.
-#[derive(Clone, Copy, Debug, PartialEq, Eq)]
+#[derive(Clone, Copy)]
 pub enum Rule {
     /// A defined name: the words of its definition.
     Defined,
-    /// A call of a function: its value, or its commands.
-    Called,
+    /// In a function: what is returned on a condition, and what otherwise, as one value.
+    Returned,
     /// `print` is left out: it changes no route.
     Unprinted,
     /// Of what is printed behind `accept` or `reject` a text is kept.
@@ -22,8 +25,10 @@ pub enum Rule {
     SetPlaced,
     /// A declaration is moved to the others.
     Declared,
-    /// A `case` of addresses: `if` and `else`.
-    CaseOfAddresses,
+    /// A `case` of addresses: an `if` for its first label, and an `else` for the others.
+    CaseTaken,
+    /// The same, in braces, before that is done.
+    CaseBraced,
     /// A test of the kind of a prefix, which is always one of IPv4.
     Ipv4Only,
     /// Parentheses where `&&` and `||` are mixed.
@@ -45,6 +50,8 @@ pub struct Step<'a> {
     pub to: usize,
     /// What is written in their place.
     pub words: Vec<Word<'a>>,
+    /// Why the filter is left out if the step is none of its rule.
+    pub stuck: Reason<'a>,
 }
 
 /// What is to be done next.
@@ -58,20 +65,37 @@ pub enum Plan<'a> {
     Done,
 }
 
+/// The parts of some words: those before a step, those that it writes as others, and those behind it.
+#[derive(Clone, Copy)]
+struct Parts<'w, 'a> {
+    /// The words before it.
+    front: &'w [Word<'a>],
+    /// The words that are written as others.
+    old: &'w [Word<'a>],
+    /// The words behind it.
+    back: &'w [Word<'a>],
+}
+
+/// The words `from..to`, with those before and behind them.
+fn parts_at<'w, 'a>(words: &'w [Word<'a>], from: usize, to: usize) -> Option<Parts<'w, 'a>>
+    ensures { IfSome result (λ parts. words.now ≡ parts.front.now ++ (parts.old.now ++ parts.back.now)) }
+{
+    let (front, rest) = split(words, from)?;
+    let (old, back) = split(rest, to.saturating_sub(from))?;
+    Some(Parts { front, old, back })
+}
+
 /// The words after a step, if it is one of its rule.
-#[tactic(auto, using(crate::proofs::Reached::step_made))]
+#[tactic(auto, using(crate::proofs::Reached::replaced))]
 pub fn apply<'a>(
     alloc: Global,
     config: &[Word<'a>],
     words: &[Word<'a>],
     step: &Step<'a>,
 ) -> Result<Option<Vec<Word<'a>>>, AllocError>
-    ensures { IfOk result (λ made. IfSome made (λ after. Writes config.now words.now after.items)) }
+    ensures { IfOk result (λ made. IfSome made (λ after. Replaces (Fits config.now step.now.rule) words.now after.items)) }
 {
-    let Some((front, rest)) = split(words, step.from) else {
-        return Ok(None);
-    };
-    let Some((old, back)) = split(rest, step.to.saturating_sub(step.from)) else {
+    let Some(Parts { front, old, back }) = parts_at(words, step.from, step.to) else {
         return Ok(None);
     };
     let new = step.words.as_slice();
@@ -79,6 +103,41 @@ pub fn apply<'a>(
         return Ok(None);
     }
     Ok(Some(joined(alloc, front, new, back)?))
+}
+
+/// A call of a function: the words `from..to` of a filter are written as what stands for it.
+#[derive(Drop)]
+pub struct Call<'a> {
+    /// The index of the first word.
+    pub from: usize,
+    /// The index behind the last one.
+    pub to: usize,
+    /// What is written in their place.
+    pub words: Vec<Word<'a>>,
+    /// Why the filter is left out if it does not stand for the call.
+    pub stuck: Reason<'a>,
+}
+
+/// The words after a call, if what is written for it means what the function does, whose words were `source` and have become others.
+#[tactic(auto, using(crate::proofs::Reached::replaced))]
+pub fn apply_call<'a>(
+    alloc: Global,
+    words: &[Word<'a>],
+    source: &[Word<'a>],
+    function: &[Word<'a>],
+    call: &Call<'a>,
+) -> Result<Option<Vec<Word<'a>>>, AllocError>
+    ensures { IfOk result (λ made. IfSome made (λ after.
+        Replaces (λ front old new back. IsCallOf source.now function.now front old new) words.now after.items)) }
+{
+    let Some(Parts { front, old, back }) = parts_at(words, call.from, call.to) else {
+        return Ok(None);
+    };
+    let placed = call.words.as_slice();
+    if !is_call_of(source, function, front, old, placed) {
+        return Ok(None);
+    }
+    Ok(Some(joined(alloc, front, placed, back)?))
 }
 
 /// The words of three parts, side by side.

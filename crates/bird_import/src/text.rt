@@ -11,7 +11,7 @@ use filter_tokens::Token;
 use std::alloc::{AllocError, Global};
 
 /// Where a word of a filter's text comes from.
-#[derive(Clone, Copy, Debug)]
+#[derive(Clone, Copy)]
 pub struct Origin {
     /// The place of its first byte in the filter's text.
     pub from: usize,
@@ -20,7 +20,7 @@ pub struct Origin {
 }
 
 /// What the parser says of a text.
-#[derive(Clone, Copy, Debug)]
+#[derive(Clone, Copy)]
 pub enum Fate {
     /// It is a filter, and its tokens are the words that it was written for.
     Taken,

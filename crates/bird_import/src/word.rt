@@ -6,7 +6,7 @@ use filter_tokens::{Symbol, TokenKind};
 use prefix_patterns::Ip;
 
 /// What a word of a configuration is.
-#[derive(Clone, Copy, Debug, PartialEq, Eq)]
+#[derive(Clone, Copy, PartialEq, Eq)]
 pub enum WordKind {
     /// A name of the filter language.
     Name,
@@ -45,7 +45,7 @@ impl WordKind {
 }
 
 /// A word of a configuration, or one that stands for such a word in a filter.
-#[derive(Clone, Copy, Debug)]
+#[derive(Clone, Copy)]
 pub struct Word<'a> {
     /// What it is.
     pub kind: WordKind,
@@ -117,14 +117,14 @@ impl<'a> Word<'a> {
 
     /// Whether it is this name.
     pub fn is_named(self, name: &[u8]) -> bool
-        ensures { IsTrue result → IsNamed name.now self.entry }
+        ensures { IsTrue result ↔ IsNamed name.now self.entry }
     {
         self.is_name() && self.bytes == name
     }
 
     /// Whether it is this word of BIRD's.
     pub fn is_foreign(self, name: &[u8]) -> bool
-        ensures { IsTrue result → IsForeign name.now self.entry }
+        ensures { IsTrue result ↔ IsForeign name.now self.entry }
     {
         self.kind == WordKind::Foreign && self.bytes == name
     }

@@ -2,14 +2,14 @@ use Rattle.std.specs.Prelude.{◌+◌, ◌*◌}
 use Rattle.bird_import.specs.Steps.{Becomes}
 use Rattle.bird_import.proofs.drafts.+rewriting.Given as goal
 
-abbrev pub decreases-next_plan : goal.decreases-next_plan
-decreases-next_plan l = 3 * l.depth + 1
+abbrev pub decreases-next_words : goal.decreases-next_words
+decreases-next_words l = 3 * l.depth + 1
 
-abbrev pub decreases-plan_call : goal.decreases-plan_call
-decreases-plan_call l = 3 * l.depth
+abbrev pub decreases-next_call : goal.decreases-next_call
+decreases-next_call l = 3 * l.depth
 
 abbrev pub decreases-rewrite : goal.decreases-rewrite
 decreases-rewrite l = 3 * l.depth + 2
 
 abbrev pub invariant-rewrite-loop : goal.invariant-rewrite-loop
-invariant-rewrite-loop l = Becomes l.config.words.now l.fn.words.items l.words.items
+invariant-rewrite-loop l = Becomes l.config.words.now l.depth l.fn.words.items l.words.items

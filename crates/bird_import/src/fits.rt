@@ -1,0 +1,40 @@
+//! Whether a step is one of its rule.
+ghost use Rattle.std.specs.Prelude.{IsTrue};
+ghost use Rattle.bird_import.specs.Steps.{Fits};
+
+use crate::case_rules::{is_case_braced, is_case_taken};
+use crate::functions::is_decided;
+use crate::rules::{
+    is_chain_grouped, is_defined, is_hoisted, is_separated, is_shortened, is_type_test,
+    is_unprinted,
+};
+use crate::sets::is_set_placed;
+use crate::step::Rule;
+use crate::word::Word;
+
+/// Whether a step is one of its rule. `at` is the index of the definition that it places.
+pub fn fits<'w, 'a>(
+    config: &[Word<'_>],
+    rule: Rule,
+    at: usize,
+    front: &'w [Word<'a>],
+    old: &'w [Word<'a>],
+    new: &'w [Word<'a>],
+    back: &'w [Word<'a>],
+) -> bool
+    ensures { IsTrue result → Fits config.now rule front.now old.now new.now back.now }
+{
+    match rule {
+        Rule::Defined => is_defined(config, at, old, new),
+        Rule::Unprinted => is_unprinted(old, new),
+        Rule::Shortened => is_shortened(front, old, new),
+        Rule::Separated => is_separated(old, new, back),
+        Rule::Ipv4Only => is_type_test(old, new),
+        Rule::Grouped => is_chain_grouped(front, old, new, back),
+        Rule::Declared => is_hoisted(old, new),
+        Rule::Returned => is_decided(front, old, new),
+        Rule::SetPlaced => is_set_placed(front, old, new, back),
+        Rule::CaseTaken => is_case_taken(old, new, back),
+        Rule::CaseBraced => is_case_braced(old, new),
+    }
+}
