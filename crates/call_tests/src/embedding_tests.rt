@@ -10,12 +10,7 @@ use std::alloc::Global;
 use std::test::Fail;
 
 /// The metric that a filter gives a route in a domain of 16 nodes, or none where it rejects the route.
-fn metric_of(
-    alloc: Global,
-    text: &[u8],
-    net: &Prefix,
-    metric: u32,
-) -> Result<Option<u32>, Failure>
+fn metric_of(alloc: Global, text: &[u8], net: &Prefix, metric: u32) -> Result<Option<u32>, Failure>
     requires { metric ≤ 16 }
 {
     let code = compile_text(alloc, text)?;
