@@ -23,7 +23,7 @@ fn metric_of(alloc: Global, text: &[u8], net: &Prefix, metric: u32) -> Result<Op
 
 #[test]
 fn filters_run_in_a_program(rt: HostRuntime) -> Result<(), Fail> {
-    let net = Prefix::masked(Ip(0x0808_0800), 24);
+    let net = Prefix::new(Ip(0x0808_0800), 24).unwrap();
     let up_two = b"filter up { rip_metric = rip_metric + 2; accept; }".as_slice();
     let none = b"filter none { reject; }".as_slice();
     let raised = metric_of(rt.alloc(), up_two, &net, 3)?;
@@ -35,7 +35,7 @@ fn filters_run_in_a_program(rt: HostRuntime) -> Result<(), Fail> {
 /// A filter that may go wrong gives no code that runs.
 #[test]
 fn a_filter_that_may_divide_by_0_is_refused(rt: HostRuntime) -> Result<(), Fail> {
-    let net = Prefix::masked(Ip(0x0808_0800), 24);
+    let net = Prefix::new(Ip(0x0808_0800), 24).unwrap();
     let divides = b"filter q { rip_metric = 9 / rip_metric; accept; }".as_slice();
     match metric_of(rt.alloc(), divides, &net, 3) {
         Err(Failure::Refused(why)) => expect_str(why.refusal.code(), "V3"),

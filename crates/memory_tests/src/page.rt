@@ -1,5 +1,7 @@
 //! Where what is written or shown is held without memory.
 
+ghost use Rattle.std.specs.Prelude.{◌≤◌, length};
+
 use std::{fmt, io};
 
 /// The most bytes that a page holds.
@@ -27,7 +29,9 @@ impl Page {
     }
 
     /// Adds as many of these bytes as there is room for: how many.
-    fn put(&mut self, bytes: &[u8]) -> usize {
+    fn put(&mut self, bytes: &[u8]) -> usize
+        ensures { result ≤ length bytes.now }
+    {
         let from = self.len.min(ROOM);
         let count = bytes.len().min(ROOM - from);
         self.held[from..from + count].copy_from_slice(&bytes[..count]);

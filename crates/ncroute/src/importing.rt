@@ -1,9 +1,9 @@
 //! From a configuration of BIRD to verified filters, in files of their own: the engine of `import`.
 ghost use Rattle.std.specs.Prelude.{◌≤◌, IfOk};
 
-use crate::including::{Whole, push_place, push_texts, read_whole, write_line};
+use crate::including::{Whole, push_place, push_texts, read_whole};
 use crate::serve::FAILED;
-use crate::texts::{Folder, tell_unmade};
+use crate::texts::{Folder, tell_unmade, write_line};
 use bird_import::{
     Config, Definition, Draft, Fate, FilterText, Item, Outcome, Why, Word, cut_words,
     find_definitions, find_items, make_drafts, origin_of, write_filter,

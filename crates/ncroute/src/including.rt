@@ -1,10 +1,10 @@
 //! A configuration of BIRD, with the files that it includes in their places.
-use crate::texts::{Folder, Unread, name_of, read_source, tell_unread};
+use crate::texts::{Folder, Unread, name_of, read_source, tell_unread, write_line};
 use bird_import::{Include, cut_words, find_includes};
 use command_line::Source;
 use filter_commands::ProgramFault;
 use filter_tools::{place_in, push_shown};
-use line_protocol::{INPUT_LIMIT, push_decimal, write_text};
+use line_protocol::{INPUT_LIMIT, push_decimal};
 use std::alloc::{AllocError, Global};
 use std::io::{Read, Write};
 
@@ -51,12 +51,6 @@ pub fn push_texts(out: &mut Vec<u8>, texts: &[&[u8]]) -> Result<(), AllocError> 
     for text in texts {
         out.extend_from_slice(text)?;
     }
-    Ok(())
-}
-
-/// Writes a line.
-pub fn write_line<W: Write>(writer: &mut W, line: &[u8]) -> Result<(), ProgramFault> {
-    write_text(writer, line)?;
     Ok(())
 }
 

@@ -11,7 +11,7 @@ ghost use Rattle.ncroute.specs.Testing as spec;
 
 use crate::script::FAULT;
 use crate::serve::FAILED;
-use crate::texts::{Folder, name_of, read_source, tell_unread};
+use crate::texts::{Folder, name_of, read_source, tell_unread, write_line};
 use command_line::{Source, Testing};
 use filter_checks::{
     FileFault, TestFile, Tested, fault_text, path_beside, plan_line, read_tests, test_named,
@@ -19,7 +19,7 @@ use filter_checks::{
 use filter_commands::ProgramFault;
 use filter_source::SOURCE_LIMIT;
 use filter_workbench::NamedText;
-use line_protocol::{StreamFault, write_text};
+use line_protocol::StreamFault;
 use std::alloc::{AllocError, Global};
 use std::io::{Read, Write};
 
@@ -59,8 +59,7 @@ fn tell_words<E: Write>(
         IsCut (stream_fault fault) (E.contents errors.old) (E.contents errors.new) (fault_text how.is_explained name.now why)) }
 {
     let text = fault_text(alloc, how.is_explained, name, why)?;
-    write_text(errors, text.as_slice())?;
-    Ok(())
+    write_line(errors, text.as_slice())
 }
 
 /// Runs the tests of a file by the filter of a text, and returns how many were run by then, or nothing where the filter is refused.
@@ -330,8 +329,7 @@ fn write_last<W: Write>(
         IsCut (stream_fault fault) (W.contents writer.old) (W.contents writer.new) (spec.last_line found)) }
 {
     let line = last_line(alloc, found)?;
-    write_text(writer, line.as_slice())?;
-    Ok(())
+    write_line(writer, line.as_slice())
 }
 
 /// Writes the first line.
@@ -340,8 +338,7 @@ fn write_first<W: Write>(writer: &mut W) -> Result<(), ProgramFault>
     ensures err { IfErr result (λ fault.
         IsCut (stream_fault fault) (W.contents writer.old) (W.contents writer.new) spec.version_line) }
 {
-    write_text(writer, version_line())?;
-    Ok(())
+    write_line(writer, version_line())
 }
 
 /// The exit status.

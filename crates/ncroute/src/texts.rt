@@ -216,11 +216,11 @@ fn unread_line(alloc: Global, source: &Source, words: &str) -> Result<Vec<u8>, A
 }
 
 /// Writes a line.
-fn write_line<E: Write>(errors: &mut E, line: &[u8]) -> Result<(), ProgramFault>
-    ensures ok { OnOk result (Appends (E.contents errors.old) (E.contents errors.new) line.now) }
-    ensures err { IfErr result (λ fault. IsCut (stream_fault fault) (E.contents errors.old) (E.contents errors.new) line.now) }
+pub fn write_line<W: Write>(writer: &mut W, line: &[u8]) -> Result<(), ProgramFault>
+    ensures ok { OnOk result (Appends (W.contents writer.old) (W.contents writer.new) line.now) }
+    ensures err { IfErr result (λ fault. IsCut (stream_fault fault) (W.contents writer.old) (W.contents writer.new) line.now) }
 {
-    write_text(errors, line)?;
+    write_text(writer, line)?;
     Ok(())
 }
 
