@@ -54,6 +54,17 @@ pub struct Checking {
     pub is_quiet: bool,
 }
 
+/// How the routes of standard input are taken through a filter.
+#[derive(Clone, Copy)]
+pub struct Trying {
+    /// The number of nodes of the domain.
+    pub size: u32,
+    /// A refusal of the filter is told in words too.
+    pub is_explained: bool,
+    /// So is that of a line.
+    pub tells_routes: bool,
+}
+
 /// How a router's script is carried out, where more is asked for than its answers.
 #[derive(Drop)]
 pub struct Running {
@@ -111,14 +122,14 @@ pub enum Aid {
         /// A refusal is told in words too.
         is_explained: bool,
     },
+    /// Take the routes of standard input through a code file, and tell in words why lines are refused.
+    Eval,
     /// Take the routes of standard input through the filter of a file.
     Filter {
-        /// The number of nodes of the domain.
-        size: u32,
+        /// How.
+        how: Trying,
         /// Where its text is.
         source: Source,
-        /// A refusal of the filter is told in words too.
-        is_explained: bool,
     },
     /// Import the filters of a configuration of BIRD.
     Import {
@@ -242,11 +253,25 @@ pub fn filter_in(
     if file == "-" {
         return Ok(None);
     }
-    Ok(Some(Aid::Filter {
+    let telling = Telling::read(matches);
+    let how = Trying {
         size,
+        is_explained: is_explained(telling, terminals.errors, true),
+        tells_routes: is_explained(telling, terminals.errors, false),
+    };
+    Ok(Some(Aid::Filter {
+        how,
         source: source_of(alloc, file)?,
-        is_explained: is_explained(Telling::read(matches), terminals.errors, true),
     }))
+}
+
+/// What the words of `eval` ask for, where they ask for more than answers.
+pub fn eval_in(matches: &ArgMatches<'_>, terminals: Terminals) -> Option<Aid> {
+    if is_explained(Telling::read(matches), terminals.errors, false) {
+        Some(Aid::Eval)
+    } else {
+        None
+    }
 }
 
 /// The text of an option, if it is given.

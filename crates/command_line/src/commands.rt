@@ -115,7 +115,7 @@ static COMMANDS: [(&str, &str); 14] = [
 ];
 
 /// The options and arguments of each command, in the order in which its help shows them.
-static PARAMETERS: [(&str, Parameter); 45] = [
+static PARAMETERS: [(&str, Parameter); 46] = [
     ("check", SIZE),
     ("check", CODE),
     ("check", NAMES),
@@ -141,6 +141,7 @@ static PARAMETERS: [(&str, Parameter); 45] = [
     ("test", LIMIT),
     ("test", EXPLAIN),
     ("test", TEST_FILES),
+    ("eval", EXPLAIN),
     ("rewrite", OLD),
     ("domain", EXPLAIN),
     ("domain", SCRIPT),

@@ -1,5 +1,5 @@
 -- What `eval` writes for an input: the whole output from the whole input (this project's own choice).
-use Rattle.std.specs.Prelude.{ℕ, List, [], ◌∷◌, ◌++◌, length, map, Result, Ok, Err, nat_lt, if◌then◌else◌, codes, decimal}
+use Rattle.std.specs.Prelude.{ℕ, List, [], ◌∷◌, ◌++◌, length, map, Option, Some, None, Result, Ok, Err, nat_lt, if◌then◌else◌, codes, decimal}
 use Rattle.filter_code.specs.RouteView.{RouteView}
 use Rattle.filter_code.specs.Machine.{outcome_of}
 use Rattle.filter_code.specs.Outcomes.{fault_code}
@@ -9,6 +9,7 @@ use Rattle.filter_code.specs.declared.outcome.Outcome.TheVariants as outcome
 use Rattle.line_protocol.specs.Answers.{Answer, refusal, refusals, text_of}
 use Rattle.line_protocol.specs.Lines.{numbered}
 use Rattle.line_protocol.specs.Words.{trimmed}
+use Rattle.line_protocol.specs.declared.answers.Reply.{Reply}
 use Rattle.line_protocol.specs.declared.answers.Reply.TheVariants as reply
 use Rattle.filter_source.specs.Limits.{source_limit}
 use Rattle.filter_source.specs.Refusals.{place_in_line, refusal_code}
@@ -33,6 +34,11 @@ verdict (outcome.Fault kind at) = codes "fault " ++ fault_code kind ++ 32 ∷ de
 abbrev pub answer_of : CodeView → ℕ → Result RouteView LineFault → Answer
 answer_of program number (Ok route) = record { text = verdict (outcome_of program route); reply = reply.Answered }
 answer_of program number (Err found) = record { text = refusal (line_code found) number; reply = reply.Refused }
+
+-- how the run goes on behind a route line that is refused for this reason, or is not
+abbrev pub reply_of : Option LineFault → Reply
+reply_of None = reply.Answered
+reply_of (Some found) = reply.Refused
 
 -- the answer to the line of a route, under a filter's code
 abbrev pub route_answer : CodeView → Line → Answer

@@ -1,9 +1,9 @@
 //! `ncroute eval`: routes through a code file.
-ghost use Rattle.std.specs.Prelude.{◌≡◌, ◌++◌, Ok, Err, OnOk, IfOk, IfErr, IfSome, MatchResult, OnErr};
+ghost use Rattle.std.specs.Prelude.{◌≡◌, ◌++◌, Ok, Err, OnOk, IfOk, IfErr, IfSome, MatchResult, None, OnErr};
 ghost use Rattle.std.specs.Io.{StartsWith};
 ghost use Rattle.std.specs.Io.KnownBytes.{Appends};
 ghost use Rattle.filter_source.specs.Failures.{OnRefusal};
-ghost use Rattle.filter_commands.specs.Eval.{code_in, no_code, route_answer};
+ghost use Rattle.filter_commands.specs.Eval.{code_in, no_code, reply_of, route_answer};
 ghost use Rattle.filter_commands.specs.Evaluation.{Breaks, Evaluates, IsCut};
 ghost use Rattle.filter_commands.specs.Faults.{stream_fault};
 
@@ -11,24 +11,117 @@ use crate::fault::ProgramFault;
 use crate::judge::Judge;
 use crate::line_fault::LineFault;
 use crate::route_line::read_route;
+use crate::watch::{Nobody, RefusedRoute, WatchRoutes, WhyRefused};
 use filter_code::Code;
 use filter_source::{Failure, check_length, read_hexadecimal};
 use line_protocol::{Reply, Service, answer_lines, push_refusal, trim_blanks, write_text};
 use std::alloc::{AllocError, Global};
 use std::io::{Read, Write};
 
-/// The service that answers the lines of `eval`.
+/// How far the lines of `eval` are answered.
 #[derive(Drop)]
 struct Evaluator {
     /// The code of the filter, once its line has come.
     code: Judge,
+    /// Why the last line that was refused is.
+    refused: Option<WhyRefused>,
 }
 
-impl Service for Evaluator {
+impl Evaluator {
+    ghost use Rattle.std.specs.Prelude.{ℕ, List};
+    ghost use Rattle.filter_commands.specs.Steps.{AnswersLine};
+
+    /// No line is answered.
+    fn new() -> Evaluator
+        ensures { result.code ≡ None }
+    {
+        Evaluator {
+            code: Judge::awaiting(),
+            refused: None,
+        }
+    }
+
+    /// Answers a line.
+    #[inline(always)]
+    fn answer(
+        &mut self,
+        alloc: Global,
+        number: u32,
+        line: &[u8],
+        out: &mut Vec<u8>,
+    ) -> Result<Reply, AllocError>
+        ensures ok { IfOk result (λ reply. (text : List ℕ) × (out.new.items ≡ out.old.items ++ text)
+            × AnswersLine self.old.code number line.now (record { text = text; reply = reply }) self.new.code) }
+        ensures err { OnErr result (StartsWith out.new.items out.old.items) }
+    {
+        if !self.code.is_awaiting() {
+            return match answer_route(alloc, &mut self.code, number, line, out)? {
+                None => Ok(Reply::Answered),
+                Some(fault) => {
+                    self.refused = Some(WhyRefused::Route(fault));
+                    Ok(Reply::Refused)
+                }
+            };
+        }
+        match read_code_line(alloc, line) {
+            Ok(code) => {
+                self.code = Judge::of(code);
+                Ok(Reply::Answered)
+            }
+            Err(Failure::Refused(told)) => {
+                let why = told.refusal;
+                push_refusal(out, why.code(), why.place_in_line(number))?;
+                self.refused = Some(WhyRefused::Code(told));
+                Ok(Reply::Ended)
+            }
+            Err(Failure::Memory) => Err(AllocError),
+        }
+    }
+}
+
+/// The service that answers the lines of `eval`, and who watches them.
+#[derive(Drop)]
+struct Watched<S: WatchRoutes + Drop> {
+    /// How far they are answered.
+    evaluator: Evaluator,
+    /// Who watches them.
+    watcher: S,
+}
+
+impl<S: WatchRoutes + Drop> Watched<S> {
+    /// Shows a line that is refused to who watches.
+    fn show(&mut self, alloc: Global, number: u32, line: &[u8])
+        ensures { self.new.evaluator ≡ self.old.evaluator }
+    {
+        if let Some(why) = self.evaluator.refused {
+            let size = None;
+            let refused = RefusedRoute {
+                number,
+                line,
+                size,
+                why,
+            };
+            self.watcher.see_refused(alloc, &refused);
+        }
+    }
+
+    /// Shows who watches that there is no code.
+    fn show_no_code(&mut self, alloc: Global) {
+        let refused = RefusedRoute {
+            number: 0,
+            line: b"",
+            size: None,
+            why: WhyRefused::NoCode,
+        };
+        self.watcher.see_refused(alloc, &refused);
+    }
+}
+
+impl<S: WatchRoutes + Drop> Service for Watched<S> {
     ghost use Rattle.std.specs.Prelude.{⊤};
     ghost use Rattle.filter_commands.specs.Steps.{AnswersLine};
 
-    ghost answers = { λ before number line answer after. AnswersLine before.code number line answer after.code };
+    ghost answers = { λ before number line answer after. AnswersLine before.evaluator.code number line answer after.evaluator.code };
 
     ghost refuses = { λ _ _. ⊤ };
 
@@ -39,21 +132,11 @@ impl Service for Evaluator {
         line: &[u8],
         out: &mut Vec<u8>,
     ) -> Result<Reply, AllocError> {
-        if !self.code.is_awaiting() {
-            return answer_route(alloc, &mut self.code, number, line, out);
+        let reply = self.evaluator.answer(alloc, number, line, out)?;
+        if reply != Reply::Answered {
+            self.show(alloc, number, line);
         }
-        match read_code_line(alloc, line) {
-            Ok(code) => {
-                self.code = Judge::of(code);
-                Ok(Reply::Answered)
-            }
-            Err(Failure::Refused(told)) => {
-                let why = told.refusal;
-                push_refusal(out, why.code(), why.place_in_line(number))?;
-                Ok(Reply::Ended)
-            }
-            Err(Failure::Memory) => Err(AllocError),
-        }
+        Ok(reply)
     }
 }
 
@@ -65,7 +148,7 @@ fn read_code_line(alloc: Global, line: &[u8]) -> Result<Code, Failure>
     read_hexadecimal(alloc, trim_blanks(line))
 }
 
-/// Answers a route line under a filter's code.
+/// Answers a route line under a filter's code. Returns why the line is refused, if it is.
 #[inline(always)]
 fn answer_route(
     alloc: Global,
@@ -73,21 +156,21 @@ fn answer_route(
     number: u32,
     line: &[u8],
     out: &mut Vec<u8>,
-) -> Result<Reply, AllocError>
-    ensures ok { IfSome code.old (λ program. IfOk result (λ reply.
+) -> Result<Option<LineFault>, AllocError>
+    ensures ok { IfSome code.old (λ program. IfOk result (λ fault.
         (out.new.items ≡ out.old.items ++ (route_answer program (number, line.now)).text)
-        × (reply ≡ (route_answer program (number, line.now)).reply))) }
+        × (reply_of fault ≡ (route_answer program (number, line.now)).reply))) }
     ensures kept { code.new ≡ code.old }
     ensures err { OnErr result (StartsWith out.new.items out.old.items) }
 {
     match read_route(line) {
         Ok(route) => {
             code.answer(alloc, &route, out)?;
-            Ok(Reply::Answered)
+            Ok(None)
         }
         Err(fault) => {
             push_refusal(out, fault.code(), u64::from(number))?;
-            Ok(Reply::Refused)
+            Ok(Some(fault))
         }
     }
 }
@@ -104,11 +187,28 @@ pub fn eval_lines<R: Read, W: Write>(
     ensures broken_off { IfErr result (λ fault. IfSome (R.remaining reader.old) (λ input.
         Breaks (stream_fault fault) input (R.remaining reader.new) (W.contents writer.old) (W.contents writer.new))) }
 {
-    let mut evaluator = Evaluator {
-        code: Judge::awaiting(),
+    eval_watched_lines(alloc, reader, writer, Nobody)
+}
+
+/// Does what `eval_lines` does, and shows each line that is refused to who watches.
+pub fn eval_watched_lines<R: Read, W: Write, S: WatchRoutes + Drop>(
+    alloc: Global,
+    reader: &mut R,
+    writer: &mut W,
+    watcher: S,
+) -> Result<u32, ProgramFault>
+    ensures finished { IfOk result (λ refused. IfSome (R.remaining reader.old) (λ input.
+        Evaluates input (R.remaining reader.new) (W.contents writer.old) (W.contents writer.new) refused)) }
+    ensures broken_off { IfErr result (λ fault. IfSome (R.remaining reader.old) (λ input.
+        Breaks (stream_fault fault) input (R.remaining reader.new) (W.contents writer.old) (W.contents writer.new))) }
+{
+    let mut service = Watched {
+        evaluator: Evaluator::new(),
+        watcher,
     };
-    let refused = answer_lines(alloc, reader, writer, &mut evaluator)?;
-    if refused == 0 && evaluator.code.is_awaiting() {
+    let refused = answer_lines(alloc, reader, writer, &mut service)?;
+    if refused == 0 && service.evaluator.code.is_awaiting() {
+        service.show_no_code(alloc);
         return refuse_empty(alloc, writer);
     }
     Ok(refused)

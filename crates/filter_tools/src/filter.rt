@@ -2,7 +2,7 @@
 ghost use Rattle.std.specs.Prelude.{◌≡◌, ◌++◌, ℕ, [], false, IfErr, IfOk, IfSome, OnErr, OnOk};
 ghost use Rattle.std.specs.Io.{StartsWith};
 ghost use Rattle.std.specs.Io.KnownBytes.{Appends};
-ghost use Rattle.filter_commands.specs.Eval.{verdict};
+ghost use Rattle.filter_commands.specs.Eval.{reply_of, verdict};
 ghost use Rattle.filter_commands.specs.Checking.{IsDiagnosis};
 ghost use Rattle.filter_commands.specs.Evaluation.{IsCut};
 ghost use Rattle.filter_commands.specs.Faults.{stream_fault};
@@ -14,7 +14,9 @@ ghost use Rattle.filter_verifier.specs.Safe.{IsSafe};
 ghost use Rattle.filter_tools.specs.Filtering.{AnswersEach, AnswersFirst, Filters, FiltersOff, code_answer, refusal_line};
 
 use crate::route_of_size::read_route;
-use filter_commands::{ProgramFault, code_of, push_accept};
+use filter_commands::{
+    LineFault, Nobody, ProgramFault, RefusedRoute, WatchRoutes, WhyRefused, code_of, push_accept,
+};
 use filter_compiler::MappedCode;
 use filter_machine::{Verdict, run};
 use filter_source::{Diagnosis, Failure, Refusal, verify_mapped};
@@ -38,14 +40,31 @@ pub enum Filtered {
     Answered(u32),
 }
 
-/// The service that answers route lines by a verified filter.
+/// The service that answers route lines by a verified filter, and who watches them.
 #[derive(Drop)]
-struct RouteFilter {
+struct RouteFilter<S: WatchRoutes + Drop> {
     /// The code of the filter.
     verified: Verified,
+    /// Who watches the lines.
+    watcher: S,
 }
 
-impl Service for RouteFilter {
+impl<S: WatchRoutes + Drop> RouteFilter<S> {
+    /// Shows a line that is refused to who watches.
+    fn show(&mut self, alloc: Global, number: u32, line: &[u8], fault: LineFault)
+        ensures { self.new.verified ≡ self.old.verified }
+    {
+        let refused = RefusedRoute {
+            number,
+            line,
+            size: Some(self.verified.size()),
+            why: WhyRefused::Route(fault),
+        };
+        self.watcher.see_refused(alloc, &refused);
+    }
+}
+
+impl<S: WatchRoutes + Drop> Service for RouteFilter<S> {
     ghost use Rattle.std.specs.Prelude.{⊤};
 
     ghost answers = { λ before number line answer after. (after.verified ≡ before.verified)
@@ -55,16 +74,23 @@ impl Service for RouteFilter {
 
     fn answer(
         &mut self,
-        _alloc: Global,
+        alloc: Global,
         number: u32,
         line: &[u8],
         out: &mut Vec<u8>,
     ) -> Result<Reply, AllocError> {
-        answer_route(&self.verified, number, line, out)
+        match answer_route(&self.verified, number, line, out)? {
+            None => Ok(Reply::Answered),
+            Some(fault) => {
+                self.show(alloc, number, line, fault);
+                Ok(Reply::Refused)
+            }
+        }
     }
 }
 
 /// Puts the line of a verdict at the end of `out`.
+#[inline(always)]
 fn push_verdict(out: &mut Vec<u8>, said: Verdict) -> Result<(), AllocError>
     ensures ok { OnOk result (out.new.items ≡ out.old.items ++ verdict (outcome_said said)) }
     ensures err { OnErr result (StartsWith out.new.items out.old.items) }
@@ -75,27 +101,28 @@ fn push_verdict(out: &mut Vec<u8>, said: Verdict) -> Result<(), AllocError>
     }
 }
 
-/// Answers a route line by verified code, in domains of the size that it was verified for.
+/// Answers a route line by verified code, in domains of the size that it was verified for. Returns why the line is refused, if it is.
+#[inline(always)]
 fn answer_route(
     verified: &Verified,
     number: u32,
     line: &[u8],
     out: &mut Vec<u8>,
-) -> Result<Reply, AllocError>
-    ensures ok { IfOk result (λ reply.
+) -> Result<Option<LineFault>, AllocError>
+    ensures ok { IfOk result (λ fault.
         (out.new.items ≡ out.old.items ++ (code_answer verified.now.program verified.now.size (number, line.now)).text)
-        × (reply ≡ (code_answer verified.now.program verified.now.size (number, line.now)).reply)) }
+        × (reply_of fault ≡ (code_answer verified.now.program verified.now.size (number, line.now)).reply)) }
     ensures err { OnErr result (StartsWith out.new.items out.old.items) }
 {
     match read_route(line, verified.size()) {
         Ok(route) => {
             let ran = run(verified, &route.net(), route.metric());
             push_verdict(out, ran.verdict)?;
-            Ok(Reply::Answered)
+            Ok(None)
         }
         Err(fault) => {
             push_refusal(out, fault.code(), u64::from(number))?;
-            Ok(Reply::Refused)
+            Ok(Some(fault))
         }
     }
 }
@@ -111,12 +138,13 @@ pub fn verified_filter(alloc: Global, text: &[u8], size: u32) -> Result<Verified
     verify_mapped(alloc, code, places.as_slice(), size)
 }
 
-/// Answers each line of `reader` on `writer` by verified code.
-fn answer_routes<R: Read, W: Write>(
+/// Answers each line of `reader` on `writer` by verified code, and shows each that is refused to who watches.
+pub(crate) fn answer_routes<R: Read, W: Write, S: WatchRoutes + Drop>(
     alloc: Global,
     verified: Verified,
     reader: &mut R,
     writer: &mut W,
+    watcher: S,
 ) -> Result<u32, ProgramFault>
     ensures finished { IfOk result (λ refused. IfSome (R.remaining reader.old) (λ input.
         AnswersEach (code_answer verified.program verified.size) input (R.remaining reader.new)
@@ -125,7 +153,7 @@ fn answer_routes<R: Read, W: Write>(
         AnswersFirst (code_answer verified.program verified.size) (stream_fault fault) input (R.remaining reader.new)
         (W.contents writer.old) (W.contents writer.new))) }
 {
-    let mut service = RouteFilter { verified };
+    let mut service = RouteFilter { verified, watcher };
     Ok(answer_lines_within(alloc, ROUTES_LIMIT, reader, writer, &mut service)?)
 }
 
@@ -139,7 +167,11 @@ pub(crate) fn refusal_line(alloc: Global, why: Refusal) -> Result<Vec<u8>, Alloc
 }
 
 /// Writes the line that refuses a filter.
-fn write_refusal<W: Write>(alloc: Global, writer: &mut W, why: Refusal) -> Result<(), ProgramFault>
+pub(crate) fn write_refusal<W: Write>(
+    alloc: Global,
+    writer: &mut W,
+    why: Refusal,
+) -> Result<(), ProgramFault>
     ensures ok { OnOk result (Appends (W.contents writer.old) (W.contents writer.new) (refusal_line why)) }
     ensures err { IfErr result (λ fault. IsCut (stream_fault fault) (W.contents writer.old) (W.contents writer.new) (refusal_line why)) }
 {
@@ -165,7 +197,7 @@ pub fn filter_lines<R: Read, W: Write>(
 {
     match verified_filter(alloc, text, size) {
         Ok(verified) => {
-            let refused = answer_routes(alloc, verified, reader, writer)?;
+            let refused = answer_routes(alloc, verified, reader, writer, Nobody)?;
             Ok(Filtered::Answered(refused))
         }
         Err(Failure::Refused(told)) => {

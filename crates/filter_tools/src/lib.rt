@@ -14,7 +14,10 @@ mod place;
 mod position;
 mod remedies;
 mod route_of_size;
+mod route_words;
 mod shown;
+mod spelling;
+mod told_routes;
 mod words;
 
 pub use explanation::{explain, explain_line, tell_at};
@@ -25,3 +28,5 @@ pub use named::{check_named, list_named, tell, tell_refusal};
 pub use nearest::nearest_word;
 pub use place::{Place, place_in};
 pub use shown::push_shown;
+pub use spelling::{byte_of_word, count_words, from_word, short_text, spelled, word_at};
+pub use told_routes::{Routes, eval_named, filter_named};

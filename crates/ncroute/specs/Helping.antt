@@ -5,12 +5,12 @@ use Rattle.std.specs.Io.KnownBytes.{Appends}
 use Rattle.std.specs.declared.io.Error.{Error}
 use Rattle.filter_source.specs.Limits.{source_limit}
 use Rattle.filter_source.specs.declared.diagnosis.Diagnosis.{Diagnosis}
-use Rattle.filter_commands.specs.Evaluation.{IsCut}
+use Rattle.filter_commands.specs.Evaluation.{Breaks, Evaluates, IsCut}
 use Rattle.filter_commands.specs.Faults.{stream_fault}
 use Rattle.filter_commands.specs.declared.fault.ProgramFault.{ProgramFault}
-use Rattle.filter_tools.specs.Filtering.{Filters, FiltersOff}
+use Rattle.filter_tools.specs.Filtering.{Filters}
 use Rattle.filter_tools.specs.Naming.{ChecksNamed, ChecksNamedOff, ListsNamed, ListsNamedOff}
-use Rattle.filter_tools.specs.Telling.{Explains, IsCutExplanation}
+use Rattle.filter_tools.specs.ToldRoutes.{FiltersNamedOff, TellsFiltered}
 use Rattle.filter_tools.specs.declared.filter.Filtered.{Filtered}
 use Rattle.filter_tools.specs.declared.filter.Filtered.TheVariants.{Refused, Answered}
 use Rattle.line_protocol.specs.Runs.{AppendsFront}
@@ -32,6 +32,7 @@ use Rattle.command_line.specs.declared.aid_words.Checking.{Checking}
 use Rattle.command_line.specs.declared.aid_words.Engine.{Engine}
 use Rattle.command_line.specs.declared.aid_words.Source.{Source}
 use Rattle.command_line.specs.declared.aid_words.Source.TheVariants.{Input, File}
+use Rattle.command_line.specs.declared.aid_words.Trying.{Trying}
 
 -- The report on a text was written and told, under a name, and it is said whether it refuses the text. `held` and `holds` are what the
 -- writer held before and holds now, `told` and `tells` the same of standard error.
@@ -58,31 +59,32 @@ CutsBy false fault how name text held holds told tells =
 abbrev pub CutsText : StreamFault → Checking → List ℕ → List ℕ → Option (List ℕ) → Option (List ℕ) → Option (List ℕ) → Option (List ℕ) → Type 0
 CutsText fault how name text held holds told tells = CutsBy (how.has_names || how.is_quiet) fault how name text held holds told tells
 
--- the refusal of a filter that is told in words
-abbrev pub told_refusal : Bool → Filtered → Option Diagnosis
-told_refusal true (Refused why) = Some why
-told_refusal true (Answered refused) = None
-told_refusal false filtered = None
-
 -- the exit status of a filter that was tried
 abbrev pub status_of_filter : Filtered → ℕ
 status_of_filter (Refused why) = 1
 status_of_filter (Answered refused) = status_of refused
 
 -- The text of a filter was read, and it was tried on the routes that the input has then.
-pub record TriesText (size : ℕ) (name : List ℕ) (is_explained : Bool) (text : List ℕ) (before after : Streams) (status : ℕ) : Type 0 where
+pub record TriesText (how : Trying) (name text : List ℕ) (before after : Streams) (status : ℕ) : Type 0 where
   pub filtered : Filtered
-  pub answered : IfSome before.reads (λ input. Filters size text input after.reads before.holds after.holds filtered)
-  pub told : Explains name text (told_refusal is_explained filtered) before.tells after.tells
+  pub answered : IfSome before.reads (λ input. Filters how.size text input after.reads before.holds after.holds filtered)
+  pub told : TellsFiltered how.is_explained how.tells_routes name text filtered before.tells after.tells
   pub ends : status ≡ status_of_filter filtered
 
 -- A fault ended that: the answers broke off, or the words of a refusal were cut.
-abbrev pub StopsTrying : StreamFault → ℕ → List ℕ → List ℕ → Streams → Streams → Type 0
-StopsTrying fault size name text before after =
-    ((after.tells ≡ before.tells)
-    × IfSome before.reads (λ input. FiltersOff fault size text input after.reads before.holds after.holds))
-    ⊎ ((why : Diagnosis) × IfSome before.reads (λ input. Filters size text input after.reads before.holds after.holds (Refused why))
-    × IsCutExplanation fault name text why before.tells after.tells)
+abbrev pub StopsTrying : StreamFault → Trying → List ℕ → List ℕ → Streams → Streams → Type 0
+StopsTrying fault how name text before after =
+    FiltersNamedOff fault how.size how.tells_routes name text before.reads after.reads before.holds after.holds before.tells after.tells
+
+-- Code and routes were answered to the end of the input, with words about each line that is refused.
+pub record EvaluatesTold (before after : Streams) (status : ℕ) : Type 0 where
+  pub refused : ℕ
+  pub evaluated : IfSome before.reads (λ input. Evaluates input after.reads before.holds after.holds refused)
+  pub ends : status ≡ status_of refused
+
+-- A fault ended that.
+abbrev pub StopsEvaluating : StreamFault → Streams → Streams → Type 0
+StopsEvaluating fault before after = IfSome before.reads (λ input. Breaks fault input after.reads before.holds after.holds)
 
 -- The listing of a text was written, and its refusal told under a name, and the exit status says whether there is one. `held` and `holds`
 -- are what the writer held before and holds now, `told` and `tells` the same of standard error.
@@ -97,10 +99,11 @@ pub record ListsText (size : Option ℕ) (is_code is_explained : Bool) (name tex
 abbrev pub fault_status : Aid → ℕ
 fault_status (aid.Check how sources) = 1
 fault_status (aid.Diff how old new) = 3
+fault_status aid.Eval = 1
 fault_status (aid.Explain page) = 1
 fault_status (aid.Import how source) = 1
 fault_status (aid.List size is_code source is_explained) = 3
-fault_status (aid.Filter size source is_explained) = 3
+fault_status (aid.Filter how source) = 3
 fault_status (aid.Replay source) = 3
 fault_status (aid.Run how source) = 1
 fault_status (aid.RunJoined how sources) = 1
@@ -140,17 +143,17 @@ module _ (opens : List ℕ → Result (Option (List ℕ)) Error → Type 0) wher
     pub cut : IsCutOne fault how source mid after
 
   -- A filter was read, which leaves this of the input, and tried on its routes; or it was not read.
-  abbrev pub TriesFilter : ℕ → Source → Bool → Streams → Streams → ℕ → Type 0
-  TriesFilter size source is_explained before after status =
+  abbrev pub TriesFilter : Trying → Source → Streams → Streams → ℕ → Type 0
+  TriesFilter how source before after status =
       ((text : List ℕ) × (left : Option (List ℕ)) × IsRead opens source_limit source text before.reads left
-      × TriesText size (name_of source) is_explained text (record before { reads = left }) after status)
+      × TriesText how (name_of source) text (record before { reads = left }) after status)
       ⊎ (SkipsUnread opens source_limit source before after × (status ≡ 3))
 
   -- A fault ended it.
-  abbrev pub StopsFilter : StreamFault → ℕ → Source → Streams → Streams → Type 0
-  StopsFilter fault size source before after = StopsReading opens fault source_limit source before after
+  abbrev pub StopsFilter : StreamFault → Trying → Source → Streams → Streams → Type 0
+  StopsFilter fault how source before after = StopsReading opens fault source_limit source before after
       ⊎ ((text : List ℕ) × (left : Option (List ℕ)) × IsRead opens source_limit source text before.reads left
-      × StopsTrying fault size (name_of source) text (record before { reads = left }) after)
+      × StopsTrying fault how (name_of source) text (record before { reads = left }) after)
 
   -- A source was read and listed; or it was not read.
   abbrev pub ListsSource : Option ℕ → Bool → Bool → Source → Streams → Streams → ℕ → Type 0
@@ -210,11 +213,12 @@ module _ (opens : List ℕ → Result (Option (List ℕ)) Error → Type 0) wher
     Helps (aid.Check how sources) before after status = (refused : Bool)
         × ChecksFirst how sources.items (length sources.items) before after refused × (status ≡ (if refused then 1 else 0))
     Helps (aid.Diff how old new) before after status = ComparesSources opens how old new before after status
+    Helps aid.Eval before after status = EvaluatesTold before after status
     Helps (aid.Explain page) before after status =
         Appends before.holds after.holds (string_bytes page) × (after.reads ≡ before.reads) × (after.tells ≡ before.tells) × (status ≡ 0)
     Helps (aid.Import how source) before after status = status ≤ 1
     Helps (aid.List size is_code source is_explained) before after status = ListsSource size is_code is_explained source before after status
-    Helps (aid.Filter size source is_explained) before after status = TriesFilter size source is_explained before after status
+    Helps (aid.Filter how source) before after status = TriesFilter how source before after status
     Helps (aid.Replay source) before after status = ReplaysSource source before after status
     Helps (aid.Run how source) before after status = RunsGuided creates opens how source before after status
     Helps (aid.RunJoined how sources) before after status = RunsJoined creates opens how sources.items before after status
@@ -225,11 +229,12 @@ module _ (opens : List ℕ → Result (Option (List ℕ)) Error → Type 0) wher
     abbrev pub StopsHelp : StreamFault → Aid → Streams → Streams → Type 0
     StopsHelp fault (aid.Check how sources) before after = ChecksSome fault how sources.items before after
     StopsHelp fault (aid.Diff how old new) before after = StopsComparing opens fault how old new before after
+    StopsHelp fault aid.Eval before after = StopsEvaluating fault before after
     StopsHelp fault (aid.Explain page) before after =
         IsCut fault before.holds after.holds (string_bytes page) × (after.reads ≡ before.reads) × (after.tells ≡ before.tells)
     StopsHelp fault (aid.Import how source) before after = ⊤
     StopsHelp fault (aid.List size is_code source is_explained) before after = StopsListing fault size is_code source before after
-    StopsHelp fault (aid.Filter size source is_explained) before after = StopsFilter fault size source before after
+    StopsHelp fault (aid.Filter how source) before after = StopsFilter fault how source before after
     StopsHelp fault (aid.Replay source) before after = StopsReplay fault source before after
     StopsHelp fault (aid.Run how source) before after = StopsRun creates opens fault how source before after
     StopsHelp fault (aid.RunJoined how sources) before after = StopsJoined creates opens fault how sources.items before after

@@ -4,12 +4,10 @@ ghost use Rattle.std.specs.Io.KnownBytes.{Appends};
 ghost use Rattle.filter_commands.specs.Evaluation.{IsCut};
 ghost use Rattle.filter_commands.specs.Faults.{stream_fault};
 ghost use Rattle.filter_tools.specs.Naming.{ChecksNamedOff, ListsNamedOff};
-ghost use Rattle.filter_source.specs.declared.diagnosis.Diagnosis.{Diagnosis as TheDiagnosis};
-ghost use Rattle.filter_tools.specs.Telling.{Explains, IsCutExplanation};
-ghost use Rattle.filter_tools.specs.declared.filter.Filtered.TheVariants.{Refused};
 ghost use Rattle.ncroute.specs.Helping.{ChecksBy, ChecksFirst, ChecksOne, ChecksSome, ChecksText, ChecksWhole, CutsBy, CutsText, FailsToTell, Helps, IsCutOne, ListsSource, ListsText};
 ghost use Rattle.ncroute.specs.Helping.{ReplaysSource, RunsFile, RunsSource, ServesPeople, StopsFile, StopsFilter, StopsHelp, StopsListing};
-ghost use Rattle.ncroute.specs.Helping.{StopsReplay, StopsSource, StopsTrying, TriesFilter, TriesText, fault_status, status_of_filter, told_refusal};
+ghost use Rattle.ncroute.specs.Helping.{StopsReplay, StopsSource, StopsTrying, TriesFilter, TriesText, fault_status, status_of_filter};
+ghost use Rattle.ncroute.specs.Helping.{EvaluatesTold, StopsEvaluating};
 ghost use Rattle.ncroute.specs.Reading.{name_of};
 
 use crate::comparing::compare_sources;
@@ -19,13 +17,13 @@ use crate::joined::guide_sources;
 use crate::lines::check_lines;
 use crate::replay::{REPLAY_LIMIT, replay_text};
 use crate::script::{FAULT, carry_out, script_fault};
-use crate::serve::{FAILED, report_fault};
+use crate::serve::{FAILED, report_fault, status_of};
 use crate::testing::test_sources;
 use crate::texts::{Folder, name_of, read_source, tell_unread};
-use command_line::{Aid, Checking, Engine, Source};
+use command_line::{Aid, Checking, Engine, Source, Trying};
 use filter_commands::ProgramFault;
-use filter_source::{Diagnosis, SOURCE_LIMIT};
-use filter_tools::{Filtered, check_named, filter_lines, list_named, tell};
+use filter_source::SOURCE_LIMIT;
+use filter_tools::{Filtered, Routes, check_named, eval_named, filter_named, list_named};
 use line_protocol::{INPUT_LIMIT, StreamFault, write_text};
 use std::alloc::Global;
 use std::io::{Read, Write};
@@ -164,55 +162,69 @@ fn check_sources<F: Folder, R: Read, W: Write, E: Write>(
     Ok(is_refused)
 }
 
-/// Tells in words why a filter that was tried is refused, where `is_explained` says so. Returns the exit status.
-fn tell_filter<E: Write>(
-    alloc: Global,
-    errors: &mut E,
-    name: &[u8],
-    text: &[u8],
-    is_explained: bool,
-    filtered: Filtered,
-) -> Result<u8, ProgramFault>
-    ensures told { IfOk result (λ status. Explains name.now text.now (told_refusal is_explained filtered)
-        (E.contents errors.old) (E.contents errors.new) × (status ≡ status_of_filter filtered)) }
-    ensures cut { IfErr result (λ fault. (why : TheDiagnosis) × (filtered ≡ Refused why)
-        × IsCutExplanation (stream_fault fault) name.now text.now why (E.contents errors.old) (E.contents errors.new)) }
+/// The exit status of a filter that was tried.
+fn status_of_filter(filtered: Filtered) -> u8
+    ensures { result ≡ status_of_filter filtered }
 {
     match filtered {
-        Filtered::Answered(0) => Ok(0),
-        Filtered::Answered(_) => Ok(FAILED),
-        Filtered::Refused(why) => {
-            if is_explained {
-                tell(alloc, errors, name, text, &why)?;
-            }
-            Ok(FAILED)
-        }
+        Filtered::Answered(refused) => status_of(refused),
+        Filtered::Refused(_) => FAILED,
     }
 }
 
-/// Takes routes through the filter of a text, and returns the exit status. A refusal of the filter is told in words where
-/// `is_explained` says so.
+/// Takes the routes of standard input through the filter of a text, and returns the exit status. What is refused is told in words where
+/// `how` says so.
 fn try_text<R: Read, W: Write, E: Write>(
     alloc: Global,
-    text: &[u8],
-    size: u32,
+    how: Trying,
     name: &[u8],
-    is_explained: bool,
+    text: &[u8],
     reader: &mut R,
     writer: &mut W,
     errors: &mut E,
 ) -> Result<u8, ProgramFault>
-    ensures finished { IfOk result (TriesText size name.now is_explained text.now
+    ensures finished { IfOk result (TriesText how name.now text.now
         (record { reads = R.remaining reader.old; holds = W.contents writer.old; tells = E.contents errors.old })
         (record { reads = R.remaining reader.new; holds = W.contents writer.new; tells = E.contents errors.new })) }
-    ensures stopped { IfErr result (λ fault. StopsTrying (stream_fault fault) size name.now text.now
+    ensures stopped { IfErr result (λ fault. StopsTrying (stream_fault fault) how name.now text.now
         (record { reads = R.remaining reader.old; holds = W.contents writer.old; tells = E.contents errors.old })
         (record { reads = R.remaining reader.new; holds = W.contents writer.new; tells = E.contents errors.new })) }
 {
-    match filter_lines(alloc, text, size, reader, writer) {
-        Ok(filtered) => tell_filter(alloc, errors, name, text, is_explained, filtered),
-        Err(fault) => Err(fault),
-    }
+    let routes = Routes {
+        name: name_of(&Source::Input),
+        is_told: how.tells_routes,
+    };
+    let filtered = filter_named(
+        alloc,
+        text,
+        how.size,
+        name,
+        how.is_explained,
+        routes,
+        reader,
+        writer,
+        errors,
+    )?;
+    Ok(status_of_filter(filtered))
+}
+
+/// Takes the routes of standard input through the code in its first line, tells in words why lines are refused, and returns the exit
+/// status.
+fn evaluate<R: Read, W: Write, E: Write>(
+    alloc: Global,
+    reader: &mut R,
+    writer: &mut W,
+    errors: &mut E,
+) -> Result<u8, ProgramFault>
+    ensures finished { IfOk result (EvaluatesTold
+        (record { reads = R.remaining reader.old; holds = W.contents writer.old; tells = E.contents errors.old })
+        (record { reads = R.remaining reader.new; holds = W.contents writer.new; tells = E.contents errors.new })) }
+    ensures stopped { IfErr result (λ fault. StopsEvaluating (stream_fault fault)
+        (record { reads = R.remaining reader.old; holds = W.contents writer.old; tells = E.contents errors.old })
+        (record { reads = R.remaining reader.new; holds = W.contents writer.new; tells = E.contents errors.new })) }
+{
+    let refused = eval_named(alloc, name_of(&Source::Input), reader, writer, errors)?;
+    Ok(status_of(refused))
 }
 
 /// Writes a page, and returns the exit status.
@@ -259,33 +271,23 @@ fn list<W: Write, E: Write>(
 fn try_filter<F: Folder, R: Read, W: Write, E: Write>(
     files: &F,
     alloc: Global,
-    size: u32,
+    how: Trying,
     source: &Source,
-    is_explained: bool,
     reader: &mut R,
     writer: &mut W,
     errors: &mut E,
 ) -> Result<u8, ProgramFault>
-    ensures finished { IfOk result (TriesFilter (F.opens files.now) size source.now is_explained
+    ensures finished { IfOk result (TriesFilter (F.opens files.now) how source.now
         (record { reads = R.remaining reader.old; holds = W.contents writer.old; tells = E.contents errors.old })
         (record { reads = R.remaining reader.new; holds = W.contents writer.new; tells = E.contents errors.new })) }
-    ensures stopped { IfErr result (λ fault. StopsFilter (F.opens files.now) (stream_fault fault) size source.now
+    ensures stopped { IfErr result (λ fault. StopsFilter (F.opens files.now) (stream_fault fault) how source.now
         (record { reads = R.remaining reader.old; holds = W.contents writer.old; tells = E.contents errors.old })
         (record { reads = R.remaining reader.new; holds = W.contents writer.new; tells = E.contents errors.new })) }
 {
     match read_source(files, alloc, source, SOURCE_LIMIT, reader) {
         Ok(text) => {
             let (text, name) = (text.as_slice(), name_of(source));
-            try_text(
-                alloc,
-                text,
-                size,
-                name,
-                is_explained,
-                reader,
-                writer,
-                errors,
-            )
+            try_text(alloc, how, name, text, reader, writer, errors)
         }
         Err(why) => {
             tell_unread(alloc, errors, source, why)?;
@@ -459,6 +461,7 @@ fn help<F: Folder, R: Read, W: Write, E: Write>(
         Aid::Diff { how, old, new } => {
             compare_sources(files, alloc, *how, old, new, reader, writer, errors)
         }
+        Aid::Eval => evaluate(alloc, reader, writer, errors),
         Aid::Explain { page } => show(page.as_str(), writer),
         Aid::List {
             size,
@@ -476,20 +479,9 @@ fn help<F: Folder, R: Read, W: Write, E: Write>(
             writer,
             errors,
         ),
-        Aid::Filter {
-            size,
-            source,
-            is_explained,
-        } => try_filter(
-            files,
-            alloc,
-            *size,
-            source,
-            *is_explained,
-            reader,
-            writer,
-            errors,
-        ),
+        Aid::Filter { how, source } => {
+            try_filter(files, alloc, *how, source, reader, writer, errors)
+        }
         Aid::Import { how, source } => {
             import_source(files, alloc, how, source, reader, writer, errors)
         }
@@ -528,6 +520,7 @@ pub fn fault_status(aid: &Aid) -> u8
 {
     match aid {
         Aid::Check { .. }
+        | Aid::Eval
         | Aid::Explain { .. }
         | Aid::Import { .. }
         | Aid::Run { .. }
