@@ -9,6 +9,7 @@ mod machine;
 mod operands;
 mod outcome;
 mod route;
+mod running;
 mod stack;
 mod tagged;
 mod value;
@@ -23,5 +24,6 @@ pub use limits::{
 pub use machine::{run_checked, run_counted};
 pub use outcome::{Counted, FaultKind, Outcome};
 pub use route::Route;
+pub use running::Running;
 pub use stack::Stack;
 pub use value::{Kind, Value};

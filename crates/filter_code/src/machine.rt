@@ -27,7 +27,7 @@ use prefix_patterns::{Ip, PatternSet, Prefix};
 
 /// How an instruction ends a run.
 #[derive(Clone, Copy)]
-enum Stop {
+pub(crate) enum Stop {
     Accept(u32),
     Reject,
     Fault(FaultKind),
@@ -47,7 +47,7 @@ impl From<FaultKind> for Stop {
 impl Stop {
     /// The outcome of a run that ends so at a place.
     #[inline(always)]
-    fn at(self, pc: usize) -> Outcome
+    pub(crate) fn at(self, pc: usize) -> Outcome
         ensures { result ≡ stopped self pc }
     {
         match self {
@@ -218,7 +218,7 @@ fn metric_set(operand: u32, route: &Route) -> Result<u32, FaultKind>
 /// Carries out one instruction. A jump adds to the place what it skips; the next instruction is then one further.
 /// After a stop the operands, the local variables and the metric are unspecified.
 #[inline(always)]
-fn carry_out(
+pub(crate) fn carry_out(
     instr: &Instr,
     code: &Code,
     route: &Route,

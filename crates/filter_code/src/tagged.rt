@@ -9,6 +9,7 @@ ghost use Rattle.filter_code.specs.declared.value.Value.TheVariants as value;
 ghost use Rattle.filter_code.specs.Table.{are_alike, are_ordered, is_bool, is_int, is_ip, is_prefix};
 ghost use Rattle.filter_code.specs.Values.{is_same, kind_of, number_of};
 
+use crate::value::Value;
 use prefix_patterns::{Ip, Prefix};
 use std::marker::Model;
 
@@ -141,6 +142,22 @@ impl Tagged {
         } else {
             None
         }
+    }
+
+    /// The value that it is.
+    pub(crate) fn value(self) -> Value
+        ensures { result ≡ self }
+    {
+        if let Some(number) = self.as_int() {
+            return Value::Int(number);
+        }
+        if let Some(truth) = self.as_bool() {
+            return Value::Bool(truth);
+        }
+        if let Some(ip) = self.as_ip() {
+            return Value::Addr(ip);
+        }
+        Value::Net(self.as_prefix().unwrap())
     }
 
     /// Whether it is equal to another of its kind. None if and only if they have two kinds.
