@@ -13,7 +13,7 @@ pub enum CommandFault {
     #[error("not a number in its range")]
     Numbers,
     /// O3: the digits of a code file are not hexadecimal.
-    #[error("not an even number of hexadecimal digits")]
+    #[error("expected pairs of hexadecimal digits")]
     Hexadecimal,
     /// O7: the line is longer than its limit.
     #[error("a line has at most 1048576 bytes")]
