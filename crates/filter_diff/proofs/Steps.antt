@@ -60,9 +60,15 @@ known_metric route None h = refl
 known_metric route (Some m) h = sym h
 
 -- they begin with nothing
+pub begun : (program : CodeView) (class : Class) (stack : List Symbol) (locals : List (Option Symbol)) → stack ≡ [] →
+    locals ≡ replicate program.locals None →
+    Always class (λ (route : RouteView). ReachesIn program route 0 (config_at route 0 stack locals class.metric))
+begun program class stack locals none e route of =
+    rw (none, e, map-nothing (value_at route) program.locals, known_metric route class.metric of.received) (begun_in program route)
+
 pub begin : (program : CodeView) (class : Class) (stack : List Symbol) (locals : List (Option Symbol)) → stack ≡ [] →
     locals ≡ replicate program.locals None → Come program class 0 stack locals class.metric
-begin program class stack locals none e route of = (0, rw (none, e, map-nothing (value_at route) program.locals, known_metric route class.metric of.received) (begun_in program route))
+begin program class stack locals none e route of = (0, begun program class stack locals none e route of)
 
 -- an instruction takes them on
 pub go_on : (program : CodeView) (class : Class) (i : Instr) (before after : Parts) →

@@ -122,7 +122,7 @@ fn meets(code: &Code, class: &Class, expected: &Expectation) -> Found
 }
 
 /// Splits a class by the metric. Not where that is known.
-fn split_by_metric(class: &Class, todo: &mut Vec<Class>) -> Result<bool, AllocError>
+pub(crate) fn split_by_metric(class: &Class, todo: &mut Vec<Class>) -> Result<bool, AllocError>
     requires small { class.now.size ≤ 250 }
     requires real { IsOfSize class.now.size class.now }
     ensures kept { OnOk result ((route : RouteView) → IsLeft route todo.old.items → IsLeft route todo.new.items) }
@@ -141,7 +141,7 @@ fn split_by_metric(class: &Class, todo: &mut Vec<Class>) -> Result<bool, AllocEr
 }
 
 /// Splits a class by its next bit, or by the metric where all bits are known. Not where all is known.
-fn split(class: &Class, todo: &mut Vec<Class>) -> Result<bool, AllocError>
+pub(crate) fn split(class: &Class, todo: &mut Vec<Class>) -> Result<bool, AllocError>
     requires small { class.now.size ≤ 250 }
     requires real { IsOfSize class.now.size class.now }
     ensures kept { OnOk result ((route : RouteView) → IsLeft route todo.old.items → IsLeft route todo.new.items) }

@@ -1,6 +1,7 @@
 ghost use Rattle.std.specs.Prelude.{◌≡◌, ◌≤◌, IfSome};
 ghost use Rattle.prefix_patterns.specs.Matching.{has_same_bits, matches, matches_any};
 ghost use Rattle.filter_diff.specs.Classes.{Always};
+ghost use Rattle.filter_code.specs.declared.value.Value.TheVariants as value;
 ghost use Rattle.filter_diff.specs.Symbols.{kept_address, value_at};
 
 use crate::symbol::Symbol;
@@ -68,6 +69,17 @@ impl Class {
             Symbol::Ip(first.address())
         } else {
             Symbol::OwnIp(bits)
+        }
+    }
+
+    /// The route's prefix: one prefix if all of its bits are known.
+    pub(crate) fn own_net(&self) -> Symbol
+        ensures { Always self.now (λ route. value_at route result ≡ value.Net route.net) }
+    {
+        if self.known.len() == self.len {
+            Symbol::Net(self.known)
+        } else {
+            Symbol::OwnNet
         }
     }
 }

@@ -21,15 +21,16 @@ use filter_code::{Code, Instr, Stack};
 use prefix_patterns::{ADDRESS_LENGTH, Ip, Prefix};
 
 /// What an instruction without operands puts on the stack, if it is one of these.
-fn literal(instr: &Instr) -> Option<Symbol>
-    ensures { IfSome result (λ v. (program : CodeView) (route : RouteView) → Puts program instr.now route (λ rest. rest) (value_at route v)) }
+fn literal(instr: &Instr, class: &Class) -> Option<Symbol>
+    ensures { IfSome result (λ v. Always class.now (λ route. (program : CodeView) →
+        Puts program instr.now route (λ rest. rest) (value_at route v))) }
 {
     match instr {
         Instr::Int(number) => Some(Symbol::Int(*number)),
         Instr::Bool(truth) => Some(Symbol::Bool(*truth)),
         Instr::Ip(ip) => Some(Symbol::Ip(*ip)),
         Instr::Prefix(prefix) => Some(Symbol::Net(*prefix)),
-        Instr::Net => Some(Symbol::OwnNet),
+        Instr::Net => Some(class.own_net()),
         _ => None,
     }
 }
@@ -189,7 +190,7 @@ fn given(instr: &Instr, class: &Class, code: &Code, stack: &mut Stack<Symbol>) -
             one(instr, a, class, code)
         }
         Instr::Int(_) | Instr::Bool(_) | Instr::Ip(_) | Instr::Prefix(_) | Instr::Net => {
-            literal(instr)
+            literal(instr, class)
         }
         _ => {
             let Ok((a, b)) = stack.take_two() else {

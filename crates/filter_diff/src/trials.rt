@@ -34,7 +34,7 @@ fn give_metric(metric: Option<u32>, stack: &mut Stack<Symbol>) -> Turn
 
 /// Carries out an instruction on all routes of a class. A jump adds to the place what it skips; the next instruction is then one
 /// further.
-fn carry_out(
+pub(crate) fn carry_out(
     instr: &Instr,
     code: &Code,
     class: &Class,

@@ -1,0 +1,129 @@
+-- What is found when a search ends.
+use Rattle.std.proofs.Common.{◌≡◌, ◌⊎◌, inl, inr, ℕ, zero, suc, Bool, true, false, not, Some, List, [], ◌∷◌, ◌++◌, length, replicate, refl, sym, ◌∙◌, ap, get_or, subst, arith}
+use Rattle.std.specs.Prelude.{slice_get}
+use Rattle.std.proofs.lemmas.Option.{slice_get_within, slice_get-get_or}
+use Rattle.filter_code.specs.declared.instruction.Instr.{Instr}
+use Rattle.filter_code.specs.declared.instruction.Instr.TheVariants as instr
+use Rattle.filter_code.specs.CodeView.{CodeView}
+use Rattle.filter_code.specs.RouteView.{RouteView}
+use Rattle.filter_code.specs.Machine.{Config, Going, after}
+use Rattle.filter_diff.specs.Classes.{IsOf}
+use Rattle.filter_diff.specs.Marking.{AreAllMarked, AreFull, AreSound, Extend, IsMarked, unmarked}
+use Rattle.filter_diff.specs.Parts.{IsIn}
+use Rattle.filter_diff.specs.Reaching.{Comes, IsComplete, IsCondition, IsOnTop, IsReach, IsSound, has_truth}
+use Rattle.filter_diff.specs.Searches.{IsLeft}
+use Rattle.filter_diff.specs.declared.class.Class.{Class}
+use Rattle.filter_diff.specs.declared.mark.Mark.{Mark}
+use Rattle.filter_diff.specs.declared.mark.Reach.{Reach}
+use Rattle.filter_diff.proofs.Dealt.{left_taken, of_resized, resized}
+use Rattle.filter_diff.proofs.Marking.{all_marked_more}
+
+-- where nothing is marked, nothing marked is untrue
+nothing_is : {A : Type 0} (e : false ≡ true) → A
+nothing_is e = let no : ⊥ = cc in absurd no
+
+truth_of_none : {A : Type 0} (truth : Bool) → has_truth truth unmarked ≡ true → A
+truth_of_none true e = nothing_is e
+truth_of_none false e = nothing_is e
+
+sound_nothing : (program : CodeView) (size place : ℕ) → IsSound program size place unmarked
+sound_nothing program size place = record { reached = nothing_is; condition = λ truth e. truth_of_none truth e }
+
+each_unmarked : (n place : ℕ) (mark : Mark) → slice_get (replicate n unmarked) place ≡ Some mark → unmarked ≡ mark
+each_unmarked zero place mark e = let no : ⊥ = cc in absurd no
+each_unmarked (suc n) zero mark e = cc
+each_unmarked (suc n) (suc place) mark e = each_unmarked n place mark e
+
+pub sound_none : (program : CodeView) (size n : ℕ) → AreSound program size (replicate n unmarked)
+sound_none program size n place mark there =
+    subst (IsSound program size place) (each_unmarked n place mark there) (sound_nothing program size place)
+
+-- the class that is taken is dealt with, and the others stay so
+module _ (program : CodeView) (size : ℕ) (route : RouteView) (is_in : IsIn size route) where
+  by_left : (ds es : List Class) (next : Class) (marks : List Mark) → (IsLeft route ds → IsLeft route es)
+      → (IsOf (resized next size) route → AreAllMarked program marks route ⊎ IsLeft route es)
+      → IsLeft route ds ⊎ IsOf next route → AreAllMarked program marks route ⊎ IsLeft route es
+  by_left ds es next marks kept here (inl left) = inr (kept left)
+  by_left ds es next marks kept here (inr of) = here (of_resized next size route is_in of)
+
+  pub marked_taken : (cs ds es : List Class) (next : Class) (before marks : List Mark) → cs ≡ ds ++ (next ∷ []) → Extend before marks
+      → (IsLeft route ds → IsLeft route es)
+      → (IsOf (resized next size) route → AreAllMarked program marks route ⊎ IsLeft route es)
+      → AreAllMarked program before route ⊎ IsLeft route cs → AreAllMarked program marks route ⊎ IsLeft route es
+  marked_taken cs ds es next before marks items more kept here (inl marked) = inl (all_marked_more program before marks route more marked)
+  marked_taken cs ds es next before marks items more kept here (inr left) =
+      by_left ds es next marks kept here (left_taken route cs ds next items left)
+
+none_left : (program : CodeView) (marks : List Mark) (route : RouteView) (cs : List Class) → cs ≡ [] →
+    AreAllMarked program marks route ⊎ IsLeft route cs → AreAllMarked program marks route
+none_left program marks route cs e (inl marked) = marked
+none_left program marks route cs e (inr left) = absurd (subst (IsLeft route) e left)
+
+-- what is not marked is so on no route
+same_mark : (marks : List Mark) (a b : ℕ) (x y : Mark) → a ≡ b → slice_get marks a ≡ Some x → slice_get marks b ≡ Some y → x ≡ y
+same_mark marks a b x y e f g = cc
+
+unlike : {A : Type 0} (b c : Bool) → b ≡ c → b ≡ true → c ≡ false → A
+unlike b c e f g = let no : ⊥ = cc in absurd no
+
+other_truth : (has truth : Bool) (mark : Mark) (c : Config) → has_truth has mark ≡ true → has_truth truth mark ≡ false → IsOnTop has c →
+    IsOnTop (not truth) c
+other_truth true true mark c e f top = unlike mark.is_true mark.is_true refl e f
+other_truth true false mark c e f top = top
+other_truth false true mark c e f top = top
+other_truth false false mark c e f top = unlike mark.is_false mark.is_false refl e f
+
+module _ (program : CodeView) (size : ℕ) (marks : List Mark) (all : (route : RouteView) → IsIn size route → AreAllMarked program marks route) where
+  found_at : (place : ℕ) (c : Config) → Comes program size place c → IsMarked program marks c
+  found_at place c comes = all comes.route comes.is_in comes.steps c comes.going
+
+  pub complete_at : (place : ℕ) (mark : Mark) → slice_get marks place ≡ Some mark → IsComplete program size place mark
+  complete_at place mark there = record {
+    reached = λ e c comes.
+        let found = found_at place c comes in
+        let same = same_mark marks c.pc place found.mark mark comes.here found.there there in
+        unlike found.mark.is_reached mark.is_reached (ap (λ (m : Mark). m.is_reached) same) found.reached e;
+    condition = λ truth e is c comes.
+        let found = found_at place c comes in
+        let same = same_mark marks c.pc place found.mark mark comes.here found.there there in
+        let shown = found.condition (subst (IsCondition program) (sym comes.here) is) in
+        other_truth shown.0 truth mark c (subst (λ (m : Mark). has_truth shown.0 m ≡ true) same shown.2) e shown.1;
+  }
+
+pub complete_all : (program : CodeView) (size : ℕ) (marks : List Mark) (cs : List Class) → cs ≡ [] →
+    ((route : RouteView) → IsIn size route → AreAllMarked program marks route ⊎ IsLeft route cs) →
+    (place : ℕ) (mark : Mark) → slice_get marks place ≡ Some mark → IsComplete program size place mark
+complete_all program size marks cs e all =
+    complete_at program size marks (λ route is_in. none_left program marks route cs e (all route is_in))
+
+-- where all is marked, there is nothing that is not
+pub complete_full : (program : CodeView) (size : ℕ) (marks : List Mark) → length marks ≡ length program.instrs → AreFull program marks →
+    (place : ℕ) (mark : Mark) → slice_get marks place ≡ Some mark → IsComplete program size place mark
+complete_full program size marks long full place mark there = record {
+  reached = λ e c comes.
+      let inside = slice_get_within marks place mark there in
+      unlike _ _ refl (full place _ mark (slice_get-get_or program.instrs place instr.Accept (omega arith)) there).reached e;
+  condition = λ truth e is.
+      unlike _ _ refl ((full place _ mark is.instruction there).condition is.skipped refl truth) e;
+}
+
+-- what is found when the search ends before that
+pub reach_partly : (program : CodeView) (size : ℕ) (found : Reach) (marks : List Mark) → found.is_complete ≡ false →
+    found.marks.items ≡ marks → length marks ≡ length program.instrs → AreSound program size marks → IsReach program size found
+reach_partly program size found marks partly are long sound = record {
+  long = ap length are ∙ long;
+  sound = subst (AreSound program size) (sym are) sound;
+  complete = λ e. unlike found.is_complete found.is_complete refl e partly;
+}
+
+-- and when there is no more to find
+pub reach_whole : (program : CodeView) (size : ℕ) (found : Reach) (marks : List Mark) → found.marks.items ≡ marks →
+    length marks ≡ length program.instrs → AreSound program size marks →
+    ((place : ℕ) (mark : Mark) → slice_get marks place ≡ Some mark → IsComplete program size place mark) → IsReach program size found
+reach_whole program size found marks are long sound complete = record {
+  long = ap length are ∙ long;
+  sound = subst (AreSound program size) (sym are) sound;
+  complete = λ e. subst
+      (λ (xs : List Mark). (place : ℕ) (mark : Mark) → slice_get xs place ≡ Some mark → IsComplete program size place mark) (sym are)
+      complete;
+}

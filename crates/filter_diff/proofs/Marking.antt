@@ -1,0 +1,149 @@
+-- Marks, and what is added to them.
+use Rattle.std.proofs.Common.{◌≡◌, ◌⊎◌, inl, inr, ℕ, zero, suc, ◌<◌, Bool, true, false, Option, Some, List, [], ◌∷◌, length, map, refl, sym, ◌∙◌, ap, subst}
+use Rattle.std.specs.Prelude.{◌||◌, slice_get, slice_set}
+use Rattle.std.specs.Option.{option_map}
+use Rattle.std.proofs.lemmas.Option.{slice_get-map}
+use Rattle.filter_code.specs.declared.instruction.Instr.{Instr}
+use Rattle.filter_code.specs.declared.instruction.Instr.TheVariants as instr
+use Rattle.filter_code.specs.declared.value.Value.TheVariants as value
+use Rattle.filter_code.specs.CodeView.{CodeView}
+use Rattle.filter_code.specs.RouteView.{RouteView}
+use Rattle.filter_code.specs.Machine.{Config}
+use Rattle.filter_diff.specs.Marking.{AreAllMarked, Extend, Extends, IsAdded, IsMarked, IsTop, Shows, joined}
+use Rattle.filter_diff.specs.Reaching.{IsCondition, IsOnTop, has_truth}
+use Rattle.filter_diff.specs.Symbols.{config_at, value_at}
+use Rattle.filter_diff.specs.declared.mark.Mark.{Mark}
+use Rattle.filter_diff.specs.declared.symbol.Symbol.{Symbol}
+use Rattle.filter_diff.specs.declared.symbol.Symbol.TheVariants as symbol
+
+-- one of two
+or_first : (a b : Bool) → a ≡ true → (a || b) ≡ true
+or_first a b e = rw e refl
+
+or_second : (a b : Bool) → b ≡ true → (a || b) ≡ true
+or_second true b e = refl
+or_second false b e = e
+
+or_either : (a b : Bool) → (a || b) ≡ true → (a ≡ true) ⊎ (b ≡ true)
+or_either true b e = inl refl
+or_either false b e = inr e
+
+truth_first : (truth : Bool) (a b : Mark) → has_truth truth a ≡ true → has_truth truth (joined a b) ≡ true
+truth_first true a b e = or_first a.is_true b.is_true e
+truth_first false a b e = or_first a.is_false b.is_false e
+
+truth_second : (truth : Bool) (a b : Mark) → has_truth truth b ≡ true → has_truth truth (joined a b) ≡ true
+truth_second true a b e = or_second a.is_true b.is_true e
+truth_second false a b e = or_second a.is_false b.is_false e
+
+pub truth_either : (truth : Bool) (a b : Mark) → has_truth truth (joined a b) ≡ true → (has_truth truth a ≡ true) ⊎ (has_truth truth b ≡ true)
+truth_either true a b e = or_either a.is_true b.is_true e
+truth_either false a b e = or_either a.is_false b.is_false e
+
+-- a mark has what it has
+extends_self : (a : Mark) → Extends a a
+extends_self a = record { reached = λ e. e; condition = λ truth e. e }
+
+extends_first : (a b : Mark) → Extends a (joined a b)
+extends_first a b = record {
+  reached = or_first a.is_reached b.is_reached;
+  condition = λ truth e. truth_first truth a b e;
+}
+
+pub extend_self : (marks : List Mark) → Extend marks marks
+extend_self marks = record { long = refl; each = λ place mark there. (mark, there, extends_self mark) }
+
+pub extend_further : (xs ys zs : List Mark) → Extend xs ys → Extend ys zs → Extend xs zs
+extend_further xs ys zs f g = record {
+  long = g.long ∙ f.long;
+  each = λ place mark there.
+      let first = f.each place mark there in
+      let second = g.each place first.0 first.1 in (
+        second.0,
+        second.1,
+        record {
+          reached = λ e. second.2.reached (first.2.reached e);
+          condition = λ truth e. second.2.condition truth (first.2.condition truth e);
+        },
+      );
+}
+
+-- the mark of a place is set
+set_long : (xs : List Mark) (i : ℕ) (y : Mark) → length (slice_set xs i y) ≡ length xs
+set_long [] i y = refl
+set_long (x ∷ xs) zero y = refl
+set_long (x ∷ xs) (suc i) y = ap suc (set_long xs i y)
+
+set_there : (xs : List Mark) (i : ℕ) (x y : Mark) → slice_get xs i ≡ Some x → slice_get (slice_set xs i y) i ≡ Some y
+set_there [] i x y e = cc
+set_there (z ∷ xs) zero x y e = refl
+set_there (z ∷ xs) (suc i) x y e = set_there xs i x y e
+
+set_each : (xs : List Mark) (i : ℕ) (x y : Mark) → slice_get xs i ≡ Some x → Extends x y → (place : ℕ) (mark : Mark) →
+    slice_get xs place ≡ Some mark → (more : Mark) × (slice_get (slice_set xs i y) place ≡ Some more) × Extends mark more
+set_each [] i x y e extends place mark there = cc
+set_each (z ∷ xs) zero x y e extends zero mark there =
+    let same : x ≡ mark = cc in
+    (y, refl, subst (λ (m : Mark). Extends m y) same extends)
+set_each (z ∷ xs) zero x y e extends (suc place) mark there = (mark, there, extends_self mark)
+set_each (z ∷ xs) (suc i) x y e extends zero mark there = (mark, there, extends_self mark)
+set_each (z ∷ xs) (suc i) x y e extends (suc place) mark there = set_each xs i x y e extends place mark there
+
+next_from : {A B : Type 0} (i place : ℕ) → ((place ≡ i) × A) ⊎ B → ((suc place ≡ suc i) × A) ⊎ B
+next_from i place (inl h) = inl (ap suc h.0, h.1)
+next_from i place (inr h) = inr h
+
+pub set_from : (xs : List Mark) (i : ℕ) (x y : Mark) → slice_get xs i ≡ Some x → (place : ℕ) (mark : Mark) →
+    slice_get (slice_set xs i y) place ≡ Some mark → ((place ≡ i) × (mark ≡ y)) ⊎ (slice_get xs place ≡ Some mark)
+set_from [] i x y e place mark there = cc
+set_from (z ∷ xs) zero x y e zero mark there = let same : mark ≡ y = cc in inl (refl, same)
+set_from (z ∷ xs) zero x y e (suc place) mark there = inr there
+set_from (z ∷ xs) (suc i) x y e zero mark there = inr there
+set_from (z ∷ xs) (suc i) x y e (suc place) mark there = next_from i place (set_from xs i x y e place mark there)
+
+-- what is added to the mark of a place
+pub added_more : (mark : Mark) (place : ℕ) (before after : List Mark) → IsAdded mark place before after → Extend before after
+added_more mark place before after added =
+    subst (Extend before) (sym added.set)
+    (record {
+      long = set_long before place (joined added.had mark);
+      each = set_each before place added.had (joined added.had mark) added.there (extends_first added.had mark);
+    })
+
+-- what is marked stays so
+pub marked_more : (program : CodeView) (before after : List Mark) (c : Config) → Extend before after → IsMarked program before c →
+    IsMarked program after c
+marked_more program before after c more marked =
+    let now = more.each c.pc marked.mark marked.there in
+    record {
+      mark = now.0;
+      there = now.1;
+      reached = now.2.reached marked.reached;
+      condition = λ is.
+          let had = marked.condition is in
+          (had.0, had.1, now.2.condition had.0 had.2);
+    }
+
+pub all_marked_more : (program : CodeView) (before after : List Mark) (route : RouteView) → Extend before after →
+    AreAllMarked program before route → AreAllMarked program after route
+all_marked_more program before after route more marked steps c going = marked_more program before after c more (marked steps c going)
+
+-- the symbol on top and the value for which it stands
+pub top_value : (route : RouteView) (stack : List Symbol) (truth : Bool) → IsTop truth stack →
+    slice_get (map (value_at route) stack) 0 ≡ Some (value.Bool truth)
+top_value route stack truth top = slice_get-map (value_at route) stack 0 ∙ ap (option_map (value_at route)) top
+
+-- the configuration that runs come to is marked
+pub marked_here : (program : CodeView) (route : RouteView) (i : Instr) (mark : Mark) (pc : ℕ) (stack : List Symbol)
+    (locals : List (Option Symbol)) (metric : Option ℕ) (before after : List Mark) → slice_get program.instrs pc ≡ Some i →
+    Shows i stack mark → IsAdded mark pc before after → IsMarked program after (config_at route pc stack locals metric)
+marked_here program route i mark pc stack locals metric before after here shows added = record {
+  mark = joined added.had mark;
+  there = subst (λ (marks : List Mark). slice_get marks pc ≡ Some (joined added.had mark)) (sym added.set)
+      (set_there before pc added.had (joined added.had mark) added.there);
+  reached = or_second added.had.is_reached mark.is_reached shows.reached;
+  condition = λ is.
+      let jump : i ≡ instr.JumpIfNot is.skipped = cc in
+      let shown = shows.condition is.skipped jump in
+      (shown.0, top_value route stack shown.0 shown.1, truth_second shown.0 added.had mark shown.2);
+}

@@ -1,0 +1,54 @@
+use Rattle.std.proofs.Common.{◌≡◌, ℕ, None, Some, replicate, ◌∙◌, ap, arith}
+use Rattle.std.specs.Prelude.{slice_get}
+use Rattle.std.proofs.lemmas.Grind.{common_steps}
+use Rattle.std.proofs.lemmas.Option.{gets}
+use Rattle.filter_diff.specs.Turns.{Parts}
+use Rattle.filter_diff.proofs.Marking.{extend_further, extend_self}
+use Rattle.filter_diff.proofs.Reached.{begin_marked, end_noted, go_on_noted, more_noted, sound_noted}
+use Rattle.filter_diff.proofs.reaching.mark_run.Goals as goal
+
+pub loop-instr-init : goal.loop-instr-init
+loop-instr-init c = record {
+  come = begin_marked c.args.code.now c.args.class.now c.args.marks.now _ _ c.new-stack.ensures
+      (c.new-locals.ensures ∙ ap (λ (n : ℕ). replicate n None) c.locals.ensures.value);
+  more = extend_self c.args.marks.now;
+  sound = λ sound. sound;
+}
+
+pub loop-instr-preserved : goal.loop-instr-preserved
+loop-instr-preserved c =
+    let here : slice_get c.args.code.now.instrs c.loop-instr.pc ≡ Some c.in-Some.instr.now = grind (arith, common_steps, gets) in
+    let from : Parts =
+    record { pc = c.loop-instr.pc; stack = c.note.new.stack; locals = c.loop-instr.locals; metric = c.loop-instr.metric } in
+    let to : Parts =
+    record { pc = c.carry_out.new.pc; stack = c.carry_out.new.stack; locals = c.carry_out.new.locals; metric = c.carry_out.new.metric } in
+    let noted = c.if-not-note.ensures in
+    let come = c.loop-instr.invariant.come in
+    record {
+      come = go_on_noted c.args.code.now c.args.class.now c.in-Some.instr.now c.loop-instr.stack from to c.loop-instr.marks c.note.new.marks
+          here noted come c.in-On.ensures.step;
+      more = extend_further c.args.marks.now c.loop-instr.marks c.note.new.marks c.loop-instr.invariant.more
+          (more_noted c.args.code.now c.args.class.now c.in-Some.instr.now c.loop-instr.stack from to c.loop-instr.marks c.note.new.marks
+          here noted come);
+      sound = λ sound. sound_noted c.args.code.now c.args.class.now c.in-Some.instr.now c.loop-instr.stack from to c.loop-instr.marks
+          c.note.new.marks here noted come c.requires.real (c.loop-instr.invariant.sound sound);
+    }
+
+pub returns-in_default-carry_out : goal.returns-in_default-carry_out
+returns-in_default-carry_out c =
+    let here : slice_get c.args.code.now.instrs c.loop-instr.pc ≡ Some c.in-Some.instr.now = grind (arith, common_steps, gets) in
+    let from : Parts =
+    record { pc = c.loop-instr.pc; stack = c.note.new.stack; locals = c.loop-instr.locals; metric = c.loop-instr.metric } in
+    let to : Parts =
+    record { pc = c.carry_out.new.pc; stack = c.carry_out.new.stack; locals = c.carry_out.new.locals; metric = c.carry_out.new.metric } in
+    let noted = c.if-not-note.ensures in
+    let come = c.loop-instr.invariant.come in
+    record {
+      marked = end_noted c.args.code.now c.args.class.now c.in-Some.instr.now c.loop-instr.stack from to c.loop-instr.marks c.note.new.marks
+          here noted come c.carry_out.result c.carry_out.ensures.step;
+      more = extend_further c.args.marks.now c.loop-instr.marks c.note.new.marks c.loop-instr.invariant.more
+          (more_noted c.args.code.now c.args.class.now c.in-Some.instr.now c.loop-instr.stack from to c.loop-instr.marks c.note.new.marks
+          here noted come);
+      sound = λ sound. sound_noted c.args.code.now c.args.class.now c.in-Some.instr.now c.loop-instr.stack from to c.loop-instr.marks
+          c.note.new.marks here noted come c.requires.real (c.loop-instr.invariant.sound sound);
+    }

@@ -1,0 +1,20 @@
+use Rattle.std.proofs.Common.{◌≡◌, ◌⊎◌, ◌+◌, ◌*◌, All, length, vec_len}
+use Rattle.filter_code.specs.RouteView.{RouteView}
+use Rattle.filter_diff.specs.Classes.{IsOfSize}
+use Rattle.filter_diff.specs.Marking.{AreAllMarked, AreSound}
+use Rattle.filter_diff.specs.Parts.{IsIn}
+use Rattle.filter_diff.specs.Searches.{IsLeft}
+use Rattle.filter_diff.proofs.reaching.reach.Given as goal
+
+-- what the run on each route comes to is marked, or the route is left
+abbrev pub invariant-loop-next : goal.invariant-loop-next
+invariant-loop-next l = record {
+  marked : (route : RouteView) → IsIn l.size route → AreAllMarked l.code l.marks.items route ⊎ IsLeft route l.todo.items;
+  real : All (IsOfSize l.size) l.todo.items;
+  long : length l.marks.items ≡ length l.code.instrs;
+  sound : AreSound l.code l.size l.marks.items;
+}
+
+-- each class that is tried takes one off what is left of the limit, and leaves no more than so many others
+abbrev pub decreases-loop-next : goal.decreases-loop-next
+decreases-loop-next l = l.left * 1000 + vec_len l.todo

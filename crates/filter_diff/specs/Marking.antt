@@ -1,0 +1,92 @@
+-- Marks of a search under way.
+use Rattle.std.specs.Prelude.{◌≡◌, ℕ, Bool, true, false, ◌||◌, Some, List, length, slice_get, slice_set}
+use Rattle.filter_code.specs.declared.instruction.Instr.{Instr}
+use Rattle.filter_code.specs.declared.instruction.Instr.TheVariants as instr
+use Rattle.filter_code.specs.CodeView.{CodeView}
+use Rattle.filter_code.specs.Machine.{Config, Going, after}
+use Rattle.filter_code.specs.RouteView.{RouteView}
+use Rattle.filter_diff.specs.Classes.{Always}
+use Rattle.filter_diff.specs.Reaching.{IsCondition, IsOnTop, IsSound, has_truth}
+use Rattle.filter_diff.specs.declared.class.Class.{Class}
+use Rattle.filter_diff.specs.declared.mark.Mark.{Mark}
+use Rattle.filter_diff.specs.declared.symbol.Symbol.{Symbol}
+use Rattle.filter_diff.specs.declared.symbol.Symbol.TheVariants as symbol
+use Rattle.filter_diff.specs.declared.turn.Turn.{Turn}
+use Rattle.filter_diff.specs.declared.turn.Turn.TheVariants as turn
+
+-- nothing is marked
+abbrev pub unmarked : Mark
+unmarked = record { is_reached = false; is_true = false; is_false = false }
+
+-- what is marked in one of two
+abbrev pub joined : Mark → Mark → Mark
+joined a b = record {
+  is_reached = a.is_reached || b.is_reached;
+  is_true = a.is_true || b.is_true;
+  is_false = a.is_false || b.is_false;
+}
+
+-- an instruction is a JUMPIFNOT
+abbrev pub IsJump : Instr → Type 0
+IsJump i = (skipped : ℕ) × (i ≡ instr.JumpIfNot skipped)
+
+-- a symbol is on top, and it is this bool
+abbrev pub IsTop : Bool → List Symbol → Type 0
+IsTop truth stack = slice_get stack 0 ≡ Some (symbol.Bool truth)
+
+-- a mark is just what runs show of an instruction that they come to with this stack
+pub record Shows (i : Instr) (stack : List Symbol) (mark : Mark) : Type 0 where
+  pub reached : mark.is_reached ≡ true
+  pub condition : (skipped : ℕ) → i ≡ instr.JumpIfNot skipped → (truth : Bool) × IsTop truth stack × (has_truth truth mark ≡ true)
+  pub real : (truth : Bool) → has_truth truth mark ≡ true → IsJump i × IsTop truth stack
+
+-- all is marked that can be of an instruction
+pub record IsFull (i : Instr) (mark : Mark) : Type 0 where
+  pub reached : mark.is_reached ≡ true
+  pub condition : (skipped : ℕ) → i ≡ instr.JumpIfNot skipped → (truth : Bool) → has_truth truth mark ≡ true
+
+abbrev pub AreFull : CodeView → List Mark → Type 0
+AreFull program marks = (place : ℕ) (i : Instr) (mark : Mark) → slice_get program.instrs place ≡ Some i → slice_get marks place ≡ Some mark →
+    IsFull i mark
+
+-- a mark is added to that of a place
+pub record IsAdded (mark : Mark) (place : ℕ) (before after : List Mark) : Type 0 where
+  pub had : Mark
+  pub there : slice_get before place ≡ Some had
+  pub set : after ≡ slice_set before place (joined had mark)
+
+-- what runs show of an instruction is added to the mark of its place, or nothing is
+abbrev pub IsNoted : Instr → ℕ → List Symbol → List Symbol → List Mark → List Mark → Bool → Type 0
+IsNoted i place stack same before after true = (mark : Mark) × (same ≡ stack) × Shows i stack mark × IsAdded mark place before after
+IsNoted i place stack same before after false = after ≡ before
+
+-- a mark has what another has
+pub record Extends (a b : Mark) : Type 0 where
+  pub reached : a.is_reached ≡ true → b.is_reached ≡ true
+  pub condition : (truth : Bool) → has_truth truth a ≡ true → has_truth truth b ≡ true
+
+-- and so it is at each place
+pub record Extend (before after : List Mark) : Type 0 where
+  pub long : length after ≡ length before
+  pub each : (place : ℕ) (mark : Mark) → slice_get before place ≡ Some mark →
+      (more : Mark) × (slice_get after place ≡ Some more) × Extends mark more
+
+-- what a configuration shows is marked
+pub record IsMarked (program : CodeView) (marks : List Mark) (c : Config) : Type 0 where
+  pub mark : Mark
+  pub there : slice_get marks c.pc ≡ Some mark
+  pub reached : mark.is_reached ≡ true
+  pub condition : IsCondition program c.pc → (truth : Bool) × IsOnTop truth c × (has_truth truth mark ≡ true)
+
+-- so is all that the run on a route comes to
+abbrev pub AreAllMarked : CodeView → List Mark → RouteView → Type 0
+AreAllMarked program marks route = (steps : ℕ) (c : Config) → after program route steps ≡ Going c → IsMarked program marks c
+
+-- and all that the runs on the routes of a class come to, if they end
+abbrev pub AreMarked : CodeView → Class → List Mark → Turn → Type 0
+AreMarked program class marks (turn.Ended end) = Always class (λ route. AreAllMarked program marks route)
+AreMarked program class marks _ = Unit {0}
+
+-- all that is marked is so on some route
+abbrev pub AreSound : CodeView → ℕ → List Mark → Type 0
+AreSound program size marks = (place : ℕ) (mark : Mark) → slice_get marks place ≡ Some mark → IsSound program size place mark
