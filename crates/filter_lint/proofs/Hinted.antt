@@ -1,0 +1,158 @@
+-- What is said of an instruction as it stands is so.
+use Rattle.std.proofs.Common.{◌≡◌, ◌≢◌, ℕ, ◌+◌, ◌*◌, ◌==◌, ◌≤◌, Bool, true, false, ◌&&◌, nat_le, if◌then◌else◌, List, ◌∷◌, length, Option, Some, None, IfSome, refl, sym, subst, ◌∙◌, ap, arith}
+use Rattle.std.specs.Prelude.{All, option_and_then, slice_get}
+use Rattle.std.specs.List.{list_any}
+use Rattle.std.proofs.lemmas.Bool.Decides.{nat_tests}
+use Rattle.std.proofs.lemmas.List.Elements.{All-append}
+use Rattle.std.proofs.lemmas.Map.Keys.{any_passes_from_place}
+use Rattle.filter_code.specs.CodeView.{CodeView}
+use Rattle.filter_code.specs.declared.instruction.Instr.{Instr}
+use Rattle.filter_code.specs.declared.instruction.Instr.TheVariants as instr
+use Rattle.filter_verifier.specs.InStates.{in_state}
+use Rattle.filter_lint.specs.Arithmetic.{may_wrap, operation_of, wraps, wraps_at}
+use Rattle.filter_lint.specs.Hints.{hints, known_of}
+use Rattle.filter_lint.specs.Known.{top_one, top_two}
+use Rattle.filter_lint.specs.Metrics.{sets_metric, unreachable_at}
+use Rattle.filter_lint.specs.Sources.{SourceView, is_first}
+use Rattle.filter_lint.specs.Truths.{IsTrueOf}
+use Rattle.filter_lint.specs.Variables.{declared_by, is_load_of, unread_at}
+use Rattle.filter_lint.specs.declared.warning.Bounds.{Bounds}
+use Rattle.filter_lint.specs.declared.warning.Cause.TheVariants as cause
+use Rattle.filter_lint.specs.declared.warning.Operation.{Operation}
+use Rattle.filter_lint.specs.declared.warning.Warning.{Warning}
+use Rattle.filter_lint.proofs.Found.{all_below}
+
+module _ (program : CodeView) (size : ℕ) (text places : List ℕ) where
+  -- an operation
+  if_wraps : (k byte : ℕ) (i : Instr) (what : Operation) (left right : Bounds) → slice_get program.instrs k ≡ Some i → slice_get places k ≡ Some byte
+      → operation_of i ≡ Some what → top_two (in_state program size k) ≡ Some (left, right) → (t : Bool) → may_wrap what left right ≡ t
+      → IfSome (if t then Some (record { instruction = k; byte = byte; cause = cause.Wraps what left right }) else None) (IsTrueOf program size places)
+  if_wraps k byte i what left right is there op known false e = tt
+  if_wraps k byte i what left right is there op known true e = record {
+    place = there;
+    is_so = record { i = i; there = is; is_operation = op; known = known; wraps = e };
+  }
+
+  if_first : (k byte : ℕ) (i : Instr) (what : Operation) (both : Bounds × Bounds) → slice_get program.instrs k ≡ Some i → slice_get places k ≡ Some byte
+      → operation_of i ≡ Some what → top_two (in_state program size k) ≡ Some both → (t : Bool)
+      → IfSome (if t then wraps k byte what both.0 both.1 else None) (IsTrueOf program size places)
+  if_first k byte i what both is there op known false = tt
+  if_first k byte i what both is there op known true = if_wraps k byte i what both.0 both.1 is there op known (may_wrap what both.0 both.1) refl
+
+  of_known : (k byte : ℕ) (i : Instr) (what : Operation) → slice_get program.instrs k ≡ Some i → slice_get places k ≡ Some byte
+      → operation_of i ≡ Some what → (both : Option (Bounds × Bounds)) → top_two (in_state program size k) ≡ both
+      → IfSome (option_and_then (λ both. if is_first places k byte then wraps k byte what both.0 both.1 else None) both) (IsTrueOf program size places)
+  of_known k byte i what is there op None known = tt
+  of_known k byte i what is there op (Some both) known = if_first k byte i what both is there op known (is_first places k byte)
+
+  of_operation : (k byte : ℕ) (i : Instr) → slice_get program.instrs k ≡ Some i → slice_get places k ≡ Some byte
+      → (what : Option Operation) → operation_of i ≡ what
+      → IfSome (option_and_then
+      (λ what. option_and_then (λ both. if is_first places k byte then wraps k byte what both.0 both.1 else None) (top_two (in_state program size k)))
+      what) (IsTrueOf program size places)
+  of_operation k byte i is there None op = tt
+  of_operation k byte i is there (Some what) op = of_known k byte i what is there op (top_two (in_state program size k)) refl
+
+  operation_is_so : (k : ℕ) → (i : Option Instr) → slice_get program.instrs k ≡ i → (byte : Option ℕ) → slice_get places k ≡ byte
+      → IfSome (option_and_then
+      (λ i. option_and_then
+      (λ byte. option_and_then
+      (λ what. option_and_then
+      (λ both. if is_first places k byte then wraps k byte what both.0 both.1 else None)
+      (top_two (in_state program size k)))
+      (operation_of i))
+      byte)
+      i) (IsTrueOf program size places)
+  operation_is_so k None is byte there = tt
+  operation_is_so k (Some i) is None there = tt
+  operation_is_so k (Some i) is (Some byte) there = of_operation k byte i is there (operation_of i) refl
+
+  -- a variable
+  read_if_loaded : (instrs : List Instr) (k number : ℕ) → list_any (is_load_of number) instrs ≡ false → slice_get instrs k ≢ Some (instr.Load number)
+  read_if_loaded instrs k number e is =
+      let same : (number == number) ≡ true = grind (arith, nat_tests) in
+      let found : list_any (is_load_of number) instrs ≡ true = any_passes_from_place (is_load_of number) instrs k (instr.Load number) is same in
+      let no : ⊥ = cc in
+      no
+
+  if_unread : (k byte number : ℕ) → slice_get program.instrs k ≡ Some (instr.Store number) → slice_get places k ≡ Some byte → k ≡ 2 * number + 1
+      → (t : Bool) → list_any (is_load_of number) program.instrs ≡ t
+      → IfSome (if t then None else Some (record { instruction = k; byte = byte; cause = cause.Unread })) (IsTrueOf program size places)
+  if_unread k byte number is there at true e = tt
+  if_unread k byte number is there at false e = record {
+    place = there;
+    is_so = record { number = number; declared = at; stored = is; unread = λ j. read_if_loaded program.instrs j number e };
+  }
+
+  of_test : (k byte number : ℕ) → slice_get program.instrs k ≡ Some (instr.Store number) → slice_get places k ≡ Some byte
+      → (t : Bool) → (k == 2 * number + 1) ≡ t
+      → IfSome (option_and_then (λ number. if list_any (is_load_of number) program.instrs then None
+      else Some (record { instruction = k; byte = byte; cause = cause.Unread })) (if t then Some number else None)) (IsTrueOf program size places)
+  of_test k byte number is there false e = tt
+  of_test k byte number is there true e =
+      if_unread k byte number is there (grind (arith, nat_tests)) (list_any (is_load_of number) program.instrs) refl
+
+  of_store : (k byte : ℕ) (i : Instr) → slice_get program.instrs k ≡ Some i → slice_get places k ≡ Some byte
+      → IfSome (option_and_then (λ number. if list_any (is_load_of number) program.instrs then None
+      else Some (record { instruction = k; byte = byte; cause = cause.Unread })) (declared_by i k)) (IsTrueOf program size places)
+  of_store k byte (instr.Store number) is there = of_test k byte number is there (k == 2 * number + 1) refl
+  of_store k byte _ is there = tt
+
+  variable_is_so : (k : ℕ) → (i : Option Instr) → slice_get program.instrs k ≡ i → (byte : Option ℕ) → slice_get places k ≡ byte
+      → IfSome (option_and_then
+      (λ i. option_and_then
+      (λ byte. option_and_then (λ number. if list_any (is_load_of number) program.instrs then None
+      else Some (record { instruction = k; byte = byte; cause = cause.Unread })) (declared_by i k))
+      byte)
+      i) (IsTrueOf program size places)
+  variable_is_so k None is byte there = tt
+  variable_is_so k (Some i) is None there = tt
+  variable_is_so k (Some i) is (Some byte) there = of_store k byte i is there
+
+  -- a metric
+  if_large : (k byte : ℕ) (bounds : Bounds) → slice_get program.instrs k ≡ Some instr.SetMetric → slice_get places k ≡ Some byte
+      → top_one (in_state program size k) ≡ Some bounds → (t : Bool) → nat_le size bounds.low ≡ t
+      → IfSome (if t then Some (record { instruction = k; byte = byte; cause = cause.Unreachable bounds }) else None) (IsTrueOf program size places)
+  if_large k byte bounds is there known false e = tt
+  if_large k byte bounds is there known true e = record {
+    place = there;
+    is_so = record { sets = is; known = known; large = grind (arith, nat_tests) };
+  }
+
+  of_setting : (k byte : ℕ) (i : Instr) (bounds : Bounds) → slice_get program.instrs k ≡ Some i → slice_get places k ≡ Some byte
+      → top_one (in_state program size k) ≡ Some bounds
+      → IfSome (if sets_metric i && nat_le size bounds.low
+      then Some (record { instruction = k; byte = byte; cause = cause.Unreachable bounds }) else None) (IsTrueOf program size places)
+  of_setting k byte instr.SetMetric bounds is there known = if_large k byte bounds is there known (nat_le size bounds.low) refl
+  of_setting k byte _ bounds is there known = tt
+
+  of_bounds : (k byte : ℕ) (i : Instr) → slice_get program.instrs k ≡ Some i → slice_get places k ≡ Some byte
+      → (bounds : Option Bounds) → top_one (in_state program size k) ≡ bounds
+      → IfSome (option_and_then (λ bounds. if sets_metric i && nat_le size bounds.low
+      then Some (record { instruction = k; byte = byte; cause = cause.Unreachable bounds }) else None) bounds) (IsTrueOf program size places)
+  of_bounds k byte i is there None known = tt
+  of_bounds k byte i is there (Some bounds) known = of_setting k byte i bounds is there known
+
+  metric_is_so : (k : ℕ) → (i : Option Instr) → slice_get program.instrs k ≡ i → (byte : Option ℕ) → slice_get places k ≡ byte
+      → IfSome (option_and_then
+      (λ i. option_and_then
+      (λ byte. option_and_then (λ bounds. if sets_metric i && nat_le size bounds.low
+      then Some (record { instruction = k; byte = byte; cause = cause.Unreachable bounds }) else None) (top_one (in_state program size k)))
+      byte)
+      i) (IsTrueOf program size places)
+  metric_is_so k None is byte there = tt
+  metric_is_so k (Some i) is None there = tt
+  metric_is_so k (Some i) is (Some byte) there = of_bounds k byte i is there (top_one (in_state program size k)) refl
+
+  -- all of them
+  pub hints_are_so : All (IsTrueOf program size places) (hints (record { text = text; instrs = program.instrs; places = places }) program size)
+  hints_are_so =
+      let here : SourceView = record { text = text; instrs = program.instrs; places = places } in
+      let P : Warning → Type 0 = IsTrueOf program size places in
+      All-append P _ _
+      (all_below P (λ (at : ℕ). wraps_at here at (in_state program size at))
+      (λ k. operation_is_so k (slice_get program.instrs k) refl (slice_get places k) refl) (known_of program size))
+      (All-append P _ _
+      (all_below P (unread_at here) (λ k. variable_is_so k (slice_get program.instrs k) refl (slice_get places k) refl) (length program.instrs))
+      (all_below P (λ (at : ℕ). unreachable_at here size at (in_state program size at))
+      (λ k. metric_is_so k (slice_get program.instrs k) refl (slice_get places k) refl) (known_of program size)))

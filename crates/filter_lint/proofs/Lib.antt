@@ -1,0 +1,4 @@
+pub mod Found
+pub mod Hinted
+pub mod Tried
+pub mod True

@@ -1,0 +1,8 @@
+-- Warnings that are found at one instruction after another. (This project's own choice.)
+use Rattle.std.specs.Prelude.{ℕ, zero, suc, List, [], ◌++◌, Option, option_to_list}
+use Rattle.filter_lint.specs.declared.warning.Warning.{Warning}
+
+-- those of the first n instructions, in order, where it is known what is said of each
+unfoldable pub below : (ℕ → Option Warning) → ℕ → List Warning
+below said zero = []
+below said (suc n) = below said n ++ option_to_list (said n)

@@ -1,0 +1,14 @@
+pub mod Sites
+pub mod Sources
+pub mod Finding
+pub mod Known
+pub mod Conditions
+pub mod Commands
+pub mod Arithmetic
+pub mod Variables
+pub mod Metrics
+pub mod Hints
+pub mod Truths
+pub mod Rules
+pub mod WarningLines
+pub mod Linting

@@ -1,0 +1,64 @@
+-- What comes of a filter that is linted. (This project's own choice.)
+use Rattle.std.specs.Prelude.{◌≡◌, ◌⊎◌, ℕ, Bool, false, List, All, Option, Some, length}
+use Rattle.std.specs.Io.KnownBytes.{Appends, Keeps}
+use Rattle.filter_code.specs.CodeView.{CodeView}
+use Rattle.filter_commands.specs.Checking.{IsDiagnosis}
+use Rattle.filter_parser.specs.SyntaxText.{FilterView}
+use Rattle.filter_source.specs.TextPlaces.{ArePlacesOf}
+use Rattle.filter_source.specs.declared.diagnosis.Diagnosis.{Diagnosis}
+use Rattle.filter_tools.specs.Filtering.{IsFilterOf}
+use Rattle.filter_tools.specs.Naming.{IsCutTelling, TellsOf}
+use Rattle.filter_verifier.specs.VerifiedView.{VerifiedView}
+use Rattle.filter_workbench.specs.Comparing.{IsVerifiedOf, Named}
+use Rattle.line_protocol.specs.Runs.{AppendsFront}
+use Rattle.line_protocol.specs.declared.faults.StreamFault.{StreamFault}
+use Rattle.line_protocol.specs.declared.faults.StreamFault.TheVariants.{Memory, Write}
+use Rattle.filter_lint.specs.Rules.{AreFound}
+use Rattle.filter_lint.specs.Truths.{IsTrueOf}
+use Rattle.filter_lint.specs.WarningLines.{warnings_text}
+use Rattle.filter_lint.specs.declared.linting.Linted.{Linted}
+use Rattle.filter_lint.specs.declared.linting.Linted.TheVariants as linted
+use Rattle.filter_lint.specs.declared.rules.Warnings.{Warnings}
+
+-- the verified code of a text, and the places of the text that its instructions come from
+pub record IsJudgedOf (text : List ℕ) (size : ℕ) (verified : VerifiedView) (places : List ℕ) : Type 0 where
+  pub is_verified : IsVerifiedOf size text verified
+  pub are_places : ArePlacesOf text places
+
+-- These are the lines of the warnings of a filter's code, and so many there are. Each of them is true of the code.
+pub record IsReport (program : CodeView) (size : ℕ) (places : List ℕ) (source : Named) (lines : List ℕ) (count : ℕ) : Type 0 where
+  pub all : Warnings
+  pub are_found : AreFound program source.text places size all
+  pub are_true : All (IsTrueOf program size places) all.found.items
+  pub lines_are : lines ≡ warnings_text source.name source.text all.found.items all.is_complete
+  pub counted : count ≡ length all.found.items
+
+-- They were written. `held` and `holds` are what the writer held before and holds now.
+pub record WritesWarnings (program : CodeView) (size : ℕ) (places : List ℕ) (source : Named) (held holds : Option (List ℕ)) (count : ℕ) : Type 0 where
+  pub lines : List ℕ
+  pub report : IsReport program size places source lines count
+  pub written : Appends held holds lines
+
+-- A fault kept them from being written whole: memory was refused, and nothing was written; or they were cut.
+abbrev pub CutsWarnings : StreamFault → CodeView → ℕ → List ℕ → Named → Option (List ℕ) → Option (List ℕ) → Type 0
+CutsWarnings fault program size places source held holds =
+    ((fault ≡ Memory) × Keeps held holds)
+    ⊎ ((lines : List ℕ) × (count : ℕ) × IsReport program size places source lines count × (fault ≡ Write) × AppendsFront held holds lines)
+
+-- The text is refused, which was told, and nothing written; or it spells a filter whose code never goes wrong in domains of the size, and
+-- the warnings of this code were written, each at the place of the text that its instruction comes from, and nothing told.
+abbrev pub LintsNamed : ℕ → Bool → Named → Option (List ℕ) → Option (List ℕ) → Option (List ℕ) → Option (List ℕ) → Linted → Type 0
+LintsNamed size is_explained source held holds tells told linted.Refused = (why : Diagnosis)
+    × IsDiagnosis size false source.text why × Keeps held holds × TellsOf is_explained source.name source.text (Some why) tells told
+LintsNamed size is_explained source held holds tells told (linted.Warned count) = (f : FilterView)
+    × (is_f : IsFilterOf source.text size f) × (places : List ℕ) × ArePlacesOf source.text places
+    × WritesWarnings is_f.program size places source held holds count × Keeps tells told
+
+-- A fault ended it: before anything was written or told, for want of memory; while a refusal was told; or while warnings were written.
+abbrev pub LintsNamedOff : StreamFault → ℕ → Bool → Named → Option (List ℕ) → Option (List ℕ) → Option (List ℕ) → Option (List ℕ) → Type 0
+LintsNamedOff fault size is_explained source held holds tells told =
+    ((fault ≡ Memory) × Keeps held holds × Keeps tells told)
+    ⊎ (((why : Diagnosis) × IsDiagnosis size false source.text why × Keeps held holds
+    × IsCutTelling fault is_explained source.name source.text why tells told)
+    ⊎ ((f : FilterView) × (is_f : IsFilterOf source.text size f) × (places : List ℕ) × ArePlacesOf source.text places
+    × CutsWarnings fault is_f.program size places source held holds × Keeps tells told))

@@ -1,0 +1,56 @@
+-- What a warning says of the runs of a filter's code. (This project's own choice.)
+use Rattle.std.specs.Prelude.{◌≡◌, ◌≢◌, ℕ, ◌+◌, ◌*◌, ◌≤◌, Bool, true, List, Some, slice_get}
+use Rattle.filter_code.specs.CodeView.{CodeView}
+use Rattle.filter_code.specs.Machine.{Config}
+use Rattle.filter_code.specs.declared.instruction.Instr.{Instr}
+use Rattle.filter_code.specs.declared.instruction.Instr.TheVariants as instr
+use Rattle.filter_diff.specs.Reaching.{Comes, IsAlways, IsCondition, IsNeverReached}
+use Rattle.filter_verifier.specs.InStates.{in_state}
+use Rattle.filter_lint.specs.Arithmetic.{may_wrap, operation_of}
+use Rattle.filter_lint.specs.Known.{top_one, top_two}
+use Rattle.filter_lint.specs.declared.warning.Bounds.{Bounds}
+use Rattle.filter_lint.specs.declared.warning.Cause.{Cause}
+use Rattle.filter_lint.specs.declared.warning.Cause.TheVariants as cause
+use Rattle.filter_lint.specs.declared.warning.Operation.{Operation}
+use Rattle.filter_lint.specs.declared.warning.Warning.{Warning}
+
+-- an instruction jumps by a condition, to which the run on some route of the domain comes, and which on all these routes is the same
+pub record IsConstant (program : CodeView) (size at : ℕ) (truth : Bool) : Type 0 where
+  pub condition : IsCondition program at
+  pub always : IsAlways program size at truth
+  pub come : Config
+  pub some : Comes program size at come
+
+-- an operation that may wrap, by the ranges that the verifier knows of its operands
+pub record MayWrap (program : CodeView) (size at : ℕ) (what : Operation) (left right : Bounds) : Type 0 where
+  pub i : Instr
+  pub there : slice_get program.instrs at ≡ Some i
+  pub is_operation : operation_of i ≡ Some what
+  pub known : top_two (in_state program size at) ≡ Some (left, right)
+  pub wraps : may_wrap what left right ≡ true
+
+-- the instruction that sets a variable where it is declared, which no instruction reads
+pub record IsUnread (program : CodeView) (at : ℕ) : Type 0 where
+  pub number : ℕ
+  pub declared : at ≡ 2 * number + 1
+  pub stored : slice_get program.instrs at ≡ Some (instr.Store number)
+  pub unread : (k : ℕ) → slice_get program.instrs k ≢ Some (instr.Load number)
+
+-- an instruction that sets the metric to what is at least the size, by the range that the verifier knows of it
+pub record IsUnreachable (program : CodeView) (size at : ℕ) (bounds : Bounds) : Type 0 where
+  pub sets : slice_get program.instrs at ≡ Some instr.SetMetric
+  pub known : top_one (in_state program size at) ≡ Some bounds
+  pub large : size ≤ bounds.low
+
+-- why a warning is said is so
+abbrev pub IsSo : CodeView → ℕ → ℕ → Cause → Type 0
+IsSo program size at (cause.Constant place truth) = IsConstant program size at truth
+IsSo program size at cause.Unreached = IsNeverReached program size at
+IsSo program size at (cause.Wraps what left right) = MayWrap program size at what left right
+IsSo program size at cause.Unread = IsUnread program at
+IsSo program size at (cause.Unreachable bounds) = IsUnreachable program size at bounds
+
+-- a warning is said at the byte of the text that its instruction comes from, and what it says is so
+pub record IsTrueOf (program : CodeView) (size : ℕ) (places : List ℕ) (warning : Warning) : Type 0 where
+  pub place : slice_get places warning.instruction ≡ Some warning.byte
+  pub is_so : IsSo program size warning.instruction warning.cause

@@ -1,0 +1,86 @@
+-- The lines of warnings. (This project's own choice.)
+use Rattle.std.specs.Prelude.{ℕ, ◌==◌, Bool, true, false, if◌then◌else◌, List, [], ◌++◌, ◌∷◌, codes, decimal, flat_map}
+use Rattle.filter_tools.specs.Explanations.{message, position}
+use Rattle.filter_tools.specs.Places.{column_at, line_at}
+use Rattle.filter_tools.specs.Shown.{shown}
+use Rattle.filter_lint.specs.declared.site.Site.{Site}
+use Rattle.filter_lint.specs.declared.site.Site.TheVariants as site
+use Rattle.filter_lint.specs.declared.warning.Cause.{Cause}
+use Rattle.filter_lint.specs.declared.warning.Cause.TheVariants as cause
+use Rattle.filter_lint.specs.declared.warning.Bounds.{Bounds}
+use Rattle.filter_lint.specs.declared.warning.Operation.{Operation}
+use Rattle.filter_lint.specs.declared.warning.Operation.TheVariants as operation
+use Rattle.filter_lint.specs.declared.warning.Warning.{Warning}
+
+-- the code of a rule
+abbrev pub code_of : Cause → List ℕ
+code_of (cause.Constant place value) = codes "W1"
+code_of cause.Unreached = codes "W2"
+code_of (cause.Wraps what left right) = codes "W3"
+code_of cause.Unread = codes "W6"
+code_of (cause.Unreachable bounds) = codes "W7"
+
+-- what is true, or false
+abbrev pub subject_of : Site → List ℕ
+subject_of site.And = codes "what is left of `&&` is "
+subject_of site.Or = codes "what is left of `||` is "
+subject_of place = codes "the condition is "
+
+-- what is said of a label that every route has which comes to it, or none
+abbrev pub label_words : Bool → List ℕ
+label_words is_had = if is_had then codes "every route that comes here has this label" else codes "no route that comes here has this label"
+
+-- what is said of a condition
+abbrev pub truth_words : Site → Bool → List ℕ
+truth_words place value = subject_of place ++ (if value then codes "true" else codes "false") ++ codes " on every route that comes here"
+
+abbrev pub constant_words : Site → Bool → List ℕ
+constant_words site.Label value = label_words value
+constant_words place value = truth_words place value
+
+-- the bounds of an int: one number where they are the same
+abbrev pub bounds_text : Bounds → List ℕ
+bounds_text bounds = if bounds.low == bounds.high then decimal bounds.low else decimal bounds.low ++ codes ".." ++ decimal bounds.high
+
+-- what stands between the operands of an operation, and what is said behind them
+abbrev pub sign_of : Operation → List ℕ
+sign_of operation.Sum = codes " + "
+sign_of operation.Difference = codes " - "
+sign_of operation.Product = codes " * "
+
+abbrev pub wrap_words : Operation → List ℕ
+wrap_words operation.Sum = codes " may wrap above 4294967295"
+wrap_words operation.Difference = codes " may wrap below 0"
+wrap_words operation.Product = codes " may wrap above 4294967295"
+
+abbrev pub wraps_words : Operation → Bounds → Bounds → List ℕ
+wraps_words what left right = bounds_text left ++ sign_of what ++ bounds_text right ++ wrap_words what
+
+-- what is said of a metric that means unreachable
+abbrev pub unreachable_words : Bounds → List ℕ
+unreachable_words bounds = codes "the metric is set to " ++ bounds_text bounds ++ codes ", which means unreachable"
+
+-- what is said of a cause
+abbrev pub words : Cause → List ℕ
+words (cause.Constant place value) = constant_words place value
+words cause.Unreached = codes "no route reaches this command"
+words (cause.Wraps what left right) = wraps_words what left right
+words cause.Unread = codes "this variable is never read"
+words (cause.Unreachable bounds) = unreachable_words bounds
+
+-- the line of a warning: the name of the source as it is shown, the line and the column, what is said, and the code of the rule
+abbrev pub warning_line : List ℕ → List ℕ → Warning → List ℕ
+warning_line name text warning =
+    shown name ++ position (line_at text warning.byte) (column_at text warning.byte) ++ message (words warning.cause) (code_of warning.cause)
+
+-- the line that says that not all routes were tried
+unfoldable pub undecided_words : List ℕ
+undecided_words = codes ": undecided: not all routes were tried, so W1 and W2 were not looked for" ++ 10 ∷ []
+
+abbrev pub undecided_line : List ℕ → List ℕ
+undecided_line name = shown name ++ undecided_words
+
+-- the lines of the warnings of a text, and a last one where not all routes were tried
+abbrev pub warnings_text : List ℕ → List ℕ → List Warning → Bool → List ℕ
+warnings_text name text warnings is_complete =
+    flat_map (warning_line name text) warnings ++ (if is_complete then [] else undecided_line name)

@@ -1,0 +1,88 @@
+//! W1: conditions that come out the same way on every route that comes to them.
+ghost use Rattle.std.specs.Prelude.{◌≡◌, IfOk};
+ghost use Rattle.filter_lint.specs.Conditions as spec;
+ghost use Rattle.filter_lint.specs.Sources.{source_view};
+
+use crate::finding::push_found;
+use crate::site::{Site, site_at};
+use crate::source::Source;
+use crate::warning::{Cause, Warning};
+use filter_code::Instr;
+use filter_diff::Mark;
+use std::alloc::{AllocError, Global};
+
+/// How a condition comes out on every route that comes to it, if it is always the same and some route comes.
+fn constant_of(mark: &Mark) -> Option<bool>
+    ensures { result ≡ spec.constant_of mark.now }
+{
+    if mark.is_true && !mark.is_false {
+        Some(true)
+    } else if mark.is_false && !mark.is_true {
+        Some(false)
+    } else {
+        None
+    }
+}
+
+/// Whether a condition is worth a word: one that stands in the text.
+fn is_asked(site: Site) -> bool
+    ensures { result ≡ spec.is_asked site }
+{
+    match site {
+        Site::Case => false,
+        _ => true,
+    }
+}
+
+/// What is said of a condition that stands at a byte of the text, where its instruction has this index and this mark.
+fn constant(text: &[u8], at: usize, byte: usize, mark: &Mark) -> Option<Warning>
+    ensures { result ≡ spec.constant text.now at byte mark.now }
+{
+    let site = site_at(text, byte)?;
+    let value = constant_of(mark)?;
+    if !is_asked(site) {
+        return None;
+    }
+    Some(Warning {
+        instruction: at,
+        byte,
+        cause: Cause::Constant(site, value),
+    })
+}
+
+/// The same of an instruction, if it jumps by a condition.
+fn constant_by(text: &[u8], at: usize, instr: Instr, byte: usize, mark: &Mark) -> Option<Warning>
+    ensures { result ≡ spec.constant_by text.now at instr byte mark.now }
+{
+    match instr {
+        Instr::JumpIfNot(_) => constant(text, at, byte, mark),
+        _ => None,
+    }
+}
+
+/// The same of the instruction of an index.
+fn constant_at(source: &Source, marks: &[Mark], at: usize) -> Option<Warning>
+    ensures { result ≡ spec.constant_at (source_view source.now) marks.now at }
+{
+    let instr = source.instr(at)?;
+    let byte = source.place(at)?;
+    match marks.get(at) {
+        Some(mark) => constant_by(source.text, at, instr, byte, mark),
+        None => None,
+    }
+}
+
+/// What is said of all conditions, in the order of the code.
+pub(crate) fn constant_conditions(
+    alloc: Global,
+    source: &Source,
+    marks: &[Mark],
+) -> Result<Vec<Warning>, AllocError>
+    ensures { IfOk result (λ found. found.items ≡ spec.constant_conditions (source_view source.now) marks.now) }
+{
+    let mut found = Vec::new(alloc);
+    for at in 0..source.instrs.len() {
+        push_found(&mut found, constant_at(source, marks, at))?;
+    }
+    Ok(found)
+}

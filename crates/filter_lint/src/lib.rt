@@ -1,0 +1,21 @@
+//! Warnings of filters that are verified and yet do what nobody means.
+#![tactic(auto)]
+
+mod arithmetic;
+mod commands;
+mod conditions;
+mod finding;
+mod hints;
+mod known;
+mod linting;
+mod metrics;
+mod rules;
+mod site;
+mod source;
+mod variables;
+mod warning;
+mod warning_lines;
+
+pub use linting::{Linted, lint_named};
+pub use site::Site;
+pub use warning::{Bounds, Cause, Operation, Warning};

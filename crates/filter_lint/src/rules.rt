@@ -1,0 +1,89 @@
+//! All rules, one after another.
+ghost use Rattle.std.specs.Prelude.{◌≡◌, ◌≤◌, All, IfOk};
+ghost use Rattle.filter_code.specs.Limits.{largest_size};
+ghost use Rattle.filter_lint.specs.Rules as spec;
+ghost use Rattle.filter_lint.specs.Sources.{source_view};
+ghost use Rattle.filter_lint.specs.Truths.{IsTrueOf};
+
+use crate::commands::unreached_commands;
+use crate::conditions::constant_conditions;
+use crate::hints::push_hints;
+use crate::source::Source;
+use crate::warning::Warning;
+use filter_code::Code;
+use filter_diff::{Mark, Reach, reach};
+use std::alloc::{AllocError, Global};
+
+/// The warnings of a filter.
+#[derive(Drop)]
+pub(crate) struct Warnings {
+    /// The warnings: rule by rule, and those of each in the order of the code.
+    pub(crate) found: Vec<Warning>,
+    /// Whether all routes were tried, so that the rules on routes were looked for.
+    pub(crate) is_complete: bool,
+}
+
+/// What is said where all routes were tried.
+fn on_routes(alloc: Global, source: &Source, marks: &[Mark]) -> Result<Vec<Warning>, AllocError>
+    ensures { IfOk result (λ found. found.items ≡ spec.on_routes (source_view source.now) marks.now) }
+{
+    let mut found = constant_conditions(alloc, source, marks)?;
+    let commands = unreached_commands(alloc, source, marks)?;
+    found.extend_from_slice(commands.as_slice())?;
+    Ok(found)
+}
+
+/// What is said where the routes were tried: nothing if these were not all.
+fn said_on_routes(
+    alloc: Global,
+    source: &Source,
+    reached: &Reach,
+) -> Result<Vec<Warning>, AllocError>
+    ensures { IfOk result (λ found. found.items ≡ spec.said_on_routes (source_view source.now) reached.now) }
+{
+    if !reached.is_complete {
+        return Ok(Vec::new(alloc));
+    }
+    on_routes(alloc, source, reached.marks.as_slice())
+}
+
+/// All that is said of a filter's code, where this is found of the instructions that runs come to.
+fn said_of(
+    alloc: Global,
+    source: &Source,
+    code: &Code,
+    size: u32,
+    reached: &Reach,
+) -> Result<Vec<Warning>, AllocError>
+    ensures { IfOk result (λ found. found.items ≡ spec.said_of (source_view source.now) code.now size reached.now) }
+{
+    let mut found = said_on_routes(alloc, source, reached)?;
+    push_hints(alloc, &mut found, source, code, size)?;
+    Ok(found)
+}
+
+/// The warnings of a filter's code, for domains of a size. At most so many classes of routes are tried as the limit says.
+pub(crate) fn find_warnings(
+    alloc: Global,
+    code: &Code,
+    text: &[u8],
+    places: &[usize],
+    size: u32,
+    limit: u64,
+) -> Result<Warnings, AllocError>
+    requires { size ≤ largest_size }
+    ensures found { IfOk result (spec.AreFound code.now text.now places.now size) }
+    ensures sound { IfOk result (λ all. All (IsTrueOf code.now size places.now) all.found.items) }
+{
+    let source = Source {
+        text,
+        instrs: code.instrs(),
+        places,
+    };
+    let reached = reach(alloc, code, size, limit)?;
+    let found = said_of(alloc, &source, code, size, &reached)?;
+    Ok(Warnings {
+        found,
+        is_complete: reached.is_complete,
+    })
+}

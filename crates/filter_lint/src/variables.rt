@@ -1,0 +1,66 @@
+//! W6: variables that are never read.
+ghost use Rattle.std.specs.Prelude.{◌≡◌, IfOk};
+ghost use Rattle.std.specs.List.{list_any};
+ghost use Rattle.filter_lint.specs.Sources.{source_view};
+ghost use Rattle.filter_lint.specs.Variables as spec;
+
+use crate::finding::push_found;
+use crate::source::Source;
+use crate::warning::{Cause, Warning};
+use filter_code::Instr;
+use std::alloc::{AllocError, Global};
+
+/// Whether an instruction reads the variable of a number.
+fn is_load_of(number: u8, instr: &Instr) -> bool
+    ensures { result ≡ spec.is_load_of number instr.now }
+{
+    match instr {
+        Instr::Load(read) => *read == number,
+        _ => false,
+    }
+}
+
+/// Whether some instruction reads the variable of a number.
+fn is_read(instrs: &[Instr], number: u8) -> bool
+    ensures { result ≡ list_any (spec.is_load_of number) instrs.now }
+{
+    instrs.iter().any(|instr| is_load_of(number, instr))
+}
+
+/// The number of the variable that an instruction declares: the second instruction of each declaration sets it.
+fn declared_by(instr: Instr, at: usize) -> Option<u8>
+    ensures { result ≡ spec.declared_by instr at }
+{
+    match instr {
+        Instr::Store(number) if at == 2 * usize::from(number) + 1 => Some(number),
+        _ => None,
+    }
+}
+
+/// What is said of the instruction of an index.
+fn unread_at(source: &Source, at: usize) -> Option<Warning>
+    ensures { result ≡ spec.unread_at (source_view source.now) at }
+{
+    let instr = source.instr(at)?;
+    let byte = source.place(at)?;
+    let number = declared_by(instr, at)?;
+    if is_read(source.instrs, number) {
+        return None;
+    }
+    Some(Warning {
+        instruction: at,
+        byte,
+        cause: Cause::Unread,
+    })
+}
+
+/// What is said of all variables, in the order of their declarations.
+pub(crate) fn unread_variables(alloc: Global, source: &Source) -> Result<Vec<Warning>, AllocError>
+    ensures { IfOk result (λ found. found.items ≡ spec.unread_variables (source_view source.now)) }
+{
+    let mut found = Vec::new(alloc);
+    for at in 0..source.instrs.len() {
+        push_found(&mut found, unread_at(source, at))?;
+    }
+    Ok(found)
+}

@@ -1,0 +1,49 @@
+//! What is said of a filter.
+
+use crate::site::Site;
+
+/// An operation on ints whose result may be one that no int has.
+#[derive(Clone, Copy, Debug, PartialEq, Eq)]
+pub enum Operation {
+    /// A sum.
+    Sum,
+    /// A difference.
+    Difference,
+    /// A product.
+    Product,
+}
+
+/// The least and the greatest value that an int may have.
+#[derive(Clone, Copy, Debug, PartialEq, Eq)]
+pub struct Bounds {
+    /// The least value.
+    pub low: u32,
+    /// The greatest value.
+    pub high: u32,
+}
+
+/// Why a warning is said.
+#[derive(Clone, Copy, Debug, PartialEq, Eq)]
+pub enum Cause {
+    /// What is asked there is true, or false, on every route that comes there.
+    Constant(Site, bool),
+    /// No route comes there.
+    Unreached,
+    /// The operation may wrap, by what is known of its two operands.
+    Wraps(Operation, Bounds, Bounds),
+    /// The variable that is declared there is never read.
+    Unread,
+    /// The metric that is set there is unreachable, by what is known of it.
+    Unreachable(Bounds),
+}
+
+/// A warning: the index of the instruction that it is said of, the byte of the text that the instruction comes from, and why.
+#[derive(Clone, Copy, Debug, PartialEq, Eq)]
+pub struct Warning {
+    /// The index of the instruction.
+    pub instruction: usize,
+    /// The byte of the text.
+    pub byte: usize,
+    /// Why it is said.
+    pub cause: Cause,
+}

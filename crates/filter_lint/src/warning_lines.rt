@@ -1,0 +1,203 @@
+//! The lines of warnings.
+ghost use Rattle.std.specs.Prelude.{◌≡◌, ◌++◌, IfOk, OnOk, flat_map};
+ghost use Rattle.filter_tools.specs.Explanations.{message, position};
+ghost use Rattle.filter_tools.specs.Shown.{shown};
+ghost use Rattle.filter_lint.specs.WarningLines as spec;
+
+use crate::site::Site;
+use crate::warning::{Bounds, Cause, Operation, Warning};
+use filter_tools::{place_in, push_shown};
+use line_protocol::push_decimal;
+use std::alloc::{AllocError, Global};
+
+impl Cause {
+    /// The code of the rule.
+    pub fn code(self) -> &'static [u8]
+        ensures { result.now ≡ spec.code_of self }
+    {
+        match self {
+            Cause::Constant(_, _) => b"W1",
+            Cause::Unreached => b"W2",
+            Cause::Wraps(_, _, _) => b"W3",
+            Cause::Unread => b"W6",
+            Cause::Unreachable(_) => b"W7",
+        }
+    }
+}
+
+/// What is true, or false: the condition that is asked at a place.
+fn subject_of(site: Site) -> &'static [u8]
+    ensures { result.now ≡ spec.subject_of site }
+{
+    match site {
+        Site::And => b"what is left of `&&` is ",
+        Site::Or => b"what is left of `||` is ",
+        Site::If | Site::Label | Site::Case => b"the condition is ",
+    }
+}
+
+/// What is said of a label that every route has which comes to it, or none.
+fn label_words(is_had: bool) -> &'static [u8]
+    ensures { result.now ≡ spec.label_words is_had }
+{
+    if is_had {
+        b"every route that comes here has this label"
+    } else {
+        b"no route that comes here has this label"
+    }
+}
+
+/// Puts what is said of a condition at the end of `out`.
+fn push_constant(out: &mut Vec<u8>, site: Site, value: bool) -> Result<(), AllocError>
+    ensures { OnOk result (out.new.items ≡ out.old.items ++ spec.constant_words site value) }
+{
+    if let Site::Label = site {
+        return out.extend_from_slice(label_words(value));
+    }
+    out.extend_from_slice(subject_of(site))?;
+    out.extend_from_slice(if value { b"true" } else { b"false" })?;
+    out.extend_from_slice(b" on every route that comes here")
+}
+
+/// Puts the bounds of an int at the end of `out`: one number where they are the same.
+fn push_bounds(out: &mut Vec<u8>, bounds: Bounds) -> Result<(), AllocError>
+    ensures { OnOk result (out.new.items ≡ out.old.items ++ spec.bounds_text bounds) }
+{
+    push_decimal(out, u64::from(bounds.low))?;
+    if bounds.low == bounds.high {
+        return Ok(());
+    }
+    out.extend_from_slice(b"..")?;
+    push_decimal(out, u64::from(bounds.high))
+}
+
+/// What stands between the operands of an operation.
+fn sign_of(operation: Operation) -> &'static [u8]
+    ensures { result.now ≡ spec.sign_of operation }
+{
+    match operation {
+        Operation::Sum => b" + ",
+        Operation::Difference => b" - ",
+        Operation::Product => b" * ",
+    }
+}
+
+/// What is said of an operation behind its operands.
+fn wrap_words(operation: Operation) -> &'static [u8]
+    ensures { result.now ≡ spec.wrap_words operation }
+{
+    match operation {
+        Operation::Difference => b" may wrap below 0",
+        Operation::Sum | Operation::Product => b" may wrap above 4294967295",
+    }
+}
+
+/// Puts what is said of an operation that may wrap at the end of `out`.
+fn push_wraps(
+    out: &mut Vec<u8>,
+    operation: Operation,
+    left: Bounds,
+    right: Bounds,
+) -> Result<(), AllocError>
+    ensures { OnOk result (out.new.items ≡ out.old.items ++ spec.wraps_words operation left right) }
+{
+    push_bounds(out, left)?;
+    out.extend_from_slice(sign_of(operation))?;
+    push_bounds(out, right)?;
+    out.extend_from_slice(wrap_words(operation))
+}
+
+/// Puts what is said of a metric that means unreachable at the end of `out`.
+fn push_unreachable(out: &mut Vec<u8>, bounds: Bounds) -> Result<(), AllocError>
+    ensures { OnOk result (out.new.items ≡ out.old.items ++ spec.unreachable_words bounds) }
+{
+    out.extend_from_slice(b"the metric is set to ")?;
+    push_bounds(out, bounds)?;
+    out.extend_from_slice(b", which means unreachable")
+}
+
+/// Puts what is said of a cause at the end of `out`.
+fn push_words(out: &mut Vec<u8>, cause: Cause) -> Result<(), AllocError>
+    ensures { OnOk result (out.new.items ≡ out.old.items ++ spec.words cause) }
+{
+    match cause {
+        Cause::Constant(site, value) => push_constant(out, site, value),
+        Cause::Unreached => out.extend_from_slice(b"no route reaches this command"),
+        Cause::Wraps(operation, left, right) => push_wraps(out, operation, left, right),
+        Cause::Unread => out.extend_from_slice(b"this variable is never read"),
+        Cause::Unreachable(bounds) => push_unreachable(out, bounds),
+    }
+}
+
+/// Puts a line and a column at the end of `out`, each behind a colon.
+fn push_position(out: &mut Vec<u8>, line: usize, column: usize) -> Result<(), AllocError>
+    ensures { OnOk result (out.new.items ≡ out.old.items ++ position line column) }
+{
+    out.push(b':')?;
+    push_decimal(out, line as u64)?;
+    out.push(b':')?;
+    push_decimal(out, column as u64)
+}
+
+/// Puts what is said of a cause and its code at the end of `out`, to the end of the line.
+fn push_message(out: &mut Vec<u8>, cause: Cause) -> Result<(), AllocError>
+    ensures { OnOk result (out.new.items ≡ out.old.items ++ message (spec.words cause) (spec.code_of cause)) }
+{
+    out.extend_from_slice(b": ")?;
+    push_words(out, cause)?;
+    out.extend_from_slice(b" (")?;
+    out.extend_from_slice(cause.code())?;
+    out.extend_from_slice(b")\n")
+}
+
+/// Puts the line of a warning at the end of `out`, where the name of the source is shown so.
+fn push_warning(
+    alloc: Global,
+    out: &mut Vec<u8>,
+    name: &[u8],
+    text: &[u8],
+    warning: &Warning,
+) -> Result<(), AllocError>
+    ensures { OnOk result (out.new.items ≡ out.old.items ++ spec.warning_line name.now text.now warning.now) }
+{
+    let place = place_in(text, warning.byte);
+    push_shown(alloc, out, name)?;
+    push_position(out, place.line, place.column)?;
+    push_message(out, warning.cause)
+}
+
+/// Puts the line that says that not all routes were tried at the end of `out`.
+fn push_undecided(alloc: Global, out: &mut Vec<u8>, name: &[u8]) -> Result<(), AllocError>
+    ensures { OnOk result (out.new.items ≡ out.old.items ++ spec.undecided_line name.now) }
+{
+    push_shown(alloc, out, name)?;
+    out.extend_from_slice(undecided_words())
+}
+
+/// What the line says behind the name.
+#[tactic(auto, unfolding(crate::specs::WarningLines::undecided_words))]
+fn undecided_words() -> &'static [u8]
+    ensures { result.now ≡ spec.undecided_words }
+{
+    b": undecided: not all routes were tried, so W1 and W2 were not looked for\n"
+}
+
+/// The lines of the warnings of a text, and a last one where not all routes were tried.
+pub(crate) fn warnings_text(
+    alloc: Global,
+    name: &[u8],
+    text: &[u8],
+    warnings: &[Warning],
+    is_complete: bool,
+) -> Result<Vec<u8>, AllocError>
+    ensures { IfOk result (λ out. out.items ≡ spec.warnings_text name.now text.now warnings.now is_complete) }
+{
+    let mut out = Vec::new(alloc);
+    for warning in warnings {
+        push_warning(alloc, &mut out, name, text, warning)?;
+    }
+    if !is_complete {
+        push_undecided(alloc, &mut out, name)?;
+    }
+    Ok(out)
+}
