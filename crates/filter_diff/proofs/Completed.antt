@@ -1,16 +1,13 @@
 -- What is found when a search ends.
-use Rattle.std.proofs.Common.{◌≡◌, ◌⊎◌, inl, inr, ℕ, zero, suc, Bool, true, false, not, Some, List, [], ◌∷◌, ◌++◌, length, replicate, refl, sym, ◌∙◌, ap, get_or, subst, arith}
+use Rattle.std.proofs.Common.{◌≡◌, ◌⊎◌, inl, inr, ℕ, zero, suc, Bool, true, false, Some, List, [], ◌∷◌, ◌++◌, length, replicate, refl, sym, ◌∙◌, ap, subst}
 use Rattle.std.specs.Prelude.{slice_get}
-use Rattle.std.proofs.lemmas.Option.{slice_get_within, slice_get-get_or}
-use Rattle.filter_code.specs.declared.instruction.Instr.{Instr}
-use Rattle.filter_code.specs.declared.instruction.Instr.TheVariants as instr
 use Rattle.filter_code.specs.CodeView.{CodeView}
 use Rattle.filter_code.specs.RouteView.{RouteView}
-use Rattle.filter_code.specs.Machine.{Config, Going, after}
+use Rattle.filter_code.specs.Machine.{Config}
 use Rattle.filter_diff.specs.Classes.{IsOf}
-use Rattle.filter_diff.specs.Marking.{AreAllMarked, AreFull, AreSound, Extend, IsMarked, unmarked}
+use Rattle.filter_diff.specs.Marking.{AreAllMarked, AreSound, Extend, IsMarked, unmarked}
 use Rattle.filter_diff.specs.Parts.{IsIn}
-use Rattle.filter_diff.specs.Reaching.{Comes, IsComplete, IsCondition, IsOnTop, IsReach, IsSound, has_truth}
+use Rattle.filter_diff.specs.Reaching.{Comes, IsComplete, IsCondition, IsReach, IsSound, has_truth}
 use Rattle.filter_diff.specs.Searches.{IsLeft}
 use Rattle.filter_diff.specs.declared.class.Class.{Class}
 use Rattle.filter_diff.specs.declared.mark.Mark.{Mark}
@@ -66,13 +63,6 @@ same_mark marks a b x y e f g = cc
 unlike : {A : Type 0} (b c : Bool) → b ≡ c → b ≡ true → c ≡ false → A
 unlike b c e f g = let no : ⊥ = cc in absurd no
 
-other_truth : (has truth : Bool) (mark : Mark) (c : Config) → has_truth has mark ≡ true → has_truth truth mark ≡ false → IsOnTop has c →
-    IsOnTop (not truth) c
-other_truth true true mark c e f top = unlike mark.is_true mark.is_true refl e f
-other_truth true false mark c e f top = top
-other_truth false true mark c e f top = top
-other_truth false false mark c e f top = unlike mark.is_false mark.is_false refl e f
-
 module _ (program : CodeView) (size : ℕ) (marks : List Mark) (all : (route : RouteView) → IsIn size route → AreAllMarked program marks route) where
   found_at : (place : ℕ) (c : Config) → Comes program size place c → IsMarked program marks c
   found_at place c comes = all comes.route comes.is_in comes.steps c comes.going
@@ -86,8 +76,8 @@ module _ (program : CodeView) (size : ℕ) (marks : List Mark) (all : (route : R
     condition = λ truth e is c comes.
         let found = found_at place c comes in
         let same = same_mark marks c.pc place found.mark mark comes.here found.there there in
-        let shown = found.condition (subst (IsCondition program) (sym comes.here) is) in
-        other_truth shown.0 truth mark c (subst (λ (m : Mark). has_truth shown.0 m ≡ true) same shown.2) e shown.1;
+        found.condition (subst (IsCondition program) (sym comes.here) is) truth
+        (subst (λ (m : Mark). has_truth truth m ≡ false) (sym same) e);
   }
 
 pub complete_all : (program : CodeView) (size : ℕ) (marks : List Mark) (cs : List Class) → cs ≡ [] →
@@ -95,17 +85,6 @@ pub complete_all : (program : CodeView) (size : ℕ) (marks : List Mark) (cs : L
     (place : ℕ) (mark : Mark) → slice_get marks place ≡ Some mark → IsComplete program size place mark
 complete_all program size marks cs e all =
     complete_at program size marks (λ route is_in. none_left program marks route cs e (all route is_in))
-
--- where all is marked, there is nothing that is not
-pub complete_full : (program : CodeView) (size : ℕ) (marks : List Mark) → length marks ≡ length program.instrs → AreFull program marks →
-    (place : ℕ) (mark : Mark) → slice_get marks place ≡ Some mark → IsComplete program size place mark
-complete_full program size marks long full place mark there = record {
-  reached = λ e c comes.
-      let inside = slice_get_within marks place mark there in
-      unlike _ _ refl (full place _ mark (slice_get-get_or program.instrs place instr.Accept (omega arith)) there).reached e;
-  condition = λ truth e is.
-      unlike _ _ refl ((full place _ mark is.instruction there).condition is.skipped refl truth) e;
-}
 
 -- what is found when the search ends before that
 pub reach_partly : (program : CodeView) (size : ℕ) (found : Reach) (marks : List Mark) → found.is_complete ≡ false →

@@ -14,3 +14,4 @@ pub mod Expected
 pub mod Marking
 pub mod Reached
 pub mod Completed
+pub mod Settled

@@ -1,5 +1,5 @@
 -- Marks, and what is added to them.
-use Rattle.std.proofs.Common.{◌≡◌, ◌⊎◌, inl, inr, ℕ, zero, suc, ◌<◌, Bool, true, false, Option, Some, List, [], ◌∷◌, length, map, refl, sym, ◌∙◌, ap, subst}
+use Rattle.std.proofs.Common.{◌≡◌, ◌⊎◌, inl, inr, ℕ, zero, suc, Bool, true, false, not, Option, Some, List, [], ◌∷◌, length, map, refl, sym, ◌∙◌, ap, subst}
 use Rattle.std.specs.Prelude.{◌||◌, slice_get, slice_set}
 use Rattle.std.specs.Option.{option_map}
 use Rattle.std.proofs.lemmas.Option.{slice_get-map}
@@ -10,11 +10,10 @@ use Rattle.filter_code.specs.CodeView.{CodeView}
 use Rattle.filter_code.specs.RouteView.{RouteView}
 use Rattle.filter_code.specs.Machine.{Config}
 use Rattle.filter_diff.specs.Marking.{AreAllMarked, Extend, Extends, IsAdded, IsMarked, IsTop, Shows, joined}
-use Rattle.filter_diff.specs.Reaching.{IsCondition, IsOnTop, has_truth}
+use Rattle.filter_diff.specs.Reaching.{IsOnTop, has_truth}
 use Rattle.filter_diff.specs.Symbols.{config_at, value_at}
 use Rattle.filter_diff.specs.declared.mark.Mark.{Mark}
 use Rattle.filter_diff.specs.declared.symbol.Symbol.{Symbol}
-use Rattle.filter_diff.specs.declared.symbol.Symbol.TheVariants as symbol
 
 -- one of two
 or_first : (a b : Bool) → a ≡ true → (a || b) ≡ true
@@ -93,13 +92,13 @@ next_from : {A B : Type 0} (i place : ℕ) → ((place ≡ i) × A) ⊎ B → ((
 next_from i place (inl h) = inl (ap suc h.0, h.1)
 next_from i place (inr h) = inr h
 
-pub set_from : (xs : List Mark) (i : ℕ) (x y : Mark) → slice_get xs i ≡ Some x → (place : ℕ) (mark : Mark) →
-    slice_get (slice_set xs i y) place ≡ Some mark → ((place ≡ i) × (mark ≡ y)) ⊎ (slice_get xs place ≡ Some mark)
-set_from [] i x y e place mark there = cc
-set_from (z ∷ xs) zero x y e zero mark there = let same : mark ≡ y = cc in inl (refl, same)
-set_from (z ∷ xs) zero x y e (suc place) mark there = inr there
-set_from (z ∷ xs) (suc i) x y e zero mark there = inr there
-set_from (z ∷ xs) (suc i) x y e (suc place) mark there = next_from i place (set_from xs i x y e place mark there)
+pub set_from : {A : Type 0} (xs : List A) (i : ℕ) (y : A) (place : ℕ) (now : A) →
+    slice_get (slice_set xs i y) place ≡ Some now → ((place ≡ i) × (now ≡ y)) ⊎ (slice_get xs place ≡ Some now)
+set_from [] i y place now there = inr there
+set_from (z ∷ xs) zero y zero now there = let same : now ≡ y = cc in inl (refl, same)
+set_from (z ∷ xs) zero y (suc place) now there = inr there
+set_from (z ∷ xs) (suc i) y zero now there = inr there
+set_from (z ∷ xs) (suc i) y (suc place) now there = next_from i place (set_from xs i y place now there)
 
 -- what is added to the mark of a place
 pub added_more : (mark : Mark) (place : ℕ) (before after : List Mark) → IsAdded mark place before after → Extend before after
@@ -110,6 +109,15 @@ added_more mark place before after added =
       each = set_each before place added.had (joined added.had mark) added.there (extends_first added.had mark);
     })
 
+-- what a mark that has more has not, it had not
+unmarked_by : (truth : Bool) (a b : Mark) → Extends a b → has_truth truth b ≡ false → (had : Bool) → has_truth truth a ≡ had →
+    has_truth truth a ≡ false
+unmarked_by truth a b extends e true is = let now = extends.condition truth is in let no : ⊥ = cc in absurd no
+unmarked_by truth a b extends e false is = is
+
+not_had : (truth : Bool) (a b : Mark) → Extends a b → has_truth truth b ≡ false → has_truth truth a ≡ false
+not_had truth a b extends e = unmarked_by truth a b extends e (has_truth truth a) refl
+
 -- what is marked stays so
 pub marked_more : (program : CodeView) (before after : List Mark) (c : Config) → Extend before after → IsMarked program before c →
     IsMarked program after c
@@ -119,9 +127,7 @@ marked_more program before after c more marked =
       mark = now.0;
       there = now.1;
       reached = now.2.reached marked.reached;
-      condition = λ is.
-          let had = marked.condition is in
-          (had.0, had.1, now.2.condition had.0 had.2);
+      condition = λ is truth e. marked.condition is truth (not_had truth marked.mark now.0 now.2 e);
     }
 
 pub all_marked_more : (program : CodeView) (before after : List Mark) (route : RouteView) → Extend before after →
@@ -133,6 +139,17 @@ pub top_value : (route : RouteView) (stack : List Symbol) (truth : Bool) → IsT
     slice_get (map (value_at route) stack) 0 ≡ Some (value.Bool truth)
 top_value route stack truth top = slice_get-map (value_at route) stack 0 ∙ ap (option_map (value_at route)) top
 
+-- where one truth is not marked, the condition has the other
+pub unlike : {A : Type 0} (b c : Bool) → b ≡ c → b ≡ true → c ≡ false → A
+unlike b c e f g = let no : ⊥ = cc in absurd no
+
+other_truth : (has truth : Bool) (mark : Mark) (c : Config) → has_truth has mark ≡ true → has_truth truth mark ≡ false → IsOnTop has c →
+    IsOnTop (not truth) c
+other_truth true true mark c e f top = unlike mark.is_true mark.is_true refl e f
+other_truth true false mark c e f top = top
+other_truth false true mark c e f top = top
+other_truth false false mark c e f top = unlike mark.is_false mark.is_false refl e f
+
 -- the configuration that runs come to is marked
 pub marked_here : (program : CodeView) (route : RouteView) (i : Instr) (mark : Mark) (pc : ℕ) (stack : List Symbol)
     (locals : List (Option Symbol)) (metric : Option ℕ) (before after : List Mark) → slice_get program.instrs pc ≡ Some i →
@@ -142,8 +159,9 @@ marked_here program route i mark pc stack locals metric before after here shows 
   there = subst (λ (marks : List Mark). slice_get marks pc ≡ Some (joined added.had mark)) (sym added.set)
       (set_there before pc added.had (joined added.had mark) added.there);
   reached = or_second added.had.is_reached mark.is_reached shows.reached;
-  condition = λ is.
+  condition = λ is truth e.
       let jump : i ≡ instr.JumpIfNot is.skipped = cc in
       let shown = shows.condition is.skipped jump in
-      (shown.0, top_value route stack shown.0 shown.1, truth_second shown.0 added.had mark shown.2);
+      other_truth shown.0 truth (joined added.had mark) (config_at route pc stack locals metric)
+      (truth_second shown.0 added.had mark shown.2) e (top_value route stack shown.0 shown.1);
 }

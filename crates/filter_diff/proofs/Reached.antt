@@ -1,5 +1,5 @@
 -- What the runs on the routes of a class come to.
-use Rattle.std.proofs.Common.{◌≡◌, ◌⊎◌, inl, inr, ℕ, ◌+◌, ◌<◌, ◌≤◌, Bool, true, false, Option, Some, None, List, [], length, replicate, refl, sym, ◌∙◌, ap, subst, arith, below_more}
+use Rattle.std.proofs.Common.{◌≡◌, ◌⊎◌, inl, inr, ℕ, ◌+◌, ◌<◌, ◌≤◌, Bool, true, false, Option, Some, None, List, [], replicate, refl, sym, ◌∙◌, ap, subst, arith, below_more}
 use Rattle.std.specs.Prelude.{nat_lt, slice_get}
 use Rattle.std.proofs.lemmas.Bool.Decides.{nat_tests}
 use Rattle.filter_code.specs.declared.instruction.Instr.{Instr}
@@ -10,9 +10,10 @@ use Rattle.filter_code.specs.RouteView.{RouteView}
 use Rattle.filter_code.specs.Machine.{Config, State, Ended, Going, after}
 use Rattle.filter_code.proofs.Runs.{ReachesIn, carried_on, carried_over, reached}
 use Rattle.filter_diff.specs.Classes.{Always, IsKnown, IsOf, IsOfSize, IsUpTo}
-use Rattle.filter_diff.specs.Marking.{AreAllMarked, AreMarked, AreSound, Extend, IsAdded, IsMarked, IsNoted, IsTop, Shows, joined}
+use Rattle.filter_diff.specs.Marking.{AreAllMarked, AreMarked, AreSound, Extend, IsAdded, IsMarked, IsNoted, Shows, extent_of, joined}
 use Rattle.filter_diff.specs.Parts.{Has, IsIn}
 use Rattle.filter_diff.specs.Reaching.{Comes, IsCondition, IsOnTop, IsSound, has_truth}
+use Rattle.filter_diff.specs.Settling.{AreSettled, IsSettled}
 use Rattle.filter_diff.specs.Symbols.{config_at}
 use Rattle.filter_diff.specs.Turns.{Parts, Takes}
 use Rattle.filter_diff.specs.declared.class.Class.{Class}
@@ -20,9 +21,11 @@ use Rattle.filter_diff.specs.declared.mark.Mark.{Mark}
 use Rattle.filter_diff.specs.declared.part.Finding.TheVariants as finding
 use Rattle.filter_diff.specs.declared.part.Part.{Part}
 use Rattle.filter_diff.specs.declared.symbol.Symbol.{Symbol}
+use Rattle.filter_diff.specs.declared.ending.Ending.{Ending}
 use Rattle.filter_diff.specs.declared.turn.Turn.{Turn}
 use Rattle.filter_diff.specs.declared.turn.Turn.TheVariants as turn
-use Rattle.filter_diff.proofs.Marking.{added_more, marked_here, marked_more, set_from, top_value, truth_either}
+use Rattle.filter_diff.proofs.Marking.{added_more, extend_further, marked_here, marked_more, set_from, top_value, truth_either}
+use Rattle.filter_diff.proofs.Settled.{settled_more}
 use Rattle.filter_diff.proofs.Steps.{begun}
 use Rattle.filter_diff.proofs.Witness.{has_route}
 
@@ -105,17 +108,30 @@ all_marked program marks route n end ended so_far k c going =
     all_by program marks route n end ended so_far k c going (nat_lt k n) refl
 
 -- an instruction ends them
-pub end_marked : (program : CodeView) (class : Class) (i : Instr) (mark : Mark) (from to : Parts) (how : Turn) (before after : List Mark) →
+pub end_marked : (program : CodeView) (class : Class) (i : Instr) (mark : Mark) (from to : Parts) (end : Ending) (before after : List Mark) →
     ComeMarked program class before from.pc from.stack from.locals from.metric → slice_get program.instrs from.pc ≡ Some i →
-    Shows i from.stack mark → IsAdded mark from.pc before after → Takes program class i from to how → AreMarked program class after how
-end_marked program class i mark from to (turn.Ended e) before after come here shows added takes =
-    λ route of.
+    Shows i from.stack mark → IsAdded mark from.pc before after → Takes program class i from to (turn.Ended end) →
+    Always class (λ (route : RouteView). AreAllMarked program after route)
+end_marked program class i mark from to end before after come here shows added takes route of =
     let r = marked_now program class i mark from.pc from.stack from.locals from.metric before after come here shows added route of in
     let ends = carried_over program route r.0 _ i _ r.1 here (takes route of) in
     all_marked program after route (r.0 + 1) _ ends.ended r.2
-end_marked program class i mark from to turn.On before after come here shows added takes = tt
-end_marked program class i mark from to turn.AsksBits before after come here shows added takes = tt
-end_marked program class i mark from to turn.AsksMetric before after come here shows added takes = tt
+
+-- or they come to a place from which on all is marked
+settled_by : (program : CodeView) (marks : List Mark) (route : RouteView) (n : ℕ) (c : Config) → after program route n ≡ Going c →
+    IsSettled program marks c.pc → AreMarkedBefore program marks route n → (k : ℕ) (d : Config) → after program route k ≡ Going d →
+    (before : Bool) → nat_lt k n ≡ before → IsMarked program marks d
+settled_by program marks route n c at settled so_far k d going true e = so_far k (grind (arith, nat_tests)) d going
+settled_by program marks route n c at settled so_far k d going false e =
+    settled route n c at refl k d (grind (arith, nat_tests)) going
+
+pub come_settled : (program : CodeView) (class : Class) (before marks : List Mark) (settled : List Bool) (pc : ℕ) (stack : List Symbol)
+    (locals : List (Option Symbol)) (metric : Option ℕ) → Extend before marks → AreSettled program before settled →
+    ComeMarked program class marks pc stack locals metric → slice_get settled pc ≡ Some true →
+    Always class (λ (route : RouteView). AreAllMarked program marks route)
+come_settled program class before marks settled pc stack locals metric more are come here route of k d going =
+    let r = come route of in
+    settled_by program marks route r.0 _ r.1.is_there (settled_more program before marks pc more (are pc here)) r.2 k d going (nat_lt k r.0) refl
 
 -- a class has a route
 pub record HasOne (class : Class) : Type 0 where
@@ -203,11 +219,11 @@ sound_added program class i mark pc stack locals metric before after real come h
     sound_at program class.size pc mark before after added sound
     (sound_here program class.size pc i mark added.had one.route stack locals metric (sound pc added.had added.there) here shows comes)
     place now
-    (set_from before pc added.had (joined added.had mark) added.there place now
+    (set_from before pc (joined added.had mark) place now
     (subst (λ (marks : List Mark). slice_get marks place ≡ Some now) added.set there))
 
 -- the same where what the instruction shows is added to the mark of its place
-module _ (program : CodeView) (class : Class) (i : Instr) (stack : List Symbol) (from to : Parts) (before after : List Mark)
+module _ (program : CodeView) (class : Class) (i : Instr) (stack : List Symbol) (from to : Parts) (first before after : List Mark)
     (here : slice_get program.instrs from.pc ≡ Some i) (noted : IsNoted i from.pc stack from.stack before after true)
     (come : ComeMarked program class before from.pc stack from.locals from.metric) where
   shows : Shows i from.stack noted.0
@@ -219,12 +235,17 @@ module _ (program : CodeView) (class : Class) (i : Instr) (stack : List Symbol) 
   pub go_on_noted : Takes program class i from to turn.On → ComeMarked program class after (to.pc + 1) to.stack to.locals to.metric
   go_on_noted takes = go_on_marked program class i noted.0 from to before after come_here here shows noted.3 takes
 
-  pub end_noted : (how : Turn) → Takes program class i from to how → AreMarked program class after how
-  end_noted how takes = end_marked program class i noted.0 from to how before after come_here here shows noted.3 takes
+  pub end_noted : (how : Turn) → Takes program class i from to how → AreMarked program class after (extent_of how)
+  end_noted (turn.Ended end) takes = end_marked program class i noted.0 from to end before after come_here here shows noted.3 takes
+  end_noted turn.On takes = tt
+  end_noted turn.AsksBits takes = tt
+  end_noted turn.AsksMetric takes = tt
 
-  pub more_noted : Extend before after
-  more_noted = added_more noted.0 from.pc before after noted.3
+  pub more_noted : Extend first before → Extend first after
+  more_noted more = extend_further first before after more (added_more noted.0 from.pc before after noted.3)
 
-  pub sound_noted : IsOfSize class.size class → AreSound program class.size before → AreSound program class.size after
-  sound_noted real sound =
-      sound_added program class i noted.0 from.pc from.stack from.locals from.metric before after real come_here here shows noted.3 sound
+  pub sound_noted : IsOfSize class.size class → (AreSound program class.size first → AreSound program class.size before) →
+      AreSound program class.size first → AreSound program class.size after
+  sound_noted real sound at_first =
+      sound_added program class i noted.0 from.pc from.stack from.locals from.metric before after real come_here here shows noted.3
+      (sound at_first)

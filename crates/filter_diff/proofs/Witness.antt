@@ -1,11 +1,10 @@
 -- A route of a part, and the part as a pattern.
-use Rattle.std.proofs.Common.{◌≡◌, ◌↔◌, ℕ, ◌+◌, ◌-◌, ◌≤◌, Bool, false, List, ◌++◌, length, take, refl, sym, ◌∙◌, ap, subst, arith, length-append}
+use Rattle.std.proofs.Common.{◌≡◌, ◌↔◌, ℕ, ◌-◌, ◌≤◌, Bool, false, List, ◌++◌, length, take, refl, sym, ◌∙◌, subst, arith, length-append}
 use Rattle.std.proofs.Math.ListN.{replicate}
 use Rattle.std.proofs.Math.Seq.{take-append_seam, take-length}
 use Rattle.std.proofs.lemmas.List.{length-replicate}
-use Rattle.std.specs.Prelude.{min}
 use Rattle.filter_code.specs.RouteView.{RouteView}
-use Rattle.prefix_patterns.specs.Matching.{LiesWithin, shared_length}
+use Rattle.prefix_patterns.specs.Matching.{shared_length}
 use Rattle.filter_diff.specs.Parts.{Has, HasRoute, IsMatched, IsReal}
 use Rattle.filter_diff.specs.declared.part.Part.{Part}
 

@@ -12,4 +12,5 @@ pub mod Turns
 pub mod Searches
 pub mod Meeting
 pub mod Marking
+pub mod Settling
 pub mod Joins

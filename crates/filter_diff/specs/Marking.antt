@@ -1,5 +1,5 @@
 -- Marks of a search under way.
-use Rattle.std.specs.Prelude.{◌≡◌, ℕ, Bool, true, false, ◌||◌, Some, List, length, slice_get, slice_set}
+use Rattle.std.specs.Prelude.{◌≡◌, ℕ, Bool, true, false, not, ◌||◌, Some, List, length, slice_get, slice_set}
 use Rattle.filter_code.specs.declared.instruction.Instr.{Instr}
 use Rattle.filter_code.specs.declared.instruction.Instr.TheVariants as instr
 use Rattle.filter_code.specs.CodeView.{CodeView}
@@ -9,6 +9,8 @@ use Rattle.filter_diff.specs.Classes.{Always}
 use Rattle.filter_diff.specs.Reaching.{IsCondition, IsOnTop, IsSound, has_truth}
 use Rattle.filter_diff.specs.declared.class.Class.{Class}
 use Rattle.filter_diff.specs.declared.mark.Mark.{Mark}
+use Rattle.filter_diff.specs.declared.extent.Extent.{Extent}
+use Rattle.filter_diff.specs.declared.extent.Extent.TheVariants as extent
 use Rattle.filter_diff.specs.declared.symbol.Symbol.{Symbol}
 use Rattle.filter_diff.specs.declared.symbol.Symbol.TheVariants as symbol
 use Rattle.filter_diff.specs.declared.turn.Turn.{Turn}
@@ -45,10 +47,6 @@ pub record IsFull (i : Instr) (mark : Mark) : Type 0 where
   pub reached : mark.is_reached ≡ true
   pub condition : (skipped : ℕ) → i ≡ instr.JumpIfNot skipped → (truth : Bool) → has_truth truth mark ≡ true
 
-abbrev pub AreFull : CodeView → List Mark → Type 0
-AreFull program marks = (place : ℕ) (i : Instr) (mark : Mark) → slice_get program.instrs place ≡ Some i → slice_get marks place ≡ Some mark →
-    IsFull i mark
-
 -- a mark is added to that of a place
 pub record IsAdded (mark : Mark) (place : ℕ) (before after : List Mark) : Type 0 where
   pub had : Mark
@@ -71,20 +69,26 @@ pub record Extend (before after : List Mark) : Type 0 where
   pub each : (place : ℕ) (mark : Mark) → slice_get before place ≡ Some mark →
       (more : Mark) × (slice_get after place ≡ Some more) × Extends mark more
 
--- what a configuration shows is marked
+-- how far runs are marked that a turn does not let go on
+abbrev pub extent_of : Turn → Extent
+extent_of (turn.Ended end) = extent.Whole
+extent_of turn.AsksMetric = extent.AsksMetric
+extent_of _ = extent.AsksBits
+
+-- what a configuration shows is marked: its place, and its condition, which has the other truth where one is not marked
 pub record IsMarked (program : CodeView) (marks : List Mark) (c : Config) : Type 0 where
   pub mark : Mark
   pub there : slice_get marks c.pc ≡ Some mark
   pub reached : mark.is_reached ≡ true
-  pub condition : IsCondition program c.pc → (truth : Bool) × IsOnTop truth c × (has_truth truth mark ≡ true)
+  pub condition : IsCondition program c.pc → (truth : Bool) → has_truth truth mark ≡ false → IsOnTop (not truth) c
 
 -- so is all that the run on a route comes to
 abbrev pub AreAllMarked : CodeView → List Mark → RouteView → Type 0
 AreAllMarked program marks route = (steps : ℕ) (c : Config) → after program route steps ≡ Going c → IsMarked program marks c
 
--- and all that the runs on the routes of a class come to, if they end
-abbrev pub AreMarked : CodeView → Class → List Mark → Turn → Type 0
-AreMarked program class marks (turn.Ended end) = Always class (λ route. AreAllMarked program marks route)
+-- and all that the runs on the routes of a class come to
+abbrev pub AreMarked : CodeView → Class → List Mark → Extent → Type 0
+AreMarked program class marks extent.Whole = Always class (λ route. AreAllMarked program marks route)
 AreMarked program class marks _ = Unit {0}
 
 -- all that is marked is so on some route

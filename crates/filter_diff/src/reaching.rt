@@ -3,15 +3,18 @@ ghost use Rattle.std.specs.Prelude.{◌≡◌, ◌+◌, ◌<◌, ◌≤◌, ◌�
 ghost use Rattle.filter_code.specs.Limits.{largest_size};
 ghost use Rattle.filter_code.specs.RouteView.{RouteView};
 ghost use Rattle.filter_diff.specs.Classes.{IsOf, IsOfSize};
-ghost use Rattle.filter_diff.specs.Marking.{AreAllMarked, AreFull, AreMarked, AreSound, Extend, IsAdded, IsNoted};
+ghost use Rattle.filter_diff.specs.Marking.{AreAllMarked, AreMarked, AreSound, Extend, IsAdded, IsNoted};
 ghost use Rattle.filter_diff.specs.Parts.{IsIn};
 ghost use Rattle.filter_diff.specs.Reaching.{IsReach};
 ghost use Rattle.filter_diff.specs.Searches.{IsLeft};
+ghost use Rattle.filter_diff.specs.Settling.{AreSettled};
 
 use crate::checking::{split, split_by_metric};
 use crate::class::Class;
 use crate::comparison::all_classes;
+use crate::extent::{Extent, extent_of};
 use crate::mark::{Mark, Reach, mark_of};
+use crate::settling::{is_settled, settle};
 use crate::slots::Slots;
 use crate::symbol::Symbol;
 use crate::trials::carry_out;
@@ -41,10 +44,11 @@ fn note(instr: &Instr, place: usize, stack: &mut Stack<Symbol>, marks: &mut [Mar
     }
 }
 
-/// Runs a code on all routes of a class, as `trial` does, and marks what the runs come to.
-fn mark_run(code: &Code, class: &Class, marks: &mut [Mark]) -> Turn
+/// Marks what the runs on all routes of a class come to, up to a place from which on all is marked already.
+fn mark_run(code: &Code, class: &Class, settled: &[bool], marks: &mut [Mark]) -> Extent
     requires real { IsOfSize class.now.size class.now }
     requires long { length marks.old ≡ length code.now.instrs }
+    requires settled { AreSettled code.now marks.old settled.now }
     ensures marked { AreMarked code.now class.now marks.new result }
     ensures more { Extend marks.old marks.new }
     ensures sound { AreSound code.now class.now.size marks.old → AreSound code.now class.now.size marks.new }
@@ -55,8 +59,11 @@ fn mark_run(code: &Code, class: &Class, marks: &mut [Mark]) -> Turn
     let mut metric = class.metric;
     let mut pc = 0;
     while let Some(instr) = instrs.get(pc) {
+        if is_settled(settled, pc) {
+            return Extent::Whole;
+        }
         if !note(instr, pc, &mut stack, marks) {
-            return Turn::AsksBits;
+            return Extent::AsksBits;
         }
         match carry_out(
             instr,
@@ -68,10 +75,10 @@ fn mark_run(code: &Code, class: &Class, marks: &mut [Mark]) -> Turn
             &mut pc,
         ) {
             Turn::On => pc += 1,
-            turn => return turn,
+            turn => return extent_of(turn),
         }
     }
-    Turn::AsksBits
+    Extent::AsksBits
 }
 
 /// Deals with a class: what the runs on its routes come to is marked, or they are in classes that are appended. Whether it could be
@@ -79,12 +86,14 @@ fn mark_run(code: &Code, class: &Class, marks: &mut [Mark]) -> Turn
 fn visit(
     code: &Code,
     class: &Class,
+    settled: &[bool],
     marks: &mut [Mark],
     todo: &mut Vec<Class>,
 ) -> Result<bool, AllocError>
     requires small { class.now.size ≤ 250 }
     requires real { IsOfSize class.now.size class.now }
     requires long { length marks.old ≡ length code.now.instrs }
+    requires settled { AreSettled code.now marks.old settled.now }
     ensures covered { IfOk result (λ done. IsTrue done → (route : RouteView) → IsIn class.now.size route → IsOf class.now route
         → AreAllMarked code.now marks.new route ⊎ IsLeft route todo.new.items) }
     ensures kept { OnOk result ((route : RouteView) → IsLeft route todo.old.items → IsLeft route todo.new.items) }
@@ -93,41 +102,57 @@ fn visit(
     ensures sound { AreSound code.now class.now.size marks.old → AreSound code.now class.now.size marks.new }
     ensures few { OnOk result (vec_len todo.new ≤ vec_len todo.old + 253) }
 {
-    match mark_run(code, class, marks) {
-        Turn::Ended(_) => Ok(true),
-        Turn::AsksMetric => {
-            let is_split = split_by_metric(class, todo)?;
+    match mark_run(code, class, settled, marks) {
+        Extent::Whole => Ok(true),
+        Extent::AsksBits => {
+            let is_split = split(class, todo)?;
             Ok(is_split)
         }
-        _ => {
-            let is_split = split(class, todo)?;
+        Extent::AsksMetric => {
+            let is_split = split_by_metric(class, todo)?;
             Ok(is_split)
         }
     }
 }
 
-/// Whether there is no more to find of a code.
-fn are_full(code: &Code, marks: &[Mark]) -> bool
-    requires { length marks.now ≡ length code.now.instrs }
-    ensures { IsTrue result → AreFull code.now marks.now }
+/// Deals with a class, and finds from which places on all is marked then.
+fn deal(
+    code: &Code,
+    class: &Class,
+    marks: &mut [Mark],
+    settled: &mut [bool],
+    todo: &mut Vec<Class>,
+) -> Result<bool, AllocError>
+    requires small { class.now.size ≤ 250 }
+    requires real { IsOfSize class.now.size class.now }
+    requires long { length marks.old ≡ length code.now.instrs }
+    requires places { length settled.old ≡ length code.now.instrs }
+    requires settled { AreSettled code.now marks.old settled.old }
+    ensures covered { IfOk result (λ done. IsTrue done → (route : RouteView) → IsIn class.now.size route → IsOf class.now route
+        → AreAllMarked code.now marks.new route ⊎ IsLeft route todo.new.items) }
+    ensures kept { OnOk result ((route : RouteView) → IsLeft route todo.old.items → IsLeft route todo.new.items) }
+    ensures real { OnOk result (All (IsOfSize class.now.size) todo.old.items → All (IsOfSize class.now.size) todo.new.items) }
+    ensures more { Extend marks.old marks.new }
+    ensures sound { AreSound code.now class.now.size marks.old → AreSound code.now class.now.size marks.new }
+    ensures settled { OnOk result (AreSettled code.now marks.new settled.new) }
+    ensures few { OnOk result (vec_len todo.new ≤ vec_len todo.old + 253) }
 {
-    for (place, instr) in code.instrs().iter().enumerate() {
-        if !marks[place].is_full(instr) {
-            return false;
-        }
-    }
-    true
+    let is_dealt = visit(code, class, settled, marks, todo)?;
+    settle(code, marks, settled);
+    Ok(is_dealt)
 }
 
 /// Which instructions of a code are reached on routes of the domains of a size, and with which conditions. It tries at most as many
 /// classes of routes as the limit says, each by one run.
 ///
-/// It is not complete where the limit ends the search, or where the run on some route ends with a fault.
+/// It is not complete where the limit ends the search, and it may not be where the run on some route ends with a fault.
 pub fn reach(alloc: Global, code: &Code, size: u32, limit: u64) -> Result<Reach, AllocError>
     requires { size ≤ largest_size }
     ensures { IfOk result (IsReach code.now size) }
 {
-    let mut marks = vec![in alloc; Mark::nothing(); code.instrs().len()]?;
+    let count = code.instrs().len();
+    let mut marks = vec![in alloc; Mark::nothing(); count]?;
+    let mut settled = vec![in alloc; false; count]?;
     let mut todo = all_classes(alloc, size)?;
     let mut left = limit;
     while let Some(next) = todo.pop() {
@@ -144,17 +169,11 @@ pub fn reach(alloc: Global, code: &Code, size: u32, limit: u64) -> Result<Reach,
             });
         }
         left -= 1;
-        let is_dealt = visit(code, &class, &mut marks, &mut todo)?;
+        let is_dealt = deal(code, &class, &mut marks, &mut settled, &mut todo)?;
         if !is_dealt {
             return Ok(Reach {
                 marks,
                 is_complete: false,
-            });
-        }
-        if are_full(code, &marks) {
-            return Ok(Reach {
-                marks,
-                is_complete: true,
             });
         }
     }

@@ -1,10 +1,11 @@
-use Rattle.std.proofs.Common.{◌≡◌, ℕ, None, Some, replicate, ◌∙◌, ap, arith}
+use Rattle.std.proofs.Common.{◌≡◌, ℕ, None, Some, replicate, ◌∙◌, ap, arith, rules, subst, sym}
 use Rattle.std.specs.Prelude.{slice_get}
 use Rattle.std.proofs.lemmas.Grind.{common_steps}
 use Rattle.std.proofs.lemmas.Option.{gets}
+use Rattle.filter_diff.specs.Marking.{AreMarked}
 use Rattle.filter_diff.specs.Turns.{Parts}
-use Rattle.filter_diff.proofs.Marking.{extend_further, extend_self}
-use Rattle.filter_diff.proofs.Reached.{begin_marked, end_noted, go_on_noted, more_noted, sound_noted}
+use Rattle.filter_diff.proofs.Marking.{extend_self}
+use Rattle.filter_diff.proofs.Reached.{begin_marked, come_settled, end_noted, go_on_noted, more_noted, sound_noted}
 use Rattle.filter_diff.proofs.reaching.mark_run.Goals as goal
 
 pub loop-instr-init : goal.loop-instr-init
@@ -22,16 +23,14 @@ loop-instr-preserved c =
     record { pc = c.loop-instr.pc; stack = c.note.new.stack; locals = c.loop-instr.locals; metric = c.loop-instr.metric } in
     let to : Parts =
     record { pc = c.carry_out.new.pc; stack = c.carry_out.new.stack; locals = c.carry_out.new.locals; metric = c.carry_out.new.metric } in
-    let noted = c.if-not-note.ensures in
-    let come = c.loop-instr.invariant.come in
     record {
-      come = go_on_noted c.args.code.now c.args.class.now c.in-Some.instr.now c.loop-instr.stack from to c.loop-instr.marks c.note.new.marks
-          here noted come c.in-On.ensures.step;
-      more = extend_further c.args.marks.now c.loop-instr.marks c.note.new.marks c.loop-instr.invariant.more
-          (more_noted c.args.code.now c.args.class.now c.in-Some.instr.now c.loop-instr.stack from to c.loop-instr.marks c.note.new.marks
-          here noted come);
-      sound = λ sound. sound_noted c.args.code.now c.args.class.now c.in-Some.instr.now c.loop-instr.stack from to c.loop-instr.marks
-          c.note.new.marks here noted come c.requires.real (c.loop-instr.invariant.sound sound);
+      come = go_on_noted c.args.code.now c.args.class.now c.in-Some.instr.now c.loop-instr.stack from to c.args.marks.now c.loop-instr.marks
+          c.note.new.marks here c.if-not-note.ensures c.loop-instr.invariant.come c.in-On.ensures.step;
+      more = more_noted c.args.code.now c.args.class.now c.in-Some.instr.now c.loop-instr.stack from to c.args.marks.now c.loop-instr.marks
+          c.note.new.marks here c.if-not-note.ensures c.loop-instr.invariant.come c.loop-instr.invariant.more;
+      sound = sound_noted c.args.code.now c.args.class.now c.in-Some.instr.now c.loop-instr.stack from to c.args.marks.now
+          c.loop-instr.marks c.note.new.marks here c.if-not-note.ensures c.loop-instr.invariant.come c.requires.real
+          c.loop-instr.invariant.sound;
     }
 
 pub returns-in_default-carry_out : goal.returns-in_default-carry_out
@@ -41,14 +40,19 @@ returns-in_default-carry_out c =
     record { pc = c.loop-instr.pc; stack = c.note.new.stack; locals = c.loop-instr.locals; metric = c.loop-instr.metric } in
     let to : Parts =
     record { pc = c.carry_out.new.pc; stack = c.carry_out.new.stack; locals = c.carry_out.new.locals; metric = c.carry_out.new.metric } in
-    let noted = c.if-not-note.ensures in
-    let come = c.loop-instr.invariant.come in
     record {
-      marked = end_noted c.args.code.now c.args.class.now c.in-Some.instr.now c.loop-instr.stack from to c.loop-instr.marks c.note.new.marks
-          here noted come c.carry_out.result c.carry_out.ensures.step;
-      more = extend_further c.args.marks.now c.loop-instr.marks c.note.new.marks c.loop-instr.invariant.more
-          (more_noted c.args.code.now c.args.class.now c.in-Some.instr.now c.loop-instr.stack from to c.loop-instr.marks c.note.new.marks
-          here noted come);
-      sound = λ sound. sound_noted c.args.code.now c.args.class.now c.in-Some.instr.now c.loop-instr.stack from to c.loop-instr.marks
-          c.note.new.marks here noted come c.requires.real (c.loop-instr.invariant.sound sound);
+      marked = subst (AreMarked c.args.code.now c.args.class.now c.note.new.marks) (sym c.extent_of.ensures)
+          (end_noted c.args.code.now c.args.class.now c.in-Some.instr.now c.loop-instr.stack from to c.args.marks.now c.loop-instr.marks
+          c.note.new.marks here c.if-not-note.ensures c.loop-instr.invariant.come c.carry_out.result c.carry_out.ensures.step);
+      more = more_noted c.args.code.now c.args.class.now c.in-Some.instr.now c.loop-instr.stack from to c.args.marks.now c.loop-instr.marks
+          c.note.new.marks here c.if-not-note.ensures c.loop-instr.invariant.come c.loop-instr.invariant.more;
+      sound = sound_noted c.args.code.now c.args.class.now c.in-Some.instr.now c.loop-instr.stack from to c.args.marks.now
+          c.loop-instr.marks c.note.new.marks here c.if-not-note.ensures c.loop-instr.invariant.come c.requires.real
+          c.loop-instr.invariant.sound;
     }
+
+pub returns-then-is_settled-clause-marked : goal.returns-then-is_settled-clause-marked
+returns-then-is_settled-clause-marked c =
+    come_settled c.args.code.now c.args.class.now c.args.marks.now c.loop-instr.marks c.args.settled.now c.loop-instr.pc
+    c.loop-instr.stack c.loop-instr.locals c.loop-instr.metric
+    c.loop-instr.invariant.more c.requires.settled c.loop-instr.invariant.come (c.if-is_settled.ensures (search rules))

@@ -4,6 +4,7 @@ use Rattle.filter_diff.specs.Classes.{IsOfSize}
 use Rattle.filter_diff.specs.Marking.{AreAllMarked, AreSound}
 use Rattle.filter_diff.specs.Parts.{IsIn}
 use Rattle.filter_diff.specs.Searches.{IsLeft}
+use Rattle.filter_diff.specs.Settling.{AreSettled}
 use Rattle.filter_diff.proofs.reaching.reach.Given as goal
 
 -- what the run on each route comes to is marked, or the route is left
@@ -13,6 +14,8 @@ invariant-loop-next l = record {
   real : All (IsOfSize l.size) l.todo.items;
   long : length l.marks.items ≡ length l.code.instrs;
   sound : AreSound l.code l.size l.marks.items;
+  places : length l.settled.items ≡ length l.code.instrs;
+  settled : AreSettled l.code l.marks.items l.settled.items;
 }
 
 -- each class that is tried takes one off what is left of the limit, and leaves no more than so many others
