@@ -1,10 +1,10 @@
 -- Warnings that are found at one instruction after another.
-use Rattle.std.proofs.Common.{◌≡◌, ℕ, zero, suc, ◌+◌, List, [], ◌++◌, Option, Some, None, IfSome, refl, sym, ap, subst, ◌∙◌, add-one}
+use Rattle.std.proofs.Common.{◌≡◌, ℕ, zero, suc, ◌+◌, List, [], ◌++◌, Option, Some, None, IfSome, refl, sym, ap, ◌∙◌, add-one}
 use Rattle.std.specs.Prelude.{All, Bool, option_to_list, true}
 use Rattle.std.proofs.lemmas.List.Elements.{All-append, All-cons, All-nil}
 use Rattle.filter_diff.specs.declared.mark.Mark.{Mark}
 use Rattle.filter_lint.specs.Commands.{reached_up_to, was_reached}
-use Rattle.filter_lint.specs.Finding.{below}
+use Rattle.filter_lint.specs.Finding.{all_of, below}
 use Rattle.filter_lint.specs.Sources.{SourceView}
 use Rattle.filter_lint.specs.declared.warning.Warning.{Warning}
 
@@ -47,3 +47,22 @@ pub all_below : (P : Warning → Type 0) (said : ℕ → Option Warning) → ((k
 unfolding below
 all_below P said each zero = All-nil P
 all_below P said each (suc n) = All-append P (below said n) (option_to_list (said n)) (all_below P said each n) (each_as_list P (said n) (each n))
+
+-- the same where more than one may be said of each
+of_suc : (said : ℕ → List Warning) (n : ℕ) → all_of said (suc n) ≡ all_of said n ++ said n
+unfolding all_of
+of_suc said n = refl
+
+pub none_of : (said : ℕ → List Warning) → all_of said 0 ≡ []
+unfolding all_of
+none_of said = refl
+
+pub more_of : (said : ℕ → List Warning) (n : ℕ) (before after : List Warning) → before ≡ all_of said n → after ≡ before ++ said n
+    → after ≡ all_of said (n + 1)
+more_of said n before after so_far grown =
+    grown ∙ (ap (λ (all : List Warning). all ++ said n) so_far ∙ (sym (of_suc said n) ∙ ap (all_of said) (sym (add-one n))))
+
+pub each_of : (P : Warning → Type 0) (said : ℕ → List Warning) → ((k : ℕ) → All P (said k)) → (n : ℕ) → All P (all_of said n)
+unfolding all_of
+each_of P said each zero = All-nil P
+each_of P said each (suc n) = All-append P (all_of said n) (said n) (each_of P said each n) (each n)

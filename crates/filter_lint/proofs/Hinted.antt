@@ -1,18 +1,20 @@
 -- What is said of an instruction as it stands is so.
-use Rattle.std.proofs.Common.{◌≡◌, ◌≢◌, ℕ, ◌+◌, ◌*◌, ◌==◌, ◌≤◌, Bool, true, false, ◌&&◌, nat_le, if◌then◌else◌, List, ◌∷◌, length, Option, Some, None, IfSome, refl, sym, subst, ◌∙◌, ap, arith}
+use Rattle.std.proofs.Common.{◌≡◌, ◌≢◌, ℕ, ◌+◌, ◌*◌, ◌==◌, Bool, true, false, ◌&&◌, nat_le, if◌then◌else◌, List, length, Option, Some, None, IfSome, refl, arith}
 use Rattle.std.specs.Prelude.{All, option_and_then, slice_get}
 use Rattle.std.specs.List.{list_any}
 use Rattle.std.proofs.lemmas.Bool.Decides.{nat_tests}
-use Rattle.std.proofs.lemmas.List.Elements.{All-append}
+use Rattle.std.proofs.lemmas.List.Elements.{All-append, All-nil}
 use Rattle.std.proofs.lemmas.Map.Keys.{any_passes_from_place}
 use Rattle.filter_code.specs.CodeView.{CodeView}
 use Rattle.filter_code.specs.declared.instruction.Instr.{Instr}
 use Rattle.filter_code.specs.declared.instruction.Instr.TheVariants as instr
+use Rattle.prefix_patterns.specs.Matching.{PrefixPattern}
 use Rattle.filter_verifier.specs.InStates.{in_state}
 use Rattle.filter_lint.specs.Arithmetic.{may_wrap, operation_of, wraps, wraps_at}
 use Rattle.filter_lint.specs.Hints.{hints, known_of}
 use Rattle.filter_lint.specs.Known.{top_one, top_two}
 use Rattle.filter_lint.specs.Metrics.{sets_metric, unreachable_at}
+use Rattle.filter_lint.specs.Sets.{asked_by, covered_at, covered_by, covered_of, covered_where, covering}
 use Rattle.filter_lint.specs.Sources.{SourceView, is_first}
 use Rattle.filter_lint.specs.Truths.{IsTrueOf}
 use Rattle.filter_lint.specs.Variables.{declared_by, is_load_of, unread_at}
@@ -20,7 +22,8 @@ use Rattle.filter_lint.specs.declared.warning.Bounds.{Bounds}
 use Rattle.filter_lint.specs.declared.warning.Cause.TheVariants as cause
 use Rattle.filter_lint.specs.declared.warning.Operation.{Operation}
 use Rattle.filter_lint.specs.declared.warning.Warning.{Warning}
-use Rattle.filter_lint.proofs.Found.{all_below}
+use Rattle.filter_lint.proofs.Covered.{covered, covers_all}
+use Rattle.filter_lint.proofs.Found.{all_below, each_of}
 
 module _ (program : CodeView) (size : ℕ) (text places : List ℕ) where
   -- an operation
@@ -144,6 +147,63 @@ module _ (program : CodeView) (size : ℕ) (text places : List ℕ) where
   metric_is_so k (Some i) is None there = tt
   metric_is_so k (Some i) is (Some byte) there = of_bounds k byte i is there (top_one (in_state program size k)) refl
 
+  -- a pattern
+  if_covered : (k byte number : ℕ) (patterns : List PrefixPattern) (j : ℕ) (inner : PrefixPattern) → slice_get program.instrs k ≡ Some (instr.Member number)
+      → slice_get places k ≡ Some byte → slice_get program.sets number ≡ Some patterns → slice_get patterns j ≡ Some inner
+      → (outer : Option ℕ) → covering patterns j inner ≡ outer
+      → IfSome (option_and_then (λ outer. Some (record { instruction = k; byte = byte; cause = cause.Covered number j outer })) outer)
+      (IsTrueOf program size places)
+  if_covered k byte number patterns j inner is there set inner_is None e = tt
+  if_covered k byte number patterns j inner is there set inner_is (Some outer) e =
+      let found = covered patterns j inner inner_is outer e in
+      record {
+        place = there;
+        is_so = record {
+          asks = is;
+          patterns = patterns;
+          set = set;
+          inner = inner;
+          outer = found.outer;
+          inner_is = inner_is;
+          outer_is = found.there;
+          apart = found.apart;
+          covers = covers_all inner found.outer found.all;
+        };
+      }
+
+  of_pattern : (k byte number : ℕ) (patterns : List PrefixPattern) (j : ℕ) → slice_get program.instrs k ≡ Some (instr.Member number)
+      → slice_get places k ≡ Some byte → slice_get program.sets number ≡ Some patterns
+      → (inner : Option PrefixPattern) → slice_get patterns j ≡ inner
+      → IfSome (option_and_then
+      (λ inner. option_and_then (λ outer. Some (record { instruction = k; byte = byte; cause = cause.Covered number j outer })) (covering patterns j inner))
+      inner) (IsTrueOf program size places)
+  of_pattern k byte number patterns j is there set None inner_is = tt
+  of_pattern k byte number patterns j is there set (Some inner) inner_is =
+      if_covered k byte number patterns j inner is there set inner_is (covering patterns j inner) refl
+
+  of_set : (k byte number : ℕ) → slice_get program.instrs k ≡ Some (instr.Member number) → slice_get places k ≡ Some byte
+      → (patterns : Option (List PrefixPattern)) → slice_get program.sets number ≡ patterns
+      → All (IsTrueOf program size places) (covered_of patterns (record { instruction = k; byte = byte; set = number }))
+  of_set k byte number is there None set = All-nil (IsTrueOf program size places)
+  of_set k byte number is there (Some patterns) set =
+      all_below (IsTrueOf program size places) (covered_at patterns (record { instruction = k; byte = byte; set = number }))
+      (λ j. of_pattern k byte number patterns j is there set (slice_get patterns j) refl) (length patterns)
+
+  of_question : (k byte : ℕ) (i : Instr) → slice_get program.instrs k ≡ Some i → slice_get places k ≡ Some byte
+      → All (IsTrueOf program size places)
+      (covered_where program.sets (option_and_then (λ set. Some (record { instruction = k; byte = byte; set = set })) (asked_by i)))
+  of_question k byte (instr.Member number) is there = of_set k byte number is there (slice_get program.sets number) refl
+  of_question k byte _ is there = All-nil (IsTrueOf program size places)
+
+  sets_are_so : (k : ℕ) (i : Option Instr) → slice_get program.instrs k ≡ i → (byte : Option ℕ) → slice_get places k ≡ byte
+      → All (IsTrueOf program size places)
+      (covered_where program.sets (option_and_then
+      (λ i. option_and_then (λ byte. option_and_then (λ set. Some (record { instruction = k; byte = byte; set = set })) (asked_by i)) byte)
+      i))
+  sets_are_so k None is byte there = All-nil (IsTrueOf program size places)
+  sets_are_so k (Some i) is None there = All-nil (IsTrueOf program size places)
+  sets_are_so k (Some i) is (Some byte) there = of_question k byte i is there
+
   -- all of them
   pub hints_are_so : All (IsTrueOf program size places) (hints (record { text = text; instrs = program.instrs; places = places }) program size)
   hints_are_so =
@@ -153,6 +213,9 @@ module _ (program : CodeView) (size : ℕ) (text places : List ℕ) where
       (all_below P (λ (at : ℕ). wraps_at here at (in_state program size at))
       (λ k. operation_is_so k (slice_get program.instrs k) refl (slice_get places k) refl) (known_of program size))
       (All-append P _ _
+      (each_of P (covered_by here program.sets)
+      (λ k. sets_are_so k (slice_get program.instrs k) refl (slice_get places k) refl) (length program.instrs))
+      (All-append P _ _
       (all_below P (unread_at here) (λ k. variable_is_so k (slice_get program.instrs k) refl (slice_get places k) refl) (length program.instrs))
       (all_below P (λ (at : ℕ). unreachable_at here size at (in_state program size at))
-      (λ k. metric_is_so k (slice_get program.instrs k) refl (slice_get places k) refl) (known_of program size)))
+      (λ k. metric_is_so k (slice_get program.instrs k) refl (slice_get places k) refl) (known_of program size))))

@@ -1,4 +1,5 @@
+pub mod Covered
 pub mod Found
 pub mod Hinted
-pub mod Tried
 pub mod True
+pub mod Tried

@@ -1,5 +1,5 @@
 -- What is said of an instruction follows from its mark, where all routes were tried.
-use Rattle.std.proofs.Common.{◌≡◌, ℕ, ◌-◌, Bool, true, false, not, ◌&&◌, ◌||◌, nat_le, if◌then◌else◌, List, length, Option, Some, None, IfSome, refl, sym, subst, ◌∙◌, ap}
+use Rattle.std.proofs.Common.{◌≡◌, ℕ, ◌-◌, Bool, true, false, not, ◌&&◌, ◌||◌, nat_le, if◌then◌else◌, List, length, Option, Some, None, IfSome, refl}
 use Rattle.std.specs.Prelude.{All, option_and_then, slice_get}
 use Rattle.std.proofs.lemmas.List.Elements.{All-append}
 use Rattle.filter_code.specs.CodeView.{CodeView}
@@ -8,15 +8,14 @@ use Rattle.filter_code.specs.declared.instruction.Instr.TheVariants as instr
 use Rattle.filter_diff.specs.Reaching.{IsComplete, IsCondition, IsReach, IsSound, has_truth}
 use Rattle.filter_diff.specs.declared.mark.Mark.{Mark}
 use Rattle.filter_diff.specs.declared.mark.Reach.{Reach}
-use Rattle.filter_lint.specs.Commands.{command_at, is_of_command, is_reached, mark_reached, unreached_at, unreached_commands, unreached_in, was_reached}
-use Rattle.filter_lint.specs.Conditions.{constant, constant_at, constant_by, constant_conditions, constant_of, is_asked}
+use Rattle.filter_lint.specs.Commands.{is_of_command, is_reached, mark_reached, unreached_commands, unreached_in, was_reached}
+use Rattle.filter_lint.specs.Conditions.{constant_at, constant_by, constant_conditions, constant_of, is_asked}
 use Rattle.filter_lint.specs.Rules.{on_routes}
 use Rattle.filter_lint.specs.Sites.{site_at}
 use Rattle.filter_lint.specs.Sources.{SourceView}
 use Rattle.filter_lint.specs.Truths.{IsConstant, IsTrueOf}
 use Rattle.filter_lint.specs.declared.site.Site.{Site}
 use Rattle.filter_lint.specs.declared.warning.Cause.TheVariants as cause
-use Rattle.filter_lint.specs.declared.warning.Warning.{Warning}
 use Rattle.filter_lint.proofs.Found.{all_below}
 
 -- a condition that comes out one way was seen to come out so, and not the other way

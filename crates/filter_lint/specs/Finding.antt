@@ -6,3 +6,8 @@ use Rattle.filter_lint.specs.declared.warning.Warning.{Warning}
 unfoldable pub below : (ℕ → Option Warning) → ℕ → List Warning
 below said zero = []
 below said (suc n) = below said n ++ option_to_list (said n)
+
+-- the same where more than one may be said of each
+unfoldable pub all_of : (ℕ → List Warning) → ℕ → List Warning
+all_of said zero = []
+all_of said (suc n) = all_of said n ++ said n

@@ -6,6 +6,7 @@ use Rattle.filter_verifier.specs.InStates.{in_state}
 use Rattle.filter_verifier.specs.Surveys.{surveyed}
 use Rattle.filter_lint.specs.Arithmetic.{wrapping_operations}
 use Rattle.filter_lint.specs.Metrics.{unreachable_metrics}
+use Rattle.filter_lint.specs.Sets.{covered_patterns}
 use Rattle.filter_lint.specs.Sources.{SourceView}
 use Rattle.filter_lint.specs.Variables.{unread_variables}
 use Rattle.filter_lint.specs.declared.warning.Warning.{Warning}
@@ -16,4 +17,5 @@ known_of program size = surveyed program size (the_fault program size)
 
 abbrev pub hints : SourceView → CodeView → ℕ → List Warning
 hints source program size = wrapping_operations source (in_state program size) (known_of program size)
-    ++ (unread_variables source ++ unreachable_metrics source size (in_state program size) (known_of program size))
+    ++ (covered_patterns source program.sets
+    ++ (unread_variables source ++ unreachable_metrics source size (in_state program size) (known_of program size)))

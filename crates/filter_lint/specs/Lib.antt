@@ -5,6 +5,7 @@ pub mod Known
 pub mod Conditions
 pub mod Commands
 pub mod Arithmetic
+pub mod Sets
 pub mod Variables
 pub mod Metrics
 pub mod Hints

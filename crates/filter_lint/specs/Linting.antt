@@ -30,7 +30,7 @@ pub record IsReport (program : CodeView) (size : ℕ) (places : List ℕ) (sourc
   pub all : Warnings
   pub are_found : AreFound program source.text places size all
   pub are_true : All (IsTrueOf program size places) all.found.items
-  pub lines_are : lines ≡ warnings_text source.name source.text all.found.items all.is_complete
+  pub lines_are : lines ≡ warnings_text source.name source.text program.sets all.found.items all.is_complete
   pub counted : count ≡ length all.found.items
 
 -- They were written. `held` and `holds` are what the writer held before and holds now.

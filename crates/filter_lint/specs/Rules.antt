@@ -1,5 +1,5 @@
 -- All rules, one after another. (This project's own choice.)
-use Rattle.std.specs.Prelude.{◌≡◌, ℕ, Bool, if◌then◌else◌, List, [], ◌++◌}
+use Rattle.std.specs.Prelude.{◌≡◌, ℕ, if◌then◌else◌, List, [], ◌++◌}
 use Rattle.filter_code.specs.CodeView.{CodeView}
 use Rattle.filter_diff.specs.Reaching.{IsReach}
 use Rattle.filter_diff.specs.declared.mark.Mark.{Mark}

@@ -1,5 +1,5 @@
 -- What stands in a text where a condition is asked. (This project's own choice.)
-use Rattle.std.specs.Prelude.{ℕ, ◌==◌, Bool, true, false, if◌then◌else◌, List, Option, Some, None, slice_get}
+use Rattle.std.specs.Prelude.{ℕ, ◌==◌, Bool, true, false, if◌then◌else◌, List, Option, Some, slice_get}
 use Rattle.std.specs.Option.{option_map}
 use Rattle.filter_lint.specs.declared.site.Site.{Site}
 use Rattle.filter_lint.specs.declared.site.Site.TheVariants as site

@@ -5,6 +5,7 @@ use Rattle.filter_code.specs.Machine.{Config}
 use Rattle.filter_code.specs.declared.instruction.Instr.{Instr}
 use Rattle.filter_code.specs.declared.instruction.Instr.TheVariants as instr
 use Rattle.filter_diff.specs.Reaching.{Comes, IsAlways, IsCondition, IsNeverReached}
+use Rattle.prefix_patterns.specs.Matching.{Matches, PrefixPattern}
 use Rattle.filter_verifier.specs.InStates.{in_state}
 use Rattle.filter_lint.specs.Arithmetic.{may_wrap, operation_of}
 use Rattle.filter_lint.specs.Known.{top_one, top_two}
@@ -42,11 +43,25 @@ pub record IsUnreachable (program : CodeView) (size at : ℕ) (bounds : Bounds) 
   pub known : top_one (in_state program size at) ≡ Some bounds
   pub large : size ≤ bounds.low
 
+-- an instruction that asks for the set of this number, of which two patterns have these indices: each prefix that matches the first one
+-- matches the second one
+pub record IsCovered (program : CodeView) (at number first second : ℕ) : Type 0 where
+  pub asks : slice_get program.instrs at ≡ Some (instr.Member number)
+  pub patterns : List PrefixPattern
+  pub set : slice_get program.sets number ≡ Some patterns
+  pub inner : PrefixPattern
+  pub outer : PrefixPattern
+  pub inner_is : slice_get patterns first ≡ Some inner
+  pub outer_is : slice_get patterns second ≡ Some outer
+  pub apart : second ≢ first
+  pub covers : (prefix : List Bool) → Matches prefix inner → Matches prefix outer
+
 -- why a warning is said is so
 abbrev pub IsSo : CodeView → ℕ → ℕ → Cause → Type 0
 IsSo program size at (cause.Constant place truth) = IsConstant program size at truth
 IsSo program size at cause.Unreached = IsNeverReached program size at
 IsSo program size at (cause.Wraps what left right) = MayWrap program size at what left right
+IsSo program size at (cause.Covered number first second) = IsCovered program at number first second
 IsSo program size at cause.Unread = IsUnread program at
 IsSo program size at (cause.Unreachable bounds) = IsUnreachable program size at bounds
 

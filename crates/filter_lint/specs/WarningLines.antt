@@ -1,5 +1,8 @@
 -- The lines of warnings. (This project's own choice.)
-use Rattle.std.specs.Prelude.{ℕ, ◌==◌, Bool, true, false, if◌then◌else◌, List, [], ◌++◌, ◌∷◌, codes, decimal, flat_map}
+use Rattle.std.specs.Prelude.{ℕ, ◌==◌, Bool, true, false, ◌&&◌, if◌then◌else◌, List, [], ◌++◌, ◌∷◌, codes, decimal, flat_map, length, slice_get, unwrap_or, Option, Some, None}
+use Rattle.prefix_patterns.specs.Bits.{address_length}
+use Rattle.prefix_patterns.specs.Matching.{PrefixPattern}
+use Rattle.prefix_patterns.specs.Spelling.{prefix_text}
 use Rattle.filter_tools.specs.Explanations.{message, position}
 use Rattle.filter_tools.specs.Places.{column_at, line_at}
 use Rattle.filter_tools.specs.Shown.{shown}
@@ -17,6 +20,7 @@ abbrev pub code_of : Cause → List ℕ
 code_of (cause.Constant place value) = codes "W1"
 code_of cause.Unreached = codes "W2"
 code_of (cause.Wraps what left right) = codes "W3"
+code_of (cause.Covered number inner outer) = codes "W4"
 code_of cause.Unread = codes "W6"
 code_of (cause.Unreachable bounds) = codes "W7"
 
@@ -56,22 +60,49 @@ wrap_words operation.Product = codes " may wrap above 4294967295"
 abbrev pub wraps_words : Operation → Bounds → Bounds → List ℕ
 wraps_words what left right = bounds_text left ++ sign_of what ++ bounds_text right ++ wrap_words what
 
+-- a pattern, as it is written in a set
+abbrev pub lengths_text : ℕ → ℕ → ℕ → List ℕ
+lengths_text len low high =
+    if low == len && high == len then [] else if low == len && high == address_length then codes "+"
+    else 123 ∷ [] ++ decimal low ++ 44 ∷ [] ++ decimal high ++ 125 ∷ []
+
+abbrev pub pattern_text : PrefixPattern → List ℕ
+pattern_text pattern = prefix_text pattern.bits ++ lengths_text (length pattern.bits) pattern.low pattern.high
+
+-- the pattern of an index
+abbrev pub pattern_found : Option PrefixPattern → List ℕ
+pattern_found None = []
+pattern_found (Some pattern) = pattern_text pattern
+
+abbrev pub pattern_of : List PrefixPattern → ℕ → List ℕ
+pattern_of patterns at = pattern_found (slice_get patterns at)
+
+-- the patterns of the set of a number
+abbrev pub patterns_of : List (List PrefixPattern) → ℕ → List PrefixPattern
+patterns_of sets number = unwrap_or (slice_get sets number) []
+
+-- what is said of a pattern that another one of its set covers
+abbrev pub covered_words : List (List PrefixPattern) → ℕ → ℕ → ℕ → List ℕ
+covered_words sets number inner outer = pattern_of (patterns_of sets number) inner ++ codes " is covered by "
+    ++ pattern_of (patterns_of sets number) outer ++ codes " of the same set"
+
 -- what is said of a metric that means unreachable
 abbrev pub unreachable_words : Bounds → List ℕ
 unreachable_words bounds = codes "the metric is set to " ++ bounds_text bounds ++ codes ", which means unreachable"
 
--- what is said of a cause
-abbrev pub words : Cause → List ℕ
-words (cause.Constant place value) = constant_words place value
-words cause.Unreached = codes "no route reaches this command"
-words (cause.Wraps what left right) = wraps_words what left right
-words cause.Unread = codes "this variable is never read"
-words (cause.Unreachable bounds) = unreachable_words bounds
+-- what is said of a cause, in code with these sets
+abbrev pub words : List (List PrefixPattern) → Cause → List ℕ
+words sets (cause.Constant place value) = constant_words place value
+words sets cause.Unreached = codes "no route reaches this command"
+words sets (cause.Wraps what left right) = wraps_words what left right
+words sets (cause.Covered number inner outer) = covered_words sets number inner outer
+words sets cause.Unread = codes "this variable is never read"
+words sets (cause.Unreachable bounds) = unreachable_words bounds
 
 -- the line of a warning: the name of the source as it is shown, the line and the column, what is said, and the code of the rule
-abbrev pub warning_line : List ℕ → List ℕ → Warning → List ℕ
-warning_line name text warning =
-    shown name ++ position (line_at text warning.byte) (column_at text warning.byte) ++ message (words warning.cause) (code_of warning.cause)
+abbrev pub warning_line : List ℕ → List ℕ → List (List PrefixPattern) → Warning → List ℕ
+warning_line name text sets warning = shown name ++ position (line_at text warning.byte) (column_at text warning.byte)
+    ++ message (words sets warning.cause) (code_of warning.cause)
 
 -- the line that says that not all routes were tried
 unfoldable pub undecided_words : List ℕ
@@ -81,6 +112,6 @@ abbrev pub undecided_line : List ℕ → List ℕ
 undecided_line name = shown name ++ undecided_words
 
 -- the lines of the warnings of a text, and a last one where not all routes were tried
-abbrev pub warnings_text : List ℕ → List ℕ → List Warning → Bool → List ℕ
-warnings_text name text warnings is_complete =
-    flat_map (warning_line name text) warnings ++ (if is_complete then [] else undecided_line name)
+abbrev pub warnings_text : List ℕ → List ℕ → List (List PrefixPattern) → List Warning → Bool → List ℕ
+warnings_text name text sets warnings is_complete =
+    flat_map (warning_line name text sets) warnings ++ (if is_complete then [] else undecided_line name)

@@ -5,6 +5,7 @@ ghost use Rattle.filter_lint.specs.Sources.{source_view};
 
 use crate::arithmetic::wrapping_operations;
 use crate::metrics::unreachable_metrics;
+use crate::sets::covered_patterns;
 use crate::source::Source;
 use crate::variables::unread_variables;
 use crate::warning::Warning;
@@ -25,9 +26,11 @@ pub(crate) fn push_hints(
     let survey = survey_code(alloc, code, size)?;
     let states = survey.in_states.as_slice();
     let wrapping = wrapping_operations(alloc, source, code, size, states)?;
+    let covered = covered_patterns(alloc, source, code.sets())?;
     let unread = unread_variables(alloc, source)?;
     let unreachable = unreachable_metrics(alloc, source, code, size, states)?;
     out.extend_from_slice(wrapping.as_slice())?;
+    out.extend_from_slice(covered.as_slice())?;
     out.extend_from_slice(unread.as_slice())?;
     out.extend_from_slice(unreachable.as_slice())
 }

@@ -10,6 +10,7 @@ mod known;
 mod linting;
 mod metrics;
 mod rules;
+mod sets;
 mod site;
 mod source;
 mod variables;

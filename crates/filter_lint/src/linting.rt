@@ -73,7 +73,14 @@ fn report_of(
     )?;
     let warnings = all.found.as_slice();
     Ok(Report {
-        lines: warnings_text(alloc, source.name, source.text, warnings, all.is_complete)?,
+        lines: warnings_text(
+            alloc,
+            source.name,
+            source.text,
+            verified.code().sets(),
+            warnings,
+            all.is_complete,
+        )?,
         count: warnings.len(),
     })
 }

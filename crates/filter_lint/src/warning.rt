@@ -31,6 +31,8 @@ pub enum Cause {
     Unreached,
     /// The operation may wrap, by what is known of its two operands.
     Wraps(Operation, Bounds, Bounds),
+    /// In the set of this number the pattern of the first index is covered by that of the second.
+    Covered(u8, usize, usize),
     /// The variable that is declared there is never read.
     Unread,
     /// The metric that is set there is unreachable, by what is known of it.

@@ -7,7 +7,9 @@ ghost use Rattle.filter_lint.specs.WarningLines as spec;
 use crate::site::Site;
 use crate::warning::{Bounds, Cause, Operation, Warning};
 use filter_tools::{place_in, push_shown};
+use filter_workbench::push_prefix;
 use line_protocol::push_decimal;
+use prefix_patterns::{ADDRESS_LENGTH, Pattern, PatternSet};
 use std::alloc::{AllocError, Global};
 
 impl Cause {
@@ -19,6 +21,7 @@ impl Cause {
             Cause::Constant(_, _) => b"W1",
             Cause::Unreached => b"W2",
             Cause::Wraps(_, _, _) => b"W3",
+            Cause::Covered(_, _, _) => b"W4",
             Cause::Unread => b"W6",
             Cause::Unreachable(_) => b"W7",
         }
@@ -107,6 +110,76 @@ fn push_wraps(
     out.extend_from_slice(wrap_words(operation))
 }
 
+/// Puts the lengths of a pattern at the end of `out`, as they are written behind its prefix.
+fn push_lengths(out: &mut Vec<u8>, len: u8, low: u8, high: u8) -> Result<(), AllocError>
+    ensures { OnOk result (out.new.items ≡ out.old.items ++ spec.lengths_text len low high) }
+{
+    if low == len && high == len {
+        return Ok(());
+    }
+    if low == len && high == ADDRESS_LENGTH {
+        return out.extend_from_slice(b"+");
+    }
+    out.push(b'{')?;
+    push_decimal(out, u64::from(low))?;
+    out.push(b',')?;
+    push_decimal(out, u64::from(high))?;
+    out.push(b'}')?;
+    Ok(())
+}
+
+/// Puts a pattern at the end of `out`.
+fn push_pattern(alloc: Global, out: &mut Vec<u8>, pattern: &Pattern) -> Result<(), AllocError>
+    ensures { OnOk result (out.new.items ≡ out.old.items ++ spec.pattern_text pattern.now) }
+{
+    let prefix = pattern.prefix();
+    push_prefix(alloc, out, prefix)?;
+    push_lengths(out, prefix.len(), pattern.low(), pattern.high())
+}
+
+/// Puts the pattern of an index in a set at the end of `out`.
+fn push_pattern_of(
+    alloc: Global,
+    out: &mut Vec<u8>,
+    patterns: &[Pattern],
+    at: usize,
+) -> Result<(), AllocError>
+    ensures { OnOk result (out.new.items ≡ out.old.items ++ spec.pattern_of patterns.now at) }
+{
+    match patterns.get(at) {
+        Some(pattern) => push_pattern(alloc, out, pattern),
+        None => Ok(()),
+    }
+}
+
+/// The patterns of the set of a number.
+fn patterns_of(sets: &[PatternSet], number: u8) -> &[Pattern]
+    ensures { result.now ≡ spec.patterns_of sets.now number }
+{
+    match sets.get(usize::from(number)) {
+        Some(set) => set.patterns(),
+        None => &[],
+    }
+}
+
+/// Puts what is said of a pattern that another one of its set covers at the end of `out`.
+fn push_covered(
+    alloc: Global,
+    out: &mut Vec<u8>,
+    sets: &[PatternSet],
+    number: u8,
+    inner: usize,
+    outer: usize,
+) -> Result<(), AllocError>
+    ensures { OnOk result (out.new.items ≡ out.old.items ++ spec.covered_words sets.now number inner outer) }
+{
+    let patterns = patterns_of(sets, number);
+    push_pattern_of(alloc, out, patterns, inner)?;
+    out.extend_from_slice(b" is covered by ")?;
+    push_pattern_of(alloc, out, patterns, outer)?;
+    out.extend_from_slice(b" of the same set")
+}
+
 /// Puts what is said of a metric that means unreachable at the end of `out`.
 fn push_unreachable(out: &mut Vec<u8>, bounds: Bounds) -> Result<(), AllocError>
     ensures { OnOk result (out.new.items ≡ out.old.items ++ spec.unreachable_words bounds) }
@@ -117,13 +190,19 @@ fn push_unreachable(out: &mut Vec<u8>, bounds: Bounds) -> Result<(), AllocError>
 }
 
 /// Puts what is said of a cause at the end of `out`.
-fn push_words(out: &mut Vec<u8>, cause: Cause) -> Result<(), AllocError>
-    ensures { OnOk result (out.new.items ≡ out.old.items ++ spec.words cause) }
+fn push_words(
+    alloc: Global,
+    out: &mut Vec<u8>,
+    sets: &[PatternSet],
+    cause: Cause,
+) -> Result<(), AllocError>
+    ensures { OnOk result (out.new.items ≡ out.old.items ++ spec.words sets.now cause) }
 {
     match cause {
         Cause::Constant(site, value) => push_constant(out, site, value),
         Cause::Unreached => out.extend_from_slice(b"no route reaches this command"),
         Cause::Wraps(operation, left, right) => push_wraps(out, operation, left, right),
+        Cause::Covered(set, inner, outer) => { push_covered(alloc, out, sets, set, inner, outer) }
         Cause::Unread => out.extend_from_slice(b"this variable is never read"),
         Cause::Unreachable(bounds) => push_unreachable(out, bounds),
     }
@@ -140,11 +219,16 @@ fn push_position(out: &mut Vec<u8>, line: usize, column: usize) -> Result<(), Al
 }
 
 /// Puts what is said of a cause and its code at the end of `out`, to the end of the line.
-fn push_message(out: &mut Vec<u8>, cause: Cause) -> Result<(), AllocError>
-    ensures { OnOk result (out.new.items ≡ out.old.items ++ message (spec.words cause) (spec.code_of cause)) }
+fn push_message(
+    alloc: Global,
+    out: &mut Vec<u8>,
+    sets: &[PatternSet],
+    cause: Cause,
+) -> Result<(), AllocError>
+    ensures { OnOk result (out.new.items ≡ out.old.items ++ message (spec.words sets.now cause) (spec.code_of cause)) }
 {
     out.extend_from_slice(b": ")?;
-    push_words(out, cause)?;
+    push_words(alloc, out, sets, cause)?;
     out.extend_from_slice(b" (")?;
     out.extend_from_slice(cause.code())?;
     out.extend_from_slice(b")\n")
@@ -156,14 +240,15 @@ fn push_warning(
     out: &mut Vec<u8>,
     name: &[u8],
     text: &[u8],
+    sets: &[PatternSet],
     warning: &Warning,
 ) -> Result<(), AllocError>
-    ensures { OnOk result (out.new.items ≡ out.old.items ++ spec.warning_line name.now text.now warning.now) }
+    ensures { OnOk result (out.new.items ≡ out.old.items ++ spec.warning_line name.now text.now sets.now warning.now) }
 {
     let place = place_in(text, warning.byte);
     push_shown(alloc, out, name)?;
     push_position(out, place.line, place.column)?;
-    push_message(out, warning.cause)
+    push_message(alloc, out, sets, warning.cause)
 }
 
 /// Puts the line that says that not all routes were tried at the end of `out`.
@@ -187,14 +272,15 @@ pub(crate) fn warnings_text(
     alloc: Global,
     name: &[u8],
     text: &[u8],
+    sets: &[PatternSet],
     warnings: &[Warning],
     is_complete: bool,
 ) -> Result<Vec<u8>, AllocError>
-    ensures { IfOk result (λ out. out.items ≡ spec.warnings_text name.now text.now warnings.now is_complete) }
+    ensures { IfOk result (λ out. out.items ≡ spec.warnings_text name.now text.now sets.now warnings.now is_complete) }
 {
     let mut out = Vec::new(alloc);
     for warning in warnings {
-        push_warning(alloc, &mut out, name, text, warning)?;
+        push_warning(alloc, &mut out, name, text, sets, warning)?;
     }
     if !is_complete {
         push_undecided(alloc, &mut out, name)?;

@@ -1,4 +1,4 @@
-use Rattle.std.proofs.Common.{◌++◌, ◌∙◌, Bool, Option, ap, sym}
+use Rattle.std.proofs.Common.{◌++◌, ◌∙◌, Option, ap, sym}
 use Rattle.std.specs.Prelude.{option_to_list}
 use Rattle.filter_lint.proofs.Found.{next_reached, none_before, none_below, one_more}
 use Rattle.filter_lint.specs.Commands.{unreached_at, unreached_in}

@@ -1,0 +1,15 @@
+use Rattle.std.proofs.Common.{◌++◌, ◌∙◌, Option, ap, sym}
+use Rattle.std.specs.Prelude.{option_to_list}
+use Rattle.filter_lint.proofs.Found.{none_below, one_more}
+use Rattle.filter_lint.specs.Sets.{covered_at}
+use Rattle.filter_lint.specs.declared.warning.Warning.{Warning}
+use Rattle.filter_lint.proofs.sets.covered_in.Goals as goal
+
+pub loop-at-init : goal.loop-at-init
+loop-at-init c = c.new-found.ensures.items ∙ sym (none_below (covered_at c.args.patterns.now c.args.asked.now))
+
+pub loop-at-preserved : goal.loop-at-preserved
+loop-at-preserved c =
+    one_more (covered_at c.args.patterns.now c.args.asked.now) c.loop-at.at c.loop-at.found.items c.push_found.new.out.items
+    c.loop-at.invariant
+    (c.in_ok-push_found.ensures ∙ ap (λ (o : Option Warning). c.loop-at.found.items ++ option_to_list o) c.covered_at.ensures)

@@ -1,0 +1,155 @@
+//! W4: patterns of a set that another pattern of the set covers.
+ghost use Rattle.std.specs.Prelude.{◌≡◌, IfOk, IsTrue, List, Bool, position};
+ghost use Rattle.prefix_patterns.specs.Matching.{Matches};
+ghost use Rattle.filter_lint.specs.Sets as spec;
+ghost use Rattle.filter_lint.specs.Sources.{source_view};
+
+use crate::finding::push_found;
+use crate::source::Source;
+use crate::warning::{Cause, Warning};
+use filter_code::Instr;
+use prefix_patterns::{Pattern, PatternSet};
+use std::alloc::{AllocError, Global};
+
+/// An instruction that asks for a set of patterns.
+#[derive(Clone, Copy)]
+pub(crate) struct Asked {
+    /// Its index.
+    pub(crate) instruction: usize,
+    /// The byte of the text that it comes from.
+    pub(crate) byte: usize,
+    /// The number of the set.
+    pub(crate) set: u8,
+}
+
+/// Whether a pattern covers another: it allows all of its lengths, and its prefix has no other bits.
+fn covers(outer: &Pattern, inner: &Pattern) -> bool
+    ensures exact { result ≡ spec.covers outer.now inner.now }
+    ensures law { IsTrue result → (prefix : List Bool) → Matches prefix inner.now → Matches prefix outer.now }
+{
+    outer.low() <= inner.low()
+        && inner.high() <= outer.high()
+        && inner.prefix().within(&outer.prefix())
+}
+
+/// The index of the first of some patterns that covers another.
+fn first_covering(patterns: &[Pattern], inner: &Pattern) -> Option<usize>
+    ensures { result ≡ position (λ outer. spec.covers outer inner.now) patterns.now }
+{
+    patterns.iter().position(|outer| covers(outer, inner))
+}
+
+/// Whether a pattern covers another that does not cover it.
+fn is_wider(outer: &Pattern, inner: &Pattern) -> bool
+    ensures { result ≡ spec.is_wider outer.now inner.now }
+{
+    covers(outer, inner) && !covers(inner, outer)
+}
+
+/// The index of the first of some patterns that covers another which does not cover it.
+fn first_wider(patterns: &[Pattern], inner: &Pattern) -> Option<usize>
+    ensures { result ≡ position (λ outer. spec.is_wider outer inner.now) patterns.now }
+{
+    patterns.iter().position(|outer| is_wider(outer, inner))
+}
+
+/// The index of a pattern of the set that covers the one of an index: of one before it, or of one that it does not cover.
+fn covering(patterns: &[Pattern], at: usize, inner: &Pattern) -> Option<usize>
+    ensures { result ≡ spec.covering patterns.now at inner.now }
+{
+    let (before, _) = patterns.split_at(at.min(patterns.len()));
+    match first_covering(before, inner) {
+        Some(outer) => Some(outer),
+        None => first_wider(patterns, inner),
+    }
+}
+
+/// What is said of the pattern of an index, in the set that an instruction asks for.
+fn covered_at(patterns: &[Pattern], asked: &Asked, at: usize) -> Option<Warning>
+    ensures { result ≡ spec.covered_at patterns.now asked.now at }
+{
+    match patterns.get(at) {
+        Some(inner) => {
+            let outer = covering(patterns, at, inner)?;
+            Some(Warning {
+                instruction: asked.instruction,
+                byte: asked.byte,
+                cause: Cause::Covered(asked.set, at, outer),
+            })
+        }
+        None => None,
+    }
+}
+
+/// What is said of all patterns of a set.
+fn covered_in(
+    alloc: Global,
+    patterns: &[Pattern],
+    asked: &Asked,
+) -> Result<Vec<Warning>, AllocError>
+    ensures { IfOk result (λ found. found.items ≡ spec.covered_in patterns.now asked.now) }
+{
+    let mut found = Vec::new(alloc);
+    for at in 0..patterns.len() {
+        push_found(&mut found, covered_at(patterns, asked, at))?;
+    }
+    Ok(found)
+}
+
+/// The number of the set that an instruction asks for, if it is one of patterns.
+fn asked_by(instr: Instr) -> Option<u8>
+    ensures { result ≡ spec.asked_by instr }
+{
+    match instr {
+        Instr::Member(number) => Some(number),
+        _ => None,
+    }
+}
+
+/// What the instruction of an index asks.
+fn asked_at(source: &Source, at: usize) -> Option<Asked>
+    ensures { result ≡ spec.asked_at (source_view source.now) at }
+{
+    let instr = source.instr(at)?;
+    let byte = source.place(at)?;
+    let set = asked_by(instr)?;
+    Some(Asked {
+        instruction: at,
+        byte,
+        set,
+    })
+}
+
+/// What is said of the set that the instruction of an index asks for.
+fn covered_by(
+    alloc: Global,
+    source: &Source,
+    sets: &[PatternSet],
+    at: usize,
+) -> Result<Vec<Warning>, AllocError>
+    ensures { IfOk result (λ found. found.items ≡ spec.covered_by (source_view source.now) sets.now at) }
+{
+    match asked_at(source, at) {
+        Some(asked) => match sets.get(usize::from(asked.set)) {
+            Some(set) => covered_in(alloc, set.patterns(), &asked),
+            None => Ok(Vec::new(alloc)),
+        },
+        None => Ok(Vec::new(alloc)),
+    }
+}
+
+/// What is said of all sets, in the order of the code.
+pub(crate) fn covered_patterns(
+    alloc: Global,
+    source: &Source,
+    sets: &[PatternSet],
+) -> Result<Vec<Warning>, AllocError>
+    ensures { IfOk result (λ found. found.items ≡ spec.covered_patterns (source_view source.now) sets.now) }
+{
+    let mut found = Vec::new(alloc);
+    for at in 0..source.instrs.len() {
+        let more = covered_by(alloc, source, sets, at)?;
+        found.extend_from_slice(more.as_slice())?;
+    }
+    Ok(found)
+}
