@@ -24,7 +24,7 @@ import terminals  # noqa: E402
 
 # The document whose table has the codes of a letter, and the column of their meaning.
 TABLES = {"P": ("LANGUAGE", 1), "Y": ("KINDS", 1), "V": ("VERIFIER", 1), "C": ("CODE_FILE", 1), "K": ("MACHINE", 1), "E": ("EVAL", 1), "O": ("SCRIPT", 1),
-          "N": ("ROUTER", 1), "D": ("DOMAIN", 1), "J": ("ROUTER", 1), "H": ("HISTORY", 1), "L": ("LOCK", 2), "X": ("SESSIONS", 1)}
+          "N": ("ROUTER", 1), "D": ("DOMAIN", 1), "J": ("ROUTER", 1), "H": ("HISTORY", 1), "L": ("LOCK", 2), "X": ("SESSIONS", 1), "W": ("LINT", 1)}
 OTHER_CODES = ["G1", "G2", "G3"]
 # A filter that is refused.
 MISTAKE = "filter mistake { acept; }"
@@ -103,7 +103,7 @@ def listed(text):
 
 def needs_program(command):
     """`rt try --cases` tells no standard error, and runs in a folder without the files of the repository."""
-    return "2>&1" in command or "ncroute filter" in command or "ncroute router" in command or ".history" in command or ".filter" in re.sub(r"< *[\w/.]+", "", command)
+    return "2>&1" in command or "ncroute filter" in command or "ncroute lint" in command or "ncroute router" in command or ".history" in command or ".filter" in re.sub(r"< *[\w/.]+", "", command)
 
 
 def explained(ncroute, tell):

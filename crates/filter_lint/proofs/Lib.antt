@@ -1,4 +1,5 @@
 pub mod Covered
+pub mod Endings
 pub mod Found
 pub mod Hinted
 pub mod True

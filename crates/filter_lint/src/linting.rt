@@ -1,22 +1,25 @@
 //! `ncroute lint`: what is plainly wrong with a filter that is verified.
-ghost use Rattle.std.specs.Prelude.{◌≡◌, ◌≤◌, false, IfErr, IfOk, MatchResult, OnOk, length};
-ghost use Rattle.filter_code.specs.Limits.{largest_size};
+ghost use Rattle.std.specs.Prelude.{◌≡◌, ◌≤◌, false, All, IfErr, IfOk, OnOk, length};
+ghost use Rattle.std.specs.Io.KnownBytes.{Appends};
 ghost use Rattle.filter_commands.specs.Checking.{IsDiagnosis};
 ghost use Rattle.filter_commands.specs.Faults.{stream_fault};
 ghost use Rattle.filter_source.specs.Failures.{OnDiagnosis};
 ghost use Rattle.filter_workbench.specs.Comparing.{named};
+ghost use Rattle.line_protocol.specs.Runs.{AppendsFront};
 ghost use Rattle.filter_lint.specs.Linting as spec;
-ghost use Rattle.filter_lint.specs.declared.linting.Linted.TheVariants as linted;
+ghost use Rattle.filter_lint.specs.Rules.{AreFound};
+ghost use Rattle.filter_lint.specs.Truths.{IsTrueOf};
+ghost use Rattle.filter_lint.specs.WarningLines.{warnings_text as warnings_text_of};
 
-use crate::rules::find_warnings;
+use crate::rules::{Warnings, find_warnings};
 use crate::warning_lines::warnings_text;
 use filter_commands::{ProgramFault, code_of};
 use filter_compiler::MappedCode;
-use filter_source::{Diagnosis, Failure, verify_mapped};
+use filter_source::{Failure, verify_mapped};
 use filter_tools::tell_refusal;
 use filter_verifier::Verified;
 use filter_workbench::NamedText;
-use line_protocol::write_text;
+use line_protocol::{StreamFault, write_text};
 use std::alloc::{AllocError, Global};
 use std::io::Write;
 
@@ -42,8 +45,10 @@ fn judge(alloc: Global, text: &[u8], size: u32) -> Result<Judged, Failure>
     ensures refused { IfErr result (OnDiagnosis (IsDiagnosis size false text.now)) }
 {
     let MappedCode { code, places } = code_of(alloc, text, false)?;
-    let verified = verify_mapped(alloc, code, places.as_slice(), size)?;
-    Ok(Judged { verified, places })
+    match verify_mapped(alloc, code, places.as_slice(), size) {
+        Ok(verified) => Ok(Judged { verified, places }),
+        Err(failure) => Err(failure),
+    }
 }
 
 /// The lines of the warnings of a filter, and how many there are.
@@ -53,6 +58,46 @@ struct Report {
     count: usize,
 }
 
+/// The warnings of verified code, for domains of the size that it was verified for.
+fn warnings_of(
+    alloc: Global,
+    verified: &Verified,
+    text: &[u8],
+    places: &[usize],
+    limit: u64,
+) -> Result<Warnings, AllocError>
+    ensures found { IfOk result (AreFound verified.now.program text.now places.now verified.now.size) }
+    ensures sound { IfOk result (λ all. All (IsTrueOf verified.now.program verified.now.size places.now) all.found.items) }
+{
+    find_warnings(alloc, verified.code(), text, places, verified.size(), limit)
+}
+
+/// The lines of warnings of a code, and how many there are.
+fn report_on(
+    alloc: Global,
+    verified: &Verified,
+    source: &NamedText<'_>,
+    all: &Warnings,
+) -> Result<Report, AllocError>
+    ensures lines { IfOk result (λ report. report.lines.items
+        ≡ warnings_text_of source.now.name.now source.now.text.now verified.now.program.sets all.now.found.items all.now.is_complete) }
+    ensures counted { IfOk result (λ report. report.count ≡ length all.now.found.items) }
+{
+    let warnings = all.found.as_slice();
+    let lines = warnings_text(
+        alloc,
+        source.name,
+        source.text,
+        verified.code().sets(),
+        warnings,
+        all.is_complete,
+    )?;
+    Ok(Report {
+        lines,
+        count: warnings.len(),
+    })
+}
+
 /// The warnings of a filter's verified code, in lines.
 fn report_of(
     alloc: Global,
@@ -60,29 +105,27 @@ fn report_of(
     source: &NamedText<'_>,
     limit: u64,
 ) -> Result<Report, AllocError>
-    ensures { IfOk result (λ report. spec.IsReport judged.now.verified.program judged.now.verified.size judged.now.places.items (named source.now) report.lines.items report.count) }
+    ensures { IfOk result (λ report. spec.IsReport judged.now.verified.program judged.now.verified.size judged.now.places.items
+        (named source.now) report.lines.items report.count) }
 {
-    let verified = &judged.verified;
-    let all = find_warnings(
+    let all = warnings_of(
         alloc,
-        verified.code(),
+        &judged.verified,
         source.text,
         judged.places.as_slice(),
-        verified.size(),
         limit,
     )?;
-    let warnings = all.found.as_slice();
-    Ok(Report {
-        lines: warnings_text(
-            alloc,
-            source.name,
-            source.text,
-            verified.code().sets(),
-            warnings,
-            all.is_complete,
-        )?,
-        count: warnings.len(),
-    })
+    report_on(alloc, &judged.verified, source, &all)
+}
+
+/// Writes the lines of a report.
+fn write_report<W: Write>(report: &Report, writer: &mut W) -> Result<(), ProgramFault>
+    ensures written { OnOk result (Appends (W.contents writer.old) (W.contents writer.new) report.now.lines.items) }
+    ensures cut { IfErr result (λ fault. (stream_fault fault ≡ StreamFault.Write)
+        × AppendsFront (W.contents writer.old) (W.contents writer.new) report.now.lines.items) }
+{
+    write_text(writer, report.lines.as_slice())?;
+    Ok(())
 }
 
 /// Writes the warnings of a filter's verified code.
@@ -93,13 +136,13 @@ fn write_warnings<W: Write>(
     limit: u64,
     writer: &mut W,
 ) -> Result<usize, ProgramFault>
-    ensures finished { IfOk result (spec.WritesWarnings judged.now.verified.program judged.now.verified.size judged.now.places.items (named source.now)
-        (W.contents writer.old) (W.contents writer.new)) }
-    ensures broken_off { IfErr result (λ fault. spec.CutsWarnings (stream_fault fault) judged.now.verified.program judged.now.verified.size judged.now.places.items
+    ensures finished { IfOk result (spec.WritesWarnings judged.now.verified.program judged.now.verified.size judged.now.places.items
         (named source.now) (W.contents writer.old) (W.contents writer.new)) }
+    ensures broken_off { IfErr result (λ fault. spec.CutsWarnings (stream_fault fault) judged.now.verified.program judged.now.verified.size
+        judged.now.places.items (named source.now) (W.contents writer.old) (W.contents writer.new)) }
 {
     let report = report_of(alloc, judged, source, limit)?;
-    write_text(writer, report.lines.as_slice())?;
+    write_report(&report, writer)?;
     Ok(report.count)
 }
 
