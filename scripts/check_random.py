@@ -9,12 +9,14 @@ usage: NCROUTE=PATH scripts/check_random.py [SEED]     (PATH: the program as it 
 - Code that the verifier takes answers each route, at no smaller distance and within the size; and it answers the same where the stack has room for
   no more than the verifier says.
 - A filter has the same code however its tokens are laid out.
+- What `filter --why` and `filter --coverage` say of routes is what `filter` does with them, and fits what `lint` says of all routes.
 - A script is answered alike in whatever pieces it is read, with a line for each line that is not skipped.
 - A history that was saved replays, and takes as many entries as its limit.
 - Sets of patterns match as a scan of them does, small ones and large ones.
 
 The filters that are damaged are those of `tests/rows/worked.rows`.
 """
+import collections
 import concurrent.futures
 import os
 import random
@@ -27,7 +29,7 @@ sys.dont_write_bytecode = True
 import program  # noqa: E402
 
 FILES, TEXTS, SCRIPTS, HISTORIES, SETS = 3000, 1500, 300, 300, 30
-ROUTES = 6
+ROUTES, TOLD_ROUTES = 6, 60
 
 # Opcodes without an operand. METRIC stands there more than once.
 OPCODES = bytes.fromhex("121314152021222430313233404150131314127071")
@@ -253,8 +255,9 @@ class Laws:
         again = dict(zip(parsed, self.check(f"--size {size}", spaced)))
         taken = [number for number in parsed if said[number][-1].startswith("verified ")]
         wrongs = dict(zip(taken, self.pool.map(lambda number: self.unsafe(self.numbers("routes", number), said[number], size), taken)))
+        tolds = dict(zip(taken, self.pool.map(lambda number: self.told(self.numbers("told", number), made[number], size), taken)))
         for number, (text, lines) in enumerate(zip(made, said)):
-            wrong = wrongs.get(number)
+            wrong = wrongs.get(number) or tolds.get(number)
             refused = re.fullmatch(r"refused ([PYG]\d+) (\d+)", lines[0])
             if refused and int(refused[2]) > len(text):
                 wrong = f"{text!r} is refused at {refused[2]}"
@@ -266,6 +269,30 @@ class Laws:
         # Neither all texts nor none are filters, and neither all filters nor none are safe.
         self.judge("texts", len(made), None if len(made) // 10 < len(taken) < len(parsed) - len(made) // 20 and len(parsed) < len(made) * 0.9
                    else f"{len(taken)} of {len(parsed)} of {len(made)}")
+
+    def told(self, numbers, text, size):
+        """What is wrong with what is told of a filter that is verified, and of some routes that it answers."""
+        routes = [f"{random_prefix(numbers)} {numbers.randint(0, size)}" for _ in range(TOLD_ROUTES)]
+        with tempfile.NamedTemporaryFile(suffix=".filter") as file:
+            file.write(text)
+            file.flush()
+            given = "".join(route + "\n" for route in routes).encode()
+            answers, whys, counts = (self.run(f"filter --size {size} {words} {file.name}", given)[0] for words in ("", "--why", "--coverage"))
+            warnings = self.run(f"lint --size {size} {file.name}", b"")[0]
+        heads = [line.rsplit(" ", 1) for line in whys if not line.startswith(" ")]
+        steps = [line.split() for line in whys if line.startswith(" ")]
+        if [head for head, _ in heads] != [f"{route} {answer}" for route, answer in zip(routes, answers)]:
+            return f"{text!r} on {routes}: {answers}, but why {whys}"
+        ends, passed = collections.Counter(place for _, place in heads), collections.Counter(place for place, *_ in steps)
+        covered = {place: int(count) for count, place, *_ in map(str.split, counts)}
+        if any(covered.get(place, count) != count for place, count in ends.items()):
+            return f"{text!r} on {routes}: {counts}, but why {whys}"
+        for warning in warnings:
+            place, code = re.search(r"\.filter:(\d+:\d+): .*\((W\d)\)$", warning).groups()
+            truths = {step[-1] for step in steps if step[:2] == [place, "if"]}
+            if code == "W2" and (covered.get(place) or ends[place] or passed[place]) or code == "W1" and len(truths) > 1:
+                return f"{text!r} on {routes}: {warning}, but {counts} and {whys}"
+        return None
 
     # ---- scripts and histories
 

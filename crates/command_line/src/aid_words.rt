@@ -1,10 +1,11 @@
 //! The words of what helps people: `domain`, `explain`, `filter`, `import`, `list`, `replay`, and `check` of files; and `check` and `run` with
-//! refusals in words. Those of `diff` and `test` stand apart.
+//! refusals in words. Those of `diff`, `lint` and `test` stand apart.
 ghost use Rattle.std.specs.Prelude.{◌≡◌, [], ◌∷◌, IfOk, map};
 ghost use Rattle.command_line.specs.Sources.{AreNamed, AreSources, IsNamed};
 
 use crate::diff_words::Comparing;
 use crate::filter_words::{NamedFile, WrongFilter, filters_in};
+use crate::lint_words::Linting;
 use crate::telling::{Telling, is_explained};
 use crate::terminals::Terminals;
 use crate::test_words::Testing;
@@ -52,6 +53,17 @@ pub struct Checking {
     pub has_names: bool,
     /// Of a report only the line that refuses its source is written.
     pub is_quiet: bool,
+}
+
+/// What is written of routes that are taken through a filter.
+#[derive(Clone, Copy)]
+pub enum RouteReport {
+    /// The verdict on each.
+    Verdicts,
+    /// The verdict on each, with the place that decided it and what happened on the way.
+    Reasons,
+    /// Behind all of them, how many came to each command.
+    Coverage,
 }
 
 /// How a router's script is carried out, where more is asked for than its answers.
@@ -115,6 +127,8 @@ pub enum Aid {
     Filter {
         /// The number of nodes of the domain.
         size: u32,
+        /// What is written of the routes.
+        report: RouteReport,
         /// Where its text is.
         source: Source,
         /// A refusal of the filter is told in words too.
@@ -126,6 +140,13 @@ pub enum Aid {
         how: Importing,
         /// The configuration.
         source: Source,
+    },
+    /// Warn of what is plainly wrong in filters.
+    Lint {
+        /// How they are looked through.
+        how: Linting,
+        /// The filters, in order.
+        sources: Vec<Source>,
     },
     /// Replay the history that a source is the text of.
     Replay {
@@ -230,6 +251,17 @@ pub fn checked_in(
     Ok((how, sources))
 }
 
+/// What is to be written of routes.
+fn report_in(matches: &ArgMatches<'_>) -> RouteReport {
+    if matches.get_flag("why") {
+        RouteReport::Reasons
+    } else if matches.get_flag("coverage") {
+        RouteReport::Coverage
+    } else {
+        RouteReport::Verdicts
+    }
+}
+
 /// What the words of `filter` ask for. None where they name no file.
 pub fn filter_in(
     alloc: Global,
@@ -244,6 +276,7 @@ pub fn filter_in(
     }
     Ok(Some(Aid::Filter {
         size,
+        report: report_in(matches),
         source: source_of(alloc, file)?,
         is_explained: is_explained(Telling::read(matches), terminals.errors, true),
     }))

@@ -1,4 +1,4 @@
-//! The classes of the codes by which something is refused, and the pages that `explain` shows.
+//! The classes of the codes by which something is refused or warned of, and the pages that `explain` shows.
 use refusal_texts::explanation_of;
 use std::alloc::{AllocError, Global};
 
@@ -12,7 +12,7 @@ struct Class {
 }
 
 /// All classes, in the order in which a filter, a script and a run meet them.
-static CLASSES: [Class; 14] = [
+static CLASSES: [Class; 15] = [
     Class {
         letter: "P",
         meaning: "the text is not a filter",
@@ -28,6 +28,10 @@ static CLASSES: [Class; 14] = [
     Class {
         letter: "V",
         meaning: "the code might go wrong on some route",
+    },
+    Class {
+        letter: "W",
+        meaning: "a filter is verified, and yet plainly wrong",
     },
     Class {
         letter: "C",

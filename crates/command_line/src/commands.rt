@@ -61,7 +61,7 @@ fn args_of<'a>(alloc: Global, command: &str) -> Result<Vec<Arg<'a>>, AllocError>
 }
 
 /// The commands and what each does, in the order in which the help shows them.
-static COMMANDS: [(&str, &str); 14] = [
+static COMMANDS: [(&str, &str); 15] = [
     ("check", "Compile a filter, and verify its code"),
     (
         "diff",
@@ -75,6 +75,10 @@ static COMMANDS: [(&str, &str); 14] = [
     (
         "import",
         "Take a configuration of BIRD apart, and verify each filter of it",
+    ),
+    (
+        "lint",
+        "Warn of what is plainly wrong in filters, as a command that no route reaches",
     ),
     (
         "list",
@@ -115,7 +119,7 @@ static COMMANDS: [(&str, &str); 14] = [
 ];
 
 /// The options and arguments of each command, in the order in which its help shows them.
-static PARAMETERS: [(&str, Parameter); 45] = [
+static PARAMETERS: [(&str, Parameter); 51] = [
     ("check", SIZE),
     ("check", CODE),
     ("check", NAMES),
@@ -129,11 +133,17 @@ static PARAMETERS: [(&str, Parameter); 45] = [
     ("diff", NEW_FILE),
     ("explain", EXPLAINED),
     ("filter", SIZE),
+    ("filter", WHY),
+    ("filter", COVERAGE),
     ("filter", EXPLAIN),
     ("filter", TRIED),
     ("import", OPTIONAL_SIZE),
     ("import", OUT),
     ("import", IMPORTED),
+    ("lint", OPTIONAL_SIZE),
+    ("lint", LIMIT),
+    ("lint", EXPLAIN),
+    ("lint", LINTED),
     ("list", VERIFIED_SIZE),
     ("list", CODE),
     ("list", EXPLAIN),
@@ -226,7 +236,7 @@ const OPTIONAL_SIZE: Parameter = Parameter {
     is_required: false,
 };
 
-/// The number of classes of routes after which a comparison or a test ends.
+/// The number of classes of routes after which a comparison, a test or a search for warnings ends.
 const LIMIT: Parameter = Parameter {
     name: "limit",
     value: "CLASSES",
@@ -269,6 +279,33 @@ const TRIED: Parameter = Parameter {
     help: "The file of the filter's text",
     kind: Kind::Argument,
     is_required: true,
+};
+
+/// The verdict on a route is explained.
+const WHY: Parameter = Parameter {
+    name: "why",
+    value: "",
+    help: "Say of each route which place decided, and what happened on the way",
+    kind: Kind::Flag,
+    is_required: false,
+};
+
+/// Routes are counted where they come by.
+const COVERAGE: Parameter = Parameter {
+    name: "coverage",
+    value: "",
+    help: "Say behind all routes how many of them came to each command",
+    kind: Kind::Flag,
+    is_required: false,
+};
+
+/// The filters that are looked through.
+const LINTED: Parameter = Parameter {
+    name: "file",
+    value: "FILE",
+    help: "The file of a filter in place of standard input; - is standard input",
+    kind: Kind::Arguments,
+    is_required: false,
 };
 
 /// The folder of imported filters.

@@ -9,6 +9,7 @@ pub fn help_of(command: &str) -> Option<&'static str> {
         "eval" => Some(EVAL_HELP),
         "filter" => Some(FILTER_HELP),
         "import" => Some(IMPORT_HELP),
+        "lint" => Some(LINT_HELP),
         "list" => Some(LIST_HELP),
         "net" => Some(NET_HELP),
         "replay" => Some(REPLAY_HELP),
@@ -85,6 +86,14 @@ output by what the filter means for it:
   reject           the filter rejects it
   refused O AT     line AT is not a route (O1 words, O2 numbers, O7 length, O8 prefix)
 
+With --why a route is answered by `PREFIX METRIC VERDICT LINE:COL`, with the place that decided,
+and below it, behind two blanks, by what happened on the way:
+  5:3 worse = 13          an assignment
+  6:12 13 < 6 is false    a comparison
+  6:3 if false            a condition
+With --coverage refused lines alone are answered. Behind all routes, a line for each command,
+`COUNT LINE:COL WORD`, says how many of them came to it; those that none came to are last.
+
 Example:
   echo '8.8.8.0/24 9' | ncroute filter --size 16 examples/backup_link.filter
 prints `accept 12`. The exit status is 0; 1 if something was refused; 2 if the command
@@ -109,6 +118,27 @@ Example:
   ncroute import --out filters examples/customers.bird
 The exit status is 0; 1 if something was left out or a fault ended the run; 2 if the command
 line is wrong.
+";
+
+/// Of `lint`.
+const LINT_HELP: &str = "\
+Each file is a filter; without one, standard input is. Each is verified first, as by
+`ncroute check`. Of one that is refused, standard error says why. For each thing that is
+plainly wrong with another one, a line is printed:
+  FILE:LINE:COL: WORDS (W2)
+W1 and W2 hold on every route of the domain: all of them are searched, as by `ncroute diff`.
+  W1   a condition that is always true, or always false
+  W2   a command that no route reaches
+  W3   arithmetic that may wrap, by what the verifier knows of the numbers
+  W4   a pattern that another one of its set covers
+  W6   a variable that is never read
+  W7   a metric that means unreachable, whatever the route
+Where CLASSES are not enough for that, the line `FILE: undecided: ..` says so.
+
+Example:
+  echo 'filter f { if net.len > 32 then reject; accept; }' | ncroute lint
+The exit status is 0 if nothing is said of any filter; 1 if there is a warning, or a filter was
+refused or not read; 2 if the command line is wrong; 3 if a fault ended the run.
 ";
 
 /// Of `list`.

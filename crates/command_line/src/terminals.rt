@@ -26,9 +26,9 @@ fn reads_filter(filters: &[NamedFile]) -> bool {
 fn reads_input(words: &Words) -> bool {
     match words {
         Words::Asked(_) | Words::Router(_) => true,
-        Words::Aided(Aid::Check { sources, .. } | Aid::Test { sources, .. }) => {
-            has_input(sources.as_slice())
-        }
+        Words::Aided(
+            Aid::Check { sources, .. } | Aid::Lint { sources, .. } | Aid::Test { sources, .. },
+        ) => has_input(sources.as_slice()),
         Words::Aided(Aid::Diff { old, new, .. }) => { old.is_input() || new.is_input() }
         Words::Aided(Aid::Run { how, source }) => {
             source.is_input() || reads_filter(how.filters.as_slice())

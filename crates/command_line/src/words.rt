@@ -7,6 +7,7 @@ use crate::classes::page_of;
 use crate::commands::program;
 use crate::diff_words::diff_in;
 use crate::filter_words::WrongFilter;
+use crate::lint_words::lint_in;
 use crate::router_words::{RouterWords, router_in};
 use crate::terminals::Terminals;
 use crate::test_words::test_in;
@@ -105,6 +106,7 @@ fn words_in<R: Eprint>(
         "explain" => explained_in(rt, alloc, words.get_str("code").unwrap_or("")),
         "filter" => filter_words(rt, alloc, words, terminals),
         "import" => aided(import_in(alloc, words)),
+        "lint" => aided(lint_in(alloc, words, terminals)),
         "list" => aided(list_in(alloc, words, terminals)),
         "net" => Ok(Words::Network),
         "replay" => aided(replay_in(alloc, words)),
@@ -147,6 +149,10 @@ fn filter_words<R: Eprint>(
     filter: &ArgMatches<'_>,
     terminals: Terminals,
 ) -> Result<Words, AllocError> {
+    if filter.get_flag("why") && filter.get_flag("coverage") {
+        let _ = eprintln!(rt; "error: --why and --coverage cannot be given together");
+        return Ok(Words::Shown(WRONG_WORDS));
+    }
     if let Some(aid) = filter_in(alloc, filter, terminals)? {
         return Ok(Words::Aided(aid));
     }

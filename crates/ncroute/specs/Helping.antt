@@ -13,12 +13,16 @@ use Rattle.filter_tools.specs.Naming.{ChecksNamed, ChecksNamedOff, ListsNamed, L
 use Rattle.filter_tools.specs.Telling.{Explains, IsCutExplanation}
 use Rattle.filter_tools.specs.declared.filter.Filtered.{Filtered}
 use Rattle.filter_tools.specs.declared.filter.Filtered.TheVariants.{Refused, Answered}
+use Rattle.filter_traces.specs.Coverage.{Covers, CoversOff}
+use Rattle.filter_traces.specs.Whys.{Whys, WhysOff}
 use Rattle.line_protocol.specs.Runs.{AppendsFront}
 use Rattle.line_protocol.specs.declared.faults.StreamFault.{StreamFault}
 use Rattle.line_protocol.specs.Limits.{input_limit}
 use Rattle.ncroute.specs.Comparing.{ComparesSources, StopsComparing}
+use Rattle.ncroute.specs.Following.{CutsLater, DoesFirst}
 use Rattle.ncroute.specs.Guiding.{RunsGuided, StopsRun}
 use Rattle.ncroute.specs.Joining.{RunsJoined, StopsJoined}
+use Rattle.ncroute.specs.Linting.{LintsAll, StopsLinting}
 use Rattle.ncroute.specs.Marking.{ChecksLines, CutsLines}
 use Rattle.ncroute.specs.Reading.{IsRead, SkipsUnread, StopsReading, name_of}
 use Rattle.ncroute.specs.Replaying.{CutsReplay, ReplaysText, replay_limit}
@@ -30,6 +34,8 @@ use Rattle.command_line.specs.declared.aid_words.Aid.{Aid}
 use Rattle.command_line.specs.declared.aid_words.Aid.TheVariants as aid
 use Rattle.command_line.specs.declared.aid_words.Checking.{Checking}
 use Rattle.command_line.specs.declared.aid_words.Engine.{Engine}
+use Rattle.command_line.specs.declared.aid_words.RouteReport.{RouteReport}
+use Rattle.command_line.specs.declared.aid_words.RouteReport.TheVariants.{Verdicts, Reasons, Coverage}
 use Rattle.command_line.specs.declared.aid_words.Source.{Source}
 use Rattle.command_line.specs.declared.aid_words.Source.TheVariants.{Input, File}
 
@@ -69,19 +75,31 @@ abbrev pub status_of_filter : Filtered → ℕ
 status_of_filter (Refused why) = 1
 status_of_filter (Answered refused) = status_of refused
 
+-- What is asked for of routes was written, to the end of the input.
+abbrev pub Reports : RouteReport → ℕ → List ℕ → List ℕ → Option (List ℕ) → Option (List ℕ) → Option (List ℕ) → Filtered → Type 0
+Reports Verdicts size text input left held holds filtered = Filters size text input left held holds filtered
+Reports Reasons size text input left held holds filtered = Whys size text input left held holds filtered
+Reports Coverage size text input left held holds filtered = Covers size text input left held holds filtered
+
+-- A fault ended it.
+abbrev pub ReportsOff : RouteReport → StreamFault → ℕ → List ℕ → List ℕ → Option (List ℕ) → Option (List ℕ) → Option (List ℕ) → Type 0
+ReportsOff Verdicts fault size text input left held holds = FiltersOff fault size text input left held holds
+ReportsOff Reasons fault size text input left held holds = WhysOff fault size text input left held holds
+ReportsOff Coverage fault size text input left held holds = CoversOff fault size text input left held holds
+
 -- The text of a filter was read, and it was tried on the routes that the input has then.
-pub record TriesText (size : ℕ) (name : List ℕ) (is_explained : Bool) (text : List ℕ) (before after : Streams) (status : ℕ) : Type 0 where
+pub record TriesText (size : ℕ) (report : RouteReport) (name : List ℕ) (is_explained : Bool) (text : List ℕ) (before after : Streams) (status : ℕ) : Type 0 where
   pub filtered : Filtered
-  pub answered : IfSome before.reads (λ input. Filters size text input after.reads before.holds after.holds filtered)
+  pub answered : IfSome before.reads (λ input. Reports report size text input after.reads before.holds after.holds filtered)
   pub told : Explains name text (told_refusal is_explained filtered) before.tells after.tells
   pub ends : status ≡ status_of_filter filtered
 
 -- A fault ended that: the answers broke off, or the words of a refusal were cut.
-abbrev pub StopsTrying : StreamFault → ℕ → List ℕ → List ℕ → Streams → Streams → Type 0
-StopsTrying fault size name text before after =
+abbrev pub StopsTrying : StreamFault → ℕ → RouteReport → List ℕ → List ℕ → Streams → Streams → Type 0
+StopsTrying fault size report name text before after =
     ((after.tells ≡ before.tells)
-    × IfSome before.reads (λ input. FiltersOff fault size text input after.reads before.holds after.holds))
-    ⊎ ((why : Diagnosis) × IfSome before.reads (λ input. Filters size text input after.reads before.holds after.holds (Refused why))
+    × IfSome before.reads (λ input. ReportsOff report fault size text input after.reads before.holds after.holds))
+    ⊎ ((why : Diagnosis) × IfSome before.reads (λ input. Reports report size text input after.reads before.holds after.holds (Refused why))
     × IsCutExplanation fault name text why before.tells after.tells)
 
 -- The listing of a text was written, and its refusal told under a name, and the exit status says whether there is one. `held` and `holds`
@@ -100,7 +118,8 @@ fault_status (aid.Diff how old new) = 3
 fault_status (aid.Explain page) = 1
 fault_status (aid.Import how source) = 1
 fault_status (aid.List size is_code source is_explained) = 3
-fault_status (aid.Filter size source is_explained) = 3
+fault_status (aid.Filter size report source is_explained) = 3
+fault_status (aid.Lint how sources) = 3
 fault_status (aid.Replay source) = 3
 fault_status (aid.Run how source) = 1
 fault_status (aid.RunJoined how sources) = 1
@@ -116,12 +135,9 @@ module _ (opens : List ℕ → Result (Option (List ℕ)) Error → Type 0) wher
       × ChecksText how (name_of source) text before.holds after.holds before.tells after.tells is_refused)
       ⊎ (SkipsUnread opens source_limit source before after × (is_refused ≡ true))
 
-  -- The first n of some sources were checked so, in order, and it is said whether one of them is refused.
-  unfoldable pub ChecksFirst : Checking → List Source → ℕ → Streams → Streams → Bool → Type 0
-  ChecksFirst how sources zero before after refused = (after ≡ before) × (refused ≡ false)
-  ChecksFirst how sources (suc n) before after refused = (source : Source) × (mid : Streams) × (earlier : Bool) × (one : Bool)
-      × (slice_get sources n ≡ Some source) × ChecksFirst how sources n before mid earlier × ChecksOne how source mid after one
-      × (refused ≡ (earlier || one))
+  -- Each of the sources was checked, in order, and it is said whether one of them is refused.
+  abbrev pub ChecksAll : Checking → List Source → Streams → Streams → Bool → Type 0
+  ChecksAll how sources before after refused = DoesFirst (ChecksOne how) sources (length sources) before after refused
 
   -- A fault cut the check of a source: its text was not read, or the report or what is told was cut.
   abbrev pub IsCutOne : StreamFault → Checking → Source → Streams → Streams → Type 0
@@ -129,28 +145,22 @@ module _ (opens : List ℕ → Result (Option (List ℕ)) Error → Type 0) wher
       ⊎ ((text : List ℕ) × IsRead opens source_limit source text before.reads after.reads
       × CutsText fault how (name_of source) text before.holds after.holds before.tells after.tells)
 
-  -- A fault ended the checks behind the first of the sources.
-  pub record ChecksSome (fault : StreamFault) (how : Checking) (sources : List Source) (before after : Streams) : Type 0 where
-    pub n : ℕ
-    pub source : Source
-    pub is_source : slice_get sources n ≡ Some source
-    pub mid : Streams
-    pub refused : Bool
-    pub first : ChecksFirst how sources n before mid refused
-    pub cut : IsCutOne fault how source mid after
+  -- A fault ended that.
+  abbrev pub ChecksSome : StreamFault → Checking → List Source → Streams → Streams → Type 0
+  ChecksSome fault how sources before after = CutsLater (ChecksOne how) (IsCutOne fault how) sources before after
 
   -- A filter was read, which leaves this of the input, and tried on its routes; or it was not read.
-  abbrev pub TriesFilter : ℕ → Source → Bool → Streams → Streams → ℕ → Type 0
-  TriesFilter size source is_explained before after status =
+  abbrev pub TriesFilter : ℕ → RouteReport → Source → Bool → Streams → Streams → ℕ → Type 0
+  TriesFilter size report source is_explained before after status =
       ((text : List ℕ) × (left : Option (List ℕ)) × IsRead opens source_limit source text before.reads left
-      × TriesText size (name_of source) is_explained text (record before { reads = left }) after status)
+      × TriesText size report (name_of source) is_explained text (record before { reads = left }) after status)
       ⊎ (SkipsUnread opens source_limit source before after × (status ≡ 3))
 
   -- A fault ended it.
-  abbrev pub StopsFilter : StreamFault → ℕ → Source → Streams → Streams → Type 0
-  StopsFilter fault size source before after = StopsReading opens fault source_limit source before after
+  abbrev pub StopsFilter : StreamFault → ℕ → RouteReport → Source → Streams → Streams → Type 0
+  StopsFilter fault size report source before after = StopsReading opens fault source_limit source before after
       ⊎ ((text : List ℕ) × (left : Option (List ℕ)) × IsRead opens source_limit source text before.reads left
-      × StopsTrying fault size (name_of source) text (record before { reads = left }) after)
+      × StopsTrying fault size report (name_of source) text (record before { reads = left }) after)
 
   -- A source was read and listed; or it was not read.
   abbrev pub ListsSource : Option ℕ → Bool → Bool → Source → Streams → Streams → ℕ → Type 0
@@ -208,13 +218,15 @@ module _ (opens : List ℕ → Result (Option (List ℕ)) Error → Type 0) wher
     -- What people asked for was done to its end, with this exit status. Of an import nothing more is said.
     abbrev pub Helps : Aid → Streams → Streams → ℕ → Type 0
     Helps (aid.Check how sources) before after status = (refused : Bool)
-        × ChecksFirst how sources.items (length sources.items) before after refused × (status ≡ (if refused then 1 else 0))
+        × ChecksAll how sources.items before after refused × (status ≡ (if refused then 1 else 0))
     Helps (aid.Diff how old new) before after status = ComparesSources opens how old new before after status
     Helps (aid.Explain page) before after status =
         Appends before.holds after.holds (string_bytes page) × (after.reads ≡ before.reads) × (after.tells ≡ before.tells) × (status ≡ 0)
     Helps (aid.Import how source) before after status = status ≤ 1
     Helps (aid.List size is_code source is_explained) before after status = ListsSource size is_code is_explained source before after status
-    Helps (aid.Filter size source is_explained) before after status = TriesFilter size source is_explained before after status
+    Helps (aid.Filter size report source is_explained) before after status = TriesFilter size report source is_explained before after status
+    Helps (aid.Lint how sources) before after status = (found : Bool)
+        × LintsAll opens how sources.items before after found × (status ≡ (if found then 1 else 0))
     Helps (aid.Replay source) before after status = ReplaysSource source before after status
     Helps (aid.Run how source) before after status = RunsGuided creates opens how source before after status
     Helps (aid.RunJoined how sources) before after status = RunsJoined creates opens how sources.items before after status
@@ -229,7 +241,8 @@ module _ (opens : List ℕ → Result (Option (List ℕ)) Error → Type 0) wher
         IsCut fault before.holds after.holds (string_bytes page) × (after.reads ≡ before.reads) × (after.tells ≡ before.tells)
     StopsHelp fault (aid.Import how source) before after = ⊤
     StopsHelp fault (aid.List size is_code source is_explained) before after = StopsListing fault size is_code source before after
-    StopsHelp fault (aid.Filter size source is_explained) before after = StopsFilter fault size source before after
+    StopsHelp fault (aid.Filter size report source is_explained) before after = StopsFilter fault size report source before after
+    StopsHelp fault (aid.Lint how sources) before after = StopsLinting opens fault how sources.items before after
     StopsHelp fault (aid.Replay source) before after = StopsReplay fault source before after
     StopsHelp fault (aid.Run how source) before after = StopsRun creates opens fault how source before after
     StopsHelp fault (aid.RunJoined how sources) before after = StopsJoined creates opens fault how sources.items before after

@@ -1,8 +1,10 @@
 pub mod Comparing
 pub mod Filters
+pub mod Following
 pub mod Guiding
 pub mod Helping
 pub mod Joining
+pub mod Linting
 pub mod Loading
 pub mod Marking
 pub mod Networking

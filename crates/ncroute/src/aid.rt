@@ -1,5 +1,5 @@
 //! From what people ask for to an exit status.
-ghost use Rattle.std.specs.Prelude.{◌≡◌, ◌||◌, false, IfErr, IfOk, OnErr, length};
+ghost use Rattle.std.specs.Prelude.{◌≡◌, ◌||◌, false, IfErr, IfOk, IfSome, OnErr};
 ghost use Rattle.std.specs.Io.KnownBytes.{Appends};
 ghost use Rattle.filter_commands.specs.Evaluation.{IsCut};
 ghost use Rattle.filter_commands.specs.Faults.{stream_fault};
@@ -7,8 +7,8 @@ ghost use Rattle.filter_tools.specs.Naming.{ChecksNamedOff, ListsNamedOff};
 ghost use Rattle.filter_source.specs.declared.diagnosis.Diagnosis.{Diagnosis as TheDiagnosis};
 ghost use Rattle.filter_tools.specs.Telling.{Explains, IsCutExplanation};
 ghost use Rattle.filter_tools.specs.declared.filter.Filtered.TheVariants.{Refused};
-ghost use Rattle.ncroute.specs.Helping.{ChecksBy, ChecksFirst, ChecksOne, ChecksSome, ChecksText, ChecksWhole, CutsBy, CutsText, FailsToTell, Helps, IsCutOne, ListsSource, ListsText};
-ghost use Rattle.ncroute.specs.Helping.{ReplaysSource, RunsFile, RunsSource, ServesPeople, StopsFile, StopsFilter, StopsHelp, StopsListing};
+ghost use Rattle.ncroute.specs.Helping.{ChecksAll, ChecksBy, ChecksOne, ChecksSome, ChecksText, ChecksWhole, CutsBy, CutsText, FailsToTell, Helps, IsCutOne, ListsSource, ListsText};
+ghost use Rattle.ncroute.specs.Helping.{ReplaysSource, Reports, ReportsOff, RunsFile, RunsSource, ServesPeople, StopsFile, StopsFilter, StopsHelp, StopsListing};
 ghost use Rattle.ncroute.specs.Helping.{StopsReplay, StopsSource, StopsTrying, TriesFilter, TriesText, fault_status, status_of_filter, told_refusal};
 ghost use Rattle.ncroute.specs.Reading.{name_of};
 
@@ -17,15 +17,17 @@ use crate::guided::guide_source;
 use crate::importing::import_source;
 use crate::joined::guide_sources;
 use crate::lines::check_lines;
+use crate::linting::lint_sources;
 use crate::replay::{REPLAY_LIMIT, replay_text};
 use crate::script::{FAULT, carry_out, script_fault};
 use crate::serve::{FAILED, report_fault};
 use crate::testing::test_sources;
 use crate::texts::{Folder, name_of, read_source, tell_unread};
-use command_line::{Aid, Checking, Engine, Source};
+use command_line::{Aid, Checking, Engine, RouteReport, Source};
 use filter_commands::ProgramFault;
 use filter_source::{Diagnosis, SOURCE_LIMIT};
 use filter_tools::{Filtered, check_named, filter_lines, list_named, tell};
+use filter_traces::{cover_routes, explain_routes};
 use line_protocol::{INPUT_LIMIT, StreamFault, write_text};
 use std::alloc::Global;
 use std::io::{Read, Write};
@@ -132,8 +134,8 @@ fn check_one<F: Folder, R: Read, W: Write, E: Write>(
     }
 }
 
-/// Whether a source is refused, or one before it was.
-fn is_any_refused(earlier: bool, one: bool) -> bool
+/// Whether something is found of a source, or was of one before it.
+pub fn is_any(earlier: bool, one: bool) -> bool
     ensures { result ≡ (earlier || one) }
 {
     earlier || one
@@ -149,7 +151,7 @@ fn check_sources<F: Folder, R: Read, W: Write, E: Write>(
     writer: &mut W,
     errors: &mut E,
 ) -> Result<bool, ProgramFault>
-    ensures finished { IfOk result (λ refused. ChecksFirst (F.opens files.now) how sources.now (length sources.now)
+    ensures finished { IfOk result (λ refused. ChecksAll (F.opens files.now) how sources.now
         (record { reads = R.remaining reader.old; holds = W.contents writer.old; tells = E.contents errors.old })
         (record { reads = R.remaining reader.new; holds = W.contents writer.new; tells = E.contents errors.new }) refused) }
     ensures cut { IfErr result (λ fault. ChecksSome (F.opens files.now) (stream_fault fault) how sources.now
@@ -159,7 +161,7 @@ fn check_sources<F: Folder, R: Read, W: Write, E: Write>(
     let mut is_refused = false;
     for source in sources {
         let one = check_one(files, alloc, how, source, reader, writer, errors)?;
-        is_refused = is_any_refused(is_refused, one);
+        is_refused = is_any(is_refused, one);
     }
     Ok(is_refused)
 }
@@ -190,26 +192,49 @@ fn tell_filter<E: Write>(
     }
 }
 
+/// Takes routes through the filter of a text, and writes what is asked for of them.
+fn report_routes<R: Read, W: Write>(
+    alloc: Global,
+    text: &[u8],
+    size: u32,
+    report: RouteReport,
+    reader: &mut R,
+    writer: &mut W,
+) -> Result<Filtered, ProgramFault>
+    ensures finished { IfOk result (λ filtered. IfSome (R.remaining reader.old) (λ input.
+        Reports report size text.now input (R.remaining reader.new) (W.contents writer.old) (W.contents writer.new) filtered)) }
+    ensures broken_off { IfErr result (λ fault. IfSome (R.remaining reader.old) (λ input.
+        ReportsOff report (stream_fault fault) size text.now input (R.remaining reader.new)
+        (W.contents writer.old) (W.contents writer.new))) }
+{
+    match report {
+        RouteReport::Verdicts => filter_lines(alloc, text, size, reader, writer),
+        RouteReport::Reasons => explain_routes(alloc, text, size, reader, writer),
+        RouteReport::Coverage => cover_routes(alloc, text, size, reader, writer),
+    }
+}
+
 /// Takes routes through the filter of a text, and returns the exit status. A refusal of the filter is told in words where
 /// `is_explained` says so.
 fn try_text<R: Read, W: Write, E: Write>(
     alloc: Global,
     text: &[u8],
     size: u32,
+    report: RouteReport,
     name: &[u8],
     is_explained: bool,
     reader: &mut R,
     writer: &mut W,
     errors: &mut E,
 ) -> Result<u8, ProgramFault>
-    ensures finished { IfOk result (TriesText size name.now is_explained text.now
+    ensures finished { IfOk result (TriesText size report name.now is_explained text.now
         (record { reads = R.remaining reader.old; holds = W.contents writer.old; tells = E.contents errors.old })
         (record { reads = R.remaining reader.new; holds = W.contents writer.new; tells = E.contents errors.new })) }
-    ensures stopped { IfErr result (λ fault. StopsTrying (stream_fault fault) size name.now text.now
+    ensures stopped { IfErr result (λ fault. StopsTrying (stream_fault fault) size report name.now text.now
         (record { reads = R.remaining reader.old; holds = W.contents writer.old; tells = E.contents errors.old })
         (record { reads = R.remaining reader.new; holds = W.contents writer.new; tells = E.contents errors.new })) }
 {
-    match filter_lines(alloc, text, size, reader, writer) {
+    match report_routes(alloc, text, size, report, reader, writer) {
         Ok(filtered) => tell_filter(alloc, errors, name, text, is_explained, filtered),
         Err(fault) => Err(fault),
     }
@@ -260,16 +285,17 @@ fn try_filter<F: Folder, R: Read, W: Write, E: Write>(
     files: &F,
     alloc: Global,
     size: u32,
+    report: RouteReport,
     source: &Source,
     is_explained: bool,
     reader: &mut R,
     writer: &mut W,
     errors: &mut E,
 ) -> Result<u8, ProgramFault>
-    ensures finished { IfOk result (TriesFilter (F.opens files.now) size source.now is_explained
+    ensures finished { IfOk result (TriesFilter (F.opens files.now) size report source.now is_explained
         (record { reads = R.remaining reader.old; holds = W.contents writer.old; tells = E.contents errors.old })
         (record { reads = R.remaining reader.new; holds = W.contents writer.new; tells = E.contents errors.new })) }
-    ensures stopped { IfErr result (λ fault. StopsFilter (F.opens files.now) (stream_fault fault) size source.now
+    ensures stopped { IfErr result (λ fault. StopsFilter (F.opens files.now) (stream_fault fault) size report source.now
         (record { reads = R.remaining reader.old; holds = W.contents writer.old; tells = E.contents errors.old })
         (record { reads = R.remaining reader.new; holds = W.contents writer.new; tells = E.contents errors.new })) }
 {
@@ -280,6 +306,7 @@ fn try_filter<F: Folder, R: Read, W: Write, E: Write>(
                 alloc,
                 text,
                 size,
+                report,
                 name,
                 is_explained,
                 reader,
@@ -460,6 +487,11 @@ fn help<F: Folder, R: Read, W: Write, E: Write>(
             compare_sources(files, alloc, *how, old, new, reader, writer, errors)
         }
         Aid::Explain { page } => show(page.as_str(), writer),
+        Aid::Lint { how, sources } => {
+            let sources = sources.as_slice();
+            let is_said = lint_sources(files, alloc, *how, sources, reader, writer, errors)?;
+            Ok(if is_said { FAILED } else { 0 })
+        }
         Aid::List {
             size,
             is_code,
@@ -478,12 +510,14 @@ fn help<F: Folder, R: Read, W: Write, E: Write>(
         ),
         Aid::Filter {
             size,
+            report,
             source,
             is_explained,
         } => try_filter(
             files,
             alloc,
             *size,
+            *report,
             source,
             *is_explained,
             reader,
@@ -534,6 +568,7 @@ pub fn fault_status(aid: &Aid) -> u8
         | Aid::RunJoined { .. } => FAILED,
         Aid::Diff { .. }
         | Aid::Filter { .. }
+        | Aid::Lint { .. }
         | Aid::List { .. }
         | Aid::Replay { .. }
         | Aid::Test { .. } => FAULT,

@@ -10,6 +10,7 @@ mod importing;
 mod including;
 mod joined;
 mod lines;
+mod linting;
 mod loading;
 mod network;
 mod planning;

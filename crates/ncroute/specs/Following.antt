@@ -1,0 +1,23 @@
+-- How sources follow one another, of each of which something may be found. (This project's own choice.)
+use Rattle.std.specs.Prelude.{◌≡◌, ◌||◌, ℕ, zero, suc, Bool, false, List, Some, slice_get}
+use Rattle.command_line.specs.declared.aid_words.Source.{Source}
+use Rattle.ncroute.specs.Streaming.{Streams}
+
+-- `DoesOne source before after found` says what is done with one source, and whether something is found of it.
+module _ (DoesOne : Source → Streams → Streams → Bool → Type 0) where
+  -- It was done with the first n of some sources, in order, and it is said whether something was found of one of them.
+  unfoldable pub DoesFirst : List Source → ℕ → Streams → Streams → Bool → Type 0
+  DoesFirst sources zero before after found = (after ≡ before) × (found ≡ false)
+  DoesFirst sources (suc n) before after found = (source : Source) × (mid : Streams) × (earlier : Bool) × (one : Bool)
+      × (slice_get sources n ≡ Some source) × DoesFirst sources n before mid earlier × DoesOne source mid after one
+      × (found ≡ (earlier || one))
+
+  -- `CutsOne source before after` says how a fault cuts it with one source: here behind the first of the sources.
+  pub record CutsLater (CutsOne : Source → Streams → Streams → Type 0) (sources : List Source) (before after : Streams) : Type 0 where
+    pub n : ℕ
+    pub source : Source
+    pub is_source : slice_get sources n ≡ Some source
+    pub mid : Streams
+    pub found : Bool
+    pub first : DoesFirst sources n before mid found
+    pub cut : CutsOne source mid after
