@@ -12,6 +12,9 @@ sums of the replies differ, that is said and the status is 1; nothing is measure
 with all rounds and RUNS times with none, by turns. The calls a second are those of the least time with all rounds, less the
 least time with none, and in brackets those of the time that a quarter of the runs are within. The times are those of a clock,
 since a thread that waits may use no processor time: run it on a machine that has nothing else to do.
+
+The tail is a time that at most one call in a thousand is above, in microseconds: the least of RUNS runs in which the time of each
+call is taken, and in brackets what half of them are within.
 """
 import os
 import subprocess
@@ -46,6 +49,12 @@ def rates(parts, calls, rounds, path, runs):
     return {name: [calls / (within(full, part) - min(none)) / 1e6 for part in (0, 0.25)] for name, (full, none) in taken.items()}
 
 
+def tails(proved, name, callers, rounds, path, runs):
+    """The tail of the calls in microseconds, at the best and in half of the runs."""
+    times = [int(words_said([proved, f"timed_{name}{callers}", str(rounds)], path)[-1]) / 1e3 for _ in range(runs)]
+    return within(times, 0), within(times, 0.5)
+
+
 def row(proved, plain, callers, path, runs):
     """A row of the table."""
     parts = {
@@ -61,6 +70,7 @@ def row(proved, plain, callers, path, runs):
     calls_of = int(words_said(parts["plain"](1), path)[1]) - first
     rounds = (1_000_000 - first) // calls_of
     shown = [f"{best:.1f} ({quarter:.1f})" for best, quarter in rates(parts, rounds * calls_of, rounds, path, runs).values()]
+    shown += [f"{best:.1f} ({half:.1f})" for best, half in (tails(proved, part, callers, rounds, path, runs) for part in ("callers", "mutex"))]
     return " | ".join([EVENTS.get(name, name), str(callers), *shown])
 
 
@@ -68,8 +78,8 @@ def main(words):
     if len(words) < 4:
         sys.exit(__doc__)
     proved, plain = map(os.path.abspath, words[:2])
-    print("| Events | threads | passes, million calls a second | Mutex | plain |")
-    print("|---|---|---|---|---|")
+    print("| Events | threads | passes, million calls a second | Mutex | plain | passes, tail in microseconds | Mutex, tail |")
+    print("|---|---|---|---|---|---|---|")
     for path in words[3:]:
         for callers in (1, 2, 4):
             print(f"| {row(proved, plain, callers, path, int(words[2]))} |", flush=True)

@@ -6,7 +6,7 @@
 #   table prints the first table of README.md: the instructions of eval, check and run on all inputs; with ROUNDS=N their times too.
 #     A second word, eval, check or run, has it print the rows of that command alone
 #   instructions counts instructions of the machines with valgrind, in place of their time
-#   callers prints a table of calls through the lock and through a Mutex
+#   callers prints a table of calls through the lock and through a Mutex, with their tails
 #   bird compares the machine for verified code with BIRD 2.0, where that is installed
 #   save compares `ncroute run --save` with `ncroute run`
 #   lookup times the lookup of an int in sets of 3 to 1,024 ranges

@@ -5,7 +5,8 @@
 //! ROUNDS times, or `callers1`, `callers2`, `callers4`: that many threads call one router, and each enters all rounds. With
 //! `mutex1`, `mutex2`, `mutex4` they share a journal under a `Mutex` in place of that. The input is as `input` says. It prints
 //! how many events were answered, how many were refused, how often distances changed, how many messages were taken, and the
-//! sum of all distances that were told or shown.
+//! sum of all distances that were told or shown. With `timed_` before one of the last six parts it takes the time of each call
+//! too, and prints behind that a number of nanoseconds that at most one call in a thousand is above.
 #![tactic(auto)]
 
 mod input;
@@ -13,6 +14,7 @@ mod mutex;
 mod passes;
 mod router;
 mod sums;
+mod waits;
 mod work;
 
 use input::Input;
@@ -22,10 +24,12 @@ use passes::measure_passes;
 use prefix_patterns::read_number;
 use router::{measure_journal, measure_replay, measure_tables};
 use std::alloc::Global;
+use std::rt::Clock;
 use std::sync::Wait;
 use std::thread::Threads;
 use std::{env, io};
 use sums::Sums;
+use waits::Waits;
 
 /// What the words of the command line ask for: a part, the rounds, and the events of standard input.
 fn asked(rt: &HostRuntime) -> Option<(String, u32, Input)> {
@@ -48,45 +52,76 @@ fn asked(rt: &HostRuntime) -> Option<(String, u32, Input)> {
     Some((part.clone().ok()?, rounds, input))
 }
 
-/// Has the router of a part answer its events.
-fn measured<R: Threads + Wait + Sync>(
+/// A part of the name `callersN` or `mutexN`: how many callers it has, and whether they share a Mutex.
+fn callers_of(part: &str) -> Option<(u32, bool)> {
+    match part {
+        "callers1" => Some((1, false)),
+        "callers2" => Some((2, false)),
+        "callers4" => Some((4, false)),
+        "mutex1" => Some((1, true)),
+        "mutex2" => Some((2, true)),
+        "mutex4" => Some((4, true)),
+        _ => None,
+    }
+}
+
+/// Has callers enter their events.
+fn measured_callers<R: Threads + Wait + Clock + Sync>(
+    rt: &R,
+    alloc: Global,
+    part: &str,
+    rounds: u32,
+    is_timed: bool,
+    input: Input,
+) -> Option<(Sums, Waits)> {
+    let (callers, are_locking) = callers_of(part)?;
+    if are_locking {
+        measure_mutex(rt, alloc, input, callers, rounds, is_timed)
+    } else {
+        measure_passes(rt, alloc, input, callers, rounds, is_timed)
+    }
+}
+
+/// Has the router of a part answer its events: the sums, and the tail of the times that were taken.
+fn measured<R: Threads + Wait + Clock + Sync>(
     rt: &R,
     alloc: Global,
     part: &str,
     rounds: u32,
     input: Input,
-) -> Option<Sums> {
-    match part {
-        "tables" => measure_tables(alloc, &input, rounds),
-        "journal" => measure_journal(alloc, &input, rounds),
-        "replay" => measure_replay(alloc, &input, rounds),
-        "callers1" => measure_passes(rt, alloc, input, 1, rounds),
-        "callers2" => measure_passes(rt, alloc, input, 2, rounds),
-        "callers4" => measure_passes(rt, alloc, input, 4, rounds),
-        "mutex1" => measure_mutex(rt, alloc, input, 1, rounds),
-        "mutex2" => measure_mutex(rt, alloc, input, 2, rounds),
-        "mutex4" => measure_mutex(rt, alloc, input, 4, rounds),
-        _ => None,
+) -> Option<(Sums, Option<u64>)> {
+    if let Some(part) = part.strip_prefix("timed_") {
+        let (sums, waits) = measured_callers(rt, alloc, part, rounds, true, input)?;
+        return Some((sums, Some(waits.tail())));
     }
+    let sums = match part {
+        "tables" => measure_tables(alloc, &input, rounds)?,
+        "journal" => measure_journal(alloc, &input, rounds)?,
+        "replay" => measure_replay(alloc, &input, rounds)?,
+        _ => measured_callers(rt, alloc, part, rounds, false, input)?.0,
+    };
+    Some((sums, None))
 }
 
 fn main(rt: HostRuntime) -> io::Result<()> {
     let Some((part, rounds, input)) = asked(&rt) else {
         return Err(io::Error::from(io::ErrorKind::InvalidInput));
     };
-    let Some(
-        Sums {
-            events,
-            refused,
-            changed,
-            messages,
-            distances,
-        },
-    ) = measured(&rt, rt.alloc(), part.as_str(), rounds, input)
-    else {
+    let Some((sums, tail)) = measured(&rt, rt.alloc(), part.as_str(), rounds, input) else {
         return Err(io::Error::from(io::ErrorKind::InvalidInput));
     };
+    let Sums {
+        events,
+        refused,
+        changed,
+        messages,
+        distances,
+    } = sums;
     println!(rt;
         "events {events} refused {refused} changed {changed} messages {messages} distances {distances}"
-    )
+    )?;
+    match tail {
+        Some(nanos) => println!(rt; "tail {nanos}"),
+        None => Ok(()),
+    }
 }

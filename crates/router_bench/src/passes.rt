@@ -6,11 +6,13 @@ ghost use Rattle.slot_lock.specs.Held.{IsPassOf};
 use crate::input::{Input, Step};
 use crate::router::opening_of;
 use crate::sums::Sums;
+use crate::waits::{Waits, now};
 use crate::work::Work;
 use netchange_core::Reply;
 use route_history::{Journal, LARGEST_LIMIT};
 use slot_lock::{Pass, Router};
 use std::alloc::Global;
+use std::rt::Clock;
 use std::sync::Wait;
 use std::thread;
 use std::thread::Threads;
@@ -20,6 +22,7 @@ use std::thread::Threads;
 struct Ended {
     pass: Pass,
     sums: Sums,
+    waits: Waits,
 }
 
 /// Enters the event of a step, and returns its reply.
@@ -74,16 +77,42 @@ fn enter_round<R: Wait>(
     Some(())
 }
 
+/// The same, and takes the time of each.
+fn enter_timed_round<R: Wait + Clock>(
+    rt: &R,
+    router: &Router,
+    pass: &mut Pass,
+    work: &Work,
+    sums: &mut Sums,
+    waits: &mut Waits,
+) -> Option<()>
+    requires { IsPassOf router.now pass.old }
+    ensures { IsPassOf router.now pass.new × (pass.new.part.shares ≡ pass.old.part.shares) }
+{
+    for step in work.input.round_steps() {
+        let begun = now(rt);
+        let reply = enter(rt, router, pass, work, *step)?;
+        waits.add(now(rt).saturating_sub(begun));
+        sums.add(&reply);
+    }
+    Some(())
+}
+
 /// One caller, in the thread at hand.
-fn in_one<R: Wait>(rt: &R, router: &Router, mut pass: Pass, work: &Work) -> Option<Ended>
+fn in_one<R: Wait + Clock>(rt: &R, router: &Router, mut pass: Pass, work: &Work) -> Option<Ended>
     requires { IsPassOf router.now pass }
     ensures { IfSome result (λ e. IsPassOf router.now e.pass) }
 {
     let mut sums = Sums::default();
+    let mut waits = Waits::new();
     for _round in 0..work.rounds {
-        enter_round(rt, router, &mut pass, work, &mut sums)?;
+        if work.is_timed {
+            enter_timed_round(rt, router, &mut pass, work, &mut sums, &mut waits)?;
+        } else {
+            enter_round(rt, router, &mut pass, work, &mut sums)?;
+        }
     }
-    Some(Ended { pass, sums })
+    Some(Ended { pass, sums, waits })
 }
 
 /// Two callers that have ended, as one.
@@ -91,14 +120,19 @@ fn gathered(router: &Router, one: Ended, other: Ended) -> Ended
     requires { IsPassOf router.now one.pass × IsPassOf router.now other.pass }
     ensures { IsPassOf router.now result.pass }
 {
-    let Ended { mut pass, mut sums } = one;
+    let Ended {
+        mut pass,
+        mut sums,
+        mut waits,
+    } = one;
     router.join(&mut pass, other.pass);
     sums.merge(&other.sums);
-    Ended { pass, sums }
+    waits.merge(&other.waits);
+    Ended { pass, sums, waits }
 }
 
 /// Two callers, in two threads.
-fn in_two<R: Threads + Wait + Sync>(
+fn in_two<R: Threads + Wait + Clock + Sync>(
     rt: &R,
     router: &Router,
     mut pass: Pass,
@@ -124,7 +158,7 @@ fn in_two<R: Threads + Wait + Sync>(
 }
 
 /// Four callers, in four threads.
-fn in_four<R: Threads + Wait + Sync>(
+fn in_four<R: Threads + Wait + Clock + Sync>(
     rt: &R,
     router: &Router,
     mut pass: Pass,
@@ -149,20 +183,23 @@ fn in_four<R: Threads + Wait + Sync>(
     Some(gathered(router, a?, b?))
 }
 
-/// Has a router answer the first events once, and those of a round so many times for each of 1, 2 or 4 callers.
-pub fn measure_passes<R: Threads + Wait + Sync>(
+/// Has a router answer the first events once, and those of a round so many times for each of 1, 2 or 4 callers. If asked to, takes
+/// the time of each call of these.
+pub fn measure_passes<R: Threads + Wait + Clock + Sync>(
     rt: &R,
     alloc: Global,
     input: Input,
     callers: u32,
     rounds: u32,
-) -> Option<Sums> {
+    is_timed: bool,
+) -> Option<(Sums, Waits)> {
     let journal = Journal::open(alloc, opening_of(alloc, &input)?, LARGEST_LIMIT).ok()?;
     let sessions = Vec::from_elem(alloc, 0, usize::from(input.size)).ok()?;
     let mut work = Work {
         input,
         sessions,
         rounds,
+        is_timed,
     };
     let mut sums = Sums::default();
     let (router, mut pass) = Router::open(alloc, journal).ok()?;
@@ -176,7 +213,7 @@ pub fn measure_passes<R: Threads + Wait + Sync>(
     sums.merge(&ended.sums);
     let journal = router.close(ended.pass).ok()?;
     if journal.entries().len() as u64 == sums.events {
-        Some(sums)
+        Some((sums, ended.waits))
     } else {
         None
     }

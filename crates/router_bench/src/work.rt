@@ -10,6 +10,8 @@ pub struct Work {
     pub input: Input,
     pub sessions: Vec<u32>,
     pub rounds: u32,
+    /// Whether the time of each call is taken.
+    pub is_timed: bool,
 }
 
 impl Work {
