@@ -11,7 +11,7 @@
 #   save compares `ncroute run --save` with `ncroute run`
 #   lookup times the lookup of an int in sets of 3 to 1,024 ranges
 #   NCROUTE=PATH       a proved `ncroute` that is built already: then none is built here
-#   FILTER_BENCH=PATH  the same for `filter_bench`, and ROUTER_BENCH=PATH for `router_bench`
+#   BENCH_FILTER=PATH  the same for `bench_filter`, and BENCH_ROUTER=PATH for `bench_router`
 #   ROUNDS=N           how often each program is run on each input (7)
 #   ROUTES=N           the number of route lines of each input of `eval` (200,000, of straight_filter 100,000)
 set -eu
@@ -39,11 +39,11 @@ need_ncroute() {
     fi
 }
 
-# Sees to it that FILTER_BENCH names a program.
+# Sees to it that BENCH_FILTER names a program.
 need_filter_bench() {
-    if [ -z "${FILTER_BENCH:-}" ]; then
-        build filter_bench verified 0
-        FILTER_BENCH="$bench/../crates/filter_bench/out/filter_bench"
+    if [ -z "${BENCH_FILTER:-}" ]; then
+        build bench_filter verified 0
+        BENCH_FILTER="$bench/../crates/bench_filter/out/bench_filter"
     fi
 }
 
@@ -112,9 +112,9 @@ if [ "$wanted" = domain ]; then
 fi
 
 if [ "$wanted" = router ]; then
-    if [ -z "${ROUTER_BENCH:-}" ]; then
-        build router_bench tables 0
-        ROUTER_BENCH="$bench/../crates/router_bench/out/router_bench"
+    if [ -z "${BENCH_ROUTER:-}" ]; then
+        build bench_router tables 0
+        BENCH_ROUTER="$bench/../crates/bench_router/out/bench_router"
     fi
     inputs=()
     for size in 16 64 250; do
@@ -123,25 +123,25 @@ if [ "$wanted" = router ]; then
             inputs+=("$folder/${kind_rounds%=*}_$size=$((${kind_rounds#*=} * 16 / size))")
         done
     done
-    "$bench/router.py" "$ROUTER_BENCH" "$folder/plain" "${ROUNDS:-7}" "${inputs[@]}"
+    "$bench/router.py" "$BENCH_ROUTER" "$folder/plain" "${ROUNDS:-7}" "${inputs[@]}"
 elif [ "$wanted" = callers ]; then
-    if [ -z "${ROUTER_BENCH:-}" ]; then
-        build router_bench tables 0
-        ROUTER_BENCH="$bench/../crates/router_bench/out/router_bench"
+    if [ -z "${BENCH_ROUTER:-}" ]; then
+        build bench_router tables 0
+        BENCH_ROUTER="$bench/../crates/bench_router/out/bench_router"
     fi
     inputs=()
     for kind in show no_changes; do
         "$bench/events.py" "$kind" 16 >"$folder/$kind"
         inputs+=("$folder/$kind")
     done
-    "$bench/callers.py" "$ROUTER_BENCH" "$folder/plain" "${ROUNDS:-7}" "${inputs[@]}"
+    "$bench/callers.py" "$BENCH_ROUTER" "$folder/plain" "${ROUNDS:-7}" "${inputs[@]}"
 elif [ "$wanted" = lookup ]; then
     need_ncroute
     "$bench/lookup.py" "$NCROUTE" "${ROUNDS:-7}"
 elif [ "$wanted" = bird ]; then
     need_ncroute
     need_filter_bench
-    "$bench/bird.py" "$FILTER_BENCH" "$NCROUTE" "${ROUNDS:-7}"
+    "$bench/bird.py" "$BENCH_FILTER" "$NCROUTE" "${ROUNDS:-7}"
 elif [ "$wanted" != eval ]; then
     need_filter_bench
     inputs=()
@@ -155,5 +155,5 @@ elif [ "$wanted" != eval ]; then
         gcc -O3 -o "$in_c" "$bench/baseline/machines.c"
     fi
     [ "$wanted" = instructions ] && measure=instructions || measure="${ROUNDS:-7}"
-    "$bench/machines.py" "$FILTER_BENCH" "$folder/plain" "$in_c" "$measure" "${inputs[@]}"
+    "$bench/machines.py" "$BENCH_FILTER" "$folder/plain" "$in_c" "$measure" "${inputs[@]}"
 fi

@@ -1,9 +1,9 @@
 #!/usr/bin/env python3
 """Refuses each allocation of tests and of runs of the program, one at a time. Prints what each refusal did that did harm, for each call of
-memory_tests what it answered, how many allocations were refused, and at last 'N passed, M failed'.
+test_memory what it answered, how many allocations were refused, and at last 'N passed, M failed'.
 
 usage: NCROUTE=PATH scripts/check_memory.py [NAME..]
-       (NAMEs: crates whose tests are swept, and `runs` for those of the program; without them memory_tests, lock_tests, runs)
+       (NAMEs: crates whose tests are swept, and `runs` for those of the program; without them test_memory, test_locks, runs)
 
 The tests of a crate are crates/NAME/out/NAME_tests, which the gate and `rt test` leave there; where there are none, `rt test` builds them.
 
@@ -28,9 +28,9 @@ sys.dont_write_bytecode = True
 import program  # noqa: E402
 
 AT_ONCE = max(2, os.cpu_count() or 1)
-CRATES = ["memory_tests", "lock_tests"]
+CRATES = ["test_memory", "test_locks"]
 
-# The calls that the tests of memory_tests make and that answer refused memory. `close` is made too, and asks for none.
+# The calls that the tests of test_memory make and that answer refused memory. `close` is made too, and asks for none.
 CALLS = """build read_code write_code parse check compile compile_mapped verify compile_text read_file read_hexadecimal verify_code Tables::open
 Tables::apply Journal::open Journal::apply replay Router::open try_call call run_sessions answer_lines run_script""".split()
 
@@ -112,7 +112,7 @@ def sweep_tests(sweep, pool, crate):
 
 
 def count_calls(answers):
-    """Says how often each call of memory_tests was refused memory and what it answered. Each has to be, but for `close`."""
+    """Says how often each call of test_memory was refused memory and what it answered. Each has to be, but for `close`."""
     passed = failed = 0
     for call in CALLS:
         told = ", ".join(f"{answer} ({times})" for answer, times in sorted(answers[call].items()))
@@ -178,7 +178,7 @@ def main():
             else:
                 well, ill, answers = sweep_tests(sweep, pool, name)
                 counts = [(well, ill)]
-                if name == "memory_tests":
+                if name == "test_memory":
                     counts.append(count_calls(answers))
             passed, failed = passed + sum(it[0] for it in counts), failed + sum(it[1] for it in counts)
     program.finish(passed, failed)
