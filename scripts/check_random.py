@@ -272,7 +272,7 @@ class Laws:
 
     def told(self, numbers, text, size):
         """What is wrong with what is told of a filter that is verified, and of some routes that it answers."""
-        routes = [f"{random_prefix(numbers)} {numbers.randint(0, size)}" for _ in range(TOLD_ROUTES)]
+        routes = [f"{without_host_bits(random_prefix(numbers))} {numbers.randint(0, size)}" for _ in range(TOLD_ROUTES)]
         with tempfile.NamedTemporaryFile(suffix=".filter") as file:
             file.write(text)
             file.flush()
@@ -281,17 +281,19 @@ class Laws:
             warnings = self.run(f"lint --size {size} {file.name}", b"")[0]
         heads = [line.rsplit(" ", 1) for line in whys if not line.startswith(" ")]
         steps = [line.split() for line in whys if line.startswith(" ")]
-        if [head for head, _ in heads] != [f"{route} {answer}" for route, answer in zip(routes, answers)]:
-            return f"{text!r} on {routes}: {answers}, but why {whys}"
+        for wanted, (head, _) in zip((f"{route} {answer}" for route, answer in zip(routes, answers)), heads, strict=True):
+            if head != wanted:
+                return f"{text!r}: {wanted}, but why {head}"
         ends, passed = collections.Counter(place for _, place in heads), collections.Counter(place for place, *_ in steps)
         covered = {place: int(count) for count, place, *_ in map(str.split, counts)}
-        if any(covered.get(place, count) != count for place, count in ends.items()):
-            return f"{text!r} on {routes}: {counts}, but why {whys}"
+        for place, count in ends.items():
+            if covered.get(place, count) != count:
+                return f"{text!r}: {count} of {routes} end at {place}, but {counts}"
         for warning in warnings:
             place, code = re.search(r"\.filter:(\d+:\d+): .*\((W\d)\)$", warning).groups()
             truths = {step[-1] for step in steps if step[:2] == [place, "if"]}
             if code == "W2" and (covered.get(place) or ends[place] or passed[place]) or code == "W1" and len(truths) > 1:
-                return f"{text!r} on {routes}: {warning}, but {counts} and {whys}"
+                return f"{text!r}: {warning}, but {counts} of {routes}"
         return None
 
     # ---- scripts and histories
@@ -402,6 +404,12 @@ def random_event(numbers):
 
 def bits(address):
     return int.from_bytes(bytes(map(int, address.split("."))), "big")
+
+
+def without_host_bits(prefix):
+    """A prefix with the bits behind its length cleared."""
+    address, length = prefix.split("/")
+    return ".".join(map(str, masked(bits(address), int(length)).to_bytes(4, "big"))) + f"/{length}"
 
 
 def masked(address, length):
