@@ -27,7 +27,7 @@ use std::io::{Read, Write};
 const FIRST_LINE: u32 = 1;
 
 /// How many bytes of routes a run answers at most: about 200 times the routes of the whole Internet. Lines are numbered below 2^32.
-const ROUTES_LIMIT: usize = 4_000_000_000;
+pub const ROUTES_LIMIT: usize = 4_000_000_000;
 
 /// What became of a filter.
 #[derive(Clone, Copy, Debug)]
@@ -139,7 +139,7 @@ pub(crate) fn refusal_line(alloc: Global, why: Refusal) -> Result<Vec<u8>, Alloc
 }
 
 /// Writes the line that refuses a filter.
-fn write_refusal<W: Write>(alloc: Global, writer: &mut W, why: Refusal) -> Result<(), ProgramFault>
+pub fn write_refusal<W: Write>(alloc: Global, writer: &mut W, why: Refusal) -> Result<(), ProgramFault>
     ensures ok { OnOk result (Appends (W.contents writer.old) (W.contents writer.new) (refusal_line why)) }
     ensures err { IfErr result (λ fault. IsCut (stream_fault fault) (W.contents writer.old) (W.contents writer.new) (refusal_line why)) }
 {

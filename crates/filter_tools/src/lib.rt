@@ -18,10 +18,12 @@ mod shown;
 mod words;
 
 pub use explanation::{explain, explain_line, tell_at};
-pub use filter::{Filtered, filter_lines, verified_filter};
+pub use filter::{Filtered, ROUTES_LIMIT, filter_lines, verified_filter, write_refusal};
 pub use laws::shown_is_harmless;
 pub use listing::write_listing;
 pub use named::{check_named, list_named, tell, tell_refusal};
 pub use nearest::nearest_word;
 pub use place::{Place, place_in};
+pub use position::{Position, Positions};
+pub use route_of_size::read_route;
 pub use shown::push_shown;

@@ -12,16 +12,16 @@ const MARK_GAP: usize = 16;
 
 /// The line and the column of a byte of a text, as `place_in` counts them.
 #[derive(Clone, Copy)]
-pub(crate) struct Position {
+pub struct Position {
     /// The number of its line, counted from 1.
-    pub(crate) line: usize,
+    pub line: usize,
     /// Its number among the characters of its line, counted from 1.
-    pub(crate) column: usize,
+    pub column: usize,
 }
 
 /// A text, and the positions of every 16th byte: that of any other one is counted from the mark before it. A contract sees the text.
 #[derive(Drop)]
-pub(crate) struct Positions<'a> {
+pub struct Positions<'a> {
     text: &'a [u8],
     marks: Vec<Position>,
 }
@@ -75,7 +75,7 @@ fn count_on(text: &[u8], from: usize, position: Position, at: usize) -> Position
 
 impl<'a> Positions<'a> {
     /// Those of a text.
-    pub(crate) fn new(alloc: Global, text: &'a [u8]) -> Result<Positions<'a>, AllocError>
+    pub fn new(alloc: Global, text: &'a [u8]) -> Result<Positions<'a>, AllocError>
         ensures { IfOk result (λ positions. positions ≡ text.now) }
     {
         let mut marks = Vec::new(alloc);
@@ -90,7 +90,7 @@ impl<'a> Positions<'a> {
     }
 
     /// The position of a byte. One behind the end is taken for the end.
-    pub(crate) fn of(&self, byte: usize) -> Position
+    pub fn of(&self, byte: usize) -> Position
         ensures line { result.line ≡ line_at self.now byte }
         ensures column { result.column ≡ column_at self.now byte }
     {
