@@ -66,6 +66,19 @@ pub enum RouteReport {
     Coverage,
 }
 
+/// How the routes of standard input are taken through a filter.
+#[derive(Clone, Copy)]
+pub struct Trying {
+    /// The number of nodes of the domain.
+    pub size: u32,
+    /// What is written of the routes.
+    pub report: RouteReport,
+    /// A refusal of the filter is told in words too.
+    pub is_explained: bool,
+    /// So is that of a line, where verdicts are written.
+    pub tells_routes: bool,
+}
+
 /// How a router's script is carried out, where more is asked for than its answers.
 #[derive(Drop)]
 pub struct Running {
@@ -123,16 +136,14 @@ pub enum Aid {
         /// A refusal is told in words too.
         is_explained: bool,
     },
+    /// Take the routes of standard input through a code file, and tell in words why lines are refused.
+    Eval,
     /// Take the routes of standard input through the filter of a file.
     Filter {
-        /// The number of nodes of the domain.
-        size: u32,
-        /// What is written of the routes.
-        report: RouteReport,
+        /// How.
+        how: Trying,
         /// Where its text is.
         source: Source,
-        /// A refusal of the filter is told in words too.
-        is_explained: bool,
     },
     /// Import the filters of a configuration of BIRD.
     Import {
@@ -274,12 +285,26 @@ pub fn filter_in(
     if file == "-" {
         return Ok(None);
     }
-    Ok(Some(Aid::Filter {
+    let telling = Telling::read(matches);
+    let how = Trying {
         size,
         report: report_in(matches),
+        is_explained: is_explained(telling, terminals.errors, true),
+        tells_routes: is_explained(telling, terminals.errors, false),
+    };
+    Ok(Some(Aid::Filter {
+        how,
         source: source_of(alloc, file)?,
-        is_explained: is_explained(Telling::read(matches), terminals.errors, true),
     }))
+}
+
+/// What the words of `eval` ask for, where they ask for more than answers.
+pub fn eval_in(matches: &ArgMatches<'_>, terminals: Terminals) -> Option<Aid> {
+    if is_explained(Telling::read(matches), terminals.errors, false) {
+        Some(Aid::Eval)
+    } else {
+        None
+    }
 }
 
 /// The text of an option, if it is given.

@@ -15,7 +15,7 @@ mod terminals;
 mod test_words;
 mod words;
 
-pub use aid_words::{Aid, Checking, Engine, Importing, RouteReport, Running, Source};
+pub use aid_words::{Aid, Checking, Engine, Importing, RouteReport, Running, Source, Trying};
 pub use diff_words::Comparing;
 pub use filter_words::{NamedFile, WrongFilter, filters_in};
 pub use lint_words::Linting;

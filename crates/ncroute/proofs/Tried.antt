@@ -6,22 +6,21 @@ use Rattle.filter_source.specs.declared.diagnosis.Diagnosis.{Diagnosis}
 use Rattle.filter_tools.specs.Telling.{Explains, IsCutExplanation}
 use Rattle.filter_tools.specs.declared.filter.Filtered.{Filtered}
 use Rattle.filter_tools.specs.declared.filter.Filtered.TheVariants.{Refused}
-use Rattle.command_line.specs.declared.aid_words.RouteReport.{RouteReport}
-use Rattle.ncroute.specs.Helping.{Reports, StopsTrying, TriesText, status_of_filter, told_refusal}
+use Rattle.ncroute.specs.Helping.{Reports, ReportsText, StopsReport, status_of_filter, told_refusal}
 use Rattle.ncroute.specs.Streaming.{Streams}
 
-module _ (size : ℕ) (report : RouteReport) (name text : List ℕ) (is_explained : Bool) (before after : Streams) (filtered : Filtered)
-    (answered : IfSome before.reads (λ input. Reports report size text input after.reads before.holds after.holds filtered)) where
+module _ (is_counted : Bool) (size : ℕ) (name text : List ℕ) (is_explained : Bool) (before after : Streams) (filtered : Filtered)
+    (answered : IfSome before.reads (λ input. Reports is_counted size text input after.reads before.holds after.holds filtered)) where
   pub tried : (r : Result ℕ ProgramFault)
       → IfOk r (λ status. Explains name text (told_refusal is_explained filtered) before.tells after.tells × (status ≡ status_of_filter filtered))
-      → IfOk r (TriesText size report name is_explained text before after)
+      → IfOk r (ReportsText is_counted size name is_explained text before after)
   tried (Ok status) told = record { filtered = filtered; answered = answered; told = told.0; ends = told.1 }
   tried (Err fault) told = tt
 
   pub stopped : (r : Result ℕ ProgramFault)
       → IfErr r (λ fault. (why : Diagnosis) × (filtered ≡ Refused why) × IsCutExplanation (stream_fault fault) name text why before.tells after.tells)
-      → IfErr r (λ fault. StopsTrying (stream_fault fault) size report name text before after)
+      → IfErr r (λ fault. StopsReport is_counted (stream_fault fault) size name text before after)
   stopped (Ok status) cut = tt
   stopped (Err fault) cut =
-      let P : Filtered → Type 0 = λ f. IfSome before.reads (λ input. Reports report size text input after.reads before.holds after.holds f) in
+      let P : Filtered → Type 0 = λ f. IfSome before.reads (λ input. Reports is_counted size text input after.reads before.holds after.holds f) in
       inr (cut.0, subst P cut.1 answered, cut.2)

@@ -5,12 +5,13 @@ use Rattle.std.specs.Io.KnownBytes.{Appends}
 use Rattle.std.specs.declared.io.Error.{Error}
 use Rattle.filter_source.specs.Limits.{source_limit}
 use Rattle.filter_source.specs.declared.diagnosis.Diagnosis.{Diagnosis}
-use Rattle.filter_commands.specs.Evaluation.{IsCut}
+use Rattle.filter_commands.specs.Evaluation.{Breaks, Evaluates, IsCut}
 use Rattle.filter_commands.specs.Faults.{stream_fault}
 use Rattle.filter_commands.specs.declared.fault.ProgramFault.{ProgramFault}
-use Rattle.filter_tools.specs.Filtering.{Filters, FiltersOff}
+use Rattle.filter_tools.specs.Filtering.{Filters}
 use Rattle.filter_tools.specs.Naming.{ChecksNamed, ChecksNamedOff, ListsNamed, ListsNamedOff}
 use Rattle.filter_tools.specs.Telling.{Explains, IsCutExplanation}
+use Rattle.filter_tools.specs.ToldRoutes.{FiltersNamedOff, TellsFiltered}
 use Rattle.filter_tools.specs.declared.filter.Filtered.{Filtered}
 use Rattle.filter_tools.specs.declared.filter.Filtered.TheVariants.{Refused, Answered}
 use Rattle.filter_traces.specs.Coverage.{Covers, CoversOff}
@@ -38,6 +39,7 @@ use Rattle.command_line.specs.declared.aid_words.RouteReport.{RouteReport}
 use Rattle.command_line.specs.declared.aid_words.RouteReport.TheVariants.{Verdicts, Reasons, Coverage}
 use Rattle.command_line.specs.declared.aid_words.Source.{Source}
 use Rattle.command_line.specs.declared.aid_words.Source.TheVariants.{Input, File}
+use Rattle.command_line.specs.declared.aid_words.Trying.{Trying}
 
 -- The report on a text was written and told, under a name, and it is said whether it refuses the text. `held` and `holds` are what the
 -- writer held before and holds now, `told` and `tells` the same of standard error.
@@ -75,32 +77,65 @@ abbrev pub status_of_filter : Filtered → ℕ
 status_of_filter (Refused why) = 1
 status_of_filter (Answered refused) = status_of refused
 
--- What is asked for of routes was written, to the end of the input.
-abbrev pub Reports : RouteReport → ℕ → List ℕ → List ℕ → Option (List ℕ) → Option (List ℕ) → Option (List ℕ) → Filtered → Type 0
-Reports Verdicts size text input left held holds filtered = Filters size text input left held holds filtered
-Reports Reasons size text input left held holds filtered = Whys size text input left held holds filtered
-Reports Coverage size text input left held holds filtered = Covers size text input left held holds filtered
+-- What is told of routes was written, to the end of the input: why each got its verdict, or how many came to each command.
+abbrev pub Reports : Bool → ℕ → List ℕ → List ℕ → Option (List ℕ) → Option (List ℕ) → Option (List ℕ) → Filtered → Type 0
+Reports false size text input left held holds filtered = Whys size text input left held holds filtered
+Reports true size text input left held holds filtered = Covers size text input left held holds filtered
 
 -- A fault ended it.
-abbrev pub ReportsOff : RouteReport → StreamFault → ℕ → List ℕ → List ℕ → Option (List ℕ) → Option (List ℕ) → Option (List ℕ) → Type 0
-ReportsOff Verdicts fault size text input left held holds = FiltersOff fault size text input left held holds
-ReportsOff Reasons fault size text input left held holds = WhysOff fault size text input left held holds
-ReportsOff Coverage fault size text input left held holds = CoversOff fault size text input left held holds
+abbrev pub ReportsOff : Bool → StreamFault → ℕ → List ℕ → List ℕ → Option (List ℕ) → Option (List ℕ) → Option (List ℕ) → Type 0
+ReportsOff false fault size text input left held holds = WhysOff fault size text input left held holds
+ReportsOff true fault size text input left held holds = CoversOff fault size text input left held holds
 
--- The text of a filter was read, and it was tried on the routes that the input has then.
-pub record TriesText (size : ℕ) (report : RouteReport) (name : List ℕ) (is_explained : Bool) (text : List ℕ) (before after : Streams) (status : ℕ) : Type 0 where
+-- The text of a filter was read, and that was written of the routes that the input has then.
+pub record ReportsText (is_counted : Bool) (size : ℕ) (name : List ℕ) (is_explained : Bool) (text : List ℕ) (before after : Streams) (status : ℕ)
+    : Type 0 where
   pub filtered : Filtered
-  pub answered : IfSome before.reads (λ input. Reports report size text input after.reads before.holds after.holds filtered)
+  pub answered : IfSome before.reads (λ input. Reports is_counted size text input after.reads before.holds after.holds filtered)
   pub told : Explains name text (told_refusal is_explained filtered) before.tells after.tells
   pub ends : status ≡ status_of_filter filtered
 
 -- A fault ended that: the answers broke off, or the words of a refusal were cut.
-abbrev pub StopsTrying : StreamFault → ℕ → RouteReport → List ℕ → List ℕ → Streams → Streams → Type 0
-StopsTrying fault size report name text before after =
+abbrev pub StopsReport : Bool → StreamFault → ℕ → List ℕ → List ℕ → Streams → Streams → Type 0
+StopsReport is_counted fault size name text before after =
     ((after.tells ≡ before.tells)
-    × IfSome before.reads (λ input. ReportsOff report fault size text input after.reads before.holds after.holds))
-    ⊎ ((why : Diagnosis) × IfSome before.reads (λ input. Reports report size text input after.reads before.holds after.holds (Refused why))
+    × IfSome before.reads (λ input. ReportsOff is_counted fault size text input after.reads before.holds after.holds))
+    ⊎ ((why : Diagnosis) × IfSome before.reads (λ input. Reports is_counted size text input after.reads before.holds after.holds (Refused why))
     × IsCutExplanation fault name text why before.tells after.tells)
+
+-- The text of a filter was read, and its verdict on each route was written, with words about what is refused.
+pub record JudgesText (how : Trying) (name text : List ℕ) (before after : Streams) (status : ℕ) : Type 0 where
+  pub filtered : Filtered
+  pub answered : IfSome before.reads (λ input. Filters how.size text input after.reads before.holds after.holds filtered)
+  pub told : TellsFiltered how.is_explained how.tells_routes name text filtered before.tells after.tells
+  pub ends : status ≡ status_of_filter filtered
+
+-- A fault ended that: the answers broke off, or the words of a refusal were cut.
+abbrev pub StopsJudging : StreamFault → Trying → List ℕ → List ℕ → Streams → Streams → Type 0
+StopsJudging fault how name text before after =
+    FiltersNamedOff fault how.size how.tells_routes name text before.reads after.reads before.holds after.holds before.tells after.tells
+
+-- The text of a filter was read, and what is asked for of the routes was written.
+abbrev pub TriesText : RouteReport → Trying → List ℕ → List ℕ → Streams → Streams → ℕ → Type 0
+TriesText Verdicts how name text before after status = JudgesText how name text before after status
+TriesText Reasons how name text before after status = ReportsText false how.size name how.is_explained text before after status
+TriesText Coverage how name text before after status = ReportsText true how.size name how.is_explained text before after status
+
+-- A fault ended that.
+abbrev pub StopsTrying : RouteReport → StreamFault → Trying → List ℕ → List ℕ → Streams → Streams → Type 0
+StopsTrying Verdicts fault how name text before after = StopsJudging fault how name text before after
+StopsTrying Reasons fault how name text before after = StopsReport false fault how.size name text before after
+StopsTrying Coverage fault how name text before after = StopsReport true fault how.size name text before after
+
+-- Code and routes were answered to the end of the input, with words about each line that is refused.
+pub record EvaluatesTold (before after : Streams) (status : ℕ) : Type 0 where
+  pub refused : ℕ
+  pub evaluated : IfSome before.reads (λ input. Evaluates input after.reads before.holds after.holds refused)
+  pub ends : status ≡ status_of refused
+
+-- A fault ended that.
+abbrev pub StopsEvaluating : StreamFault → Streams → Streams → Type 0
+StopsEvaluating fault before after = IfSome before.reads (λ input. Breaks fault input after.reads before.holds after.holds)
 
 -- The listing of a text was written, and its refusal told under a name, and the exit status says whether there is one. `held` and `holds`
 -- are what the writer held before and holds now, `told` and `tells` the same of standard error.
@@ -115,10 +150,11 @@ pub record ListsText (size : Option ℕ) (is_code is_explained : Bool) (name tex
 abbrev pub fault_status : Aid → ℕ
 fault_status (aid.Check how sources) = 1
 fault_status (aid.Diff how old new) = 3
+fault_status aid.Eval = 1
 fault_status (aid.Explain page) = 1
 fault_status (aid.Import how source) = 1
 fault_status (aid.List size is_code source is_explained) = 3
-fault_status (aid.Filter size report source is_explained) = 3
+fault_status (aid.Filter how source) = 3
 fault_status (aid.Lint how sources) = 3
 fault_status (aid.Replay source) = 3
 fault_status (aid.Run how source) = 1
@@ -150,17 +186,17 @@ module _ (opens : List ℕ → Result (Option (List ℕ)) Error → Type 0) wher
   ChecksSome fault how sources before after = CutsLater (ChecksOne how) (IsCutOne fault how) sources before after
 
   -- A filter was read, which leaves this of the input, and tried on its routes; or it was not read.
-  abbrev pub TriesFilter : ℕ → RouteReport → Source → Bool → Streams → Streams → ℕ → Type 0
-  TriesFilter size report source is_explained before after status =
+  abbrev pub TriesFilter : Trying → Source → Streams → Streams → ℕ → Type 0
+  TriesFilter how source before after status =
       ((text : List ℕ) × (left : Option (List ℕ)) × IsRead opens source_limit source text before.reads left
-      × TriesText size report (name_of source) is_explained text (record before { reads = left }) after status)
+      × TriesText how.report how (name_of source) text (record before { reads = left }) after status)
       ⊎ (SkipsUnread opens source_limit source before after × (status ≡ 3))
 
   -- A fault ended it.
-  abbrev pub StopsFilter : StreamFault → ℕ → RouteReport → Source → Streams → Streams → Type 0
-  StopsFilter fault size report source before after = StopsReading opens fault source_limit source before after
+  abbrev pub StopsFilter : StreamFault → Trying → Source → Streams → Streams → Type 0
+  StopsFilter fault how source before after = StopsReading opens fault source_limit source before after
       ⊎ ((text : List ℕ) × (left : Option (List ℕ)) × IsRead opens source_limit source text before.reads left
-      × StopsTrying fault size report (name_of source) text (record before { reads = left }) after)
+      × StopsTrying how.report fault how (name_of source) text (record before { reads = left }) after)
 
   -- A source was read and listed; or it was not read.
   abbrev pub ListsSource : Option ℕ → Bool → Bool → Source → Streams → Streams → ℕ → Type 0
@@ -220,11 +256,12 @@ module _ (opens : List ℕ → Result (Option (List ℕ)) Error → Type 0) wher
     Helps (aid.Check how sources) before after status = (refused : Bool)
         × ChecksAll how sources.items before after refused × (status ≡ (if refused then 1 else 0))
     Helps (aid.Diff how old new) before after status = ComparesSources opens how old new before after status
+    Helps aid.Eval before after status = EvaluatesTold before after status
     Helps (aid.Explain page) before after status =
         Appends before.holds after.holds (string_bytes page) × (after.reads ≡ before.reads) × (after.tells ≡ before.tells) × (status ≡ 0)
     Helps (aid.Import how source) before after status = status ≤ 1
     Helps (aid.List size is_code source is_explained) before after status = ListsSource size is_code is_explained source before after status
-    Helps (aid.Filter size report source is_explained) before after status = TriesFilter size report source is_explained before after status
+    Helps (aid.Filter how source) before after status = TriesFilter how source before after status
     Helps (aid.Lint how sources) before after status = (found : Bool)
         × LintsAll opens how sources.items before after found × (status ≡ (if found then 1 else 0))
     Helps (aid.Replay source) before after status = ReplaysSource source before after status
@@ -237,11 +274,12 @@ module _ (opens : List ℕ → Result (Option (List ℕ)) Error → Type 0) wher
     abbrev pub StopsHelp : StreamFault → Aid → Streams → Streams → Type 0
     StopsHelp fault (aid.Check how sources) before after = ChecksSome fault how sources.items before after
     StopsHelp fault (aid.Diff how old new) before after = StopsComparing opens fault how old new before after
+    StopsHelp fault aid.Eval before after = StopsEvaluating fault before after
     StopsHelp fault (aid.Explain page) before after =
         IsCut fault before.holds after.holds (string_bytes page) × (after.reads ≡ before.reads) × (after.tells ≡ before.tells)
     StopsHelp fault (aid.Import how source) before after = ⊤
     StopsHelp fault (aid.List size is_code source is_explained) before after = StopsListing fault size is_code source before after
-    StopsHelp fault (aid.Filter size report source is_explained) before after = StopsFilter fault size report source before after
+    StopsHelp fault (aid.Filter how source) before after = StopsFilter fault how source before after
     StopsHelp fault (aid.Lint how sources) before after = StopsLinting opens fault how sources.items before after
     StopsHelp fault (aid.Replay source) before after = StopsReplay fault source before after
     StopsHelp fault (aid.Run how source) before after = StopsRun creates opens fault how source before after

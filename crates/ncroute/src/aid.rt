@@ -10,6 +10,7 @@ ghost use Rattle.filter_tools.specs.declared.filter.Filtered.TheVariants.{Refuse
 ghost use Rattle.ncroute.specs.Helping.{ChecksAll, ChecksBy, ChecksOne, ChecksSome, ChecksText, ChecksWhole, CutsBy, CutsText, FailsToTell, Helps, IsCutOne, ListsSource, ListsText};
 ghost use Rattle.ncroute.specs.Helping.{ReplaysSource, Reports, ReportsOff, RunsFile, RunsSource, ServesPeople, StopsFile, StopsFilter, StopsHelp, StopsListing};
 ghost use Rattle.ncroute.specs.Helping.{StopsReplay, StopsSource, StopsTrying, TriesFilter, TriesText, fault_status, status_of_filter, told_refusal};
+ghost use Rattle.ncroute.specs.Helping.{EvaluatesTold, JudgesText, ReportsText, StopsEvaluating, StopsJudging, StopsReport};
 ghost use Rattle.ncroute.specs.Reading.{name_of};
 
 use crate::comparing::compare_sources;
@@ -20,13 +21,15 @@ use crate::lines::check_lines;
 use crate::linting::lint_sources;
 use crate::replay::{REPLAY_LIMIT, replay_text};
 use crate::script::{FAULT, carry_out, script_fault};
-use crate::serve::{FAILED, report_fault};
+use crate::serve::{FAILED, report_fault, status_of};
 use crate::testing::test_sources;
 use crate::texts::{Folder, name_of, read_source, tell_unread};
-use command_line::{Aid, Checking, Engine, RouteReport, Source};
+use command_line::{Aid, Checking, Engine, RouteReport, Source, Trying};
 use filter_commands::ProgramFault;
 use filter_source::{Diagnosis, SOURCE_LIMIT};
-use filter_tools::{Filtered, check_named, filter_lines, list_named, tell};
+use filter_tools::{
+    Filtered, Routes, check_named, eval_named, filter_named, list_named, tell,
+};
 use filter_traces::{cover_routes, explain_routes};
 use line_protocol::{INPUT_LIMIT, StreamFault, write_text};
 use std::alloc::Global;
@@ -192,52 +195,160 @@ fn tell_filter<E: Write>(
     }
 }
 
-/// Takes routes through the filter of a text, and writes what is asked for of them.
+/// Takes routes through the filter of a text, and writes what is told of them.
 fn report_routes<R: Read, W: Write>(
     alloc: Global,
+    is_counted: bool,
     text: &[u8],
     size: u32,
-    report: RouteReport,
     reader: &mut R,
     writer: &mut W,
 ) -> Result<Filtered, ProgramFault>
     ensures finished { IfOk result (λ filtered. IfSome (R.remaining reader.old) (λ input.
-        Reports report size text.now input (R.remaining reader.new) (W.contents writer.old) (W.contents writer.new) filtered)) }
+        Reports is_counted size text.now input (R.remaining reader.new) (W.contents writer.old) (W.contents writer.new) filtered)) }
     ensures broken_off { IfErr result (λ fault. IfSome (R.remaining reader.old) (λ input.
-        ReportsOff report (stream_fault fault) size text.now input (R.remaining reader.new)
+        ReportsOff is_counted (stream_fault fault) size text.now input (R.remaining reader.new)
         (W.contents writer.old) (W.contents writer.new))) }
 {
-    match report {
-        RouteReport::Verdicts => filter_lines(alloc, text, size, reader, writer),
-        RouteReport::Reasons => explain_routes(alloc, text, size, reader, writer),
-        RouteReport::Coverage => cover_routes(alloc, text, size, reader, writer),
+    if is_counted {
+        cover_routes(alloc, text, size, reader, writer)
+    } else {
+        explain_routes(alloc, text, size, reader, writer)
     }
 }
 
-/// Takes routes through the filter of a text, and returns the exit status. A refusal of the filter is told in words where
-/// `is_explained` says so.
-fn try_text<R: Read, W: Write, E: Write>(
+/// The same, and returns the exit status. A refusal of the filter is told in words where `is_explained` says so.
+fn report_text<R: Read, W: Write, E: Write>(
     alloc: Global,
+    is_counted: bool,
     text: &[u8],
     size: u32,
-    report: RouteReport,
     name: &[u8],
     is_explained: bool,
     reader: &mut R,
     writer: &mut W,
     errors: &mut E,
 ) -> Result<u8, ProgramFault>
-    ensures finished { IfOk result (TriesText size report name.now is_explained text.now
+    ensures finished { IfOk result (ReportsText is_counted size name.now is_explained text.now
         (record { reads = R.remaining reader.old; holds = W.contents writer.old; tells = E.contents errors.old })
         (record { reads = R.remaining reader.new; holds = W.contents writer.new; tells = E.contents errors.new })) }
-    ensures stopped { IfErr result (λ fault. StopsTrying (stream_fault fault) size report name.now text.now
+    ensures stopped { IfErr result (λ fault. StopsReport is_counted (stream_fault fault) size name.now text.now
         (record { reads = R.remaining reader.old; holds = W.contents writer.old; tells = E.contents errors.old })
         (record { reads = R.remaining reader.new; holds = W.contents writer.new; tells = E.contents errors.new })) }
 {
-    match report_routes(alloc, text, size, report, reader, writer) {
+    match report_routes(alloc, is_counted, text, size, reader, writer) {
         Ok(filtered) => tell_filter(alloc, errors, name, text, is_explained, filtered),
         Err(fault) => Err(fault),
     }
+}
+
+/// The exit status of a filter that was tried.
+fn status_of_filter(filtered: Filtered) -> u8
+    ensures { result ≡ status_of_filter filtered }
+{
+    match filtered {
+        Filtered::Answered(refused) => status_of(refused),
+        Filtered::Refused(_) => FAILED,
+    }
+}
+
+/// Writes the verdict of a filter on each route, and returns the exit status. What is refused is told in words where `how` says so.
+fn judge_text<R: Read, W: Write, E: Write>(
+    alloc: Global,
+    how: Trying,
+    name: &[u8],
+    text: &[u8],
+    reader: &mut R,
+    writer: &mut W,
+    errors: &mut E,
+) -> Result<u8, ProgramFault>
+    ensures finished { IfOk result (JudgesText how name.now text.now
+        (record { reads = R.remaining reader.old; holds = W.contents writer.old; tells = E.contents errors.old })
+        (record { reads = R.remaining reader.new; holds = W.contents writer.new; tells = E.contents errors.new })) }
+    ensures stopped { IfErr result (λ fault. StopsJudging (stream_fault fault) how name.now text.now
+        (record { reads = R.remaining reader.old; holds = W.contents writer.old; tells = E.contents errors.old })
+        (record { reads = R.remaining reader.new; holds = W.contents writer.new; tells = E.contents errors.new })) }
+{
+    let routes = Routes {
+        name: name_of(&Source::Input),
+        is_told: how.tells_routes,
+    };
+    let filtered = filter_named(
+        alloc,
+        text,
+        how.size,
+        name,
+        how.is_explained,
+        routes,
+        reader,
+        writer,
+        errors,
+    )?;
+    Ok(status_of_filter(filtered))
+}
+
+/// Takes the routes of standard input through the filter of a text, writes what is asked for of them, and returns the exit status.
+fn try_text<R: Read, W: Write, E: Write>(
+    alloc: Global,
+    how: Trying,
+    name: &[u8],
+    text: &[u8],
+    reader: &mut R,
+    writer: &mut W,
+    errors: &mut E,
+) -> Result<u8, ProgramFault>
+    ensures finished { IfOk result (TriesText how.report how name.now text.now
+        (record { reads = R.remaining reader.old; holds = W.contents writer.old; tells = E.contents errors.old })
+        (record { reads = R.remaining reader.new; holds = W.contents writer.new; tells = E.contents errors.new })) }
+    ensures stopped { IfErr result (λ fault. StopsTrying how.report (stream_fault fault) how name.now text.now
+        (record { reads = R.remaining reader.old; holds = W.contents writer.old; tells = E.contents errors.old })
+        (record { reads = R.remaining reader.new; holds = W.contents writer.new; tells = E.contents errors.new })) }
+{
+    let (size, is_explained) = (how.size, how.is_explained);
+    match how.report {
+        RouteReport::Verdicts => judge_text(alloc, how, name, text, reader, writer, errors),
+        RouteReport::Reasons => report_text(
+            alloc,
+            false,
+            text,
+            size,
+            name,
+            is_explained,
+            reader,
+            writer,
+            errors,
+        ),
+        RouteReport::Coverage => report_text(
+            alloc,
+            true,
+            text,
+            size,
+            name,
+            is_explained,
+            reader,
+            writer,
+            errors,
+        ),
+    }
+}
+
+/// Takes the routes of standard input through the code in its first line, tells in words why lines are refused, and returns the exit
+/// status.
+fn evaluate<R: Read, W: Write, E: Write>(
+    alloc: Global,
+    reader: &mut R,
+    writer: &mut W,
+    errors: &mut E,
+) -> Result<u8, ProgramFault>
+    ensures finished { IfOk result (EvaluatesTold
+        (record { reads = R.remaining reader.old; holds = W.contents writer.old; tells = E.contents errors.old })
+        (record { reads = R.remaining reader.new; holds = W.contents writer.new; tells = E.contents errors.new })) }
+    ensures stopped { IfErr result (λ fault. StopsEvaluating (stream_fault fault)
+        (record { reads = R.remaining reader.old; holds = W.contents writer.old; tells = E.contents errors.old })
+        (record { reads = R.remaining reader.new; holds = W.contents writer.new; tells = E.contents errors.new })) }
+{
+    let refused = eval_named(alloc, name_of(&Source::Input), reader, writer, errors)?;
+    Ok(status_of(refused))
 }
 
 /// Writes a page, and returns the exit status.
@@ -280,39 +391,27 @@ fn list<W: Write, E: Write>(
     }
 }
 
-/// Takes routes through the filter of a source, and returns the exit status.
+/// Takes the routes of standard input through the filter of a source, and returns the exit status.
 fn try_filter<F: Folder, R: Read, W: Write, E: Write>(
     files: &F,
     alloc: Global,
-    size: u32,
-    report: RouteReport,
+    how: Trying,
     source: &Source,
-    is_explained: bool,
     reader: &mut R,
     writer: &mut W,
     errors: &mut E,
 ) -> Result<u8, ProgramFault>
-    ensures finished { IfOk result (TriesFilter (F.opens files.now) size report source.now is_explained
+    ensures finished { IfOk result (TriesFilter (F.opens files.now) how source.now
         (record { reads = R.remaining reader.old; holds = W.contents writer.old; tells = E.contents errors.old })
         (record { reads = R.remaining reader.new; holds = W.contents writer.new; tells = E.contents errors.new })) }
-    ensures stopped { IfErr result (λ fault. StopsFilter (F.opens files.now) (stream_fault fault) size report source.now
+    ensures stopped { IfErr result (λ fault. StopsFilter (F.opens files.now) (stream_fault fault) how source.now
         (record { reads = R.remaining reader.old; holds = W.contents writer.old; tells = E.contents errors.old })
         (record { reads = R.remaining reader.new; holds = W.contents writer.new; tells = E.contents errors.new })) }
 {
     match read_source(files, alloc, source, SOURCE_LIMIT, reader) {
         Ok(text) => {
             let (text, name) = (text.as_slice(), name_of(source));
-            try_text(
-                alloc,
-                text,
-                size,
-                report,
-                name,
-                is_explained,
-                reader,
-                writer,
-                errors,
-            )
+            try_text(alloc, how, name, text, reader, writer, errors)
         }
         Err(why) => {
             tell_unread(alloc, errors, source, why)?;
@@ -486,6 +585,7 @@ fn help<F: Folder, R: Read, W: Write, E: Write>(
         Aid::Diff { how, old, new } => {
             compare_sources(files, alloc, *how, old, new, reader, writer, errors)
         }
+        Aid::Eval => evaluate(alloc, reader, writer, errors),
         Aid::Explain { page } => show(page.as_str(), writer),
         Aid::Lint { how, sources } => {
             let sources = sources.as_slice();
@@ -508,22 +608,9 @@ fn help<F: Folder, R: Read, W: Write, E: Write>(
             writer,
             errors,
         ),
-        Aid::Filter {
-            size,
-            report,
-            source,
-            is_explained,
-        } => try_filter(
-            files,
-            alloc,
-            *size,
-            *report,
-            source,
-            *is_explained,
-            reader,
-            writer,
-            errors,
-        ),
+        Aid::Filter { how, source } => {
+            try_filter(files, alloc, *how, source, reader, writer, errors)
+        }
         Aid::Import { how, source } => {
             import_source(files, alloc, how, source, reader, writer, errors)
         }
@@ -562,6 +649,7 @@ pub fn fault_status(aid: &Aid) -> u8
 {
     match aid {
         Aid::Check { .. }
+        | Aid::Eval
         | Aid::Explain { .. }
         | Aid::Import { .. }
         | Aid::Run { .. }

@@ -1,15 +1,15 @@
 use Rattle.std.proofs.Common.{inl, refl}
 use Rattle.ncroute.proofs.Tried.{stopped, tried}
-use Rattle.ncroute.proofs.aid.try_text.Goals as goal
+use Rattle.ncroute.proofs.aid.report_text.Goals as goal
 
 pub returns-in-Ok-clause-finished : goal.returns-in-Ok-clause-finished
 returns-in-Ok-clause-finished g c =
-    tried c.args.size c.args.report c.args.name.now c.args.text.now c.args.is_explained _ _ c.in-Ok.filtered c.in-Ok.ensures.finished
+    tried c.args.is_counted c.args.size c.args.name.now c.args.text.now c.args.is_explained _ _ c.in-Ok.filtered c.in-Ok.ensures.finished
     c.tell_filter.result c.tell_filter.ensures.told
 
 pub returns-in-Ok-clause-stopped : goal.returns-in-Ok-clause-stopped
 returns-in-Ok-clause-stopped g c =
-    stopped c.args.size c.args.report c.args.name.now c.args.text.now c.args.is_explained _ _ c.in-Ok.filtered c.in-Ok.ensures.finished
+    stopped c.args.is_counted c.args.size c.args.name.now c.args.text.now c.args.is_explained _ _ c.in-Ok.filtered c.in-Ok.ensures.finished
     c.tell_filter.result c.tell_filter.ensures.cut
 
 pub returns-in-Err-clause-stopped : goal.returns-in-Err-clause-stopped
