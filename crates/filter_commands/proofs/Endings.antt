@@ -9,11 +9,11 @@ use Rattle.line_protocol.specs.Lines.{numbered}
 use Rattle.line_protocol.specs.Runs.{Finishes, IsWritten, Reaches, Runs, Stops}
 use Rattle.line_protocol.specs.declared.faults.StreamFault.{StreamFault}
 use Rattle.line_protocol.specs.declared.faults.StreamFault.TheVariants.{Read, Write, Memory, TooLong}
-use Rattle.filter_commands.proofs.Evaluations.{Begins, Makes, answers, front_run, whole_run}
+use Rattle.filter_commands.proofs.Evaluations.{Begins, Makes, front_run, whole_run}
 use Rattle.filter_commands.specs.Eval.{Line, all_answers, eval_answers, line_answers, no_code}
 use Rattle.filter_commands.specs.Evaluation.{Breaks, Evaluates, IsCut, ReachesTo}
+use Rattle.filter_commands.specs.Steps.{AnswersLine}
 use Rattle.line_protocol.specs.Limits.{input_limit}
-use Rattle.filter_commands.specs.declared.eval.Evaluator.{Evaluator}
 
 -- what grew twice grew by both
 pub append_twice : (a b c : Option (List ℕ)) (x y : List ℕ) → Appends a b x → Appends b c y → Appends a c (x ++ y)
@@ -36,14 +36,14 @@ no_code_text : text_of (no_code ∷ []) ≡ no_code.text
 no_code_text = append-nil no_code.text
 
 -- A run in which a line was answered ends as the run of its lines does.
-pub ends_well : (s after : Evaluator) (input : List ℕ) (left held holds : Option (List ℕ)) (n : ℕ) → s.code ≡ None
-    → ((n ≡ 0) → (after.code ≡ None) → ⊥) → Finishes answers input_limit s after input left held holds n → Evaluates input left held holds n
+pub ends_well : (s after : Option CodeView) (input : List ℕ) (left held holds : Option (List ℕ)) (n : ℕ) → s ≡ None
+    → ((n ≡ 0) → (after ≡ None) → ⊥) → Finishes AnswersLine input_limit s after input left held holds n → Evaluates input left held holds n
 ends_well s after input left held holds n e some f =
     let makes : Makes (numbered input) f.given after = whole_run s e (numbered input) f.given after f.run in
-    let P : List Line → Type 0 = λ lines. Runs answers s lines f.given after in
+    let P : List Line → Type 0 = λ lines. Runs AnswersLine s lines f.given after in
     let lines : numbered input ≡ [] → ⊥ = λ none.
     let nothing : (f.given ≡ []) × (after ≡ s) = no_answers s f.given after (subst P none f.run) in
-    some (f.counted ∙ ap refusals nothing.0) (ap (λ (x : Evaluator). x.code) nothing.1 ∙ e)
+    some (f.counted ∙ ap refusals nothing.0) (nothing.1 ∙ e)
     in
     let all : eval_answers input ≡ line_answers (numbered input) = some_lines (numbered input) lines in
     record {
@@ -55,7 +55,7 @@ ends_well s after input left held holds n e some f =
       to_end = λ goes. f.to_end (makes.over ∙ sym (ap is_over all) ∙ goes);
     }
   where
-    no_answers : (s : Evaluator) (given : List Answer) (after : Evaluator) → Runs answers s [] given after → (given ≡ []) × (after ≡ s)
+    no_answers : (s : Option CodeView) (given : List Answer) (after : Option CodeView) → Runs AnswersLine s [] given after → (given ≡ []) × (after ≡ s)
     no_answers s [] after r = (refl, r)
     no_answers s (a ∷ more) after r = absurd r
 
@@ -68,8 +68,8 @@ pub record IsSilent (input : List ℕ) (left held holds : Option (List ℕ)) : T
   pub within : length read ≤ input_limit
   pub to_end : left ≡ Some []
 
-pub silent_run : (s after : Evaluator) (input : List ℕ) (left held holds : Option (List ℕ)) (n : ℕ) → s.code ≡ None → (n ≡ 0)
-    → (after.code ≡ None) → Finishes answers input_limit s after input left held holds n → IsSilent input left held holds
+pub silent_run : (s after : Option CodeView) (input : List ℕ) (left held holds : Option (List ℕ)) (n : ℕ) → s ≡ None → (n ≡ 0)
+    → (after ≡ None) → Finishes AnswersLine input_limit s after input left held holds n → IsSilent input left held holds
 silent_run s after input left held holds n e zero none f =
     let makes : Makes (numbered input) f.given after = whole_run s e (numbered input) f.given after f.run in
     let lines : numbered input ≡ [] = makes.silent none (sym f.counted ∙ zero) in
@@ -99,8 +99,8 @@ ends_empty input left held mid holds s w =
     }
 
 -- A fault ends a run as it ends the answers to its lines.
-pub breaks_off : (fault : StreamFault) (s now : Evaluator) (input : List ℕ) (left held holds : Option (List ℕ)) → s.code ≡ None
-    → Stops answers (λ _ _. ⊤) input_limit fault s now input left held holds → Breaks fault input left held holds
+pub breaks_off : (fault : StreamFault) (s now : Option CodeView) (input : List ℕ) (left held holds : Option (List ℕ)) → s ≡ None
+    → Stops AnswersLine (λ _ _. ⊤) input_limit fault s now input left held holds → Breaks fault input left held holds
 breaks_off fault s now input left held holds e f =
     let begins : Begins (numbered input) f.given = front_run s e (numbered input) f.given f.after f.run in
     record {
@@ -113,8 +113,8 @@ breaks_off fault s now input left held holds e f =
       reach = reach_to fault s now f.read f.given f.after begins.front e begins.text f.reach;
     }
   where
-    reach_to : (fault : StreamFault) (s now : Evaluator) (read : List ℕ) (given : List Answer) (after : Evaluator) (front : List Answer)
-        → s.code ≡ None → text_of given ≡ text_of front → Reaches answers (λ _ _. ⊤) input_limit fault s now read given after → ReachesTo fault read front
+    reach_to : (fault : StreamFault) (s now : Option CodeView) (read : List ℕ) (given : List Answer) (after : Option CodeView) (front : List Answer)
+        → s ≡ None → text_of given ≡ text_of front → Reaches AnswersLine (λ _ _. ⊤) input_limit fault s now read given after → ReachesTo fault read front
     reach_to Read s now read given after front e text r = sym text ∙ (whole_run s e _ given after r.1).text
     reach_to Write s now read given after front e text r = tt
     reach_to Memory s now read given after front e text r = tt

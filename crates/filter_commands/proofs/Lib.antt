@@ -8,3 +8,4 @@ pub mod Rewritten
 pub mod RouteLines
 mod Rows
 pub mod Saying
+pub mod Viewed

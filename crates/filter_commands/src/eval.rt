@@ -11,20 +11,23 @@ use crate::fault::ProgramFault;
 use crate::judge::Judge;
 use crate::line_fault::LineFault;
 use crate::route_line::read_route;
+use crate::watch::{Nobody, RefusedRoute, WatchRoutes, WhyRefused};
 use filter_code::Code;
 use filter_source::{Failure, check_length, read_hexadecimal};
 use line_protocol::{Reply, Service, answer_lines, push_refusal, trim_blanks, write_text};
 use std::alloc::{AllocError, Global};
 use std::io::{Read, Write};
 
-/// The service that answers the lines of `eval`.
+/// The service that answers the lines of `eval`, and who watches them.
 #[derive(Drop)]
-struct Evaluator {
+struct Evaluator<S: WatchRoutes + Drop> {
     /// The code of the filter, once its line has come.
     code: Judge,
+    /// Who watches the lines.
+    watcher: S,
 }
 
-impl Service for Evaluator {
+impl<S: WatchRoutes + Drop> Service for Evaluator<S> {
     ghost use Rattle.std.specs.Prelude.{⊤};
     ghost use Rattle.filter_commands.specs.Steps.{AnswersLine};
 
@@ -40,7 +43,7 @@ impl Service for Evaluator {
         out: &mut Vec<u8>,
     ) -> Result<Reply, AllocError> {
         if !self.code.is_awaiting() {
-            return answer_route(alloc, &mut self.code, number, line, out);
+            return answer_route(alloc, &mut self.code, &mut self.watcher, number, line, out);
         }
         match read_code_line(alloc, line) {
             Ok(code) => {
@@ -50,11 +53,30 @@ impl Service for Evaluator {
             Err(Failure::Refused(told)) => {
                 let why = told.refusal;
                 push_refusal(out, why.code(), why.place_in_line(number))?;
+                show(
+                    alloc,
+                    &mut self.watcher,
+                    number,
+                    line,
+                    WhyRefused::Code(told),
+                );
                 Ok(Reply::Ended)
             }
             Err(Failure::Memory) => Err(AllocError),
         }
     }
+}
+
+/// Shows a line that is refused to who watches.
+#[inline(always)]
+fn show<S: WatchRoutes>(alloc: Global, watcher: &mut S, number: u32, line: &[u8], why: WhyRefused) {
+    let refused = RefusedRoute {
+        number,
+        line,
+        size: None,
+        why,
+    };
+    watcher.see_refused(alloc, &refused);
 }
 
 /// The code of the first line that is answered: a code file in hexadecimal.
@@ -65,11 +87,12 @@ fn read_code_line(alloc: Global, line: &[u8]) -> Result<Code, Failure>
     read_hexadecimal(alloc, trim_blanks(line))
 }
 
-/// Answers a route line under a filter's code.
+/// Answers a route line under a filter's code. Where it is refused, it is shown to who watches.
 #[inline(always)]
-fn answer_route(
+fn answer_route<S: WatchRoutes>(
     alloc: Global,
     code: &mut Judge,
+    watcher: &mut S,
     number: u32,
     line: &[u8],
     out: &mut Vec<u8>,
@@ -87,6 +110,7 @@ fn answer_route(
         }
         Err(fault) => {
             push_refusal(out, fault.code(), u64::from(number))?;
+            show(alloc, watcher, number, line, WhyRefused::Route(fault));
             Ok(Reply::Refused)
         }
     }
@@ -104,11 +128,28 @@ pub fn eval_lines<R: Read, W: Write>(
     ensures broken_off { IfErr result (λ fault. IfSome (R.remaining reader.old) (λ input.
         Breaks (stream_fault fault) input (R.remaining reader.new) (W.contents writer.old) (W.contents writer.new))) }
 {
+    eval_watched_lines(alloc, reader, writer, Nobody)
+}
+
+/// Does what `eval_lines` does, and shows each line that is refused to who watches.
+pub fn eval_watched_lines<R: Read, W: Write, S: WatchRoutes + Drop>(
+    alloc: Global,
+    reader: &mut R,
+    writer: &mut W,
+    watcher: S,
+) -> Result<u32, ProgramFault>
+    ensures finished { IfOk result (λ refused. IfSome (R.remaining reader.old) (λ input.
+        Evaluates input (R.remaining reader.new) (W.contents writer.old) (W.contents writer.new) refused)) }
+    ensures broken_off { IfErr result (λ fault. IfSome (R.remaining reader.old) (λ input.
+        Breaks (stream_fault fault) input (R.remaining reader.new) (W.contents writer.old) (W.contents writer.new))) }
+{
     let mut evaluator = Evaluator {
         code: Judge::awaiting(),
+        watcher,
     };
     let refused = answer_lines(alloc, reader, writer, &mut evaluator)?;
     if refused == 0 && evaluator.code.is_awaiting() {
+        show(alloc, &mut evaluator.watcher, 0, b"", WhyRefused::NoCode);
         return refuse_empty(alloc, writer);
     }
     Ok(refused)

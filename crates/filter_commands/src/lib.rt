@@ -11,9 +11,10 @@ mod report;
 mod rewrite;
 mod route_line;
 mod verdict_line;
+mod watch;
 
 pub use check::{check_text, code_of, write_report};
-pub use eval::eval_lines;
+pub use eval::{eval_lines, eval_watched_lines};
 pub use fault::ProgramFault;
 pub use laws::{
     printed_code_is_checked_alike, printed_code_is_evaluated, route_lines,
@@ -22,6 +23,7 @@ pub use laws::{
 pub use line_fault::LineFault;
 pub use rewrite::rewrite_text;
 pub use verdict_line::push_accept;
+pub use watch::{Nobody, RefusedRoute, WatchRoutes, WhyRefused};
 
 /// A number of a route line is at most this.
 pub const NUMBER_LIMIT: u32 = 65_535;

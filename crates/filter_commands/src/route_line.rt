@@ -74,6 +74,7 @@ fn read_words(line: &[u8]) -> Result<Route, LineFault>
 }
 
 /// Reads a route line, which is at most as long as a line may be.
+#[inline(always)]
 pub fn read_route(line: &[u8]) -> Result<Route, LineFault>
     ensures { result ≡ route_in line.now }
 {
