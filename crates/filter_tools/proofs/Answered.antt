@@ -13,12 +13,10 @@ use Rattle.filter_commands.specs.Eval.{Line, answer_of}
 use Rattle.filter_commands.specs.declared.line_fault.LineFault.{LineFault}
 use Rattle.filter_tools.specs.Filtering.{AnswersEach, AnswersFirst, ReachesTo, code_answer, routes_limit}
 use Rattle.filter_tools.specs.RouteOfSize.{route_of_size}
-use Rattle.filter_tools.specs.declared.filter.RouteFilter.{RouteFilter}
 
 -- how the service answers a line
-abbrev pub answers : RouteFilter → ℕ → List ℕ → Answer → RouteFilter → Type 0
-answers before number line answer after =
-    (after.verified ≡ before.verified) × (answer ≡ code_answer before.verified.program before.verified.size (number, line))
+abbrev pub answers : VerifiedView → ℕ → List ℕ → Answer → VerifiedView → Type 0
+answers before number line answer after = (after ≡ before) × (answer ≡ code_answer before.program before.size (number, line))
 
 -- the answer of verified code
 abbrev pub answer_by : VerifiedView → Line → Answer
@@ -36,12 +34,12 @@ none_is_over : (v : VerifiedView) (lines : List Line) → is_over (map (answer_b
 none_is_over v [] = refl
 none_is_over v (l ∷ ls) = rw (line_goes_on v l) (none_is_over v ls)
 
-here : (v : VerifiedView) (s mid : RouteFilter) (l : Line) (a : Answer) → s.verified ≡ v → answers s l.0 l.1 a mid
-    → (a ≡ answer_by v l) × (mid.verified ≡ v)
+here : (v : VerifiedView) (s mid : VerifiedView) (l : Line) (a : Answer) → s ≡ v → answers s l.0 l.1 a mid
+    → (a ≡ answer_by v l) × (mid ≡ v)
 here v s mid l a e h = (h.1 ∙ ap (λ (w : VerifiedView). answer_by w l) e, h.0 ∙ e)
 
 -- all lines are answered by the code
-all_lines : (v : VerifiedView) (s : RouteFilter) → s.verified ≡ v → (lines : List Line) (given : List Answer) (after : RouteFilter)
+all_lines : (v : VerifiedView) (s : VerifiedView) → s ≡ v → (lines : List Line) (given : List Answer) (after : VerifiedView)
     → Runs answers s lines given after → given ≡ map (answer_by v) lines
 all_lines v s e [] [] after r = refl
 all_lines v s e [] (a ∷ more) after r = absurd r
@@ -54,7 +52,7 @@ all_lines v s e (l ∷ ls) (a ∷ more) after r =
     ap (λ (x : Answer). x ∷ more) now.0 ∙ ap (λ (xs : List Answer). answer_by v l ∷ xs) rest
 
 -- the first lines are
-first_lines : (v : VerifiedView) (s : RouteFilter) → s.verified ≡ v → (lines : List Line) (given : List Answer) (after : RouteFilter)
+first_lines : (v : VerifiedView) (s : VerifiedView) → s ≡ v → (lines : List Line) (given : List Answer) (after : VerifiedView)
     → RunsFront answers s lines given after → (others : List Answer) × (map (answer_by v) lines ≡ given ++ others)
 first_lines v s e lines [] after r = (map (answer_by v) lines, refl)
 first_lines v s e [] (a ∷ more) after r = absurd r
@@ -66,8 +64,8 @@ first_lines v s e (l ∷ ls) (a ∷ more) after r =
     (rest.0, ap (λ (xs : List Answer). answer_by v l ∷ xs) rest.1 ∙ ap (λ (x : Answer). x ∷ (more ++ rest.0)) (sym now.0))
 
 -- a run of the service answers each line
-pub ends_well : (v : VerifiedView) (s after : RouteFilter) (input : List ℕ) (left held holds : Option (List ℕ)) (n : ℕ)
-    → s.verified ≡ v → Finishes answers routes_limit s after input left held holds n → AnswersEach (answer_by v) input left held holds n
+pub ends_well : (v : VerifiedView) (s after : VerifiedView) (input : List ℕ) (left held holds : Option (List ℕ)) (n : ℕ)
+    → s ≡ v → Finishes answers routes_limit s after input left held holds n → AnswersEach (answer_by v) input left held holds n
 ends_well v s after input left held holds n e f =
     let all : f.given ≡ map (answer_by v) (numbered input) = all_lines v s e (numbered input) f.given after f.run in
     record {
@@ -76,16 +74,16 @@ ends_well v s after input left held holds n e f =
       to_end = f.to_end (ap is_over all ∙ none_is_over v (numbered input));
     }
 
-reach_to : (v : VerifiedView) (fault : StreamFault) (s now : RouteFilter) (read : List ℕ) (given : List Answer) (after : RouteFilter)
-    → s.verified ≡ v → Reaches answers (λ _ _. ⊤) routes_limit fault s now read given after → ReachesTo (answer_by v) fault read given
+reach_to : (v : VerifiedView) (fault : StreamFault) (s now : VerifiedView) (read : List ℕ) (given : List Answer) (after : VerifiedView)
+    → s ≡ v → Reaches answers (λ _ _. ⊤) routes_limit fault s now read given after → ReachesTo (answer_by v) fault read given
 reach_to v Read s now read given after e r = all_lines v s e _ given after r.1
 reach_to v Write s now read given after e r = tt
 reach_to v Memory s now read given after e r = tt
 reach_to v TooLong s now read given after e r = (r.0, all_lines v s e _ given after r.2)
 
 -- a fault ends it behind the first lines
-pub breaks_off : (v : VerifiedView) (fault : StreamFault) (s now : RouteFilter) (input : List ℕ) (left held holds : Option (List ℕ))
-    → s.verified ≡ v → Stops answers (λ _ _. ⊤) routes_limit fault s now input left held holds → AnswersFirst (answer_by v) fault input left held holds
+pub breaks_off : (v : VerifiedView) (fault : StreamFault) (s now : VerifiedView) (input : List ℕ) (left held holds : Option (List ℕ))
+    → s ≡ v → Stops answers (λ _ _. ⊤) routes_limit fault s now input left held holds → AnswersFirst (answer_by v) fault input left held holds
 breaks_off v fault s now input left held holds e f =
     let first = first_lines v s e (numbered input) f.given f.after f.run in
     record {

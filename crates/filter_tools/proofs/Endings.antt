@@ -1,5 +1,6 @@
 -- How a run of `filter` ends, by its text.
 use Rattle.std.proofs.Common.{◌≡◌, ℕ, false, List, Option, Some, None, IfSome, IfErr, IfOk, Result, Ok, Err, inl, inr, refl, sym, subst, ◌∙◌, ap}
+use Rattle.std.specs.Io.KnownBytes.{Appends}
 use Rattle.filter_code.specs.CodeView.{CodeView}
 use Rattle.filter_parser.specs.SyntaxText.{FilterView}
 use Rattle.filter_source.specs.Diagnoses.{TellsOfCode}
@@ -65,6 +66,14 @@ module _ (text : List ℕ) (size : ℕ) (v : VerifiedView) (same : v.size ≡ si
   answered known left held holds n =
       if_known known (λ input f. (filter, is_filter, each_alike (answer_by v) (filter_answer filter size) alike input left held holds n f))
 
+  pub first_meant : (known left held holds : Option (List ℕ)) (fault : StreamFault)
+      → IfSome known (λ input. AnswersFirst (answer_by v) fault input left held holds)
+      → IfSome known (λ input. (filter : FilterView) × IsFilterOf text size filter
+      × AnswersFirst (filter_answer filter size) fault input left held holds)
+  first_meant known left held holds fault =
+      if_known known (λ input f.
+      (filter, is_filter, first_alike (answer_by v) (filter_answer filter size) alike fault input left held holds f))
+
   pub broken_off : (known left held holds : Option (List ℕ)) (fault : StreamFault)
       → IfSome known (λ input. AnswersFirst (answer_by v) fault input left held holds)
       → IfSome known (λ input. FiltersOff fault size text input left held holds)
@@ -85,3 +94,10 @@ pub cut_off : (fault : StreamFault) (size : ℕ) (text : List ℕ) (known held h
     → IfSome known (λ input. FiltersOff fault size text input known held holds)
 cut_off fault size text None held holds told r w = tt
 cut_off fault size text (Some input) held holds told r w = cut fault size text input held holds told r w
+
+-- a filter that is refused
+pub refused_alone : (size : ℕ) (text : List ℕ) (known held holds : Option (List ℕ)) (told : Diagnosis)
+    → IsDiagnosis size false text told → Appends held holds (refusal_line told.refusal)
+    → IfSome known (λ input. Filters size text input known held holds (filtered.Refused told))
+refused_alone size text None held holds told r w = tt
+refused_alone size text (Some input) held holds told r w = (r, refl, w)

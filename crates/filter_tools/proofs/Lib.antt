@@ -1,6 +1,7 @@
 pub mod Meant
 pub mod Answered
 pub mod Endings
+pub mod Told
 pub mod Listings
 pub mod Cut
 mod Rows

@@ -14,7 +14,9 @@ ghost use Rattle.filter_verifier.specs.Safe.{IsSafe};
 ghost use Rattle.filter_tools.specs.Filtering.{AnswersEach, AnswersFirst, Filters, FiltersOff, code_answer, refusal_line};
 
 use crate::route_of_size::read_route;
-use filter_commands::{ProgramFault, code_of, push_accept};
+use filter_commands::{
+    Nobody, ProgramFault, RefusedRoute, WatchRoutes, WhyRefused, code_of, push_accept,
+};
 use filter_compiler::MappedCode;
 use filter_machine::{Verdict, run};
 use filter_source::{Diagnosis, Failure, Refusal, verify_mapped};
@@ -38,14 +40,16 @@ pub enum Filtered {
     Answered(u32),
 }
 
-/// The service that answers route lines by a verified filter.
+/// The service that answers route lines by a verified filter, and who watches them.
 #[derive(Drop)]
-struct RouteFilter {
+struct RouteFilter<S: WatchRoutes + Drop> {
     /// The code of the filter.
     verified: Verified,
+    /// Who watches the lines.
+    watcher: S,
 }
 
-impl Service for RouteFilter {
+impl<S: WatchRoutes + Drop> Service for RouteFilter<S> {
     ghost use Rattle.std.specs.Prelude.{⊤};
 
     ghost answers = { λ before number line answer after. (after.verified ≡ before.verified)
@@ -55,16 +59,17 @@ impl Service for RouteFilter {
 
     fn answer(
         &mut self,
-        _alloc: Global,
+        alloc: Global,
         number: u32,
         line: &[u8],
         out: &mut Vec<u8>,
     ) -> Result<Reply, AllocError> {
-        answer_route(&self.verified, number, line, out)
+        answer_route(alloc, &self.verified, &mut self.watcher, number, line, out)
     }
 }
 
 /// Puts the line of a verdict at the end of `out`.
+#[inline(always)]
 fn push_verdict(out: &mut Vec<u8>, said: Verdict) -> Result<(), AllocError>
     ensures ok { OnOk result (out.new.items ≡ out.old.items ++ verdict (outcome_said said)) }
     ensures err { OnErr result (StartsWith out.new.items out.old.items) }
@@ -75,9 +80,13 @@ fn push_verdict(out: &mut Vec<u8>, said: Verdict) -> Result<(), AllocError>
     }
 }
 
-/// Answers a route line by verified code, in domains of the size that it was verified for.
-fn answer_route(
+/// Answers a route line by verified code, in domains of the size that it was verified for. Where it is refused, it is shown to who
+/// watches.
+#[inline(always)]
+fn answer_route<S: WatchRoutes>(
+    alloc: Global,
     verified: &Verified,
+    watcher: &mut S,
     number: u32,
     line: &[u8],
     out: &mut Vec<u8>,
@@ -95,6 +104,13 @@ fn answer_route(
         }
         Err(fault) => {
             push_refusal(out, fault.code(), u64::from(number))?;
+            let refused = RefusedRoute {
+                number,
+                line,
+                size: Some(verified.size()),
+                why: WhyRefused::Route(fault),
+            };
+            watcher.see_refused(alloc, &refused);
             Ok(Reply::Refused)
         }
     }
@@ -111,12 +127,13 @@ pub fn verified_filter(alloc: Global, text: &[u8], size: u32) -> Result<Verified
     verify_mapped(alloc, code, places.as_slice(), size)
 }
 
-/// Answers each line of `reader` on `writer` by verified code.
-fn answer_routes<R: Read, W: Write>(
+/// Answers each line of `reader` on `writer` by verified code, and shows each that is refused to who watches.
+pub(crate) fn answer_routes<R: Read, W: Write, S: WatchRoutes + Drop>(
     alloc: Global,
     verified: Verified,
     reader: &mut R,
     writer: &mut W,
+    watcher: S,
 ) -> Result<u32, ProgramFault>
     ensures finished { IfOk result (λ refused. IfSome (R.remaining reader.old) (λ input.
         AnswersEach (code_answer verified.program verified.size) input (R.remaining reader.new)
@@ -125,7 +142,7 @@ fn answer_routes<R: Read, W: Write>(
         AnswersFirst (code_answer verified.program verified.size) (stream_fault fault) input (R.remaining reader.new)
         (W.contents writer.old) (W.contents writer.new))) }
 {
-    let mut service = RouteFilter { verified };
+    let mut service = RouteFilter { verified, watcher };
     Ok(answer_lines_within(alloc, ROUTES_LIMIT, reader, writer, &mut service)?)
 }
 
@@ -165,7 +182,7 @@ pub fn filter_lines<R: Read, W: Write>(
 {
     match verified_filter(alloc, text, size) {
         Ok(verified) => {
-            let refused = answer_routes(alloc, verified, reader, writer)?;
+            let refused = answer_routes(alloc, verified, reader, writer, Nobody)?;
             Ok(Filtered::Answered(refused))
         }
         Err(Failure::Refused(told)) => {

@@ -14,7 +14,10 @@ mod place;
 mod position;
 mod remedies;
 mod route_of_size;
+mod route_words;
 mod shown;
+mod spelling;
+mod told_routes;
 mod words;
 
 pub use explanation::{explain, explain_line, tell_at};
@@ -27,3 +30,5 @@ pub use place::{Place, place_in};
 pub use position::{Position, Positions};
 pub use route_of_size::read_route;
 pub use shown::push_shown;
+pub use spelling::{byte_of_word, count_words, from_word, short_text, spelled, word_at};
+pub use told_routes::{Routes, eval_named, filter_named};

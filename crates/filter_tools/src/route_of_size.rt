@@ -69,6 +69,7 @@ fn read_words(line: &[u8], size: u32) -> Result<Route, LineFault>
 }
 
 /// Reads a route line, which is at most as long as a line may be, in a domain of a size.
+#[inline(always)]
 pub fn read_route(line: &[u8], size: u32) -> Result<Route, LineFault>
     ensures { result ≡ route_of_size size line.now }
 {

@@ -1,0 +1,163 @@
+//! `ncroute filter` and `ncroute eval` for people: each line that is refused is told in words.
+ghost use Rattle.std.specs.Prelude.{Some, IfErr, IfOk, IfSome, OnOk};
+ghost use Rattle.std.specs.Io.KnownBytes.{Appends};
+ghost use Rattle.filter_commands.specs.Evaluation.{Breaks, Evaluates};
+ghost use Rattle.filter_commands.specs.Faults.{stream_fault};
+ghost use Rattle.filter_tools.specs.Filtering.{AnswersEach, AnswersFirst, Filters, code_answer, refusal_line};
+ghost use Rattle.filter_tools.specs.Naming.{TellsInWords};
+ghost use Rattle.filter_tools.specs.Telling.{IsCutExplanation};
+ghost use Rattle.filter_tools.specs.ToldRoutes.{FiltersNamedOff, IsCutRefusal, IsQuiet, TellsFiltered};
+
+use crate::filter::{Filtered, answer_routes, verified_filter, write_refusal};
+use crate::named::tell;
+use crate::route_words::explain_route;
+use filter_commands::{Nobody, ProgramFault, RefusedRoute, WatchRoutes, eval_watched_lines};
+use filter_source::{Diagnosis, Failure};
+use filter_verifier::Verified;
+use line_protocol::write_text;
+use std::alloc::Global;
+use std::io::{Read, Write};
+
+/// The lines that give routes.
+#[derive(Clone, Copy)]
+pub struct Routes<'a> {
+    /// The name by which people know them.
+    pub name: &'a [u8],
+    /// Why one of them is refused is told in words.
+    pub is_told: bool,
+}
+
+/// Tells people on `errors` why a line is refused. Where these take no text, or memory is refused, people are not told: the answer on
+/// standard output stays.
+#[derive(Drop)]
+struct Teller<'a, E: Write> {
+    /// The name by which people know the lines.
+    name: &'a [u8],
+    /// What people read.
+    errors: &'a mut E,
+}
+
+impl<'a, E: Write> WatchRoutes for Teller<'a, E> {
+    fn see_refused(&mut self, alloc: Global, refused: &RefusedRoute<'_>) {
+        if let Ok(words) = explain_route(alloc, self.name, refused) {
+            let _ = write_text(self.errors, words.as_slice());
+        }
+    }
+}
+
+/// Answers each line of `reader` on `writer` by verified code. Each that is refused is told in words where `routes` says so.
+fn answer_told<R: Read, W: Write, E: Write>(
+    alloc: Global,
+    verified: Verified,
+    routes: Routes<'_>,
+    reader: &mut R,
+    writer: &mut W,
+    errors: &mut E,
+) -> Result<u32, ProgramFault>
+    ensures finished { IfOk result (λ refused. IfSome (R.remaining reader.old) (λ input.
+        AnswersEach (code_answer verified.program verified.size) input (R.remaining reader.new)
+        (W.contents writer.old) (W.contents writer.new) refused)) }
+    ensures broken_off { IfErr result (λ fault. IfSome (R.remaining reader.old) (λ input.
+        AnswersFirst (code_answer verified.program verified.size) (stream_fault fault) input (R.remaining reader.new)
+        (W.contents writer.old) (W.contents writer.new))) }
+    ensures quiet { IsQuiet routes.entry.is_told (E.contents errors.old) (E.contents errors.new) }
+{
+    if routes.is_told {
+        let name = routes.name;
+        answer_routes(alloc, verified, reader, writer, Teller { name, errors })
+    } else {
+        answer_routes(alloc, verified, reader, writer, Nobody)
+    }
+}
+
+/// Tells a refusal in words where `is_explained` says so.
+fn tell_wanted<E: Write>(
+    alloc: Global,
+    text: &[u8],
+    name: &[u8],
+    told: &Diagnosis,
+    is_explained: bool,
+    errors: &mut E,
+) -> Result<(), ProgramFault>
+    ensures ok { OnOk result (TellsInWords is_explained name.now text.now (Some told.now) (E.contents errors.old) (E.contents errors.new)) }
+    ensures err { IfErr result (λ fault. IsCutExplanation (stream_fault fault) name.now text.now told.now
+        (E.contents errors.old) (E.contents errors.new)) }
+{
+    if is_explained {
+        tell(alloc, errors, name, text, told)
+    } else {
+        Ok(())
+    }
+}
+
+/// Writes the line that refuses a filter, and tells it in words where `is_explained` says so.
+fn refuse_told<W: Write, E: Write>(
+    alloc: Global,
+    text: &[u8],
+    name: &[u8],
+    told: &Diagnosis,
+    is_explained: bool,
+    writer: &mut W,
+    errors: &mut E,
+) -> Result<(), ProgramFault>
+    ensures ok { OnOk result (Appends (W.contents writer.old) (W.contents writer.new) (refusal_line told.now.refusal)
+        × TellsInWords is_explained name.now text.now (Some told.now) (E.contents errors.old) (E.contents errors.new)) }
+    ensures err { IfErr result (λ fault. IsCutRefusal (stream_fault fault) name.now text.now told.now
+        (W.contents writer.old) (W.contents writer.new) (E.contents errors.old) (E.contents errors.new)) }
+{
+    match write_refusal(alloc, writer, told.refusal) {
+        Ok(()) => tell_wanted(alloc, text, name, told, is_explained, errors),
+        Err(fault) => Err(fault),
+    }
+}
+
+/// Does what `filter_lines` does. Where `is_explained` says so, the refusal of the filter, which people know by `name`, is told in words on
+/// `errors`; and the refusal of a line where `routes` says so.
+pub fn filter_named<R: Read, W: Write, E: Write>(
+    alloc: Global,
+    text: &[u8],
+    size: u32,
+    name: &[u8],
+    is_explained: bool,
+    routes: Routes<'_>,
+    reader: &mut R,
+    writer: &mut W,
+    errors: &mut E,
+) -> Result<Filtered, ProgramFault>
+    ensures finished { IfOk result (λ filtered. IfSome (R.remaining reader.old) (λ input.
+        Filters size text.now input (R.remaining reader.new) (W.contents writer.old) (W.contents writer.new) filtered)) }
+    ensures told { IfOk result (λ filtered. TellsFiltered is_explained routes.entry.is_told name.now text.now filtered (E.contents errors.old) (E.contents errors.new)) }
+    ensures broken_off { IfErr result (λ fault. FiltersNamedOff (stream_fault fault) size routes.entry.is_told name.now text.now
+        (R.remaining reader.old) (R.remaining reader.new) (W.contents writer.old) (W.contents writer.new)
+        (E.contents errors.old) (E.contents errors.new)) }
+{
+    match verified_filter(alloc, text, size) {
+        Ok(verified) => match answer_told(alloc, verified, routes, reader, writer, errors) {
+            Ok(refused) => Ok(Filtered::Answered(refused)),
+            Err(fault) => Err(fault),
+        },
+        Err(Failure::Refused(told)) => {
+            match refuse_told(alloc, text, name, &told, is_explained, writer, errors) {
+                Ok(()) => Ok(Filtered::Refused(told)),
+                Err(fault) => Err(fault),
+            }
+        }
+        Err(Failure::Memory) => Err(ProgramFault::MEMORY),
+    }
+}
+
+/// Does what `eval_lines` does, and tells in words on `errors` why each line is refused that is. People know the lines by a name.
+pub fn eval_named<R: Read, W: Write, E: Write>(
+    alloc: Global,
+    name: &[u8],
+    reader: &mut R,
+    writer: &mut W,
+    errors: &mut E,
+) -> Result<u32, ProgramFault>
+    ensures finished { IfOk result (λ refused. IfSome (R.remaining reader.old) (λ input.
+        Evaluates input (R.remaining reader.new) (W.contents writer.old) (W.contents writer.new) refused)) }
+    ensures broken_off { IfErr result (λ fault. IfSome (R.remaining reader.old) (λ input.
+        Breaks (stream_fault fault) input (R.remaining reader.new) (W.contents writer.old) (W.contents writer.new))) }
+{
+    eval_watched_lines(alloc, reader, writer, Teller { name, errors })
+}
