@@ -1,73 +1,8 @@
 //! The words of a line, as they are repeated to people.
 
-use line_protocol::next_word;
+pub(crate) use filter_tools::{byte_of_word, count_words, from_word, short_text, spelled, word_at};
 use operator_cmds::read_small;
 use std::alloc::{AllocError, Global};
-use std::str;
-
-/// A word of more bytes than this is not repeated.
-const SPELLED_LIMIT: usize = 64;
-
-/// What is left of a line from its word of this index on; nothing where it has fewer words.
-pub(crate) fn from_word(line: &[u8], index: usize) -> &[u8] {
-    let mut rest = line;
-    for _ in 0..index {
-        match next_word(rest) {
-            Some((_, after)) => rest = after,
-            None => return b"",
-        }
-    }
-    match next_word(rest) {
-        Some((word, after)) => rest
-            .split_at(
-                rest.len()
-                    .saturating_sub(word.len().saturating_add(after.len())),
-            )
-            .1,
-        None => b"",
-    }
-}
-
-/// The byte at which the word of this index begins; the line's end where it has fewer words.
-pub(crate) fn byte_of_word(line: &[u8], index: usize) -> usize {
-    line.len().saturating_sub(from_word(line, index).len())
-}
-
-/// The word of this index; nothing where the line has fewer words.
-pub(crate) fn word_at(line: &[u8], index: usize) -> &[u8] {
-    match next_word(from_word(line, index)) {
-        Some((word, _)) => word,
-        None => b"",
-    }
-}
-
-/// The number of words of a line, or a number above a limit where it has more than that.
-pub(crate) fn count_words(line: &[u8], limit: usize) -> usize {
-    let mut rest = line;
-    for count in 0..=limit {
-        match next_word(rest) {
-            Some((_, after)) => rest = after,
-            None => return count,
-        }
-    }
-    limit.saturating_add(1)
-}
-
-/// A word, if it is a text that is short enough to be repeated.
-pub(crate) fn short_text(word: &[u8]) -> Option<&str> {
-    if word.len() > SPELLED_LIMIT {
-        return None;
-    }
-    str::from_utf8(word).ok()
-}
-
-/// A word in backticks, where it can be repeated.
-pub(crate) fn spelled(alloc: Global, word: &[u8]) -> Result<String, AllocError> {
-    match short_text(word) {
-        Some(text) => format!(in alloc; "`{text}`"),
-        None => String::from_str(alloc, "this word"),
-    }
-}
 
 /// The number that the word of this index is; 0 where it is none.
 pub(crate) fn number_at(line: &[u8], index: usize) -> u16 {

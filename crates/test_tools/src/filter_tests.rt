@@ -2,7 +2,7 @@
 
 use expectations::{expect, expect_bytes};
 use filter_commands::ProgramFault;
-use filter_tools::{Filtered, filter_lines};
+use filter_tools::{Filtered, Routes, filter_lines, filter_named};
 use std::alloc::Global;
 use std::test::Fail;
 
@@ -12,6 +12,9 @@ const UP_TWO: &[u8] =
 /// Routes, of which the third and the last are refused.
 const ROUTES: &[u8] = b"8.8.8.0/24 3\n10.1.0.0/16 3\n8.8.8.0/24 17\n# a comment\n8.8.8.0/24 x";
 
+/// The answers to them.
+const ANSWERS: &[u8] = b"accept 5\nreject\nrefused O2 3\nrefused O2 5\n";
+
 #[test]
 fn routes_are_answered(rt: HostRuntime) -> Result<(), Fail> {
     let mut reader = ROUTES;
@@ -19,10 +22,7 @@ fn routes_are_answered(rt: HostRuntime) -> Result<(), Fail> {
     let filtered = filter_lines(rt.alloc(), UP_TWO, 16, &mut reader, &mut writer);
     let is_answered = matches!(filtered, Ok(Filtered::Answered(2)));
     expect(is_answered, "two lines are refused")?;
-    expect_bytes(
-        writer.as_slice(),
-        b"accept 5\nreject\nrefused O2 3\nrefused O2 5\n",
-    )
+    expect_bytes(writer.as_slice(), ANSWERS)
 }
 
 /// Whether a filter is refused for a size, and no route is read.
@@ -59,4 +59,30 @@ fn faults_end_the_run(rt: HostRuntime) -> Result<(), Fail> {
     let filtered = filter_lines(rt.alloc(), UP_TWO, 16, &mut reader, &mut short);
     let is_cut = matches!(filtered, Err(ProgramFault::WRITE));
     expect(is_cut, "an output that fails")
+}
+
+/// Where words about lines find no room, the answers are the same.
+#[test]
+fn words_that_are_not_taken_change_no_answer(rt: HostRuntime) -> Result<(), Fail> {
+    let mut room = [0; 4];
+    let mut short = room.as_mut_slice();
+    let (mut reader, mut writer) = (ROUTES, Vec::new(rt.alloc()));
+    let routes = Routes {
+        name: b"routes",
+        is_told: true,
+    };
+    let filtered = filter_named(
+        rt.alloc(),
+        UP_TWO,
+        16,
+        b"up.filter",
+        true,
+        routes,
+        &mut reader,
+        &mut writer,
+        &mut short,
+    );
+    let is_answered = matches!(filtered, Ok(Filtered::Answered(2)));
+    expect(is_answered, "two lines are refused")?;
+    expect_bytes(writer.as_slice(), ANSWERS)
 }

@@ -1,7 +1,7 @@
 //! The words of a refusal: what stands there, and what to write in its place.
 
 use expectations::{expect, expect_bytes};
-use filter_tools::{check_named, explain_line};
+use filter_tools::{check_named, eval_named, explain_line};
 use std::test::Fail;
 
 /// A filter with a mistake.
@@ -16,6 +16,13 @@ const TOLD: &[u8] =
 
 const TOLD_OF_LINE: &[u8] =
     b"f:7:19: `acept` is no command; did you mean `accept`? (P2)\nload a filter a { acept; }\n                  ^\n";
+
+/// Routes through a code file, of which the second is none.
+const ROUTES: &[u8] = b"4e434632000000000170\n8.8.8.0/24 3 16\n8.8.8.0/33 3 16\n";
+
+/// What is told of it.
+const TOLD_OF_ROUTE: &[u8] =
+    b"r:3:1: `8.8.8.0/33` is no prefix: write one as 10.0.0.0/8 (O8)\n8.8.8.0/33 3 16\n^\n";
 
 /// A filter that a script's line loads is told at the line's number and its column.
 #[test]
@@ -38,6 +45,18 @@ fn refusals_are_told(rt: HostRuntime) -> Result<(), Fail> {
     let said = explain_line(alloc, b"f", 7, LINE, MISTAKE, &why)?;
     expect_bytes(errors.as_slice(), TOLD)?;
     expect_bytes(said.as_slice(), TOLD_OF_LINE)
+}
+
+/// A line that gives no route is told.
+#[test]
+fn refused_routes_are_told(rt: HostRuntime) -> Result<(), Fail> {
+    let alloc = rt.alloc();
+    let mut reader = ROUTES;
+    let (mut writer, mut errors) = (Vec::new(alloc), Vec::new(alloc));
+    let evaluated = eval_named(alloc, b"r", &mut reader, &mut writer, &mut errors);
+    expect(matches!(evaluated, Ok(1)), "one line is refused")?;
+    expect_bytes(writer.as_slice(), b"accept 3\nrefused O8 3\n")?;
+    expect_bytes(errors.as_slice(), TOLD_OF_ROUTE)
 }
 
 /// Nothing is told of a filter that is verified.
