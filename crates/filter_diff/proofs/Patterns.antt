@@ -127,3 +127,10 @@ ip_matches net q kept h fits few =
     same_from_decides _ _
     (Decides-like _ (ip_there net q kept h fits few) (ip_back net q kept h fits few) (matches-Decides net (pattern q 0 32)))
     (lies_within-Decides (address_bits (address_of (take kept net))) q)
+
+-- the first address of a prefix lies within it
+pub own_lies : (net : List Bool) (kept : ℕ) → kept ≡ length net → length net ≤ 32 →
+    lies_within (address_bits (address_of (take kept net))) net ≡ true
+own_lies net kept e fits =
+    (lies_within-Decides (address_bits (address_of (take kept net))) net).1
+    (ip_there net net kept (omega arith) fits (omega arith) (record { low = omega arith; high = fits; same = refl }))

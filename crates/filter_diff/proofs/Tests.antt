@@ -1,7 +1,10 @@
 -- Tests of symbols by patterns and by bounds.
 use Rattle.std.proofs.Common.{◌≡◌, ℕ, ◌+◌, ◌-◌, ◌*◌, ◌%◌, ◌^◌, ◌≤◌, Bool, true, Option, Some, None, List, length, take, refl, sym, ◌∙◌, subst, arith}
 use Rattle.std.specs.Prelude.{IfSome}
-use Rattle.prefix_patterns.specs.Bits.{address_of}
+use Rattle.prefix_patterns.specs.Bits.{address_bits, address_of, prefix_bits}
+use Rattle.prefix_patterns.specs.BitLists.{length-bits}
+use Rattle.std.proofs.lemmas.List.{take_all}
+use Rattle.prefix_patterns.specs.declared.address.Ip.{Ip}
 use Rattle.prefix_patterns.specs.Matching.{matches}
 use Rattle.filter_code.specs.RouteView.{RouteView}
 use Rattle.filter_diff.specs.Classes.{Always}
@@ -10,7 +13,7 @@ use Rattle.filter_diff.specs.declared.class.Class.{Class}
 use Rattle.filter_diff.specs.declared.symbol.Symbol.{Symbol}
 use Rattle.filter_diff.specs.declared.symbol.Symbol.TheVariants as symbol
 use Rattle.filter_diff.proofs.Addresses.{between}
-use Rattle.filter_diff.proofs.Patterns.{equals_matches, ip_matches, matches_equals, matches_within, same_self, within_matches, within_self}
+use Rattle.filter_diff.proofs.Patterns.{equals_matches, ip_matches, matches_equals, matches_within, own_lies, same_self, within_matches, within_self}
 
 -- a fact of what was told that follows from another
 pub told : {P Q : Bool → Type 0} (o : Option Bool) → IfSome o P → ((r : Bool) → P r → Q r) → IfSome o Q
@@ -83,6 +86,36 @@ prefix_within_own class a inner high is high_is r h route of =
       inner_is = refl;
       outer_is = refl;
       within = sym (matches_within route.net inner) ∙ m;
+    })
+
+pub ip_within_own : (class : Class) (ip : Ip) (bits : List Bool) → bits ≡ prefix_bits ip.0 32 → (r : Bool) → Match class bits 0 32 r →
+    Always class (λ (route : RouteView). IsWithin route (symbol.Ip ip) symbol.OwnNet r)
+ip_within_own class ip bits bits_are r h route of =
+    let long : length (address_bits ip.0) ≡ 32 = length-bits 32 ip.0 in
+    let all : bits ≡ address_bits ip.0 = bits_are ∙ take_all 32 (address_bits ip.0) (omega arith) in
+    let m : matches route.net (record { bits = address_bits ip.0; low = 0; high = length (address_bits ip.0) }) ≡ r =
+    subst (λ (n : ℕ). matches route.net (record { bits = address_bits ip.0; low = 0; high = n }) ≡ r) (sym long)
+    (subst (λ (b : List Bool). matches route.net (record { bits = b; low = 0; high = 32 }) ≡ r) all (h route of)) in
+    record {
+      inner = address_bits ip.0;
+      outer = route.net;
+      nested = refl;
+      inner_is = refl;
+      outer_is = refl;
+      within = sym (matches_within route.net (address_bits ip.0)) ∙ m;
+    }
+
+pub own_ip_within_own : (class : Class) (a : Symbol) (kept : ℕ) → a ≡ symbol.OwnIp kept → kept ≡ class.len →
+    Always class (λ (route : RouteView). IsWithin route a symbol.OwnNet true)
+own_ip_within_own class a kept is all route of =
+    subst (λ (s : Symbol). IsWithin route s symbol.OwnNet true) (sym is)
+    (record {
+      inner = _;
+      outer = route.net;
+      nested = refl;
+      inner_is = refl;
+      outer_is = refl;
+      within = own_lies route.net kept (all ∙ sym of.long) of.fits;
     })
 
 pub own_within_own : (route : RouteView) (a : Symbol) → a ≡ symbol.OwnNet → IsWithin route a symbol.OwnNet true

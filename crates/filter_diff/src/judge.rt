@@ -9,7 +9,7 @@ ghost use Rattle.filter_diff.specs.Judging.{IsBetween, IsEqual, IsLess, IsWithin
 
 use crate::class::Class;
 use crate::symbol::Symbol;
-use prefix_patterns::{ADDRESS_LENGTH, Pattern, Prefix};
+use prefix_patterns::{ADDRESS_LENGTH, Ip, Pattern, Prefix};
 
 /// Numbers between which the addresses lie that a symbol stands for. None if it may be no address.
 pub(crate) fn bounds(symbol: Symbol, class: &Class) -> Option<(u64, u64)>
@@ -174,12 +174,24 @@ fn within_prefix(a: Symbol, outer: Prefix, class: &Class) -> Option<bool>
     }
 }
 
+/// Whether an address lies within the route's prefix, if it does for all or for none.
+fn ip_within_net(ip: Ip, class: &Class) -> Option<bool>
+    ensures { IfSome result (λ r. Always class.now (λ route. IsWithin route (symbol.Ip ip) symbol.OwnNet r)) }
+{
+    match Prefix::new(ip, ADDRESS_LENGTH) {
+        Some(whole) => pattern_of(whole, 0, ADDRESS_LENGTH, class),
+        None => None,
+    }
+}
+
 /// Whether the first lies within the route's prefix, if all do or none does.
 fn within_net(a: Symbol, class: &Class) -> Option<bool>
     ensures { IfSome result (λ r. Always class.now (λ route. IsWithin route a symbol.OwnNet r)) }
 {
     match a {
+        Symbol::Ip(ip) => ip_within_net(ip, class),
         Symbol::Net(inner) => pattern_of(inner, 0, inner.len(), class),
+        Symbol::OwnIp(kept) if kept == class.len => Some(true),
         Symbol::OwnNet => Some(true),
         _ => None,
     }
