@@ -8,7 +8,7 @@ mod fixtures;
 #[cfg(test)]
 mod gate_tests;
 #[cfg(test)]
-mod test_links;
+mod link_tests;
 #[cfg(test)]
 mod meanwhile_tests;
 #[cfg(test)]
