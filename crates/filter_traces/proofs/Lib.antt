@@ -1,0 +1,13 @@
+pub mod Answered
+pub mod Counts
+pub mod Covered
+pub mod Covering
+pub mod CoverEndings
+pub mod Endings
+pub mod Explained
+pub mod HitRuns
+pub mod Instructions
+pub mod Lists
+pub mod Meant
+pub mod Runs
+pub mod Tracing

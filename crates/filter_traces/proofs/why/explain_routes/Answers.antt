@@ -1,0 +1,37 @@
+-- Each exit follows from how the routes were answered, or from how the refusal was written.
+use Rattle.std.proofs.Common.{false, subst}
+use Rattle.filter_source.proofs.Refused.{of_error}
+use Rattle.filter_source.specs.Failures.{OnDiagnosis}
+use Rattle.filter_commands.specs.Faults.{stream_fault}
+use Rattle.filter_commands.specs.Checking.{IsDiagnosis}
+use Rattle.filter_traces.proofs.Endings.{broken_off, cut_off, explained}
+use Rattle.filter_traces.proofs.why.explain_routes.Goals as goal
+
+pub returns-in_err-refused-in-Ok-clause-broken_off : goal.returns-in_err-refused-in-Ok-clause-broken_off
+returns-in_err-refused-in-Ok-clause-broken_off g c =
+    let t = c.in-Ok.ensures.traced in
+    let fault = c.in_err-refused-in-Ok.field-0.0 in
+    of_error c.from_residual.result _ fault c.from_residual.ensures.1
+    (broken_off c.args.text.now c.args.size t.0 c.in-Ok.traced t.1
+    (g.R.Read.remaining c.args.reader.now) (g.R.Read.remaining c.answer_whys.new.reader)
+    (g.W.Write.contents c.args.writer.now) (g.W.Write.contents c.answer_whys.new.writer) (stream_fault fault)
+    c.in_err-refused-in-Ok.ensures.broken_off)
+
+pub returns-in_err-write_refusal-in-Err-Refused-clause-broken_off : goal.returns-in_err-write_refusal-in-Err-Refused-clause-broken_off
+returns-in_err-write_refusal-in-Err-Refused-clause-broken_off g c =
+    let fault = c.in_err-write_refusal-in-Err-Refused.field-0.0 in
+    let known = g.R.Read.remaining c.args.reader.now in
+    of_error c.from_residual-in_err-write_refusal-in-Err-Refused.result _ fault
+    c.from_residual-in_err-write_refusal-in-Err-Refused.ensures.1
+    (cut_off (stream_fault fault) c.args.size c.args.text.now known
+    (g.W.Write.contents c.args.writer.now) (g.W.Write.contents c.write_refusal.new.writer) c.in-Err-Refused.told
+    (subst (OnDiagnosis (IsDiagnosis c.args.size false c.args.text.now)) c.in-Err-Refused.field-0-is c.in-Err-Refused.ensures.refused)
+    c.in_err-write_refusal-in-Err-Refused.ensures.err)
+
+pub returns-in_ok-refused-in-Ok-clause-finished : goal.returns-in_ok-refused-in-Ok-clause-finished
+returns-in_ok-refused-in-Ok-clause-finished g c =
+    let t = c.in-Ok.ensures.traced in
+    explained c.args.text.now c.args.size t.0 c.in-Ok.traced t.1
+    (g.R.Read.remaining c.args.reader.now) (g.R.Read.remaining c.answer_whys.new.reader)
+    (g.W.Write.contents c.args.writer.now) (g.W.Write.contents c.answer_whys.new.writer)
+    c.in_ok-refused-in-Ok.refused c.in_ok-refused-in-Ok.ensures.finished

@@ -1,0 +1,97 @@
+-- How many of some routes come to each command of a filter. (This project's own choice.)
+use Rattle.std.specs.Prelude.{◌≡◌, ◌<◌, ◌⊎◌, ◌-◌, ◌^◌, ℕ, Bool, false, min, count_by, List, [], length, Option, Some, None, Result, Ok, Err, slice_index}
+use Rattle.std.specs.Io.KnownBytes.{Appends}
+use Rattle.filter_code.specs.CodeView.{CodeView}
+use Rattle.filter_code.specs.RouteView.{RouteView}
+use Rattle.filter_parser.specs.SyntaxText.{FilterView}
+use Rattle.filter_source.specs.declared.diagnosis.Diagnosis.{Diagnosis}
+use Rattle.line_protocol.specs.Answers.{Answer, refusal}
+use Rattle.line_protocol.specs.Lines.{numbered}
+use Rattle.line_protocol.specs.Runs.{AppendsFront}
+use Rattle.line_protocol.specs.declared.answers.Reply.TheVariants as reply
+use Rattle.line_protocol.specs.declared.faults.StreamFault.{StreamFault}
+use Rattle.line_protocol.specs.declared.faults.StreamFault.TheVariants.{Write, Memory}
+use Rattle.filter_commands.specs.Checking.{IsDiagnosis}
+use Rattle.filter_commands.specs.Eval.{Line}
+use Rattle.filter_commands.specs.Evaluation.{IsCut}
+use Rattle.filter_commands.specs.RouteLine.{line_code}
+use Rattle.filter_commands.specs.declared.line_fault.LineFault.{LineFault}
+use Rattle.filter_tools.specs.Filtering.{AnswersEach, AnswersFirst, refusal_line}
+use Rattle.filter_tools.specs.RouteOfSize.{route_of_size}
+use Rattle.filter_tools.specs.declared.filter.Filtered.{Filtered}
+use Rattle.filter_tools.specs.declared.filter.Filtered.TheVariants.{Refused, Answered}
+use Rattle.filter_traces.specs.Commands.{coverage_text}
+use Rattle.filter_traces.specs.Hits.{comes_to, counted_up}
+use Rattle.filter_traces.specs.TracedView.{TracedView}
+use Rattle.filter_traces.specs.Whys.{IsTraceOf}
+use Rattle.filter_traces.specs.declared.coverage.Counter.{Counter}
+
+-- whether a line that was read so is a route whose run comes to the instruction at a place
+abbrev pub read_comes_to : CodeView → ℕ → Result RouteView LineFault → Bool
+read_comes_to program place (Ok route) = comes_to program route place
+read_comes_to program place (Err found) = false
+
+abbrev pub line_comes_to : TracedView → ℕ → Line → Bool
+line_comes_to t place line = read_comes_to t.program place (route_of_size t.size line.1)
+
+-- how many of some lines are such routes
+abbrev pub hits : TracedView → List Line → ℕ → ℕ
+hits t lines place = count_by (line_comes_to t place) lines
+
+-- the answer to a line that was read so: nothing, or why it gives no route
+abbrev pub cover_read : ℕ → Result RouteView LineFault → Answer
+cover_read number (Ok route) = record { text = []; reply = reply.Answered }
+cover_read number (Err found) = record { text = refusal (line_code found) number; reply = reply.Refused }
+
+-- why a line that was read so gives no route
+abbrev pub fault_in : Result RouteView LineFault → Option LineFault
+fault_in (Ok route) = None
+fault_in (Err found) = Some found
+
+-- the answer to a line, in domains of a size
+abbrev pub cover_answer : ℕ → Line → Answer
+cover_answer size line = cover_read line.0 (route_of_size size line.1)
+
+-- A line is counted at each place to which its route comes.
+pub record IsCounted (before after : Counter) (line : Line) : Type 0 where
+  pub same : after.traced ≡ before.traced
+  pub room : length after.counts.items ≡ length before.counts.items
+  pub each : (k : ℕ) → k < length before.counts.items
+      → slice_index after.counts.items k ≡ counted_up (line_comes_to before.traced k line) (slice_index before.counts.items k)
+
+-- These lines are counted at each place of a filter's code.
+pub record HasCounted (t : TracedView) (lines : List Line) (s : Counter) : Type 0 where
+  pub same : s.traced ≡ t
+  pub room : length s.counts.items ≡ length t.program.instrs
+  pub each : (k : ℕ) → k < length t.program.instrs → slice_index s.counts.items k ≡ min (hits t lines k) (2 ^ 64 - 1)
+
+-- Each line of an input was counted, and then the commands were written, each with the number of the routes that came to it. The lines
+-- that give no route were refused before that: `mid` is what the writer held then.
+pub record CoversEach (t : TracedView) (input : List ℕ) (left held holds : Option (List ℕ)) (refused : ℕ) : Type 0 where
+  pub mid : Option (List ℕ)
+  pub answered : AnswersEach (cover_answer t.size) input left held mid refused
+  pub written : Appends mid holds (coverage_text t (hits t (numbered input)))
+
+-- A run was answered to its end. A refused filter answers no route, and no line is read; otherwise the commands of the text are told, each
+-- with the number of the routes that came to it.
+abbrev pub Covers : ℕ → List ℕ → List ℕ → Option (List ℕ) → Option (List ℕ) → Option (List ℕ) → Filtered → Type 0
+Covers size text input left held holds (Refused told) =
+    IsDiagnosis size false text told × (left ≡ Some input) × Appends held holds (refusal_line told.refusal)
+Covers size text input left held holds (Answered refused) =
+    (filter : FilterView) × (t : TracedView) × IsTraceOf text size filter t × CoversEach t input left held holds refused
+
+-- A fault cut what is told of the commands, when each line had been counted.
+pub record CoversCut (t : TracedView) (fault : StreamFault) (input : List ℕ) (left held holds : Option (List ℕ)) : Type 0 where
+  pub mid : Option (List ℕ)
+  pub refused : ℕ
+  pub answered : AnswersEach (cover_answer t.size) input left held mid refused
+  pub cut : IsCut fault mid holds (coverage_text t (hits t (numbered input)))
+
+-- A fault ended it: nothing was written for want of memory, a refusal was cut, only the first lines were read, or the commands were cut.
+abbrev pub CoversOff : StreamFault → ℕ → List ℕ → List ℕ → Option (List ℕ) → Option (List ℕ) → Option (List ℕ) → Type 0
+CoversOff fault size text input left held holds =
+    ((fault ≡ Memory) × (left ≡ Some input) × Appends held holds [])
+    ⊎ (((told : Diagnosis) × IsDiagnosis size false text told × (fault ≡ Write) × (left ≡ Some input)
+    × AppendsFront held holds (refusal_line told.refusal))
+    ⊎ ((filter : FilterView) × (t : TracedView) × IsTraceOf text size filter t
+    × (AnswersFirst (cover_answer t.size) fault input left held holds ⊎ CoversCut t fault input left held holds)))

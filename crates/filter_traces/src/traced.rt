@@ -1,0 +1,124 @@
+//! A verified filter, and where in its text each instruction comes from.
+ghost use Rattle.std.specs.Prelude.{◌≡◌, ◌≤◌, false, map, slice_get, IfErr, IfOk, IfSome};
+ghost use Rattle.filter_code.specs.Limits.{instruction_limit};
+ghost use Rattle.filter_commands.specs.Checking.{IsDiagnosis};
+ghost use Rattle.filter_parser.specs.SyntaxText.{FilterView};
+ghost use Rattle.filter_source.specs.Failures.{OnDiagnosis};
+ghost use Rattle.filter_traces.specs.Whys.{IsTraceOf, site_in};
+
+use crate::site::Site;
+use filter_code::{Code, Instr};
+use filter_commands::code_of;
+use filter_compiler::MappedCode;
+use filter_source::{Failure, verify_mapped};
+use filter_tools::Positions;
+use filter_verifier::Verified;
+use std::alloc::{AllocError, Global};
+use std::marker::Model;
+
+/// A verified filter whose runs are traced.
+///
+/// A contract sees it as a `TracedView`.
+#[derive(Drop)]
+pub(crate) struct Traced<'a> {
+    verified: Verified,
+    text: &'a [u8],
+    sites: Vec<Site>,
+}
+
+impl<'a> Model for Traced<'a> {
+    ghost use Rattle.filter_traces.specs.TracedView.{TracedView};
+
+    ghost Value = { TracedView };
+
+    ghost view = { λ t. record {
+      program = t.verified.program;
+      size = t.verified.size;
+      text = t.text.now;
+      sites = t.sites.items;
+    } };
+}
+
+/// The instruction at a place, if there is one.
+fn instr_at(instrs: &[Instr], at: usize) -> Option<Instr>
+    ensures { result ≡ slice_get instrs.now at }
+{
+    instrs.get(at).copied()
+}
+
+impl<'a> Traced<'a> {
+    /// The filter of verified code, of a text and of where in it each instruction comes from.
+    pub(crate) fn new(verified: Verified, text: &'a [u8], sites: Vec<Site>) -> Traced<'a>
+        ensures { result ≡ record { program = verified.program; size = verified.size; text = text.now; sites = sites.items } }
+    {
+        Traced {
+            verified,
+            text,
+            sites,
+        }
+    }
+
+    /// The code.
+    pub(crate) fn code(&self) -> &Code
+        ensures { result.now ≡ self.now.program }
+    {
+        self.verified.code()
+    }
+
+    /// The size of the domains that it was verified for.
+    pub(crate) fn size(&self) -> u32
+        ensures { result ≡ self.now.size }
+    {
+        self.verified.size()
+    }
+
+    /// The text.
+    pub(crate) fn text(&self) -> &[u8]
+        ensures { result.now ≡ self.now.text }
+    {
+        self.text
+    }
+
+    /// The instruction at a place, if there is one.
+    pub(crate) fn instr(&self, at: usize) -> Option<Instr>
+        ensures value { result ≡ slice_get self.now.program.instrs at }
+        ensures within { IfSome result (λ _. at ≤ instruction_limit) }
+    {
+        instr_at(self.code().instrs(), at)
+    }
+
+    /// Where the instruction at a place comes from.
+    pub(crate) fn site(&self, at: usize) -> Option<Site>
+        ensures { result ≡ slice_get self.now.sites at }
+    {
+        self.sites.get(at).copied()
+    }
+}
+
+/// The sites of some bytes of a text.
+fn sites_in(alloc: Global, text: &[u8], places: &[usize]) -> Result<Vec<Site>, AllocError>
+    ensures { IfOk result (λ sites. sites.items ≡ map (site_in text.now) places.now) }
+{
+    let positions = Positions::new(alloc, text)?;
+    let mut sites = Vec::with_capacity(alloc, places.len())?;
+    for place in places {
+        let position = positions.of(*place);
+        sites.push(Site {
+            byte: *place,
+            line: position.line,
+            column: position.column,
+        })?;
+    }
+    Ok(sites)
+}
+
+/// The filter that a text spells, verified for domains of `size` nodes, and where in the text each of its instructions comes from.
+pub(crate) fn trace_filter(alloc: Global, text: &[u8], size: u32) -> Result<Traced<'_>, Failure>
+    ensures traced { IfOk result (λ traced. (filter : FilterView) × IsTraceOf text.now size filter traced) }
+    ensures refused { IfErr result (OnDiagnosis (IsDiagnosis size false text.now)) }
+{
+    let MappedCode { code, places } = code_of(alloc, text, false)?;
+    let sites = sites_in(alloc, text, places.as_slice())?;
+    let verified = verify_mapped(alloc, code, places.as_slice(), size)?;
+    Ok(Traced::new(verified, text, sites))
+}
