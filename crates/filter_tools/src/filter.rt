@@ -156,7 +156,11 @@ pub(crate) fn refusal_line(alloc: Global, why: Refusal) -> Result<Vec<u8>, Alloc
 }
 
 /// Writes the line that refuses a filter.
-pub fn write_refusal<W: Write>(alloc: Global, writer: &mut W, why: Refusal) -> Result<(), ProgramFault>
+pub fn write_refusal<W: Write>(
+    alloc: Global,
+    writer: &mut W,
+    why: Refusal,
+) -> Result<(), ProgramFault>
     ensures ok { OnOk result (Appends (W.contents writer.old) (W.contents writer.new) (refusal_line why)) }
     ensures err { IfErr result (λ fault. IsCut (stream_fault fault) (W.contents writer.old) (W.contents writer.new) (refusal_line why)) }
 {

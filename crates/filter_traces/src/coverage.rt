@@ -91,13 +91,7 @@ impl<'a> Counter<'a> {
             AnswersFirst (cover_answer self.old.traced.size) (stream_fault fault) input (R.remaining reader.new)
             (W.contents writer.old) (W.contents writer.new))) }
     {
-        Ok(answer_lines_within(
-            alloc,
-            ROUTES_LIMIT,
-            reader,
-            writer,
-            self,
-        )?)
+        Ok(answer_lines_within(alloc, ROUTES_LIMIT, reader, writer, self)?)
     }
 
     /// Writes the commands, each with its count.

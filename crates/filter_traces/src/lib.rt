@@ -12,4 +12,3 @@ mod why;
 
 pub use coverage::cover_routes;
 pub use why::explain_routes;
-

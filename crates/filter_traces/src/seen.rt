@@ -54,11 +54,7 @@ fn push_value(alloc: Global, out: &mut Vec<u8>, value: Value) -> Result<(), Allo
 }
 
 /// Puts an operand at the end of `out`, if there is one.
-fn push_operand(
-    alloc: Global,
-    out: &mut Vec<u8>,
-    operand: Option<Value>,
-) -> Result<(), AllocError>
+fn push_operand(alloc: Global, out: &mut Vec<u8>, operand: Option<Value>) -> Result<(), AllocError>
     ensures { OnOk result (out.new.items ≡ out.old.items ++ operand_text operand) }
 {
     match operand {
@@ -72,18 +68,10 @@ fn sign(negated: bool, instr: Instr) -> &'static [u8]
     ensures { result.now ≡ sign negated instr }
 {
     match instr {
-        Instr::Eq => {
-            if negated { b"!=" } else { b"=" }
-        }
-        Instr::Lt => {
-            if negated { b">=" } else { b"<" }
-        }
-        Instr::Le => {
-            if negated { b">" } else { b"<=" }
-        }
-        Instr::Within | Instr::Member(_) | Instr::InSet(_) => {
-            if negated { b"!~" } else { b"~" }
-        }
+        Instr::Eq => { if negated { b"!=" } else { b"=" } }
+        Instr::Lt => { if negated { b">=" } else { b"<" } }
+        Instr::Le => { if negated { b">" } else { b"<=" } }
+        Instr::Within | Instr::Member(_) | Instr::InSet(_) => { if negated { b"!~" } else { b"~" } }
         _ => b"",
     }
 }

@@ -44,12 +44,7 @@ fn push_outcome(out: &mut Vec<u8>, outcome: Outcome) -> Result<(), AllocError>
 
 impl<'a> Traced<'a> {
     /// The line on a route, whose run is told.
-    fn route_line(
-        &self,
-        alloc: Global,
-        route: &Route,
-        run: &ToldRun,
-    ) -> Result<Vec<u8>, AllocError>
+    fn route_line(&self, alloc: Global, route: &Route, run: &ToldRun) -> Result<Vec<u8>, AllocError>
         ensures { IfOk result (λ line. line.items ≡ route_text route.now ++ 32 ∷ [] ++ outcome_words run.now.outcome ++ 32 ∷ []
             ++ site_text (slice_get self.now.sites run.now.place) ++ 10 ∷ []) }
     {
@@ -142,13 +137,7 @@ fn answer_whys<'a, R: Read, W: Write>(
         (W.contents writer.old) (W.contents writer.new))) }
 {
     let mut service = Explainer { traced };
-    Ok(answer_lines_within(
-        alloc,
-        ROUTES_LIMIT,
-        reader,
-        writer,
-        &mut service,
-    )?)
+    Ok(answer_lines_within(alloc, ROUTES_LIMIT, reader, writer, &mut service)?)
 }
 
 /// Does what `filter_lines` does, and says why each route gets its verdict: the answer to a route begins with its own line, with the
