@@ -73,9 +73,8 @@ fn read_words(line: &[u8]) -> Result<Route, LineFault>
     }
 }
 
-/// Reads a route line, which is at most as long as a line may be.
-#[inline(always)]
-pub fn read_route(line: &[u8]) -> Result<Route, LineFault>
+/// Reads a route line, which is at most as long as a line may be. There is one for each `S` that watches, put into its only caller.
+pub fn read_route<S>(line: &[u8]) -> Result<Route, LineFault>
     ensures { result ≡ route_in line.now }
 {
     if line.len() > LINE_LIMIT {
