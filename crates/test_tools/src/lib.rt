@@ -13,4 +13,6 @@ mod filter_tests;
 #[cfg(test)]
 mod listing_tests;
 #[cfg(test)]
+mod trace_tests;
+#[cfg(test)]
 mod words_tests;
