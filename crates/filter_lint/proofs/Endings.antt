@@ -1,16 +1,27 @@
 -- How a run of `lint` ends.
-use Rattle.std.proofs.Common.{◌≡◌, inr, ℕ, Bool, false, List, Option, Some, None, refl, sym, subst, ap}
+use Rattle.std.proofs.Common.{◌≡◌, inr, ℕ, Bool, false, List, length, Option, Some, None, Result, Ok, Err, IfOk, refl, sym, subst, ap}
+use Rattle.std.specs.Prelude.{All}
 use Rattle.std.specs.Io.KnownBytes.{Keeps}
 use Rattle.filter_code.specs.CodeView.{CodeView}
 use Rattle.filter_commands.specs.Check.{GivesCode}
-use Rattle.filter_source.specs.Sources.{Translates}
+use Rattle.filter_commands.specs.Checking.{ArePlaces, IsDiagnosis}
+use Rattle.filter_source.specs.Diagnoses.{TellsOfCode}
+use Rattle.filter_source.specs.Failures.{OnDiagnosis, OnRefusal}
+use Rattle.filter_source.specs.declared.failure.Failure.{Failure}
+use Rattle.filter_source.specs.declared.failure.Failure.TheVariants.{Refused, Memory}
+use Rattle.filter_source.specs.Sources.{IsUnsafe, Translates}
 use Rattle.filter_source.specs.TextPlaces.{ArePlacesOf}
 use Rattle.filter_verifier.specs.Safe.{IsSafe}
 use Rattle.filter_verifier.specs.VerifiedView.{VerifiedView}
 use Rattle.filter_workbench.specs.Comparing.{Named}
 use Rattle.line_protocol.specs.declared.faults.StreamFault.{StreamFault}
-use Rattle.filter_lint.specs.Linting.{CutsWarnings, IsJudgedOf, LintsNamed, LintsNamedOff, WritesWarnings}
+use Rattle.filter_lint.specs.Linting.{CutsWarnings, IsJudgedOf, IsReport, LintsNamed, LintsNamedOff, WritesWarnings}
+use Rattle.filter_lint.specs.Rules.{AreFound}
+use Rattle.filter_lint.specs.Truths.{IsTrueOf}
+use Rattle.filter_lint.specs.WarningLines.{warnings_text}
 use Rattle.filter_lint.specs.declared.linting.Linted.TheVariants as linted
+use Rattle.filter_lint.specs.declared.linting.Report.{Report}
+use Rattle.filter_lint.specs.declared.rules.Warnings.{Warnings}
 
 -- what is not written to stays as it is
 keeps_self : (held : Option (List ℕ)) → Keeps held held
@@ -28,6 +39,28 @@ judged text size program places v gives are same safe = record {
     safe = subst (λ (w : VerifiedView). IsSafe w.program w.size) (sym same) safe;
   };
   are_places = are;
+}
+
+-- code that is refused
+pub refused_code : (size : ℕ) (text places : List ℕ) (program : CodeView) (failure : Failure) → GivesCode false text program
+    → ArePlaces false text places → OnRefusal (IsUnsafe program size) failure → OnDiagnosis (TellsOfCode program places size) failure
+    → OnDiagnosis (IsDiagnosis size false text) failure
+refused_code size text places program (Refused told) gives are unsafe is = inr (program, gives, unsafe, (places, are, is))
+refused_code size text places program Memory gives are unsafe is = tt
+
+-- the lines of warnings that are found are a report on them
+pub reported : {E : Type 0} (program : CodeView) (size : ℕ) (places others : List ℕ) (source : Named) (all : Warnings) (r : Result Report E)
+    → others ≡ places → AreFound program source.text others size all → All (IsTrueOf program size others) all.found.items
+    → IfOk r (λ report. report.lines.items ≡ warnings_text source.name source.text program.sets all.found.items all.is_complete)
+    → IfOk r (λ report. report.count ≡ length all.found.items)
+    → IfOk r (λ report. IsReport program size places source report.lines.items report.count)
+reported program size places others source all (Err why) same found true_of lines counted = tt
+reported program size places others source all (Ok report) same found true_of lines counted = record {
+  all = all;
+  are_found = subst (λ (ps : List ℕ). AreFound program source.text ps size all) same found;
+  are_true = subst (λ (ps : List ℕ). All (IsTrueOf program size ps) all.found.items) same true_of;
+  lines_are = lines;
+  counted = counted;
 }
 
 module _ (size : ℕ) (is_explained : Bool) (source : Named) (v : VerifiedView) (places : List ℕ) (is : IsJudgedOf source.text size v places)

@@ -34,13 +34,23 @@ subject_of place = codes "the condition is "
 abbrev pub label_words : Bool → List ℕ
 label_words is_had = if is_had then codes "every route that comes here has this label" else codes "no route that comes here has this label"
 
--- what is said of a condition
+-- how a condition comes out, and what is said behind that
+abbrev pub truth_word : Bool → List ℕ
+truth_word value = if value then codes "true" else codes "false"
+
+unfoldable pub here_words : List ℕ
+here_words = codes " on every route that comes here"
+
 abbrev pub truth_words : Site → Bool → List ℕ
-truth_words place value = subject_of place ++ (if value then codes "true" else codes "false") ++ codes " on every route that comes here"
+truth_words place value = subject_of place ++ truth_word value ++ here_words
+
+-- what is said of a condition
+abbrev pub is_label : Site → Bool
+is_label site.Label = true
+is_label place = false
 
 abbrev pub constant_words : Site → Bool → List ℕ
-constant_words site.Label value = label_words value
-constant_words place value = truth_words place value
+constant_words place value = if is_label place then label_words value else truth_words place value
 
 -- the bounds of an int: one number where they are the same
 abbrev pub bounds_text : Bounds → List ℕ
@@ -81,10 +91,13 @@ pattern_of patterns at = pattern_found (slice_get patterns at)
 abbrev pub patterns_of : List (List PrefixPattern) → ℕ → List PrefixPattern
 patterns_of sets number = unwrap_or (slice_get sets number) []
 
--- what is said of a pattern that another one of its set covers
+-- what is said of two patterns of a set, of which the second covers the first
+abbrev pub pair_words : List PrefixPattern → ℕ → ℕ → List ℕ
+pair_words patterns inner outer =
+    pattern_of patterns inner ++ codes " is covered by " ++ pattern_of patterns outer ++ codes " of the same set"
+
 abbrev pub covered_words : List (List PrefixPattern) → ℕ → ℕ → ℕ → List ℕ
-covered_words sets number inner outer = pattern_of (patterns_of sets number) inner ++ codes " is covered by "
-    ++ pattern_of (patterns_of sets number) outer ++ codes " of the same set"
+covered_words sets number inner outer = pair_words (patterns_of sets number) inner outer
 
 -- what is said of a metric that means unreachable
 abbrev pub unreachable_words : Bounds → List ℕ

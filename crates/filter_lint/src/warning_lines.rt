@@ -50,16 +50,49 @@ fn label_words(is_had: bool) -> &'static [u8]
     }
 }
 
+/// How a condition comes out.
+fn truth_word(value: bool) -> &'static [u8]
+    ensures { result.now ≡ spec.truth_word value }
+{
+    if value { b"true" } else { b"false" }
+}
+
+/// What is said of a condition behind how it comes out.
+#[tactic(auto, unfolding(crate::specs::WarningLines::here_words))]
+fn here_words() -> &'static [u8]
+    ensures { result.now ≡ spec.here_words }
+{
+    b" on every route that comes here"
+}
+
+/// Puts how a condition comes out at the end of `out`.
+fn push_truth(out: &mut Vec<u8>, site: Site, value: bool) -> Result<(), AllocError>
+    ensures { OnOk result (out.new.items ≡ out.old.items ++ spec.truth_words site value) }
+{
+    out.extend_from_slice(subject_of(site))?;
+    out.extend_from_slice(truth_word(value))?;
+    out.extend_from_slice(here_words())
+}
+
+/// Whether it is a label.
+fn is_label(site: Site) -> bool
+    ensures { result ≡ spec.is_label site }
+{
+    match site {
+        Site::Label => true,
+        _ => false,
+    }
+}
+
 /// Puts what is said of a condition at the end of `out`.
 fn push_constant(out: &mut Vec<u8>, site: Site, value: bool) -> Result<(), AllocError>
     ensures { OnOk result (out.new.items ≡ out.old.items ++ spec.constant_words site value) }
 {
-    if let Site::Label = site {
-        return out.extend_from_slice(label_words(value));
+    if is_label(site) {
+        out.extend_from_slice(label_words(value))
+    } else {
+        push_truth(out, site, value)
     }
-    out.extend_from_slice(subject_of(site))?;
-    out.extend_from_slice(if value { b"true" } else { b"false" })?;
-    out.extend_from_slice(b" on every route that comes here")
 }
 
 /// Puts the bounds of an int at the end of `out`: one number where they are the same.
@@ -162,6 +195,23 @@ fn patterns_of(sets: &[PatternSet], number: u8) -> &[Pattern]
     }
 }
 
+/// Puts what is said of two patterns of a set, of which the second covers the first, at the end of `out`.
+fn push_pair(
+    alloc: Global,
+    out: &mut Vec<u8>,
+    patterns: &[Pattern],
+    inner: usize,
+    outer: usize,
+) -> Result<(), AllocError>
+    ensures { OnOk result (out.new.items ≡ out.old.items ++ spec.pair_words patterns.now inner outer) }
+{
+    push_pattern_of(alloc, out, patterns, inner)?;
+    out.extend_from_slice(b" is covered by ")?;
+    push_pattern_of(alloc, out, patterns, outer)?;
+    out.extend_from_slice(b" of the same set")?;
+    Ok(())
+}
+
 /// Puts what is said of a pattern that another one of its set covers at the end of `out`.
 fn push_covered(
     alloc: Global,
@@ -173,11 +223,7 @@ fn push_covered(
 ) -> Result<(), AllocError>
     ensures { OnOk result (out.new.items ≡ out.old.items ++ spec.covered_words sets.now number inner outer) }
 {
-    let patterns = patterns_of(sets, number);
-    push_pattern_of(alloc, out, patterns, inner)?;
-    out.extend_from_slice(b" is covered by ")?;
-    push_pattern_of(alloc, out, patterns, outer)?;
-    out.extend_from_slice(b" of the same set")
+    push_pair(alloc, out, patterns_of(sets, number), inner, outer)
 }
 
 /// Puts what is said of a metric that means unreachable at the end of `out`.
