@@ -92,9 +92,20 @@ abbrev pub patterns_of : List (List PrefixPattern) → ℕ → List PrefixPatter
 patterns_of sets number = unwrap_or (slice_get sets number) []
 
 -- what is said of two patterns of a set, of which the second covers the first
+unfoldable pub covered_by : List ℕ
+covered_by = codes " is covered by "
+
+unfoldable pub of_same_set : List ℕ
+of_same_set = codes " of the same set"
+
+abbrev pub inner_words : List PrefixPattern → ℕ → List ℕ
+inner_words patterns at = pattern_of patterns at ++ covered_by
+
+abbrev pub outer_words : List PrefixPattern → ℕ → List ℕ
+outer_words patterns at = pattern_of patterns at ++ of_same_set
+
 abbrev pub pair_words : List PrefixPattern → ℕ → ℕ → List ℕ
-pair_words patterns inner outer =
-    pattern_of patterns inner ++ codes " is covered by " ++ pattern_of patterns outer ++ codes " of the same set"
+pair_words patterns inner outer = inner_words patterns inner ++ outer_words patterns outer
 
 abbrev pub covered_words : List (List PrefixPattern) → ℕ → ℕ → ℕ → List ℕ
 covered_words sets number inner outer = pair_words (patterns_of sets number) inner outer

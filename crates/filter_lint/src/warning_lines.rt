@@ -195,6 +195,48 @@ fn patterns_of(sets: &[PatternSet], number: u8) -> &[Pattern]
     }
 }
 
+/// What stands behind a pattern that another one covers.
+#[tactic(auto, unfolding(crate::specs::WarningLines::covered_by))]
+fn covered_by() -> &'static [u8]
+    ensures { result.now ≡ spec.covered_by }
+{
+    b" is covered by "
+}
+
+/// What stands behind that other one.
+#[tactic(auto, unfolding(crate::specs::WarningLines::of_same_set))]
+fn of_same_set() -> &'static [u8]
+    ensures { result.now ≡ spec.of_same_set }
+{
+    b" of the same set"
+}
+
+/// Puts a pattern that another one covers at the end of `out`.
+fn push_inner(
+    alloc: Global,
+    out: &mut Vec<u8>,
+    patterns: &[Pattern],
+    at: usize,
+) -> Result<(), AllocError>
+    ensures { OnOk result (out.new.items ≡ out.old.items ++ spec.inner_words patterns.now at) }
+{
+    push_pattern_of(alloc, out, patterns, at)?;
+    out.extend_from_slice(covered_by())
+}
+
+/// Puts the pattern that covers it at the end of `out`.
+fn push_outer(
+    alloc: Global,
+    out: &mut Vec<u8>,
+    patterns: &[Pattern],
+    at: usize,
+) -> Result<(), AllocError>
+    ensures { OnOk result (out.new.items ≡ out.old.items ++ spec.outer_words patterns.now at) }
+{
+    push_pattern_of(alloc, out, patterns, at)?;
+    out.extend_from_slice(of_same_set())
+}
+
 /// Puts what is said of two patterns of a set, of which the second covers the first, at the end of `out`.
 fn push_pair(
     alloc: Global,
@@ -205,11 +247,8 @@ fn push_pair(
 ) -> Result<(), AllocError>
     ensures { OnOk result (out.new.items ≡ out.old.items ++ spec.pair_words patterns.now inner outer) }
 {
-    push_pattern_of(alloc, out, patterns, inner)?;
-    out.extend_from_slice(b" is covered by ")?;
-    push_pattern_of(alloc, out, patterns, outer)?;
-    out.extend_from_slice(b" of the same set")?;
-    Ok(())
+    push_inner(alloc, out, patterns, inner)?;
+    push_outer(alloc, out, patterns, outer)
 }
 
 /// Puts what is said of a pattern that another one of its set covers at the end of `out`.
