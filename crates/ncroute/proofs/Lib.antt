@@ -4,6 +4,7 @@ pub mod Tried
 pub mod Untold
 mod FiltersRead
 mod JoinedRead
+mod LintCut
 mod Loaded
 mod Stopped
 mod Helped
