@@ -136,8 +136,6 @@ pub enum Aid {
         /// A refusal is told in words too.
         is_explained: bool,
     },
-    /// Take the routes of standard input through a code file, and tell in words why lines are refused.
-    Eval,
     /// Take the routes of standard input through the filter of a file.
     Filter {
         /// How.
@@ -296,15 +294,6 @@ pub fn filter_in(
         how,
         source: source_of(alloc, file)?,
     }))
-}
-
-/// What the words of `eval` ask for, where they ask for more than answers.
-pub fn eval_in(matches: &ArgMatches<'_>, terminals: Terminals) -> Option<Aid> {
-    if is_explained(Telling::read(matches), terminals.errors, false) {
-        Some(Aid::Eval)
-    } else {
-        None
-    }
 }
 
 /// The text of an option, if it is given.

@@ -42,7 +42,7 @@ fn reads_input(words: &Words) -> bool {
             | Aid::Replay { source }
             | Aid::Script { source, .. },
         ) => source.is_input(),
-        Words::Aided(Aid::Eval | Aid::Filter { .. }) => true,
+        Words::Aided(Aid::Filter { .. }) => true,
         Words::Aided(Aid::Explain { .. }) | Words::Network | Words::Shown(_) => false,
     }
 }

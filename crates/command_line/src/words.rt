@@ -1,7 +1,7 @@
 //! The words of the command line.
 use crate::aid_words::{
-    Aid, Checking, Engine, Source, asks_for_more, checked_in, eval_in, filter_in, has_files,
-    import_in, list_in, names_several, replay_in, run_in, script_in,
+    Aid, Checking, Engine, Source, asks_for_more, checked_in, filter_in, has_files, import_in,
+    list_in, names_several, replay_in, run_in, script_in,
 };
 use crate::classes::page_of;
 use crate::commands::program;
@@ -116,10 +116,7 @@ fn words_in<R: Eprint>(
         "router" => router_words(rt, alloc, words),
         "run" => run_words(rt, alloc, words, terminals),
         "test" => aided(test_in(alloc, words, terminals)),
-        _ => Ok(match eval_in(words, terminals) {
-            Some(aid) => Words::Aided(aid),
-            None => Words::Asked(Request::Eval),
-        }),
+        _ => Ok(Words::Asked(Request::Eval)),
     }
 }
 

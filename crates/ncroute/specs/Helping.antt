@@ -5,7 +5,7 @@ use Rattle.std.specs.Io.KnownBytes.{Appends}
 use Rattle.std.specs.declared.io.Error.{Error}
 use Rattle.filter_source.specs.Limits.{source_limit}
 use Rattle.filter_source.specs.declared.diagnosis.Diagnosis.{Diagnosis}
-use Rattle.filter_commands.specs.Evaluation.{Breaks, Evaluates, IsCut}
+use Rattle.filter_commands.specs.Evaluation.{IsCut}
 use Rattle.filter_commands.specs.Faults.{stream_fault}
 use Rattle.filter_commands.specs.declared.fault.ProgramFault.{ProgramFault}
 use Rattle.filter_tools.specs.Filtering.{Filters}
@@ -127,16 +127,6 @@ StopsTrying Verdicts fault how name text before after = StopsJudging fault how n
 StopsTrying Reasons fault how name text before after = StopsReport false fault how.size name text before after
 StopsTrying Coverage fault how name text before after = StopsReport true fault how.size name text before after
 
--- Code and routes were answered to the end of the input, with words about each line that is refused.
-pub record EvaluatesTold (before after : Streams) (status : ℕ) : Type 0 where
-  pub refused : ℕ
-  pub evaluated : IfSome before.reads (λ input. Evaluates input after.reads before.holds after.holds refused)
-  pub ends : status ≡ status_of refused
-
--- A fault ended that.
-abbrev pub StopsEvaluating : StreamFault → Streams → Streams → Type 0
-StopsEvaluating fault before after = IfSome before.reads (λ input. Breaks fault input after.reads before.holds after.holds)
-
 -- The listing of a text was written, and its refusal told under a name, and the exit status says whether there is one. `held` and `holds`
 -- are what the writer held before and holds now, `told` and `tells` the same of standard error.
 pub record ListsText (size : Option ℕ) (is_code is_explained : Bool) (name text : List ℕ) (held holds told tells : Option (List ℕ)) (status : ℕ)
@@ -150,7 +140,6 @@ pub record ListsText (size : Option ℕ) (is_code is_explained : Bool) (name tex
 abbrev pub fault_status : Aid → ℕ
 fault_status (aid.Check how sources) = 1
 fault_status (aid.Diff how old new) = 3
-fault_status aid.Eval = 1
 fault_status (aid.Explain page) = 1
 fault_status (aid.Import how source) = 1
 fault_status (aid.List size is_code source is_explained) = 3
@@ -256,7 +245,6 @@ module _ (opens : List ℕ → Result (Option (List ℕ)) Error → Type 0) wher
     Helps (aid.Check how sources) before after status = (refused : Bool)
         × ChecksAll how sources.items before after refused × (status ≡ (if refused then 1 else 0))
     Helps (aid.Diff how old new) before after status = ComparesSources opens how old new before after status
-    Helps aid.Eval before after status = EvaluatesTold before after status
     Helps (aid.Explain page) before after status =
         Appends before.holds after.holds (string_bytes page) × (after.reads ≡ before.reads) × (after.tells ≡ before.tells) × (status ≡ 0)
     Helps (aid.Import how source) before after status = status ≤ 1
@@ -274,7 +262,6 @@ module _ (opens : List ℕ → Result (Option (List ℕ)) Error → Type 0) wher
     abbrev pub StopsHelp : StreamFault → Aid → Streams → Streams → Type 0
     StopsHelp fault (aid.Check how sources) before after = ChecksSome fault how sources.items before after
     StopsHelp fault (aid.Diff how old new) before after = StopsComparing opens fault how old new before after
-    StopsHelp fault aid.Eval before after = StopsEvaluating fault before after
     StopsHelp fault (aid.Explain page) before after =
         IsCut fault before.holds after.holds (string_bytes page) × (after.reads ≡ before.reads) × (after.tells ≡ before.tells)
     StopsHelp fault (aid.Import how source) before after = ⊤

@@ -10,7 +10,7 @@ ghost use Rattle.filter_tools.specs.declared.filter.Filtered.TheVariants.{Refuse
 ghost use Rattle.ncroute.specs.Helping.{ChecksAll, ChecksBy, ChecksOne, ChecksSome, ChecksText, ChecksWhole, CutsBy, CutsText, FailsToTell, Helps, IsCutOne, ListsSource, ListsText};
 ghost use Rattle.ncroute.specs.Helping.{ReplaysSource, Reports, ReportsOff, RunsFile, RunsSource, ServesPeople, StopsFile, StopsFilter, StopsHelp, StopsListing};
 ghost use Rattle.ncroute.specs.Helping.{StopsReplay, StopsSource, StopsTrying, TriesFilter, TriesText, fault_status, status_of_filter, told_refusal};
-ghost use Rattle.ncroute.specs.Helping.{EvaluatesTold, JudgesText, ReportsText, StopsEvaluating, StopsJudging, StopsReport};
+ghost use Rattle.ncroute.specs.Helping.{JudgesText, ReportsText, StopsJudging, StopsReport};
 ghost use Rattle.ncroute.specs.Reading.{name_of};
 
 use crate::comparing::compare_sources;
@@ -28,7 +28,7 @@ use command_line::{Aid, Checking, Engine, RouteReport, Source, Trying};
 use filter_commands::ProgramFault;
 use filter_source::{Diagnosis, SOURCE_LIMIT};
 use filter_tools::{
-    Filtered, Routes, check_named, eval_named, filter_named, list_named, tell,
+    Filtered, Routes, check_named, filter_named, list_named, tell,
 };
 use filter_traces::{cover_routes, explain_routes};
 use line_protocol::{INPUT_LIMIT, StreamFault, write_text};
@@ -332,25 +332,6 @@ fn try_text<R: Read, W: Write, E: Write>(
     }
 }
 
-/// Takes the routes of standard input through the code in its first line, tells in words why lines are refused, and returns the exit
-/// status.
-fn evaluate<R: Read, W: Write, E: Write>(
-    alloc: Global,
-    reader: &mut R,
-    writer: &mut W,
-    errors: &mut E,
-) -> Result<u8, ProgramFault>
-    ensures finished { IfOk result (EvaluatesTold
-        (record { reads = R.remaining reader.old; holds = W.contents writer.old; tells = E.contents errors.old })
-        (record { reads = R.remaining reader.new; holds = W.contents writer.new; tells = E.contents errors.new })) }
-    ensures stopped { IfErr result (λ fault. StopsEvaluating (stream_fault fault)
-        (record { reads = R.remaining reader.old; holds = W.contents writer.old; tells = E.contents errors.old })
-        (record { reads = R.remaining reader.new; holds = W.contents writer.new; tells = E.contents errors.new })) }
-{
-    let refused = eval_named(alloc, name_of(&Source::Input), reader, writer, errors)?;
-    Ok(status_of(refused))
-}
-
 /// Writes a page, and returns the exit status.
 fn show<W: Write>(page: &str, writer: &mut W) -> Result<u8, ProgramFault>
     ensures finished { IfOk result (λ status. (status ≡ 0) × Appends (W.contents writer.old) (W.contents writer.new) page.now) }
@@ -585,7 +566,6 @@ fn help<F: Folder, R: Read, W: Write, E: Write>(
         Aid::Diff { how, old, new } => {
             compare_sources(files, alloc, *how, old, new, reader, writer, errors)
         }
-        Aid::Eval => evaluate(alloc, reader, writer, errors),
         Aid::Explain { page } => show(page.as_str(), writer),
         Aid::Lint { how, sources } => {
             let sources = sources.as_slice();
@@ -649,7 +629,6 @@ pub fn fault_status(aid: &Aid) -> u8
 {
     match aid {
         Aid::Check { .. }
-        | Aid::Eval
         | Aid::Explain { .. }
         | Aid::Import { .. }
         | Aid::Run { .. }
