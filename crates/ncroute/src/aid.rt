@@ -27,9 +27,7 @@ use crate::texts::{Folder, name_of, read_source, tell_unread};
 use command_line::{Aid, Checking, Engine, RouteReport, Source, Trying};
 use filter_commands::ProgramFault;
 use filter_source::{Diagnosis, SOURCE_LIMIT};
-use filter_tools::{
-    Filtered, Routes, check_named, filter_named, list_named, tell,
-};
+use filter_tools::{Filtered, Routes, check_named, filter_named, list_named, tell};
 use filter_traces::{cover_routes, explain_routes};
 use line_protocol::{INPUT_LIMIT, StreamFault, write_text};
 use std::alloc::Global;
