@@ -1,5 +1,5 @@
 -- What the service that counts answers to a line.
-use Rattle.std.proofs.Common.{◌≡◌, ℕ, List, [], Option, Some, None, Result, Ok, Err, refl, ap}
+use Rattle.std.proofs.Common.{◌≡◌, ℕ, [], Some, None, Result, Ok, Err, refl, ap}
 use Rattle.filter_code.specs.RouteView.{RouteView}
 use Rattle.line_protocol.specs.Answers.{Answer, refusal}
 use Rattle.line_protocol.specs.declared.answers.Reply.TheVariants as reply

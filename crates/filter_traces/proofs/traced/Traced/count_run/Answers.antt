@@ -1,5 +1,5 @@
 -- The run goes on or ends as the machine's does, and each step is counted at its place.
-use Rattle.std.proofs.Common.{◌≡◌, ◌<◌, ◌∙◌, ℕ, Bool, length, ap, arith, sym}
+use Rattle.std.proofs.Common.{◌<◌, ◌∙◌, Bool, length, ap, arith, sym}
 use Rattle.std.specs.Prelude.{slice_index}
 use Rattle.filter_code.specs.Machine.{Config, State, Going}
 use Rattle.filter_traces.specs.Hits.{counted_up}

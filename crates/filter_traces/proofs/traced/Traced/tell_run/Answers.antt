@@ -1,6 +1,5 @@
 -- The run goes on or ends as the machine's does, and what is told grows with each step.
-use Rattle.std.proofs.Common.{◌≡◌, ◌≤◌, ◌∙◌, ◌++◌, ℕ, List, length, ap, arith, refl, sym}
-use Rattle.filter_code.specs.CodeView.{CodeView}
+use Rattle.std.proofs.Common.{◌∙◌, ◌++◌, ℕ, List, ap, refl, sym}
 use Rattle.filter_code.specs.Machine.{Config, State, Going, step}
 use Rattle.filter_traces.specs.Steps.{line_between}
 use Rattle.filter_traces.proofs.Runs.{after_more, begun, ended_lines, ended_outcome, ended_place, few_steps, lines_more, no_place, none_told, place_more}
