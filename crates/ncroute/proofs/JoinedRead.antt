@@ -1,6 +1,6 @@
 -- How the sources of a script are read, one after another.
-use Rattle.std.proofs.Common.{◌≡◌, ◌⊎◌, ℕ, ◌+◌, ◌++◌, List, [], Option, Some, Result, Ok, Err, IfErr, refl, inl, inr, add-one}
-use Rattle.std.specs.Prelude.{OnOk, slice_get}
+use Rattle.std.proofs.Common.{◌≡◌, ℕ, ◌+◌, List, [], Option, Some, Result, refl, add-one}
+use Rattle.std.specs.Prelude.{slice_get}
 use Rattle.std.specs.declared.io.Error.{Error}
 use Rattle.command_line.specs.declared.aid_words.Source.{Source}
 use Rattle.ncroute.specs.Joining.{JoinsFirst, JoinsNext, LeavesNext, StopsAtSource}

@@ -1,9 +1,9 @@
 -- How options are added to a plan, one after another.
-use Rattle.std.proofs.Common.{◌≡◌, ◌⊎◌, ℕ, ◌+◌, List, Option, Some, Result, Ok, Err, IfErr, IfOk, refl, inl, inr, subst, add-one}
-use Rattle.std.specs.Prelude.{OnOk, slice_get}
+use Rattle.std.proofs.Common.{◌≡◌, ℕ, ◌+◌, List, Some, refl, subst, add-one}
+use Rattle.std.specs.Prelude.{slice_get}
 use Rattle.router_options.specs.PlanView.{PlanView}
 use Rattle.router_options.specs.declared.fault.OptionFault.{OptionFault}
-use Rattle.ncroute.specs.Planning.{Adds, AddsAll, AddsFirst, OrStops, Refuses, StopsAdding, ThenAdds}
+use Rattle.ncroute.specs.Planning.{Adds, AddsFirst, Refuses, StopsAdding}
 use Rattle.ncroute.specs.declared.planning.OptionKind.{OptionKind}
 
 module _ {A : Type 0} (k : OptionKind) (text_of : A → List ℕ) (options : List A) where

@@ -1,5 +1,5 @@
 -- How a router ends, and its exit status.
-use Rattle.std.proofs.Common.{◌≡◌, ◌⊎◌, ℕ, List, Option, Result, Ok, Err, IfErr, IfOk, inl, inr, subst}
+use Rattle.std.proofs.Common.{◌≡◌, ℕ, List, Option, Result, Ok, Err, IfErr, IfOk, inl, inr, subst}
 use Rattle.history_saver.specs.Saved.{SaverView}
 use Rattle.line_protocol.specs.Runs.{AppendsFront}
 use Rattle.line_protocol.specs.declared.faults.StreamFault.{StreamFault}
@@ -8,7 +8,7 @@ use Rattle.router_daemon.specs.declared.fault.DaemonFault.{DaemonFault}
 use Rattle.router_daemon.specs.declared.fault.DaemonFault.TheVariants as fault
 use Rattle.router_operator.specs.OperatorView.{Names}
 use Rattle.router_options.specs.PlanView.{PlanView}
-use Rattle.ncroute.specs.Routing.{EndsInFault, Operated, RunsPlan, RunsToEnd, router_line}
+use Rattle.ncroute.specs.Routing.{Operated, RunsPlan, router_line}
 use Rattle.ncroute.specs.Streaming.{Streams}
 
 -- what is said of a result, where it is known which one it is

@@ -1,6 +1,5 @@
 -- The router was run to its end, or a fault ended it.
 use Rattle.std.proofs.Common.{ap, subst, sym}
-use Rattle.std.specs.Option.{option_map}
 use Rattle.line_protocol.specs.Runs.{AppendsFront}
 use Rattle.ncroute.specs.Routing.{router_line}
 use Rattle.ncroute.proofs.Routed.{ended, failed, of_err, of_ok}
