@@ -10,12 +10,13 @@ use Rattle.line_protocol.specs.Words.{is_blank, words}
 use Rattle.prefix_patterns.proofs.LeadingTokens.{BeginsWithNumber as BeginsWithDigits}
 use Rattle.prefix_patterns.proofs.Numbers.{number_in-some}
 use Rattle.prefix_patterns.proofs.TokenBytes.{IsFromDot, digits_bytes}
+use Rattle.prefix_patterns.specs.Leading.{BeginsWith, BeginsWithDigit, IsUsualNumber}
 use Rattle.prefix_patterns.specs.Number.{IsDigits}
 use Rattle.prefix_patterns.specs.Reading.{number_in}
 use Rattle.operator_cmds.specs.CommandView.{Show, Take}
 use Rattle.operator_cmds.specs.Commands.{command_in, command_of, command_of_words, made, node_in, receive_of, text_in}
 use Rattle.operator_cmds.specs.Limits.{number_limit}
-use Rattle.operator_cmds.specs.PlainLines.{BeginsWithNumber}
+use Rattle.operator_cmds.specs.PlainLines.{AreThreeNumbers, BeginsWithNumber}
 use Rattle.operator_cmds.specs.Verbs.{verb_in}
 use Rattle.operator_cmds.specs.WordLists.{one_of, three_of}
 use Rattle.operator_cmds.specs.declared.fault.CommandFault.TheVariants as fault
@@ -86,3 +87,23 @@ module _ (line text : List ℕ) (within : length line ≤ line_limit) where
   pub of_show : line ≡ codes "show" ++ 32 ∷ text → command_in line ≡ made Show (node_in (one_of (words text)))
   unfolding verb_in
   of_show is = by_verb line text 115 104 111 119 verb.Show (no_blank_of_four 115 104 111 119 refl refl refl refl) refl within is
+
+-- ---- the usual spelling
+
+pub space_ends : (rest : List ℕ) → BeginsWithDigit (32 ∷ rest) → ⊥
+space_ends rest digit = omega (arith, digit)
+
+pub nothing_ends : BeginsWithDigit [] → ⊥
+nothing_ends digit = digit
+
+-- a number that is all of a text
+pub all_of_it : (text : List ℕ) → IsUsualNumber text → BeginsWith IsUsualNumber text []
+all_of_it text usual = record { token = text; wanted = usual; spelled = sym (append-nil text) }
+
+-- the numbers of three, from the front on
+pub first_of : (text : List ℕ) (three : AreThreeNumbers text) → BeginsWith IsUsualNumber text (32 ∷ (three.second ++ 32 ∷ three.third))
+first_of text three = record { token = three.first; wanted = three.are_usual.0; spelled = three.spelled }
+
+pub second_of : (line text : List ℕ) (three : AreThreeNumbers line) → text ≡ three.second ++ 32 ∷ three.third
+    → BeginsWith IsUsualNumber text (32 ∷ three.third)
+second_of line text three is = record { token = three.second; wanted = three.are_usual.1; spelled = is }

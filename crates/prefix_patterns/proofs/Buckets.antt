@@ -103,7 +103,7 @@ first_same (suc n) (false ∷ p) (false ∷ q) h few_p few_q = ap (λ xs. false 
 first_same (suc n) (true ∷ p) (false ∷ q) h few_p few_q = cc
 first_same (suc n) (false ∷ p) (true ∷ q) h few_p few_q = cc
 
-same_number : (v w : List Bool) → length v ≡ length w → number v ≡ number w → v ≡ w
+pub same_number : (v w : List Bool) → length v ≡ length w → number v ≡ number w → v ≡ w
 same_number v w e n = sym (bits-number v) ∙ ap (λ k. bits k (number v)) e ∙ ap (bits (length w)) n ∙ bits-number w
 
 agree_either : (w q : List Bool) → agree w q ≡ (agree (w ++ false ∷ []) q || agree (w ++ true ∷ []) q)

@@ -17,10 +17,10 @@ abbrev pub HasDigit : List ℕ → ℕ → ℕ → Type 0
 HasDigit text at value = (at < length text) × IsAsciiDigit (get_or text at 0) × (value ≡ get_or text at 0 - 48)
 
 -- the first so many bytes are digits that write a value
-record IsRead (text : List ℕ) (count value : ℕ) : Type 0 where
-  within : count ≤ length text
-  digits : All IsAsciiDigit (take count text)
-  written : value ≡ decimal_value (take count text)
+pub record IsRead (text : List ℕ) (count value : ℕ) : Type 0 where
+  pub within : count ≤ length text
+  pub digits : All IsAsciiDigit (take count text)
+  pub written : value ≡ decimal_value (take count text)
 
 none : (text : List ℕ) → IsRead text 0 0
 unfolding decimal_value
@@ -34,11 +34,14 @@ more text count value digit wider r h e = record {
   written = omega (arith, e, r.written, h.2, decimal_value-more text count h.0);
 }
 
-one : (text : List ℕ) (a : ℕ) → HasDigit text 0 a → IsRead text 1 a
+pub one : (text : List ℕ) (a : ℕ) → HasDigit text 0 a → IsRead text 1 a
 one text a h = more text 0 0 a a (none text) h (omega arith)
 
-two : (text : List ℕ) (a b : ℕ) → HasDigit text 0 a → HasDigit text 1 b → IsRead text 2 (a * 10 + b)
+pub two : (text : List ℕ) (a b : ℕ) → HasDigit text 0 a → HasDigit text 1 b → IsRead text 2 (a * 10 + b)
 two text a b h i = more text 1 a b (a * 10 + b) (one text a h) i refl
+
+pub three : (text : List ℕ) (a b c : ℕ) → HasDigit text 0 a → HasDigit text 1 b → HasDigit text 2 c → IsRead text 3 (a * 100 + b * 10 + c)
+three text a b c h i j = more text 2 (a * 10 + b) c (a * 100 + b * 10 + c) (two text a b h i) j (omega arith)
 
 -- a text begins with digits that write a value
 abbrev pub BeginsWithNumber : List ℕ → ℕ → List ℕ → Type 0
@@ -66,9 +69,7 @@ two_digits text a b h i = begins text 2 (a * 10 + b) (two text a b h i) (omega a
 
 pub three_digits : (text : List ℕ) (a b c : ℕ) → HasDigit text 0 a → HasDigit text 1 b → HasDigit text 2 c
     → BeginsWithNumber text (a * 100 + b * 10 + c) (take (length text - 3) (drop 3 text))
-three_digits text a b c h i j =
-    let r = more text 2 (a * 10 + b) c (a * 100 + b * 10 + c) (two text a b h i) j (omega arith) in
-    begins text 3 (a * 100 + b * 10 + c) r (omega arith)
+three_digits text a b c h i j = begins text 3 (a * 100 + b * 10 + c) (three text a b c h i j) (omega arith)
 
 -- a text begins with a group of an address
 abbrev pub BeginsWithGroup : List ℕ → ℕ → List ℕ → Type 0
@@ -81,13 +82,12 @@ joined : (a b c d l rest : List ℕ) →
 joined a b c d l rest = simp append_assoc refl
 
 -- four groups and a length, with the signs between them, are a prefix
-pub prefix_pieces : (text a' b b' c c' d d' l rest : List ℕ) (first second third fourth len : ℕ) (bits : List Bool)
-    → BeginsWithGroup text first a' → a' ≡ dot ∷ b → BeginsWithGroup b second b' → b' ≡ dot ∷ c
-    → BeginsWithGroup c third c' → c' ≡ dot ∷ d → BeginsWithGroup d fourth d' → d' ≡ slash ∷ l
-    → BeginsWithNumber l len rest → len ≤ 32
+pub prefix_pieces : (text b c d l rest : List ℕ) (first second third fourth len : ℕ) (bits : List Bool)
+    → BeginsWithGroup text first (dot ∷ b) → BeginsWithGroup b second (dot ∷ c) → BeginsWithGroup c third (dot ∷ d)
+    → BeginsWithGroup d fourth (slash ∷ l) → BeginsWithNumber l len rest → len ≤ 32
     → bits ≡ prefix_bits (from_be_bytes w32 (first ∷ second ∷ third ∷ fourth ∷ [])) len
     → BeginsWith (λ token. IsPrefix token bits) text rest
-prefix_pieces text a' b b' c c' d d' l rest first second third fourth len bits A e B f C g D h L limit cleared =
+prefix_pieces text b c d l rest first second third fourth len bits A B C D L limit cleared =
     let address_text = join_with_byte dot (A.token ∷ B.token ∷ C.token ∷ D.token ∷ []) in
     let address = from_be_bytes w32 (first ∷ second ∷ third ∷ fourth ∷ []) in
     record {
@@ -110,8 +110,7 @@ prefix_pieces text a' b b' c c' d d' l rest first second third fourth len bits A
         cleared = cleared ∙ ap (prefix_bits address) L.wanted.1;
       };
       spelled =
-          A.spelled ∙ ap (λ t. A.token ++ t) (e ∙ ap (λ t. dot ∷ t) (B.spelled ∙ ap (λ t. B.token ++ t)
-          (f ∙ ap (λ t. dot ∷ t) (C.spelled ∙ ap (λ t. C.token ++ t) (g ∙ ap (λ t. dot ∷ t) (D.spelled
-          ∙ ap (λ t. D.token ++ t) (h ∙ ap (λ t. slash ∷ t) L.spelled)))))))
+          A.spelled ∙ ap (λ t. A.token ++ dot ∷ t) (B.spelled ∙ ap (λ t. B.token ++ dot ∷ t) (C.spelled
+          ∙ ap (λ t. C.token ++ dot ∷ t) (D.spelled ∙ ap (λ t. D.token ++ slash ∷ t) L.spelled)))
           ∙ joined A.token B.token C.token D.token L.token rest;
     }

@@ -5,6 +5,7 @@ pub mod Chains
 pub mod DecimalValues
 pub mod Displayed
 pub mod LeadingTokens
+pub mod Leaves
 pub mod Matches
 pub mod Nodes
 pub mod Numbers
@@ -12,4 +13,5 @@ pub mod Reached
 pub mod Rows
 pub mod TokenBytes
 pub mod Tokens
+pub mod UsualSpelling
 pub mod Walks

@@ -1,10 +1,11 @@
 -- What nodes stand for stays when nodes are added, and a node stands for what its subtrees do.
 use Rattle.std.proofs.Common.{◌≡◌, ℕ, zero, suc, ◌+◌, ◌-◌, ◌<◌, ◌≤◌, Bool, true, false, Some, List, [], ◌∷◌, ◌++◌, length, take, drop}
-use Rattle.std.proofs.Common.{refl, sym, ap, ◌∙◌, arith, slice_get, slice_range, cond, get_or}
-use Rattle.std.proofs.lemmas.List.{get_or-drop, length-append, length-drop, drop-append-le, take-append-le}
+use Rattle.std.proofs.Common.{refl, sym, ap, ◌∙◌, arith, slice_get, cond, get_or}
+use Rattle.std.proofs.lemmas.List.{get_or-drop, length-drop}
 use Rattle.std.proofs.lemmas.List.Elements.{filter_more}
 use Rattle.prefix_patterns.specs.Matching.{PrefixPattern}
-use Rattle.prefix_patterns.specs.Trees.{IsUnion, IsUnionOfEnds, StandsFor, side, turns, tree_levels}
+use Rattle.prefix_patterns.specs.Trees.{HasEmptyFirst, IsUnion, IsUnionOfEnds, StandsFor, side, turns, tree_levels}
+use Rattle.prefix_patterns.specs.declared.leaf.Leaf.{Leaf}
 use Rattle.prefix_patterns.specs.declared.tree.Node.{Node}
 use Rattle.prefix_patterns.specs.declared.tree.Subtree.{Subtree}
 use Rattle.prefix_patterns.specs.declared.tree.Subtree.TheVariants.{Few, Inner}
@@ -18,20 +19,10 @@ pub slice_get-last : {A : Type 0} (xs : List A) (x : A) → slice_get (xs ++ x �
 slice_get-last [] x = refl
 slice_get-last (y ∷ xs) x = slice_get-last xs x
 
-slice_range-append : {A : Type 0} (xs ys : List A) (from to : ℕ) → from ≤ to → to ≤ length xs →
-    slice_range (xs ++ ys) from to ≡ slice_range xs from to
-slice_range-append xs ys from to order within =
-    ap (take (to - from)) (drop-append-le from xs ys (omega arith))
-    ∙ take-append-le (to - from) (drop from xs) ys (omega (arith, length-drop from xs))
-
-stands_longer : (levels : ℕ) (nodes more : List Node) (leaves others : List PrefixPattern) (depth : ℕ) (subtree : Subtree)
+stands_longer : (levels : ℕ) (nodes more : List Node) (leaves others : List Leaf) (depth : ℕ) (subtree : Subtree)
     (part : List PrefixPattern) →
     StandsFor levels nodes leaves depth subtree part → StandsFor levels (nodes ++ more) (leaves ++ others) depth subtree part
-stands_longer levels nodes more leaves others depth (Few from to) part (order, within, is) = (
-  order,
-  omega (arith, length-append leaves others),
-  is ∙ sym (slice_range-append leaves others from to order within),
-)
+stands_longer levels nodes more leaves others depth (Few at) part (leaf, is, of) = (leaf, slice_get-append leaves others at leaf is, of)
 stands_longer zero nodes more leaves others depth (Inner at) part h = h
 stands_longer (suc levels) nodes more leaves others depth (Inner at) part (node, is, own, below, zeros, ones) = (
   node,
@@ -42,15 +33,19 @@ stands_longer (suc levels) nodes more leaves others depth (Inner at) part (node,
   stands_longer levels nodes more leaves others (depth + 1) node.one (side true depth part) ones,
 )
 
-pub stands_in_longer : (levels : ℕ) (nodes longer more : List Node) (leaves wider others : List PrefixPattern) (depth : ℕ)
+pub stands_in_longer : (levels : ℕ) (nodes longer more : List Node) (leaves wider others : List Leaf) (depth : ℕ)
     (subtree : Subtree)
     (part : List PrefixPattern) → longer ≡ nodes ++ more → wider ≡ leaves ++ others → StandsFor levels nodes leaves depth subtree part →
     StandsFor levels longer wider depth subtree part
 stands_in_longer levels nodes longer more leaves wider others depth subtree part e f h =
     rw (e, f) (stands_longer levels nodes more leaves others depth subtree part h)
 
+-- the first leaf stays
+pub empty_first_longer : (leaves longer more : List Leaf) → longer ≡ leaves ++ more → HasEmptyFirst leaves → HasEmptyFirst longer
+empty_first_longer leaves longer more e (leaf, is, of) = rw e (leaf, slice_get-append leaves more 0 leaf is, of)
+
 -- a node stands for a part if each of its fields does
-pub node_stands : (levels : ℕ) (nodes : List Node) (leaves : List PrefixPattern) (at depth : ℕ) (node : Node)
+pub node_stands : (levels : ℕ) (nodes : List Node) (leaves : List Leaf) (at depth : ℕ) (node : Node)
     (part : List PrefixPattern) → depth ≤ 32 →
     slice_get nodes at ≡ Some node → IsUnionOfEnds depth node.own part → IsUnion node.below part →
     ((l : ℕ) → l + (depth + 1) ≡ tree_levels → StandsFor l nodes leaves (depth + 1) node.zero (side false depth part)) →

@@ -1,11 +1,12 @@
 -- Trees of patterns by their bits. (This project's own choice.)
-use Rattle.std.specs.Prelude.{◌≡◌, ℕ, zero, suc, ◌+◌, ◌/◌, ◌%◌, ◌^◌, ◌≤◌, ◌==◌, ◌&&◌, nat_le, nat_lt}
+use Rattle.std.specs.Prelude.{◌≡◌, ℕ, zero, suc, ◌+◌, ◌-◌, ◌/◌, ◌%◌, ◌^◌, ◌<◌, ◌≤◌, ◌==◌, ◌&&◌, nat_le, nat_lt}
 use Rattle.std.specs.Prelude.{if◌then◌else◌, Bool, true, false, Option, Some, None}
-use Rattle.std.specs.Prelude.{List, [], ◌∷◌, length, filter, reverse, slice_get, slice_range, take}
+use Rattle.std.specs.Prelude.{List, [], ◌∷◌, ◌++◌, get_or, length, filter, reverse, slice_get, take}
 use Rattle.std.specs.Bool.{beq}
 use Rattle.std.specs.List.{list_any}
-use Rattle.prefix_patterns.specs.Bits.{address_length, number}
+use Rattle.prefix_patterns.specs.Bits.{address_length, address_of, number}
 use Rattle.prefix_patterns.specs.Matching.{PrefixPattern, matches_any}
+use Rattle.prefix_patterns.specs.declared.leaf.Leaf.{Leaf}
 use Rattle.prefix_patterns.specs.declared.lengths.Lengths.{Lengths}
 use Rattle.prefix_patterns.specs.declared.tree.Node.{Node}
 use Rattle.prefix_patterns.specs.declared.tree.Subtree.{Subtree}
@@ -45,12 +46,43 @@ abbrev pub IsUnionOfEnds : ℕ → Lengths → List PrefixPattern → Type 0
 IsUnionOfEnds depth lengths patterns =
     (len : ℕ) → len ≤ address_length → has_length lengths len ≡ list_any (λ p. ends_at depth p && allows len p) patterns
 
+-- the mask of so many first bits of an address
+abbrev pub mask_of : ℕ → ℕ
+mask_of len = 2 ^ 32 - 2 ^ (32 - len)
+
+-- the greatest number of patterns in a leaf
+abbrev pub leaf_limit : ℕ
+leaf_limit = 4
+
+-- what a leaf has of a pattern at a place
+pub record IsEntry (leaf : Leaf) (at : ℕ) (pattern : PrefixPattern) : Type 0 where
+  pub limit : length pattern.bits ≤ address_length
+  pub address : get_or leaf.addresses at 0 ≡ address_of pattern.bits
+  pub mask : get_or leaf.masks at 0 ≡ mask_of (length pattern.bits)
+  pub lengths : (d : Lengths) (len : ℕ) → has_length (get_or leaf.lengths at d) len ≡ allows len pattern
+
+-- a leaf has these patterns, and at its other places no length
+pub record IsLeafOf (leaf : Leaf) (part : List PrefixPattern) : Type 0 where
+  pub few : length part ≤ leaf_limit
+  pub filled : (at : ℕ) (pattern : PrefixPattern) → slice_get part at ≡ Some pattern → IsEntry leaf at pattern
+  pub empty : (at : ℕ) (d : Lengths) (len : ℕ) → length part ≤ at → at < leaf_limit → has_length (get_or leaf.lengths at d) len ≡ false
+
+-- leaves have these patterns, in their order
+abbrev pub AreLeavesOf : List Leaf → List PrefixPattern → Type 0
+AreLeavesOf [] patterns = patterns ≡ []
+AreLeavesOf (leaf ∷ leaves) patterns = (few : List PrefixPattern) × (rest : List PrefixPattern) × (patterns ≡ few ++ rest)
+    × IsLeafOf leaf few × AreLeavesOf leaves rest
+
+-- the first of the leaves has no patterns
+abbrev pub HasEmptyFirst : List Leaf → Type 0
+HasEmptyFirst leaves = (leaf : Leaf) × (slice_get leaves 0 ≡ Some leaf) × IsLeafOf leaf []
+
 -- A subtree at a depth stands for a part of the patterns, those that begin with the bits on the way to it. A few patterns are
--- a range of the leaves. A node stands for a part if `own` has the lengths that the patterns which end there allow, `below`
+-- a leaf. A node stands for a part if `own` has the lengths that the patterns which end there allow, `below`
 -- those that any pattern of the part allows, and if its two subtrees stand for the patterns that go on with a 0 and with a
 -- 1. `levels` bounds the height.
-abbrev pub StandsFor : ℕ → List Node → List PrefixPattern → ℕ → Subtree → List PrefixPattern → Type 0
-StandsFor levels nodes leaves depth (Few from to) part = (from ≤ to) × (to ≤ length leaves) × (part ≡ slice_range leaves from to)
+abbrev pub StandsFor : ℕ → List Node → List Leaf → ℕ → Subtree → List PrefixPattern → Type 0
+StandsFor levels nodes leaves depth (Few at) part = (leaf : Leaf) × (slice_get leaves at ≡ Some leaf) × IsLeafOf leaf part
 StandsFor zero nodes leaves depth (Inner at) part = ⊥
 StandsFor (suc levels) nodes leaves depth (Inner at) part = (node : Node) × (slice_get nodes at ≡ Some node)
     × IsUnionOfEnds depth node.own part × IsUnion node.below part
@@ -82,7 +114,7 @@ AllAgree depth prefix [] = Unit {0}
 AllAgree depth prefix (p ∷ part) = (agree (take depth prefix) p.bits ≡ true) × AllAgree depth prefix part
 
 -- a prefix matches one of all patterns if and only if it matches one of those for which a subtree stands
-pub record Reached (nodes : List Node) (leaves : List PrefixPattern) (prefix : List Bool) (all : List PrefixPattern) (depth : ℕ)
+pub record Reached (nodes : List Node) (leaves : List Leaf) (prefix : List Bool) (all : List PrefixPattern) (depth : ℕ)
     (subtree : Subtree) : Type 0 where
   pub levels : ℕ
   pub part : List PrefixPattern

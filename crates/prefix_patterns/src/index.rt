@@ -2,10 +2,13 @@
 
 ghost use Rattle.std.specs.Prelude.{◌≡◌, ℕ, ◌+◌, ◌<◌, ◌≤◌, ◌++◌, List, IfOk, OnOk, get_or, length};
 ghost use Rattle.prefix_patterns.specs.Matching.{PrefixPattern, matches_any};
-ghost use Rattle.prefix_patterns.specs.Trees.{in_bucket, short_bucket};
-ghost use Rattle.prefix_patterns.specs.Index.{AreJoined, HasChains, IsIndexOf};
+ghost use Rattle.prefix_patterns.specs.Trees.{HasEmptyFirst, in_bucket, short_bucket};
+ghost use Rattle.prefix_patterns.specs.Index.{AreJoined, HasChains, IsIndexOf, ShortStandsFor};
+ghost use Rattle.prefix_patterns.specs.declared.leaf.Leaf.{Leaf as LeafView};
 ghost use Rattle.prefix_patterns.specs.declared.lengths.Lengths.{Lengths as LengthsView};
+ghost use Rattle.prefix_patterns.specs.declared.tree.Node.{Node as NodeView};
 
+use crate::leaf::Leaf;
 use crate::lengths::Lengths;
 use crate::pattern::{BUCKET_BITS, Pattern, SHORT_BUCKET};
 use crate::prefix::Prefix;
@@ -67,13 +70,40 @@ fn join(lengths: &mut [Lengths])
     }
 }
 
+/// The leaf of no patterns, which all trees without patterns share.
+fn first_leaves(alloc: Global) -> Result<Vec<Leaf>, AllocError>
+    ensures { IfOk result (λ leaves. HasEmptyFirst leaves.items) }
+{
+    let mut leaves = Vec::new(alloc);
+    leaves.push(Leaf::of(&[]))?;
+    Ok(leaves)
+}
+
+/// Makes the tree of the patterns of fewer than 8 bits, if there are some.
+fn grow_short(
+    nodes: &mut Vec<Node>,
+    leaves: &mut Vec<Leaf>,
+    part: &mut Vec<Pattern>,
+) -> Result<Option<Subtree>, AllocError>
+    requires { HasEmptyFirst leaves.old.items }
+    ensures nodes { OnOk result ((more : List NodeView) × (nodes.new.items ≡ nodes.old.items ++ more)) }
+    ensures leaves { OnOk result ((more : List LeafView) × (leaves.new.items ≡ leaves.old.items ++ more)) }
+    ensures stands { IfOk result (λ short. ShortStandsFor nodes.new.items leaves.new.items short part.old.items) }
+{
+    if part.is_empty() {
+        return Ok(None);
+    }
+    let subtree = grow(nodes, leaves, part, 0, 0)?;
+    Ok(Some(subtree))
+}
+
 /// The index of a set of patterns.
 #[derive(Debug, Drop)]
 pub(crate) struct PatternIndex {
     nodes: Vec<Node>,
-    leaves: Vec<Pattern>,
-    /// The tree of the patterns of fewer than 8 bits.
-    short: Subtree,
+    leaves: Vec<Leaf>,
+    /// The tree of the patterns of fewer than 8 bits, if there are some.
+    short: Option<Subtree>,
     /// The tree of each other bucket. It begins behind the 8 bits that its patterns share.
     subtrees: Vec<Subtree>,
     /// For each prefix of up to 8 bits, the lengths that the patterns of 8 bits or more allow which agree with it. The index
@@ -88,7 +118,7 @@ impl PatternIndex {
     {
         let chains = chains_of(alloc, patterns)?;
         let mut nodes = Vec::new(alloc);
-        let mut leaves = Vec::with_capacity(alloc, patterns.len())?;
+        let mut leaves = first_leaves(alloc)?;
         let mut part = Vec::new(alloc);
         let mut subtrees = Vec::with_capacity(alloc, SHORT_BUCKET)?;
         let mut lengths = vec![in alloc; Lengths::none(); 2 * SHORT_BUCKET]?;
@@ -102,7 +132,7 @@ impl PatternIndex {
         join(lengths.as_mut_slice());
         part.clear();
         push_bucket(&mut part, patterns, &chains, SHORT_BUCKET)?;
-        let short = grow(&mut nodes, &mut leaves, &mut part, 0, 0)?;
+        let short = grow_short(&mut nodes, &mut leaves, &mut part)?;
         Ok(PatternIndex {
             nodes,
             leaves,
@@ -112,15 +142,27 @@ impl PatternIndex {
         })
     }
 
+    /// Whether a prefix matches one of the patterns of fewer than 8 bits.
+    fn matches_short(&self, prefix: &Prefix) -> bool
+        requires { (patterns : List PrefixPattern) × IsIndexOf self.now patterns }
+        ensures { (patterns : List PrefixPattern) → IsIndexOf self.now patterns →
+            result ≡ matches_any prefix.now (in_bucket short_bucket patterns) }
+    {
+        match &self.short {
+            Some(short) => walk(&self.nodes, &self.leaves, short, 0, prefix),
+            None => false,
+        }
+    }
+
     /// Whether a prefix matches one of the patterns.
     pub fn matches(&self, prefix: &Prefix) -> bool
         requires { (patterns : List PrefixPattern) × IsIndexOf self.now patterns }
         ensures { (patterns : List PrefixPattern) → IsIndexOf self.now patterns → result ≡ matches_any prefix.now patterns }
     {
-        let len = prefix.len();
-        if walk(&self.nodes, &self.leaves, &self.short, 0, prefix) {
+        if self.matches_short(prefix) {
             return true;
         }
+        let len = prefix.len();
         if len <= BUCKET_BITS {
             return self.lengths[(1 << len) + prefix.leading(len)].has(len);
         }

@@ -5,6 +5,7 @@ mod address;
 mod display;
 mod index;
 mod leading;
+mod leaf;
 mod lengths;
 mod number;
 mod pattern;

@@ -1,7 +1,7 @@
 ghost use Rattle.std.specs.Prelude.{◌≡◌, ℕ, ◌<◌, ◌≤◌, ◌&&◌, IsTrue, ◌↔◌, nat_le};
 ghost use Rattle.std.specs.Option.{SomeIff};
 ghost use Rattle.prefix_patterns.specs.Bits.{address_length};
-ghost use Rattle.prefix_patterns.specs.Matching.{HasOrderedLengths, Matches, matches, matches_any};
+ghost use Rattle.prefix_patterns.specs.Matching.{HasOrderedLengths, Matches, matches};
 ghost use Rattle.prefix_patterns.specs.Trees.{allows, bucket, has_length, short_bucket, turns};
 
 use crate::address::ADDRESS_LENGTH;
@@ -116,11 +116,4 @@ impl Pattern {
     {
         self.low <= len && len <= self.high
     }
-}
-
-/// Whether a prefix matches one of the patterns.
-pub(crate) fn any_matches(patterns: &[Pattern], prefix: &Prefix) -> bool
-    ensures { result ≡ matches_any prefix.now patterns.now }
-{
-    patterns.iter().any(|pattern| pattern.matches(prefix))
 }

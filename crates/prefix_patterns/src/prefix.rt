@@ -6,6 +6,7 @@ ghost use Rattle.std.specs.Prelude.{◌≡◌, ◌^◌, ◌<◌, ◌≤◌, ◌�
 ghost use Rattle.std.specs.Option.{SomeIff};
 ghost use Rattle.prefix_patterns.specs.Bits.{address_bits, address_length, address_of, number, prefix_bits};
 ghost use Rattle.prefix_patterns.specs.Matching.{LiesWithin, lies_within, has_same_bits};
+ghost use Rattle.prefix_patterns.specs.Trees.{mask_of};
 
 use crate::address::{ADDRESS_LENGTH, Ip};
 use std::marker::Model;
@@ -117,6 +118,14 @@ impl Prefix {
         ensures { result.0 ≡ address_of self.now }
     {
         Ip(self.address)
+    }
+
+    /// The mask of the prefix: as many ones as it has bits, and zeros behind them.
+    pub(crate) fn mask(&self) -> u32
+        ensures value { result ≡ mask_of (length self.now) }
+        ensures limit { length self.now ≤ address_length }
+    {
+        ((1u64 << ADDRESS_LENGTH) - (1u64 << (ADDRESS_LENGTH - self.len))) as u32
     }
 
     /// The length of the prefix in bits, 0 to 32.

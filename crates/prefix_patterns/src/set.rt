@@ -1,9 +1,11 @@
 ghost use Rattle.std.specs.Prelude.{◌≡◌, ◌<◌, ◌≤◌, ◌↔◌, IsTrue, IfOk, IsErrOf, codes, length};
 ghost use Rattle.prefix_patterns.specs.Fault.{set_fault_code};
+ghost use Rattle.prefix_patterns.specs.Index.{IsSearchOf};
 ghost use Rattle.prefix_patterns.specs.Matching.{MatchesAny, matches_any, pattern_limit};
 
 use crate::index::PatternIndex;
-use crate::pattern::{Pattern, any_matches};
+use crate::leaf::{Leaf, any_leaf_matches, leaves_of};
+use crate::pattern::Pattern;
 use crate::prefix::Prefix;
 use std::alloc::{AllocError, Global};
 use std::marker::Model;
@@ -15,12 +17,18 @@ pub const PATTERN_LIMIT: usize = 1024;
 /// The greatest number of patterns in a set that is scanned. An index takes longer to build than it would save there.
 const SCAN_LIMIT: usize = 12;
 
+/// How a set is searched: all leaves of a few patterns, or the index of many.
+#[derive(Debug, Drop)]
+pub(crate) enum Search {
+    Scan(Vec<Leaf>),
+    Index(PatternIndex),
+}
+
 /// A set of patterns. A contract sees it as the list of its patterns, in the order given.
 #[derive(Debug, Drop)]
 pub struct PatternSet {
     patterns: Vec<Pattern>,
-    /// The index of a set that is not scanned.
-    index: Option<PatternIndex>,
+    search: Search,
 }
 
 impl Model for PatternSet {
@@ -32,7 +40,7 @@ impl Model for PatternSet {
 
     ghost view = { λ s. s.patterns.items };
 
-    ghost invariant = { λ s. IsSearchable s.patterns.items s.index };
+    ghost invariant = { λ s. IsSearchable s.patterns.items s.search };
 }
 
 /// Why a set was not built.
@@ -79,19 +87,26 @@ impl PatternSet {
         }
     }
 
-    /// Makes the set of these patterns, with an index if there are many.
+    /// Makes the index of these patterns if there are many, and their leaves otherwise.
+    fn search_of(alloc: Global, patterns: &[Pattern]) -> Result<Search, AllocError>
+        ensures { IfOk result (λ search. IsSearchOf search patterns.now) }
+    {
+        if patterns.len() > SCAN_LIMIT {
+            Ok(Search::Index(PatternIndex::build(alloc, patterns)?))
+        } else {
+            Ok(Search::Scan(leaves_of(alloc, patterns)?))
+        }
+    }
+
+    /// Makes the set of these patterns.
     fn indexed(alloc: Global, patterns: &[Pattern]) -> Result<PatternSet, AllocError>
         requires { length patterns.now ≤ pattern_limit }
         ensures { IfOk result (λ set. set ≡ patterns.now) }
     {
-        let index = if patterns.len() > SCAN_LIMIT {
-            Some(PatternIndex::build(alloc, patterns)?)
-        } else {
-            None
-        };
+        let search = PatternSet::search_of(alloc, patterns)?;
         Ok(PatternSet {
             patterns: Vec::from_slice(alloc, patterns)?,
-            index,
+            search,
         })
     }
 
@@ -108,9 +123,9 @@ impl PatternSet {
         ensures any { IsTrue result ↔ MatchesAny prefix.now self.now }
         ensures exact { result ≡ matches_any prefix.now self.now }
     {
-        match &self.index {
-            Some(index) => index.matches(prefix),
-            None => any_matches(&self.patterns, prefix),
+        match &self.search {
+            Search::Index(index) => index.matches(prefix),
+            Search::Scan(leaves) => any_leaf_matches(leaves, prefix),
         }
     }
 }

@@ -3,21 +3,20 @@
 ghost use Rattle.std.specs.Prelude.{◌≡◌, ℕ, ◌+◌, ◌<◌, ◌≤◌, ◌++◌, List, drop, length, vec_len, IfOk, OnOk};
 ghost use Rattle.prefix_patterns.specs.Bits.{address_length};
 ghost use Rattle.prefix_patterns.specs.Matching.{PrefixPattern, matches_any};
-ghost use Rattle.prefix_patterns.specs.Trees.{IsUnion, IsUnionOfEnds, Reached, StandsFor, child, side, tree_levels};
+ghost use Rattle.prefix_patterns.specs.Trees.{HasEmptyFirst, IsUnion, IsUnionOfEnds, Reached, StandsFor, child, leaf_limit, side, tree_levels};
+ghost use Rattle.prefix_patterns.specs.declared.leaf.Leaf.{Leaf as LeafView};
 ghost use Rattle.prefix_patterns.specs.declared.tree.Node.{Node as NodeView};
 
+use crate::leaf::{FEW, Leaf};
 use crate::lengths::Lengths;
-use crate::pattern::{Pattern, any_matches};
+use crate::pattern::Pattern;
 use crate::prefix::Prefix;
 use std::alloc::AllocError;
 
-/// The greatest number of patterns that are scanned. More of them have a node.
-const FEW: usize = 4;
-
-/// Some of the patterns: a few of them as a range of the leaves, or more by the index of their node.
+/// Some of the patterns: a few of them by the index of their leaf, or more by that of their node.
 #[derive(Clone, Copy, Debug)]
 pub(crate) enum Subtree {
-    Few { from: usize, to: usize },
+    Few(usize),
     Inner(usize),
 }
 
@@ -75,34 +74,36 @@ fn push_side(part: &mut Vec<Pattern>, from: usize, depth: u8, bit: bool) -> Resu
     Ok(())
 }
 
-/// Appends a few patterns to the leaves, as a subtree.
-fn push_few(leaves: &mut Vec<Pattern>, part: &[Pattern]) -> Result<Subtree, AllocError>
-    ensures leaves { OnOk result (leaves.new.items ≡ leaves.old.items ++ part.now) }
+/// Appends a leaf of a few patterns. The first leaf is the one of no patterns.
+fn push_few(leaves: &mut Vec<Leaf>, part: &[Pattern]) -> Result<Subtree, AllocError>
+    requires few { length part.now ≤ leaf_limit }
+    requires first { HasEmptyFirst leaves.old.items }
+    ensures leaves { OnOk result ((more : List LeafView) × (leaves.new.items ≡ leaves.old.items ++ more)) }
     ensures stands { IfOk result (λ subtree. (levels : ℕ) (nodes : List NodeView) (depth : ℕ) →
         StandsFor levels nodes leaves.new.items depth subtree part.now) }
 {
-    let from = leaves.len();
-    leaves.extend_from_slice(part)?;
-    Ok(Subtree::Few {
-        from,
-        to: leaves.len(),
-    })
+    if part.is_empty() {
+        return Ok(Subtree::Few(0));
+    }
+    leaves.push(Leaf::of(part))?;
+    Ok(Subtree::Few(leaves.len() - 1))
 }
 
 /// Makes the tree of the patterns of `part` from `from` on, which share the bits before `depth`. While it runs, it appends
 /// patterns to `part`.
 pub(crate) fn grow(
     nodes: &mut Vec<Node>,
-    leaves: &mut Vec<Pattern>,
+    leaves: &mut Vec<Leaf>,
     part: &mut Vec<Pattern>,
     from: usize,
     depth: u8,
 ) -> Result<Subtree, AllocError>
     requires within { from ≤ vec_len part.old }
     requires shallow { from < vec_len part.old → depth ≤ address_length }
+    requires first { HasEmptyFirst leaves.old.items }
     ensures part { OnOk result (part.new.items ≡ part.old.items) }
     ensures nodes { OnOk result ((more : List NodeView) × (nodes.new.items ≡ nodes.old.items ++ more)) }
-    ensures leaves { OnOk result ((more : List PrefixPattern) × (leaves.new.items ≡ leaves.old.items ++ more)) }
+    ensures leaves { OnOk result ((more : List LeafView) × (leaves.new.items ≡ leaves.old.items ++ more)) }
     ensures stands { IfOk result (λ subtree. (levels : ℕ) → levels + depth ≡ tree_levels →
         StandsFor levels nodes.new.items leaves.new.items depth subtree (drop from part.old.items)) }
 {
@@ -129,7 +130,7 @@ pub(crate) fn grow(
 /// Whether a prefix matches one of the patterns of a tree whose patterns agree with its first `start` bits.
 pub(crate) fn walk(
     nodes: &[Node],
-    leaves: &[Pattern],
+    leaves: &[Leaf],
     root: &Subtree,
     start: u8,
     prefix: &Prefix,
@@ -144,8 +145,8 @@ pub(crate) fn walk(
     let mut depth = start;
     'down: loop {
         let node = match subtree {
-            Subtree::Few { from, to } => return any_matches(&leaves[*from..*to], prefix),
-            Subtree::Inner(at) => nodes.get(*at).unwrap(),
+            Subtree::Few(at) => return leaves[*at].matches(prefix),
+            Subtree::Inner(at) => &nodes[*at],
         };
         if node.own.has(len) {
             return true;

@@ -7,14 +7,15 @@ use Rattle.std.proofs.Math.Seq.{take-append_seam}
 use Rattle.prefix_patterns.specs.Index.{AreJoined}
 use Rattle.prefix_patterns.specs.Matching.{PrefixPattern}
 use Rattle.prefix_patterns.specs.Trees.{IsUnion, StandsFor, in_bucket}
+use Rattle.prefix_patterns.specs.declared.leaf.Leaf.{Leaf}
 use Rattle.prefix_patterns.specs.declared.lengths.Lengths.{Lengths}
 use Rattle.prefix_patterns.specs.declared.tree.Node.{Node}
 use Rattle.prefix_patterns.specs.declared.tree.Subtree.{Subtree}
-use Rattle.prefix_patterns.proofs.Nodes.{stands_in_longer}
+use Rattle.prefix_patterns.proofs.Nodes.{empty_first_longer, stands_in_longer}
 use Rattle.prefix_patterns.proofs.index.PatternIndex.build.Goals as goal
 
 -- one more bucket has its subtree
-one_more_subtree : (nodes longer more : List Node) (leaves wider others patterns : List PrefixPattern)
+one_more_subtree : (nodes longer more : List Node) (leaves wider others : List Leaf) (patterns : List PrefixPattern)
     (subtrees pushed : List Subtree) (subtree : Subtree)
     (count : ℕ) → longer ≡ nodes ++ more → wider ≡ leaves ++ others → pushed ≡ subtrees ++ subtree ∷ [] → length subtrees ≡ count →
     StandsFor 25 longer wider 8 subtree (in_bucket count patterns) →
@@ -63,6 +64,7 @@ loop-bucket-preserved c =
     let stands = rw part at (c.in_ok-subtree.ensures.stands 25 refl) in
     let union = subst (IsUnion c.lengths_of.result.1) (c.as_slice.ensures.value ∙ part) c.lengths_of.ensures.below in
     record {
+      first = empty_first_longer c.loop-bucket.leaves.items c.grow.new.leaves.items others wider inv.first;
       subtrees = ap length c.in_ok-push.ensures.items ∙ length-append c.loop-bucket.subtrees.items (c.in_ok-subtree.subtree ∷ [])
           ∙ ap (λ n. n + 1) inv.subtrees;
       lengths = length-set c.loop-bucket.lengths.items (256 + count) c.lengths_of.result.1 ∙ inv.lengths;
@@ -93,10 +95,10 @@ returns c =
     record {
       subtrees = inv.subtrees ∙ all;
       lengths = ap length back ∙ kept ∙ inv.lengths;
-      short = rw part at (c.in_ok-short.ensures.stands 33 refl);
+      short = rw part at c.in_ok-short.ensures.stands;
       long = λ at d below.
-          stands_in_longer 25 c.loop-bucket.nodes.items c.grow-2.new.nodes.items more c.loop-bucket.leaves.items
-          c.grow-2.new.leaves.items others 8
+          stands_in_longer 25 c.loop-bucket.nodes.items c.grow_short.new.nodes.items more c.loop-bucket.leaves.items
+          c.grow_short.new.leaves.items others 8
           (get_or c.loop-bucket.subtrees.items at d) (in_bucket at patterns) longer wider (inv.long at d (omega arith));
       allowed = λ at d below.
           let same = c.join.ensures.kept (256 + at) d (omega arith) ∙ ap (λ xs. get_or xs (256 + at) d) c.as_mut_slice.ensures.value in

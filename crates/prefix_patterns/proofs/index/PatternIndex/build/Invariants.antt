@@ -1,5 +1,5 @@
 use Rattle.std.proofs.Common.{◌≡◌, ℕ, ◌+◌, ◌<◌, get_or, length}
-use Rattle.prefix_patterns.specs.Trees.{IsUnion, StandsFor, in_bucket}
+use Rattle.prefix_patterns.specs.Trees.{HasEmptyFirst, IsUnion, StandsFor, in_bucket}
 use Rattle.prefix_patterns.specs.declared.lengths.Lengths.{Lengths}
 use Rattle.prefix_patterns.specs.declared.tree.Subtree.{Subtree}
 use Rattle.prefix_patterns.proofs.index.PatternIndex.build.Given as goal
@@ -7,6 +7,7 @@ use Rattle.prefix_patterns.proofs.index.PatternIndex.build.Given as goal
 -- the buckets so far have their subtrees and lengths
 abbrev pub invariant-loop-bucket : goal.invariant-loop-bucket
 invariant-loop-bucket l = record {
+  first : HasEmptyFirst l.leaves.items;
   subtrees : length l.subtrees.items ≡ l.bucket;
   lengths : length l.lengths.items ≡ 512;
   long : (at : ℕ) (d : Subtree) → at < l.bucket →

@@ -8,23 +8,15 @@ use Rattle.prefix_patterns.specs.Index.{IsIndexOf}
 use Rattle.prefix_patterns.specs.Matching.{PrefixPattern, matches_any}
 use Rattle.prefix_patterns.specs.Trees.{Reached, has_length, hits, in_bucket, StandsFor}
 use Rattle.prefix_patterns.specs.declared.index.PatternIndex.{PatternIndex}
+use Rattle.prefix_patterns.specs.declared.leaf.Leaf.{Leaf}
 use Rattle.prefix_patterns.specs.declared.tree.Node.{Node}
 use Rattle.prefix_patterns.specs.declared.tree.Subtree.{Subtree}
 use Rattle.prefix_patterns.proofs.Buckets.{bucket_agrees, index_of, is_long, long_in_bucket, long_lengths, short_or_long}
-use Rattle.prefix_patterns.proofs.Reached.{at_root}
 use Rattle.prefix_patterns.proofs.Walks.{any_hits}
 use Rattle.prefix_patterns.proofs.index.PatternIndex.matches.Goals as goal
 
--- the tree of the patterns of fewer than 8 bits
-short_reached : (index : PatternIndex) (nodes : List Node) (leaves : List PrefixPattern) (prefix : List Bool)
-    (patterns : List PrefixPattern) →
-    nodes ≡ index.nodes.items → leaves ≡ index.leaves.items → IsIndexOf index patterns →
-    Reached nodes leaves prefix (in_bucket 256 patterns) 0 index.short
-short_reached index nodes leaves prefix patterns e f h =
-    rw (e, f) (at_root index.nodes.items index.leaves.items prefix (in_bucket 256 patterns) index.short h.short)
-
 -- the tree of the bucket of a prefix
-bucket_reached : (index : PatternIndex) (nodes : List Node) (leaves : List PrefixPattern) (prefix : List Bool)
+bucket_reached : (index : PatternIndex) (nodes : List Node) (leaves : List Leaf) (prefix : List Bool)
     (patterns : List PrefixPattern)
     (at : ℕ) (subtree : Subtree) → nodes ≡ index.nodes.items → leaves ≡ index.leaves.items → 8 ≤ length prefix →
     at ≡ number (take 8 prefix) →
@@ -42,14 +34,6 @@ bucket_reached index nodes leaves prefix patterns at subtree e f few here below 
       same = any_hits prefix (in_bucket (number (take 8 prefix)) patterns);
     }
 
-pub walk-requires-clause-reached : goal.walk-requires-clause-reached
-walk-requires-clause-reached c =
-    let (patterns, h) = c.requires in (
-      in_bucket 256 patterns,
-      short_reached c.args.self.now c.deref.result.now c.deref-2.result.now c.args.prefix.now patterns c.deref.ensures.value
-          c.deref-2.ensures.value h,
-    )
-
 -- the answer, by that of the tree of the patterns of fewer than 8 bits
 by_short : (prefix : List Bool) (patterns : List PrefixPattern) (found answer : Bool) →
     answer ≡ matches_any prefix (in_bucket 256 patterns) →
@@ -57,11 +41,9 @@ by_short : (prefix : List Bool) (patterns : List PrefixPattern) (found answer : 
 by_short prefix patterns found answer told is =
     short_or_long prefix patterns ∙ ap (λ b. b || list_any (λ q. is_long q && hits prefix q) patterns) (sym told ∙ is)
 
-pub returns-then-walk : goal.returns-then-walk
-returns-then-walk c = λ patterns h.
-    let reached = short_reached c.args.self.now c.deref.result.now c.deref-2.result.now c.args.prefix.now patterns c.deref.ensures.value
-    c.deref-2.ensures.value h in
-    sym (by_short c.args.prefix.now patterns true c.walk.result (c.walk.ensures (in_bucket 256 patterns) reached) c.if-walk.true)
+pub returns-then-matches_short : goal.returns-then-matches_short
+returns-then-matches_short c = λ patterns h.
+    sym (by_short c.args.prefix.now patterns true c.matches_short.result (c.matches_short.ensures patterns h) c.if-matches_short.true)
 
 -- the index of the lengths of a prefix
 at_index : (prefix : List Bool) (len leading shifted : ℕ) → len ≡ length prefix → leading ≡ number (take len prefix) → shifted ≡ 2 ^ len →
@@ -73,8 +55,6 @@ pub returns-then-len-le-BUCKET_BITS : goal.returns-then-len-le-BUCKET_BITS
 returns-then-len-le-BUCKET_BITS c = λ patterns h.
     let index = c.args.self.now in
     let prefix = c.args.prefix.now in
-    let reached = short_reached index c.deref.result.now c.deref-2.result.now prefix patterns c.deref.ensures.value
-    c.deref-2.ensures.value h in
     let len = c.len-len.result in
     let bits : len ≡ length prefix = c.len-len.ensures.bits in
     let few : len ≤ 8 = c.if-len-le-BUCKET_BITS.true in
@@ -90,16 +70,16 @@ returns-then-len-le-BUCKET_BITS c = λ patterns h.
     ∙ ap (λ l. has_length l len) read
     ∙ ap (has_length (get_or index.lengths.items (index_of prefix) found)) bits
     ∙ told
-    ∙ sym (by_short prefix patterns false c.walk.result (c.walk.ensures (in_bucket 256 patterns) reached) c.if-walk.false)
+    ∙ sym (by_short prefix patterns false c.matches_short.result (c.matches_short.ensures patterns h) c.if-matches_short.false)
 
-pub walk-requires-2-clause-reached : goal.walk-requires-2-clause-reached
-walk-requires-2-clause-reached c =
+pub walk-requires-clause-reached : goal.walk-requires-clause-reached
+walk-requires-clause-reached c =
     let (patterns, h) = c.requires in
     let prefix = c.args.prefix.now in
     let few : 8 ≤ length prefix = omega (arith, c.len-len.ensures.bits) in (
       in_bucket (number (take 8 prefix)) patterns,
-      bucket_reached c.args.self.now c.deref-3.result.now c.deref-4.result.now prefix patterns c.leading-2.result c.index-subtree.result.now
-          c.deref-3.ensures.value c.deref-4.ensures.value few c.leading-2.ensures.value c.leading-2.ensures.limit c.index-subtree.ensures h,
+      bucket_reached c.args.self.now c.deref.result.now c.deref-2.result.now prefix patterns c.leading-2.result c.index-subtree.result.now
+          c.deref.ensures.value c.deref-2.ensures.value few c.leading-2.ensures.value c.leading-2.ensures.limit c.index-subtree.ensures h,
     )
 
 pub returns : goal.returns
@@ -107,11 +87,9 @@ returns c = λ patterns h.
     let index = c.args.self.now in
     let prefix = c.args.prefix.now in
     let few : 8 ≤ length prefix = omega (arith, c.len-len.ensures.bits) in
-    let short = short_reached index c.deref.result.now c.deref-2.result.now prefix patterns c.deref.ensures.value
-    c.deref-2.ensures.value h in
-    let reached = bucket_reached index c.deref-3.result.now c.deref-4.result.now prefix patterns c.leading-2.result
+    let reached = bucket_reached index c.deref.result.now c.deref-2.result.now prefix patterns c.leading-2.result
     c.index-subtree.result.now
-    c.deref-3.ensures.value c.deref-4.ensures.value few c.leading-2.ensures.value c.leading-2.ensures.limit c.index-subtree.ensures h in
-    c.walk-2.ensures (in_bucket (number (take 8 prefix)) patterns) reached
+    c.deref.ensures.value c.deref-2.ensures.value few c.leading-2.ensures.value c.leading-2.ensures.limit c.index-subtree.ensures h in
+    c.walk.ensures (in_bucket (number (take 8 prefix)) patterns) reached
     ∙ sym (long_in_bucket prefix patterns few)
-    ∙ sym (by_short prefix patterns false c.walk.result (c.walk.ensures (in_bucket 256 patterns) short) c.if-walk.false)
+    ∙ sym (by_short prefix patterns false c.matches_short.result (c.matches_short.ensures patterns h) c.if-matches_short.false)

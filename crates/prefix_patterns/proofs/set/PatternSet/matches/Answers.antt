@@ -4,12 +4,12 @@ use Rattle.prefix_patterns.proofs.Matches.{matches_any-Decides}
 use Rattle.prefix_patterns.specs.Matching.{matches_any}
 use Rattle.prefix_patterns.proofs.set.PatternSet.matches.Goals as goal
 
-pub returns-in-Some-clause-any : goal.returns-in-Some-clause-any
-returns-in-Some-clause-any c =
+pub returns-in-Index-clause-any : goal.returns-in-Index-clause-any
+returns-in-Index-clause-any c =
     let exact : c.matches.result ≡ matches_any c.args.prefix.now c.args.self.now = search rules in
     Decides-at _ _ exact (matches_any-Decides c.args.prefix.now c.args.self.now)
 
-pub returns-in-None-clause-any : goal.returns-in-None-clause-any
-returns-in-None-clause-any c =
-    let exact : c.any_matches.result ≡ matches_any c.args.prefix.now c.args.self.now = search rules in
+pub returns-in-Scan-clause-any : goal.returns-in-Scan-clause-any
+returns-in-Scan-clause-any c =
+    let exact : c.any_leaf_matches.result ≡ matches_any c.args.prefix.now c.args.self.now = search rules in
     Decides-at _ _ exact (matches_any-Decides c.args.prefix.now c.args.self.now)
