@@ -1,3 +1,4 @@
+pub mod Bytes
 pub mod Indexed
 pub mod Refused
 pub mod Translations

@@ -11,18 +11,44 @@ use Rattle.filter_compiler.specs.Translation.{code_of}
 use Rattle.filter_compiler.specs.declared.fault.CompileFault.{CompileFault}
 use Rattle.filter_compiler.specs.declared.fault.CompileFault.TheVariants as compile
 use Rattle.filter_parser.specs.Codes.{LiesWithin}
-use Rattle.filter_parser.specs.SyntaxText.{FilterView, IsText, text_limit}
+use Rattle.filter_parser.specs.Placed.{IsPlaced}
+use Rattle.filter_parser.specs.SyntaxText.{FilterView, IsText, text_limit, view_filter}
 use Rattle.filter_parser.specs.declared.fault.ParseFault.{ParseFault}
 use Rattle.filter_parser.specs.declared.fault.ParseFault.TheVariants as parse
+use Rattle.filter_parser.specs.declared.tree.filter.Filter.{Filter}
+use Rattle.filter_tokens.specs.Tokenization.{AreInOrder}
+use Rattle.filter_types.specs.Codes.{fault_place}
+use Rattle.filter_types.specs.Faults.{IsFaultOf, KeepsPlace}
 use Rattle.filter_types.specs.Kinds.{IsTyped}
-use Rattle.filter_source.specs.Failures.{OnRefusal, of_compile, of_file, of_parse}
-use Rattle.filter_source.specs.Sources.{IsRefusedText, IsUnwritten}
+use Rattle.filter_types.specs.declared.fault.TypeFault.{TypeFault}
+use Rattle.filter_types.specs.declared.fault.TypeFault.TheVariants as types
+use Rattle.filter_source.specs.Failures.{OnRefusal, of_compile, of_file, of_parse, of_type}
+use Rattle.filter_source.specs.Sources.{IsRefusedText, IsUntyped, IsUnwritten}
+use Rattle.filter_source.proofs.Bytes.{byte_of}
 
 pub no_filter : (text : List ℕ) (why : ParseFault) → (why ≢ parse.Memory → (filter : FilterView) → IsText text filter → ⊥)
     → LiesWithin (length text) why → (text_limit < length text → why ≡ parse.TooLong) → OnRefusal (IsRefusedText text) (of_parse why)
 no_filter text parse.Memory none within long = tt
 no_filter text why none within long = let other : why ≢ parse.Memory = λ e. cc in
     record { spells_none = none other; no_memory = other; within = within; long = long }
+
+-- a filter whose names and kinds do not fit has a fault at a byte of its text; of refused memory nothing is said
+pub untyped : (text : List ℕ) (tree : Filter) (why : TypeFault) → IsText text (view_filter tree) → IsPlaced text tree
+    → AreInOrder 0 (view_filter tree).tokens (length text) → (why ≢ types.Memory → IsTyped (view_filter tree) → ⊥)
+    → (why ≢ types.Memory → IsFaultOf tree why) → (why ≢ types.Memory → KeepsPlace tree (fault_place why))
+    → OnRefusal (IsRefusedText text) (of_type why)
+untyped text tree types.Memory spelled placed order unfit has keeps = tt
+untyped text tree why spelled placed order unfit has keeps =
+    let other : why ≢ types.Memory = λ e. cc in
+    record {
+      tree = tree;
+      spelled = spelled;
+      placed = placed;
+      no_memory = other;
+      unfit = unfit other;
+      is_fault = has other;
+      within = byte_of text tree (fault_place why) order placed (keeps other);
+    }
 
 -- a filter whose names and kinds fit has no code where its translation is over a limit; of refused memory nothing is said
 pub over_limit : (text : List ℕ) (filter : FilterView) (why : CompileFault) → IsText text filter → IsTyped filter

@@ -5,7 +5,7 @@ use Rattle.filter_compiler.specs.Limits.{HasTooMany, IsTooLong}
 use Rattle.filter_compiler.specs.Translation.{code_of}
 use Rattle.filter_compiler.specs.declared.fault.CompileFault.{CompileFault}
 use Rattle.filter_compiler.specs.declared.fault.CompileFault.TheVariants as compile
-use Rattle.filter_parser.specs.SyntaxText.{FilterView}
+use Rattle.filter_parser.specs.SyntaxText.{FilterView, view_filter}
 use Rattle.filter_parser.proofs.Texts.{text_one}
 use Rattle.filter_types.specs.Kinds.{IsTyped}
 use Rattle.filter_source.specs.Sources.{AreAlike, IsOverLimit, IsRefusedText, Translates}
@@ -17,7 +17,7 @@ one text f g p q a b = a.code ∙ ap code_of (sym (a.only g b.spelled)) ∙ sym 
 
 pub none : (text : List ℕ) (f : FilterView) (p : CodeView) (why : Refusal) → Translates text f p → IsRefusedText text why → ⊥
 none text f p (Parse why) a r = r.spells_none f a.spelled
-none text f p (Typing why) a r = r.3 (subst IsTyped (sym (a.only r.0 r.1)) a.typed)
+none text f p (Typing why) a r = r.unfit (subst IsTyped (sym (a.only (view_filter r.tree) r.spelled)) a.typed)
 none text f p (Compile compile.TooManyInstructions) a r =
     a.short (subst (λ (g : FilterView). IsTooLong (code_of g)) (a.only r.0 r.1) r.3)
 none text f p (Compile compile.TooManySets) a r =
@@ -43,11 +43,11 @@ alike text (Typing a) (Typing b) r s = tt
 alike text (Compile a) (Compile b) r s =
     let same = text_one text s.0 r.0 s.1 r.1 in
     ap Compile (over_one (code_of r.0) a b r.3 (subst (λ (g : FilterView). IsOverLimit (code_of g) b) same s.3))
-alike text (Typing a) (Compile b) r s = absurd (r.3 (subst IsTyped (text_one text s.0 r.0 s.1 r.1) s.2))
-alike text (Compile a) (Typing b) r s = absurd (s.3 (subst IsTyped (text_one text r.0 s.0 r.1 s.1) r.2))
-alike text (Parse a) (Typing b) r s = absurd (r.spells_none s.0 s.1)
+alike text (Typing a) (Compile b) r s = absurd (r.unfit (subst IsTyped (text_one text s.0 (view_filter r.tree) s.1 r.spelled) s.2))
+alike text (Compile a) (Typing b) r s = absurd (s.unfit (subst IsTyped (text_one text r.0 (view_filter s.tree) r.1 s.spelled) r.2))
+alike text (Parse a) (Typing b) r s = absurd (r.spells_none (view_filter s.tree) s.spelled)
 alike text (Parse a) (Compile b) r s = absurd (r.spells_none s.0 s.1)
-alike text (Typing a) (Parse b) r s = absurd (s.spells_none r.0 r.1)
+alike text (Typing a) (Parse b) r s = absurd (s.spells_none (view_filter r.tree) r.spelled)
 alike text (Compile a) (Parse b) r s = absurd (s.spells_none r.0 r.1)
 alike text TooLong other r s = absurd r
 alike text Hexadecimal other r s = absurd r

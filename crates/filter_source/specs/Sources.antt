@@ -15,10 +15,15 @@ use Rattle.filter_compiler.specs.Translation.{code_of}
 use Rattle.filter_compiler.specs.declared.fault.CompileFault.{CompileFault}
 use Rattle.filter_compiler.specs.declared.fault.CompileFault.TheVariants as compile
 use Rattle.filter_parser.specs.Codes.{LiesWithin}
-use Rattle.filter_parser.specs.SyntaxText.{FilterView, IsText, text_limit}
+use Rattle.filter_parser.specs.Placed.{IsPlaced}
+use Rattle.filter_parser.specs.SyntaxText.{FilterView, IsText, text_limit, view_filter}
 use Rattle.filter_parser.specs.declared.fault.ParseFault.{ParseFault}
 use Rattle.filter_parser.specs.declared.fault.ParseFault.TheVariants as parse
+use Rattle.filter_parser.specs.declared.tree.filter.Filter.{Filter}
+use Rattle.filter_types.specs.Codes.{fault_place}
+use Rattle.filter_types.specs.Faults.{IsFaultOf}
 use Rattle.filter_types.specs.Kinds.{IsTyped}
+use Rattle.filter_types.specs.declared.fault.TypeFault.{TypeFault}
 use Rattle.filter_types.specs.declared.fault.TypeFault.TheVariants as types
 use Rattle.filter_verifier.specs.FirstFault.{the_fault}
 use Rattle.filter_verifier.specs.declared.fault.VerifyFault.{VerifyFault}
@@ -50,11 +55,22 @@ pub record IsUnspelled (text : List ℕ) (why : ParseFault) : Type 0 where
   pub within : LiesWithin (length text) why
   pub long : text_limit < length text → why ≡ parse.TooLong
 
+-- A text spells a filter whose names and kinds do not fit, and this is a fault of it, at one of the bytes of the text. Which of its
+-- faults it is, is left open.
+pub record IsUntyped (text : List ℕ) (why : TypeFault) : Type 0 where
+  pub tree : Filter
+  pub spelled : IsText text (view_filter tree)
+  pub placed : IsPlaced text tree
+  pub no_memory : why ≢ types.Memory
+  pub unfit : ¬ IsTyped (view_filter tree)
+  pub is_fault : IsFaultOf tree why
+  pub within : fault_place why < length text
+
 -- A text has no code, and this may be why: it spells no filter, or a filter whose names and kinds do not fit, or one whose
--- translation is over a limit. Which fault of its names and kinds is answered, and its place, is left open.
+-- translation is over a limit.
 abbrev pub IsRefusedText : List ℕ → Refusal → Type 0
 IsRefusedText text (Parse why) = IsUnspelled text why
-IsRefusedText text (Typing why) = (filter : FilterView) × IsText text filter × (why ≢ types.Memory) × ¬ IsTyped filter
+IsRefusedText text (Typing why) = IsUntyped text why
 IsRefusedText text (Compile why) =
     (filter : FilterView) × IsText text filter × IsTyped filter × IsOverLimit (code_of filter) why
 IsRefusedText text TooLong = ⊥

@@ -1,4 +1,9 @@
+pub mod Blaming
 pub mod Bodies
+pub mod CommandFaulting
+pub mod Erring
+pub mod Faulting
+pub mod Keeping
 pub mod Labelling
 pub mod Lists
 pub mod Names

@@ -1,7 +1,7 @@
 -- Laws of the numbers and the declarations of variables.
 use Rattle.std.proofs.Common.{◌≡◌, ◌≢◌, ℕ, zero, suc, ◌+◌, ◌<◌, ◌≤◌, true, false, Some, None, List}
 use Rattle.std.proofs.Common.{[], ◌∷◌, ◌++◌, length, map, take, get_or, refl, sym, ap, subst, ◌∙◌, arith}
-use Rattle.std.specs.Prelude.{slice_get}
+use Rattle.std.specs.Prelude.{Contains, slice_get}
 use Rattle.std.specs.Option.{option_map}
 use Rattle.std.specs.Str.{bytes_eq}
 use Rattle.std.proofs.lemmas.List.{get_or-map, get_or-take, length-map, length-take-le, take-map}
@@ -92,3 +92,17 @@ twice vs i v low is below once =
     let here : get_or (map view_decl vs) i d ≡ d = get_or-map view_decl vs i v d low ∙ ap view_decl (sym is) in
     let fits : i < length (map view_decl vs) = omega (arith, length-map vs view_decl, low) in
     once n i d below fits (ap (λ (x : DeclView). x.name) early ∙ same ∙ sym (ap (λ (x : DeclView). x.name) here))
+
+-- a name whose number is that of a variable is the name of one
+pub earlier : (xs : List Decl) (v : Decl) → number_of (map view_decl xs) v.name.items < length xs
+    → Contains (map (λ d. d.name.items) xs) v.name.items
+earlier xs v low =
+    let front : List DeclView = map view_decl xs in
+    let n : ℕ = number_of front v.name.items in
+    let within : n < length front = omega (arith, length-map xs view_decl, low) in
+    let t : bytes_eq (get_or front n (view_decl v)).name v.name.items ≡ true =
+    passes_at_first (λ (x : DeclView). bytes_eq x.name v.name.items) front (view_decl v) within in
+    let same : (get_or front n (view_decl v)).name ≡ v.name.items = (bytes_eq-Decides _ _).0 t in
+    let there : (get_or xs n v).name.items ≡ v.name.items =
+    ap (λ (x : DeclView). x.name) (sym (get_or-map view_decl xs n v (view_decl v) low)) ∙ same in
+    (n, omega (arith, low, length-map xs (λ (d : Decl). d.name.items)), get_or-map (λ (d : Decl). d.name.items) xs n v v.name.items low ∙ there)

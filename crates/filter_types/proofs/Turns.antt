@@ -26,7 +26,7 @@ some_is None = refl
 some_is (Some a) = refl
 
 -- the kind of a chain is that of its first operand with what follows it
-chain_kind : (vs : List DeclView) (left : ExprView) (xs : List (ℕ × Op × ExprView))
+pub chain_kind : (vs : List DeclView) (left : ExprView) (xs : List (ℕ × Op × ExprView))
     → kind_in vs (chain_of left xs) ≡ of_one (λ k. kind_with vs k xs) (kind_in vs left)
 chain_kind vs left [] = sym (some_is (kind_in vs left))
 chain_kind vs left (x ∷ xs) =
@@ -34,7 +34,7 @@ chain_kind vs left (x ∷ xs) =
     ∙ two_is (operator x.1) (kind_in vs left) (kind_in vs x.2) (λ k. kind_with vs k xs)
 
 -- the kind of an operand with suffixes is that of the operand with what follows it
-suffixes_kind : (vs : List DeclView) (inner : ExprView) (xs : List Suffix)
+pub suffixes_kind : (vs : List DeclView) (inner : ExprView) (xs : List Suffix)
     → kind_in vs (suffixes_of inner xs) ≡ of_one (λ k. kind_after k xs) (kind_in vs inner)
 suffixes_kind vs inner [] = sym (some_is (kind_in vs inner))
 suffixes_kind vs inner (x ∷ xs) =

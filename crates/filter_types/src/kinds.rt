@@ -1,11 +1,13 @@
 //! The kinds of expressions.
 
-ghost use Rattle.std.specs.Prelude.{map};
+ghost use Rattle.std.specs.Prelude.{IfErr, map};
 ghost use Rattle.filter_parser.specs.Syntax.{view, view_more};
 ghost use Rattle.filter_parser.specs.SyntaxCommands.{view_decl};
 ghost use Rattle.filter_types.specs.Answers.{AnswersKind};
+ghost use Rattle.filter_types.specs.Faults.{HasFault};
 ghost use Rattle.filter_types.specs.Kinds.{kind_in};
-ghost use Rattle.filter_types.specs.Turns.{kind_after, kind_with};
+ghost use Rattle.filter_types.specs.Refusals.{view_operand};
+ghost use Rattle.filter_types.specs.Turns.{ChainHasFault, SuffixRefuses, kind_after, kind_with};
 
 use crate::fault::TypeFault;
 use crate::table::{Operand, attribute_kind, in_set, negated, operator, suffixed_by};
@@ -14,7 +16,8 @@ use filter_parser::{Decl, Expr, Kind, Op, Suffix};
 
 /// The kind of an operand with the suffixes after it.
 fn kind_with_suffixes(operand: Operand, suffixes: &[Suffix]) -> Result<Kind, TypeFault>
-    ensures { AnswersKind result (kind_after operand.entry.kind suffixes.now) }
+    ensures kind { AnswersKind result (kind_after operand.entry.kind suffixes.now) }
+    ensures fault { IfErr result (SuffixRefuses (view_operand operand.entry) suffixes.now) }
 {
     let mut operand = operand;
     for suffix in suffixes {
@@ -30,7 +33,8 @@ fn kind_of_chain(
     first: Operand,
     variables: &[Decl],
 ) -> Result<Kind, TypeFault>
-    ensures { AnswersKind result (kind_with (map view_decl variables.now) first.entry.kind (view_more more.now)) }
+    ensures kind { AnswersKind result (kind_with (map view_decl variables.now) first.entry.kind (view_more more.now)) }
+    ensures fault { IfErr result (ChainHasFault (map view_decl variables.now) (view_operand first.entry) more.now) }
 {
     let mut kind = first.kind;
     for (_, op, right) in more {
@@ -54,7 +58,8 @@ fn kind_of_chain(
 /// The kind of an expression.
 #[cycle(kinds)]
 pub(crate) fn kind_of(expr: &Expr, variables: &[Decl]) -> Result<Kind, TypeFault>
-    ensures { AnswersKind result (kind_in (map view_decl variables.now) (view expr.now)) }
+    ensures kind { AnswersKind result (kind_in (map view_decl variables.now) (view expr.now)) }
+    ensures fault { IfErr result (HasFault (map view_decl variables.now) expr.now) }
 {
     match expr {
         Expr::Number(_, _) => Ok(Kind::Int),

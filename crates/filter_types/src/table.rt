@@ -4,7 +4,7 @@ ghost use Rattle.std.specs.Prelude.{◌≡◌, IfErr};
 ghost use Rattle.filter_types.specs.Answers.{AnswersKind};
 ghost use Rattle.filter_parser.specs.Syntax.{view_members};
 ghost use Rattle.filter_types.specs.Refusals.{arithmetic_refusal, equality_refusal, logic_refusal, member_refusal, operator_refusal};
-ghost use Rattle.filter_types.specs.Refusals.{order_refusal, suffix_refusal, within_refusal, wrong_kind};
+ghost use Rattle.filter_types.specs.Refusals.{order_refusal, suffix_refusal, view_operand, within_refusal, wrong_kind};
 ghost use Rattle.filter_types.specs.Table.{arithmetic, attribute_kind, equality, in_set, logic};
 ghost use Rattle.filter_types.specs.Table.{negated, operator, order, suffixed_by, within};
 
@@ -21,7 +21,7 @@ pub(crate) struct Operand<'a> {
 impl Operand<'_> {
     /// The fault of an operand that has another kind than is expected.
     pub(crate) fn wrong_kind(self, expected: ExpectedKind) -> TypeFault
-        ensures { result ≡ wrong_kind self.entry expected }
+        ensures { result ≡ wrong_kind (view_operand self.entry) expected }
     {
         TypeFault::WrongKind(self.expr.at(), expected, self.kind)
     }
@@ -30,7 +30,7 @@ impl Operand<'_> {
 /// `+ - * /`
 fn arithmetic(left: Operand, right: Operand) -> Result<Kind, TypeFault>
     ensures kind { AnswersKind result (arithmetic left.entry.kind right.entry.kind) }
-    ensures refusal { IfErr result (λ why. why ≡ arithmetic_refusal left.entry right.entry) }
+    ensures refusal { IfErr result (λ why. why ≡ arithmetic_refusal (view_operand left.entry) (view_operand right.entry)) }
 {
     match (left.kind, right.kind) {
         (Kind::Int, Kind::Int) => Ok(Kind::Int),
@@ -42,7 +42,7 @@ fn arithmetic(left: Operand, right: Operand) -> Result<Kind, TypeFault>
 /// `= !=`
 fn equality(left: Operand, right: Operand) -> Result<Kind, TypeFault>
     ensures kind { AnswersKind result (equality left.entry.kind right.entry.kind) }
-    ensures refusal { IfErr result (λ why. why ≡ equality_refusal left.entry right.entry) }
+    ensures refusal { IfErr result (λ why. why ≡ equality_refusal (view_operand left.entry) (view_operand right.entry)) }
 {
     match (left.kind, right.kind) {
         (Kind::Int, Kind::Int)
@@ -56,7 +56,7 @@ fn equality(left: Operand, right: Operand) -> Result<Kind, TypeFault>
 /// `< > <= >=`
 fn order(left: Operand, right: Operand) -> Result<Kind, TypeFault>
     ensures kind { AnswersKind result (order left.entry.kind right.entry.kind) }
-    ensures refusal { IfErr result (λ why. why ≡ order_refusal left.entry right.entry) }
+    ensures refusal { IfErr result (λ why. why ≡ order_refusal (view_operand left.entry) (view_operand right.entry)) }
 {
     match (left.kind, right.kind) {
         (Kind::Int, Kind::Int) | (Kind::Ip, Kind::Ip) => Ok(Kind::Bool),
@@ -68,7 +68,7 @@ fn order(left: Operand, right: Operand) -> Result<Kind, TypeFault>
 /// `~ !~` between two operands
 fn within(left: Operand, right: Operand) -> Result<Kind, TypeFault>
     ensures kind { AnswersKind result (within left.entry.kind right.entry.kind) }
-    ensures refusal { IfErr result (λ why. why ≡ within_refusal left.entry right.entry) }
+    ensures refusal { IfErr result (λ why. why ≡ within_refusal (view_operand left.entry) (view_operand right.entry)) }
 {
     match (left.kind, right.kind) {
         (Kind::Ip, Kind::Prefix) | (Kind::Prefix, Kind::Prefix) => Ok(Kind::Bool),
@@ -80,7 +80,7 @@ fn within(left: Operand, right: Operand) -> Result<Kind, TypeFault>
 /// `&& ||`
 fn logic(left: Operand, right: Operand) -> Result<Kind, TypeFault>
     ensures kind { AnswersKind result (logic left.entry.kind right.entry.kind) }
-    ensures refusal { IfErr result (λ why. why ≡ logic_refusal left.entry right.entry) }
+    ensures refusal { IfErr result (λ why. why ≡ logic_refusal (view_operand left.entry) (view_operand right.entry)) }
 {
     match (left.kind, right.kind) {
         (Kind::Bool, Kind::Bool) => Ok(Kind::Bool),
@@ -92,7 +92,7 @@ fn logic(left: Operand, right: Operand) -> Result<Kind, TypeFault>
 /// An operator between two operands.
 pub(crate) fn operator(op: Op, left: Operand, right: Operand) -> Result<Kind, TypeFault>
     ensures kind { AnswersKind result (operator op left.entry.kind right.entry.kind) }
-    ensures refusal { IfErr result (λ why. why ≡ operator_refusal op left.entry right.entry) }
+    ensures refusal { IfErr result (λ why. why ≡ operator_refusal op (view_operand left.entry) (view_operand right.entry)) }
 {
     match op {
         Op::Add | Op::Sub | Op::Mul | Op::Div => arithmetic(left, right),
@@ -106,7 +106,7 @@ pub(crate) fn operator(op: Op, left: Operand, right: Operand) -> Result<Kind, Ty
 /// `!`
 pub(crate) fn negated(operand: Operand) -> Result<Kind, TypeFault>
     ensures kind { AnswersKind result (negated operand.entry.kind) }
-    ensures refusal { IfErr result (λ why. why ≡ wrong_kind operand.entry ExpectedKind.Bool) }
+    ensures refusal { IfErr result (λ why. why ≡ wrong_kind (view_operand operand.entry) ExpectedKind.Bool) }
 {
     match operand.kind {
         Kind::Bool => Ok(Kind::Bool),
@@ -117,7 +117,7 @@ pub(crate) fn negated(operand: Operand) -> Result<Kind, TypeFault>
 /// `~ !~` with a set
 pub(crate) fn in_set(members: &Members, operand: Operand) -> Result<Kind, TypeFault>
     ensures kind { AnswersKind result (in_set (view_members members.now) operand.entry.kind) }
-    ensures refusal { IfErr result (λ why. why ≡ member_refusal (view_members members.now) operand.entry) }
+    ensures refusal { IfErr result (λ why. why ≡ member_refusal (view_members members.now) (view_operand operand.entry)) }
 {
     match (members, operand.kind) {
         (Members::Patterns(_), Kind::Prefix) | (Members::Ranges(_), Kind::Int) => Ok(Kind::Bool),
@@ -129,7 +129,7 @@ pub(crate) fn in_set(members: &Members, operand: Operand) -> Result<Kind, TypeFa
 /// `.ip`, `.len` and `.mask(n)`
 pub(crate) fn suffixed_by(suffix: Suffix, operand: Operand) -> Result<Kind, TypeFault>
     ensures kind { AnswersKind result (suffixed_by suffix operand.entry.kind) }
-    ensures refusal { IfErr result (λ why. why ≡ suffix_refusal suffix operand.entry) }
+    ensures refusal { IfErr result (λ why. why ≡ suffix_refusal suffix (view_operand operand.entry)) }
 {
     match (suffix, operand.kind) {
         (Suffix::Ip, Kind::Prefix) => Ok(Kind::Ip),

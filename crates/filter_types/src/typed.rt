@@ -3,6 +3,8 @@
 ghost use Rattle.std.specs.Prelude.{◌≡◌, ◌≢◌, IfOk, IfErr};
 ghost use Rattle.filter_parser.specs.SyntaxText.{view_filter};
 ghost use Rattle.filter_types.specs.declared.fault.TypeFault.TheVariants as fault;
+ghost use Rattle.filter_types.specs.Codes.{fault_place};
+ghost use Rattle.filter_types.specs.Faults.{IsFaultOf, KeepsPlace};
 ghost use Rattle.filter_types.specs.Kinds.{IsTyped, number_of};
 
 use crate::commands::check_commands;
@@ -60,6 +62,9 @@ pub fn check(alloc: Global, filter: Filter) -> Result<Typed, TypeFault>
     ensures same { IfOk result (λ typed. typed ≡ filter) }
     ensures typed { IfOk result (λ _. IsTyped (view_filter filter)) }
     ensures refused { IfErr result (λ why. why ≢ fault.Memory → IsTyped (view_filter filter) → ⊥) }
+    // A fault is one that a part of the filter has, at the place that is said.
+    ensures fault { IfErr result (λ why. why ≢ fault.Memory → IsFaultOf filter why) }
+    ensures placed { IfErr result (λ why. why ≢ fault.Memory → KeepsPlace filter (fault_place why)) }
 {
     check_variables(filter.decls())?;
     check_commands(alloc, filter.body(), filter.decls())?;

@@ -1,9 +1,11 @@
 //! The variables of a filter: their numbers and kinds.
 
-ghost use Rattle.std.specs.Prelude.{◌≡◌, ◌≤◌, length, map};
+ghost use Rattle.std.specs.Prelude.{◌≡◌, ◌≤◌, ◌⊎◌, IfErr, None, length, map};
 ghost use Rattle.filter_parser.specs.SyntaxCommands.{view_decl};
 ghost use Rattle.filter_types.specs.Answers.{AnswersKind, Judges};
+ghost use Rattle.filter_types.specs.Faults.{IsDeclaredTwice, IsOneTooMany};
 ghost use Rattle.filter_types.specs.Kinds.{AreDeclared, kind_named, number_of};
+ghost use Rattle.filter_types.specs.declared.fault.TypeFault.TheVariants as fault;
 
 use crate::fault::TypeFault;
 use filter_parser::{Decl, Kind};
@@ -26,7 +28,8 @@ pub(crate) fn number_of(variables: &[Decl], name: &[u8]) -> usize
 
 /// The kind of the variable of a name.
 pub(crate) fn resolve(at: usize, name: &[u8], variables: &[Decl]) -> Result<Kind, TypeFault>
-    ensures { AnswersKind result (kind_named (map view_decl variables.now) name.now) }
+    ensures kind { AnswersKind result (kind_named (map view_decl variables.now) name.now) }
+    ensures fault { IfErr result (λ why. (kind_named (map view_decl variables.now) name.now ≡ None) × (why ≡ fault.UnknownName at)) }
 {
     match variables.get(number_of(variables, name)) {
         None => Err(TypeFault::UnknownName(at)),
@@ -36,7 +39,8 @@ pub(crate) fn resolve(at: usize, name: &[u8], variables: &[Decl]) -> Result<Kind
 
 /// Judges the declarations from the first one on: each name is new, and there are not too many.
 pub(crate) fn check_variables(variables: &[Decl]) -> Result<(), TypeFault>
-    ensures { Judges result (AreDeclared (map view_decl variables.now)) }
+    ensures judged { Judges result (AreDeclared (map view_decl variables.now)) }
+    ensures fault { IfErr result (λ why. IsDeclaredTwice variables.now why ⊎ IsOneTooMany variables.now why) }
 {
     for (number, variable) in variables.iter().enumerate() {
         if number_of(&variables[..number], &variable.name) < number {

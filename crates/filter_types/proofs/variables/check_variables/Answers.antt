@@ -1,12 +1,15 @@
-use Rattle.std.proofs.Common.{◌≡◌, ◌<◌, ◌≤◌, map, take, ap, subst, ◌∙◌, arith}
+use Rattle.std.proofs.Common.{◌≡◌, ◌<◌, ◌≤◌, Some, length, map, take, ap, inl, inr, refl, subst, ◌∙◌, arith}
+use Rattle.std.specs.Prelude.{slice_get}
+use Rattle.std.proofs.lemmas.List.{length-take-le}
+use Rattle.std.proofs.lemmas.Option.{slice_get_read}
 use Rattle.std.proofs.lemmas.List.{length-map, take_all}
 use Rattle.filter_parser.specs.SyntaxCommands.{view_decl}
 use Rattle.filter_types.specs.Kinds.{AreDeclaredOnce, number_of, variable_limit}
-use Rattle.filter_types.proofs.Names.{once_next, twice}
+use Rattle.filter_types.proofs.Names.{earlier, once_next, twice}
 use Rattle.filter_types.proofs.variables.check_variables.Goals as goal
 
-pub returns-then-number_of-number : goal.returns-then-number_of-number
-returns-then-number_of-number c _ declared =
+pub returns-then-number_of-number-clause-judged : goal.returns-then-number_of-number-clause-judged
+returns-then-number_of-number-clause-judged c _ declared =
     let is : c.number_of.result
     ≡ number_of (map view_decl (take c.loop-number.number c.args.variables.now)) c.index-variables-number.result.name.items =
     c.number_of.ensures.value ∙ ap (number_of (map view_decl (take c.loop-number.number c.args.variables.now))) c.deref.ensures.value in
@@ -24,8 +27,8 @@ loop-number-preserved c =
           omega arith,
     )
 
-pub returns : goal.returns
-returns c =
+pub returns-clause-judged : goal.returns-clause-judged
+returns-clause-judged c =
     let all : take c.loop-number.number c.args.variables.now ≡ c.args.variables.now =
     take_all _ _ (omega (arith, c.loop-number-test.false)) in
     record {
@@ -38,3 +41,28 @@ returns c =
         c.loop-number.auto.number-end,
       );
     }
+
+pub returns-then-number_of-number-clause-fault : goal.returns-then-number_of-number-clause-fault
+returns-then-number_of-number-clause-fault c =
+    let vs = c.args.variables.now in
+    let i = c.loop-number.number in
+    let v = c.index-variables-number.result in
+    let is : c.number_of.result ≡ number_of (map view_decl (take i vs)) v.name.items =
+    c.number_of.ensures.value ∙ ap (number_of (map view_decl (take i vs))) c.deref.ensures.value in
+    let low : i < length vs = c.loop-number-test.true in
+    let below : number_of (map view_decl (take i vs)) v.name.items < i = subst (λ n. n < i) is c.if-number_of-number.true in
+    inl (record {
+      index = i;
+      variable = v;
+      is = slice_get_read vs (length vs) i v refl low c.index-variables-number.is;
+      earlier = earlier (take i vs) v (omega (arith, below, length-take-le i vs (omega (arith, low))));
+      is_said = refl;
+    })
+
+pub returns-then-number-eq-VARIABLE_LIMIT-clause-fault : goal.returns-then-number-eq-VARIABLE_LIMIT-clause-fault
+returns-then-number-eq-VARIABLE_LIMIT-clause-fault c =
+    let vs = c.args.variables.now in
+    let v = c.index-variables-number.result in
+    let read : slice_get vs c.loop-number.number ≡ Some v =
+    slice_get_read vs (length vs) c.loop-number.number v refl c.loop-number-test.true c.index-variables-number.is in
+    inr (v, subst (λ n. slice_get vs n ≡ Some v) c.if-number-eq-VARIABLE_LIMIT.true read, refl)

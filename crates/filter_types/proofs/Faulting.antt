@@ -1,0 +1,105 @@
+-- The fault of an expression, from what its judgement found of its parts.
+use Rattle.std.proofs.Common.{◌≡◌, ◌⊎◌, inl, inr, ℕ, Some, None, List, [], ◌∷◌, Box, Vec, Global, map, refl, sym, ap, subst, ◌∙◌}
+use Rattle.std.specs.Prelude.{Contains}
+use Rattle.filter_parser.specs.Places.{expr_place}
+use Rattle.filter_parser.specs.Syntax.{view, view_members, view_more}
+use Rattle.filter_parser.specs.SyntaxCommands.{DeclView}
+use Rattle.filter_parser.specs.declared.tree.decl.Kind.{Kind}
+use Rattle.filter_parser.specs.declared.tree.expr.Expr.{Expr}
+use Rattle.filter_parser.specs.declared.tree.expr.Expr.TheOpen.{Expr-F}
+use Rattle.filter_parser.specs.declared.tree.expr.Expr.TheVariants as e
+use Rattle.filter_parser.specs.declared.tree.expr.Expr.TheViews.{roll-Expr}
+use Rattle.filter_parser.specs.declared.tree.op.Membership.{Membership}
+use Rattle.filter_parser.specs.declared.tree.op.Op.{Op}
+use Rattle.filter_parser.specs.declared.tree.op.Suffix.{Suffix}
+use Rattle.filter_parser.specs.declared.tree.set.Set.{Set}
+use Rattle.filter_types.specs.Faults.{HasFault, operands}
+use Rattle.filter_types.specs.Kinds.{kind_in, kind_named}
+use Rattle.filter_types.specs.Refusals.{OperandView, member_refusal, wrong_kind}
+use Rattle.filter_types.specs.Table.{in_set, negated}
+use Rattle.filter_types.specs.Turns.{ChainHasFault, OperatorRefuses, SuffixRefuses}
+use Rattle.filter_types.specs.declared.fault.ExpectedKind.TheVariants as expected
+use Rattle.filter_types.specs.declared.fault.TypeFault.{TypeFault}
+use Rattle.filter_types.specs.declared.fault.TypeFault.TheVariants as fault
+use Rattle.filter_types.proofs.Blaming.{contains_first, contains_later, contains_map, refused_operator, refused_suffix}
+
+-- an operand with its kind
+abbrev pub with_kind : Expr → Kind → OperandView
+with_kind x k = record { at = expr_place x; kind = k }
+
+module _ (vs : List DeclView) (x : Expr) (why : TypeFault) where
+  of_one_operand : (form : Expr-F Expr) (z y : Expr) → x ≡ roll-Expr form → Contains (operands form) z → y ≡ z → HasFault vs y why → HasFault vs x why
+  of_one_operand form z y is inside same h =
+      HasFault.of_operand form z is inside (subst (λ (w : Expr). HasFault vs w why) same h)
+
+  pub name_fault : (at : ℕ) (name : Vec ℕ Global) (text : List ℕ) → x ≡ e.Name at name → text ≡ name.items
+      → (kind_named vs text ≡ None) × (why ≡ fault.UnknownName at) → HasFault vs x why
+  name_fault at name text is same h =
+      HasFault.own (Expr-F.Name at name) (is ∙ sym (e.rolls-Name at name)) (ap (kind_named vs) (sym same) ∙ h.0, h.1)
+
+  pub group_operand : (at : ℕ) (inner : Box Expr Global) (y : Expr) → x ≡ e.Group at inner → y ≡ inner.value → HasFault vs y why → HasFault vs x why
+  group_operand at inner y is same h =
+      of_one_operand (Expr-F.Group at inner) inner.value y (is ∙ sym (e.rolls-Group at inner)) (contains_first inner.value []) same h
+
+  pub not_operand : (at : ℕ) (inner : Box Expr Global) (y : Expr) → x ≡ e.Not at inner → y ≡ inner.value → HasFault vs y why → HasFault vs x why
+  not_operand at inner y is same h =
+      of_one_operand (Expr-F.Not at inner) inner.value y (is ∙ sym (e.rolls-Not at inner)) (contains_first inner.value []) same h
+
+  pub not_fault : (at : ℕ) (inner : Box Expr Global) (y : Expr) (k : Kind) → x ≡ e.Not at inner → y ≡ inner.value → kind_in vs (view y) ≡ Some k
+      → negated k ≡ None → why ≡ wrong_kind (with_kind y k) expected.Bool → HasFault vs x why
+  not_fault at inner y k is same found refused said =
+      HasFault.own (Expr-F.Not at inner) (is ∙ sym (e.rolls-Not at inner)) (record {
+        kind = k;
+        found = ap (λ (z : Expr). kind_in vs (view z)) (sym same) ∙ found;
+        refused = refused;
+        is_said = said ∙ ap (λ (z : Expr). wrong_kind (with_kind z k) expected.Bool) same;
+      })
+
+  pub chain_operand : (first : Box Expr Global) (more : Vec (ℕ × Op × Expr) Global) (y : Expr) → x ≡ e.Chain first more → y ≡ first.value
+      → HasFault vs y why → HasFault vs x why
+  chain_operand first more y is same h =
+      of_one_operand (Expr-F.Chain first more) first.value y (is ∙ sym (e.rolls-Chain first more)) (contains_first first.value _) same h
+
+  pub chain_fault : (first : Box Expr Global) (more : Vec (ℕ × Op × Expr) Global) (y : Expr) (ys : List (ℕ × Op × Expr)) (k : Kind)
+      → x ≡ e.Chain first more → y ≡ first.value → ys ≡ more.items → kind_in vs (view y) ≡ Some k
+      → ChainHasFault vs (with_kind y k) ys why → HasFault vs x why
+  chain_fault first more y ys k is same are found h =
+      by_case (subst (λ (z : Expr). kind_in vs (view z) ≡ Some k) same found)
+      (subst (λ (z : Expr). ChainHasFault vs (with_kind z k) more.items why) same
+      (subst (λ (zs : List (ℕ × Op × Expr)). ChainHasFault vs (with_kind y k) zs why) are h)) where
+        by_case : kind_in vs (view first.value) ≡ Some k → ChainHasFault vs (with_kind first.value k) more.items why → HasFault vs x why
+        by_case found (inl right) =
+            HasFault.of_operand (Expr-F.Chain first more) right.0.2 (is ∙ sym (e.rolls-Chain first more))
+            (contains_later first.value _ right.0.2 (contains_map (λ z. z.2) more.items right.0 right.1)) right.2
+        by_case found (inr refuses) =
+            HasFault.own (Expr-F.Chain first more) (is ∙ sym (e.rolls-Chain first more)) (refused_operator vs first.value k more.items why found refuses)
+
+  pub member_operand : (op : Membership) (left : Box Expr Global) (set : Set) (y : Expr) → x ≡ e.Member op left set → y ≡ left.value
+      → HasFault vs y why → HasFault vs x why
+  member_operand op left set y is same h =
+      of_one_operand (Expr-F.Member op left set) left.value y (is ∙ sym (e.rolls-Member op left set)) (contains_first left.value []) same h
+
+  pub member_fault : (op : Membership) (left : Box Expr Global) (set : Set) (y : Expr) (k : Kind) → x ≡ e.Member op left set → y ≡ left.value
+      → kind_in vs (view y) ≡ Some k → in_set (view_members set.members) k ≡ None
+      → why ≡ member_refusal (view_members set.members) (with_kind y k) → HasFault vs x why
+  member_fault op left set y k is same found refused said =
+      HasFault.own (Expr-F.Member op left set) (is ∙ sym (e.rolls-Member op left set)) (record {
+        kind = k;
+        found = ap (λ (z : Expr). kind_in vs (view z)) (sym same) ∙ found;
+        refused = refused;
+        is_said = said ∙ ap (λ (z : Expr). member_refusal (view_members set.members) (with_kind z k)) same;
+      })
+
+  pub suffixed_operand : (inner : Box Expr Global) (suffixes : Vec Suffix Global) (y : Expr) → x ≡ e.Suffixed inner suffixes → y ≡ inner.value
+      → HasFault vs y why → HasFault vs x why
+  suffixed_operand inner suffixes y is same h =
+      of_one_operand (Expr-F.Suffixed inner suffixes) inner.value y (is ∙ sym (e.rolls-Suffixed inner suffixes)) (contains_first inner.value []) same h
+
+  pub suffixed_fault : (inner : Box Expr Global) (suffixes : Vec Suffix Global) (y : Expr) (ys : List Suffix) (k : Kind)
+      → x ≡ e.Suffixed inner suffixes → y ≡ inner.value → ys ≡ suffixes.items → kind_in vs (view y) ≡ Some k
+      → SuffixRefuses (with_kind y k) ys why → HasFault vs x why
+  suffixed_fault inner suffixes y ys k is same are found h =
+      HasFault.own (Expr-F.Suffixed inner suffixes) (is ∙ sym (e.rolls-Suffixed inner suffixes))
+      (refused_suffix vs inner.value k suffixes.items why (subst (λ (z : Expr). kind_in vs (view z) ≡ Some k) same found)
+      (subst (λ (z : Expr). SuffixRefuses (with_kind z k) suffixes.items why) same
+      (subst (λ (zs : List Suffix). SuffixRefuses (with_kind y k) zs why) are h)))
