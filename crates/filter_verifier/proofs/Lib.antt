@@ -16,6 +16,7 @@ pub mod Passes
 pub mod Propagation
 mod Rows
 pub mod Sizes
+pub mod Slots
 pub mod Sound
 pub mod Steps
 pub mod Surveys
