@@ -9,8 +9,8 @@ use Rattle.filter_code.specs.declared.value.Value.TheVariants as value
 use Rattle.filter_code.specs.CodeView.{CodeView}
 use Rattle.filter_code.specs.RouteView.{RouteView}
 use Rattle.filter_code.specs.Machine.{Config}
-use Rattle.filter_diff.specs.Marking.{AreAllMarked, Extend, Extends, IsAdded, IsMarked, IsTop, Shows, joined}
-use Rattle.filter_diff.specs.Reaching.{IsOnTop, has_truth}
+use Rattle.filter_diff.specs.Marking.{AreAllMarked, AreTop, Extend, Extends, IsAdded, IsMarked, IsTop, Shows, joined}
+use Rattle.filter_diff.specs.Reaching.{AreOnTop, IsOnTop, has_truth}
 use Rattle.filter_diff.specs.Symbols.{config_at, value_at}
 use Rattle.filter_diff.specs.declared.mark.Mark.{Mark}
 use Rattle.filter_diff.specs.declared.symbol.Symbol.{Symbol}
@@ -23,7 +23,7 @@ or_second : (a b : Bool) → b ≡ true → (a || b) ≡ true
 or_second true b e = refl
 or_second false b e = e
 
-or_either : (a b : Bool) → (a || b) ≡ true → (a ≡ true) ⊎ (b ≡ true)
+pub or_either : (a b : Bool) → (a || b) ≡ true → (a ≡ true) ⊎ (b ≡ true)
 or_either true b e = inl refl
 or_either false b e = inr e
 
@@ -41,12 +41,14 @@ truth_either false a b e = or_either a.is_false b.is_false e
 
 -- a mark has what it has
 extends_self : (a : Mark) → Extends a a
-extends_self a = record { reached = λ e. e; condition = λ truth e. e }
+extends_self a = record { reached = λ e. e; condition = λ truth e. e; raised = λ e. e; watched = refl }
 
 extends_first : (a b : Mark) → Extends a (joined a b)
 extends_first a b = record {
   reached = or_first a.is_reached b.is_reached;
   condition = λ truth e. truth_first truth a b e;
+  raised = or_first a.is_raised b.is_raised;
+  watched = refl;
 }
 
 pub extend_self : (marks : List Mark) → Extend marks marks
@@ -63,6 +65,8 @@ extend_further xs ys zs f g = record {
         record {
           reached = λ e. second.2.reached (first.2.reached e);
           condition = λ truth e. second.2.condition truth (first.2.condition truth e);
+          raised = λ e. second.2.raised (first.2.raised e);
+          watched = second.2.watched ∙ first.2.watched;
         },
       );
 }
@@ -110,13 +114,12 @@ added_more mark place before after added =
     })
 
 -- what a mark that has more has not, it had not
-unmarked_by : (truth : Bool) (a b : Mark) → Extends a b → has_truth truth b ≡ false → (had : Bool) → has_truth truth a ≡ had →
-    has_truth truth a ≡ false
-unmarked_by truth a b extends e true is = let now = extends.condition truth is in let no : ⊥ = cc in absurd no
-unmarked_by truth a b extends e false is = is
+not_before : (a b had : Bool) → (a ≡ true → b ≡ true) → b ≡ false → a ≡ had → a ≡ false
+not_before a b true more e is = let now = more is in let no : ⊥ = cc in absurd no
+not_before a b false more e is = is
 
 not_had : (truth : Bool) (a b : Mark) → Extends a b → has_truth truth b ≡ false → has_truth truth a ≡ false
-not_had truth a b extends e = unmarked_by truth a b extends e (has_truth truth a) refl
+not_had truth a b extends e = not_before (has_truth truth a) (has_truth truth b) (has_truth truth a) (extends.condition truth) e refl
 
 -- what is marked stays so
 pub marked_more : (program : CodeView) (before after : List Mark) (c : Config) → Extend before after → IsMarked program before c →
@@ -128,6 +131,8 @@ marked_more program before after c more marked =
       there = now.1;
       reached = now.2.reached marked.reached;
       condition = λ is truth e. marked.condition is truth (not_had truth marked.mark now.0 now.2 e);
+      raised = λ is watched e. marked.raised is (sym now.2.watched ∙ watched)
+          (not_before marked.mark.is_raised now.0.is_raised marked.mark.is_raised now.2.raised e refl);
     }
 
 pub all_marked_more : (program : CodeView) (before after : List Mark) (route : RouteView) → Extend before after →
@@ -139,6 +144,17 @@ pub top_value : (route : RouteView) (stack : List Symbol) (truth : Bool) → IsT
     slice_get (map (value_at route) stack) 0 ≡ Some (value.Bool truth)
 top_value route stack truth top = slice_get-map (value_at route) stack 0 ∙ ap (option_map (value_at route)) top
 
+-- the two ints on top
+pub top_ints : (route : RouteView) (pc : ℕ) (stack : List Symbol) (locals : List (Option Symbol)) (metric : Option ℕ)
+    (raised : Bool) → AreTop raised stack → AreOnTop raised (config_at route pc stack locals metric)
+top_ints route pc stack locals metric raised top = (
+  top.0,
+  top.1,
+  slice_get-map (value_at route) stack 0 ∙ ap (option_map (value_at route)) top.2,
+  slice_get-map (value_at route) stack 1 ∙ ap (option_map (value_at route)) top.3,
+  top.4,
+)
+
 -- where one truth is not marked, the condition has the other
 pub unlike : {A : Type 0} (b c : Bool) → b ≡ c → b ≡ true → c ≡ false → A
 unlike b c e f g = let no : ⊥ = cc in absurd no
@@ -149,6 +165,10 @@ other_truth true true mark c e f top = unlike mark.is_true mark.is_true refl e f
 other_truth true false mark c e f top = top
 other_truth false true mark c e f top = top
 other_truth false false mark c e f top = unlike mark.is_false mark.is_false refl e f
+
+neither : (a b : Bool) → (a || b) ≡ false → b ≡ false
+neither true b e = let no : ⊥ = cc in absurd no
+neither false b e = e
 
 -- the configuration that runs come to is marked
 pub marked_here : (program : CodeView) (route : RouteView) (i : Instr) (mark : Mark) (pc : ℕ) (stack : List Symbol)
@@ -164,4 +184,8 @@ marked_here program route i mark pc stack locals metric before after here shows 
       let shown = shows.condition is.skipped jump in
       other_truth shown.0 truth (joined added.had mark) (config_at route pc stack locals metric)
       (truth_second shown.0 added.had mark shown.2) e (top_value route stack shown.0 shown.1);
+  raised = λ is watched e.
+      let max : i ≡ instr.Max = cc in
+      top_ints route pc stack locals metric false
+      (subst (λ (b : Bool). AreTop b stack) (neither added.had.is_raised mark.is_raised e) (shows.raised max));
 }

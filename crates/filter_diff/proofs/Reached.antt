@@ -12,7 +12,7 @@ use Rattle.filter_code.proofs.Runs.{ReachesIn, carried_on, carried_over, reached
 use Rattle.filter_diff.specs.Classes.{Always, IsKnown, IsOf, IsOfSize, IsUpTo}
 use Rattle.filter_diff.specs.Marking.{AreAllMarked, AreMarked, AreSound, Extend, IsAdded, IsMarked, IsNoted, Shows, extent_of, joined}
 use Rattle.filter_diff.specs.Parts.{Has, IsIn}
-use Rattle.filter_diff.specs.Reaching.{Comes, IsCondition, IsOnTop, IsSound, has_truth}
+use Rattle.filter_diff.specs.Reaching.{AreOnTop, Comes, IsCondition, IsMax, IsOnTop, IsSound, has_truth}
 use Rattle.filter_diff.specs.Settling.{AreSettled, IsSettled}
 use Rattle.filter_diff.specs.Symbols.{config_at}
 use Rattle.filter_diff.specs.Turns.{Parts, Takes}
@@ -24,7 +24,7 @@ use Rattle.filter_diff.specs.declared.symbol.Symbol.{Symbol}
 use Rattle.filter_diff.specs.declared.ending.Ending.{Ending}
 use Rattle.filter_diff.specs.declared.turn.Turn.{Turn}
 use Rattle.filter_diff.specs.declared.turn.Turn.TheVariants as turn
-use Rattle.filter_diff.proofs.Marking.{added_more, extend_further, marked_here, marked_more, set_from, top_value, truth_either}
+use Rattle.filter_diff.proofs.Marking.{added_more, extend_further, marked_here, marked_more, or_either, set_from, top_ints, top_value, truth_either}
 use Rattle.filter_diff.proofs.Settled.{settled_more}
 use Rattle.filter_diff.proofs.Steps.{begun}
 use Rattle.filter_diff.proofs.Witness.{has_route}
@@ -191,6 +191,19 @@ sound_either program size pc i mark had route stack locals metric truth sound he
     let is : slice_get program.instrs pc ≡ Some (instr.JumpIfNot shown.0.0) = here ∙ ap Some shown.0.1 in
     (record { skipped = shown.0.0; instruction = is }, config_at route pc stack locals metric, comes, top_value route stack truth shown.1)
 
+raised_either : (program : CodeView) (size pc : ℕ) (i : Instr) (mark had : Mark) (route : RouteView) (stack : List Symbol)
+    (locals : List (Option Symbol)) (metric : Option ℕ) → IsSound program size pc had → slice_get program.instrs pc ≡ Some i →
+    Shows i stack mark → Comes program size pc (config_at route pc stack locals metric) →
+    (had.is_raised ≡ true) ⊎ (mark.is_raised ≡ true) → IsMax program pc × (c : Config) × Comes program size pc c × AreOnTop true c
+raised_either program size pc i mark had route stack locals metric sound here shows comes (inl e) = sound.raised e
+raised_either program size pc i mark had route stack locals metric sound here shows comes (inr e) =
+    let shown = shows.really_raised e in (
+      here ∙ ap Some shown.0,
+      config_at route pc stack locals metric,
+      comes,
+      top_ints route pc stack locals metric true shown.1,
+    )
+
 sound_here : (program : CodeView) (size pc : ℕ) (i : Instr) (mark had : Mark) (route : RouteView) (stack : List Symbol)
     (locals : List (Option Symbol)) (metric : Option ℕ) → IsSound program size pc had → slice_get program.instrs pc ≡ Some i →
     Shows i stack mark → Comes program size pc (config_at route pc stack locals metric) → IsSound program size pc (joined had mark)
@@ -198,6 +211,8 @@ sound_here program size pc i mark had route stack locals metric sound here shows
   reached = λ e. (_, comes);
   condition = λ truth e.
       sound_either program size pc i mark had route stack locals metric truth sound here shows comes (truth_either truth had mark e);
+  raised = λ e. raised_either program size pc i mark had route stack locals metric sound here shows comes
+      (or_either had.is_raised mark.is_raised e);
 }
 
 sound_at : (program : CodeView) (size pc : ℕ) (mark : Mark) (before after : List Mark) (added : IsAdded mark pc before after) →

@@ -89,6 +89,9 @@ module _ (program : CodeView) (marks : List Mark) (place : ℕ) (i : Instr) (mar
     condition = λ is truth e.
         let jump : i ≡ instr.JumpIfNot is.skipped = cc in
         unlike (has_truth truth mark) (has_truth truth mark) refl (full.condition is.skipped jump truth) e;
+    raised = λ is watched e.
+        let max : i ≡ instr.Max = cc in
+        unlike mark.is_raised mark.is_raised refl (full.raised max watched) e;
   }
 
   settled_by : (settled : List Bool) → AreSettled program marks settled →

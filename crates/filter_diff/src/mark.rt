@@ -1,6 +1,6 @@
 //! What a search finds of instructions.
 ghost use Rattle.std.specs.Prelude.{◌≡◌, IfSome, IsTrue};
-ghost use Rattle.filter_diff.specs.Marking.{IsFull, IsTop, Shows, joined, unmarked};
+ghost use Rattle.filter_diff.specs.Marking.{AreTop, IsFull, IsTop, Shows, joined, shown_raise, shown_truth, unmarked};
 
 use crate::symbol::Symbol;
 use filter_code::{Instr, Stack};
@@ -14,6 +14,10 @@ pub struct Mark {
     pub is_true: bool,
     /// The same with one that is false.
     pub is_false: bool,
+    /// It is a MAX, and the run on some route comes to it with two ints of which the upper one is greater.
+    pub is_raised: bool,
+    /// This is asked of it. Where it is not, the search may end before it finds such a route.
+    pub is_watched: bool,
 }
 
 /// What was found of the instructions of a code.
@@ -27,13 +31,15 @@ pub struct Reach {
 
 impl Mark {
     /// Nothing was found.
-    pub(crate) fn nothing() -> Mark
-        ensures { result ≡ unmarked }
+    pub(crate) fn nothing(is_watched: bool) -> Mark
+        ensures { result ≡ unmarked is_watched }
     {
         Mark {
             is_reached: false,
             is_true: false,
             is_false: false,
+            is_raised: false,
+            is_watched,
         }
     }
 
@@ -45,6 +51,8 @@ impl Mark {
             is_reached: self.is_reached || other.is_reached,
             is_true: self.is_true || other.is_true,
             is_false: self.is_false || other.is_false,
+            is_raised: self.is_raised || other.is_raised,
+            is_watched: self.is_watched,
         }
     }
 
@@ -54,6 +62,7 @@ impl Mark {
     {
         match instr {
             Instr::JumpIfNot(_) => self.is_reached && self.is_true && self.is_false,
+            Instr::Max => self.is_reached && (self.is_raised || !self.is_watched),
             _ => self.is_reached,
         }
     }
@@ -72,24 +81,62 @@ fn truth_on(stack: &mut Stack<Symbol>) -> Option<bool>
     }
 }
 
-/// What runs show of the instruction that they come to with a stack. None if it is a JUMPIFNOT whose condition is not known. The
-/// stack stays as it is.
+/// Whether the upper one of the two ints on top is greater, if there are two. The stack stays as it is.
+fn raise_on(stack: &mut Stack<Symbol>) -> Option<bool>
+    ensures { IfSome result (λ raised. (stack.new ≡ stack.old) × AreTop raised stack.old) }
+{
+    let Ok((Symbol::Int(lower), Symbol::Int(upper))) = stack.take_two() else {
+        return None;
+    };
+    let Ok(()) = stack.push(Symbol::Int(lower)) else {
+        return None;
+    };
+    match stack.push(Symbol::Int(upper)) {
+        Ok(()) => Some(lower < upper),
+        Err(_) => None,
+    }
+}
+
+/// What runs show of a JUMPIFNOT to which they come with this condition.
+fn of_condition(truth: bool) -> Mark
+    ensures { result ≡ shown_truth truth }
+{
+    Mark {
+        is_reached: true,
+        is_true: truth,
+        is_false: !truth,
+        is_raised: false,
+        is_watched: false,
+    }
+}
+
+/// What runs show of an instruction that is no JUMPIFNOT, and whether it is a MAX that raises what is below.
+fn of_other(is_raised: bool) -> Mark
+    ensures { result ≡ shown_raise is_raised }
+{
+    Mark {
+        is_reached: true,
+        is_true: false,
+        is_false: false,
+        is_raised,
+        is_watched: false,
+    }
+}
+
+/// What runs show of the instruction that they come to with a stack. None if it is a JUMPIFNOT whose condition is not known, or a MAX of
+/// which the ints are not. The stack stays as it is.
 pub(crate) fn mark_of(instr: &Instr, stack: &mut Stack<Symbol>) -> Option<Mark>
     ensures { IfSome result (λ mark. (stack.new ≡ stack.old) × Shows instr.now stack.old mark) }
 {
     match instr {
         Instr::JumpIfNot(_) => match truth_on(stack) {
-            Some(truth) => Some(Mark {
-                is_reached: true,
-                is_true: truth,
-                is_false: !truth,
-            }),
+            Some(truth) => Some(of_condition(truth)),
             None => None,
         },
-        _ => Some(Mark {
-            is_reached: true,
-            is_true: false,
-            is_false: false,
-        }),
+        Instr::Max => match raise_on(stack) {
+            Some(is_raised) => Some(of_other(is_raised)),
+            None => None,
+        },
+        _ => Some(of_other(false)),
     }
 }

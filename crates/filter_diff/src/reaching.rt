@@ -1,9 +1,9 @@
 //! The search for the instructions that are reached on no route, and for the conditions that are always true or always false.
-ghost use Rattle.std.specs.Prelude.{◌≡◌, ◌+◌, ◌<◌, ◌≤◌, ◌⊎◌, All, IfOk, IsTrue, OnOk, length, vec_len};
+ghost use Rattle.std.specs.Prelude.{◌≡◌, ◌+◌, ◌<◌, ◌≤◌, ◌⊎◌, All, IfOk, IsTrue, OnOk, length, map, vec_len};
 ghost use Rattle.filter_code.specs.Limits.{largest_size};
 ghost use Rattle.filter_code.specs.RouteView.{RouteView};
 ghost use Rattle.filter_diff.specs.Classes.{IsOf, IsOfSize};
-ghost use Rattle.filter_diff.specs.Marking.{AreAllMarked, AreMarked, AreSound, Extend, IsAdded, IsNoted};
+ghost use Rattle.filter_diff.specs.Marking.{AreAllMarked, AreMarked, AreSound, Extend, IsAdded, IsNoted, unmarked};
 ghost use Rattle.filter_diff.specs.Parts.{IsIn};
 ghost use Rattle.filter_diff.specs.Reaching.{IsReach};
 ghost use Rattle.filter_diff.specs.Searches.{IsLeft};
@@ -142,17 +142,34 @@ fn deal(
     Ok(is_dealt)
 }
 
-/// Which instructions of a code are reached on routes of the domains of a size, and with which conditions. It tries at most as many
-/// classes of routes as the limit says, each by one run.
+/// A mark for each instruction of a code, of which it is said whether it is watched.
+fn unmarked(alloc: Global, watched: &[bool]) -> Result<Vec<Mark>, AllocError>
+    ensures { IfOk result (λ marks. marks.items ≡ map unmarked watched.now) }
+{
+    let mut marks = Vec::new(alloc);
+    for is_watched in watched {
+        marks.push(Mark::nothing(*is_watched))?;
+    }
+    Ok(marks)
+}
+
+/// Which instructions of a code are reached on routes of the domains of a size, and with which conditions; and which of the MAX that are
+/// watched raise what is below. It tries at most as many classes of routes as the limit says, each by one run.
 ///
 /// It is not complete where the limit ends the search, and it may not be where the run on some route ends with a fault.
-pub fn reach(alloc: Global, code: &Code, size: u32, limit: u64) -> Result<Reach, AllocError>
-    requires { size ≤ largest_size }
-    ensures { IfOk result (IsReach code.now size) }
+pub fn reach(
+    alloc: Global,
+    code: &Code,
+    size: u32,
+    limit: u64,
+    watched: &[bool],
+) -> Result<Reach, AllocError>
+    requires small { size ≤ largest_size }
+    requires watched { length watched.now ≡ length code.now.instrs }
+    ensures { IfOk result (IsReach code.now size watched.now) }
 {
-    let count = code.instrs().len();
-    let mut marks = vec![in alloc; Mark::nothing(); count]?;
-    let mut settled = vec![in alloc; false; count]?;
+    let mut marks = unmarked(alloc, watched)?;
+    let mut settled = vec![in alloc; false; watched.len()]?;
     let mut todo = all_classes(alloc, size)?;
     let mut left = limit;
     while let Some(next) = todo.pop() {

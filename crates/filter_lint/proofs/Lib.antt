@@ -4,3 +4,4 @@ pub mod Found
 pub mod Hinted
 pub mod True
 pub mod Tried
+pub mod Watched

@@ -21,12 +21,13 @@ pub same_said : (text places : List ℕ) (instrs : List Instr) (program : CodeVi
 same_said text places instrs program size reach said e is =
     is ∙ ap (λ (is : List Instr). said_of (record { text = text; instrs = is; places = places }) program size reach) e
 
-module _ (program : CodeView) (size : ℕ) (text places : List ℕ) (reach : Reach) (is_reach : IsReach program size reach) where
+module _ (program : CodeView) (size : ℕ) (text places : List ℕ) (watched : List Bool) (reach : Reach)
+    (is_reach : IsReach program size watched reach) where
   routes_are_so : (b : Bool) → reach.is_complete ≡ b
       → All (IsTrueOf program size places)
       (if b then on_routes (record { text = text; instrs = program.instrs; places = places }) reach.marks.items else [])
   routes_are_so false e = All-nil (IsTrueOf program size places)
-  routes_are_so true e = on_routes_are_so program size text places reach is_reach e
+  routes_are_so true e = on_routes_are_so program size text places watched reach is_reach e
 
   -- all that is said is so
   pub said_is_so : (said : List Warning) → said ≡ said_of (record { text = text; instrs = program.instrs; places = places }) program size reach

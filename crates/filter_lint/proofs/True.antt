@@ -10,12 +10,14 @@ use Rattle.filter_diff.specs.declared.mark.Mark.{Mark}
 use Rattle.filter_diff.specs.declared.mark.Reach.{Reach}
 use Rattle.filter_lint.specs.Commands.{is_of_command, is_reached, mark_reached, unreached_commands, unreached_in, was_reached}
 use Rattle.filter_lint.specs.Conditions.{constant_at, constant_by, constant_conditions, constant_of, is_asked}
+use Rattle.filter_lint.specs.Lowering.{metrics_not_lowered, not_lowered, not_lowered_at}
 use Rattle.filter_lint.specs.Rules.{on_routes}
 use Rattle.filter_lint.specs.Sites.{site_at}
 use Rattle.filter_lint.specs.Sources.{SourceView}
 use Rattle.filter_lint.specs.Truths.{IsConstant, IsTrueOf}
 use Rattle.filter_lint.specs.declared.site.Site.{Site}
 use Rattle.filter_lint.specs.declared.warning.Cause.TheVariants as cause
+use Rattle.filter_lint.specs.declared.warning.Warning.{Warning}
 use Rattle.filter_lint.proofs.Found.{all_below}
 
 -- a condition that comes out one way was seen to come out so, and not the other way
@@ -78,7 +80,7 @@ module _ (program : CodeView) (size : ℕ) (text places : List ℕ) where
     of_instr (instr.JumpIfNot skipped) byte is there = of_site byte (site_at text byte) there (record { skipped = skipped; instruction = is })
     of_instr _ byte is there = tt
 
-  module _ (found : Reach) (is_reach : IsReach program size found) (all : found.is_complete ≡ true) where
+  module _ (watched : List Bool) (found : Reach) (is_reach : IsReach program size watched found) (all : found.is_complete ≡ true) where
     of_parts : (k : ℕ) (i : Option Instr) → slice_get program.instrs k ≡ i → (byte : Option ℕ) → slice_get places k ≡ byte
         → (mark : Option Mark) → slice_get found.marks.items k ≡ mark
         → IfSome (option_and_then (λ i. option_and_then (λ byte. option_and_then (constant_by text k i byte) mark) byte) i)
@@ -130,11 +132,34 @@ module _ (program : CodeView) (size : ℕ) (text places : List ℕ) where
         of_command k (slice_get program.instrs k) (slice_get places k) refl (nat_le (length program.instrs - k) 1)
         (was_reached (record { text = text; instrs = program.instrs; places = places }) found.marks.items k)
 
+    -- an assignment of the metric
+    if_raised : (k byte : ℕ) (mark : Mark) → slice_get found.marks.items k ≡ Some mark → slice_get places k ≡ Some byte → (t : Bool)
+        → mark.is_raised ≡ t
+        → IfSome (if t then Some (record { instruction = k; byte = byte; cause = cause.NotLowered }) else None) (IsTrueOf program size places)
+    if_raised k byte mark marked there false e = tt
+    if_raised k byte mark marked there true e =
+        let raised = (is_reach.sound k mark marked).raised e in
+        record { place = there; is_so = record { greater = raised.0; come = raised.1; some = raised.2; above = raised.3 } }
+
+    of_mark : (k byte : ℕ) → slice_get places k ≡ Some byte → (mark : Option Mark) → slice_get found.marks.items k ≡ mark
+        → IfSome (option_and_then (not_lowered k byte) mark) (IsTrueOf program size places)
+    of_mark k byte there None marked = tt
+    of_mark k byte there (Some mark) marked = if_raised k byte mark marked there mark.is_raised refl
+
+    of_place : (k : ℕ) (byte : Option ℕ) → slice_get places k ≡ byte
+        → IfSome (option_and_then (λ byte. option_and_then (not_lowered k byte) (slice_get found.marks.items k)) byte)
+        (IsTrueOf program size places)
+    of_place k None there = tt
+    of_place k (Some byte) there = of_mark k byte there (slice_get found.marks.items k) refl
+
     -- all of them
     pub on_routes_are_so : All (IsTrueOf program size places)
         (on_routes (record { text = text; instrs = program.instrs; places = places }) found.marks.items)
     on_routes_are_so =
         let here : SourceView = record { text = text; instrs = program.instrs; places = places } in
-        All-append (IsTrueOf program size places) (constant_conditions here found.marks.items) (unreached_commands here found.marks.items)
-        (all_below (IsTrueOf program size places) (constant_at here found.marks.items) condition_is_so (length program.instrs))
-        (all_below (IsTrueOf program size places) (unreached_in here found.marks.items) command_is_so (length program.instrs))
+        let P : Warning → Type 0 = IsTrueOf program size places in
+        All-append P (constant_conditions here found.marks.items) _
+        (all_below P (constant_at here found.marks.items) condition_is_so (length program.instrs))
+        (All-append P (unreached_commands here found.marks.items) (metrics_not_lowered here found.marks.items)
+        (all_below P (unreached_in here found.marks.items) command_is_so (length program.instrs))
+        (all_below P (not_lowered_at here found.marks.items) (λ k. of_place k (slice_get places k) refl) (length program.instrs)))

@@ -4,11 +4,14 @@ pub mod Finding
 pub mod Known
 pub mod Conditions
 pub mod Commands
+pub mod Lowering
 pub mod Arithmetic
 pub mod Sets
 pub mod Variables
 pub mod Metrics
 pub mod Hints
+pub mod Watching
+pub mod HostBits
 pub mod Truths
 pub mod Rules
 pub mod WarningLines

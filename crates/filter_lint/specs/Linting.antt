@@ -1,5 +1,5 @@
 -- What comes of a filter that is linted. (This project's own choice.)
-use Rattle.std.specs.Prelude.{◌≡◌, ◌⊎◌, ℕ, Bool, false, List, All, Option, Some, length}
+use Rattle.std.specs.Prelude.{◌≡◌, ◌⊎◌, ℕ, ◌+◌, Bool, false, List, All, Option, Some, length}
 use Rattle.std.specs.Io.KnownBytes.{Appends, Keeps}
 use Rattle.filter_code.specs.CodeView.{CodeView}
 use Rattle.filter_commands.specs.Checking.{IsDiagnosis}
@@ -13,9 +13,11 @@ use Rattle.filter_workbench.specs.Comparing.{IsVerifiedOf, Named}
 use Rattle.line_protocol.specs.Runs.{AppendsFront}
 use Rattle.line_protocol.specs.declared.faults.StreamFault.{StreamFault}
 use Rattle.line_protocol.specs.declared.faults.StreamFault.TheVariants.{Memory, Write}
+use Rattle.filter_lint.specs.HostBits.{AreHostBits}
 use Rattle.filter_lint.specs.Rules.{AreFound}
 use Rattle.filter_lint.specs.Truths.{IsTrueOf}
 use Rattle.filter_lint.specs.WarningLines.{warnings_text}
+use Rattle.filter_lint.specs.declared.host_bits.HostBits.{HostBits}
 use Rattle.filter_lint.specs.declared.linting.Linted.{Linted}
 use Rattle.filter_lint.specs.declared.linting.Linted.TheVariants as linted
 use Rattle.filter_lint.specs.declared.rules.Warnings.{Warnings}
@@ -25,13 +27,16 @@ pub record IsJudgedOf (text : List ℕ) (size : ℕ) (verified : VerifiedView) (
   pub is_verified : IsVerifiedOf size text verified
   pub are_places : ArePlacesOf text places
 
--- These are the lines of the warnings of a filter's code, and so many there are. Each of them is true of the code.
+-- These are the lines of the warnings of a filter's code and of the prefixes of its text that have host bits, and so many there are. Each
+-- of the warnings is true of the code.
 pub record IsReport (program : CodeView) (size : ℕ) (places : List ℕ) (source : Named) (lines : List ℕ) (count : ℕ) : Type 0 where
   pub all : Warnings
   pub are_found : AreFound program source.text places size all
   pub are_true : All (IsTrueOf program size places) all.found.items
-  pub lines_are : lines ≡ warnings_text source.name source.text program.sets all.found.items all.is_complete
-  pub counted : count ≡ length all.found.items
+  pub host_bits : List HostBits
+  pub are_host_bits : AreHostBits source.text host_bits
+  pub lines_are : lines ≡ warnings_text source.name source.text program.sets all.found.items host_bits all.is_complete
+  pub counted : count ≡ length all.found.items + length host_bits
 
 -- They were written. `held` and `holds` are what the writer held before and holds now.
 pub record WritesWarnings (program : CodeView) (size : ℕ) (places : List ℕ) (source : Named) (held holds : Option (List ℕ)) (count : ℕ) : Type 0 where
@@ -62,3 +67,15 @@ LintsNamedOff fault size is_explained source held holds tells told =
     × IsCutTelling fault is_explained source.name source.text why tells told)
     ⊎ ((f : FilterView) × (is_f : IsFilterOf source.text size f) × (places : List ℕ) × ArePlacesOf source.text places
     × CutsWarnings fault is_f.program size places source held holds × Keeps tells told))
+
+-- The text is refused, and nothing was told; or the warnings of the filter that it spells were told.
+abbrev pub WarnsNamed : ℕ → Named → Option (List ℕ) → Option (List ℕ) → Type 0
+WarnsNamed size source tells told = ((why : Diagnosis) × IsDiagnosis size false source.text why × Keeps tells told)
+    ⊎ ((count : ℕ) × (f : FilterView) × (is_f : IsFilterOf source.text size f) × (places : List ℕ) × ArePlacesOf source.text places
+    × WritesWarnings is_f.program size places source tells told count)
+
+-- A fault ended it: before anything was told, for want of memory; or while they were told.
+abbrev pub WarnsNamedOff : StreamFault → ℕ → Named → Option (List ℕ) → Option (List ℕ) → Type 0
+WarnsNamedOff fault size source tells told = ((fault ≡ Memory) × Keeps tells told)
+    ⊎ ((f : FilterView) × (is_f : IsFilterOf source.text size f) × (places : List ℕ) × ArePlacesOf source.text places
+    × CutsWarnings fault is_f.program size places source tells told)

@@ -7,13 +7,15 @@ use Rattle.filter_diff.specs.declared.mark.Reach.{Reach}
 use Rattle.filter_lint.specs.Commands.{unreached_commands}
 use Rattle.filter_lint.specs.Conditions.{constant_conditions}
 use Rattle.filter_lint.specs.Hints.{hints}
+use Rattle.filter_lint.specs.Lowering.{metrics_not_lowered}
 use Rattle.filter_lint.specs.Sources.{SourceView}
+use Rattle.filter_lint.specs.Watching.{watched_places}
 use Rattle.filter_lint.specs.declared.rules.Warnings.{Warnings}
 use Rattle.filter_lint.specs.declared.warning.Warning.{Warning}
 
 -- what is said where all routes were tried
 abbrev pub on_routes : SourceView → List Mark → List Warning
-on_routes source marks = constant_conditions source marks ++ unreached_commands source marks
+on_routes source marks = constant_conditions source marks ++ (unreached_commands source marks ++ metrics_not_lowered source marks)
 
 abbrev pub said_on_routes : SourceView → Reach → List Warning
 said_on_routes source reach = if reach.is_complete then on_routes source reach.marks.items else []
@@ -25,6 +27,6 @@ said_of source program size reach = said_on_routes source reach ++ hints source 
 -- the warnings that follow from what is found of the instructions that runs come to
 pub record AreFound (program : CodeView) (text places : List ℕ) (size : ℕ) (all : Warnings) : Type 0 where
   pub reach : Reach
-  pub is_reach : IsReach program size reach
+  pub is_reach : IsReach program size (watched_places (record { text = text; instrs = program.instrs; places = places }) program size) reach
   pub found_is : all.found.items ≡ said_of (record { text = text; instrs = program.instrs; places = places }) program size reach
   pub complete_is : all.is_complete ≡ reach.is_complete

@@ -4,7 +4,7 @@ use Rattle.filter_code.specs.CodeView.{CodeView}
 use Rattle.filter_code.specs.Machine.{Config}
 use Rattle.filter_code.specs.declared.instruction.Instr.{Instr}
 use Rattle.filter_code.specs.declared.instruction.Instr.TheVariants as instr
-use Rattle.filter_diff.specs.Reaching.{Comes, IsAlways, IsCondition, IsNeverReached}
+use Rattle.filter_diff.specs.Reaching.{AreOnTop, Comes, IsAlways, IsCondition, IsMax, IsNeverReached}
 use Rattle.prefix_patterns.specs.Matching.{Matches, PrefixPattern}
 use Rattle.filter_verifier.specs.InStates.{in_state}
 use Rattle.filter_lint.specs.Arithmetic.{may_wrap, operation_of}
@@ -56,6 +56,14 @@ pub record IsCovered (program : CodeView) (at number first second : ℕ) : Type 
   pub apart : second ≢ first
   pub covers : (prefix : List Bool) → Matches prefix inner → Matches prefix outer
 
+-- an instruction that takes the greater of two ints, to which the run on some route of the domain comes with the upper one greater: in
+-- the code of an assignment that is the metric received, and the value is below it
+pub record IsNotLowered (program : CodeView) (size at : ℕ) : Type 0 where
+  pub greater : IsMax program at
+  pub come : Config
+  pub some : Comes program size at come
+  pub above : AreOnTop true come
+
 -- why a warning is said is so
 abbrev pub IsSo : CodeView → ℕ → ℕ → Cause → Type 0
 IsSo program size at (cause.Constant place truth) = IsConstant program size at truth
@@ -64,6 +72,7 @@ IsSo program size at (cause.Wraps what left right) = MayWrap program size at wha
 IsSo program size at (cause.Covered number first second) = IsCovered program at number first second
 IsSo program size at cause.Unread = IsUnread program at
 IsSo program size at (cause.Unreachable bounds) = IsUnreachable program size at bounds
+IsSo program size at cause.NotLowered = IsNotLowered program size at
 
 -- a warning is said at the byte of the text that its instruction comes from, and what it says is so
 pub record IsTrueOf (program : CodeView) (size : ℕ) (places : List ℕ) (warning : Warning) : Type 0 where

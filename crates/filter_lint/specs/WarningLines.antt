@@ -3,9 +3,11 @@ use Rattle.std.specs.Prelude.{ℕ, ◌==◌, Bool, true, false, ◌&&◌, if◌t
 use Rattle.prefix_patterns.specs.Bits.{address_length}
 use Rattle.prefix_patterns.specs.Matching.{PrefixPattern}
 use Rattle.prefix_patterns.specs.Spelling.{prefix_text}
+use Rattle.filter_tokens.specs.Lexemes.{covered}
 use Rattle.filter_tools.specs.Explanations.{message, position}
 use Rattle.filter_tools.specs.Places.{column_at, line_at}
 use Rattle.filter_tools.specs.Shown.{shown}
+use Rattle.filter_lint.specs.declared.host_bits.HostBits.{HostBits}
 use Rattle.filter_lint.specs.declared.site.Site.{Site}
 use Rattle.filter_lint.specs.declared.site.Site.TheVariants as site
 use Rattle.filter_lint.specs.declared.warning.Cause.{Cause}
@@ -23,6 +25,7 @@ code_of (cause.Wraps what left right) = codes "W3"
 code_of (cause.Covered number inner outer) = codes "W4"
 code_of cause.Unread = codes "W6"
 code_of (cause.Unreachable bounds) = codes "W7"
+code_of cause.NotLowered = codes "W8"
 
 -- what is true, or false
 abbrev pub subject_of : Site → List ℕ
@@ -114,6 +117,10 @@ covered_words sets number inner outer = pair_words (patterns_of sets number) inn
 abbrev pub unreachable_words : Bounds → List ℕ
 unreachable_words bounds = codes "the metric is set to " ++ bounds_text bounds ++ codes ", which means unreachable"
 
+-- what is said of a metric that is not lowered
+unfoldable pub not_lowered_words : List ℕ
+not_lowered_words = codes "a filter cannot lower the metric: on some route that comes here the value is below the one received"
+
 -- what is said of a cause, in code with these sets
 abbrev pub words : List (List PrefixPattern) → Cause → List ℕ
 words sets (cause.Constant place value) = constant_words place value
@@ -122,20 +129,32 @@ words sets (cause.Wraps what left right) = wraps_words what left right
 words sets (cause.Covered number inner outer) = covered_words sets number inner outer
 words sets cause.Unread = codes "this variable is never read"
 words sets (cause.Unreachable bounds) = unreachable_words bounds
+words sets cause.NotLowered = not_lowered_words
 
 -- the line of a warning: the name of the source as it is shown, the line and the column, what is said, and the code of the rule
 abbrev pub warning_line : List ℕ → List ℕ → List (List PrefixPattern) → Warning → List ℕ
 warning_line name text sets warning = shown name ++ position (line_at text warning.byte) (column_at text warning.byte)
     ++ message (words sets warning.cause) (code_of warning.cause)
 
+-- the same of a prefix with host bits: as it is written, and what it is read as
+abbrev pub host_bits_words : List ℕ → HostBits → List ℕ
+host_bits_words text found = covered text found.token ++ codes " is read as " ++ prefix_text found.prefix
+
+abbrev pub host_bits_line : List ℕ → List ℕ → HostBits → List ℕ
+host_bits_line name text found = shown name ++ position (line_at text found.token.from) (column_at text found.token.from)
+    ++ message (host_bits_words text found) (codes "W5")
+
 -- the line that says that not all routes were tried
 unfoldable pub undecided_words : List ℕ
-undecided_words = codes ": undecided: not all routes were tried, so W1 and W2 were not looked for" ++ 10 ∷ []
+undecided_words = codes ": undecided: not all routes were tried, so W1, W2 and W8 were not looked for" ++ 10 ∷ []
 
 abbrev pub undecided_line : List ℕ → List ℕ
 undecided_line name = shown name ++ undecided_words
 
--- the lines of the warnings of a text, and a last one where not all routes were tried
-abbrev pub warnings_text : List ℕ → List ℕ → List (List PrefixPattern) → List Warning → Bool → List ℕ
-warnings_text name text sets warnings is_complete =
-    flat_map (warning_line name text sets) warnings ++ (if is_complete then [] else undecided_line name)
+abbrev pub undecided_text : List ℕ → Bool → List ℕ
+undecided_text name is_complete = if is_complete then [] else undecided_line name
+
+-- the lines of the warnings of a text, of its prefixes with host bits, and a last one where not all routes were tried
+abbrev pub warnings_text : List ℕ → List ℕ → List (List PrefixPattern) → List Warning → List HostBits → Bool → List ℕ
+warnings_text name text sets warnings host_bits is_complete =
+    flat_map (warning_line name text sets) warnings ++ flat_map (host_bits_line name text) host_bits ++ undecided_text name is_complete

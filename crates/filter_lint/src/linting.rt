@@ -1,5 +1,5 @@
 //! `ncroute lint`: what is plainly wrong with a filter that is verified.
-ghost use Rattle.std.specs.Prelude.{◌≡◌, ◌≤◌, false, All, IfErr, IfOk, OnOk, length};
+ghost use Rattle.std.specs.Prelude.{◌≡◌, ◌+◌, ◌≤◌, false, All, IfErr, IfOk, OnOk, length};
 ghost use Rattle.std.specs.Io.KnownBytes.{Appends};
 ghost use Rattle.filter_commands.specs.Checking.{IsDiagnosis};
 ghost use Rattle.filter_commands.specs.Faults.{stream_fault};
@@ -11,6 +11,7 @@ ghost use Rattle.filter_lint.specs.Rules.{AreFound};
 ghost use Rattle.filter_lint.specs.Truths.{IsTrueOf};
 ghost use Rattle.filter_lint.specs.WarningLines.{warnings_text as warnings_text_of};
 
+use crate::host_bits::{HostBits, find_host_bits};
 use crate::rules::{Warnings, find_warnings};
 use crate::warning_lines::warnings_text;
 use filter_commands::{ProgramFault, code_of};
@@ -78,10 +79,11 @@ fn report_on(
     verified: &Verified,
     source: &NamedText<'_>,
     all: &Warnings,
+    host_bits: &[HostBits],
 ) -> Result<Report, AllocError>
     ensures lines { IfOk result (λ report. report.lines.items
-        ≡ warnings_text_of source.now.name.now source.now.text.now verified.now.program.sets all.now.found.items all.now.is_complete) }
-    ensures counted { IfOk result (λ report. report.count ≡ length all.now.found.items) }
+        ≡ warnings_text_of source.now.name.now source.now.text.now verified.now.program.sets all.now.found.items host_bits.now all.now.is_complete) }
+    ensures counted { IfOk result (λ report. report.count ≡ length all.now.found.items + length host_bits.now) }
 {
     let warnings = all.found.as_slice();
     let lines = warnings_text(
@@ -90,11 +92,12 @@ fn report_on(
         source.text,
         verified.code().sets(),
         warnings,
+        host_bits,
         all.is_complete,
     )?;
     Ok(Report {
         lines,
-        count: warnings.len(),
+        count: warnings.len() + host_bits.len(),
     })
 }
 
@@ -115,7 +118,8 @@ fn report_of(
         judged.places.as_slice(),
         limit,
     )?;
-    report_on(alloc, &judged.verified, source, &all)
+    let host_bits = find_host_bits(alloc, source.text)?;
+    report_on(alloc, &judged.verified, source, &all, host_bits.as_slice())
 }
 
 /// Writes the lines of a report.
@@ -179,6 +183,28 @@ pub fn lint_named<W: Write, E: Write>(
             )?;
             Ok(Linted::Refused)
         }
+        Err(Failure::Memory) => Err(ProgramFault::MEMORY),
+    }
+}
+
+/// Tells the warnings of the filter that a text spells, as `lint_named` writes them. Nothing is told of a text that is refused.
+pub fn warn_named<E: Write>(
+    alloc: Global,
+    source: &NamedText<'_>,
+    size: u32,
+    limit: u64,
+    errors: &mut E,
+) -> Result<(), ProgramFault>
+    ensures finished { OnOk result (spec.WarnsNamed size (named source.now) (E.contents errors.old) (E.contents errors.new)) }
+    ensures broken_off { IfErr result (λ fault. spec.WarnsNamedOff (stream_fault fault) size (named source.now)
+        (E.contents errors.old) (E.contents errors.new)) }
+{
+    match judge(alloc, source.text, size) {
+        Ok(judged) => {
+            write_warnings(alloc, &judged, source, limit, errors)?;
+            Ok(())
+        }
+        Err(Failure::Refused(_)) => Ok(()),
         Err(Failure::Memory) => Err(ProgramFault::MEMORY),
     }
 }

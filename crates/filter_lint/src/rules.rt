@@ -8,8 +8,10 @@ ghost use Rattle.filter_lint.specs.Truths.{IsTrueOf};
 use crate::commands::unreached_commands;
 use crate::conditions::constant_conditions;
 use crate::hints::push_hints;
+use crate::lowering::metrics_not_lowered;
 use crate::source::Source;
 use crate::warning::Warning;
+use crate::watching::watched_places;
 use filter_code::Code;
 use filter_diff::{Mark, Reach, reach};
 use std::alloc::{AllocError, Global};
@@ -29,7 +31,9 @@ fn on_routes(alloc: Global, source: &Source, marks: &[Mark]) -> Result<Vec<Warni
 {
     let mut found = constant_conditions(alloc, source, marks)?;
     let commands = unreached_commands(alloc, source, marks)?;
+    let metrics = metrics_not_lowered(alloc, source, marks)?;
     found.extend_from_slice(commands.as_slice())?;
+    found.extend_from_slice(metrics.as_slice())?;
     Ok(found)
 }
 
@@ -80,7 +84,8 @@ pub(crate) fn find_warnings(
         instrs: code.instrs(),
         places,
     };
-    let reached = reach(alloc, code, size, limit)?;
+    let watched = watched_places(alloc, &source, code, size)?;
+    let reached = reach(alloc, code, size, limit, watched.as_slice())?;
     let found = said_of(alloc, &source, code, size, &reached)?;
     Ok(Warnings {
         found,

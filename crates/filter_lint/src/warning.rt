@@ -37,6 +37,8 @@ pub enum Cause {
     Unread,
     /// The metric that is set there is unreachable, by what is known of it.
     Unreachable(Bounds),
+    /// On some route that comes there the metric is set to less than was received, which leaves it as it was received.
+    NotLowered,
 }
 
 /// A warning: the index of the instruction that it is said of, the byte of the text that the instruction comes from, and why.

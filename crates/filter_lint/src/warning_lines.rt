@@ -1,9 +1,10 @@
 //! The lines of warnings.
-ghost use Rattle.std.specs.Prelude.{◌≡◌, ◌++◌, IfOk, OnOk, flat_map};
+ghost use Rattle.std.specs.Prelude.{◌≡◌, ◌++◌, IfOk, OnOk, codes, flat_map};
 ghost use Rattle.filter_tools.specs.Explanations.{message, position};
 ghost use Rattle.filter_tools.specs.Shown.{shown};
 ghost use Rattle.filter_lint.specs.WarningLines as spec;
 
+use crate::host_bits::{HostBits, bytes_of};
 use crate::site::Site;
 use crate::warning::{Bounds, Cause, Operation, Warning};
 use filter_tools::{place_in, push_shown};
@@ -24,6 +25,7 @@ impl Cause {
             Cause::Covered(_, _, _) => b"W4",
             Cause::Unread => b"W6",
             Cause::Unreachable(_) => b"W7",
+            Cause::NotLowered => b"W8",
         }
     }
 }
@@ -274,6 +276,14 @@ fn push_unreachable(out: &mut Vec<u8>, bounds: Bounds) -> Result<(), AllocError>
     out.extend_from_slice(b", which means unreachable")
 }
 
+/// What is said of a metric that is not lowered.
+#[tactic(auto, unfolding(crate::specs::WarningLines::not_lowered_words))]
+fn not_lowered_words() -> &'static [u8]
+    ensures { result.now ≡ spec.not_lowered_words }
+{
+    b"a filter cannot lower the metric: on some route that comes here the value is below the one received"
+}
+
 /// Puts what is said of a cause at the end of `out`.
 fn push_words(
     alloc: Global,
@@ -290,6 +300,7 @@ fn push_words(
         Cause::Covered(set, inner, outer) => { push_covered(alloc, out, sets, set, inner, outer) }
         Cause::Unread => out.extend_from_slice(b"this variable is never read"),
         Cause::Unreachable(bounds) => push_unreachable(out, bounds),
+        Cause::NotLowered => out.extend_from_slice(not_lowered_words()),
     }
 }
 
@@ -336,39 +347,110 @@ fn push_warning(
     push_message(alloc, out, sets, warning.cause)
 }
 
-/// Puts the line that says that not all routes were tried at the end of `out`.
-fn push_undecided(alloc: Global, out: &mut Vec<u8>, name: &[u8]) -> Result<(), AllocError>
-    ensures { OnOk result (out.new.items ≡ out.old.items ++ spec.undecided_line name.now) }
+/// Puts what is said of a prefix with host bits and its code at the end of `out`, to the end of the line.
+fn push_host_bits_message(
+    alloc: Global,
+    out: &mut Vec<u8>,
+    text: &[u8],
+    found: &HostBits,
+) -> Result<(), AllocError>
+    ensures { OnOk result (out.new.items ≡ out.old.items ++ message (spec.host_bits_words text.now found.now) (codes "W5")) }
 {
-    push_shown(alloc, out, name)?;
-    out.extend_from_slice(undecided_words())
+    out.extend_from_slice(b": ")?;
+    out.extend_from_slice(bytes_of(text, &found.token))?;
+    out.extend_from_slice(b" is read as ")?;
+    push_prefix(alloc, out, found.prefix)?;
+    out.extend_from_slice(b" (W5)\n")
 }
 
-/// What the line says behind the name.
+/// Puts the line of a prefix with host bits at the end of `out`, where the name of the source is shown so.
+fn push_host_bits(
+    alloc: Global,
+    out: &mut Vec<u8>,
+    name: &[u8],
+    text: &[u8],
+    found: &HostBits,
+) -> Result<(), AllocError>
+    ensures { OnOk result (out.new.items ≡ out.old.items ++ spec.host_bits_line name.now text.now found.now) }
+{
+    let place = place_in(text, found.token.from);
+    push_shown(alloc, out, name)?;
+    push_position(out, place.line, place.column)?;
+    push_host_bits_message(alloc, out, text, found)
+}
+
+/// What the line that says that not all routes were tried says behind the name.
 #[tactic(auto, unfolding(crate::specs::WarningLines::undecided_words))]
 fn undecided_words() -> &'static [u8]
     ensures { result.now ≡ spec.undecided_words }
 {
-    b": undecided: not all routes were tried, so W1 and W2 were not looked for\n"
+    b": undecided: not all routes were tried, so W1, W2 and W8 were not looked for\n"
 }
 
-/// The lines of the warnings of a text, and a last one where not all routes were tried.
+/// Puts that line at the end of `out`, where not all routes were tried.
+fn push_undecided(
+    alloc: Global,
+    out: &mut Vec<u8>,
+    name: &[u8],
+    is_complete: bool,
+) -> Result<(), AllocError>
+    ensures { OnOk result (out.new.items ≡ out.old.items ++ spec.undecided_text name.now is_complete) }
+{
+    if is_complete {
+        return Ok(());
+    }
+    push_shown(alloc, out, name)?;
+    out.extend_from_slice(undecided_words())
+}
+
+/// Puts the lines of the warnings of a text at the end of `out`.
+fn push_warnings(
+    alloc: Global,
+    out: &mut Vec<u8>,
+    name: &[u8],
+    text: &[u8],
+    sets: &[PatternSet],
+    warnings: &[Warning],
+) -> Result<(), AllocError>
+    ensures { OnOk result (out.new.items ≡ out.old.items ++ flat_map (spec.warning_line name.now text.now sets.now) warnings.now) }
+{
+    for warning in warnings {
+        push_warning(alloc, out, name, text, sets, warning)?;
+    }
+    Ok(())
+}
+
+/// Puts the lines of the prefixes of a text that have host bits at the end of `out`.
+fn push_all_host_bits(
+    alloc: Global,
+    out: &mut Vec<u8>,
+    name: &[u8],
+    text: &[u8],
+    all: &[HostBits],
+) -> Result<(), AllocError>
+    ensures { OnOk result (out.new.items ≡ out.old.items ++ flat_map (spec.host_bits_line name.now text.now) all.now) }
+{
+    for found in all {
+        push_host_bits(alloc, out, name, text, found)?;
+    }
+    Ok(())
+}
+
+/// The lines of the warnings of a text, of its prefixes with host bits, and a last one where not all routes were tried.
 pub(crate) fn warnings_text(
     alloc: Global,
     name: &[u8],
     text: &[u8],
     sets: &[PatternSet],
     warnings: &[Warning],
+    host_bits: &[HostBits],
     is_complete: bool,
 ) -> Result<Vec<u8>, AllocError>
-    ensures { IfOk result (λ out. out.items ≡ spec.warnings_text name.now text.now sets.now warnings.now is_complete) }
+    ensures { IfOk result (λ out. out.items ≡ spec.warnings_text name.now text.now sets.now warnings.now host_bits.now is_complete) }
 {
     let mut out = Vec::new(alloc);
-    for warning in warnings {
-        push_warning(alloc, &mut out, name, text, sets, warning)?;
-    }
-    if !is_complete {
-        push_undecided(alloc, &mut out, name)?;
-    }
+    push_warnings(alloc, &mut out, name, text, sets, warnings)?;
+    push_all_host_bits(alloc, &mut out, name, text, host_bits)?;
+    push_undecided(alloc, &mut out, name, is_complete)?;
     Ok(out)
 }

@@ -2,7 +2,7 @@
 use crate::page::Page;
 
 /// A page for each code.
-pub static LINT_PAGES: [Page; 6] = [
+pub static LINT_PAGES: [Page; 8] = [
     Page {
         code: "W1",
         text: "\
@@ -56,6 +56,19 @@ Take the covered pattern out: each prefix that matches it matches the other one.
 ",
     },
     Page {
+        code: "W5",
+        text: "\
+W5: a prefix is written with bits past its length
+Place: its first byte
+
+    $ echo 'filter f { if net ~ [ 10.1.2.3/8+ ] then reject; accept; }' | ncroute lint --size 16
+    <stdin>:1:23: 10.1.2.3/8 is read as 10.0.0.0/8 (W5)
+
+Correct the length, or write the first address of the prefix: the bits past the length are not kept, and BIRD
+refuses them. A `/8` that was meant as `/32` matches 16 million addresses more.
+",
+    },
+    Page {
         code: "W6",
         text: "\
 W6: a variable is never read
@@ -78,6 +91,20 @@ Place: the name that is assigned
 
 In a domain of 16 nodes the metric 16 means unreachable, and so does what is above it. Use `reject` where no
 route is to be accepted, or a smaller number. It is a hint, by the ranges that `ncroute list --size` shows.
+",
+    },
+    Page {
+        code: "W8",
+        text: "\
+W8: an assignment would lower the metric, and cannot
+Place: the name that is assigned
+
+    $ echo 'filter f { rip_metric = 3; accept; }' | ncroute lint --size 16
+    <stdin>:1:12: a filter cannot lower the metric: on some route that comes here the value is below the one received (W8)
+
+On a route that came with metric 5 the metric stays 5, where BIRD would make it 3. Ask first, as in
+`if rip_metric < 3 then rip_metric = 3;`, or reject what came with more. All routes of a domain of this size
+were tried, so there is such a route.
 ",
     },
 ];

@@ -1,20 +1,47 @@
-use Rattle.std.proofs.Common.{◌≡◌, ◌⊎◌, Bool, List, [], length, ◌∙◌, ap, refl, sym, subst, arith}
+use Rattle.std.proofs.Common.{◌≡◌, ◌⊎◌, inr, Bool, false, List, [], length, map, replicate, ◌∙◌, ap, refl, sym, subst, arith}
 use Rattle.std.proofs.lemmas.Grind.{common_steps}
-use Rattle.std.proofs.lemmas.List.{with_items_is}
+use Rattle.std.proofs.lemmas.List.{length-replicate, with_items_is}
 use Rattle.std.specs.Vec.{with_items}
-use Rattle.filter_diff.specs.Marking.{AreAllMarked, AreSound, Extend}
+use Rattle.filter_diff.specs.Marking.{AreAllMarked, AreSound, Extend, unmarked}
 use Rattle.filter_diff.specs.Searches.{IsLeft}
 use Rattle.filter_diff.specs.Settling.{AreSettled}
 use Rattle.filter_diff.specs.declared.mark.Mark.{Mark}
-use Rattle.filter_diff.proofs.Completed.{complete_all, marked_taken, reach_partly}
+use Rattle.filter_diff.proofs.Completed.{complete_all, marked_taken, reach_partly, reach_whole, sound_none}
 use Rattle.filter_diff.proofs.Expected.{size_taken}
+use Rattle.filter_diff.proofs.Marking.{extend_further, extend_self}
+use Rattle.filter_diff.proofs.Settled.{none_settled}
 use Rattle.filter_diff.proofs.reaching.reach.Goals as goal
+
+pub loop-next-init : goal.loop-next-init
+loop-next-init c =
+    let are = c.in_ok-marks.ensures in
+    let none : c.in_ok-settled.settled.items ≡ replicate (length c.args.watched.now) false = grind (arith, common_steps) in
+    record {
+      marked = λ route is_in. inr (c.in_ok-todo.ensures.all route is_in);
+      real = c.in_ok-todo.ensures.real;
+      more = subst (Extend (map unmarked c.args.watched.now)) (sym are) (extend_self (map unmarked c.args.watched.now));
+      sound = subst (AreSound c.args.code.now c.args.size) (sym are) (sound_none c.args.code.now c.args.size c.args.watched.now);
+      places = ap length none ∙ (length-replicate (length c.args.watched.now) false ∙ c.requires.watched);
+      settled = subst (AreSettled c.args.code.now c.in_ok-marks.marks.items) (sym none)
+          (none_settled c.args.code.now c.in_ok-marks.marks.items (length c.args.watched.now));
+    }
+
+pub returns-then-left-eq0 : goal.returns-then-left-eq0
+returns-then-left-eq0 c =
+    reach_partly c.args.code.now c.args.size c.args.watched.now _ c.loop-next.marks.items refl refl c.requires.watched
+    c.loop-next.invariant.more c.loop-next.invariant.sound
+
+pub deal-requires-clause-real : goal.deal-requires-clause-real
+deal-requires-clause-real c =
+    let next = (size_taken c.args.size _ _ c.in-Some.next c.in-Some.ensures.items c.loop-next.invariant.real).1 in
+    record { bits = next.bits; fits = next.fits; reachable = next.reachable }
 
 pub returns-then-not-is_dealt : goal.returns-then-not-is_dealt
 returns-then-not-is_dealt c =
     let are = with_items_is c.loop-next.marks c.deal.new.marks (omega (arith, c.deal.ensures.more.long, c.deref_mut.ensures.len)) in
-    reach_partly c.args.code.now c.args.size _ c.deal.new.marks refl are
-    (c.deal.ensures.more.long ∙ ap length c.deref_mut.ensures.value ∙ c.loop-next.invariant.long)
+    reach_partly c.args.code.now c.args.size c.args.watched.now _ c.deal.new.marks refl are c.requires.watched
+    (extend_further (map unmarked c.args.watched.now) c.loop-next.marks.items c.deal.new.marks c.loop-next.invariant.more
+    (subst (λ (marks : List Mark). Extend marks c.deal.new.marks) c.deref_mut.ensures.value c.deal.ensures.more))
     (c.deal.ensures.sound (subst (AreSound c.args.code.now c.args.size) (sym c.deref_mut.ensures.value) c.loop-next.invariant.sound))
 
 pub loop-next-preserved : goal.loop-next-preserved
@@ -31,7 +58,9 @@ loop-next-preserved c =
           (c.in_ok-is_dealt.ensures.kept route) (c.in_ok-is_dealt.ensures.covered c.if-not-is_dealt.false route is_in)
           (c.loop-next.invariant.marked route is_in));
       real = c.in_ok-is_dealt.ensures.real (size_taken c.args.size _ _ c.in-Some.next c.in-Some.ensures.items c.loop-next.invariant.real).0;
-      long = ap length are ∙ c.deal.ensures.more.long ∙ ap length c.deref_mut.ensures.value ∙ c.loop-next.invariant.long;
+      more = subst (Extend (map unmarked c.args.watched.now)) (sym are)
+          (extend_further (map unmarked c.args.watched.now) c.loop-next.marks.items c.deal.new.marks c.loop-next.invariant.more
+          (subst (λ (marks : List Mark). Extend marks c.deal.new.marks) c.deref_mut.ensures.value c.deal.ensures.more));
       sound = subst (AreSound c.args.code.now c.args.size) (sym are)
           (c.deal.ensures.sound (subst (AreSound c.args.code.now c.args.size) (sym c.deref_mut.ensures.value) c.loop-next.invariant.sound));
       places = ap length settled_are ∙ as_many ∙ ap length c.deref_mut-in-Some.ensures.value ∙ c.loop-next.invariant.places;
@@ -43,8 +72,6 @@ loop-next-preserved c =
 pub returns : goal.returns
 returns c =
     let none : c.loop-next.todo.items ≡ [] = grind (arith, common_steps) in
-    record {
-      long = c.loop-next.invariant.long;
-      sound = c.loop-next.invariant.sound;
-      complete = λ e. complete_all c.args.code.now c.args.size c.loop-next.marks.items c.loop-next.todo.items none c.loop-next.invariant.marked;
-    }
+    reach_whole c.args.code.now c.args.size c.args.watched.now _ c.loop-next.marks.items refl c.requires.watched c.loop-next.invariant.more
+    c.loop-next.invariant.sound
+    (complete_all c.args.code.now c.args.size c.loop-next.marks.items c.loop-next.todo.items none c.loop-next.invariant.marked)

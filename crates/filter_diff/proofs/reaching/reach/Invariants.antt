@@ -1,7 +1,7 @@
-use Rattle.std.proofs.Common.{◌≡◌, ◌⊎◌, ◌+◌, ◌*◌, All, length, vec_len}
+use Rattle.std.proofs.Common.{◌≡◌, ◌⊎◌, ◌+◌, ◌*◌, All, length, map, vec_len}
 use Rattle.filter_code.specs.RouteView.{RouteView}
 use Rattle.filter_diff.specs.Classes.{IsOfSize}
-use Rattle.filter_diff.specs.Marking.{AreAllMarked, AreSound}
+use Rattle.filter_diff.specs.Marking.{AreAllMarked, AreSound, Extend, unmarked}
 use Rattle.filter_diff.specs.Parts.{IsIn}
 use Rattle.filter_diff.specs.Searches.{IsLeft}
 use Rattle.filter_diff.specs.Settling.{AreSettled}
@@ -12,7 +12,7 @@ abbrev pub invariant-loop-next : goal.invariant-loop-next
 invariant-loop-next l = record {
   marked : (route : RouteView) → IsIn l.size route → AreAllMarked l.code l.marks.items route ⊎ IsLeft route l.todo.items;
   real : All (IsOfSize l.size) l.todo.items;
-  long : length l.marks.items ≡ length l.code.instrs;
+  more : Extend (map unmarked l.watched) l.marks.items;
   sound : AreSound l.code l.size l.marks.items;
   places : length l.settled.items ≡ length l.code.instrs;
   settled : AreSettled l.code l.marks.items l.settled.items;

@@ -1,0 +1,16 @@
+use Rattle.std.proofs.Common.{◌∙◌, sym, length}
+use Rattle.filter_verifier.specs.InStates.{in_state}
+use Rattle.filter_lint.proofs.Watched.{none_watched, one_watched}
+use Rattle.filter_lint.specs.Sources.{source_view}
+use Rattle.filter_lint.specs.Watching.{is_watched}
+use Rattle.filter_lint.proofs.watching.watched_by.Goals as goal
+
+pub loop-at-init : goal.loop-at-init
+loop-at-init c = c.new-watched.ensures.items ∙ sym (none_watched (is_watched (source_view c.args.source.now)
+    (in_state c.args.code.now c.args.size) (length c.args.states.now)))
+
+pub loop-at-preserved : goal.loop-at-preserved
+loop-at-preserved c =
+    one_watched (is_watched (source_view c.args.source.now) (in_state c.args.code.now c.args.size) (length c.args.states.now))
+    c.loop-at.at c.loop-at.watched.items c.push.new.self.items c.is_watched.result c.loop-at.invariant c.is_watched.ensures
+    c.in_ok-push.ensures.items
