@@ -3,7 +3,7 @@
 ghost use Rattle.std.specs.Prelude.{◌≡◌, [], ◌∷◌, IfOk, map};
 ghost use Rattle.command_line.specs.Sources.{AreNamed, AreSources, IsNamed};
 
-use crate::diff_words::Comparing;
+use crate::diff_words::{Comparing, USUAL_LIMIT};
 use crate::filter_words::{NamedFile, WrongFilter, filters_in};
 use crate::lint_words::Linting;
 use crate::telling::{Telling, is_explained};
@@ -53,6 +53,8 @@ pub struct Checking {
     pub has_names: bool,
     /// Of a report only the line that refuses its source is written.
     pub is_quiet: bool,
+    /// The warnings of a filter that is verified are told too, for which so many classes of routes are tried.
+    pub warning_limit: Option<u64>,
 }
 
 /// What is written of routes that are taken through a filter.
@@ -241,6 +243,15 @@ pub fn has_files(sources: &[Source]) -> bool {
     sources.iter().any(|source| !source.is_input())
 }
 
+/// How many classes of routes are tried for the warnings of `check`, where they are asked for.
+fn warning_limit_in(matches: &ArgMatches<'_>) -> Option<u64> {
+    if matches.get_flag("warn") {
+        Some(USUAL_LIMIT)
+    } else {
+        None
+    }
+}
+
 /// The sources that the words of `check` name, and how they are checked.
 pub fn checked_in(
     alloc: Global,
@@ -256,6 +267,7 @@ pub fn checked_in(
         is_explained: is_explained(Telling::read(matches), terminals.errors, has_files),
         has_names: matches.get_flag("names"),
         is_quiet: matches.get_flag("quiet"),
+        warning_limit: warning_limit_in(matches),
     };
     Ok((how, sources))
 }

@@ -4,8 +4,8 @@ use crate::options::{Kind, Parameter, arg_of};
 use clap::{Arg, Command};
 use std::alloc::{AllocError, Global};
 
-/// The version of the project, and the kit that it is written for, as `rt version` says.
-const VERSION: &str = "0.1.0 (rattle-kit-13f logic dac8208d650f15bf)";
+/// The version of the project, and the logic that it is proved in, as `rt version` names it: several kits have it.
+const VERSION: &str = "0.1.0 (Rattle logic dac8208d650f15bf)";
 
 /// The program, with all commands.
 pub fn program<'a>(alloc: Global) -> Result<Command<'a>, AllocError> {
@@ -119,11 +119,12 @@ static COMMANDS: [(&str, &str); 15] = [
 ];
 
 /// The options and arguments of each command, in the order in which its help shows them.
-static PARAMETERS: [(&str, Parameter); 51] = [
+static PARAMETERS: [(&str, Parameter); 52] = [
     ("check", SIZE),
     ("check", CODE),
     ("check", NAMES),
     ("check", QUIET),
+    ("check", WARN),
     ("check", EXPLAIN),
     ("check", CHECKED),
     ("diff", OPTIONAL_SIZE),
@@ -206,6 +207,15 @@ const QUIET: Parameter = Parameter {
     value: "",
     help: "Print nothing but the lines that refuse something",
     kind: Kind::Letter('q'),
+    is_required: false,
+};
+
+/// The warnings of what is verified are told.
+const WARN: Parameter = Parameter {
+    name: "warn",
+    value: "",
+    help: "Say on standard error what `ncroute lint` says of each filter that is verified",
+    kind: Kind::Flag,
     is_required: false,
 };
 

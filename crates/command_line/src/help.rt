@@ -27,7 +27,8 @@ Standard input is one filter, or with --code a code file in hexadecimal. Where f
 named, each of them is, in order; `-` is standard input. For each refused file, standard
 error says why, or with --explain never just its name and the refusal. With --names each
 printed line begins with the name of its file, as `FILE: verified 7 2`, and with -q only
-refusals are printed.
+refusals are printed. With --warn standard error says of each filter that is verified what
+`ncroute lint` says of it.
 
 Two lines are printed:
   code HEX                the filter's code, as `ncroute eval` reads it
@@ -126,13 +127,15 @@ Each file is a filter; without one, standard input is. Each is verified first, a
 `ncroute check`. Of one that is refused, standard error says why. For each thing that is
 plainly wrong with another one, a line is printed:
   FILE:LINE:COL: WORDS (W2)
-W1 and W2 hold on every route of the domain: all of them are searched, as by `ncroute diff`.
+W1, W2 and W8 are told by all routes of the domain, which are searched as by `ncroute diff`.
   W1   a condition that is always true, or always false
   W2   a command that no route reaches
   W3   arithmetic that may wrap, by what the verifier knows of the numbers
   W4   a pattern that another one of its set covers
+  W5   a prefix with bits past its length, as 10.1.2.3/8
   W6   a variable that is never read
   W7   a metric that means unreachable, whatever the route
+  W8   an assignment that would lower the metric on some route, which no filter can
 Where CLASSES are not enough for that, the line `FILE: undecided: ..` says so.
 
 Example:

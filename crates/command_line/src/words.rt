@@ -197,7 +197,7 @@ fn check_in(
 
 /// Whether standard input alone is checked, and the report on it is all that is asked for.
 fn is_plain(how: Checking, sources: &[Source]) -> bool {
-    let is_more = how.is_explained || how.has_names || how.is_quiet;
+    let is_more = how.is_explained || how.has_names || how.is_quiet || how.warning_limit.is_some();
     !is_more && sources.len() == 1 && !has_files(sources)
 }
 

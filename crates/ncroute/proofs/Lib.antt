@@ -2,6 +2,7 @@ pub mod Sources
 pub mod Tested
 pub mod Tried
 pub mod Untold
+mod CheckCut
 mod FiltersRead
 mod JoinedRead
 mod LintCut

@@ -23,7 +23,7 @@ use Rattle.ncroute.specs.Comparing.{ComparesSources, StopsComparing}
 use Rattle.ncroute.specs.Following.{CutsLater, DoesFirst}
 use Rattle.ncroute.specs.Guiding.{RunsGuided, StopsRun}
 use Rattle.ncroute.specs.Joining.{RunsJoined, StopsJoined}
-use Rattle.ncroute.specs.Linting.{LintsAll, StopsLinting}
+use Rattle.ncroute.specs.Linting.{CutsWarning, LintsAll, StopsLinting, Warns}
 use Rattle.ncroute.specs.Marking.{ChecksLines, CutsLines}
 use Rattle.ncroute.specs.Reading.{IsRead, SkipsUnread, StopsReading, name_of}
 use Rattle.ncroute.specs.Replaying.{CutsReplay, ReplaysText, replay_limit}
@@ -53,9 +53,11 @@ abbrev pub ChecksBy : Bool → Checking → List ℕ → List ℕ → Option (Li
 ChecksBy true how name text held holds told tells is_refused = ChecksLines how name text held holds told tells is_refused
 ChecksBy false how name text held holds told tells is_refused = ChecksWhole how name text held holds told tells is_refused
 
-abbrev pub ChecksText : Checking → List ℕ → List ℕ → Option (List ℕ) → Option (List ℕ) → Option (List ℕ) → Option (List ℕ) → Bool → Type 0
-ChecksText how name text held holds told tells is_refused =
-    ChecksBy (how.has_names || how.is_quiet) how name text held holds told tells is_refused
+-- And then its warnings were told, if they are asked for. `mid` is what standard error held between.
+pub record ChecksText (how : Checking) (name text : List ℕ) (held holds told tells : Option (List ℕ)) (is_refused : Bool) : Type 0 where
+  pub mid : Option (List ℕ)
+  pub checked : ChecksBy (how.has_names || how.is_quiet) how name text held holds told mid is_refused
+  pub warned : Warns how.warning_limit how.size is_refused name text mid tells
 
 -- A fault cut it.
 abbrev pub CutsBy : Bool → StreamFault → Checking → List ℕ → List ℕ → Option (List ℕ) → Option (List ℕ) → Option (List ℕ) → Option (List ℕ) → Type 0
@@ -65,6 +67,8 @@ CutsBy false fault how name text held holds told tells =
 
 abbrev pub CutsText : StreamFault → Checking → List ℕ → List ℕ → Option (List ℕ) → Option (List ℕ) → Option (List ℕ) → Option (List ℕ) → Type 0
 CutsText fault how name text held holds told tells = CutsBy (how.has_names || how.is_quiet) fault how name text held holds told tells
+    ⊎ ((is_refused : Bool) × (mid : Option (List ℕ)) × ChecksBy (how.has_names || how.is_quiet) how name text held holds told mid is_refused
+    × CutsWarning fault how.size is_refused name text mid tells)
 
 -- the refusal of a filter that is told in words
 abbrev pub told_refusal : Bool → Filtered → Option Diagnosis

@@ -1,8 +1,8 @@
 -- What the program does with filters that are linted. (This project's own choice.)
-use Rattle.std.specs.Prelude.{◌≡◌, ◌⊎◌, ℕ, Bool, true, nat_lt, List, Option, Result, length}
+use Rattle.std.specs.Prelude.{◌≡◌, ◌⊎◌, ℕ, Bool, true, false, nat_lt, List, Option, Some, None, Result, length}
 use Rattle.std.specs.declared.io.Error.{Error}
 use Rattle.filter_source.specs.Limits.{source_limit}
-use Rattle.filter_lint.specs.Linting.{LintsNamed, LintsNamedOff}
+use Rattle.filter_lint.specs.Linting.{LintsNamed, LintsNamedOff, WarnsNamed, WarnsNamedOff}
 use Rattle.filter_lint.specs.declared.linting.Linted.{Linted}
 use Rattle.filter_lint.specs.declared.linting.Linted.TheVariants.{Refused, Warned}
 use Rattle.filter_workbench.specs.Comparing.{Named}
@@ -24,6 +24,17 @@ pub record LintsText (how : Linting) (source : Named) (held holds told tells : O
   pub linted : Linted
   pub named : LintsNamed how.size how.is_explained source held holds told tells linted
   pub judged : found ≡ is_said linted
+
+-- The warnings of a text that was checked were told, where they are asked for and it is not refused; otherwise nothing was.
+abbrev pub Warns : Option ℕ → ℕ → Bool → List ℕ → List ℕ → Option (List ℕ) → Option (List ℕ) → Type 0
+Warns None size is_refused name text told tells = tells ≡ told
+Warns (Some limit) size true name text told tells = tells ≡ told
+Warns (Some limit) size false name text told tells = WarnsNamed size (record { name = name; text = text }) told tells
+
+-- A fault cut that.
+abbrev pub CutsWarning : StreamFault → ℕ → Bool → List ℕ → List ℕ → Option (List ℕ) → Option (List ℕ) → Type 0
+CutsWarning fault size is_refused name text told tells =
+    (is_refused ≡ false) × WarnsNamedOff fault size (record { name = name; text = text }) told tells
 
 -- `opens name` says what may come of opening a file of this name.
 module _ (opens : List ℕ → Result (Option (List ℕ)) Error → Type 0) where

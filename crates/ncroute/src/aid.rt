@@ -18,7 +18,7 @@ use crate::guided::guide_source;
 use crate::importing::import_source;
 use crate::joined::guide_sources;
 use crate::lines::check_lines;
-use crate::linting::lint_sources;
+use crate::linting::{lint_sources, warn};
 use crate::replay::{REPLAY_LIMIT, replay_text};
 use crate::script::{FAULT, carry_out, script_fault};
 use crate::serve::{FAILED, report_fault, status_of};
@@ -89,7 +89,7 @@ fn check_by<W: Write, E: Write>(
     }
 }
 
-/// Checks the text of a source. Returns whether it is refused.
+/// Checks the text of a source, and tells its warnings where they are asked for. Returns whether it is refused.
 fn check_read<W: Write, E: Write>(
     alloc: Global,
     how: Checking,
@@ -103,7 +103,13 @@ fn check_read<W: Write, E: Write>(
     ensures cut { IfErr result (λ fault. CutsText (stream_fault fault) how name.now text.now
         (W.contents writer.old) (W.contents writer.new) (E.contents errors.old) (E.contents errors.new)) }
 {
-    check_by(alloc, is_by_lines(how), how, name, text, writer, errors)
+    match check_by(alloc, is_by_lines(how), how, name, text, writer, errors) {
+        Ok(is_refused) => match warn(alloc, how, name, text, is_refused, errors) {
+            Ok(()) => Ok(is_refused),
+            Err(fault) => Err(fault),
+        },
+        Err(fault) => Err(fault),
+    }
 }
 
 /// Checks one source. Returns whether it is refused; a file that cannot be read is.
@@ -125,8 +131,8 @@ fn check_one<F: Folder, R: Read, W: Write, E: Write>(
 {
     match read_source(files, alloc, source, SOURCE_LIMIT, reader) {
         Ok(text) => {
-            let name = name_of(source);
-            check_read(alloc, how, name, text.as_slice(), writer, errors)
+            let (name, text) = (name_of(source), text.as_slice());
+            check_read(alloc, how, name, text, writer, errors)
         }
         Err(why) => {
             tell_unread(alloc, errors, source, why)?;

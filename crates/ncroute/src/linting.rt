@@ -1,15 +1,15 @@
 //! How filters are looked through for what is plainly wrong.
-ghost use Rattle.std.specs.Prelude.{◌≡◌, IfErr, IfOk};
+ghost use Rattle.std.specs.Prelude.{◌≡◌, IfErr, IfOk, OnOk};
 ghost use Rattle.filter_commands.specs.Faults.{stream_fault};
 ghost use Rattle.filter_lint.specs.Linting.{LintsNamedOff};
 ghost use Rattle.filter_workbench.specs.Comparing.{named};
-ghost use Rattle.ncroute.specs.Linting.{CutsLint, LintsAll, LintsOne, LintsText, StopsLinting, is_said};
+ghost use Rattle.ncroute.specs.Linting.{CutsLint, CutsWarning, LintsAll, LintsOne, LintsText, StopsLinting, Warns, is_said};
 
 use crate::aid::is_any;
 use crate::texts::{Folder, name_of, read_source, tell_unread};
-use command_line::{Linting, Source};
+use command_line::{Checking, Linting, Source};
 use filter_commands::ProgramFault;
-use filter_lint::{Linted, lint_named};
+use filter_lint::{Linted, lint_named, warn_named};
 use filter_source::SOURCE_LIMIT;
 use filter_workbench::NamedText;
 use std::alloc::Global;
@@ -41,6 +41,28 @@ fn lint_text<W: Write, E: Write>(
     let (size, limit, is_explained) = (how.size, how.limit, how.is_explained);
     let linted = lint_named(alloc, source, size, limit, is_explained, writer, errors)?;
     Ok(is_said(linted))
+}
+
+/// Tells the warnings of a text that was checked, where they are asked for and it is not refused.
+pub fn warn<E: Write>(
+    alloc: Global,
+    how: Checking,
+    name: &[u8],
+    text: &[u8],
+    is_refused: bool,
+    errors: &mut E,
+) -> Result<(), ProgramFault>
+    ensures told { OnOk result (Warns how.warning_limit how.size is_refused name.now text.now
+        (E.contents errors.old) (E.contents errors.new)) }
+    ensures cut { IfErr result (λ fault. CutsWarning (stream_fault fault) how.size is_refused name.now text.now
+        (E.contents errors.old) (E.contents errors.new)) }
+{
+    match how.warning_limit {
+        Some(limit) if !is_refused => {
+            warn_named(alloc, &NamedText { name, text }, how.size, limit, errors)
+        }
+        _ => Ok(()),
+    }
 }
 
 /// Writes the warnings of a source, and returns whether something is said of it; of a file that cannot be read it is.
