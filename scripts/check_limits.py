@@ -567,6 +567,41 @@ def full_filters(ncroute):
     return None if (output.partition(b"\n")[2], status) == (b"refused V3 1019\n", 1) else f"wrote {output[-100:]!r}"
 
 
+def on_filters(ncroute, words, texts):
+    """A run that names the files of some filters."""
+    with tempfile.TemporaryDirectory() as folder:
+        names = [os.path.join(folder, f"{number}.filter") for number in range(len(texts))]
+        for name, text in zip(names, texts):
+            with open(name, "wb") as it:
+                it.write(text)
+        output, shown, status = run(ncroute, " ".join([words, *names]), b"")
+        return output.replace(folder.encode() + b"/", b""), shown.replace(folder.encode() + b"/", b""), status
+
+
+def compared_filters(ncroute):
+    """`diff` of that filter with itself, and with the same with one pattern less."""
+    parts = ["0..15: reject | accept 15", *(f"{metric}..{metric}: reject | accept {metric}" for metric in range(16, 251))]
+    lines = [*(f"differ 10.3.255.0/24{{24,24}}, metrics {part}" for part in parts), "same on all other routes"]
+    rows = [(full_filter(), b"same on all routes\n", 0), (full_filter(patterns=1023), written(lines), 1)]
+    for other, *wanted in rows:
+        if wrong := differs(on_filters(ncroute, "diff --size 250", [full_filter(), other]), wanted):
+            return wrong
+    return None
+
+
+def undecided_filters(ncroute):
+    """Two masks that are compared differ on more prefixes than are tried: `diff` and `lint` try as many as they are told to, and say that."""
+    masks = b"filter f { if net.ip.mask(24) = net.ip then reject; accept; }"
+    output, shown, status = on_filters(ncroute, "diff --size 250 --limit 50000", [masks, FILTER])
+    lines = output.splitlines()
+    counted = sum(line.startswith(b"undecided ") for line in lines) - 1
+    if counted < 1 or (lines[-1], shown, status) != (b"undecided on %d parts" % counted, b"", 1 if lines[0].startswith(b"differ ") else 3):
+        return f"wrote {lines[:1]} to {lines[-1:]}, and ended with {status}"
+    never = b"filter f { if net.ip.mask(24) = net.ip && net.len > 32 then reject; accept; }"
+    wanted = b"0.filter: undecided: not all routes were tried, so W1, W2 and W8 were not looked for\n"
+    return differs(on_filters(ncroute, "lint --size 250 --limit 50000", [never]), (wanted, 0))
+
+
 def hundred_files(ncroute):
     """A hundred files are checked, of which the last is refused."""
     with tempfile.TemporaryDirectory() as folder:
@@ -682,6 +717,8 @@ def main(wanted):
         for name, row in [
             ("check, a hundred files", hundred_files),
             ("check, a filter at all limits", full_filters),
+            ("diff, filters at all limits", compared_filters),
+            ("diff and lint, masks that are compared", undecided_filters),
             ("filter, a million routes", million_routes),
             ("run, domains of each size", domains_of_each_size),
             ("run, the time of a long input", time_of_long_input),

@@ -78,7 +78,7 @@ RUNS = [
     ("list --code no_such.code", b"", b"", 3),
     ("list", b"filter a { accept }", b"refused P2 18\n", 1),
     ("list --size x", b"", b"", 2),
-    ("--version", b"", b"ncroute 0.1.0 (rattle-kit-13f logic dac8208d650f15bf)\n", 0),
+    ("--version", b"", b"ncroute 0.1.0 (Rattle logic dac8208d650f15bf)\n", 0),
     ("filter --size 8 no_such.filter", b"10.0.0.0/8 3\n", b"", 3),
     ("filter --size 8 -", FILTER, b"", 2),
     ("diff - -", FILTER, b"", 2),

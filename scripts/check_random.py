@@ -10,6 +10,8 @@ usage: NCROUTE=PATH scripts/check_random.py [SEED]     (PATH: the program as it 
   no more than the verifier says.
 - A filter has the same code however its tokens are laid out.
 - What `filter --why` and `filter --coverage` say of routes is what `filter` does with them, and fits what `lint` says of all routes.
+- `diff` of two filters says of each of some routes whether they do the same with it, and what each does: of a thousand pairs that look random, and
+  of each filter of `tests/bird/` beside itself with one constant changed. The routes lie at the constants of both, at its parts, and anywhere.
 - A script is answered alike in whatever pieces it is read, with a line for each line that is not skipped.
 - A history that was saved replays, and takes as many entries as its limit.
 - Sets of patterns match as a scan of them does, small ones and large ones.
@@ -26,10 +28,11 @@ import sys
 import tempfile
 
 sys.dont_write_bytecode = True
+import bird_filters  # noqa: E402
 import program  # noqa: E402
 
-FILES, TEXTS, SCRIPTS, HISTORIES, SETS = 3000, 1500, 300, 300, 30
-ROUTES, TOLD_ROUTES = 6, 60
+FILES, TEXTS, PAIRS, SCRIPTS, HISTORIES, SETS = 3000, 1500, 1000, 300, 300, 30
+ROUTES, TOLD_ROUTES, COMPARED_ROUTES, COMPARED_CLASSES = 6, 60, 100, 4000
 
 # Opcodes without an operand. METRIC stands there more than once.
 OPCODES = bytes.fromhex("121314152021222430313233404150131314127071")
@@ -60,6 +63,9 @@ NET = 17
 # A token of a filter that parses.
 TOKEN = re.compile(
     rb'"[^"\n]*"|\d+\.\d+\.\d+\.\d+(?:/\d+)?|0x[0-9a-fA-F]+|\d+|[A-Za-z_][A-Za-z_0-9]*|&&|\|\||!=|!~|<=|>=|\.\.|[-+*/=<>~!(){}\[\];,.:]')
+# A part that two filters differ on, or that is undecided: a pattern of prefixes, a range of metrics, and what each filter does there.
+PART = re.compile(r"(differ|undecided) ([\d.]+)/(\d+)\{(\d+),(\d+)\}, metrics (\d+)\.\.(\d+)(?:: (\w+(?: \d+)?) \| (\w+(?: \d+)?))?")
+CONSTANT = re.compile(rb"(?<![\w.])(\d+\.\d+\.\d+\.\d+)(?:/(\d+))?|(?<![\w./{,-])\d+(?![\w./])")
 SPACE = re.compile(rb"(?:[ \t\r\n]|#[^\n]*(?:\n|$)|/\*.*?\*/)+", re.S)
 
 
@@ -142,7 +148,8 @@ class Laws:
     """The laws, and what kept and broke them."""
 
     def __init__(self, ncroute, seed):
-        self.ncroute, self.seed, self.passed, self.failed = ncroute, seed, 0, 0
+        self.ncroute, self.seed, self.passed, self.failed, self.pairs = ncroute, seed, 0, 0, 0
+        self.bird = [block for path in bird_filters.files() for block in bird_filters.read(path)[1]]
         self.pool = concurrent.futures.ThreadPoolExecutor()
 
     def numbers(self, law, number):
@@ -296,6 +303,41 @@ class Laws:
                 return f"{text!r}: {warning}, but {counts} of {routes}"
         return None
 
+    # ---- pairs of filters
+
+    def pair(self, number):
+        """Two filters: of the same parts but for one, or one of `tests/bird/` and the same with one constant changed."""
+        numbers = self.numbers("pair", number)
+        if number >= PAIRS:
+            text = self.bird[number - PAIRS].filter.encode()
+            return self.compared(numbers, text, other_constant(numbers, text), 100)
+        parts = [numbers.choice(PARTS) for _ in range(numbers.randrange(1, 9))]
+        old, new = (f"filter f int a; bool b; ip p; {{ {''.join(it)}accept; }}".encode()
+                    for it in (parts, [numbers.choice(PARTS) if at == len(parts) - 1 else part for at, part in enumerate(parts)]))
+        return self.compared(numbers, old, new if numbers.randrange(2) else other_constant(numbers, old), numbers.randint(2, 40))
+
+    def compared(self, numbers, old, new, size):
+        """What is wrong with what `diff` says of two filters; None, too, where one of them is refused."""
+        with tempfile.TemporaryDirectory() as folder:
+            paths = [os.path.join(folder, name) for name in ("old", "new")]
+            for path, text in zip(paths, (old, new)):
+                with open(path, "wb") as it:
+                    it.write(text)
+            told, status = self.run(f"diff --size {size} --limit {COMPARED_CLASSES} --explain never {' '.join(paths)}", b"")
+            if status == 3 and not told:
+                return None
+            self.pairs += 1
+            parts = [PART.fullmatch(line).groups() for line in told[:-1]]
+            routes = [route_at(numbers, *near, size) for near in places(numbers, parts, old + new, COMPARED_ROUTES)]
+            given = "".join(f"{prefix} {metric}\n" for prefix, metric in routes).encode()
+            before, after = (self.run(f"filter --size {size} {path}", given)[0] for path in paths)
+        for (prefix, metric), one, other in zip(routes, before, after, strict=True):
+            wrong = differs_otherwise(parts, prefix, metric, one, other)
+            if wrong:
+                return f"{old!r} and {new!r}, size {size}: {prefix} {metric}: {one} and {other}, but {wrong}"
+        wanted = {True: 1, False: 3 if parts else 0}[any(part[0] == "differ" for part in parts)]
+        return None if status == wanted else f"{old!r} and {new!r}: {told} and {status}"
+
     # ---- scripts and histories
 
     def pieced(self, script, most):
@@ -366,9 +408,10 @@ class Laws:
         self.damaged_files()
         self.code_files(size)
         self.texts(size)
-        for law, count in ((self.script, SCRIPTS), (self.history, HISTORIES), (self.patterns, SETS)):
+        for law, count in ((self.pair, PAIRS + len(self.bird)), (self.script, SCRIPTS), (self.history, HISTORIES), (self.patterns, SETS)):
             for number, wrong in enumerate(self.pool.map(law, range(count))):
                 self.judge(law.__name__, number, wrong)
+        self.judge("pairs", self.pairs, None if self.pairs > (PAIRS + len(self.bird)) // 2 else "few of them are verified")
 
 
 def refused_for(value):
@@ -409,7 +452,7 @@ def bits(address):
 def without_host_bits(prefix):
     """A prefix with the bits behind its length cleared."""
     address, length = prefix.split("/")
-    return ".".join(map(str, masked(bits(address), int(length)).to_bytes(4, "big"))) + f"/{length}"
+    return f"{dotted(masked(bits(address), int(length)))}/{length}"
 
 
 def masked(address, length):
@@ -422,6 +465,60 @@ def matches(pattern, address, length):
     own, own_length, low, high = pattern
     shared = min(own_length, int(length))
     return low <= int(length) <= high and masked(own, shared) == masked(bits(address), shared)
+
+
+def other_constant(numbers, text):
+    """A filter with one constant changed: one more, half as much, a bit of an address turned, or a length one longer."""
+    found = numbers.choice(list(CONSTANT.finditer(text)) or [None])
+    if not found:
+        return text
+    if not found[1]:
+        other = str(numbers.choice((int(found[0]) + 1, int(found[0]) // 2)))
+    elif found[2] and numbers.randrange(2):
+        other = f"{found[1].decode()}/{min(int(found[2]) + 1, 32)}"
+    else:
+        address = bits(found[1].decode()) ^ 1 << (32 - numbers.randint(1, int(found[2] or 32) or 1))
+        other = dotted(address) + (f"/{found[2].decode()}" if found[2] else "")
+    return text[:found.start()] + other.encode() + text[found.end():]
+
+
+def places(numbers, parts, texts, count):
+    """Where routes are tried: an address, a length near which theirs are, and metrics."""
+    lengths = [int(it) for it in re.findall(rb"\d+", texts) if int(it) <= 32]
+    spots = [(bits(address.decode()), int(length or 32)) for address, length in re.findall(rb"(\d+\.\d+\.\d+\.\d+)(?:/(\d+))?", texts)]
+    metrics = [int(it) for it in re.findall(rb"\d+", texts) if int(it) <= 250] or [0]
+    for part in parts[:20]:
+        for length in {int(part[3]), int(part[4]), int(part[3]) - 1, int(part[4]) + 1}:
+            for metric in {int(part[5]), int(part[6]), int(part[5]) - 1, int(part[6]) + 1}:
+                yield bits(part[1]), int(part[2]), length, metric
+    for _ in range(count):
+        address, fixed = numbers.choice(spots or [(0, 0)]) if numbers.randrange(4) else (numbers.getrandbits(32), numbers.randrange(33))
+        length = numbers.choice([fixed, fixed, *lengths]) + numbers.randint(-1, 1)
+        yield address ^ (numbers.randrange(2) << (32 - fixed) if fixed else 0), fixed, length, numbers.choice(metrics) + numbers.randint(-1, 1)
+
+
+def route_at(numbers, address, fixed, length, metric, size):
+    """A route of so many bits, of which the first are those of an address, and the others any."""
+    length = min(max(length, 0), 32)
+    own = masked(masked(address, fixed) | numbers.getrandbits(32) & ~masked(0xFFFFFFFF, fixed), length)
+    return f"{dotted(own)}/{length}", min(max(metric, 0), size)
+
+
+def differs_otherwise(parts, prefix, metric, one, other):
+    """What the parts say of a route that is not so, where two filters answer it with these lines."""
+    address, length = prefix.split("/")
+    own = [part for part in parts if matches((bits(part[1]), int(part[2]), int(part[3]), int(part[4])), address, length)
+           and int(part[5]) <= metric <= int(part[6])]
+    if any(part[0] == "undecided" for part in own):
+        return None
+    if not own:
+        return None if one == other else "nothing is told"
+    said = [f"accept {metric}" if verdict == "accept" else verdict for verdict in own[0][7:]]
+    return None if said == [one, other] and one != other else f"{own[0]}"
+
+
+def dotted(address):
+    return ".".join(map(str, address.to_bytes(4, "big")))
 
 
 def main(words):
