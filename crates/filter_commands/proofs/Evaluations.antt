@@ -24,7 +24,7 @@ running p s e (l ∷ ls) [] after r = absurd r
 running p s e (l ∷ ls) (a ∷ more) after r =
     let P : Option CodeView → Type 0 = λ c. AnswersLine c l.0 l.1 a r.0 in
     let here : (a ≡ route_answer p l) × (r.0 ≡ Some p) = subst P e r.1 in
-    let goes : is_end a.reply ≡ false = ap (λ (x : Answer). is_end x.reply) here.0 ∙ answer_goes_on p l.0 (route_in l.1) in
+    let goes : is_end a.reply ≡ false = ap (λ (x : Answer). is_end x.reply) here.0 ∙ answer_goes_on p l.0 (route_in None l.1) in
     let Q : Bool → Type 0 = λ b. MatchBool b ((more ≡ []) × (after ≡ r.0)) (Runs AnswersLine r.0 ls more after) in
     let rest : (more ≡ map (route_answer p) ls) × (after ≡ Some p) = running p r.0 here.1 ls more after (subst Q goes r.2) in
     (ap (λ (x : Answer). x ∷ more) here.0 ∙ ap (λ (xs : List Answer). route_answer p l ∷ xs) rest.0, rest.1)
@@ -37,7 +37,7 @@ running_front p s e [] (a ∷ more) after r = absurd r
 running_front p s e (l ∷ ls) (a ∷ more) after r =
     let P : Option CodeView → Type 0 = λ c. AnswersLine c l.0 l.1 a r.0 in
     let here : (a ≡ route_answer p l) × (r.0 ≡ Some p) = subst P e r.1 in
-    let goes : is_end a.reply ≡ false = ap (λ (x : Answer). is_end x.reply) here.0 ∙ answer_goes_on p l.0 (route_in l.1) in
+    let goes : is_end a.reply ≡ false = ap (λ (x : Answer). is_end x.reply) here.0 ∙ answer_goes_on p l.0 (route_in None l.1) in
     let Q : Bool → Type 0 = λ b. MatchBool b ((more ≡ []) × (after ≡ r.0)) (RunsFront AnswersLine r.0 ls more after) in
     let rest : (others : List Answer) × (map (route_answer p) ls ≡ more ++ others) =
     running_front p r.0 here.1 ls more after (subst Q goes r.2) in

@@ -1,5 +1,5 @@
 -- Lines in the usual spelling: words that are parted by one space each.
-use Rattle.std.proofs.Common.{◌≡◌, ℕ, ◌≤◌, Bool, false, List, [], ◌∷◌, ◌++◌, length, All, refl, sym, ap, ◌∙◌, arith, append-nil}
+use Rattle.std.proofs.Common.{◌≡◌, ℕ, ◌≤◌, Bool, false, List, [], ◌∷◌, ◌++◌, length, All, Option, Some, None, Ok, refl, sym, ap, ◌∙◌, arith, append-nil}
 use Rattle.std.proofs.lemmas.Bool.Decides.{nat_tests}
 use Rattle.std.proofs.lemmas.List.{nil_from_length}
 use Rattle.std.proofs.lemmas.List.Elements.{All-weaker}
@@ -11,7 +11,12 @@ use Rattle.prefix_patterns.proofs.LeadingTokens.{BeginsWithNumber}
 use Rattle.prefix_patterns.proofs.TokenBytes.{IsFromDot, digits_bytes, prefix_bytes, prefix_some}
 use Rattle.prefix_patterns.specs.Leading.{BeginsWith}
 use Rattle.prefix_patterns.specs.Token.{IsPrefix}
-use Rattle.filter_commands.specs.RouteLine.{IsRouteLine}
+use Rattle.prefix_patterns.proofs.Numbers.{number_in-some}
+use Rattle.prefix_patterns.proofs.Tokens.{prefix_in-only}
+use Rattle.prefix_patterns.specs.Reading.{number_in}
+use Rattle.filter_commands.specs.Limits.{number_limit}
+use Rattle.filter_commands.specs.RouteLine.{BeginsWithSize, parts_in, route_in, route_of_words}
+use Rattle.filter_commands.proofs.RouteLines.{read_within, within_limits}
 
 no_blank : (byte : ℕ) → IsFromDot byte → is_blank byte ≡ false
 no_blank byte high = grind (arith, nat_tests)
@@ -46,34 +51,39 @@ words_of_number text rest value found empty =
     ap words (found.spelled ∙ ap (λ t. found.token ++ t) (nil_from_length rest empty) ∙ append-nil found.token)
     ∙ words-only is_blank found.token (no_blanks found.token (digits_bytes found.token found.wanted.0)) found.wanted.0.some
 
--- a prefix, a metric and a size with one space between them are a route line
-pub plain_line : (line first_rest second second_rest third third_rest : List ℕ) (bits : List Bool) (metric size : ℕ)
+-- the number of such a token
+read_token : (text rest : List ℕ) (value : ℕ) (found : BeginsWithNumber text value rest) → value ≤ 999
+    → number_in number_limit found.token ≡ Some value
+read_token text rest value found low =
+    let v = found.wanted.1 in
+    number_in-some number_limit found.token (found.wanted.0, omega (arith, v, low)) ∙ ap Some (sym v)
+
+-- the parts of a line in the usual spelling
+plain_parts : (given : Option ℕ) (line behind_prefix second behind_metric rest : List ℕ) (bits : List Bool) (metric size : ℕ)
+    → (net : BeginsWith (λ token. IsPrefix token bits) line behind_prefix) → behind_prefix ≡ space ∷ second
+    → (number : BeginsWithNumber second metric behind_metric) → BeginsWithSize given behind_metric size rest → length rest ≡ 0
+    → parts_in (words line) given ≡ Some (net.token, number.token, Some size)
+plain_parts None line behind_prefix second behind_metric rest bits metric size net cut number (third, cut', last, low) empty =
+    let made : Option ℕ → Option (List ℕ × List ℕ × Option ℕ) = λ s. Some (net.token, number.token, s) in
+    ap (λ (all : List (List ℕ)). parts_in all None) (words_after_prefix line behind_prefix second bits net cut
+    ∙ ap (λ l. net.token ∷ l) (words_after_number second behind_metric third metric number cut'
+    ∙ ap (λ l. number.token ∷ l) (words_of_number third rest size last empty)))
+    ∙ ap made (read_token third rest size last low)
+plain_parts (Some given) line behind_prefix second behind_metric rest bits metric size net cut number (is, same) empty =
+    let made : ℕ → Option (List ℕ × List ℕ × Option ℕ) = λ n. Some (net.token, number.token, Some n) in
+    ap (λ (all : List (List ℕ)). parts_in all (Some given)) (words_after_prefix line behind_prefix second bits net cut
+    ∙ ap (λ l. net.token ∷ l) (words_of_number second behind_metric metric number (ap length (sym same) ∙ empty)))
+    ∙ ap made (sym is)
+
+-- a line in the usual spelling gives its route
+pub plain_line : (given : Option ℕ) (line behind_prefix second behind_metric rest : List ℕ) (bits : List Bool) (metric size : ℕ)
     → length line ≤ line_limit
-    → BeginsWith (λ token. IsPrefix token bits) line first_rest → first_rest ≡ space ∷ second
-    → BeginsWithNumber second metric second_rest → metric ≤ 999 → second_rest ≡ space ∷ third
-    → BeginsWithNumber third size third_rest → size ≤ 999 → length third_rest ≡ 0
+    → BeginsWith (λ token. IsPrefix token bits) line behind_prefix → behind_prefix ≡ space ∷ second
+    → BeginsWithNumber second metric behind_metric → metric ≤ 999 → BeginsWithSize given behind_metric size rest → length rest ≡ 0
     → IsWithinLimits metric size → (route : RouteView) → route ≡ record { net = bits; metric = metric; size = size }
-    → IsRouteLine line route
-plain_line line first_rest second second_rest third third_rest bits metric size within net cut given low cut' domain small empty limits route e =
-    let m = given.wanted.1 in
-    let s = domain.wanted.1 in
-    rw e record {
-      first = net.token;
-      second = given.token;
-      third = domain.token;
-      three = record {
-        within = within;
-        are =
-            words_after_prefix line first_rest second bits net cut
-            ∙ ap (λ l. net.token ∷ l) (words_after_number second second_rest third metric given cut'
-            ∙ ap (λ l. given.token ∷ l) (words_of_number third third_rest size domain empty));
-      };
-      prefix = net.wanted;
-      numbers = record {
-        is_metric = (given.wanted.0, omega (arith, m, low));
-        is_size = (domain.wanted.0, omega (arith, s, small));
-        limits = rw (sym m, sym s) limits;
-      };
-      metric = m;
-      size = s;
-    }
+    → route_in given line ≡ Ok route
+plain_line given line behind_prefix second behind_metric rest bits metric size within net cut number low behind empty limits route e =
+    let m = read_token second behind_metric metric number low in
+    read_within given line within
+    ∙ ap route_of_words (plain_parts given line behind_prefix second behind_metric rest bits metric size net cut number behind empty)
+    ∙ rw (prefix_in-only net.token bits net.wanted, m, within_limits metric size limits, e) refl

@@ -11,7 +11,7 @@ use Rattle.prefix_patterns.specs.Number.{IsNumber, decimal_value}
 use Rattle.prefix_patterns.specs.Reading.{number_in, prefix_in}
 use Rattle.prefix_patterns.specs.Token.{IsPrefix}
 use Rattle.filter_commands.specs.Limits.{number_limit}
-use Rattle.filter_commands.specs.RouteLine.{AreNumbers, HasThreeWords, IsLineFault, IsRouteLine, route_in, route_of_parts, route_of_words, three_of}
+use Rattle.filter_commands.specs.RouteLine.{AreNumbers, HasThreeWords, IsLineFault, IsRouteLine, route_in, parts_in, route_of_parts, route_of_words}
 use Rattle.filter_commands.specs.declared.line_fault.LineFault.{LineFault}
 use Rattle.filter_commands.specs.declared.line_fault.LineFault.TheVariants.{Words, Numbers, TooLong, Prefix}
 
@@ -84,15 +84,15 @@ decided line = elim (cases_lt line_limit (length line)) [
 ]
 
 -- what is read of a line within the limit, by its words
-read_within : (line : List ℕ) → length line ≤ line_limit → route_in line ≡ route_of_words (three_of (words line))
-read_within line within =
+pub read_within : (given : Option ℕ) (line : List ℕ) → length line ≤ line_limit → route_in given line ≡ route_of_words (parts_in (words line) given)
+read_within given line within =
     let short : nat_lt line_limit (length line) ≡ false = grind (arith, nat_tests) in
-    ap (λ (b : Bool). if b then Err TooLong else route_of_words (three_of (words line))) short
+    ap (λ (b : Bool). if b then Err TooLong else route_of_words (parts_in (words line) given)) short
 
 read_three : (line first second third : List ℕ) → HasThreeWords line first second third
-    → route_in line ≡ route_of_parts (prefix_in first) (number_in number_limit second) (number_in number_limit third)
+    → route_in None line ≡ route_of_parts (prefix_in first) (number_in number_limit second) (number_in number_limit third)
 read_three line first second third h =
-    read_within line h.within ∙ ap (λ (all : List (List ℕ)). route_of_words (three_of all)) h.are
+    read_within None line h.within ∙ ap (λ (all : List (List ℕ)). route_of_words (parts_in all None)) h.are
 
 -- a route by its parts
 ok_route : (route : RouteView) (metric size : ℕ) → metric ≡ route.metric → size ≡ route.size
@@ -100,7 +100,7 @@ ok_route : (route : RouteView) (metric size : ℕ) → metric ≡ route.metric �
 ok_route route metric size e f = rw (e, f) refl
 
 -- a route line is read as its route
-pub read_route : (line : List ℕ) (route : RouteView) → IsRouteLine line route → route_in line ≡ Ok route
+pub read_route : (line : List ℕ) (route : RouteView) → IsRouteLine line route → route_in None line ≡ Ok route
 read_route line route h =
     let n = h.numbers in
     let p = prefix_in-only h.first route.net h.prefix in
@@ -110,7 +110,7 @@ read_route line route h =
     read_three line h.first h.second h.third h.three ∙ rw (p, m, s, l) (ok_route route _ _ (sym h.metric) (sym h.size))
 
 -- a line that is not of three words
-few_words : (all : List (List ℕ)) → length all ≢ 3 → route_of_words (three_of all) ≡ Err Words
+few_words : (all : List (List ℕ)) → length all ≢ 3 → route_of_words (parts_in all None) ≡ Err Words
 few_words [] h = refl
 few_words (a ∷ []) h = refl
 few_words (a ∷ (b ∷ [])) h = refl
@@ -144,11 +144,11 @@ no_numbers bits second third (Some m) (Some s) e f h =
     (λ l. h (record { is_metric = a.0; is_size = b.0; limits = rw (a.1, b.1) (are_limits m s l) }))
 
 -- a line with a fault is refused with it
-read_fault : (line : List ℕ) (why : LineFault) → IsLineFault line why → route_in line ≡ Err why
+read_fault : (line : List ℕ) (why : LineFault) → IsLineFault line why → route_in None line ≡ Err why
 read_fault line TooLong h =
     let long : nat_lt line_limit (length line) ≡ true = grind (arith, nat_tests) in
-    ap (λ (b : Bool). if b then Err TooLong else route_of_words (three_of (words line))) long
-read_fault line Words h = read_within line h.0 ∙ few_words (words line) h.1
+    ap (λ (b : Bool). if b then Err TooLong else route_of_words (parts_in (words line) None)) long
+read_fault line Words h = read_within None line h.0 ∙ few_words (words line) h.1
 read_fault line Prefix h =
     let none = no_prefix h.0 (prefix_in h.0) refl h.4 in
     read_three line h.0 h.1 h.2 h.3
@@ -160,7 +160,7 @@ read_fault line Numbers h =
     ∙ no_numbers h.4.0 h.1 h.2 _ _ refl refl h.5
 
 -- and the other way round, since each line has a route or a fault
-pub routes : (line : List ℕ) (route : RouteView) → (route_in line ≡ Ok route) ↔ IsRouteLine line route
+pub routes : (line : List ℕ) (route : RouteView) → (route_in None line ≡ Ok route) ↔ IsRouteLine line route
 routes line route = (
   λ e. elim (decided line) [
     | inl found ↦ let same : found.0 ≡ route = let f = read_route line found.0 found.1 in cc in
@@ -170,7 +170,7 @@ routes line route = (
   read_route line route,
 )
 
-pub faults : (line : List ℕ) (why : LineFault) → (route_in line ≡ Err why) ↔ IsLineFault line why
+pub faults : (line : List ℕ) (why : LineFault) → (route_in None line ≡ Err why) ↔ IsLineFault line why
 faults line why = (
   λ e. elim (decided line) [
     | inl found ↦ absurd (let f = read_route line found.0 found.1 in cc)

@@ -1,5 +1,5 @@
 -- Worked rows: the definitions compute what `eval` and `check` write.
-use Rattle.std.proofs.Common.{◌≡◌, true, false, [], ◌∷◌, Ok, Err, codes, refl, inl, inr, lit≤}
+use Rattle.std.proofs.Common.{◌≡◌, true, false, [], ◌∷◌, Some, None, Ok, Err, codes, refl, inl, inr, lit≤}
 use Rattle.std.specs.Fmt.{digits}
 use Rattle.hex.specs.Hex.{decode_pairs, encode_with}
 use Rattle.code_file.specs.Fields.{form_of}
@@ -27,20 +27,26 @@ abbrev divides : CodeView
 divides = record { locals = 0; sets = []; int_sets = []; instrs = instr.Metric ∷ instr.Int 0 ∷ instr.Div ∷ instr.Accept ∷ [] }
 
 -- a route line has a prefix, a metric and a size
-pub a_route : route_in (codes "10.0.0.0/8 3 8")
+pub a_route : route_in None (codes "10.0.0.0/8 3 8")
     ≡ Ok (record { net = false ∷ false ∷ false ∷ false ∷ true ∷ false ∷ true ∷ false ∷ []; metric = 3; size = 8 })
 unfolding prefix_in address_in groups_in parts_at number_in decimal_value bits
 a_route = refl
 
 -- two words, a length of 33 with a metric over the size, and a metric over the size
-pub two_words : route_in (codes "10.0.0.0/8 3") ≡ Err Words
+pub two_words : route_in None (codes "10.0.0.0/8 3") ≡ Err Words
 two_words = refl
 
-pub long_prefix : route_in (codes "10.0.0.0/33 9 8") ≡ Err Prefix
+-- the same words in a domain of 8 nodes
+pub in_domain : route_in (Some 8) (codes "10.0.0.0/8 3")
+    ≡ Ok (record { net = false ∷ false ∷ false ∷ false ∷ true ∷ false ∷ true ∷ false ∷ []; metric = 3; size = 8 })
+unfolding prefix_in address_in groups_in parts_at number_in decimal_value bits
+in_domain = refl
+
+pub long_prefix : route_in None (codes "10.0.0.0/33 9 8") ≡ Err Prefix
 unfolding prefix_in address_in groups_in parts_at number_in decimal_value bits
 long_prefix = refl
 
-pub high_metric : route_in (codes "10.0.0.0/8 9 8") ≡ Err Numbers
+pub high_metric : route_in None (codes "10.0.0.0/8 9 8") ≡ Err Numbers
 unfolding prefix_in address_in groups_in parts_at number_in decimal_value bits
 high_metric = refl
 

@@ -1,5 +1,5 @@
 -- What `eval` writes for an input: the whole output from the whole input (this project's own choice).
-use Rattle.std.specs.Prelude.{ℕ, List, [], ◌∷◌, ◌++◌, length, map, Result, Ok, Err, nat_lt, if◌then◌else◌, codes, decimal}
+use Rattle.std.specs.Prelude.{ℕ, List, [], ◌∷◌, ◌++◌, length, map, None, Result, Ok, Err, nat_lt, if◌then◌else◌, codes, decimal}
 use Rattle.filter_code.specs.RouteView.{RouteView}
 use Rattle.filter_code.specs.Machine.{outcome_of}
 use Rattle.filter_code.specs.Outcomes.{fault_code}
@@ -36,7 +36,7 @@ answer_of program number (Err found) = record { text = refusal (line_code found)
 
 -- the answer to the line of a route, under a filter's code
 abbrev pub route_answer : CodeView → Line → Answer
-route_answer program given = answer_of program given.0 (route_in given.1)
+route_answer program given = answer_of program given.0 (route_in None given.1)
 
 -- the code that a line gives: a code file in hexadecimal, without the blanks at either end
 abbrev pub code_in : List ℕ → Result CodeView Refusal

@@ -1,6 +1,7 @@
 -- What a route line says (this project's own choice).
 use Rattle.std.specs.Prelude.{◌≡◌, ◌≢◌, ◌<◌, ◌≤◌, ℕ, Bool, List, [], ◌∷◌, length, Option, Some, None, Result, Ok, Err, nat_lt, if◌then◌else◌, codes}
-use Rattle.prefix_patterns.specs.Number.{IsNumber, decimal_value}
+use Rattle.prefix_patterns.specs.Leading.{BeginsWith}
+use Rattle.prefix_patterns.specs.Number.{IsDigits, IsNumber, decimal_value}
 use Rattle.prefix_patterns.specs.Reading.{number_in, prefix_in}
 use Rattle.prefix_patterns.specs.Token.{IsPrefix}
 use Rattle.filter_code.specs.RouteView.{IsWithinLimits, RouteView, is_within_limits}
@@ -25,22 +26,26 @@ route_of_parts (Some net) (Some metric) None = Err Numbers
 route_of_parts (Some net) (Some metric) (Some size) =
     if is_within_limits metric size then Ok (record { net = net; metric = metric; size = size }) else Err Numbers
 
--- the three words of a list of just three
-abbrev pub three_of : {X : Type 0} → List X → Option (X × X × X)
-three_of [] = None
-three_of (a ∷ []) = None
-three_of (a ∷ (b ∷ [])) = None
-three_of (a ∷ (b ∷ (c ∷ []))) = Some (a, b, c)
-three_of (a ∷ (b ∷ (c ∷ (d ∷ more)))) = None
+-- the texts of a prefix and of a metric among the words of a line, and its size: the given one, or the number of a third word
+abbrev pub parts_in : List (List ℕ) → Option ℕ → Option (List ℕ × List ℕ × Option ℕ)
+parts_in (net ∷ (metric ∷ [])) (Some given) = Some (net, metric, Some given)
+parts_in (net ∷ (metric ∷ (size ∷ []))) None = Some (net, metric, number_in number_limit size)
+parts_in _ _ = None
 
--- the route of the words of a line
-abbrev pub route_of_words : Option (List ℕ × List ℕ × List ℕ) → Result RouteView LineFault
+-- the route of such parts
+abbrev pub route_of_words : Option (List ℕ × List ℕ × Option ℕ) → Result RouteView LineFault
 route_of_words None = Err Words
-route_of_words (Some (net, metric, size)) = route_of_parts (prefix_in net) (number_in number_limit metric) (number_in number_limit size)
+route_of_words (Some (net, metric, size)) = route_of_parts (prefix_in net) (number_in number_limit metric) size
 
--- the route that a line gives, `PREFIX METRIC SIZE`
-abbrev pub route_in : List ℕ → Result RouteView LineFault
-route_in line = if nat_lt line_limit (length line) then Err TooLong else route_of_words (three_of (words line))
+-- the route that a line gives: `PREFIX METRIC SIZE`, or `PREFIX METRIC` in a domain of the given size
+abbrev pub route_in : Option ℕ → List ℕ → Result RouteView LineFault
+route_in given line = if nat_lt line_limit (length line) then Err TooLong else route_of_words (parts_in (words line) given)
+
+-- A text begins with the size that stands behind a metric, in at most three digits behind a space, or with nothing where it is given.
+abbrev pub BeginsWithSize : Option ℕ → List ℕ → ℕ → List ℕ → Type 0
+BeginsWithSize (Some given) text size rest = (size ≡ given) × (rest ≡ text)
+BeginsWithSize None text size rest = (digits : List ℕ) × (text ≡ 32 ∷ digits)
+    × BeginsWith (λ token. IsDigits token × (size ≡ decimal_value token)) digits rest × (size ≤ 999)
 
 -- The three words of a line within the limit.
 pub record HasThreeWords (line first second third : List ℕ) : Type 0 where
@@ -53,7 +58,7 @@ pub record AreNumbers (metric size : List ℕ) : Type 0 where
   pub is_size : IsNumber number_limit size
   pub limits : IsWithinLimits (decimal_value metric) (decimal_value size)
 
--- A line gives this route: its three words are the route's prefix, its metric and its size.
+-- A line gives this route where no size is given: its three words are the route's prefix, its metric and its size.
 pub record IsRouteLine (line : List ℕ) (route : RouteView) : Type 0 where
   pub first : List ℕ
   pub second : List ℕ
@@ -64,7 +69,7 @@ pub record IsRouteLine (line : List ℕ) (route : RouteView) : Type 0 where
   pub metric : route.metric ≡ decimal_value second
   pub size : route.size ≡ decimal_value third
 
--- Why a line gives no route: the first of these that holds.
+-- Why it gives no route: the first of these that holds.
 abbrev pub IsLineFault : List ℕ → LineFault → Type 0
 IsLineFault line TooLong = line_limit < length line
 IsLineFault line Words = (length line ≤ line_limit) × (length (words line) ≢ 3)

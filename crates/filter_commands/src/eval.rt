@@ -103,9 +103,9 @@ fn answer_route<S: WatchRoutes>(
     ensures kept { code.new ≡ code.old }
     ensures err { OnErr result (StartsWith out.new.items out.old.items) }
 {
-    match read_route::<S>(line) {
+    match read_route(line, None) {
         Ok(route) => {
-            code.answer::<S>(alloc, &route, out)?;
+            code.answer(alloc, &route, out)?;
             Ok(Reply::Answered)
         }
         Err(fault) => {

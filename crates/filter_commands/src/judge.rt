@@ -80,10 +80,9 @@ impl Judge {
 
     /// Puts the line of what the code says of a route at the end of `out`; nothing if the code has not come.
     ///
-    /// What verified code says is put there apart, so that nothing is between the other machine and its line. There is one for
-    /// each `S` that watches.
+    /// What verified code says is put there apart, so that nothing is between the other machine and its line.
     #[inline(always)]
-    pub(crate) fn answer<S>(
+    pub(crate) fn answer(
         &mut self,
         alloc: Global,
         route: &Route,
@@ -98,7 +97,7 @@ impl Judge {
             return push_verified(out, verified, route.net(), route.metric());
         }
         match self.code() {
-            Some(code) => push_verdict::<S>(out, run_checked(code, route)),
+            Some(code) => push_verdict(out, run_checked(code, route)),
             None => Ok(()),
         }
     }

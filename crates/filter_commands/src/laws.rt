@@ -11,7 +11,7 @@ ghost use Rattle.hex.specs.Hex.{encode_lower};
 ghost use Rattle.line_protocol.specs.Lines.{answerable_from};
 ghost use Rattle.line_protocol.specs.declared.answers.Reply.TheVariants as reply;
 ghost use Rattle.std.specs.Str.Lines.{lines};
-ghost use Rattle.std.specs.Prelude.{◌≡◌, ◌↔◌, ◌++◌, ℕ, true, List, Ok, Err, map};
+ghost use Rattle.std.specs.Prelude.{◌≡◌, ◌↔◌, ◌++◌, ℕ, true, List, None, Ok, Err, map};
 ghost use Rattle.filter_commands.specs.Check.{FitsLine, IsCodeReport, IsReport, ReportView, printed};
 ghost use Rattle.filter_commands.specs.Eval.{code_in, eval_answers, route_answer, verdict};
 ghost use Rattle.filter_commands.specs.RouteLine.{IsLineFault, IsRouteLine, route_in};
@@ -50,6 +50,6 @@ pub fn verified_code_says_the_same()
 /// of at most 65,535, the second a size from 2 to 250 and the first a metric of at most that size. Otherwise the first fault in
 /// the order O7, O1, O8, O2 refuses it.
 pub fn route_lines()
-    ensures found { (line : List ℕ) (route : RouteView) → (route_in line ≡ Ok route) ↔ IsRouteLine line route }
-    ensures refused { (line : List ℕ) (why : TheFault) → (route_in line ≡ Err why) ↔ IsLineFault line why }
+    ensures found { (line : List ℕ) (route : RouteView) → (route_in None line ≡ Ok route) ↔ IsRouteLine line route }
+    ensures refused { (line : List ℕ) (why : TheFault) → (route_in None line ≡ Err why) ↔ IsLineFault line why }
 {}

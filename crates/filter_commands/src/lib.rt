@@ -22,6 +22,7 @@ pub use laws::{
 };
 pub use line_fault::LineFault;
 pub use rewrite::rewrite_text;
+pub use route_line::read_route;
 pub use verdict_line::push_accept;
 pub use watch::{Nobody, RefusedRoute, WatchRoutes, WhyRefused};
 

@@ -1,11 +1,11 @@
-//! A route line: `PREFIX METRIC SIZE`.
-ghost use Rattle.std.specs.Prelude.{◌≡◌, ◌≤◌, length, IfSome};
+//! A route line: `PREFIX METRIC SIZE`, or `PREFIX METRIC` where the size of the domain is given.
+ghost use Rattle.std.specs.Prelude.{◌≡◌, ◌≤◌, length, IfSome, Ok};
 ghost use Rattle.std.specs.Option.{option_map};
 ghost use Rattle.line_protocol.specs.Limits.{line_limit};
 ghost use Rattle.line_protocol.specs.Words.{words};
 ghost use Rattle.prefix_patterns.specs.Reading.{number_in, prefix_in};
 ghost use Rattle.filter_commands.specs.Limits.{number_limit};
-ghost use Rattle.filter_commands.specs.RouteLine.{IsRouteLine, route_in, route_of_parts, three_of};
+ghost use Rattle.filter_commands.specs.RouteLine.{BeginsWithSize, parts_in, route_in, route_of_parts};
 
 use crate::NUMBER_LIMIT;
 use crate::line_fault::LineFault;
@@ -13,22 +13,30 @@ use filter_code::Route;
 use line_protocol::{LINE_LIMIT, next_word};
 use prefix_patterns::{after_byte, leading_number, leading_prefix, read_number, read_prefix};
 
-/// The three words of a line of just three.
-fn three_words(line: &[u8]) -> Option<(&[u8], &[u8], &[u8])>
-    ensures { three_of (words line.now) ≡ option_map (λ all. (all.0.now, all.1.now, all.2.now)) result }
+/// The texts of the prefix and of the metric of a line, and its size: the given one, or the number of its third word.
+fn parts_of(line: &[u8], given: Option<u32>) -> Option<(&[u8], &[u8], Option<u32>)>
+    ensures { parts_in (words line.now) given ≡ option_map (λ all. (all.0.now, all.1.now, all.2)) result }
 {
-    let (first, rest) = next_word(line)?;
-    let (second, rest) = next_word(rest)?;
-    let (third, rest) = next_word(rest)?;
-    match next_word(rest) {
-        None => Some((first, second, third)),
-        Some(_) => None,
+    let (prefix, rest) = next_word(line)?;
+    let (metric, rest) = next_word(rest)?;
+    match given {
+        Some(_) => match next_word(rest) {
+            None => Some((prefix, metric, given)),
+            Some(_) => None,
+        },
+        None => {
+            let (size, rest) = next_word(rest)?;
+            match next_word(rest) {
+                None => Some((prefix, metric, read_number(size, NUMBER_LIMIT))),
+                Some(_) => None,
+            }
+        }
     }
 }
 
-/// The route of the texts of a prefix, a metric and a size.
-fn read_parts(prefix: &[u8], metric: &[u8], size: &[u8]) -> Result<Route, LineFault>
-    ensures { result ≡ route_of_parts (prefix_in prefix.now) (number_in number_limit metric.now) (number_in number_limit size.now) }
+/// The route of the texts of a prefix and of a metric, in a domain of a size, if that was read.
+fn read_parts(prefix: &[u8], metric: &[u8], size: Option<u32>) -> Result<Route, LineFault>
+    ensures { result ≡ route_of_parts (prefix_in prefix.now) (number_in number_limit metric.now) size }
 {
     let Some(prefix) = read_prefix(prefix) else {
         return Err(LineFault::Prefix);
@@ -36,23 +44,37 @@ fn read_parts(prefix: &[u8], metric: &[u8], size: &[u8]) -> Result<Route, LineFa
     let Some(metric) = read_number(metric, NUMBER_LIMIT) else {
         return Err(LineFault::Numbers);
     };
-    let Some(size) = read_number(size, NUMBER_LIMIT) else {
+    let Some(size) = size else {
         return Err(LineFault::Numbers);
     };
     Route::new(prefix, metric, size).ok_or(LineFault::Numbers)
 }
 
+/// The size that is given, or the one behind a metric and a space, in the usual spelling; and what follows it.
+#[inline(always)]
+fn leading_size(text: &[u8], given: Option<u32>) -> Option<(u32, &[u8])>
+    ensures { IfSome result (λ cut. BeginsWithSize given text.now cut.0 cut.1.now) }
+{
+    match given {
+        Some(size) => Some((size, text)),
+        None => {
+            let (size, rest) = leading_number(after_byte(text, b' ')?)?;
+            Some((size, rest))
+        }
+    }
+}
+
 /// The route of a line whose words are parted by one space each, in the usual spelling.
 #[inline(always)]
-fn read_plain(line: &[u8]) -> Option<Route>
+fn read_plain(line: &[u8], given: Option<u32>) -> Option<Route>
     requires { length line.now ≤ line_limit }
-    ensures { IfSome result (λ route. IsRouteLine line.now route) }
+    ensures { IfSome result (λ route. route_in given line.now ≡ Ok route) }
 {
     let Some((prefix, rest)) = leading_prefix(line) else {
         return None;
     };
     let (metric, rest) = leading_number(after_byte(rest, b' ')?)?;
-    let (size, rest) = leading_number(after_byte(rest, b' ')?)?;
+    let (size, rest) = leading_size(rest, given)?;
     if !rest.is_empty() {
         return None;
     }
@@ -63,25 +85,26 @@ fn read_plain(line: &[u8]) -> Option<Route>
 /// Reads a route line word by word.
 #[cold]
 #[inline(never)]
-fn read_words(line: &[u8]) -> Result<Route, LineFault>
+fn read_words(line: &[u8], given: Option<u32>) -> Result<Route, LineFault>
     requires { length line.now ≤ line_limit }
-    ensures { result ≡ route_in line.now }
+    ensures { result ≡ route_in given line.now }
 {
-    match three_words(line) {
+    match parts_of(line, given) {
         None => Err(LineFault::Words),
         Some((prefix, metric, size)) => read_parts(prefix, metric, size),
     }
 }
 
-/// Reads a route line, which is at most as long as a line may be. There is one for each `S` that watches, put into its only caller.
-pub fn read_route<S>(line: &[u8]) -> Result<Route, LineFault>
-    ensures { result ≡ route_in line.now }
+/// Reads a route line, which is at most as long as a line may be: `PREFIX METRIC SIZE`, or `PREFIX METRIC` in a domain of the given size.
+#[inline(always)]
+pub fn read_route(line: &[u8], given: Option<u32>) -> Result<Route, LineFault>
+    ensures { result ≡ route_in given line.now }
 {
     if line.len() > LINE_LIMIT {
         return Err(LineFault::TooLong);
     }
-    match read_plain(line) {
+    match read_plain(line, given) {
         Some(route) => Ok(route),
-        None => read_words(line),
+        None => read_words(line, given),
     }
 }

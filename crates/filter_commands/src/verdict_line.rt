@@ -7,8 +7,8 @@ use filter_code::{FaultKind, Outcome};
 use line_protocol::push_decimal;
 use std::alloc::AllocError;
 
-/// Puts the line of a verdict at the end of `out`. There is one for each `S` that watches, put into its only caller.
-pub(crate) fn push_verdict<S>(out: &mut Vec<u8>, outcome: Outcome) -> Result<(), AllocError>
+/// Puts the line of a verdict at the end of `out`.
+pub(crate) fn push_verdict(out: &mut Vec<u8>, outcome: Outcome) -> Result<(), AllocError>
     ensures ok { OnOk result (out.new.items ≡ out.old.items ++ verdict outcome) }
     ensures err { OnErr result (StartsWith out.new.items out.old.items) }
 {

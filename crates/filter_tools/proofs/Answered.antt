@@ -1,5 +1,5 @@
 -- How a run of `filter` ends, from how its lines were answered.
-use Rattle.std.proofs.Common.{◌≡◌, ℕ, List, [], ◌∷◌, ◌++◌, map, Option, Result, Ok, Err, Bool, false, MatchBool, refl, sym, ap, subst, ◌∙◌}
+use Rattle.std.proofs.Common.{◌≡◌, ℕ, List, [], ◌∷◌, ◌++◌, map, Option, Some, Result, Ok, Err, Bool, false, MatchBool, refl, sym, ap, subst, ◌∙◌}
 use Rattle.std.specs.Prelude.{⊤}
 use Rattle.std.specs.Io.KnownBytes.{Appends}
 use Rattle.filter_code.specs.RouteView.{RouteView}
@@ -12,7 +12,7 @@ use Rattle.line_protocol.specs.declared.faults.StreamFault.TheVariants.{Read, Wr
 use Rattle.filter_commands.specs.Eval.{Line, answer_of}
 use Rattle.filter_commands.specs.declared.line_fault.LineFault.{LineFault}
 use Rattle.filter_tools.specs.Filtering.{AnswersEach, AnswersFirst, ReachesTo, code_answer, routes_limit}
-use Rattle.filter_tools.specs.RouteOfSize.{route_of_size}
+use Rattle.filter_commands.specs.RouteLine.{route_in}
 
 -- how the service answers a line
 abbrev pub answers : VerifiedView → ℕ → List ℕ → Answer → VerifiedView → Type 0
@@ -28,7 +28,7 @@ goes_on v n (Ok route) = refl
 goes_on v n (Err found) = refl
 
 line_goes_on : (v : VerifiedView) (line : Line) → is_end (answer_by v line).reply ≡ false
-line_goes_on v line = goes_on v line.0 (route_of_size v.size line.1)
+line_goes_on v line = goes_on v line.0 (route_in (Some v.size) line.1)
 
 none_is_over : (v : VerifiedView) (lines : List Line) → is_over (map (answer_by v) lines) ≡ false
 none_is_over v [] = refl

@@ -1,5 +1,5 @@
 -- What verified code answers to a route line is what its filter means.
-use Rattle.std.proofs.Common.{◌≡◌, ◌≤◌, ℕ, Bool, true, false, List, Option, Some, None, Result, Ok, Err, length, if◌then◌else◌, nat_lt, refl, sym, ap, subst, arith}
+use Rattle.std.proofs.Common.{◌≡◌, ◌≤◌, ℕ, Bool, true, false, List, [], ◌∷◌, Option, Some, None, Result, Ok, Err, length, if◌then◌else◌, nat_lt, refl, sym, ap, subst, arith}
 use Rattle.std.proofs.lemmas.Bool.Decides.{nat_tests}
 use Rattle.filter_code.specs.CodeView.{CodeView}
 use Rattle.filter_code.specs.Machine.{outcome_of}
@@ -20,12 +20,11 @@ use Rattle.filter_commands.proofs.Evaluated.{short_prefix}
 use Rattle.filter_commands.proofs.Saying.{says_the_same}
 use Rattle.filter_commands.specs.Eval.{Line, answer_of, verdict}
 use Rattle.filter_commands.specs.Limits.{number_limit}
-use Rattle.filter_commands.specs.RouteLine.{route_of_parts}
+use Rattle.filter_commands.specs.RouteLine.{parts_in, route_in, route_of_parts, route_of_words}
 use Rattle.filter_commands.specs.Saying.{Says, SaysTheSame}
 use Rattle.filter_commands.specs.declared.line_fault.LineFault.{LineFault}
 use Rattle.filter_commands.specs.declared.line_fault.LineFault.TheVariants.{Numbers, TooLong}
 use Rattle.filter_tools.specs.Filtering.{answer_meant, code_answer, filter_answer, verdict_line}
-use Rattle.filter_tools.specs.RouteOfSize.{route_of_size, route_of_words, two_of}
 
 -- a result that is a route, and one of which this route is known
 or_this : RouteView → Result RouteView LineFault → RouteView
@@ -54,17 +53,20 @@ of_parts size text route (Some net) e None r = let no : ⊥ = cc in absurd no
 of_parts size text route (Some net) e (Some metric) r =
     of_limits size net metric route (short_prefix text net (prefix_in-found text net e)) (is_within_limits metric size) refl r
 
-of_words : (size : ℕ) (route : RouteView) (two : Option (List ℕ × List ℕ)) → route_of_words size two ≡ Ok route → IsRouteOf size route
-of_words size route None r = let no : ⊥ = cc in absurd no
-of_words size route (Some (net, metric)) r = of_parts size net route (prefix_in net) refl (number_in number_limit metric) r
+of_words : (size : ℕ) (route : RouteView) (all : List (List ℕ)) → route_of_words (parts_in all (Some size)) ≡ Ok route → IsRouteOf size route
+of_words size route [] r = let no : ⊥ = cc in absurd no
+of_words size route (net ∷ []) r = let no : ⊥ = cc in absurd no
+of_words size route (net ∷ (metric ∷ [])) r = of_parts size net route (prefix_in net) refl (number_in number_limit metric) r
+of_words size route (net ∷ (metric ∷ (third ∷ []))) r = let no : ⊥ = cc in absurd no
+of_words size route (net ∷ (metric ∷ (third ∷ (fourth ∷ more)))) r = let no : ⊥ = cc in absurd no
 
 -- the route of a line is in a domain of the size
 of_line : (size : ℕ) (line : List ℕ) (route : RouteView) (b : Bool)
-    → (if b then Err TooLong else route_of_words size (two_of (words line))) ≡ Ok route → IsRouteOf size route
+    → (if b then Err TooLong else route_of_words (parts_in (words line) (Some size))) ≡ Ok route → IsRouteOf size route
 of_line size line route true r = let no : ⊥ = cc in absurd no
-of_line size line route false r = of_words size route (two_of (words line)) r
+of_line size line route false r = of_words size route (words line) r
 
-pub read_of_size : (size : ℕ) (line : List ℕ) (route : RouteView) → route_of_size size line ≡ Ok route → IsRouteOf size route
+pub read_of_size : (size : ℕ) (line : List ℕ) (route : RouteView) → route_in (Some size) line ≡ Ok route → IsRouteOf size route
 read_of_size size line route r = of_line size line route (nat_lt line_limit (length line)) r
 
 -- the line of an outcome that says what a verdict says
@@ -74,7 +76,7 @@ said_line v outcome.Reject h = sym (ap verdict_line h)
 said_line v (outcome.Fault why at) h = absurd h
 
 by_route : (filter : FilterView) (program : CodeView) (size : ℕ) (line : Line) → SaysTheSame filter program size
-    → (r : Result RouteView LineFault) → route_of_size size line.1 ≡ r → answer_of program line.0 r ≡ answer_meant filter line.0 r
+    → (r : Result RouteView LineFault) → route_in (Some size) line.1 ≡ r → answer_of program line.0 r ≡ answer_meant filter line.0 r
 by_route filter program size line same (Err found) e = refl
 by_route filter program size line same (Ok route) e =
     ap (λ (t : List ℕ). let a : Answer = record { text = t; reply = reply.Answered } in a)
@@ -84,4 +86,4 @@ by_route filter program size line same (Ok route) e =
 pub as_meant : (filter : FilterView) (program : CodeView) (size : ℕ) → MeansTheSame filter program → IsSafe program size
     → (line : Line) → code_answer program size line ≡ filter_answer filter size line
 as_meant filter program size means safe line =
-    by_route filter program size line (says_the_same filter program size means safe) (route_of_size size line.1) refl
+    by_route filter program size line (says_the_same filter program size means safe) (route_in (Some size) line.1) refl

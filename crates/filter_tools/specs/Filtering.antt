@@ -18,9 +18,8 @@ use Rattle.line_protocol.specs.declared.faults.StreamFault.{StreamFault}
 use Rattle.line_protocol.specs.declared.faults.StreamFault.TheVariants.{Read, Write, Memory, TooLong}
 use Rattle.filter_commands.specs.Checking.{IsDiagnosis}
 use Rattle.filter_commands.specs.Eval.{Line, answer_of}
-use Rattle.filter_commands.specs.RouteLine.{line_code}
+use Rattle.filter_commands.specs.RouteLine.{line_code, route_in}
 use Rattle.filter_commands.specs.declared.line_fault.LineFault.{LineFault}
-use Rattle.filter_tools.specs.RouteOfSize.{route_of_size}
 use Rattle.filter_tools.specs.declared.filter.Filtered.{Filtered}
 use Rattle.filter_tools.specs.declared.filter.Filtered.TheVariants.{Refused, Answered}
 
@@ -37,11 +36,11 @@ answer_meant filter number (Err found) = record { text = refusal (line_code foun
 
 -- the answer to a line, in domains of a size
 abbrev pub filter_answer : FilterView → ℕ → Line → Answer
-filter_answer filter size line = answer_meant filter line.0 (route_of_size size line.1)
+filter_answer filter size line = answer_meant filter line.0 (route_in (Some size) line.1)
 
 -- the same by the code of a filter
 abbrev pub code_answer : CodeView → ℕ → Line → Answer
-code_answer program size line = answer_of program line.0 (route_of_size size line.1)
+code_answer program size line = answer_of program line.0 (route_in (Some size) line.1)
 
 -- Each line of an input was answered so. `left` is what the reader has now; `held` and `holds` are what the writer held before
 -- and holds now; `refused` is the number of refused lines.

@@ -5,7 +5,6 @@ pub mod HeadWords
 pub mod Ranges
 pub mod Explanations
 pub mod Telling
-pub mod RouteOfSize
 pub mod Filtering
 pub mod Listing
 pub mod Naming

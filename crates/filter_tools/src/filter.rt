@@ -11,11 +11,10 @@ ghost use Rattle.filter_parser.specs.SyntaxText.{FilterView};
 ghost use Rattle.filter_source.specs.Failures.{OnDiagnosis};
 ghost use Rattle.filter_source.specs.Sources.{Translates};
 ghost use Rattle.filter_verifier.specs.Safe.{IsSafe};
-ghost use Rattle.filter_tools.specs.Filtering.{AnswersEach, AnswersFirst, Filters, FiltersOff, code_answer, refusal_line};
+ghost use Rattle.filter_tools.specs.Filtering.{AnswersEach, AnswersFirst, code_answer, refusal_line};
 
-use crate::route_of_size::read_route;
 use filter_commands::{
-    Nobody, ProgramFault, RefusedRoute, WatchRoutes, WhyRefused, code_of, push_accept,
+    ProgramFault, RefusedRoute, WatchRoutes, WhyRefused, code_of, push_accept, read_route,
 };
 use filter_compiler::MappedCode;
 use filter_machine::{Verdict, run};
@@ -96,7 +95,7 @@ fn answer_route<S: WatchRoutes>(
         × (reply ≡ (code_answer verified.now.program verified.now.size (number, line.now)).reply)) }
     ensures err { OnErr result (StartsWith out.new.items out.old.items) }
 {
-    match read_route(line, verified.size()) {
+    match read_route(line, Some(verified.size())) {
         Ok(route) => {
             let ran = run(verified, &route.net(), route.metric());
             push_verdict(out, ran.verdict)?;
@@ -167,32 +166,4 @@ pub fn write_refusal<W: Write>(
     let line = refusal_line(alloc, why)?;
     write_text(writer, line.as_slice())?;
     Ok(())
-}
-
-/// Verifies the filter that a text spells, for domains of `size` nodes, and answers each line of `reader`, a route `PREFIX METRIC`,
-/// on `writer`: `accept METRIC`, `reject`, or why the line gives no route. What was answered is written before more is read. A
-/// filter that is refused is answered by that refusal alone.
-pub fn filter_lines<R: Read, W: Write>(
-    alloc: Global,
-    text: &[u8],
-    size: u32,
-    reader: &mut R,
-    writer: &mut W,
-) -> Result<Filtered, ProgramFault>
-    ensures finished { IfOk result (λ filtered. IfSome (R.remaining reader.old) (λ input.
-        Filters size text.now input (R.remaining reader.new) (W.contents writer.old) (W.contents writer.new) filtered)) }
-    ensures broken_off { IfErr result (λ fault. IfSome (R.remaining reader.old) (λ input.
-        FiltersOff (stream_fault fault) size text.now input (R.remaining reader.new) (W.contents writer.old) (W.contents writer.new))) }
-{
-    match verified_filter(alloc, text, size) {
-        Ok(verified) => {
-            let refused = answer_routes(alloc, verified, reader, writer, Nobody)?;
-            Ok(Filtered::Answered(refused))
-        }
-        Err(Failure::Refused(told)) => {
-            write_refusal(alloc, writer, told.refusal)?;
-            Ok(Filtered::Refused(told))
-        }
-        Err(Failure::Memory) => Err(ProgramFault::MEMORY),
-    }
 }

@@ -27,21 +27,30 @@ pub struct Routes<'a> {
     pub is_told: bool,
 }
 
-/// Tells people on `errors` why a line is refused. Where these take no text, or memory is refused, people are not told: the answer on
-/// standard output stays.
+/// Who is told why a line is refused.
 #[derive(Drop)]
-struct Teller<'a, E: Write> {
-    /// The name by which people know the lines.
-    name: &'a [u8],
-    /// What people read.
-    errors: &'a mut E,
+enum Teller<'a, E: Write> {
+    /// Nobody.
+    Quiet,
+    /// People, who know the lines by this name, on this stream.
+    People(&'a [u8], &'a mut E),
 }
 
 impl<'a, E: Write> WatchRoutes for Teller<'a, E> {
     fn see_refused(&mut self, alloc: Global, refused: &RefusedRoute<'_>) {
-        if let Ok(words) = explain_route(alloc, self.name, refused) {
-            let _ = write_text(self.errors, words.as_slice());
+        if let Teller::People(name, errors) = self {
+            tell_refused(alloc, name, refused, errors);
         }
+    }
+}
+
+/// Tells people why a line is refused. Where `errors` takes no text, or memory is refused, they are not told: the answer on standard
+/// output stays.
+#[cold]
+#[inline(never)]
+fn tell_refused<E: Write>(alloc: Global, name: &[u8], refused: &RefusedRoute<'_>, errors: &mut E) {
+    if let Ok(words) = explain_route(alloc, name, refused) {
+        let _ = write_text(errors, words.as_slice());
     }
 }
 
@@ -63,8 +72,8 @@ fn answer_told<R: Read, W: Write, E: Write>(
     ensures quiet { IsQuiet routes.entry.is_told (E.contents errors.old) (E.contents errors.new) }
 {
     if routes.is_told {
-        let name = routes.name;
-        answer_routes(alloc, verified, reader, writer, Teller { name, errors })
+        let people = Teller::People(routes.name, errors);
+        answer_routes(alloc, verified, reader, writer, people)
     } else {
         answer_routes(alloc, verified, reader, writer, Nobody)
     }
@@ -111,8 +120,12 @@ fn refuse_told<W: Write, E: Write>(
     }
 }
 
-/// Does what `filter_lines` does. Where `is_explained` says so, the refusal of the filter, which people know by `name`, is told in words on
-/// `errors`; and the refusal of a line where `routes` says so.
+/// Verifies the filter that a text spells, for domains of `size` nodes, and answers each line of `reader`, a route `PREFIX METRIC`,
+/// on `writer`: `accept METRIC`, `reject`, or why the line gives no route. What was answered is written before more is read. A
+/// filter that is refused is answered by that refusal alone.
+///
+/// Where `is_explained` says so, the refusal of the filter, which people know by `name`, is told in words on `errors`; and the refusal of
+/// a line where `routes` says so.
 pub fn filter_named<R: Read, W: Write, E: Write>(
     alloc: Global,
     text: &[u8],
@@ -146,10 +159,10 @@ pub fn filter_named<R: Read, W: Write, E: Write>(
     }
 }
 
-/// Does what `eval_lines` does, and tells in words on `errors` why each line is refused that is. People know the lines by a name.
+/// Does what `eval_lines` does. Why a line is refused is told in words on `errors` where `routes` says so.
 pub fn eval_named<R: Read, W: Write, E: Write>(
     alloc: Global,
-    name: &[u8],
+    routes: Routes<'_>,
     reader: &mut R,
     writer: &mut W,
     errors: &mut E,
@@ -158,6 +171,13 @@ pub fn eval_named<R: Read, W: Write, E: Write>(
         Evaluates input (R.remaining reader.new) (W.contents writer.old) (W.contents writer.new) refused)) }
     ensures broken_off { IfErr result (λ fault. IfSome (R.remaining reader.old) (λ input.
         Breaks (stream_fault fault) input (R.remaining reader.new) (W.contents writer.old) (W.contents writer.new))) }
+    ensures quiet { IsQuiet routes.entry.is_told (E.contents errors.old) (E.contents errors.new) }
 {
-    eval_watched_lines(alloc, reader, writer, Teller { name, errors })
+    if routes.is_told {
+        let people = Teller::People(routes.name, errors);
+        eval_watched_lines(alloc, reader, writer, people)
+    } else {
+        // Not `Nobody`: of a second type the program has a second copy of the engine, and the compiler puts less in line in both.
+        eval_watched_lines(alloc, reader, writer, Teller::<E>::Quiet)
+    }
 }

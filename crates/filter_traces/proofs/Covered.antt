@@ -11,7 +11,7 @@ use Rattle.line_protocol.specs.declared.faults.StreamFault.{StreamFault}
 use Rattle.filter_commands.specs.Eval.{Line}
 use Rattle.filter_commands.specs.declared.line_fault.LineFault.{LineFault}
 use Rattle.filter_tools.specs.Filtering.{AnswersEach, AnswersFirst, routes_limit}
-use Rattle.filter_tools.specs.RouteOfSize.{route_of_size}
+use Rattle.filter_commands.specs.RouteLine.{route_in}
 use Rattle.filter_traces.proofs.Answered as answered
 use Rattle.filter_traces.proofs.Counts.{capped_more, count_more}
 use Rattle.filter_traces.specs.Coverage.{HasCounted, IsCounted, cover_answer, cover_read, hits, line_comes_to}
@@ -28,7 +28,7 @@ goes_on n (Ok route) = refl
 goes_on n (Err found) = refl
 
 line_goes_on : (size : ℕ) (line : Line) → is_end (cover_answer size line).reply ≡ false
-line_goes_on size line = goes_on line.0 (route_of_size size line.1)
+line_goes_on size line = goes_on line.0 (route_in (Some size) line.1)
 
 -- what is counted at a place of one line more
 counted_more : (t u : TracedView) (before : List Line) (line : Line) (k then now : ℕ) → u ≡ t

@@ -1,5 +1,5 @@
 -- How the service that says why answers the lines of a run.
-use Rattle.std.proofs.Common.{◌≡◌, ℕ, List, [], ◌∷◌, ◌++◌, Option, Result, Ok, Err, false, refl, ap, ◌∙◌}
+use Rattle.std.proofs.Common.{◌≡◌, ℕ, List, [], ◌∷◌, ◌++◌, Option, Some, Result, Ok, Err, false, refl, ap, ◌∙◌}
 use Rattle.std.specs.Prelude.{⊤}
 use Rattle.filter_code.specs.RouteView.{RouteView}
 use Rattle.line_protocol.specs.Answers.{Answer, is_end}
@@ -8,7 +8,7 @@ use Rattle.line_protocol.specs.declared.faults.StreamFault.{StreamFault}
 use Rattle.filter_commands.specs.Eval.{Line}
 use Rattle.filter_commands.specs.declared.line_fault.LineFault.{LineFault}
 use Rattle.filter_tools.specs.Filtering.{AnswersEach, AnswersFirst, routes_limit}
-use Rattle.filter_tools.specs.RouteOfSize.{route_of_size}
+use Rattle.filter_commands.specs.RouteLine.{route_in}
 use Rattle.filter_traces.proofs.Answered as answered
 use Rattle.filter_traces.specs.TracedView.{TracedView}
 use Rattle.filter_traces.specs.Whys.{code_why, why_run}
@@ -27,7 +27,7 @@ goes_on t n (Ok route) = refl
 goes_on t n (Err found) = refl
 
 line_goes_on : (t : TracedView) (line : Line) → is_end (code_why t line).reply ≡ false
-line_goes_on t line = goes_on t line.0 (route_of_size t.size line.1)
+line_goes_on t line = goes_on t line.0 (route_in (Some t.size) line.1)
 
 keeps : (t : TracedView) (before : List Line) (s mid : Explainer) (line : Line) (answer : Answer) → Keeps t before s
     → answers s line.0 line.1 answer mid → (answer ≡ code_why t line) × Keeps t (before ++ line ∷ []) mid

@@ -1,5 +1,5 @@
 -- What is told of a run by verified code is what its filter means.
-use Rattle.std.proofs.Common.{◌≡◌, ℕ, List, Result, Ok, Err, refl, sym, ap}
+use Rattle.std.proofs.Common.{◌≡◌, ℕ, List, Some, Result, Ok, Err, refl, sym, ap}
 use Rattle.filter_code.specs.Machine.{outcome_of}
 use Rattle.filter_code.specs.RouteView.{RouteView}
 use Rattle.filter_code.specs.declared.outcome.Outcome.{Outcome}
@@ -15,7 +15,7 @@ use Rattle.filter_commands.specs.Eval.{Line}
 use Rattle.filter_commands.specs.Saying.{Says, SaysTheSame}
 use Rattle.filter_commands.specs.declared.line_fault.LineFault.{LineFault}
 use Rattle.filter_tools.proofs.Meant.{read_of_size}
-use Rattle.filter_tools.specs.RouteOfSize.{route_of_size}
+use Rattle.filter_commands.specs.RouteLine.{route_in}
 use Rattle.filter_traces.specs.TracedView.{TracedView}
 use Rattle.filter_traces.specs.Whys.{code_why, outcome_words, verdict_words, why_answer, why_meant, why_run, why_text}
 
@@ -26,7 +26,7 @@ said_words v outcome.Reject h = sym (ap verdict_words h)
 said_words v (outcome.Fault why at) h = absurd h
 
 by_route : (filter : FilterView) (t : TracedView) (line : Line) → SaysTheSame filter t.program t.size
-    → (r : Result RouteView LineFault) → route_of_size t.size line.1 ≡ r → why_run t line.0 r ≡ why_meant filter t line.0 r
+    → (r : Result RouteView LineFault) → route_in (Some t.size) line.1 ≡ r → why_run t line.0 r ≡ why_meant filter t line.0 r
 by_route filter t line same (Err found) e = refl
 by_route filter t line same (Ok route) e =
     ap (λ (words : List ℕ). let a : Answer = record { text = why_text t route words; reply = reply.Answered } in a)
@@ -36,4 +36,4 @@ by_route filter t line same (Ok route) e =
 pub why_as_meant : (filter : FilterView) (t : TracedView) → MeansTheSame filter t.program → IsSafe t.program t.size
     → (line : Line) → code_why t line ≡ why_answer filter t line
 why_as_meant filter t means safe line =
-    by_route filter t line (says_the_same filter t.program t.size means safe) (route_of_size t.size line.1) refl
+    by_route filter t line (says_the_same filter t.program t.size means safe) (route_in (Some t.size) line.1) refl

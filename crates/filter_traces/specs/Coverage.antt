@@ -14,10 +14,9 @@ use Rattle.line_protocol.specs.declared.faults.StreamFault.TheVariants.{Write, M
 use Rattle.filter_commands.specs.Checking.{IsDiagnosis}
 use Rattle.filter_commands.specs.Eval.{Line}
 use Rattle.filter_commands.specs.Evaluation.{IsCut}
-use Rattle.filter_commands.specs.RouteLine.{line_code}
+use Rattle.filter_commands.specs.RouteLine.{line_code, route_in}
 use Rattle.filter_commands.specs.declared.line_fault.LineFault.{LineFault}
 use Rattle.filter_tools.specs.Filtering.{AnswersEach, AnswersFirst, refusal_line}
-use Rattle.filter_tools.specs.RouteOfSize.{route_of_size}
 use Rattle.filter_tools.specs.declared.filter.Filtered.{Filtered}
 use Rattle.filter_tools.specs.declared.filter.Filtered.TheVariants.{Refused, Answered}
 use Rattle.filter_traces.specs.Commands.{coverage_text}
@@ -32,7 +31,7 @@ read_comes_to program place (Ok route) = comes_to program route place
 read_comes_to program place (Err found) = false
 
 abbrev pub line_comes_to : TracedView → ℕ → Line → Bool
-line_comes_to t place line = read_comes_to t.program place (route_of_size t.size line.1)
+line_comes_to t place line = read_comes_to t.program place (route_in (Some t.size) line.1)
 
 -- how many of some lines are such routes
 abbrev pub hits : TracedView → List Line → ℕ → ℕ
@@ -50,7 +49,7 @@ fault_in (Err found) = Some found
 
 -- the answer to a line, in domains of a size
 abbrev pub cover_answer : ℕ → Line → Answer
-cover_answer size line = cover_read line.0 (route_of_size size line.1)
+cover_answer size line = cover_read line.0 (route_in (Some size) line.1)
 
 -- A line is counted at each place to which its route comes.
 pub record IsCounted (before after : Counter) (line : Line) : Type 0 where

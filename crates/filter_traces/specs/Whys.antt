@@ -20,11 +20,10 @@ use Rattle.line_protocol.specs.declared.faults.StreamFault.{StreamFault}
 use Rattle.line_protocol.specs.declared.faults.StreamFault.TheVariants.{Write, Memory}
 use Rattle.filter_commands.specs.Checking.{IsDiagnosis}
 use Rattle.filter_commands.specs.Eval.{Line}
-use Rattle.filter_commands.specs.RouteLine.{line_code}
+use Rattle.filter_commands.specs.RouteLine.{line_code, route_in}
 use Rattle.filter_commands.specs.declared.line_fault.LineFault.{LineFault}
 use Rattle.filter_tools.specs.Filtering.{AnswersEach, AnswersFirst, refusal_line}
 use Rattle.filter_tools.specs.Places.{column_at, line_at}
-use Rattle.filter_tools.specs.RouteOfSize.{route_of_size}
 use Rattle.filter_tools.specs.declared.filter.Filtered.{Filtered}
 use Rattle.filter_tools.specs.declared.filter.Filtered.TheVariants.{Refused, Answered}
 use Rattle.filter_traces.specs.Sites.{site_text}
@@ -79,7 +78,7 @@ why_meant filter t number (Err found) = record { text = refusal (line_code found
 
 -- the answer to a line
 abbrev pub why_answer : FilterView → TracedView → Line → Answer
-why_answer filter t line = why_meant filter t line.0 (route_of_size t.size line.1)
+why_answer filter t line = why_meant filter t line.0 (route_in (Some t.size) line.1)
 
 -- the same by the code of the filter
 abbrev pub why_run : TracedView → ℕ → Result RouteView LineFault → Answer
@@ -87,7 +86,7 @@ why_run t number (Ok route) = record { text = why_text t route (outcome_words (o
 why_run t number (Err found) = record { text = refusal (line_code found) number; reply = reply.Refused }
 
 abbrev pub code_why : TracedView → Line → Answer
-code_why t line = why_run t line.0 (route_of_size t.size line.1)
+code_why t line = why_run t line.0 (route_in (Some t.size) line.1)
 
 -- A run was answered to its end. A refused filter answers no route, and no line is read; otherwise it is told of each line what the
 -- text means for its route, and why.

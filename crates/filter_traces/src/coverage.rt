@@ -6,13 +6,13 @@ ghost use Rattle.filter_commands.specs.Faults.{stream_fault};
 ghost use Rattle.filter_tools.specs.Filtering.{AnswersEach, AnswersFirst, routes_limit};
 ghost use Rattle.filter_traces.specs.Commands.{lines_among};
 ghost use Rattle.filter_traces.specs.Coverage.{Covers, CoversCut, CoversEach, CoversOff, HasCounted, IsCounted, cover_answer, fault_in};
-ghost use Rattle.filter_tools.specs.RouteOfSize.{route_of_size};
+ghost use Rattle.filter_commands.specs.RouteLine.{route_in};
 ghost use Rattle.line_protocol.specs.Lines.{numbered};
 
 use crate::traced::{Traced, trace_filter};
-use filter_commands::{LineFault, ProgramFault};
+use filter_commands::{LineFault, ProgramFault, read_route};
 use filter_source::Failure;
-use filter_tools::{Filtered, ROUTES_LIMIT, read_route, write_refusal};
+use filter_tools::{Filtered, ROUTES_LIMIT, write_refusal};
 use line_protocol::{Reply, Service, answer_lines_within, push_refusal, write_text};
 use std::alloc::{AllocError, Global};
 use std::io::{Read, Write};
@@ -64,9 +64,9 @@ impl<'a> Counter<'a> {
     /// Counts the route of a line, or answers why there is none.
     fn count_line(&mut self, line: &[u8]) -> Option<LineFault>
         ensures counted { (number : ℕ) → IsCounted self.old self.new (number, line.now) }
-        ensures fault { result ≡ fault_in (route_of_size self.old.traced.size line.now) }
+        ensures fault { result ≡ fault_in (route_in (Some self.old.traced.size) line.now) }
     {
-        match read_route(line, self.traced.size()) {
+        match read_route(line, Some(self.traced.size())) {
             Ok(route) => {
                 self.traced.count_run(&route, self.counts.as_mut_slice());
                 None
@@ -131,7 +131,7 @@ fn cover_lines<'a, R: Read, W: Write>(
 
 /// Verifies the filter that a text spells, for domains of `size` nodes, and takes each line of `reader`, a route `PREFIX METRIC`, through
 /// it. When all are through, it writes a line for each command of the filter: how many routes came to it, its line and column in the text,
-/// and its word. Those that no route came to are last. A line that gives no route is refused as by `filter_lines`, and so is a filter.
+/// and its word. Those that no route came to are last. A line that gives no route is refused as by `filter_named`, and so is a filter.
 pub fn cover_routes<R: Read, W: Write>(
     alloc: Global,
     text: &[u8],

@@ -11,9 +11,9 @@ use crate::run::ToldRun;
 use crate::site::push_site;
 use crate::traced::{Traced, trace_filter};
 use filter_code::{Outcome, Route};
-use filter_commands::ProgramFault;
+use filter_commands::{ProgramFault, read_route};
 use filter_source::Failure;
-use filter_tools::{Filtered, ROUTES_LIMIT, read_route, write_refusal};
+use filter_tools::{Filtered, ROUTES_LIMIT, write_refusal};
 use line_protocol::{Reply, Service, answer_lines_within, push_decimal, push_refusal};
 use std::alloc::{AllocError, Global};
 use std::io::{Read, Write};
@@ -82,7 +82,7 @@ impl<'a> Traced<'a> {
             × (reply ≡ (code_why self.now (number, line.now)).reply)) }
         ensures err { OnErr result (StartsWith out.new.items out.old.items) }
     {
-        match read_route(line, self.size()) {
+        match read_route(line, Some(self.size())) {
             Ok(route) => {
                 let text = self.why(alloc, &route)?;
                 out.extend_from_slice(text.as_slice())?;
@@ -140,7 +140,7 @@ fn answer_whys<'a, R: Read, W: Write>(
     Ok(answer_lines_within(alloc, ROUTES_LIMIT, reader, writer, &mut service)?)
 }
 
-/// Does what `filter_lines` does, and says why each route gets its verdict: the answer to a route begins with its own line, with the
+/// Does what `filter_named` does, and says why each route gets its verdict: the answer to a route begins with its own line, with the
 /// verdict and where in the text it was decided, and below it is a line for each assignment that was carried out, each comparison and
 /// each condition, in the order in which they were.
 pub fn explain_routes<R: Read, W: Write>(

@@ -2,8 +2,9 @@
 
 use expectations::{expect, expect_bytes};
 use filter_commands::ProgramFault;
-use filter_tools::{Filtered, Routes, filter_lines, filter_named};
+use filter_tools::{Filtered, Routes, filter_named};
 use std::alloc::Global;
+use std::io::{self, Read, Write};
 use std::test::Fail;
 
 const UP_TWO: &[u8] =
@@ -15,11 +16,29 @@ const ROUTES: &[u8] = b"8.8.8.0/24 3\n10.1.0.0/16 3\n8.8.8.0/24 17\n# a comment\
 /// The answers to them.
 const ANSWERS: &[u8] = b"accept 5\nreject\nrefused O2 3\nrefused O2 5\n";
 
+/// Takes routes through a filter, of which nobody is told more.
+fn filter_quietly<R: Read, W: Write>(
+    alloc: Global,
+    text: &[u8],
+    size: u32,
+    reader: &mut R,
+    writer: &mut W,
+) -> Result<Filtered, ProgramFault> {
+    let routes = Routes {
+        name: b"routes",
+        is_told: false,
+    };
+    let errors = &mut io::sink();
+    filter_named(
+        alloc, text, size, b"filter", false, routes, reader, writer, errors,
+    )
+}
+
 #[test]
 fn routes_are_answered(rt: HostRuntime) -> Result<(), Fail> {
     let mut reader = ROUTES;
     let mut writer = Vec::new(rt.alloc());
-    let filtered = filter_lines(rt.alloc(), UP_TWO, 16, &mut reader, &mut writer);
+    let filtered = filter_quietly(rt.alloc(), UP_TWO, 16, &mut reader, &mut writer);
     let is_answered = matches!(filtered, Ok(Filtered::Answered(2)));
     expect(is_answered, "two lines are refused")?;
     expect_bytes(writer.as_slice(), ANSWERS)
@@ -29,7 +48,7 @@ fn routes_are_answered(rt: HostRuntime) -> Result<(), Fail> {
 fn reads_nothing(alloc: Global, text: &[u8], size: u32) -> bool {
     let mut reader = ROUTES;
     let mut writer = Vec::new(alloc);
-    let filtered = filter_lines(alloc, text, size, &mut reader, &mut writer);
+    let filtered = filter_quietly(alloc, text, size, &mut reader, &mut writer);
     matches!(filtered, Ok(Filtered::Refused(_))) && reader.len() == ROUTES.len()
 }
 
@@ -56,7 +75,7 @@ fn faults_end_the_run(rt: HostRuntime) -> Result<(), Fail> {
     let mut room = [0; 4];
     let mut short = room.as_mut_slice();
     let mut reader = ROUTES;
-    let filtered = filter_lines(rt.alloc(), UP_TWO, 16, &mut reader, &mut short);
+    let filtered = filter_quietly(rt.alloc(), UP_TWO, 16, &mut reader, &mut short);
     let is_cut = matches!(filtered, Err(ProgramFault::WRITE));
     expect(is_cut, "an output that fails")
 }

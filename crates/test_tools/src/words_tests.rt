@@ -1,7 +1,7 @@
 //! The words of a refusal: what stands there, and what to write in its place.
 
 use expectations::{expect, expect_bytes};
-use filter_tools::{check_named, eval_named, explain_line};
+use filter_tools::{Routes, check_named, eval_named, explain_line};
 use std::test::Fail;
 
 /// A filter with a mistake.
@@ -53,7 +53,11 @@ fn refused_routes_are_told(rt: HostRuntime) -> Result<(), Fail> {
     let alloc = rt.alloc();
     let mut reader = ROUTES;
     let (mut writer, mut errors) = (Vec::new(alloc), Vec::new(alloc));
-    let evaluated = eval_named(alloc, b"r", &mut reader, &mut writer, &mut errors);
+    let routes = Routes {
+        name: b"r",
+        is_told: true,
+    };
+    let evaluated = eval_named(alloc, routes, &mut reader, &mut writer, &mut errors);
     expect(matches!(evaluated, Ok(1)), "one line is refused")?;
     expect_bytes(writer.as_slice(), b"accept 3\nrefused O8 3\n")?;
     expect_bytes(errors.as_slice(), TOLD_OF_ROUTE)

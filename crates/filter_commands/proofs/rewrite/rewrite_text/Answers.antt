@@ -6,7 +6,6 @@ use Rattle.std.specs.Io.KnownBytes.{IsAtEnd}
 use Rattle.filter_commands.proofs.Rewritten.{broken_off, ends_well}
 use Rattle.filter_commands.specs.Faults.{stream_fault}
 use Rattle.filter_commands.specs.Rewriting.{IsCut}
-use Rattle.filter_commands.specs.declared.fault.ProgramFault.{ProgramFault}
 use Rattle.filter_commands.proofs.rewrite.rewrite_text.Goals as goal
 
 pub returns-clause-finished : goal.returns-clause-finished

@@ -1,8 +1,7 @@
 -- The line was counted, and its answer is that of what was read.
-use Rattle.std.proofs.Common.{ℕ, List, [], ◌++◌, ap, sym, ◌∙◌}
+use Rattle.std.proofs.Common.{ℕ, List, [], ◌++◌, Some, ap, sym, ◌∙◌}
 use Rattle.std.proofs.lemmas.List.{append-nil}
-use Rattle.filter_commands.specs.RouteLine.{line_code}
-use Rattle.filter_tools.specs.RouteOfSize.{route_of_size}
+use Rattle.filter_commands.specs.RouteLine.{line_code, route_in}
 use Rattle.line_protocol.specs.Answers.{refusal}
 use Rattle.filter_traces.proofs.Covering.{answered_as, refused_as}
 use Rattle.filter_traces.proofs.coverage.CounterService.answer.Goals as goal
@@ -15,7 +14,7 @@ returns-in_ok-push_refusal-in-Some-clause-ok c = (
       ∙ ap (λ (n : ℕ). c.args.out.now.items ++ refusal (line_code c.in-Some.fault) n) c.from.ensures),
   (
     c.in-Some.ensures.counted c.args.number,
-    refused_as c.args.number (route_of_size c.args.self.now.traced.size c.args.line.now) c.in-Some.fault c.in-Some.ensures.fault,
+    refused_as c.args.number (route_in (Some c.args.self.now.traced.size) c.args.line.now) c.in-Some.fault c.in-Some.ensures.fault,
   ),
 )
 
@@ -25,6 +24,6 @@ returns-in-None-clause-ok c = (
   sym (append-nil c.args.out.now.items),
   (
     c.in-None.ensures.counted c.args.number,
-    answered_as c.args.number (route_of_size c.args.self.now.traced.size c.args.line.now) c.in-None.ensures.fault,
+    answered_as c.args.number (route_in (Some c.args.self.now.traced.size) c.args.line.now) c.in-None.ensures.fault,
   ),
 )
