@@ -1,7 +1,7 @@
 -- How the sources of names follow one another.
 use Rattle.std.proofs.Common.{◌≡◌, ℕ, ◌+◌, ◌<◌, length, List, [], ◌∷◌, ◌++◌, map, take, get_or}
 use Rattle.std.proofs.lemmas.List.{map_more}
-use Rattle.command_line.specs.Sources.{AreNamed, AreSources, IsNamed}
+use Rattle.command_line.specs.Sources.{AreNamed, IsNamed}
 use Rattle.command_line.specs.declared.aid_words.Source.{Source}
 
 -- one more name, with its source

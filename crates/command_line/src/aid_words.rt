@@ -101,10 +101,10 @@ pub struct Importing {
     pub folder: Option<String>,
 }
 
-/// What the program is asked to do for people.
+/// What the program is asked to do.
 #[derive(Drop)]
 pub enum Aid {
-    /// `check` of sources that have names.
+    /// Compile filters, or read their code files, and verify the code.
     Check {
         /// How they are checked.
         how: Checking,
@@ -119,6 +119,11 @@ pub enum Aid {
         old: Source,
         /// Where the text of the filter as it will be is.
         new: Source,
+    },
+    /// Take the routes of standard input through the code in its first line.
+    Eval {
+        /// Why a line is refused is told in words too.
+        is_told: bool,
     },
     /// Say what a code means.
     Explain {
@@ -161,6 +166,11 @@ pub enum Aid {
     Replay {
         /// The source.
         source: Source,
+    },
+    /// Write the code file of standard input in the newer form.
+    Rewrite {
+        /// It is written in the older form.
+        is_old: bool,
     },
     /// Carry out the script of a router, and keep its history or end at its first refused line.
     Run {
@@ -294,6 +304,13 @@ pub fn filter_in(
         how,
         source: source_of(alloc, file)?,
     }))
+}
+
+/// What the words of `eval` ask for.
+pub fn eval_in(matches: &ArgMatches<'_>, terminals: Terminals) -> Aid {
+    Aid::Eval {
+        is_told: is_explained(Telling::read(matches), terminals.errors, false),
+    }
 }
 
 /// The text of an option, if it is given.

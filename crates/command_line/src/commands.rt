@@ -119,7 +119,7 @@ static COMMANDS: [(&str, &str); 15] = [
 ];
 
 /// The options and arguments of each command, in the order in which its help shows them.
-static PARAMETERS: [(&str, Parameter); 51] = [
+static PARAMETERS: [(&str, Parameter); 52] = [
     ("check", SIZE),
     ("check", CODE),
     ("check", NAMES),
@@ -151,6 +151,7 @@ static PARAMETERS: [(&str, Parameter); 51] = [
     ("test", LIMIT),
     ("test", EXPLAIN),
     ("test", TEST_FILES),
+    ("eval", EXPLAIN),
     ("rewrite", OLD),
     ("domain", EXPLAIN),
     ("domain", SCRIPT),

@@ -2,6 +2,7 @@
 #![tactic(auto)]
 
 mod aid_words;
+mod arguments;
 mod classes;
 mod commands;
 mod diff_words;
@@ -23,4 +24,4 @@ pub use router_words::RouterWords;
 pub use telling::{Telling, is_explained};
 pub use terminals::{Terminals, tell_that_input_is_read, waits_for_people};
 pub use test_words::Testing;
-pub use words::{Request, Words, read, request_of};
+pub use words::{Words, read, request_of};

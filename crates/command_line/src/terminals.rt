@@ -12,44 +12,54 @@ pub struct Terminals {
     pub errors: bool,
 }
 
-/// Whether standard input is among these sources.
-fn has_input(sources: &[Source]) -> bool {
-    sources.iter().any(|source| source.is_input())
+/// How many of these sources are standard input.
+fn inputs_among(sources: &[Source]) -> usize {
+    sources.iter().filter(|source| source.is_input()).count()
 }
 
-/// Whether one of these filters is on standard input.
-fn reads_filter(filters: &[NamedFile]) -> bool {
-    filters.iter().any(|named| named.source.is_input())
+/// How many of these filters are on standard input.
+fn filters_among(filters: &[NamedFile]) -> usize {
+    filters
+        .iter()
+        .filter(|named| named.source.is_input())
+        .count()
 }
 
-/// Whether what is asked for reads standard input.
-fn reads_input(words: &Words) -> bool {
+/// How often what is asked for reads standard input to its end. A router reads what is left of it, if anything is.
+fn count_readings(words: &Words) -> usize {
     match words {
-        Words::Asked(_) | Words::Router(_) => true,
-        Words::Aided(
+        Words::Router(words) => filters_among(words.filters.as_slice()).max(1),
+        Words::Asked(
             Aid::Check { sources, .. } | Aid::Lint { sources, .. } | Aid::Test { sources, .. },
-        ) => has_input(sources.as_slice()),
-        Words::Aided(Aid::Diff { old, new, .. }) => { old.is_input() || new.is_input() }
-        Words::Aided(Aid::Run { how, source }) => {
-            source.is_input() || reads_filter(how.filters.as_slice())
+        ) => inputs_among(sources.as_slice()),
+        Words::Asked(Aid::Diff { old, new, .. }) => {
+            usize::from(old.is_input()).saturating_add(usize::from(new.is_input()))
         }
-        Words::Aided(Aid::RunJoined { how, sources }) => {
-            has_input(sources.as_slice()) || reads_filter(how.filters.as_slice())
+        Words::Asked(Aid::Run { how, source }) => {
+            filters_among(how.filters.as_slice()).saturating_add(usize::from(source.is_input()))
         }
-        Words::Aided(
+        Words::Asked(Aid::RunJoined { how, sources }) => {
+            filters_among(how.filters.as_slice()).saturating_add(inputs_among(sources.as_slice()))
+        }
+        Words::Asked(
             Aid::Import { source, .. }
             | Aid::List { source, .. }
             | Aid::Replay { source }
             | Aid::Script { source, .. },
-        ) => source.is_input(),
-        Words::Aided(Aid::Filter { .. }) => true,
-        Words::Aided(Aid::Explain { .. }) | Words::Network | Words::Shown(_) => false,
+        ) => usize::from(source.is_input()),
+        Words::Asked(Aid::Eval { .. } | Aid::Filter { .. } | Aid::Rewrite { .. }) => 1,
+        Words::Asked(Aid::Explain { .. }) | Words::Network | Words::Shown(_) => 0,
     }
+}
+
+/// Whether what is asked for reads standard input more than once, and would find nothing there the second time.
+pub fn reads_input_again(words: &Words) -> bool {
+    count_readings(words) > 1
 }
 
 /// Whether people are waited for: standard input is read, and they type it.
 pub fn waits_for_people(words: &Words, terminals: Terminals) -> bool {
-    terminals.input && reads_input(words)
+    terminals.input && count_readings(words) > 0
 }
 
 /// Tells people that standard input is waited for. Where standard error takes no text, they are not told.

@@ -5,13 +5,14 @@ use Rattle.std.specs.Io.KnownBytes.{Appends}
 use Rattle.std.specs.declared.io.Error.{Error}
 use Rattle.filter_source.specs.Limits.{source_limit}
 use Rattle.filter_source.specs.declared.diagnosis.Diagnosis.{Diagnosis}
-use Rattle.filter_commands.specs.Evaluation.{IsCut}
+use Rattle.filter_commands.specs.Evaluation.{Breaks, Evaluates, IsCut}
 use Rattle.filter_commands.specs.Faults.{stream_fault}
 use Rattle.filter_commands.specs.declared.fault.ProgramFault.{ProgramFault}
+use Rattle.filter_commands.specs.Rewriting.{Rewrites, RewritesOff}
 use Rattle.filter_tools.specs.Filtering.{Filters}
 use Rattle.filter_tools.specs.Naming.{ChecksNamed, ChecksNamedOff, ListsNamed, ListsNamedOff}
 use Rattle.filter_tools.specs.Telling.{Explains, IsCutExplanation}
-use Rattle.filter_tools.specs.ToldRoutes.{FiltersNamedOff, TellsFiltered}
+use Rattle.filter_tools.specs.ToldRoutes.{FiltersNamedOff, IsQuiet, TellsFiltered}
 use Rattle.filter_tools.specs.declared.filter.Filtered.{Filtered}
 use Rattle.filter_tools.specs.declared.filter.Filtered.TheVariants.{Refused, Answered}
 use Rattle.filter_traces.specs.Coverage.{Covers, CoversOff}
@@ -127,6 +128,25 @@ StopsTrying Verdicts fault how name text before after = StopsJudging fault how n
 StopsTrying Reasons fault how name text before after = StopsReport false fault how.size name text before after
 StopsTrying Coverage fault how name text before after = StopsReport true fault how.size name text before after
 
+-- Code and routes were answered to the end of the input. Standard error got nothing, but where words about lines are wanted: what it got
+-- of these is left open.
+pub record EvaluatesTold (is_told : Bool) (before after : Streams) (status : ℕ) : Type 0 where
+  pub refused : ℕ
+  pub evaluated : IfSome before.reads (λ input. Evaluates input after.reads before.holds after.holds refused)
+  pub quiet : IsQuiet is_told before.tells after.tells
+  pub ends : status ≡ status_of refused
+
+-- A fault ended that.
+pub record StopsEvaluating (fault : StreamFault) (is_told : Bool) (before after : Streams) : Type 0 where
+  pub broken_off : IfSome before.reads (λ input. Breaks fault input after.reads before.holds after.holds)
+  pub quiet : IsQuiet is_told before.tells after.tells
+
+-- A code file was written in its other form, or refused.
+pub record RewritesInput (is_old : Bool) (reads left held holds : Option (List ℕ)) (status : ℕ) : Type 0 where
+  pub refused : ℕ
+  pub rewritten : IfSome reads (λ input. Rewrites is_old input left held holds refused)
+  pub ends : status ≡ status_of refused
+
 -- The listing of a text was written, and its refusal told under a name, and the exit status says whether there is one. `held` and `holds`
 -- are what the writer held before and holds now, `told` and `tells` the same of standard error.
 pub record ListsText (size : Option ℕ) (is_code is_explained : Bool) (name text : List ℕ) (held holds told tells : Option (List ℕ)) (status : ℕ)
@@ -140,12 +160,14 @@ pub record ListsText (size : Option ℕ) (is_code is_explained : Bool) (name tex
 abbrev pub fault_status : Aid → ℕ
 fault_status (aid.Check how sources) = 1
 fault_status (aid.Diff how old new) = 3
+fault_status (aid.Eval is_told) = 1
 fault_status (aid.Explain page) = 1
 fault_status (aid.Import how source) = 1
 fault_status (aid.List size is_code source is_explained) = 3
 fault_status (aid.Filter how source) = 3
 fault_status (aid.Lint how sources) = 3
 fault_status (aid.Replay source) = 3
+fault_status (aid.Rewrite is_old) = 1
 fault_status (aid.Run how source) = 1
 fault_status (aid.RunJoined how sources) = 1
 fault_status (aid.Script engine source is_explained) = script_fault engine
@@ -245,6 +267,7 @@ module _ (opens : List ℕ → Result (Option (List ℕ)) Error → Type 0) wher
     Helps (aid.Check how sources) before after status = (refused : Bool)
         × ChecksAll how sources.items before after refused × (status ≡ (if refused then 1 else 0))
     Helps (aid.Diff how old new) before after status = ComparesSources opens how old new before after status
+    Helps (aid.Eval is_told) before after status = EvaluatesTold is_told before after status
     Helps (aid.Explain page) before after status =
         Appends before.holds after.holds (string_bytes page) × (after.reads ≡ before.reads) × (after.tells ≡ before.tells) × (status ≡ 0)
     Helps (aid.Import how source) before after status = status ≤ 1
@@ -253,6 +276,8 @@ module _ (opens : List ℕ → Result (Option (List ℕ)) Error → Type 0) wher
     Helps (aid.Lint how sources) before after status = (found : Bool)
         × LintsAll opens how sources.items before after found × (status ≡ (if found then 1 else 0))
     Helps (aid.Replay source) before after status = ReplaysSource source before after status
+    Helps (aid.Rewrite is_old) before after status =
+        RewritesInput is_old before.reads after.reads before.holds after.holds status × (after.tells ≡ before.tells)
     Helps (aid.Run how source) before after status = RunsGuided creates opens how source before after status
     Helps (aid.RunJoined how sources) before after status = RunsJoined creates opens how sources.items before after status
     Helps (aid.Script engine source is_explained) before after status = RunsSource engine source is_explained before after status
@@ -262,6 +287,7 @@ module _ (opens : List ℕ → Result (Option (List ℕ)) Error → Type 0) wher
     abbrev pub StopsHelp : StreamFault → Aid → Streams → Streams → Type 0
     StopsHelp fault (aid.Check how sources) before after = ChecksSome fault how sources.items before after
     StopsHelp fault (aid.Diff how old new) before after = StopsComparing opens fault how old new before after
+    StopsHelp fault (aid.Eval is_told) before after = StopsEvaluating fault is_told before after
     StopsHelp fault (aid.Explain page) before after =
         IsCut fault before.holds after.holds (string_bytes page) × (after.reads ≡ before.reads) × (after.tells ≡ before.tells)
     StopsHelp fault (aid.Import how source) before after = ⊤
@@ -269,6 +295,8 @@ module _ (opens : List ℕ → Result (Option (List ℕ)) Error → Type 0) wher
     StopsHelp fault (aid.Filter how source) before after = StopsFilter fault how source before after
     StopsHelp fault (aid.Lint how sources) before after = StopsLinting opens fault how sources.items before after
     StopsHelp fault (aid.Replay source) before after = StopsReplay fault source before after
+    StopsHelp fault (aid.Rewrite is_old) before after =
+        IfSome before.reads (λ input. RewritesOff fault is_old input after.reads before.holds after.holds) × (after.tells ≡ before.tells)
     StopsHelp fault (aid.Run how source) before after = StopsRun creates opens fault how source before after
     StopsHelp fault (aid.RunJoined how sources) before after = StopsJoined creates opens fault how sources.items before after
     StopsHelp fault (aid.Script engine source is_explained) before after = StopsSource fault engine source is_explained before after

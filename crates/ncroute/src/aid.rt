@@ -3,6 +3,7 @@ ghost use Rattle.std.specs.Prelude.{◌≡◌, ◌||◌, false, IfErr, IfOk, IfS
 ghost use Rattle.std.specs.Io.KnownBytes.{Appends};
 ghost use Rattle.filter_commands.specs.Evaluation.{IsCut};
 ghost use Rattle.filter_commands.specs.Faults.{stream_fault};
+ghost use Rattle.filter_commands.specs.Rewriting.{RewritesOff};
 ghost use Rattle.filter_tools.specs.Naming.{ChecksNamedOff, ListsNamedOff};
 ghost use Rattle.filter_source.specs.declared.diagnosis.Diagnosis.{Diagnosis as TheDiagnosis};
 ghost use Rattle.filter_tools.specs.Telling.{Explains, IsCutExplanation};
@@ -10,7 +11,7 @@ ghost use Rattle.filter_tools.specs.declared.filter.Filtered.TheVariants.{Refuse
 ghost use Rattle.ncroute.specs.Helping.{ChecksAll, ChecksBy, ChecksOne, ChecksSome, ChecksText, ChecksWhole, CutsBy, CutsText, FailsToTell, Helps, IsCutOne, ListsSource, ListsText};
 ghost use Rattle.ncroute.specs.Helping.{ReplaysSource, Reports, ReportsOff, RunsFile, RunsSource, ServesPeople, StopsFile, StopsFilter, StopsHelp, StopsListing};
 ghost use Rattle.ncroute.specs.Helping.{StopsReplay, StopsSource, StopsTrying, TriesFilter, TriesText, fault_status, status_of_filter, told_refusal};
-ghost use Rattle.ncroute.specs.Helping.{JudgesText, ReportsText, StopsJudging, StopsReport};
+ghost use Rattle.ncroute.specs.Helping.{EvaluatesTold, JudgesText, ReportsText, RewritesInput, StopsEvaluating, StopsJudging, StopsReport};
 ghost use Rattle.ncroute.specs.Reading.{name_of};
 
 use crate::comparing::compare_sources;
@@ -25,9 +26,9 @@ use crate::serve::{FAILED, report_fault, status_of};
 use crate::testing::test_sources;
 use crate::texts::{Folder, name_of, read_source, tell_unread};
 use command_line::{Aid, Checking, Engine, RouteReport, Source, Trying};
-use filter_commands::ProgramFault;
+use filter_commands::{ProgramFault, rewrite_text};
 use filter_source::{Diagnosis, SOURCE_LIMIT};
-use filter_tools::{Filtered, Routes, check_named, filter_named, list_named, tell};
+use filter_tools::{Filtered, Routes, check_named, eval_named, filter_named, list_named, tell};
 use filter_traces::{cover_routes, explain_routes};
 use line_protocol::{INPUT_LIMIT, StreamFault, write_text};
 use std::alloc::Global;
@@ -330,6 +331,50 @@ fn try_text<R: Read, W: Write, E: Write>(
     }
 }
 
+/// Takes the routes of standard input through the code in its first line, and returns the exit status. Why a line is refused is told in
+/// words where `is_told` says so.
+fn evaluate<R: Read, W: Write, E: Write>(
+    alloc: Global,
+    is_told: bool,
+    reader: &mut R,
+    writer: &mut W,
+    errors: &mut E,
+) -> Result<u8, ProgramFault>
+    ensures finished { IfOk result (EvaluatesTold is_told
+        (record { reads = R.remaining reader.old; holds = W.contents writer.old; tells = E.contents errors.old })
+        (record { reads = R.remaining reader.new; holds = W.contents writer.new; tells = E.contents errors.new })) }
+    ensures stopped { IfErr result (λ fault. StopsEvaluating (stream_fault fault) is_told
+        (record { reads = R.remaining reader.old; holds = W.contents writer.old; tells = E.contents errors.old })
+        (record { reads = R.remaining reader.new; holds = W.contents writer.new; tells = E.contents errors.new })) }
+{
+    let routes = Routes {
+        name: name_of(&Source::Input),
+        is_told,
+    };
+    match eval_named(alloc, routes, reader, writer, errors) {
+        Ok(refused) => Ok(status_of(refused)),
+        Err(fault) => Err(fault),
+    }
+}
+
+/// Writes the code file of standard input in its other form, and returns the exit status.
+fn rewrite<R: Read, W: Write>(
+    alloc: Global,
+    is_old: bool,
+    reader: &mut R,
+    writer: &mut W,
+) -> Result<u8, ProgramFault>
+    ensures finished { IfOk result (RewritesInput is_old (R.remaining reader.old) (R.remaining reader.new)
+        (W.contents writer.old) (W.contents writer.new)) }
+    ensures stopped { IfErr result (λ fault. IfSome (R.remaining reader.old) (λ input.
+        RewritesOff (stream_fault fault) is_old input (R.remaining reader.new) (W.contents writer.old) (W.contents writer.new))) }
+{
+    match rewrite_text(alloc, reader, writer, is_old) {
+        Ok(refused) => Ok(status_of(refused)),
+        Err(fault) => Err(fault),
+    }
+}
+
 /// Writes a page, and returns the exit status.
 fn show<W: Write>(page: &str, writer: &mut W) -> Result<u8, ProgramFault>
     ensures finished { IfOk result (λ status. (status ≡ 0) × Appends (W.contents writer.old) (W.contents writer.new) page.now) }
@@ -564,6 +609,7 @@ fn help<F: Folder, R: Read, W: Write, E: Write>(
         Aid::Diff { how, old, new } => {
             compare_sources(files, alloc, *how, old, new, reader, writer, errors)
         }
+        Aid::Eval { is_told } => evaluate(alloc, *is_told, reader, writer, errors),
         Aid::Explain { page } => show(page.as_str(), writer),
         Aid::Lint { how, sources } => {
             let sources = sources.as_slice();
@@ -593,6 +639,7 @@ fn help<F: Folder, R: Read, W: Write, E: Write>(
             import_source(files, alloc, how, source, reader, writer, errors)
         }
         Aid::Replay { source } => replay_source(files, alloc, source, reader, writer, errors),
+        Aid::Rewrite { is_old } => rewrite(alloc, *is_old, reader, writer),
         Aid::Run { how, source } => {
             guide_source(files, alloc, how, source, reader, writer, errors)
         }
@@ -627,8 +674,10 @@ pub fn fault_status(aid: &Aid) -> u8
 {
     match aid {
         Aid::Check { .. }
+        | Aid::Eval { .. }
         | Aid::Explain { .. }
         | Aid::Import { .. }
+        | Aid::Rewrite { .. }
         | Aid::Run { .. }
         | Aid::RunJoined { .. } => FAILED,
         Aid::Diff { .. }

@@ -1,18 +1,18 @@
 //! From the words of the command line to the exit status.
-ghost use Rattle.std.specs.Prelude.{◌≡◌, ◌⊎◌, IfSome};
+ghost use Rattle.std.specs.Prelude.{◌≡◌, ◌⊎◌};
 ghost use Rattle.line_protocol.specs.Runs.{AppendsFront};
 ghost use Rattle.filter_commands.specs.declared.fault.ProgramFault.TheVariants.{Stream};
 ghost use Rattle.ncroute.specs.Helping.{FailsToTell, ServesPeople, fault_status};
 ghost use Rattle.ncroute.specs.Networking.{FailsToReportNetwork, ServesNetwork};
 ghost use Rattle.ncroute.specs.Responding.{Responds};
-ghost use Rattle.ncroute.specs.Serving.{FailsToReport, Serves, fault_line};
+ghost use Rattle.ncroute.specs.Serving.{fault_line};
 
 use crate::aid::{fault_status, serve_people};
 use crate::network::serve_network;
 use crate::routing::serve_router;
-use crate::serve::{FAILED, report_fault, serve};
+use crate::serve::{FAILED, report_fault};
 use crate::texts::Folder;
-use command_line::{Aid, Request, Words};
+use command_line::{Aid, Words};
 use filter_commands::ProgramFault;
 use line_protocol::StreamFault;
 use router_daemon::LinkFolder;
@@ -22,27 +22,7 @@ use std::rt::Clock;
 use std::sync::Wait;
 use std::thread::Threads;
 
-/// Serves a request: the exit status. It is that of a fault where standard error took no whole report.
-fn status_of_request<R: Read, W: Write, E: Write>(
-    alloc: Global,
-    request: Request,
-    reader: &mut R,
-    writer: &mut W,
-    errors: &mut E,
-) -> u8
-    ensures { IfSome (R.remaining reader.old) (λ input.
-        Serves request input (R.remaining reader.new) (W.contents writer.old) (W.contents writer.new)
-        (E.contents errors.old) (E.contents errors.new) result
-        ⊎ (FailsToReport request input (R.remaining reader.new) (W.contents writer.old) (W.contents writer.new)
-        (E.contents errors.old) (E.contents errors.new) × (result ≡ FAILED))) }
-{
-    match serve(alloc, request, reader, writer, errors) {
-        Ok(status) => status,
-        Err(_) => FAILED,
-    }
-}
-
-/// Serves `net`, likewise.
+/// Serves `net`: the exit status. It is that of a fault where standard error took no whole report.
 fn status_of_network<R: Threads + Wait + Clock + Sync, W: Write, E: Write>(
     rt: &R,
     alloc: Global,
@@ -59,7 +39,7 @@ fn status_of_network<R: Threads + Wait + Clock + Sync, W: Write, E: Write>(
     }
 }
 
-/// Serves people, likewise.
+/// Serves all else, likewise.
 fn status_of_aid<F: Folder, R: Read, W: Write, E: Write>(
     files: &F,
     alloc: Global,
@@ -116,12 +96,11 @@ where
         (record { reads = I.remaining reader.new; holds = W.contents writer.new; tells = E.contents errors.new }) result }
 {
     match words {
-        Ok(Words::Asked(request)) => status_of_request(alloc, request, reader, writer, errors),
         Ok(Words::Router(words)) => {
             serve_router::<R, FI, FO, T, I, W, E>(rt, alloc, &words, reader, writer, errors, voice)
         }
         Ok(Words::Network) => status_of_network(rt, alloc, writer, errors),
-        Ok(Words::Aided(aid)) => status_of_aid(rt, alloc, &aid, reader, writer, errors),
+        Ok(Words::Asked(aid)) => status_of_aid(rt, alloc, &aid, reader, writer, errors),
         Ok(Words::Shown(status)) => status,
         Err(fault) => status_of_fault(errors, fault),
     }
