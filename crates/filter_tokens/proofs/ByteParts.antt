@@ -27,13 +27,15 @@ byte-leads first others one =
     at_byte first 91 P (token_by 91 others symbol.LeftBracket one refl) (λ a91 b91.
     at_byte first 93 P (token_by 93 others symbol.RightBracket one refl) (λ a93 b93.
     at_byte first 59 P (token_by 59 others symbol.Semicolon one refl) (λ a59 b59.
+    at_byte first 58 P (token_by 58 others symbol.Colon one refl) (λ a58 b58.
     at_byte first 44 P (token_by 44 others symbol.Comma one refl) (λ a44 b44.
     at_byte first 61 P (token_by 61 others symbol.Equal one refl) (λ a61 b61.
+    at_byte first 126 P (token_by 126 others symbol.Match one refl) (λ a126 b126.
     at_byte first 43 P (token_by 43 others symbol.Plus one refl) (λ a43 b43.
     at_byte first 45 P (token_by 45 others symbol.Minus one refl) (λ a45 b45.
     at_byte first 42 P (token_by 42 others symbol.Times one refl) (λ a42 b42.
-    let none : byte_part first ≡ None = simp (a32, a40, a41, a123, a125, a91, a93, a59, a44, a61, a43, a45, a42) in
-    λ e. absurd (let never : None ≡ Some one = sym none ∙ e in cc))))))))))))))
+    let none : byte_part first ≡ None = simp (a32, a40, a41, a123, a125, a91, a93, a59, a58, a44, a61, a126, a43, a45, a42) in
+    λ e. absurd (let never : None ≡ Some one = sym none ∙ e in cc))))))))))))))))
 
 -- the same of what a call answers
 pub byte-answer : (text others : List ℕ) (first : ℕ) (answer : Option Part) → text ≡ first ∷ others → byte_part first ≡ answer →

@@ -7,6 +7,7 @@ pub mod Longest
 pub mod Meanings
 pub mod OnePass
 pub mod PartLaws
+pub mod PlainNumbers
 pub mod Punctuators
 pub mod Rows
 pub mod Spaces

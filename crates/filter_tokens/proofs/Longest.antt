@@ -144,12 +144,12 @@ hexadecimal_is : (text rest : List ℕ) → after_prefix text ≡ None → after
 unfolding digits_shape
 hexadecimal_is text rest e f g = rw (e, f, g) refl
 
-decimal_is : (text : List ℕ) → after_prefix text ≡ None → after_address text ≡ None → after_hexadecimal text ≡ None
+pub decimal_is : (text : List ℕ) → after_prefix text ≡ None → after_address text ≡ None → after_hexadecimal text ≡ None
     → digits_shape text ≡ a_shape shape.Decimal (drop_while is_ascii_digit text)
 unfolding digits_shape
 decimal_is text e f g = rw (e, f, g) refl
 
-no_address_no_prefix : (text : List ℕ) → after_address text ≡ None → after_prefix text ≡ None
+pub no_address_no_prefix : (text : List ℕ) → after_address text ≡ None → after_prefix text ≡ None
 unfolding after_prefix
 no_address_no_prefix text e = rw e refl
 

@@ -1,6 +1,6 @@
 -- Reading a text from the left: what the lexer's functions answer (this project's own choice).
 -- No promise to a caller cites it: those cite Cutting, and proofs join the two.
-use Rattle.std.specs.Prelude.{◌≡◌, ℕ, ◌+◌, ◌-◌, ◌*◌, ◌==◌, ◌&&◌, nat_le, nat_lt, if◌then◌else◌, Bool}
+use Rattle.std.specs.Prelude.{◌≡◌, ℕ, ◌+◌, ◌-◌, ◌*◌, ◌==◌, ◌&&◌, ◌||◌, nat_le, nat_lt, if◌then◌else◌, Bool, false}
 use Rattle.std.specs.Prelude.{not, List, [], ◌∷◌, length, take, drop, find, codes, Option, Some, None, Result, Ok, Err}
 use Rattle.std.specs.Char.{digit_value, is_ascii_digit, is_ascii_hexdigit}
 use Rattle.std.specs.List.{prefix_len, list_any}
@@ -307,9 +307,28 @@ byte_part byte =
     else (if byte == 91 then byte_token symbol.LeftBracket
     else (if byte == 93 then byte_token symbol.RightBracket
     else (if byte == 59 then byte_token symbol.Semicolon
+    else (if byte == 58 then byte_token symbol.Colon
     else (if byte == 44 then byte_token symbol.Comma
     else (if byte == 61 then byte_token symbol.Equal
+    else (if byte == 126 then byte_token symbol.Match
     else (if byte == 43 then byte_token symbol.Plus
     else (if byte == 45 then byte_token symbol.Minus
     else (if byte == 42 then byte_token symbol.Times
-    else None))))))))))))
+    else None))))))))))))))
+
+-- whether the first byte is a digit
+abbrev pub begins_digit : List ℕ → Bool
+begins_digit [] = false
+begins_digit (first ∷ others) = is_ascii_digit first
+
+-- whether digits with a text behind them may begin a longer token: an address, by a dot and a digit, or hexadecimal, by an `x`
+abbrev pub goes_on : List ℕ → Bool
+goes_on [] = false
+goes_on (first ∷ others) = if first == dot then begins_digit others else first == small_x
+
+-- the number at the front of a text, where nothing longer may begin with its digits
+abbrev pub number_ahead : List ℕ → Option Part
+number_ahead text =
+    let len = prefix_len is_ascii_digit text in
+    if len == 0 || goes_on (drop len text) then None
+    else option_map (λ number. part.Token (kind.Number number) len) (number_in greatest_number (take len text))

@@ -45,7 +45,8 @@ unknown_before : (x : Option Fact) (places : List (Option Fact)) → all_known p
 unknown_before None places none = refl
 unknown_before (Some a) places none = ap (λ (o : Option (List Fact)). option_and_then (λ facts. Some (a ∷ facts)) o) none
 
-pub unknown_at : (places : List (Option Fact)) (at : ℕ) → at < length places → get_or places at None ≡ None → all_known places ≡ None
-unknown_at [] at inside none = absurd (omega arith)
-unknown_at (x ∷ places) zero inside none = ap (λ (a : Option Fact). all_known (a ∷ places)) none
-unknown_at (x ∷ places) (suc at) inside none = unknown_before x places (unknown_at places at (omega arith) none)
+pub unknown_at : (places : List (Option Fact)) (at : ℕ) (d : Option Fact) → at < length places → get_or places at d ≡ None →
+    all_known places ≡ None
+unknown_at [] at d inside none = absurd (omega arith)
+unknown_at (x ∷ places) zero d inside none = ap (λ (a : Option Fact). all_known (a ∷ places)) none
+unknown_at (x ∷ places) (suc at) d inside none = unknown_before x places (unknown_at places at d (omega arith) none)

@@ -24,11 +24,11 @@ use Rattle.filter_verifier.specs.InStateView.{Known}
 use Rattle.filter_verifier.specs.AbstractFrameView.{AbstractFrameView}
 use Rattle.filter_verifier.proofs.Propagation.{joined_at_entry, joined_next}
 
--- before the visit of an index: what waits, the greatest height so far, and nothing is unknown below
+-- before the visit of an index: what waits there and behind it, the greatest height so far, and nothing is unknown below
 pub record Before (program : CodeView) (size n : ℕ) (in_states : List InState) (depth : ℕ) : Type 0 where
   pub wide : length in_states ≡ length program.instrs
   pub none : first_fault program size n ≡ None
-  pub waits : (k : ℕ) → state_at in_states k ≡ joined_below program size n k
+  pub waits : (k : ℕ) → n ≤ k → state_at in_states k ≡ joined_below program size n k
   pub deepest : depth ≡ highest program size n
   pub limit : depth ≤ stack_limit
 
@@ -50,19 +50,19 @@ highest_next program size n = rw add-one refl
 pub begun : (program : CodeView) (size : ℕ) (in_states : List InState) → length in_states ≡ length program.instrs →
     ((k : ℕ) → state_at in_states k ≡ entry_state program k) → Before program size 0 in_states 0
 unfolding first_fault highest
-begun program size in_states wide waits = record { wide = wide; none = refl; waits = λ k. waits k ∙ sym (joined_at_entry program size k); deepest = refl; limit = omega arith }
+begun program size in_states wide waits = record { wide = wide; none = refl; waits = λ k h. waits k ∙ sym (joined_at_entry program size k); deepest = refl; limit = omega arith }
 
 -- what becomes of an index is the verdict on it
 pub judged : (program : CodeView) (size n : ℕ) (in_states : List InState) (depth : ℕ) →
     Before program size n in_states depth → out_state program size n (state_at in_states n) ≡ out_state_at program size n
-judged program size n in_states depth before = ap (out_state program size n) (before.waits n)
+judged program size n in_states depth before = ap (out_state program size n) (before.waits n (omega arith))
 
 -- an index where nothing is unknown
 pub advanced : (program : CodeView) (size n : ℕ) (in_states next : List InState) (depth height : ℕ) →
     Before program size n in_states depth →
     length next ≡ length in_states →
     refused_by (out_state program size n (state_at in_states n)) ≡ None →
-    ((k : ℕ) → state_at next k
+    ((k : ℕ) → n < k → state_at next k
     ≡ join_two_states (state_at in_states k) (as_in_state (propagated program n (out_state program size n (state_at in_states n)) k))) →
     height ≡ height_of (state_at in_states n) →
     height ≤ stack_limit →
@@ -73,12 +73,12 @@ advanced program size n in_states next depth height before wide none waits heigh
       wide = wide ∙ before.wide;
       none = fault_next program size n ∙ (ap (λ (o : Option VerifyFault). or_else o
           (refused_by (out_state_at program size n))) before.none ∙ (sym (ap refused_by same) ∙ none));
-      waits = λ k. waits k ∙ (ap (λ (a : InStateView). join_two_states a
-          (as_in_state (propagated program n (out_state program size n (state_at in_states n)) k))) (before.waits k)
+      waits = λ k h. waits k (omega (arith, h)) ∙ (ap (λ (a : InStateView). join_two_states a
+          (as_in_state (propagated program n (out_state program size n (state_at in_states n)) k))) (before.waits k (omega (arith, h)))
           ∙ (ap (λ (v : OutStateView). join_two_states (joined_below program size n k) (as_in_state (propagated program n v k))) same
           ∙ sym (next_joined program size n k)));
       deepest = ap (λ (d : ℕ). max d height) before.deepest
-          ∙ (ap (λ (h : ℕ). max (highest program size n) h) (height_is ∙ ap height_of (before.waits n))
+          ∙ (ap (λ (h : ℕ). max (highest program size n) h) (height_is ∙ ap height_of (before.waits n (omega arith)))
           ∙ sym (highest_next program size n));
       limit = omega (arith, before.limit, limit);
     }

@@ -15,11 +15,10 @@ use Rattle.filter_verifier.specs.AbstractFrameView.{AbstractFrameView}
 use Rattle.filter_verifier.specs.Facts.{all_known, fact_fault, fact_given, kind_of_fact}
 use Rattle.filter_verifier.specs.Faults.{fault_place, refusal_of}
 use Rattle.filter_verifier.specs.FirstFault.{first_fault, refused_by}
-use Rattle.filter_verifier.specs.InStates.{in_state, propagated}
+use Rattle.filter_verifier.specs.InStates.{in_state}
 use Rattle.filter_verifier.specs.InStateView.{InStateView, Known, UnlikeDepths, Unreached}
 use Rattle.filter_verifier.specs.OutStateView.{OutStateView, Passed, Refused, Skipped}
-use Rattle.filter_verifier.specs.PairwiseJoin.{join_two_states}
-use Rattle.filter_verifier.specs.Pass.{as_in_state, frame_of, in_state_view, state_at}
+use Rattle.filter_verifier.specs.Pass.{frame_of, in_state_view, state_at}
 use Rattle.filter_verifier.specs.Surveys.{reach}
 use Rattle.filter_verifier.specs.Transfer.{frame_after, if_inside, judge, leads_below, out_state, out_state_of_frame}
 use Rattle.filter_verifier.specs.Transfer.{out_state_of_known, unless_over, unless_refused}
@@ -62,7 +61,7 @@ kept_more program size n waiting in_states depth w so_far is =
     (λ k h. let inside : k < length in_states = omega (arith, so_far.counted) in
     state_before in_states w k inside ∙ so_far.kept k h)
     (subst (λ (m : ℕ). state_at (in_states ++ w ∷ []) m ≡ in_state program size n) so_far.counted
-    (state_here in_states w ∙ (is ∙ so_far.before.waits n)))
+    (state_here in_states w ∙ (is ∙ so_far.before.waits n (omega arith))))
 
 -- an index that is not refused
 pub advanced : (program : CodeView) (size n : ℕ) (waiting next in_states : List InState) (depth deeper : ℕ) (w : InState) →
@@ -154,25 +153,12 @@ pub kept_all : (program : CodeView) (size n : ℕ) (waiting in_states : List InS
 kept_all program size n waiting in_states depth w so_far is k h =
     kept_more program size n waiting in_states depth w so_far is k (omega (arith, h, count_more in_states w, so_far.counted))
 
--- a visit that refuses an index hands on nothing
-kept_where_refused : (program : CodeView) (at k : ℕ) (v : OutStateView) (why : VerifyFault) (s : InStateView) → refused_by v ≡ Some why →
-    join_two_states s (as_in_state (propagated program at v k)) ≡ s
-kept_where_refused program at k (Refused w) why Unreached e = refl
-kept_where_refused program at k (Refused w) why UnlikeDepths e = refl
-kept_where_refused program at k (Refused w) why (Known frame) e = refl
-kept_where_refused program at k Skipped why s e = absurd cc
-kept_where_refused program at k (Passed next) why s e = absurd cc
-
 -- what is known before the index that is refused
-pub known_there : (program : CodeView) (size n : ℕ) (in_states next : List InState) (depth : ℕ) (why : VerifyFault) (w : InState) →
+pub known_there : (program : CodeView) (size n : ℕ) (in_states : List InState) (depth : ℕ) (why : VerifyFault) (w : InState) →
     Before program size n in_states depth →
     refused_by (out_state program size n (state_at in_states n)) ≡ Some why →
-    ((k : ℕ) → state_at next k
-    ≡ join_two_states (state_at in_states k) (as_in_state (propagated program n (out_state program size n (state_at in_states n)) k))) →
-    in_state_view w ≡ state_at next n →
+    in_state_view w ≡ state_at in_states n →
     in_state_view w ≡ in_state program size (fault_place why)
-known_there program size n in_states next depth why w before found waits is =
-    let there : in_state_view w ≡ in_state program size n =
-    is ∙ (waits n ∙ (kept_where_refused program n n (out_state program size n (state_at in_states n)) why (state_at in_states n) found
-    ∙ before.waits n)) in
-    subst (λ (m : ℕ). in_state_view w ≡ in_state program size m) (sym (is_at program size n (state_at in_states n) why found)) there
+known_there program size n in_states depth why w before found is =
+    subst (λ (m : ℕ). in_state_view w ≡ in_state program size m) (sym (is_at program size n (state_at in_states n) why found))
+    (is ∙ before.waits n (omega arith))

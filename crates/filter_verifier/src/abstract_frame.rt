@@ -1,6 +1,6 @@
 //! What is known of a stack and of the local variables.
 
-ghost use Rattle.std.specs.Prelude.{◌≡◌, ◌≤◌, None, Some, [], IfOk, MatchOption, length, map, replicate};
+ghost use Rattle.std.specs.Prelude.{◌≡◌, ◌≤◌, false, None, Some, [], IfOk, IsTrue, length, map, replicate};
 ghost use Rattle.filter_code.specs.Limits.{stack_limit};
 ghost use Rattle.filter_verifier.specs.Facts.{all_known};
 ghost use Rattle.filter_verifier.specs.PairwiseJoin.{join_two_places};
@@ -36,12 +36,34 @@ impl Model for AbstractFrame {
     ghost invariant = { λ f. length f.stack.items ≤ stack_limit };
 }
 
-/// The facts of a stack, the top first, as places.
-fn places_of(alloc: Global, mut stack: Stack<Fact>) -> Result<Vec<Option<Fact>>, AllocError>
-    ensures value { IfOk result (λ v. v.items ≡ map (λ f. Some f) stack) }
-    ensures limit { IfOk result (λ v. length v.items ≤ stack_limit) }
+/// Puts the facts of some places, the top first, on an empty stack. False if and only if one of them is not known.
+pub fn fill(stack: &mut Stack<Fact>, places: &[Option<Fact>]) -> bool
+    requires empty { stack.old ≡ [] }
+    requires limit { length places.now ≤ stack_limit }
+    ensures known { IsTrue result → all_known places.now ≡ Some stack.new }
+    ensures unknown { result ≡ false → all_known places.now ≡ None }
 {
-    let mut places = Vec::with_capacity(alloc, stack.len())?;
+    for at in (0..places.len()).rev() {
+        match places[at] {
+            Some(fact) => stack.push(fact).unwrap(),
+            None => return false,
+        }
+    }
+    true
+}
+
+/// The facts of a stack, the top first, in the memory of some places, which are dropped. The stack is then empty.
+pub fn refilled(
+    places: Vec<Option<Fact>>,
+    stack: &mut Stack<Fact>,
+) -> Result<Vec<Option<Fact>>, AllocError>
+    ensures value { IfOk result (λ v. v.items ≡ map (λ f. Some f) stack.old) }
+    ensures limit { IfOk result (λ v. length v.items ≤ stack_limit) }
+    ensures emptied { IfOk result (λ _. stack.new ≡ []) }
+{
+    let mut places = places;
+    places.clear();
+    places.reserve(stack.len())?;
     while let Ok(fact) = stack.take_one() {
         places.push(Some(fact))?;
     }
@@ -84,18 +106,21 @@ impl AbstractFrame {
         })
     }
 
-    /// The facts of a stack and of the local variables.
-    pub fn of_facts(
-        alloc: Global,
-        stack: Stack<Fact>,
-        locals: Vec<Option<Fact>>,
-    ) -> Result<AbstractFrame, AllocError>
-        ensures { IfOk result (λ f. f ≡ record { stack = map (λ f. Some f) stack; locals = locals.items }) }
+    /// The frame of these places of a stack, the top first, and these local variables.
+    pub fn of_parts(stack: Vec<Option<Fact>>, locals: Vec<Option<Fact>>) -> AbstractFrame
+        requires { length stack.items ≤ stack_limit }
+        ensures { result ≡ record { stack = stack.items; locals = locals.items } }
     {
-        Ok(AbstractFrame {
-            stack: places_of(alloc, stack)?,
-            locals,
-        })
+        AbstractFrame { stack, locals }
+    }
+
+    /// The places of the stack, the top first, and the local variables.
+    pub fn into_parts(self) -> (Vec<Option<Fact>>, Vec<Option<Fact>>)
+        ensures stack { result.0.items ≡ self.stack }
+        ensures locals { result.1.items ≡ self.locals }
+        ensures limit { length result.0.items ≤ stack_limit }
+    {
+        (self.stack, self.locals)
     }
 
     /// The depth of the stack.
@@ -128,20 +153,6 @@ impl AbstractFrame {
             Some(fact) => fact.range(),
             None => None,
         }
-    }
-
-    /// The stack. None if and only if one of its places is not known.
-    pub fn known_stack(&self) -> Option<Stack<Fact>>
-        ensures { MatchOption result (all_known self.now.stack ≡ None) (λ s. all_known self.now.stack ≡ Some s) }
-    {
-        let mut stack = Stack::new();
-        for at in (0..self.stack.len()).rev() {
-            match self.stack[at] {
-                Some(fact) => stack.push(fact).unwrap(),
-                None => return None,
-            }
-        }
-        Some(stack)
     }
 
     /// A copy of the frame.

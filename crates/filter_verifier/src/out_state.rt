@@ -1,19 +1,20 @@
 //! What is known after an instruction ran.
 
-ghost use Rattle.std.specs.Prelude.{◌≡◌, ◌<◌, IfOk, length, slice_get};
+ghost use Rattle.std.specs.Prelude.{◌≡◌, ◌<◌, [], None, IfOk, length, slice_get};
 ghost use Rattle.filter_verifier.specs.Faults.{refusal_of};
+ghost use Rattle.filter_verifier.specs.FirstFault.{refused_by};
 ghost use Rattle.filter_verifier.specs.InStateView.{Known};
 ghost use Rattle.filter_verifier.specs.Pass.{in_state_view, out_state_view};
 ghost use Rattle.filter_verifier.specs.Transfer.{out_state, out_state_of_known};
 
-use crate::abstract_frame::AbstractFrame;
+use crate::abstract_frame::{AbstractFrame, fill, refilled};
 use crate::fact::Fact;
 use crate::fault::VerifyFault;
 use crate::in_state::InState;
 use crate::successors::Successors;
 use crate::transfer::transfer;
 use filter_code::{Code, FaultKind, Stack};
-use std::alloc::{AllocError, Global};
+use std::alloc::AllocError;
 
 /// The result of a visit to an instruction.
 #[derive(Drop)]
@@ -41,62 +42,70 @@ fn refusal_of(why: FaultKind, at: usize) -> VerifyFault
     }
 }
 
-/// The out-state of an instruction, where each place of the stack is known.
+/// The out-state of an instruction, where each place of the stack is known. Its facts are on a stack, and go back to the places.
 fn out_state_of_known(
-    alloc: Global,
     code: &Code,
     size: u32,
     at: usize,
-    mut stack: Stack<Fact>,
-    locals: &[Option<Fact>],
+    stack: &mut Stack<Fact>,
+    places: Vec<Option<Fact>>,
+    locals: Vec<Option<Fact>>,
 ) -> Result<OutState, AllocError>
     requires { at < length code.now.instrs }
-    ensures { IfOk result (λ s. out_state_view s
-        ≡ out_state_of_known code.now size at locals.now stack (slice_get code.now.instrs at)) }
+    ensures is { IfOk result (λ s. out_state_view s
+        ≡ out_state_of_known code.now size at locals.items stack.old (slice_get code.now.instrs at)) }
+    ensures emptied { IfOk result (λ s. refused_by (out_state_view s) ≡ None → stack.new ≡ []) }
 {
     let instrs = code.instrs();
-    let instr = instrs[at];
-    let mut locals = Vec::from_slice(alloc, locals)?;
-    if let Err(why) = transfer(instr, size, code, &mut stack, &mut locals) {
+    let mut locals = locals;
+    if let Err(why) = transfer(instrs[at], size, code, stack, &mut locals) {
         return Ok(OutState::Refused(refusal_of(why, at)));
     }
-    if !Successors::of(instr).are_below(at, instrs.len()) {
+    if !Successors::of(instrs[at]).are_below(at, instrs.len()) {
         return Ok(OutState::Refused(VerifyFault::OutsideCode(at)));
     }
-    Ok(OutState::Passed(AbstractFrame::of_facts(alloc, stack, locals)?))
+    let places = refilled(places, stack)?;
+    Ok(OutState::Passed(AbstractFrame::of_parts(places, locals)))
 }
 
 /// The out-state of an instruction that a path leads to.
 fn out_state_of_frame(
-    alloc: Global,
     code: &Code,
     size: u32,
     at: usize,
-    frame: &AbstractFrame,
+    frame: AbstractFrame,
+    stack: &mut Stack<Fact>,
 ) -> Result<OutState, AllocError>
-    requires { at < length code.now.instrs }
-    ensures { IfOk result (λ s. out_state_view s ≡ out_state code.now size at (Known frame.now)) }
+    requires inside { at < length code.now.instrs }
+    requires empty { stack.old ≡ [] }
+    ensures is { IfOk result (λ s. out_state_view s ≡ out_state code.now size at (Known frame)) }
+    ensures emptied { IfOk result (λ s. refused_by (out_state_view s) ≡ None → stack.new ≡ []) }
 {
-    match frame.known_stack() {
-        Some(stack) => out_state_of_known(alloc, code, size, at, stack, frame.locals()),
-        None => Ok(OutState::Refused(VerifyFault::WrongKind(at))),
+    let (places, locals) = frame.into_parts();
+    if fill(stack, &places) {
+        out_state_of_known(code, size, at, stack, places, locals)
+    } else {
+        Ok(OutState::Refused(VerifyFault::WrongKind(at)))
     }
 }
 
-/// The out-state of the instruction at an index, from its in-state.
+/// The out-state of the instruction at an index, from its in-state. The operands are on an empty stack meanwhile, which is empty again
+/// unless the instruction is refused: one stack serves a whole pass, and what an in-state holds becomes what the out-state holds.
 pub fn out_state(
-    alloc: Global,
     code: &Code,
     size: u32,
     at: usize,
-    in_state: &InState,
+    in_state: InState,
+    stack: &mut Stack<Fact>,
 ) -> Result<OutState, AllocError>
-    requires { at < length code.now.instrs }
-    ensures { IfOk result (λ s. out_state_view s ≡ out_state code.now size at (in_state_view in_state.now)) }
+    requires inside { at < length code.now.instrs }
+    requires empty { stack.old ≡ [] }
+    ensures is { IfOk result (λ s. out_state_view s ≡ out_state code.now size at (in_state_view in_state)) }
+    ensures emptied { IfOk result (λ s. refused_by (out_state_view s) ≡ None → stack.new ≡ []) }
 {
     match in_state {
         InState::Unreached => Ok(OutState::Skipped),
         InState::UnlikeDepths => Ok(OutState::Refused(VerifyFault::UnlikeDepths(at))),
-        InState::Known(frame) => out_state_of_frame(alloc, code, size, at, frame),
+        InState::Known(frame) => out_state_of_frame(code, size, at, frame, stack),
     }
 }

@@ -1,26 +1,28 @@
 //! The pass over a code: it visits each instruction once, in order, and propagates what is known to the successors.
 
 ghost use Rattle.std.specs.Prelude.{◌≡◌, ◌⊎◌, ◌<◌, ◌≤◌, ◌==◌, ◌≢◌, ℕ, true, None, Some, IfErr, IfOk, MatchResult};
-ghost use Rattle.std.specs.Prelude.{length, slice_get, if◌then◌else◌};
+ghost use Rattle.std.specs.Prelude.{length, slice_get, [], if◌then◌else◌};
 ghost use Rattle.filter_code.specs.Limits.{stack_limit};
 ghost use Rattle.filter_verifier.specs.declared.fault.VerifyFault.TheVariants as refusal;
 ghost use Rattle.filter_verifier.specs.FirstFault.{first_fault, refused_by};
-ghost use Rattle.filter_verifier.specs.InStateView.{Known, Unreached};
+ghost use Rattle.filter_verifier.specs.InStateView.{InStateView, Known, Unreached};
 ghost use Rattle.filter_verifier.specs.InStates.{propagated};
 ghost use Rattle.filter_verifier.specs.OutStateView.{Passed};
 ghost use Rattle.filter_verifier.specs.PairwiseJoin.{join_two_states};
 ghost use Rattle.filter_verifier.specs.Pass.{as_in_state, entry_state, highest, in_state_view, offsets, state_at};
-ghost use Rattle.filter_verifier.specs.Surveys.{refused_int, refused_range};
+ghost use Rattle.filter_verifier.specs.Surveys.{refused_int, refused_range, top_int};
 ghost use Rattle.filter_verifier.specs.Transfer.{leads_below, leads_to, out_state};
 
 use crate::abstract_frame::AbstractFrame;
+use crate::fact::Fact;
 use crate::fault::{Unverified, VerifyFault};
 use crate::in_state::InState;
 use crate::out_state::{OutState, out_state};
 use crate::range::Range;
 use crate::successors::Successors;
-use filter_code::Code;
+use filter_code::{Code, Stack};
 use std::alloc::{AllocError, Global};
+use std::mem::replace;
 
 /// The in-states before the pass: only the first instruction is reached.
 pub(crate) fn entry_states(alloc: Global, code: &Code) -> Result<Vec<InState>, AllocError>
@@ -82,23 +84,28 @@ fn propagate(
     }
 }
 
-/// Visits one instruction. The fault of the first test that fails there.
+/// Visits one instruction. The fault of the first test that fails there. What was known before it is not kept, and a stack that is empty
+/// between two visits holds its operands meanwhile.
 pub(crate) fn visit(
     alloc: Global,
     code: &Code,
     size: u32,
     at: usize,
     in_states: &mut Vec<InState>,
+    stack: &mut Stack<Fact>,
 ) -> Result<Option<VerifyFault>, AllocError>
     requires inside { at < length code.now.instrs }
     requires wide { length in_states.old.items ≡ length code.now.instrs }
+    requires empty { stack.old ≡ [] }
     ensures wide { IfOk result (λ _. length in_states.new.items ≡ length in_states.old.items) }
     ensures refused { IfOk result (λ found. found ≡ refused_by (out_state code.now size at (state_at in_states.old.items at))) }
-    ensures propagated { IfOk result (λ _. (k : ℕ) → state_at in_states.new.items k
+    ensures propagated { IfOk result (λ _. (k : ℕ) → at < k → state_at in_states.new.items k
         ≡ join_two_states (state_at in_states.old.items k)
         (as_in_state (propagated code.now at (out_state code.now size at (state_at in_states.old.items at)) k))) }
+    ensures emptied { IfOk result (λ found. found ≡ None → stack.new ≡ []) }
 {
-    match out_state(alloc, code, size, at, &in_states[at])? {
+    let in_state = replace(&mut in_states[at], InState::Unreached);
+    match out_state(code, size, at, in_state, stack)? {
         OutState::Skipped => Ok(None),
         OutState::Refused(fault) => Ok(Some(fault)),
         OutState::Passed(next) => {
@@ -114,12 +121,12 @@ pub(crate) fn visit(
     }
 }
 
-/// The range of the int that is refused, by what is known before the instruction.
-pub(crate) fn refused_int(fault: VerifyFault, known: &InState) -> Option<Range>
-    ensures { result ≡ refused_int fault (in_state_view known.now) }
+/// The range of the int that is refused, by that of the int on top of the stack before the instruction, if one was known there.
+pub(crate) fn refused_int(fault: VerifyFault, top: Option<Range>) -> Option<Range>
+    ensures { (known : InStateView) → top ≡ top_int known → result ≡ refused_int fault known }
 {
     match fault {
-        VerifyFault::ZeroDivisor(_) | VerifyFault::LowerMetric(_) => known.top_int(),
+        VerifyFault::ZeroDivisor(_) | VerifyFault::LowerMetric(_) => top,
         _ => None,
     }
 }
@@ -136,11 +143,13 @@ pub(crate) fn analyze(alloc: Global, code: &Code, size: u32) -> Result<u32, Unve
     ensures not_the_size { IfErr result (λ e. e.fault ≢ refusal.BadSize) }
 {
     let mut in_states = entry_states(alloc, code)?;
+    let mut stack = Stack::new();
     let mut depth = 0;
     for at in 0..code.instrs().len() {
         depth = depth.max(in_states[at].height());
-        if let Some(fault) = visit(alloc, code, size, at, &mut in_states)? {
-            let range = refused_int(fault, &in_states[at]);
+        let top = in_states[at].top_int();
+        if let Some(fault) = visit(alloc, code, size, at, &mut in_states, &mut stack)? {
+            let range = refused_int(fault, top);
             return Err(Unverified { fault, range });
         }
     }

@@ -13,7 +13,7 @@ use crate::bounds::budget_of;
 use crate::fault::{Unverified, VerifyFault};
 use crate::in_state::InState;
 use crate::pass::{entry_states, refused_int, visit};
-use filter_code::{Code, LARGEST_SIZE, SMALLEST_SIZE};
+use filter_code::{Code, LARGEST_SIZE, SMALLEST_SIZE, Stack};
 use std::alloc::{AllocError, Global};
 
 /// The bounds of a run of code that is verified.
@@ -59,12 +59,14 @@ fn survey_instructions(alloc: Global, code: &Code, size: u32) -> Result<Survey, 
 {
     let mut waiting = entry_states(alloc, code)?;
     let mut in_states = Vec::new(alloc);
+    let mut stack = Stack::new();
     let mut depth = 0;
     for at in 0..code.instrs().len() {
         depth = depth.max(waiting[at].height());
         in_states.push(waiting[at].copy(alloc)?)?;
-        if let Some(fault) = visit(alloc, code, size, at, &mut waiting)? {
-            let range = refused_int(fault, &waiting[at]);
+        let top = waiting[at].top_int();
+        if let Some(fault) = visit(alloc, code, size, at, &mut waiting, &mut stack)? {
+            let range = refused_int(fault, top);
             return Ok(Survey {
                 in_states,
                 verdict: Err(Unverified { fault, range }),

@@ -1,6 +1,10 @@
+use Rattle.std.proofs.Common.{◌≡◌, []}
 use Rattle.filter_verifier.proofs.Passes.{Before}
 use Rattle.filter_verifier.proofs.pass.analyze.Given as goal
 
--- all that the indices below hand on has arrived
+-- all that the indices below hand on has arrived, and the stack of the pass is empty
 abbrev pub invariant-loop-at : goal.invariant-loop-at
-invariant-loop-at l = Before l.code l.size l.at l.in_states.items l.depth
+invariant-loop-at l = record {
+  before : Before l.code l.size l.at l.in_states.items l.depth;
+  empty : l.stack ≡ [];
+}
