@@ -1,24 +1,20 @@
 -- Decimal numbers whose end is found once: what is at the front of the text is the token there.
-use Rattle.std.proofs.Common.{◌≡◌, ℕ, ◌+◌, ◌-◌, ◌<◌, ◌≤◌, ◌||◌, eqb, Bool, true, false, cond, List, [], ◌∷◌, ◌++◌, length, take, drop}
+use Rattle.std.proofs.Common.{◌≡◌, ℕ, ◌-◌, ◌<◌, ◌≤◌, eqb, Bool, true, false, cond, List, [], ◌∷◌, ◌++◌, length, take, drop}
 use Rattle.std.proofs.Common.{Option, Some, None, refl, sym, ◌∙◌, ap, subst, arith, length-drop}
 use Rattle.std.specs.Char.{is_ascii_digit}
 use Rattle.std.specs.List.{prefix_len}
 use Rattle.std.specs.Option.{option_map}
-use Rattle.std.specs.Prelude.{IfSome}
-use Rattle.std.proofs.lemmas.Bool.{eqb-true, eqb-false, ne_eqb, or_parts}
-use Rattle.std.proofs.lemmas.Option.{same_Some}
+use Rattle.std.proofs.lemmas.Bool.{ne_eqb}
 use Rattle.prefix_patterns.specs.Reading.{◌>>=◌, number_in}
 use Rattle.prefix_patterns.specs.Token.{dot}
-use Rattle.filter_tokens.specs.declared.part.Part.{Part}
 use Rattle.filter_tokens.specs.declared.part.Part.TheVariants as part
 use Rattle.filter_tokens.specs.declared.shape.Shape.TheVariants as shape
 use Rattle.filter_tokens.specs.declared.token_kind.TokenKind.TheVariants as kind
 use Rattle.filter_tokens.specs.Meaning.{greatest_number}
-use Rattle.filter_tokens.specs.Reading.{after_address, after_byte, after_digits, after_hexadecimal, begins_digit, digits_shape, drop_while}
-use Rattle.filter_tokens.specs.Reading.{goes_on, longest_shape, number_ahead, token_in, token_of}
+use Rattle.filter_tokens.specs.Reading.{after_address, after_byte, after_digits, after_hexadecimal, begins_digit, drop_while}
+use Rattle.filter_tokens.specs.Reading.{goes_on, longest_shape, token_in, token_of}
 use Rattle.filter_tokens.specs.Shapes.{small_x, zero_digit}
 use Rattle.filter_tokens.proofs.Forms.{after_hexadecimal-found}
-use Rattle.filter_tokens.proofs.Fronts.{drop_while-length}
 use Rattle.filter_tokens.proofs.Longest.{Found, a_shape, begun_by_digits, decimal_is, no_address_no_prefix}
 
 -- digits are there where there is one at least

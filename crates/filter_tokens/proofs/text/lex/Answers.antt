@@ -60,3 +60,6 @@ returns-in-Err-clause-one c = tokenized_once c.args.text.now
 
 pub returns-clause-one : goal.returns-clause-one
 returns-clause-one c = tokenized_once c.args.text.now
+
+pub returns-in_err-tokens-clause-one : goal.returns-in_err-tokens-clause-one
+returns-in_err-tokens-clause-one c = tokenized_once c.args.text.now
