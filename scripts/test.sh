@@ -49,6 +49,9 @@ add() {
 }
 
 add rt ci
+# What the gate took so far, by the system's own sum, as bench/GATE.md counts it.
+times >"$output"
+echo "rt ci: $(tail -n 1 "$output") of processor time, in user code and in the system"
 # The program that the gate has built runs the examples. Without it the sources do, by `rt try`.
 if [ -x crates/ncroute/out/ncroute ]; then
     export NCROUTE="$PWD/crates/ncroute/out/ncroute"
