@@ -204,5 +204,5 @@ set_of_a_prefix = refl
 
 -- a test of membership has the step of both in its place, and the jump after it its own
 pub pair_in_place : slots_of (instr.Metric ∷ (instr.InSet 0 ∷ (instr.JumpIfNot 1 ∷ (instr.Accept ∷ (instr.Reject ∷ [])))))
-    ≡ step.Metric ∷ (step.Rare (rare.InSetJump 0 1) ∷ (step.JumpIfNot 1 ∷ (step.Accept ∷ (step.Rare rare.Reject ∷ []))))
+    ≡ step.Load 18 ∷ (step.InSetJump 0 1 ∷ (step.JumpIfNot 1 ∷ (step.Accept ∷ (step.Rare rare.Reject ∷ []))))
 pair_in_place = refl

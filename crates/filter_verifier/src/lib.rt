@@ -26,7 +26,7 @@ pub use fault::{Unverified, VerifyFault};
 pub use in_state::InState;
 pub use laws::bounds_follow_the_successors;
 pub use range::Range;
-pub use step::{NET_CELL, RECEIVED_CELL, RareStep, Step};
+pub use step::{METRIC_CELL, NET_CELL, RECEIVED_CELL, RareStep, Step};
 pub use survey::{RunBounds, Survey, survey_code};
 pub use verified::{Verified, verify, verify_or_tell};
 pub use word::{word_of_bool, word_of_int, word_of_ip, word_of_prefix};
