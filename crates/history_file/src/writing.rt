@@ -159,8 +159,8 @@ fn push_messages(out: &mut Vec<u8>, messages: &[Message]) -> Result<(), AllocErr
 
 /// Adds the words of a reply.
 pub(crate) fn push_reply(out: &mut Vec<u8>, reply: ReplyRef<'_>) -> Result<(), AllocError>
-    ensures ok { OnOk result (out.new.items ≡ out.old.items ++ spec.spaced (spec.reply_words (whole_reply reply))) }
-    ensures fits { OnOk result (fits.FitsReply (whole_reply reply)) }
+    ensures ok { OnOk result (out.new.items ≡ out.old.items ++ spec.spaced (spec.reply_words (whole_reply reply.entry))) }
+    ensures fits { OnOk result (fits.FitsReply (whole_reply reply.entry)) }
     ensures err { OnErr result (StartsWith out.new.items out.old.items) }
 {
     match reply {
@@ -195,8 +195,8 @@ pub fn push_entry(
     at: u32,
     entry: EntryRef<'_>,
 ) -> Result<(), AllocError>
-    ensures ok { OnOk result (out.new.items ≡ out.old.items ++ spec.entry_line at (entry_view (whole_entry entry))) }
-    ensures fits { OnOk result (fits.FitsEntry (entry_view (whole_entry entry))) }
+    ensures ok { OnOk result (out.new.items ≡ out.old.items ++ spec.entry_line at (entry_view (whole_entry entry.entry))) }
+    ensures fits { OnOk result (fits.FitsEntry (entry_view (whole_entry entry.entry))) }
     ensures err { OnErr result (StartsWith out.new.items out.old.items) }
 {
     push_decimal(out, u64::from(at))?;
@@ -269,8 +269,8 @@ pub fn write_entry(
     at: u32,
     entry: EntryRef<'_>,
 ) -> Result<(), AllocError>
-    ensures ok { OnOk result (out.new.items ≡ out.old.items ++ spec.entry_line at (entry_view (whole_entry entry)) ++ 10 ∷ []) }
-    ensures fits { OnOk result (fits.FitsEntry (entry_view (whole_entry entry))) }
+    ensures ok { OnOk result (out.new.items ≡ out.old.items ++ spec.entry_line at (entry_view (whole_entry entry.entry)) ++ 10 ∷ []) }
+    ensures fits { OnOk result (fits.FitsEntry (entry_view (whole_entry entry.entry))) }
     ensures err { OnErr result (StartsWith out.new.items out.old.items) }
 {
     push_entry(alloc, out, at, entry)?;

@@ -136,7 +136,7 @@ impl Reply {
 impl<'a> ReplyRef<'a> {
     /// Whether two replies are the same, with the same messages in the same order.
     pub fn is_same(self, other: &Reply) -> bool
-        ensures { IsTrue result ↔ (whole_reply self ≡ other.now) }
+        ensures { IsTrue result ↔ (whole_reply self.entry ≡ other.now) }
     {
         match (self, other) {
             (ReplyRef::Opened(one), Reply::Opened(two)) => one == *two,

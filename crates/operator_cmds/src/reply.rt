@@ -113,7 +113,7 @@ fn push_done(out: &mut Vec<u8>, changed: u16) -> Result<(), AllocError>
 
 /// Answers an event by the router's reply to it, which has this position in the journal.
 pub fn answer_reply(out: &mut Vec<u8>, at: u32, reply: ReplyRef<'_>) -> Result<Reply, AllocError>
-    ensures ok { IfOk result (spec.Adds (spec.reply_answer at (whole_reply reply)) out.old.items out.new.items) }
+    ensures ok { IfOk result (spec.Adds (spec.reply_answer at (whole_reply reply.entry)) out.old.items out.new.items) }
     ensures err { OnErr result (StartsWith out.new.items out.old.items) }
 {
     match reply {

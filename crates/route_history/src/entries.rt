@@ -93,6 +93,7 @@ fn keep_messages(messages: &mut Vec<Message>, taken: &[Message]) -> Kept
 }
 
 /// Keeps a reply. Its messages, if it has any, stand behind those that are kept already, where there is room for them.
+#[inline(always)]
 fn keep(messages: &mut Vec<Message>, reply: &Reply) -> Kept
     requires room { vec_len messages.old + length (carried reply.now) ≤ vec_capacity messages.old }
     requires few { length (carried reply.now) < 2 ^ 16 }
@@ -114,6 +115,7 @@ fn keep(messages: &mut Vec<Message>, reply: &Reply) -> Kept
 }
 
 /// A reply that is kept, with its messages where they stand among all.
+#[inline(always)]
 fn show(messages: &[Message], kept: Kept) -> ReplyRef<'_>
     requires { StandsIn messages.now kept }
     ensures { whole_reply result ≡ kept_reply messages.now kept }
@@ -142,6 +144,7 @@ impl Entries {
     }
 
     /// Applies an event to tables, and adds it with their reply. After an error nothing is changed.
+    #[inline(always)]
     pub(crate) fn enter(&mut self, tables: &mut Tables, event: Event) -> Result<Reply, AllocError>
         ensures done { IfOk result (λ r. next tables.old event ≡ answered tables.new r) }
         ensures entered { IfOk result (λ r. self.new ≡ self.old ++ entry event r ∷ []) }
@@ -173,6 +176,7 @@ impl Entries {
     }
 
     /// The entry at a position.
+    #[inline(always)]
     pub fn entry(&self, at: usize) -> EntryRef<'_>
         requires { at < length self.now }
         ensures { whole_entry result ≡ slice_index_or self.now at (whole_entry result) }

@@ -66,6 +66,7 @@ impl Journal {
     }
 
     /// Enters an event, and hands out its reply beside its position.
+    #[inline(always)]
     pub fn apply(&mut self, event: Event) -> Result<(u32, Reply), CallFault>
         ensures same { (self.new.opening ≡ self.old.opening) × (self.new.limit ≡ self.old.limit) }
         ensures entered { IfOk result (λ r. IsEntered self.old self.new event r.0 r.1) }

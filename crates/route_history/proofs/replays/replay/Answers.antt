@@ -7,6 +7,6 @@ pub loop-k-preserved : goal.loop-k-preserved
 loop-k-preserved c =
     let here : c.loop-k.k < length c.args.entries.now = omega arith in
     let same = c.is_same.ensures.0 c.if-not-is_same.false in
-    let on = goes_on c.args.opening.now c.args.entries.now c.loop-k.k c.loop-k.tables c.apply.new.self (whole_entry c.entry.result) c.in-Ok-apply.reply
-    here c.entry.ensures c.loop-k.invariant.replayed c.loop-k.invariant.legal c.in-Ok-apply.ensures.done (sym same) in
+    let on = goes_on c.args.opening.now c.args.entries.now c.loop-k.k c.loop-k.tables c.apply.new.self (whole_entry c.entry-entry.result) c.in-Ok-apply.reply
+    here c.entry-entry.ensures c.loop-k.invariant.replayed c.loop-k.invariant.legal c.in-Ok-apply.ensures.done (sym same) in
     record { legal = on.0; replayed = on.1 }
