@@ -61,7 +61,7 @@ fn read_entry(alloc: Global, at: u32, line: &[u8]) -> Result<Entry, LineFault>
         Err(fault) => return Err(fault),
     };
     let mut again = Vec::with_capacity(alloc, line.len())?;
-    push_entry(alloc, &mut again, at, &entry)?;
+    push_entry(alloc, &mut again, at, entry.as_ref())?;
     if again.as_slice() != line {
         return Err(LineFault::Form);
     }

@@ -9,7 +9,7 @@ use crate::history::{SavedHistory, read_history};
 use crate::writing::push_reply;
 use line_protocol::{push_decimal, push_refusal};
 use netchange_core::Reply;
-use route_history::{ReplayFault, replay};
+use route_history::{ReplayFault, replay_list};
 use std::alloc::{AllocError, Global};
 
 /// What a replay says of the text of a history.
@@ -59,7 +59,7 @@ pub fn judge(alloc: Global, bytes: &[u8]) -> Result<Verdict, AllocError>
 fn judge_saved(alloc: Global, saved: SavedHistory) -> Result<Verdict, AllocError>
     ensures { IfOk result (spec.IsVerdictOn saved) }
 {
-    match replay(alloc, &saved.opening, saved.entries.as_slice()) {
+    match replay_list(alloc, &saved.opening, saved.entries.as_slice()) {
         Ok(_) => Ok(judge_right(&saved)),
         Err(ReplayFault::Differs(at)) => tell_difference(alloc, saved, at),
         Err(ReplayFault::Memory) => Err(AllocError),
@@ -85,7 +85,7 @@ fn tell_difference(alloc: Global, saved: SavedHistory, at: usize) -> Result<Verd
     ensures { IfOk result (spec.IsVerdictOn saved) }
 {
     let mut entries = saved.entries;
-    let Ok(mut tables) = replay(alloc, &saved.opening, &entries[..at]) else {
+    let Ok(mut tables) = replay_list(alloc, &saved.opening, &entries[..at]) else {
         return Err(AllocError);
     };
     let entry = entries.remove(at);
@@ -111,9 +111,9 @@ pub fn push_verdict(out: &mut Vec<u8>, verdict: &Verdict) -> Result<(), AllocErr
             out.extend_from_slice(b"differs ")?;
             push_decimal(out, *at)?;
             out.extend_from_slice(b" saved")?;
-            push_reply(out, saved)?;
+            push_reply(out, saved.as_ref())?;
             out.extend_from_slice(b" right")?;
-            push_reply(out, right)?;
+            push_reply(out, right.as_ref())?;
         }
         Verdict::Cut(line) => {
             out.extend_from_slice(b"cut ")?;

@@ -6,6 +6,8 @@ ghost use Rattle.code_file.specs.Spelling.{spelling};
 ghost use Rattle.hex.specs.Hex.{encode_lower};
 ghost use Rattle.prefix_patterns.specs.Bits.{address_length};
 ghost use Rattle.prefix_patterns.specs.Spelling.{prefix_text};
+ghost use Rattle.netchange_core.specs.Whole.{whole_reply};
+ghost use Rattle.route_history.specs.Whole.{whole_entry};
 ghost use Rattle.history_file.specs.Fits as fits;
 ghost use Rattle.history_file.specs.Keywords.{keyword_text};
 ghost use Rattle.history_file.specs.Text as spec;
@@ -15,9 +17,9 @@ use crate::keyword::Keyword;
 use code_file::write_code;
 use filter_verifier::Verified;
 use line_protocol::push_decimal;
-use netchange_core::{Event, Message, Opening, Reply, Via};
+use netchange_core::{Event, Message, Opening, ReplyRef, Via};
 use prefix_patterns::Prefix;
-use route_history::Entry;
+use route_history::EntryRef;
 use std::alloc::{AllocError, Global};
 
 /// The first word of a history's text.
@@ -156,30 +158,30 @@ fn push_messages(out: &mut Vec<u8>, messages: &[Message]) -> Result<(), AllocErr
 }
 
 /// Adds the words of a reply.
-pub(crate) fn push_reply(out: &mut Vec<u8>, reply: &Reply) -> Result<(), AllocError>
-    ensures ok { OnOk result (out.new.items ≡ out.old.items ++ spec.spaced (spec.reply_words reply.now)) }
-    ensures fits { OnOk result (fits.FitsReply reply.now) }
+pub(crate) fn push_reply(out: &mut Vec<u8>, reply: ReplyRef<'_>) -> Result<(), AllocError>
+    ensures ok { OnOk result (out.new.items ≡ out.old.items ++ spec.spaced (spec.reply_words (whole_reply reply.entry))) }
+    ensures fits { OnOk result (fits.FitsReply (whole_reply reply.entry)) }
     ensures err { OnErr result (StartsWith out.new.items out.old.items) }
 {
     match reply {
-        Reply::Opened(session) => {
+        ReplyRef::Opened(session) => {
             push_keyword(out, Keyword::Opened)?;
-            push_number(out, u64::from(*session))
+            push_number(out, u64::from(session))
         }
-        Reply::Done { changed } => {
+        ReplyRef::Done { changed } => {
             push_keyword(out, Keyword::Done)?;
-            push_number(out, u64::from(*changed))
+            push_number(out, u64::from(changed))
         }
-        Reply::Messages(messages) => {
+        ReplyRef::Messages(messages) => {
             push_keyword(out, Keyword::Messages)?;
-            push_messages(out, messages.as_slice())
+            push_messages(out, messages)
         }
-        Reply::Route { dist, via } => {
+        ReplyRef::Route { dist, via } => {
             push_keyword(out, Keyword::Route)?;
-            push_number(out, u64::from(*dist))?;
-            push_via(out, *via)
+            push_number(out, u64::from(dist))?;
+            push_via(out, via)
         }
-        Reply::Refused(why) => {
+        ReplyRef::Refused(why) => {
             push_keyword(out, Keyword::Refused)?;
             push_word(out, why.code().as_bytes())
         }
@@ -191,15 +193,15 @@ pub fn push_entry(
     alloc: Global,
     out: &mut Vec<u8>,
     at: u32,
-    entry: &Entry,
+    entry: EntryRef<'_>,
 ) -> Result<(), AllocError>
-    ensures ok { OnOk result (out.new.items ≡ out.old.items ++ spec.entry_line at (entry_view entry.now)) }
-    ensures fits { OnOk result (fits.FitsEntry (entry_view entry.now)) }
+    ensures ok { OnOk result (out.new.items ≡ out.old.items ++ spec.entry_line at (entry_view (whole_entry entry.entry))) }
+    ensures fits { OnOk result (fits.FitsEntry (entry_view (whole_entry entry.entry))) }
     ensures err { OnErr result (StartsWith out.new.items out.old.items) }
 {
     push_decimal(out, u64::from(at))?;
-    push_event(alloc, out, &entry.event)?;
-    push_reply(out, &entry.reply)
+    push_event(alloc, out, entry.event)?;
+    push_reply(out, entry.reply)
 }
 
 /// Adds the words of prefixes, in order.
@@ -265,10 +267,10 @@ pub fn write_entry(
     alloc: Global,
     out: &mut Vec<u8>,
     at: u32,
-    entry: &Entry,
+    entry: EntryRef<'_>,
 ) -> Result<(), AllocError>
-    ensures ok { OnOk result (out.new.items ≡ out.old.items ++ spec.entry_line at (entry_view entry.now) ++ 10 ∷ []) }
-    ensures fits { OnOk result (fits.FitsEntry (entry_view entry.now)) }
+    ensures ok { OnOk result (out.new.items ≡ out.old.items ++ spec.entry_line at (entry_view (whole_entry entry.entry)) ++ 10 ∷ []) }
+    ensures fits { OnOk result (fits.FitsEntry (entry_view (whole_entry entry.entry))) }
     ensures err { OnErr result (StartsWith out.new.items out.old.items) }
 {
     push_entry(alloc, out, at, entry)?;

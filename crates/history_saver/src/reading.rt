@@ -3,7 +3,7 @@ ghost use Rattle.std.specs.Prelude.{◌≡◌, ◌≤◌, IfOk, false, length};
 ghost use Rattle.history_saver.specs.Adding as spec;
 
 use history_file::{write_entry, write_opening};
-use route_history::{Entry, Journal, LARGEST_LIMIT};
+use route_history::{Entries, Journal, LARGEST_LIMIT};
 use slot_lock::Observer;
 use std::alloc::{AllocError, Global};
 
@@ -14,7 +14,7 @@ pub const MOST_AT_ONCE: usize = 256;
 fn push_entries(
     alloc: Global,
     out: &mut Vec<u8>,
-    entries: &[Entry],
+    entries: &Entries,
     saved: usize,
 ) -> Result<usize, AllocError>
     // A position is less than the limit of a journal.
@@ -24,7 +24,7 @@ fn push_entries(
 {
     let end = entries.len().min(saved.saturating_add(MOST_AT_ONCE));
     for at in saved..end {
-        write_entry(alloc, out, at as u32, &entries[at])?;
+        write_entry(alloc, out, at as u32, entries.entry(at))?;
     }
     Ok(saved.max(end))
 }

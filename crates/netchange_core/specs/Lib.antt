@@ -9,4 +9,5 @@ pub mod Pass
 pub mod Present
 pub mod Room
 pub mod Settling
+pub mod Whole
 pub mod World

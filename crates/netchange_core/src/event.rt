@@ -1,6 +1,6 @@
 //! What happens at a router.
 
-ghost use Rattle.std.specs.Prelude.{◌≡◌};
+ghost use Rattle.std.specs.Prelude.{◌≡◌, ◌<◌, ◌^◌};
 
 use crate::tables::Tables;
 use filter_verifier::Verified;
@@ -33,7 +33,8 @@ impl Event {
 
     /// At most how many messages the tables' reply to the event has.
     pub fn room(&self, tables: &Tables) -> usize
-        ensures { result ≡ room_of tables.now self.now }
+        ensures value { result ≡ room_of tables.now self.now }
+        ensures few { result < 2 ^ 16 }
     {
         match self {
             Event::Take(session, max) => usize::from(*max).min(tables.queued(*session)),

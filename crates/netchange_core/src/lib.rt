@@ -29,5 +29,5 @@ pub use filter::pass;
 pub use laws::best_route_leads;
 pub use message::{Message, Messages};
 pub use opening::Opening;
-pub use reply::{Refusal, Reply, Via};
+pub use reply::{Refusal, Reply, ReplyRef, Via};
 pub use tables::Tables;

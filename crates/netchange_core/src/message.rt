@@ -1,6 +1,6 @@
 //! What routers tell one another.
 
-ghost use Rattle.std.specs.Prelude.{◌≡◌, ◌≤◌, ◌↔◌, IsTrue, [], length, vec_capacity};
+ghost use Rattle.std.specs.Prelude.{◌≡◌, ◌↔◌, IsTrue};
 
 use std::marker::Model;
 
@@ -51,30 +51,8 @@ impl Messages {
     }
 }
 
-impl Messages {
-    /// The same messages, in a vector that has room for them.
-    pub fn copy_into(&self, room: Vec<Message>) -> Messages
-        requires fits { length self.now ≤ vec_capacity room }
-        requires empty { room.items ≡ [] }
-        ensures { result ≡ self.now }
-    {
-        let mut items = room;
-        for message in self.as_slice() {
-            items.push_reserved(*message);
-        }
-        Messages { items }
-    }
-
-    /// Whether the messages are the same, in the same order.
-    pub fn is_same(&self, other: &Messages) -> bool
-        ensures { IsTrue result ↔ (self.now ≡ other.now) }
-    {
-        are_same(self.as_slice(), other.as_slice())
-    }
-}
-
 /// Whether two lists of messages are the same.
-fn are_same(one: &[Message], two: &[Message]) -> bool
+pub(crate) fn are_same(one: &[Message], two: &[Message]) -> bool
     ensures { IsTrue result ↔ (one.now ≡ two.now) }
 {
     if one.len() != two.len() {

@@ -1,8 +1,9 @@
 //! What a router replies to an event.
 
-ghost use Rattle.std.specs.Prelude.{◌≡◌, ◌≤◌, ◌↔◌, IsTrue, [], length, vec_capacity};
+ghost use Rattle.std.specs.Prelude.{◌≡◌, ◌↔◌, IsTrue};
+ghost use Rattle.netchange_core.specs.Whole.{whole_reply};
 
-use crate::message::{Message, Messages};
+use crate::message::{Message, Messages, are_same};
 use thiserror::Error;
 
 /// Through whom a route goes.
@@ -84,24 +85,43 @@ pub enum Reply {
     Refused(Refusal),
 }
 
-impl Reply {
-    ghost use Rattle.netchange_core.specs.Calls.{carried};
+/// A reply whose messages, if it has any, stand somewhere else, one after another.
+#[derive(Clone, Copy, Debug)]
+pub enum ReplyRef<'a> {
+    /// The number of the session that the event opened, 1 or more.
+    Opened(u32),
+    /// The event was carried out.
+    Done {
+        /// How many nodes' distances changed.
+        changed: u16,
+    },
+    /// The messages that left the queue, in the order in which they were queued.
+    Messages(&'a [Message]),
+    /// The route to a node.
+    Route {
+        /// The distance, 0 to the size of the domain, which says that there is no route.
+        dist: u16,
+        /// Through whom it goes.
+        via: Via,
+    },
+    /// The event was refused.
+    Refused(Refusal),
+}
 
-    /// The same reply. Its messages, if it has any, are put into a vector that has room for them.
-    pub fn copy_into(&self, room: Vec<Message>) -> Reply
-        requires fits { length (carried self.now) ≤ vec_capacity room }
-        requires empty { room.items ≡ [] }
-        ensures { result ≡ self.now }
+impl Reply {
+    /// The reply, with its messages where they stand.
+    pub fn as_ref(&self) -> ReplyRef<'_>
+        ensures { whole_reply result ≡ self.now }
     {
         match self {
-            Reply::Opened(session) => Reply::Opened(*session),
-            Reply::Done { changed } => Reply::Done { changed: *changed },
-            Reply::Messages(messages) => Reply::Messages(messages.copy_into(room)),
-            Reply::Route { dist, via } => Reply::Route {
+            Reply::Opened(session) => ReplyRef::Opened(*session),
+            Reply::Done { changed } => ReplyRef::Done { changed: *changed },
+            Reply::Messages(messages) => ReplyRef::Messages(messages.as_slice()),
+            Reply::Route { dist, via } => ReplyRef::Route {
                 dist: *dist,
                 via: *via,
             },
-            Reply::Refused(why) => Reply::Refused(*why),
+            Reply::Refused(why) => ReplyRef::Refused(*why),
         }
     }
 
@@ -109,12 +129,23 @@ impl Reply {
     pub fn is_same(&self, other: &Reply) -> bool
         ensures { IsTrue result ↔ (self.now ≡ other.now) }
     {
+        self.as_ref().is_same(other)
+    }
+}
+
+impl<'a> ReplyRef<'a> {
+    /// Whether two replies are the same, with the same messages in the same order.
+    pub fn is_same(self, other: &Reply) -> bool
+        ensures { IsTrue result ↔ (whole_reply self.entry ≡ other.now) }
+    {
         match (self, other) {
-            (Reply::Opened(one), Reply::Opened(two)) => one == two,
-            (Reply::Done { changed: one }, Reply::Done { changed: two }) => one == two,
-            (Reply::Messages(one), Reply::Messages(two)) => one.is_same(two),
-            (Reply::Route { dist, via }, Reply::Route { dist: d, via: v }) => dist == d && via == v,
-            (Reply::Refused(one), Reply::Refused(two)) => one == two,
+            (ReplyRef::Opened(one), Reply::Opened(two)) => one == *two,
+            (ReplyRef::Done { changed: one }, Reply::Done { changed: two }) => one == *two,
+            (ReplyRef::Messages(one), Reply::Messages(two)) => are_same(one, two.as_slice()),
+            (ReplyRef::Route { dist, via }, Reply::Route { dist: d, via: v }) => {
+                dist == *d && via == *v
+            }
+            (ReplyRef::Refused(one), Reply::Refused(two)) => one == *two,
             _ => false,
         }
     }

@@ -11,3 +11,4 @@ pub mod Unended
 pub mod Ending
 mod PlainLines
 mod Rows
+mod Told

@@ -16,7 +16,7 @@ pub fn enter(journal: &mut Journal, event: Event, out: &mut Vec<u8>) -> Result<R
     ensures err { OnErr result (StartsWith out.new.items out.old.items) }
 {
     match journal.enter(event) {
-        Ok(at) => answer_reply(out, at, &journal.entries()[at as usize].reply),
+        Ok(at) => answer_reply(out, at, journal.entries().entry(at as usize).reply),
         Err(CallFault::Full) => {
             let entries = journal.entries().len() as u64;
             refuse(out, CallFault::Full.code(), entries)

@@ -1,5 +1,5 @@
 //! What a script answers to a command that looks at its router.
-ghost use Rattle.std.specs.Prelude.{◌≡◌, ◌++◌, ◌<◌, ◌≤◌, ◌+◌, ◌^◌, true, IfOk, OnOk, OnErr, length, map};
+ghost use Rattle.std.specs.Prelude.{◌≡◌, ◌++◌, ◌<◌, ◌≤◌, ◌-◌, ◌^◌, true, IfOk, OnOk, OnErr, drop, length, map, take};
 ghost use Rattle.std.specs.Io.{StartsWith};
 ghost use Rattle.history_file.specs.Views.{entry_view};
 ghost use Rattle.operator_cmds.specs.Looks as spec;
@@ -12,7 +12,7 @@ use crate::reply::{push_pair, refuse};
 use history_file::push_entry;
 use line_protocol::{Reply, push_decimal};
 use netchange_core::{BestRoute, Tables, Via};
-use route_history::{Entry, Journal};
+use route_history::{Entries, Journal};
 use std::alloc::{AllocError, Global};
 
 /// Adds a route to a node.
@@ -122,17 +122,6 @@ pub fn answer_look(
     Ok(Reply::Answered)
 }
 
-/// The entries from a position on, as many as are told at once.
-fn told_entries(entries: &[Entry], from: u32) -> &[Entry]
-    requires { length entries.now < 2 ^ 32 }
-    ensures value { result.now ≡ spec.told_entries entries.now from }
-    ensures within { from + length result.now ≤ 2 ^ 32 }
-{
-    let first = (from as usize).min(entries.len());
-    let rest = &entries[first..];
-    &rest[..HISTORY_COUNT.min(rest.len())]
-}
-
 /// Adds what stands before an entry, where so many were told before it.
 fn push_bar(out: &mut Vec<u8>, told: usize) -> Result<(), AllocError>
     ensures ok { OnOk result (out.new.items ≡ out.old.items ++ spec.bar_before told) }
@@ -145,20 +134,32 @@ fn push_bar(out: &mut Vec<u8>, told: usize) -> Result<(), AllocError>
     }
 }
 
-/// Adds entries, the first of which has this position.
+/// How many entries are told at once, from a position on.
+fn count_told(entries: &Entries, from: u32) -> usize
+    ensures value { take result (drop from entries.now) ≡ spec.told_entries entries.now from }
+    ensures within { result ≤ length entries.now - from }
+{
+    HISTORY_COUNT.min(entries.len().saturating_sub(from as usize))
+}
+
+/// Adds so many entries, from a position on.
 fn push_entries(
     alloc: Global,
     out: &mut Vec<u8>,
     from: u32,
-    entries: &[Entry],
+    entries: &Entries,
+    count: usize,
 ) -> Result<(), AllocError>
-    requires { from + length entries.now ≤ 2 ^ 32 }
-    ensures ok { OnOk result (out.new.items ≡ out.old.items ++ spec.entries_text from 0 (map entry_view entries.now)) }
+    requires within { count ≤ length entries.now - from }
+    requires numbered { length entries.now ≤ 2 ^ 32 }
+    ensures ok { OnOk result (out.new.items ≡
+        out.old.items ++ spec.entries_text from 0 (map entry_view (take count (drop from entries.now)))) }
     ensures err { OnErr result (StartsWith out.new.items out.old.items) }
 {
-    for told in 0..entries.len() {
+    for told in 0..count {
         push_bar(out, told)?;
-        push_entry(alloc, out, from + told as u32, &entries[told])?;
+        let at = from + told as u32;
+        push_entry(alloc, out, at, entries.entry(at as usize))?;
     }
     Ok(())
 }
@@ -174,8 +175,10 @@ pub fn answer_history(
     ensures err { OnErr result (StartsWith out.new.items out.old.items) }
 {
     let _limit = journal.limit();
+    let entries = journal.entries();
+    let count = count_told(entries, from);
     out.extend_from_slice(b"history")?;
-    push_entries(alloc, out, from, told_entries(journal.entries(), from))?;
+    push_entries(alloc, out, from, entries, count)?;
     out.push(b'\n')?;
     Ok(Reply::Answered)
 }

@@ -1,10 +1,11 @@
 //! What a script answers to a line.
 ghost use Rattle.std.specs.Prelude.{◌≡◌, ◌≤◌, [], ◌∷◌, ◌++◌, flat_map, IfOk, OnOk, OnErr, codes, decimal};
 ghost use Rattle.std.specs.Io.{StartsWith};
+ghost use Rattle.netchange_core.specs.Whole.{whole_reply};
 ghost use Rattle.operator_cmds.specs.Replies as spec;
 
 use line_protocol::{Reply, push_decimal, push_refusal};
-use netchange_core::{Message, Reply as RouterReply, Via};
+use netchange_core::{Message, ReplyRef, Via};
 use std::alloc::AllocError;
 
 /// Refuses a line with a code and a place.
@@ -111,29 +112,29 @@ fn push_done(out: &mut Vec<u8>, changed: u16) -> Result<(), AllocError>
 }
 
 /// Answers an event by the router's reply to it, which has this position in the journal.
-pub fn answer_reply(out: &mut Vec<u8>, at: u32, reply: &RouterReply) -> Result<Reply, AllocError>
-    ensures ok { IfOk result (spec.Adds (spec.reply_answer at reply.now) out.old.items out.new.items) }
+pub fn answer_reply(out: &mut Vec<u8>, at: u32, reply: ReplyRef<'_>) -> Result<Reply, AllocError>
+    ensures ok { IfOk result (spec.Adds (spec.reply_answer at (whole_reply reply.entry)) out.old.items out.new.items) }
     ensures err { OnErr result (StartsWith out.new.items out.old.items) }
 {
     match reply {
-        RouterReply::Opened(session) => {
+        ReplyRef::Opened(session) => {
             out.extend_from_slice(b"opened ")?;
-            push_decimal(out, u64::from(*session))?;
+            push_decimal(out, u64::from(session))?;
         }
-        RouterReply::Done { changed } => {
-            push_done(out, *changed)?;
+        ReplyRef::Done { changed } => {
+            push_done(out, changed)?;
             return Ok(Reply::Answered);
         }
-        RouterReply::Messages(messages) => {
+        ReplyRef::Messages(messages) => {
             out.extend_from_slice(b"messages")?;
-            push_messages(out, messages.as_slice())?;
+            push_messages(out, messages)?;
         }
-        RouterReply::Route { dist, via } => {
+        ReplyRef::Route { dist, via } => {
             out.extend_from_slice(b"route ")?;
-            push_decimal(out, u64::from(*dist))?;
-            push_via(out, *via)?;
+            push_decimal(out, u64::from(dist))?;
+            push_via(out, via)?;
         }
-        RouterReply::Refused(why) => return refuse(out, why.code(), u64::from(at)),
+        ReplyRef::Refused(why) => return refuse(out, why.code(), u64::from(at)),
     }
     out.push(b'\n')?;
     Ok(Reply::Answered)

@@ -9,5 +9,6 @@ mod Histories
 mod Sessions
 mod Takes
 mod Beginnings
+mod Noting
 mod Recording
 mod Replayed

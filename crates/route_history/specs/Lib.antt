@@ -8,5 +8,7 @@ pub mod Laws
 pub mod Positions
 pub mod Replaying
 pub mod Sent
+pub mod Whole
 -- what only bodies are proved against
+pub mod Noted
 pub mod Recorded

@@ -1,16 +1,16 @@
 //! Entries as text, for people: the words of a script's commands and of its answers.
 
-use crate::entry::Entry;
-use netchange_core::{Event, Message, Reply, Via};
+use crate::entry::EntryRef;
+use netchange_core::{Event, Message, ReplyRef, Via};
 use std::fmt;
 
-impl fmt::Display for Entry {
+impl<'a> fmt::Display for EntryRef<'a> {
     /// The event and its reply, as `recv 1 7 3: done 1`. `recv`, `take` and `down` show their session, where a script names the
     /// neighbour that has it; a filter is shown by its budget and its depth.
     fn fmt<W: fmt::Write>(&self, f: &mut fmt::Formatter<W>) -> fmt::Result {
-        write_event(f, &self.event)?;
+        write_event(f, self.event)?;
         f.write_str(": ")?;
-        write_reply(f, &self.reply)
+        write_reply(f, self.reply)
     }
 }
 
@@ -36,13 +36,13 @@ fn write_event<W: fmt::Write>(f: &mut fmt::Formatter<W>, event: &Event) -> fmt::
 }
 
 /// The words of a reply.
-fn write_reply<W: fmt::Write>(f: &mut fmt::Formatter<W>, reply: &Reply) -> fmt::Result {
+fn write_reply<W: fmt::Write>(f: &mut fmt::Formatter<W>, reply: ReplyRef<'_>) -> fmt::Result {
     match reply {
-        Reply::Opened(session) => write!(f, "opened {session}"),
-        Reply::Done { changed } => write!(f, "done {changed}"),
-        Reply::Messages(messages) => write_messages(f, messages.as_slice()),
-        Reply::Route { dist, via } => write_route(f, *dist, *via),
-        Reply::Refused(why) => {
+        ReplyRef::Opened(session) => write!(f, "opened {session}"),
+        ReplyRef::Done { changed } => write!(f, "done {changed}"),
+        ReplyRef::Messages(messages) => write_messages(f, messages),
+        ReplyRef::Route { dist, via } => write_route(f, dist, via),
+        ReplyRef::Refused(why) => {
             let code = why.code();
             write!(f, "refused {code}")
         }

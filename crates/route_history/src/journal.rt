@@ -5,7 +5,7 @@ ghost use Rattle.netchange_core.specs.Calls.{carried, room_of, session_of};
 ghost use Rattle.route_history.specs.Calls.{IsEntered, IsRefused};
 ghost use Rattle.route_history.specs.History.{IsLegal, world_of};
 
-use crate::entry::Entry;
+use crate::entries::Entries;
 use crate::fault::CallFault;
 use netchange_core::{Event, Opening, Reply, Tables};
 use std::alloc::{AllocError, Global};
@@ -18,7 +18,7 @@ pub const LARGEST_LIMIT: u32 = 1_000_000;
 #[derive(Debug, Drop)]
 pub struct Journal {
     limit: u32,
-    entries: Vec<Entry>,
+    entries: Entries,
     tables: Tables,
 }
 
@@ -29,9 +29,9 @@ impl Model for Journal {
 
     ghost use Rattle.route_history.specs.Recorded.{IsRecorded};
 
-    ghost view = { λ j. record { opening = j.tables.opening; limit = j.limit; entries = j.entries.items } };
+    ghost view = { λ j. record { opening = j.tables.opening; limit = j.limit; entries = j.entries } };
 
-    ghost invariant = { λ j. IsRecorded j.tables j.limit j.entries.items };
+    ghost invariant = { λ j. IsRecorded j.tables j.limit j.entries };
 }
 
 impl Journal {
@@ -45,7 +45,7 @@ impl Journal {
         let tables = Tables::open(alloc, opening)?;
         Ok(Journal {
             limit,
-            entries: Vec::new(alloc),
+            entries: Entries::new(alloc),
             tables,
         })
     }
@@ -59,41 +59,33 @@ impl Journal {
         ensures legal { IsLegal self.new.opening self.new.entries × (length self.new.entries ≤ self.new.limit) }
         ensures refused { IfErr result (λ f. IsRefused f self.old self.new) }
     {
+        match self.apply(event) {
+            Ok((position, _reply)) => Ok(position),
+            Err(fault) => Err(fault),
+        }
+    }
+
+    /// Enters an event, and hands out its reply beside its position.
+    #[inline(always)]
+    pub fn apply(&mut self, event: Event) -> Result<(u32, Reply), CallFault>
+        ensures same { (self.new.opening ≡ self.old.opening) × (self.new.limit ≡ self.old.limit) }
+        ensures entered { IfOk result (λ r. IsEntered self.old self.new event r.0 r.1) }
+        ensures fits { IfOk result (λ r. length (carried r.1) ≤ room_of (world_of self.old.opening self.old.entries) event) }
+        ensures legal { IsLegal self.new.opening self.new.entries × (length self.new.entries ≤ self.new.limit) }
+        ensures refused { IfErr result (λ f. IsRefused f self.old self.new) }
+    {
         let position = self.entries.len();
         if position >= self.limit as usize {
             return Err(CallFault::Full);
         }
-        let Ok(()) = self.entries.reserve(1) else {
+        let Ok(reply) = self.entries.enter(&mut self.tables, event) else {
             return Err(CallFault::Memory);
         };
-        let Ok(reply) = self.tables.apply(&event) else {
-            return Err(CallFault::Memory);
-        };
-        self.entries.push_reserved(Entry { event, reply });
-        Ok(position as u32)
-    }
-
-    /// Enters an event, and hands out a copy of its reply beside its position.
-    pub fn apply(&mut self, event: Event) -> Result<(u32, Reply), CallFault>
-        ensures same { (self.new.opening ≡ self.old.opening) × (self.new.limit ≡ self.old.limit) }
-        ensures entered { IfOk result (λ r. IsEntered self.old self.new event r.0 r.1) }
-        ensures legal { IsLegal self.new.opening self.new.entries × (length self.new.entries ≤ self.new.limit) }
-        ensures refused { IfErr result (λ f. IsRefused f self.old self.new) }
-    {
-        if self.entries.len() >= self.limit as usize {
-            return Err(CallFault::Full);
-        }
-        let alloc = *self.entries.allocator();
-        let Ok(room) = Vec::with_capacity(alloc, event.room(&self.tables)) else {
-            return Err(CallFault::Memory);
-        };
-        let position = self.enter(event)?;
-        let reply = self.entries[position as usize].reply.copy_into(room);
-        Ok((position, reply))
+        Ok((position as u32, reply))
     }
 
     /// The entries, in order.
-    pub fn entries(&self) -> &[Entry]
+    pub fn entries(&self) -> &Entries
         ensures value { result.now ≡ self.now.entries }
         ensures legal { IsLegal self.now.opening result.now }
         ensures room { length result.now ≤ self.now.limit }

@@ -41,7 +41,7 @@ pub(crate) fn answer_call<R: Wait + Clock, L: Listener>(
     match called {
         Ok(answer) => {
             tell(rt, listener, exported, &answer);
-            answer_reply(out, answer.at, &answer.reply)
+            answer_reply(out, answer.at, answer.reply.as_ref())
         }
         Err(CallFault::Full) => refuse(out, CallFault::Full.code(), u64::from(limit)),
         Err(CallFault::Memory) => Err(AllocError),

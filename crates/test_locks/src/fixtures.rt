@@ -6,7 +6,7 @@ ghost use Rattle.slot_lock.specs.Held.{IsFirst, IsPassOf};
 use expectations::{expect, expect_number, expect_text};
 use netchange_core::{Event, Opening, Tables};
 use prefix_patterns::{Ip, Prefix};
-use route_history::{Entry, Journal, LARGEST_LIMIT, replay};
+use route_history::{Entries, Journal, LARGEST_LIMIT, replay};
 use slot_lock::{Answer, Pass, Router};
 use std::alloc::Global;
 use std::test::Fail;
@@ -45,9 +45,10 @@ pub fn enter_once(router: &Router, pass: &mut Pass, event: Event) -> Result<Answ
 
 /// Expects that the entries of a journal read so, and that they replay.
 pub fn expect_entries(alloc: Global, journal: &Journal, lines: &[&str]) -> Result<(), Fail> {
-    expect_number(journal.entries().len() as u64, lines.len() as u64)?;
-    for (entry, line) in journal.entries().iter().zip(lines) {
-        expect_text(alloc, entry, line)?;
+    let entries = journal.entries();
+    expect_number(entries.len() as u64, lines.len() as u64)?;
+    for (at, line) in (0..entries.len()).zip(lines) {
+        expect_text(alloc, &entries.entry(at), line)?;
     }
     expect_replay(alloc, journal)
 }
@@ -66,7 +67,7 @@ pub fn expect_answers(alloc: Global, journal: &Journal, answers: &[Answer]) -> R
 }
 
 /// Whether an answer is that of the entry at its position, and the first found there. Notes that it was found.
-fn is_first_at(entries: &[Entry], answer: &Answer, found: &mut [bool]) -> bool {
+fn is_first_at(entries: &Entries, answer: &Answer, found: &mut [bool]) -> bool {
     let at = answer.at as usize;
     let (Some(entry), Some(was_found)) = (entries.get(at), found.get_mut(at)) else {
         return false;

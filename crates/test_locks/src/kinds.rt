@@ -8,7 +8,7 @@ use expectations::{expect, expect_number};
 use filter_source::{compile_text, verify_code};
 use filter_verifier::Verified;
 use netchange_core::Event;
-use route_history::{Entry, Journal};
+use route_history::{Entries, Journal};
 use slot_lock::{Answer, Pass, Router};
 use std::alloc::Global;
 use std::sync::{Arc, Wait};
@@ -52,10 +52,10 @@ fn kind_of(event: &Event) -> usize {
 }
 
 /// Expects so many entries of each kind.
-fn expect_kinds(entries: &[Entry], each: u64) -> Result<(), Fail> {
+fn expect_kinds(entries: &Entries, each: u64) -> Result<(), Fail> {
     let mut counts = [0u64; KINDS as usize];
-    for entry in entries {
-        if let Some(count) = counts.get_mut(kind_of(&entry.event)) {
+    for at in 0..entries.len() {
+        if let Some(count) = counts.get_mut(kind_of(entries.entry(at).event)) {
             *count = count.saturating_add(1);
         }
     }

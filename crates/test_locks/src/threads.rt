@@ -7,7 +7,7 @@ use crate::callers::{Caller, Ended, Work, serve_both};
 use crate::fixtures::{enter_once, expect_answers, open};
 use expectations::{expect, expect_number};
 use netchange_core::Event;
-use route_history::{Entry, Journal};
+use route_history::{Entries, Journal};
 use slot_lock::{Answer, Pass, Router};
 use std::alloc::Global;
 use std::sync::Wait;
@@ -22,9 +22,9 @@ fn both_answers(mut first: Vec<Answer>, mut second: Vec<Answer>) -> Result<Vec<A
 }
 
 /// Whether all events of a history are looks.
-fn are_looks(entries: &[Entry]) -> bool {
-    for entry in entries {
-        let Event::Show(0) = entry.event else {
+fn are_looks(entries: &Entries) -> bool {
+    for at in 0..entries.len() {
+        let Event::Show(0) = entries.entry(at).event else {
             return false;
         };
     }
@@ -79,13 +79,13 @@ fn two_callers_look_500_times_each(rt: HostRuntime) -> Result<(), Fail> {
 }
 
 /// Whether what was told under a session, so many times, was entered in the order in which it was told.
-fn are_told(entries: &[Entry], session: u32, calls: u16) -> bool {
+fn are_told(entries: &Entries, session: u32, calls: u16) -> bool {
     let mut told = 0u16;
-    for entry in entries {
-        if let Event::Receive(under, _, dist) = entry.event
-            && under == session
+    for at in 0..entries.len() {
+        if let Event::Receive(under, _, dist) = entries.entry(at).event
+            && *under == session
         {
-            if dist != told % 5 {
+            if *dist != told % 5 {
                 return false;
             }
             told = told.saturating_add(1);

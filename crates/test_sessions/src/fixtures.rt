@@ -60,11 +60,12 @@ pub fn messages(alloc: Global, told: &[(u16, u16)]) -> Result<Vec<Message>, Fail
 /// The messages that a journal entered in a session, in order.
 pub fn received(alloc: Global, journal: &Journal, session: u32) -> Result<Vec<Message>, Fail> {
     let mut entered = Vec::new(alloc);
-    for entry in journal.entries() {
-        if let Event::Receive(under, dest, dist) = entry.event
-            && under == session
+    let entries = journal.entries();
+    for at in 0..entries.len() {
+        if let Event::Receive(under, dest, dist) = entries.entry(at).event
+            && *under == session
         {
-            entered.push(message(dest, dist))?;
+            entered.push(message(*dest, *dist))?;
         }
     }
     Ok(entered)

@@ -99,7 +99,9 @@ fn look<R: Wait>(rt: &R, router: &Router, pass: &mut Pass)
 /// The entries of a journal as text, one a line.
 fn text_of(alloc: Global, journal: &Journal) -> Result<String, Fail> {
     let mut text = String::new(alloc);
-    for entry in journal.entries() {
+    let entries = journal.entries();
+    for at in 0..entries.len() {
+        let entry = entries.entry(at);
         write!(text, "{entry}\n")?;
     }
     Ok(text)

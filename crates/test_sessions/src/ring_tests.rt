@@ -2,7 +2,7 @@
 
 use crate::fixtures::{message, received};
 use expectations::expect;
-use netchange_core::{Event, Message, Reply, Via};
+use netchange_core::{Event, Message, Reply, ReplyRef, Via};
 use ring_network::{net_lines, run_ring};
 use route_history::{Journal, replay};
 use std::alloc::Global;
@@ -17,10 +17,12 @@ use std::time::Duration;
 /// The messages that were taken from a journal's queue of a session, in order.
 fn taken(alloc: Global, journal: &Journal, session: u32) -> Result<Vec<Message>, Fail> {
     let mut messages = Vec::new(alloc);
-    for entry in journal.entries() {
-        if let (Event::Take(under, _), Reply::Messages(some)) = (&entry.event, &entry.reply) {
+    let entries = journal.entries();
+    for at in 0..entries.len() {
+        let entry = entries.entry(at);
+        if let (Event::Take(under, _), ReplyRef::Messages(some)) = (entry.event, entry.reply) {
             if *under == session {
-                messages.extend_from_slice(some.as_slice())?;
+                messages.extend_from_slice(some)?;
             }
         }
     }
@@ -30,8 +32,10 @@ fn taken(alloc: Global, journal: &Journal, session: u32) -> Result<Vec<Message>,
 /// How many neighbours a journal brought up.
 fn ups(journal: &Journal) -> u32 {
     let mut count: u32 = 0;
-    for entry in journal.entries() {
-        if let (Event::Up(_), Reply::Opened(_)) = (&entry.event, &entry.reply) {
+    let entries = journal.entries();
+    for at in 0..entries.len() {
+        let entry = entries.entry(at);
+        if let (Event::Up(_), ReplyRef::Opened(_)) = (entry.event, entry.reply) {
             count = count.saturating_add(1);
         }
     }

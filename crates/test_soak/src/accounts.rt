@@ -1,8 +1,8 @@
 //! What was done at a router, beside what its journal says of it.
 
 use crate::link::RandomLink;
-use netchange_core::{Event, Message, Reply};
-use route_history::{Entry, Journal, replay};
+use netchange_core::{Event, Message, ReplyRef};
+use route_history::{Entries, EntryRef, Journal, replay};
 use route_session::{Cause, Ending, ReadEnd, WriteEnd};
 use slot_lock::Answer;
 use std::alloc::Global;
@@ -178,25 +178,25 @@ impl Account {
     }
 
     /// Adds what entries say of sessions: how many say nothing of them.
-    fn enter_all(&mut self, entries: &[Entry]) -> Option<usize> {
+    fn enter_all(&mut self, entries: &Entries) -> Option<usize> {
         let mut others = 0usize;
-        for entry in entries {
-            others = others.wrapping_add(usize::from(!self.enter(entry)?));
+        for at in 0..entries.len() {
+            others = others.wrapping_add(usize::from(!self.enter(entries.entry(at))?));
         }
         Some(others)
     }
 
     /// Adds what an entry says of a session. False where it is none of a session's.
-    fn enter(&mut self, entry: &Entry) -> Option<bool> {
-        match (&entry.event, &entry.reply) {
+    fn enter(&mut self, entry: EntryRef<'_>) -> Option<bool> {
+        match (entry.event, entry.reply) {
             (Event::Receive(session, dest, dist), _) => {
                 let (dest, dist) = (*dest, *dist);
                 self.told
                     .add(self.alloc, *session, &[Message { dest, dist }])?;
                 Some(true)
             }
-            (Event::Take(session, _), Reply::Messages(messages)) => {
-                self.taken.add(self.alloc, *session, messages.as_slice())?;
+            (Event::Take(session, _), ReplyRef::Messages(messages)) => {
+                self.taken.add(self.alloc, *session, messages)?;
                 Some(true)
             }
             (Event::Take(_, _), _) => Some(true),
@@ -205,7 +205,7 @@ impl Account {
     }
 
     /// Whether each answer stands at its position, and no two at one.
-    fn answers_stand(&self, entries: &[Entry]) -> Option<bool> {
+    fn answers_stand(&self, entries: &Entries) -> Option<bool> {
         let mut found = Vec::from_elem(self.alloc, false, entries.len()).ok()?;
         for answer in &self.answers {
             let at = answer.at as usize;
@@ -220,10 +220,10 @@ impl Account {
 }
 
 /// How many entries are refused events.
-fn refused(entries: &[Entry]) -> u64 {
+fn refused(entries: &Entries) -> u64 {
     let mut count = 0u64;
-    for entry in entries {
-        if let Reply::Refused(_) = &entry.reply {
+    for at in 0..entries.len() {
+        if let ReplyRef::Refused(_) = entries.entry(at).reply {
             count = count.wrapping_add(1);
         }
     }

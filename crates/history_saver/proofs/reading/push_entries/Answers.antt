@@ -1,4 +1,5 @@
-use Rattle.std.proofs.Common.{◌≡◌, ◌≤◌, ◌<◌, arith, get_or, length, rules, subst}
+use Rattle.std.proofs.Common.{◌≡◌, ◌≤◌, ◌<◌, arith, get_or, length, subst}
+use Rattle.route_history.specs.Whole.{whole_entry}
 use Rattle.history_saver.specs.Adding.{AddsEntries}
 use Rattle.history_saver.proofs.Texts.{each_added, entry_added, none_added, none_misfit}
 use Rattle.history_saver.proofs.reading.push_entries.Goals as goal
@@ -12,10 +13,10 @@ loop-at-init c = record {
 
 pub loop-at-preserved : goal.loop-at-preserved
 loop-at-preserved c =
-    let e = c.index-entries-at.result in
+    let e = whole_entry c.entry.result in
     let le : c.args.saved ≤ c.loop-at.at = omega arith in
     let below : c.loop-at.at < length c.args.entries.now = omega arith in
-    let is : e ≡ get_or c.args.entries.now c.loop-at.at e = search rules in
+    let is : e ≡ get_or c.args.entries.now c.loop-at.at e = c.entry.ensures in
     record {
       text = entry_added c.args.out.now.items c.loop-at.out.items c.write_entry.new.out.items c.args.entries.now c.args.saved c.loop-at.at e
           le below is c.loop-at.invariant.text c.in_ok-write_entry.ensures.ok;
