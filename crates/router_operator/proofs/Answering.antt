@@ -1,6 +1,6 @@
 -- What is known of an answer that was added holds of the answer that was given.
 use Rattle.std.proofs.Common.{◌≡◌, ℕ, Bool, true, false, List, Result, Ok, Err, IfOk, refl, ap, sym, subst, ◌∙◌}
-use Rattle.std.specs.Prelude.{MatchBool, OnOk}
+use Rattle.std.specs.Prelude.{MatchBool}
 use Rattle.line_protocol.specs.Answers.{Answer}
 use Rattle.line_protocol.specs.declared.answers.Reply.{Reply as LineReply}
 use Rattle.operator_cmds.specs.CommandView.{CommandView}
@@ -8,11 +8,10 @@ use Rattle.operator_cmds.specs.Commands.{Read, command_in}
 use Rattle.operator_cmds.specs.Faults.{fault_code}
 use Rattle.operator_cmds.specs.Readings.{IsFault, is_code}
 use Rattle.operator_cmds.specs.Replies.{Adds, Answers, refused}
-use Rattle.operator_cmds.specs.Script as script
 use Rattle.operator_cmds.specs.declared.fault.CommandFault.{CommandFault}
 use Rattle.operator_cmds.specs.declared.fault.CommandFault.TheVariants as fault
-use Rattle.router_operator.specs.OperatorView.{OperatorView, script_of}
-use Rattle.router_operator.specs.Operators.{AnswersCommand, AnswersLine, AnswersRead, AsScript, OnlyNames, Quits, is_quit}
+use Rattle.router_operator.specs.OperatorView.{OperatorView}
+use Rattle.router_operator.specs.Operators.{AnswersCommand, AnswersLine, AnswersRead, Quits, is_quit}
 
 pub added : {E : Type 0} (r : Result LineReply E) (a : Answer) (P : Answer → Type 0) (old new : List ℕ)
     → ((answer : Answer) → answer ≡ a → P answer) → IfOk r (Adds a old new) → IfOk r (Answers P old new)
@@ -32,13 +31,6 @@ at_true b P Q e p = subst (λ (t : Bool). MatchBool t P Q) (sym e) p
 
 pub at_false : (b : Bool) (P Q : Type 0) → b ≡ false → Q → MatchBool b P Q
 at_false b P Q e q = subst (λ (t : Bool). MatchBool t P Q) (sym e) q
-
--- a script's answer, where nothing but names changed
-pub as_script : {E : Type 0} (r : Result LineReply E) (before after : OperatorView) (number : ℕ) (command : CommandView) (old new : List ℕ)
-    → IfOk r (Answers (λ answer. script.AnswersCommand (script_of before) number command answer (script_of after)) old new)
-    → OnOk r (OnlyNames before after) → IfOk r (Answers (λ answer. AsScript before number command answer after) old new)
-as_script (Ok reply) before after number command old new h only = (h.0, h.1, record { answers = h.2; names = only })
-as_script (Err e) before after number command old new h only = tt
 
 -- ---- a line by what it asks for
 

@@ -1,0 +1,15 @@
+-- Verified code is answered by its cost and its peak.
+use Rattle.std.proofs.Common.{subst}
+use Rattle.filter_verifier.specs.VerifiedView.{VerifiedView}
+use Rattle.operator_cmds.specs.Script.{GetsName, gives, lacks}
+use Rattle.operator_cmds.specs.State.{filter_at}
+use Rattle.operator_cmds.proofs.Sourced.{taken}
+use Rattle.operator_cmds.proofs.filter.name_source.Goals as goal
+
+pub returns-in-Ok-clause-ok : goal.returns-in-Ok-clause-ok
+returns-in-Ok-clause-ok c =
+    let before = filter_at c.args.filters.now in
+    let after = filter_at c.give_name.new.filters in
+    taken (gives c.args.source) (lacks c.args.source) c.args.number c.args.name.now c.args.size before after c.in-Ok.filter
+    c.args.out.now.items c.push_verified.new.text.items c.in-Ok.ensures.verified c.in_ok-push_verified.ensures.ok
+    (subst (λ (v : VerifiedView). GetsName c.args.name.now v before after) c.in_ok-new.ensures.ok c.in_ok-give_name.ensures.ok)
