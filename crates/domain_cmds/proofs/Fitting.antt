@@ -4,12 +4,14 @@ use Rattle.line_protocol.specs.Limits.{line_limit}
 use Rattle.line_protocol.specs.Words.{words}
 use Rattle.operator_cmds.specs.Commands.{code_in, load_in, made, node_in, node_prefix_in, text_in}
 use Rattle.operator_cmds.specs.WordLists.{one_of, two_of, three_of}
+use Rattle.operator_cmds.specs.declared.event.Direction.TheVariants as direction
 use Rattle.operator_cmds.specs.declared.fault.CommandFault.{CommandFault}
 use Rattle.operator_cmds.specs.declared.fault.CommandFault.TheVariants as fault
-use Rattle.domain_cmds.specs.CommandView.{CommandView, Domain, Prefix, Load, Code, Link, Cut, Import, Export, Route, Path, Table, Draw, Mark, Changes, Settle}
+use Rattle.domain_cmds.specs.CommandView.{CommandView, Domain, Prefix, Load, Code, Link, Use, Mark, Ask}
 use Rattle.domain_cmds.specs.Commands
 use Rattle.domain_cmds.specs.Commands.{HasFitSize, Read, is_size}
 use Rattle.domain_cmds.specs.Verbs.{verb_in}
+use Rattle.domain_cmds.specs.declared.command.Question.TheVariants as question
 use Rattle.domain_cmds.specs.declared.verb.Verb.{Verb}
 use Rattle.domain_cmds.specs.declared.verb.Verb.TheVariants as verb
 
@@ -43,17 +45,17 @@ command_fits (Some verb.Domain) args text = domain_fits (node_in (one_of args))
 command_fits (Some verb.Prefix) args text = made_fits (λ p. Prefix p.0 p.1) (node_prefix_in (two_of args)) (λ p. tt)
 command_fits (Some verb.Load) args text = made_fits (λ p. Load p.0 p.1) (load_in args text) (λ p. tt)
 command_fits (Some verb.Code) args text = made_fits (λ p. Code p.0 p.1) (code_in (two_of args)) (λ p. tt)
-command_fits (Some verb.Link) args text = made_fits (λ p. Link p.0 p.1) (Commands.nodes_in (two_of args)) (λ p. tt)
-command_fits (Some verb.Cut) args text = made_fits (λ p. Cut p.0 p.1) (Commands.nodes_in (two_of args)) (λ p. tt)
-command_fits (Some verb.Import) args text = made_fits (λ p. Import p.0 p.1 p.2) (Commands.filter_in (three_of args)) (λ p. tt)
-command_fits (Some verb.Export) args text = made_fits (λ p. Export p.0 p.1 p.2) (Commands.filter_in (three_of args)) (λ p. tt)
-command_fits (Some verb.Route) args text = made_fits (λ p. Route p.0 p.1) (Commands.nodes_in (two_of args)) (λ p. tt)
-command_fits (Some verb.Path) args text = made_fits (λ p. Path p.0 p.1) (Commands.nodes_in (two_of args)) (λ p. tt)
-command_fits (Some verb.Table) args text = made_fits Table (node_in (one_of args)) (λ n. tt)
-command_fits (Some verb.Draw) args text = made_fits Draw (node_in (one_of args)) (λ n. tt)
+command_fits (Some verb.Link) args text = made_fits (λ p. Link true p.0 p.1) (Commands.nodes_in (two_of args)) (λ p. tt)
+command_fits (Some verb.Cut) args text = made_fits (λ p. Link false p.0 p.1) (Commands.nodes_in (two_of args)) (λ p. tt)
+command_fits (Some verb.Import) args text = made_fits (λ p. Use direction.Import p.0 p.1 p.2) (Commands.filter_in (three_of args)) (λ p. tt)
+command_fits (Some verb.Export) args text = made_fits (λ p. Use direction.Export p.0 p.1 p.2) (Commands.filter_in (three_of args)) (λ p. tt)
+command_fits (Some verb.Route) args text = made_fits (λ p. Ask (question.Route p.0 p.1)) (Commands.nodes_in (two_of args)) (λ p. tt)
+command_fits (Some verb.Path) args text = made_fits (λ p. Ask (question.Path p.0 p.1)) (Commands.nodes_in (two_of args)) (λ p. tt)
+command_fits (Some verb.Table) args text = made_fits (λ u. Ask (question.Table u)) (node_in (one_of args)) (λ n. tt)
+command_fits (Some verb.Draw) args text = made_fits (λ v. Ask (question.Draw v)) (node_in (one_of args)) (λ n. tt)
 command_fits (Some verb.Mark) args text = alone_fits Mark args tt
-command_fits (Some verb.Changes) args text = alone_fits Changes args tt
-command_fits (Some verb.Settle) args text = alone_fits Settle args tt
+command_fits (Some verb.Changes) args text = alone_fits (Ask question.Changes) args tt
+command_fits (Some verb.Settle) args text = alone_fits (Ask question.Settle) args tt
 
 words_fit : (all : List (List ℕ)) (text : List ℕ) → Fits (Commands.command_of_words all text)
 words_fit [] text = tt
