@@ -1,4 +1,3 @@
-pub mod Fitting
 pub mod Ending
 pub mod Filling
 pub mod Telling

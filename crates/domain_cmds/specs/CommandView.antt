@@ -23,7 +23,7 @@ pub data CommandView : Type 0 where
   Ask : Question → CommandView
 
 abbrev pub view_of : Command → CommandView
-view_of (command.Domain size) = Domain size
+view_of (command.Domain size) = Domain size.nodes
 view_of (command.Prefix node prefix) = Prefix node prefix
 view_of (command.Load name text) = Load name.now text.now
 view_of (command.Code name bytes) = Code name.now bytes.items

@@ -1,6 +1,5 @@
 -- What command a line gives, or the first thing that is wrong with it. (This project's own choice.)
-use Rattle.std.specs.Prelude.{◌≡◌, ℕ, Bool, true, ◌&&◌, List, [], ◌∷◌, length, nat_le, nat_lt, Option, Some, None, Result, Ok, Err, if◌then◌else◌}
-use Rattle.filter_code.specs.Limits.{smallest_size, largest_size}
+use Rattle.std.specs.Prelude.{ℕ, List, [], ◌∷◌, length, nat_lt, Option, Some, None, Result, Ok, Err, if◌then◌else◌}
 use Rattle.line_protocol.specs.Limits.{line_limit}
 use Rattle.line_protocol.specs.Words.{words}
 use Rattle.prefix_patterns.specs.Reading.{number_in}
@@ -12,6 +11,7 @@ use Rattle.operator_cmds.specs.declared.event.Direction.TheVariants as direction
 use Rattle.operator_cmds.specs.declared.fault.CommandFault.{CommandFault}
 use Rattle.operator_cmds.specs.declared.fault.CommandFault.TheVariants as fault
 use Rattle.domain_cmds.specs.CommandView.{CommandView, Domain, Prefix, Load, Code, Link, Use, Mark, Ask}
+use Rattle.domain_cmds.specs.Sizes.{is_size}
 use Rattle.domain_cmds.specs.Verbs.{verb_in}
 use Rattle.domain_cmds.specs.declared.command.Question.TheVariants as question
 use Rattle.domain_cmds.specs.declared.verb.Verb.{Verb}
@@ -20,10 +20,6 @@ use Rattle.domain_cmds.specs.declared.verb.Verb.TheVariants as verb
 -- a command, or what is wrong with its line
 abbrev pub Read : Type 0
 Read = Result CommandView CommandFault
-
--- a domain has 2 to 250 nodes
-abbrev pub is_size : ℕ → Bool
-is_size size = nat_le smallest_size size && nat_le size largest_size
 
 abbrev pub domain_parts : Result ℕ CommandFault → Read
 domain_parts (Err why) = Err why
@@ -85,8 +81,3 @@ command_of_words (first ∷ args) text = command_of (verb_in first) args text
 -- the command that a line gives
 abbrev pub command_in : List ℕ → Read
 command_in line = if nat_lt line_limit (length line) then Err fault.TooLong else command_of_words (words line) (text_in line)
-
--- the size of the domain that a command sets up is one; whether nodes fit is judged by the script
-abbrev pub HasFitSize : CommandView → Type 0
-HasFitSize (Domain size) = is_size size ≡ true
-HasFitSize command = Unit {0}

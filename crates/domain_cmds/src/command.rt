@@ -1,12 +1,23 @@
 //! A command of the domain's script.
+ghost use Rattle.std.specs.Prelude.{◌≡◌, true};
+ghost use Rattle.domain_cmds.specs.Sizes.{is_size};
+
 use operator_cmds::Direction;
 use prefix_patterns::Prefix;
+
+/// The number of nodes of a domain.
+#[derive(Clone, Copy)]
+pub struct DomainSize {
+    /// 2 to 250.
+    pub nodes: u16,
+    ghost fits: { is_size nodes ≡ true },
+}
 
 /// One command with the words after it. Contracts see it as a `CommandView`. Whether there are such nodes is judged by the script.
 #[derive(Drop)]
 pub enum Command<'a> {
-    /// `domain N`: a domain of N nodes, 2 to 250.
-    Domain(u16),
+    /// `domain N`: a domain of N nodes.
+    Domain(DomainSize),
     /// `prefix V P`: the prefix of a node.
     Prefix {
         /// V.

@@ -1,10 +1,10 @@
 //! A domain that is set up: its plan, and what its script did with it.
-ghost use Rattle.std.specs.Prelude.{◌≡◌, ◌≢◌, ◌<◌, true, IfOk, IsTrue, OnErr};
+ghost use Rattle.std.specs.Prelude.{◌≡◌, ◌≢◌, ◌<◌, IfOk, IsTrue, OnErr};
 ghost use Rattle.std.specs.Io.{StartsWith};
 ghost use Rattle.domain_cmds.specs.Script as spec;
 
 use crate::asking::answer_question;
-use crate::command::{Command, Question};
+use crate::command::{Command, DomainSize, Question};
 use crate::fault::StateFault;
 use crate::filters::Filters;
 use crate::playing::{Change, Playing};
@@ -75,19 +75,17 @@ impl Planning {
     ghost use Rattle.operator_cmds.specs.Replies.{Answers};
     ghost use Rattle.operator_cmds.specs.Script.{gives, lacks};
     ghost use Rattle.domain_cmds.specs.CommandView.{view_of};
-    ghost use Rattle.domain_cmds.specs.Commands.{HasFitSize, is_size};
     ghost use Rattle.domain_cmds.specs.State.{filter_named};
 
     /// A domain of so many nodes without links, with the default prefixes.
-    pub(crate) fn new(alloc: Global, size: u16) -> Result<Planning, AllocError>
-        requires { is_size size ≡ true }
-        ensures { IfOk result (λ planning. planning ≡ spec.new_planning size) }
+    pub(crate) fn new(alloc: Global, size: DomainSize) -> Result<Planning, AllocError>
+        ensures { IfOk result (λ planning. planning ≡ spec.new_planning size.nodes) }
     {
-        let prefixes = default_prefixes(alloc, size)?;
+        let prefixes = default_prefixes(alloc, size.nodes)?;
         let plan = Plan::new(alloc, prefixes)?.unwrap();
         Ok(Planning {
             domain: RestingPlan::new(plan),
-            filters: Filters::new(alloc, size),
+            filters: Filters::new(alloc, size.nodes),
             begun: false,
             marked: None,
             playing: Playing::new(alloc),
@@ -121,7 +119,6 @@ impl Planning {
         command: Command<'_>,
         out: &mut Vec<u8>,
     ) -> Result<Reply, AllocError>
-        requires { HasFitSize (view_of command) }
         ensures ok { IfOk result (Answers (λ answer. spec.AnswersPlanned self.old number (view_of command.entry) answer self.new) out.old.items out.new.items) }
         ensures err { OnErr result (StartsWith out.new.items out.old.items) }
     {

@@ -10,7 +10,7 @@ ghost use Rattle.domain_cmds.specs.CommandView as command;
 ghost use Rattle.domain_cmds.specs.Commands as spec;
 ghost use Rattle.domain_cmds.specs.Readings.{IsRead, IsReadIn};
 
-use crate::command::{Command, Question};
+use crate::command::{Command, DomainSize, Question};
 use crate::verb::{Verb, read_verb};
 use filter_code::{LARGEST_SIZE, SMALLEST_SIZE};
 use line_protocol::{LINE_LIMIT, next_word};
@@ -47,10 +47,9 @@ fn read_nodes(rest: &[u8]) -> Result<(u16, u16), CommandFault>
 fn read_domain<'a>(rest: &[u8]) -> Result<Command<'a>, CommandFault>
     ensures { IsRead result (spec.domain_of (one_of (words rest.now))) }
 {
-    let size = read_node(rest)?;
-    let nodes = u32::from(size);
-    if SMALLEST_SIZE <= nodes && nodes <= LARGEST_SIZE {
-        Ok(Command::Domain(size))
+    let nodes = read_node(rest)?;
+    if SMALLEST_SIZE <= u32::from(nodes) && u32::from(nodes) <= LARGEST_SIZE {
+        Ok(Command::Domain(DomainSize { nodes }))
     } else {
         Err(CommandFault::Numbers)
     }
