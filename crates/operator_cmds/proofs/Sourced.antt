@@ -1,8 +1,9 @@
 -- What became of a source, and the answer to it.
-use Rattle.std.proofs.Common.{◌≡◌, ℕ, List, ◌++◌, Some, None, Result, Ok, Err, IfOk, IfErr, inl, inr, refl, sym, subst, ap}
+use Rattle.std.proofs.Common.{◌≡◌, ℕ, List, ◌++◌, Some, None, Result, Ok, Err, IfOk, IfErr, inl, inr, refl, sym, subst, ap, ◌∙◌}
 use Rattle.std.specs.Prelude.{OnOk}
 use Rattle.filter_code.specs.CodeView.{CodeView}
 use Rattle.filter_source.specs.Failures.{OnRefusal}
+use Rattle.filter_source.specs.Refusals.{place_in_line, refusal_code}
 use Rattle.filter_source.specs.Sources.{IsUnsafe}
 use Rattle.filter_source.specs.VerifiedLine.{verified_line}
 use Rattle.filter_source.specs.declared.failure.Failure.{Failure}
@@ -14,7 +15,7 @@ use Rattle.filter_verifier.specs.VerifiedView.{VerifiedView}
 use Rattle.line_protocol.specs.Answers.{Answer}
 use Rattle.line_protocol.specs.declared.answers.Reply.{Reply}
 use Rattle.line_protocol.specs.declared.answers.Reply.TheVariants.{Answered}
-use Rattle.operator_cmds.specs.Replies.{Answers}
+use Rattle.operator_cmds.specs.Replies.{Adds, Answers, refused}
 use Rattle.operator_cmds.specs.Script.{AnswersFilter, AnswersSource, Filters, GetsName, IsRefusedBy, IsVerified, NamesSource, ScriptView}
 use Rattle.operator_cmds.specs.Stages.{StageView, Empty, Setting, Open, size_in}
 
@@ -44,6 +45,19 @@ module _ (Gives : CodeView → Type 0) (Lacks : Refusal → Type 0) (number : �
       → new ≡ old ++ verified_line filter.program → GetsName name filter before after
       → Answers (λ answer. AnswersSource Gives Lacks size number name before answer after) old new Answered
   taken size before after filter old new is added gets = (verified_line filter.program, added, inl (filter, is, (refl, gets)))
+
+  -- a refusal is answered by its code and its place, and changes no name
+  pub turned_away : {E : Type 0} (size : ℕ) (names : Filters) (why : Refusal) (code : List ℕ) (at : ℕ) (done : Result Reply E)
+      (old new : List ℕ) → IsRefusedBy Gives Lacks size why → code ≡ refusal_code why → at ≡ place_in_line why number
+      → IfOk done (Adds (refused code at) old new)
+      → IfOk done (Answers (λ answer. AnswersSource Gives Lacks size number name names answer names) old new)
+  turned_away size names why code at (Ok reply) old new is e f h =
+      let line : List ℕ = (refused code at).text in
+      let told : record { text = line; reply = reply } ≡ refused (refusal_code why) (place_in_line why number) =
+      ap (λ (r : Reply). record { text = line; reply = r }) h.1 ∙ ap (λ (c : List ℕ). refused c at) e
+      ∙ ap (λ (n : ℕ). refused (refusal_code why) n) f in
+      (line, h.0, inr (why, is, (told, λ other. refl)))
+  turned_away size names why code at (Err x) old new is e f h = tt
 
   by_stage : (stage : StageView) (size : ℕ) (before : ScriptView) (answer : Answer) (after : ScriptView) → size_in stage ≡ Some size
       → NamesSource Gives Lacks size number name before answer after → AnswersFilter stage Gives Lacks number name before answer after

@@ -1,9 +1,9 @@
--- Verified code is answered by its cost and its peak.
+-- Verified code is answered by its cost and its peak, and a refusal by its code and its place.
 use Rattle.std.proofs.Common.{subst}
 use Rattle.filter_verifier.specs.VerifiedView.{VerifiedView}
 use Rattle.operator_cmds.specs.Script.{GetsName, gives, lacks}
 use Rattle.operator_cmds.specs.State.{filter_at}
-use Rattle.operator_cmds.proofs.Sourced.{taken}
+use Rattle.operator_cmds.proofs.Sourced.{taken, turned_away}
 use Rattle.operator_cmds.proofs.filter.name_source.Goals as goal
 
 pub returns-in-Ok-clause-ok : goal.returns-in-Ok-clause-ok
@@ -13,3 +13,9 @@ returns-in-Ok-clause-ok c =
     taken (gives c.args.source) (lacks c.args.source) c.args.number c.args.name.now c.args.size before after c.in-Ok.filter
     c.args.out.now.items c.push_verified.new.text.items c.in-Ok.ensures.verified c.in_ok-push_verified.ensures.ok
     (subst (λ (v : VerifiedView). GetsName c.args.name.now v before after) c.in_ok-new.ensures.ok c.in_ok-give_name.ensures.ok)
+
+pub returns-in-Err-Refused-clause-ok : goal.returns-in-Err-Refused-clause-ok
+returns-in-Err-Refused-clause-ok c =
+    turned_away (gives c.args.source) (lacks c.args.source) c.args.number c.args.name.now c.args.size (filter_at c.args.filters.now)
+    c.in-Err-Refused.refused.refusal c.code.result.now c.place_in_line.result c.refuse.result c.args.out.now.items c.refuse.new.out.items
+    c.in-Err-Refused.ensures.refused c.code.ensures c.place_in_line.ensures c.refuse.ensures.ok
