@@ -18,6 +18,7 @@ use Rattle.line_protocol.specs.declared.answers.Reply.TheVariants.{Answered}
 use Rattle.operator_cmds.specs.Replies.{Adds, Answers, refused}
 use Rattle.operator_cmds.specs.Script.{AnswersFilter, AnswersSource, Filters, GetsName, IsRefusedBy, IsVerified, NamesSource, ScriptView}
 use Rattle.operator_cmds.specs.Stages.{StageView, Empty, Setting, Open, size_in}
+use Rattle.operator_cmds.proofs.Answering.{added, answers}
 
 same : (size other : ℕ) → Some other ≡ Some size → size ≡ other
 same size other e = cc
@@ -51,13 +52,16 @@ module _ (Gives : CodeView → Type 0) (Lacks : Refusal → Type 0) (number : �
       (old new : List ℕ) → IsRefusedBy Gives Lacks size why → code ≡ refusal_code why → at ≡ place_in_line why number
       → IfOk done (Adds (refused code at) old new)
       → IfOk done (Answers (λ answer. AnswersSource Gives Lacks size number name names answer names) old new)
-  turned_away size names why code at (Ok reply) old new is e f h =
-      let line : List ℕ = (refused code at).text in
-      let told : record { text = line; reply = reply } ≡ refused (refusal_code why) (place_in_line why number) =
-      ap (λ (r : Reply). record { text = line; reply = r }) h.1 ∙ ap (λ (c : List ℕ). refused c at) e
-      ∙ ap (λ (n : ℕ). refused (refusal_code why) n) f in
-      (line, h.0, inr (why, is, (told, λ other. refl)))
-  turned_away size names why code at (Err x) old new is e f h = tt
+  turned_away size names why code at done old new is e f h =
+      added done (refused code at) (λ answer. AnswersSource Gives Lacks size number name names answer names) old new
+      (λ answer told. inr (
+        why,
+        is,
+        (
+          told ∙ ap (λ (c : List ℕ). refused c at) e ∙ ap (λ (n : ℕ). refused (refusal_code why) n) f,
+          λ other. refl,
+        ),
+      )) h
 
   by_stage : (stage : StageView) (size : ℕ) (before : ScriptView) (answer : Answer) (after : ScriptView) → size_in stage ≡ Some size
       → NamesSource Gives Lacks size number name before answer after → AnswersFilter stage Gives Lacks number name before answer after
@@ -72,6 +76,7 @@ module _ (Gives : CodeView → Type 0) (Lacks : Refusal → Type 0) (number : �
       → size_in stage ≡ Some size → after.stage ≡ before.stage
       → IfOk done (Answers (λ answer. AnswersSource Gives Lacks size number name before.filters answer after.filters) old new)
       → IfOk done (Answers (λ answer. AnswersFilter stage Gives Lacks number name before answer after) old new)
-  sourced stage size before after (Ok reply) old new e stays h =
-      (h.0, h.1, by_stage stage size before (record { text = h.0; reply = reply }) after e (record { stage = stays; filters = h.2 }))
-  sourced stage size before after (Err x) old new e stays h = tt
+  sourced stage size before after done old new e stays h =
+      answers done (λ answer. AnswersSource Gives Lacks size number name before.filters answer after.filters)
+      (λ answer. AnswersFilter stage Gives Lacks number name before answer after) old new
+      (λ answer a. by_stage stage size before answer after e (record { stage = stays; filters = a })) h

@@ -1,5 +1,5 @@
--- What is known of an answer that was added holds of the answer that was given.
-use Rattle.std.proofs.Common.{◌≡◌, ℕ, Bool, true, false, List, Result, Ok, Err, IfOk, refl, ap, sym, subst, ◌∙◌}
+-- The answer to what a line asks for is the answer to the line.
+use Rattle.std.proofs.Common.{◌≡◌, ℕ, Bool, true, false, List, Result, Ok, Err, IfOk, refl, sym, subst, ◌∙◌}
 use Rattle.std.specs.Prelude.{MatchBool}
 use Rattle.line_protocol.specs.Answers.{Answer}
 use Rattle.line_protocol.specs.declared.answers.Reply.{Reply as LineReply}
@@ -10,20 +10,9 @@ use Rattle.operator_cmds.specs.Readings.{IsFault, is_code}
 use Rattle.operator_cmds.specs.Replies.{Adds, Answers, refused}
 use Rattle.operator_cmds.specs.declared.fault.CommandFault.{CommandFault}
 use Rattle.operator_cmds.specs.declared.fault.CommandFault.TheVariants as fault
+use Rattle.operator_cmds.proofs.Answering.{added, answers}
 use Rattle.router_operator.specs.OperatorView.{OperatorView}
 use Rattle.router_operator.specs.Operators.{AnswersCommand, AnswersLine, AnswersRead, Quits, is_quit}
-
-pub added : {E : Type 0} (r : Result LineReply E) (a : Answer) (P : Answer → Type 0) (old new : List ℕ)
-    → ((answer : Answer) → answer ≡ a → P answer) → IfOk r (Adds a old new) → IfOk r (Answers P old new)
-added (Ok reply) a P old new f h =
-    (a.text, h.0, f (record { text = a.text; reply = reply }) (ap (λ (l : LineReply). record { text = a.text; reply = l }) h.1))
-added (Err e) a P old new f h = tt
-
--- of an answer more follows
-pub answers : {E : Type 0} (r : Result LineReply E) (P Q : Answer → Type 0) (old new : List ℕ)
-    → ((answer : Answer) → P answer → Q answer) → IfOk r (Answers P old new) → IfOk r (Answers Q old new)
-answers (Ok reply) P Q old new f h = (h.0, h.1, f (record { text = h.0; reply = reply }) h.2)
-answers (Err e) P Q old new f h = tt
 
 -- a fact for one value of a test, where the test has it
 pub at_true : (b : Bool) (P Q : Type 0) → b ≡ true → P → MatchBool b P Q

@@ -16,7 +16,7 @@ use Rattle.operator_cmds.proofs.Naming.{Key}
 use Rattle.slot_lock.specs.Held.{PassView, RouterView}
 use Rattle.router_operator.specs.OperatorView.{IsAt, OperatorView, script_of}
 use Rattle.router_operator.specs.Operators.{AnswersEvent, AnswersUse, AsScript, loading}
-use Rattle.router_operator.proofs.Answering.{answers}
+use Rattle.operator_cmds.proofs.Answering.{answers}
 
 abbrev Filters : Type 0
 Filters = BTreeMap Key (Arc VerifiedView Global)
