@@ -12,8 +12,8 @@ returns-in_ok-give_name-in-Ok-clause-ok c =
     let before = filter_at c.args.filters.now in
     let after = filter_at c.give_name.new.filters in
     taken (gives c.args.source) (lacks c.args.source) c.args.number c.args.name.now c.args.size before after c.in-Ok.filter
-    c.args.out.now.items c.push_verified.new.text.items c.in-Ok.ensures.verified c.in_ok-push_verified.ensures.ok
-    (subst (λ (v : VerifiedView). GetsName c.args.name.now v before after) c.in_ok-new.ensures.ok c.in_ok-give_name.ensures.ok)
+    c.args.out.now.items c.push_verified.new.text.items c.in-Ok.ensures.verified c.in_ok-push_verified-in-Ok.ensures.ok
+    (subst (λ (v : VerifiedView). GetsName c.args.name.now v before after) c.in_ok-new-in-Ok.ensures.ok c.in_ok-give_name-in-Ok.ensures.ok)
 
 pub returns-in-Err-Refused-clause-ok : goal.returns-in-Err-Refused-clause-ok
 returns-in-Err-Refused-clause-ok c =
@@ -21,4 +21,4 @@ returns-in-Err-Refused-clause-ok c =
     c.in-Err-Refused.refused.refusal c.code.result.now c.place_in_line.result c.refuse.result c.args.out.now.items c.refuse.new.out.items
     (subst (OnRefusal (IsRefusedBy (gives c.args.source) (lacks c.args.source) c.args.size)) c.in-Err-Refused.field-0-is
     c.in-Err-Refused.ensures.refused)
-    c.code.ensures c.place_in_line.ensures c.refuse.ensures.ok
+    (rw c.in-Err-Refused.field-0-is at c.code.ensures) (rw c.in-Err-Refused.field-0-is at c.place_in_line.ensures) c.refuse.ensures.ok
