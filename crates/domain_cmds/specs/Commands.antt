@@ -1,5 +1,5 @@
 -- What command a line gives, or the first thing that is wrong with it. (This project's own choice.)
-use Rattle.std.specs.Prelude.{ℕ, List, [], ◌∷◌, length, nat_lt, Option, Some, None, Result, Ok, Err, if◌then◌else◌}
+use Rattle.std.specs.Prelude.{ℕ, true, false, List, [], ◌∷◌, length, nat_lt, Option, Some, None, Result, Ok, Err, if◌then◌else◌}
 use Rattle.line_protocol.specs.Limits.{line_limit}
 use Rattle.line_protocol.specs.Words.{words}
 use Rattle.prefix_patterns.specs.Reading.{number_in}
