@@ -1,41 +1,38 @@
 -- A script ends where its input does: no answer ends it before.
 use Rattle.std.proofs.Common.{ℕ, Bool, List, Option, Some, None, Ok, Err, refl, inl, inr, nat_lt, ◌&&◌}
-use Rattle.filter_code.specs.CodeView.{CodeView}
 use Rattle.filter_source.specs.Sources.{IsRefusedText}
-use Rattle.filter_source.specs.declared.refusal.Refusal.{Refusal}
 use Rattle.filter_verifier.specs.VerifiedView.{VerifiedView}
 use Rattle.line_protocol.specs.Answers.{Answer}
 use Rattle.operator_cmds.specs.Script.{GivesFile, GivesText, IsRefusedFile}
-use Rattle.domain_routes.specs.Edits.{exporting, importing}
+use Rattle.domain_routes.specs.Edits.{linking}
 use Rattle.domain_routes.specs.PlanView.{PlanView, is_linked}
 use Rattle.domain_routes.specs.declared.best.Best.{Best}
-use Rattle.domain_cmds.specs.CommandView.{CommandView, Domain, Prefix, Load, Code, Link, Cut, Import, Export, Route, Path, Table, Draw, Mark, Changes, Settle}
+use Rattle.domain_cmds.specs.CommandView.{CommandView, Domain, Prefix, Load, Code, Link, Use, Mark, Ask}
 use Rattle.domain_cmds.specs.Commands.{Read, command_in}
 use Rattle.domain_cmds.specs.Script
 use Rattle.domain_cmds.specs.Script.{AnswersLine}
 use Rattle.domain_cmds.specs.State.{PlanningView, filter_named}
-use Rattle.operator_cmds.proofs.Unended.{GoesOn, either, like}
+use Rattle.domain_cmds.specs.declared.command.Question.{Question}
+use Rattle.domain_cmds.specs.declared.command.Question.TheVariants as question
+use Rattle.domain_cmds.specs.declared.fault.StateFault.{StateFault}
+use Rattle.operator_cmds.proofs.Unended.{GoesOn, either, like, source}
 
 module _ (answer : Answer) where
-  source : (Gives : CodeView → Type 0) (Lacks : Refusal → Type 0) (p : PlanningView) (number : ℕ) (name : List ℕ) (after : PlanningView)
-      → Script.AnswersSource Gives Lacks p number name answer after → GoesOn answer
-  source Gives Lacks p number name after (inl (filter, good, h)) = like answer _ h.0 refl
-  source Gives Lacks p number name after (inr (why, bad, h)) = like answer _ h.0 refl
-
   by_name : (found : Option VerifiedView) (plan : VerifiedView → PlanView) (p : PlanningView) (number u w : ℕ) (after : PlanningView)
       → Script.AnswersUse found plan p number u w answer after → GoesOn answer
   by_name None plan p number u w after h = like answer _ h.0 refl
   by_name (Some f) plan p number u w after h =
       either (Script.are_a_pair p.plan.size u w) _ _ (λ q. like answer _ q.0 refl) (λ q. like answer _ q.0 refl) h
 
-  linked : (p : PlanningView) (number u w : ℕ) (after : PlanningView) → Script.AnswersLink p number u w answer after → GoesOn answer
-  linked p number u w after h = either (Script.are_a_pair p.plan.size u w) _ _
-      (λ q. either (is_linked p.plan u w) _ _ (λ r. like answer _ r.0 refl) (λ r. like answer _ r.0 refl) q)
-      (λ q. like answer _ q.0 refl) h
+  unless : (why : Option StateFault) (plan : PlanView) (p : PlanningView) (number : ℕ) (after : PlanningView)
+      → Script.PlansUnless why plan p number answer after → GoesOn answer
+  unless None plan p number after h = like answer _ h.0 refl
+  unless (Some why) plan p number after h = like answer _ h.0 refl
 
-  cut : (p : PlanningView) (number u w : ℕ) (after : PlanningView) → Script.AnswersCut p number u w answer after → GoesOn answer
-  cut p number u w after h = either (Script.are_a_pair p.plan.size u w) _ _
-      (λ q. either (is_linked p.plan u w) _ _ (λ r. like answer _ r.0 refl) (λ r. like answer _ r.0 refl) q)
+  linked : (wanted : Bool) (p : PlanningView) (number u w : ℕ) (after : PlanningView) → Script.AnswersLink wanted p number u w answer after
+      → GoesOn answer
+  linked wanted p number u w after h = either (Script.are_a_pair p.plan.size u w) _ _
+      (λ q. unless (Script.link_fault (is_linked p.plan u w) wanted) (linking wanted u w p.plan) p number after q)
       (λ q. like answer _ q.0 refl) h
 
   prefixed : (p : PlanningView) (number node : ℕ) (bits : List Bool) (after : PlanningView)
@@ -52,44 +49,42 @@ module _ (answer : Answer) where
   settled number (inl (rounds, messages, few, h)) = like answer _ h refl
   settled number (inr h) = like answer _ h refl
 
+  told : (q : Question) (plan : PlanView) (marked : Option (List (List Best))) (number : ℕ)
+      → Script.AnswersQuestion q plan marked number answer → GoesOn answer
+  told (question.Route u v) plan marked number h =
+      told_of plan number u v (Script.TellsRoute plan.size u) (λ routes q. like answer _ q refl) h
+  told (question.Path u v) plan marked number h =
+      told_of plan number u v (Script.TellsPath plan.size u) (λ routes q. like answer _ q.2 refl) h
+  told (question.Table u) plan marked number h =
+      either (nat_lt u plan.size) _ _ (λ q. like answer _ q.2 refl) (λ q. like answer _ q refl) h
+  told (question.Draw v) plan marked number h =
+      either (nat_lt v plan.size) _ _ (λ q. like answer _ q.2 refl) (λ q. like answer _ q refl) h
+  told question.Changes plan marked number h = like answer _ h.4 refl
+  told question.Settle plan marked number h = settled number h
+
   planned : (p : PlanningView) (number : ℕ) (c : CommandView) (after : PlanningView)
       → Script.AnswersPlanned p number c answer after → GoesOn answer
   planned p number (Domain size) after h = like answer _ h.0 refl
   planned p number (Prefix node bits) after h = prefixed p number node bits after h
-  planned p number (Load name text) after h = source (GivesText text) (IsRefusedText text) p number name after h
-  planned p number (Code name bytes) after h = source (GivesFile bytes) (IsRefusedFile bytes) p number name after h
-  planned p number (Link u w) after h = linked p number u w after h
-  planned p number (Cut u w) after h = cut p number u w after h
-  planned p number (Import u w name) after h =
-      by_name (filter_named p.filters name) (λ filter. importing filter u w p.plan) p number u w after h
-  planned p number (Export u w name) after h =
-      by_name (filter_named p.filters name) (λ filter. exporting filter u w p.plan) p number u w after h
-  planned p number (Route u v) after h = told_of p.plan number u v (Script.TellsRoute p.plan.size u) (λ routes q. like answer _ q refl) h.0
-  planned p number (Path u v) after h = told_of p.plan number u v (Script.TellsPath p.plan.size u) (λ routes q. like answer _ q.2 refl) h.0
-  planned p number (Table u) after h =
-      either (nat_lt u p.plan.size) _ _ (λ q. like answer _ q.2 refl) (λ q. like answer _ q refl) h.0
-  planned p number (Draw v) after h =
-      either (nat_lt v p.plan.size) _ _ (λ q. like answer _ q.2 refl) (λ q. like answer _ q refl) h.0
+  planned p number (Load name text) after h =
+      source (GivesText text) (IsRefusedText text) p.plan.size number name (filter_named p.filters) answer (filter_named after.filters) h.0
+  planned p number (Code name bytes) after h =
+      source (GivesFile bytes) (IsRefusedFile bytes) p.plan.size number name (filter_named p.filters) answer (filter_named after.filters) h.0
+  planned p number (Link wanted u w) after h = linked wanted p number u w after h
+  planned p number (Use way u w name) after h =
+      by_name (filter_named p.filters name) (λ filter. Script.filtering way filter u w p.plan) p number u w after h
   planned p number Mark after h = like answer _ h.2.0 refl
-  planned p number Changes after h = like answer _ h.0.4 refl
-  planned p number Settle after h = settled number h.0
+  planned p number (Ask q) after h = told q p.plan p.marked number h.0
 
   first : (number : ℕ) (c : CommandView) (after : Option PlanningView) → Script.AnswersFirst number c answer after → GoesOn answer
   first number (Domain size) after h = like answer _ h.0 refl
   first number (Prefix node bits) after h = like answer _ h.0 refl
   first number (Load name text) after h = like answer _ h.0 refl
   first number (Code name bytes) after h = like answer _ h.0 refl
-  first number (Link u w) after h = like answer _ h.0 refl
-  first number (Cut u w) after h = like answer _ h.0 refl
-  first number (Import u w name) after h = like answer _ h.0 refl
-  first number (Export u w name) after h = like answer _ h.0 refl
-  first number (Route u v) after h = like answer _ h.0 refl
-  first number (Path u v) after h = like answer _ h.0 refl
-  first number (Table u) after h = like answer _ h.0 refl
-  first number (Draw v) after h = like answer _ h.0 refl
+  first number (Link wanted u w) after h = like answer _ h.0 refl
+  first number (Use way u w name) after h = like answer _ h.0 refl
   first number Mark after h = like answer _ h.0 refl
-  first number Changes after h = like answer _ h.0 refl
-  first number Settle after h = like answer _ h.0 refl
+  first number (Ask q) after h = like answer _ h.0 refl
 
   command : (before : Option PlanningView) (number : ℕ) (c : CommandView) (after : Option PlanningView)
       → Script.AnswersCommand before number c answer after → GoesOn answer

@@ -1,21 +1,12 @@
--- One more text, and one more column.
-use Rattle.std.proofs.Common.{◌≡◌, ◌≢◌, ⊎_elim, ℕ, ◌+◌, ◌<◌, List, [], ◌∷◌, ◌++◌, length, slice_index_or, sym, subst, ap, ◌∙◌, arith, append_assoc}
+-- One more column.
+use Rattle.std.proofs.Common.{◌≡◌, ◌≢◌, ⊎_elim, ℕ, ◌+◌, ◌<◌, List, [], ◌∷◌, ◌++◌, length, slice_index_or, sym, subst, ap, ◌∙◌, arith}
 use Rattle.std.proofs.Math.ListN.{get_or-append}
-use Rattle.std.proofs.Math.Numerals.{add-one}
 use Rattle.std.proofs.Math.Seq.{get_or-append_seam}
 use Rattle.std.proofs.lemmas.Bool.{cases_eq}
 use Rattle.domain_routes.specs.PlanView.{PlanView}
 use Rattle.domain_routes.specs.Routes.{AreRoutes}
 use Rattle.domain_routes.specs.Topology.{topology}
 use Rattle.domain_routes.specs.declared.best.Best.{Best}
-use Rattle.domain_cmds.specs.Texts.{texts_below}
-
-pub one_text_more : (text : ℕ → List ℕ) (n : ℕ) (old mid new : List ℕ) → mid ≡ old ++ texts_below n text → new ≡ mid ++ text n
-    → new ≡ old ++ texts_below (n + 1) text
-unfolding texts_below
-one_text_more text n old mid new first next =
-    subst (λ k. new ≡ old ++ texts_below k text) (sym (add-one n))
-    (next ∙ ap (λ (l : List ℕ). l ++ text n) first ∙ append_assoc old (texts_below n text) (text n))
 
 -- the columns so far, and one more
 pub one_column_more : (p : PlanView) (old new : List (List Best)) (column : List Best) (n : ℕ) → length old ≡ n → new ≡ old ++ column ∷ []

@@ -1,7 +1,5 @@
-pub mod Fitting
 pub mod Ending
 pub mod Filling
-pub mod Telling
 pub mod Carrying
 pub mod Setting
 pub mod Growing

@@ -5,7 +5,7 @@ use Rattle.domain_routes.specs.PlanView.{IsSize}
 use Rattle.operator_cmds.specs.Commands.{is_network}
 use Rattle.operator_cmds.specs.Domain.{default_prefixes}
 use Rattle.operator_cmds.proofs.Openings.{is_opening}
-use Rattle.domain_cmds.specs.Commands.{is_size}
+use Rattle.domain_cmds.specs.Sizes.{is_size}
 
 is_first : (size : ℕ) → is_size size ≡ true → is_network size 0 ≡ true
 is_first size h = grind (arith, nat_tests)

@@ -1,6 +1,5 @@
 -- What command a line gives, or the first thing that is wrong with it. (This project's own choice.)
-use Rattle.std.specs.Prelude.{◌≡◌, ℕ, Bool, true, ◌&&◌, List, [], ◌∷◌, length, nat_le, nat_lt, Option, Some, None, Result, Ok, Err, if◌then◌else◌}
-use Rattle.filter_code.specs.Limits.{smallest_size, largest_size}
+use Rattle.std.specs.Prelude.{ℕ, true, false, List, [], ◌∷◌, length, nat_lt, Option, Some, None, Result, Ok, Err, if◌then◌else◌}
 use Rattle.line_protocol.specs.Limits.{line_limit}
 use Rattle.line_protocol.specs.Words.{words}
 use Rattle.prefix_patterns.specs.Reading.{number_in}
@@ -8,20 +7,19 @@ use Rattle.operator_cmds.specs.Commands.{code_in, load_in, made, node_in, node_p
 use Rattle.operator_cmds.specs.Limits.{number_limit}
 use Rattle.operator_cmds.specs.Names.{is_name}
 use Rattle.operator_cmds.specs.WordLists.{one_of, two_of, three_of}
+use Rattle.operator_cmds.specs.declared.event.Direction.TheVariants as direction
 use Rattle.operator_cmds.specs.declared.fault.CommandFault.{CommandFault}
 use Rattle.operator_cmds.specs.declared.fault.CommandFault.TheVariants as fault
-use Rattle.domain_cmds.specs.CommandView.{CommandView, Domain, Prefix, Load, Code, Link, Cut, Import, Export, Route, Path, Table, Draw, Mark, Changes, Settle}
+use Rattle.domain_cmds.specs.CommandView.{CommandView, Domain, Prefix, Load, Code, Link, Use, Mark, Ask}
+use Rattle.domain_cmds.specs.Sizes.{is_size}
 use Rattle.domain_cmds.specs.Verbs.{verb_in}
+use Rattle.domain_cmds.specs.declared.command.Question.TheVariants as question
 use Rattle.domain_cmds.specs.declared.verb.Verb.{Verb}
 use Rattle.domain_cmds.specs.declared.verb.Verb.TheVariants as verb
 
 -- a command, or what is wrong with its line
 abbrev pub Read : Type 0
 Read = Result CommandView CommandFault
-
--- a domain has 2 to 250 nodes
-abbrev pub is_size : ℕ → Bool
-is_size size = nat_le smallest_size size && nat_le size largest_size
 
 abbrev pub domain_parts : Result ℕ CommandFault → Read
 domain_parts (Err why) = Err why
@@ -64,17 +62,17 @@ command_of (Some verb.Domain) args text = domain_of (one_of args)
 command_of (Some verb.Prefix) args text = made (λ p. Prefix p.0 p.1) (node_prefix_in (two_of args))
 command_of (Some verb.Load) args text = made (λ p. Load p.0 p.1) (load_in args text)
 command_of (Some verb.Code) args text = made (λ p. Code p.0 p.1) (code_in (two_of args))
-command_of (Some verb.Link) args text = made (λ p. Link p.0 p.1) (nodes_in (two_of args))
-command_of (Some verb.Cut) args text = made (λ p. Cut p.0 p.1) (nodes_in (two_of args))
-command_of (Some verb.Import) args text = made (λ p. Import p.0 p.1 p.2) (filter_in (three_of args))
-command_of (Some verb.Export) args text = made (λ p. Export p.0 p.1 p.2) (filter_in (three_of args))
-command_of (Some verb.Route) args text = made (λ p. Route p.0 p.1) (nodes_in (two_of args))
-command_of (Some verb.Path) args text = made (λ p. Path p.0 p.1) (nodes_in (two_of args))
-command_of (Some verb.Table) args text = made Table (node_in (one_of args))
-command_of (Some verb.Draw) args text = made Draw (node_in (one_of args))
+command_of (Some verb.Link) args text = made (λ p. Link true p.0 p.1) (nodes_in (two_of args))
+command_of (Some verb.Cut) args text = made (λ p. Link false p.0 p.1) (nodes_in (two_of args))
+command_of (Some verb.Import) args text = made (λ p. Use direction.Import p.0 p.1 p.2) (filter_in (three_of args))
+command_of (Some verb.Export) args text = made (λ p. Use direction.Export p.0 p.1 p.2) (filter_in (three_of args))
+command_of (Some verb.Route) args text = made (λ p. Ask (question.Route p.0 p.1)) (nodes_in (two_of args))
+command_of (Some verb.Path) args text = made (λ p. Ask (question.Path p.0 p.1)) (nodes_in (two_of args))
+command_of (Some verb.Table) args text = made (λ u. Ask (question.Table u)) (node_in (one_of args))
+command_of (Some verb.Draw) args text = made (λ v. Ask (question.Draw v)) (node_in (one_of args))
 command_of (Some verb.Mark) args text = alone Mark args
-command_of (Some verb.Changes) args text = alone Changes args
-command_of (Some verb.Settle) args text = alone Settle args
+command_of (Some verb.Changes) args text = alone (Ask question.Changes) args
+command_of (Some verb.Settle) args text = alone (Ask question.Settle) args
 
 abbrev pub command_of_words : List (List ℕ) → List ℕ → Read
 command_of_words [] text = Err fault.Words
@@ -83,8 +81,3 @@ command_of_words (first ∷ args) text = command_of (verb_in first) args text
 -- the command that a line gives
 abbrev pub command_in : List ℕ → Read
 command_in line = if nat_lt line_limit (length line) then Err fault.TooLong else command_of_words (words line) (text_in line)
-
--- the size of the domain that a command sets up is one; whether nodes fit is judged by the script
-abbrev pub HasFitSize : CommandView → Type 0
-HasFitSize (Domain size) = is_size size ≡ true
-HasFitSize command = Unit {0}

@@ -1,4 +1,5 @@
 -- What callers cite.
+pub mod Sizes
 pub mod Verbs
 pub mod CommandView
 pub mod Commands

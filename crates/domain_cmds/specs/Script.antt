@@ -1,30 +1,31 @@
 -- What the script of a domain answers to each of its lines, and what becomes of it. (This project's own choice.)
-use Rattle.std.specs.Prelude.{◌≡◌, ◌⊎◌, ℕ, ◌≤◌, ◌==◌, nat_lt, Bool, true, false, not, ◌&&◌, MatchBool, List, [], Option, Some, None, Result, Ok, Err, codes, if◌then◌else◌}
-use Rattle.std.specs.Str.{bytes_eq}
+use Rattle.std.specs.Prelude.{◌≡◌, ◌⊎◌, ℕ, ◌≤◌, ◌==◌, nat_lt, Bool, true, false, not, ◌&&◌, MatchBool, List, [], Option, Some, None, Ok, Err, codes}
 use Rattle.filter_code.specs.CodeView.{CodeView}
-use Rattle.filter_source.specs.Refusals.{place_in_line, refusal_code}
 use Rattle.filter_source.specs.Sources.{IsRefusedText}
-use Rattle.filter_source.specs.VerifiedLine.{verified_line}
-use Rattle.filter_source.specs.declared.failure.Failure.{Failure}
-use Rattle.filter_source.specs.declared.failure.Failure.TheVariants as failure
 use Rattle.filter_source.specs.declared.refusal.Refusal.{Refusal}
 use Rattle.filter_verifier.specs.VerifiedView.{VerifiedView}
 use Rattle.line_protocol.specs.Answers.{Answer}
-use Rattle.line_protocol.specs.declared.answers.Reply.TheVariants.{Answered}
 use Rattle.operator_cmds.specs.Domain.{default_prefixes}
 use Rattle.operator_cmds.specs.Faults.{fault_code}
 use Rattle.operator_cmds.specs.Replies.{answered, refused}
-use Rattle.operator_cmds.specs.Script.{GivesFile, GivesText, IsRefusedBy, IsRefusedFile, IsVerified}
+use Rattle.operator_cmds.specs.Script.{AnswersSource, GivesFile, GivesText, IsRefusedFile}
+use Rattle.operator_cmds.specs.declared.event.Direction.{Direction}
+use Rattle.operator_cmds.specs.declared.event.Direction.TheVariants as direction
 use Rattle.domain_routes.specs.Edits.{exporting, importing, linking, unlinked, with_prefix}
 use Rattle.domain_routes.specs.PlanView.{PlanView, is_linked}
 use Rattle.domain_routes.specs.Routes.{AreRoutes}
 use Rattle.domain_routes.specs.Topology.{topology}
 use Rattle.domain_routes.specs.declared.best.Best.{Best}
-use Rattle.domain_cmds.specs.CommandView.{CommandView, Domain, Prefix, Load, Code, Link, Cut, Import, Export, Route, Path, Table, Draw, Mark, Changes, Settle}
+use Rattle.domain_cmds.specs.CommandView.{CommandView, Domain, Prefix, Load, Code, Link, Use, Mark, Ask}
 use Rattle.domain_cmds.specs.Commands.{Read, command_in}
+use Rattle.domain_cmds.specs.Faults.{state_code}
 use Rattle.domain_cmds.specs.Rests.{AreAllRoutes}
 use Rattle.domain_cmds.specs.State.{PlanningView, filter_named}
 use Rattle.domain_cmds.specs.Texts.{IsPathText, changes_text, draw_text, route_in, route_text, settled_text, table_text}
+use Rattle.domain_cmds.specs.declared.command.Question.{Question}
+use Rattle.domain_cmds.specs.declared.command.Question.TheVariants as question
+use Rattle.domain_cmds.specs.declared.fault.StateFault.{StateFault}
+use Rattle.domain_cmds.specs.declared.fault.StateFault.TheVariants as fault
 
 -- a domain that was just set up
 abbrev pub new_planning : ℕ → PlanningView
@@ -65,33 +66,11 @@ AnswersPrefix p number node bits answer after = MatchBool p.begun
 
 -- ---- `load` and `code`
 
--- the filter of one name alone is another: names are compared byte by byte
-pub record Names (name : List ℕ) (filter : VerifiedView) (before after : PlanningView) : Type 0 where
-  pub plan : after.plan ≡ before.plan
-  pub begun : after.begun ≡ before.begun
-  pub marked : after.marked ≡ before.marked
-  pub filters : (other : List ℕ) →
-      filter_named after.filters other ≡ (if bytes_eq name other then Some filter else filter_named before.filters other)
-
--- a filter gets a name, and is answered with its cost and its peak
-abbrev pub Takes : List ℕ → VerifiedView → PlanningView → Answer → PlanningView → Type 0
-Takes name filter p answer after =
-    (answer ≡ record { text = verified_line filter.program; reply = Answered }) × Names name filter p after
-
--- a source is refused, and the filter that the name has stays
-abbrev pub TurnsAway : Refusal → ℕ → PlanningView → Answer → PlanningView → Type 0
-TurnsAway why number p answer after = Refuses (refusal_code why) (place_in_line why number) p answer after
-
-abbrev pub AnswersSource : (CodeView → Type 0) → (Refusal → Type 0) → PlanningView → ℕ → List ℕ → Answer → PlanningView → Type 0
-AnswersSource Gives Lacks p number name answer after =
-    ((filter : VerifiedView) × IsVerified Gives p.plan.size filter × Takes name filter p answer after)
-    ⊎ ((why : Refusal) × IsRefusedBy Gives Lacks p.plan.size why × TurnsAway why number p answer after)
-
--- the answer by what became of a source; where memory was refused there is none
-abbrev pub AnswersVerified : Result VerifiedView Failure → PlanningView → ℕ → List ℕ → Answer → PlanningView → Type 0
-AnswersVerified (Ok filter) p number name answer after = Takes name filter p answer after
-AnswersVerified (Err (failure.Refused told)) p number name answer after = TurnsAway told.refusal number p answer after
-AnswersVerified (Err failure.Memory) p number name answer after = ⊥
+-- a source is answered as by the script of a router, and nothing changes but the filters of names
+abbrev pub AnswersLoad : (CodeView → Type 0) → (Refusal → Type 0) → PlanningView → ℕ → List ℕ → Answer → PlanningView → Type 0
+AnswersLoad Gives Lacks p number name answer after =
+    AnswersSource Gives Lacks p.plan.size number name (filter_named p.filters) answer (filter_named after.filters)
+    × (after ≡ record p { filters = after.filters })
 
 -- ---- links and filters
 
@@ -99,19 +78,28 @@ AnswersVerified (Err failure.Memory) p number name answer after = ⊥
 abbrev pub are_a_pair : ℕ → ℕ → ℕ → Bool
 are_a_pair size u w = nat_lt u size && nat_lt w size && not (u == w)
 
-abbrev pub AnswersLink : PlanningView → ℕ → ℕ → ℕ → Answer → PlanningView → Type 0
-AnswersLink p number u w answer after = MatchBool (are_a_pair p.plan.size u w)
-    (MatchBool (is_linked p.plan u w)
-    (Refuses (codes "D2") number (begin p) answer after)
-    (Confirms (planned (linking true u w p.plan) p) answer after))
+-- why two nodes that have a link, or none, are not to have one, or none: so it is already
+abbrev pub link_fault : Bool → Bool → Option StateFault
+link_fault true true = Some fault.Linked
+link_fault false false = Some fault.Apart
+link_fault true false = None
+link_fault false true = None
+
+-- another plan, unless a fault refuses it
+abbrev pub PlansUnless : Option StateFault → PlanView → PlanningView → ℕ → Answer → PlanningView → Type 0
+PlansUnless None plan p number answer after = Confirms (planned plan p) answer after
+PlansUnless (Some why) plan p number answer after = Refuses (state_code why) number (begin p) answer after
+
+-- `link` and `cut`: whether there is a link between two nodes
+abbrev pub AnswersLink : Bool → PlanningView → ℕ → ℕ → ℕ → Answer → PlanningView → Type 0
+AnswersLink linked p number u w answer after = MatchBool (are_a_pair p.plan.size u w)
+    (PlansUnless (link_fault (is_linked p.plan u w) linked) (linking linked u w p.plan) p number answer after)
     (Refuses (codes "D1") number (begin p) answer after)
 
-abbrev pub AnswersCut : PlanningView → ℕ → ℕ → ℕ → Answer → PlanningView → Type 0
-AnswersCut p number u w answer after = MatchBool (are_a_pair p.plan.size u w)
-    (MatchBool (is_linked p.plan u w)
-    (Confirms (planned (linking false u w p.plan) p) answer after)
-    (Refuses (codes "D3") number (begin p) answer after))
-    (Refuses (codes "D1") number (begin p) answer after)
+-- a plan where what the first node hears from the second, or tells it, passes a filter
+abbrev pub filtering : Direction → VerifiedView → ℕ → ℕ → PlanView → PlanView
+filtering direction.Import filter u w plan = importing filter u w plan
+filtering direction.Export filter u w plan = exporting filter u w plan
 
 -- a command with the filter of a name, which makes another plan of it: an unknown name counts first, and begins nothing
 abbrev pub AnswersUse : Option VerifiedView → (VerifiedView → PlanView) → PlanningView → ℕ → ℕ → ℕ → Answer → PlanningView → Type 0
@@ -176,28 +164,27 @@ IsToldSettled number answer =
     ((rounds : ℕ) × (messages : ℕ) × (rounds ≤ messages) × (answer ≡ answered (settled_text rounds messages)))
     ⊎ (answer ≡ refused (codes "D4") number)
 
+-- what is told of a plan, and of all routes at the last `mark`
+abbrev pub AnswersQuestion : Question → PlanView → Option (List (List Best)) → ℕ → Answer → Type 0
+AnswersQuestion (question.Route u v) plan marked number answer = IsToldRoute plan number u v answer
+AnswersQuestion (question.Path u v) plan marked number answer = IsToldPath plan number u v answer
+AnswersQuestion (question.Table u) plan marked number answer = IsToldTable plan number u answer
+AnswersQuestion (question.Draw v) plan marked number answer = IsToldDrawing plan number v answer
+AnswersQuestion question.Changes plan marked number answer = IsToldChanges plan marked answer
+AnswersQuestion question.Settle plan marked number answer = IsToldSettled number answer
+
 -- ---- a line
 
 abbrev pub AnswersPlanned : PlanningView → ℕ → CommandView → Answer → PlanningView → Type 0
 AnswersPlanned p number (Domain size) answer after = Refuses (codes "O5") number p answer after
 AnswersPlanned p number (Prefix node bits) answer after = AnswersPrefix p number node bits answer after
-AnswersPlanned p number (Load name text) answer after =
-    AnswersSource (GivesText text) (IsRefusedText text) p number name answer after
-AnswersPlanned p number (Code name bytes) answer after =
-    AnswersSource (GivesFile bytes) (IsRefusedFile bytes) p number name answer after
-AnswersPlanned p number (Link u w) answer after = AnswersLink p number u w answer after
-AnswersPlanned p number (Cut u w) answer after = AnswersCut p number u w answer after
-AnswersPlanned p number (Import u w name) answer after =
-    AnswersUse (filter_named p.filters name) (λ filter. importing filter u w p.plan) p number u w answer after
-AnswersPlanned p number (Export u w name) answer after =
-    AnswersUse (filter_named p.filters name) (λ filter. exporting filter u w p.plan) p number u w answer after
-AnswersPlanned p number (Route u v) answer after = Asks (IsToldRoute p.plan number u v) p answer after
-AnswersPlanned p number (Path u v) answer after = Asks (IsToldPath p.plan number u v) p answer after
-AnswersPlanned p number (Table u) answer after = Asks (IsToldTable p.plan number u) p answer after
-AnswersPlanned p number (Draw v) answer after = Asks (IsToldDrawing p.plan number v) p answer after
+AnswersPlanned p number (Load name text) answer after = AnswersLoad (GivesText text) (IsRefusedText text) p number name answer after
+AnswersPlanned p number (Code name bytes) answer after = AnswersLoad (GivesFile bytes) (IsRefusedFile bytes) p number name answer after
+AnswersPlanned p number (Link linked u w) answer after = AnswersLink linked p number u w answer after
+AnswersPlanned p number (Use way u w name) answer after =
+    AnswersUse (filter_named p.filters name) (λ filter. filtering way filter u w p.plan) p number u w answer after
 AnswersPlanned p number Mark answer after = AnswersMark p answer after
-AnswersPlanned p number Changes answer after = Asks (IsToldChanges p.plan p.marked) p answer after
-AnswersPlanned p number Settle answer after = Asks (IsToldSettled number) p answer after
+AnswersPlanned p number (Ask asked) answer after = Asks (AnswersQuestion asked p.plan p.marked number) p answer after
 
 -- before there is a domain, only `domain` is carried out
 abbrev pub AnswersFirst : ℕ → CommandView → Answer → Option PlanningView → Type 0

@@ -1,25 +1,23 @@
 -- What contracts see of a domain's script between two lines.
-use Rattle.std.specs.Prelude.{ℕ, Bool, List, Option, Vec, map}
-use Rattle.std.specs.BTreeMap.{BTreeMap}
+use Rattle.std.specs.Prelude.{ℕ, Bool, List, Option, Vec}
+use Rattle.std.specs.BTreeMap.{is_at}
+use Rattle.std.specs.Cmp.Lexicographic.{slice_cmp}
 use Rattle.std.specs.Map.{lookup}
-use Rattle.std.specs.Str.{bytes_eq}
+use Rattle.std.specs.Option.{option_map}
+use Rattle.std.specs.Ordering.{nat_cmp}
 use Rattle.std.specs.declared.sync.Arc.{Arc}
 use Rattle.std.proofs.Common.{Global}
 use Rattle.filter_verifier.specs.VerifiedView.{VerifiedView}
 use Rattle.domain_routes.specs.PlanView.{PlanView}
 use Rattle.domain_routes.specs.declared.best.Best.{Best}
 
--- names, each with its filter, in no order
+-- names, in their order, each with its filter
 abbrev pub Named : Type 0
-Named = List (List ℕ × VerifiedView)
+Named = List (Vec ℕ Global × Arc VerifiedView Global)
 
--- the filter of a name: names are compared byte by byte
+-- the filter of a name
 abbrev pub filter_named : Named → List ℕ → Option VerifiedView
-filter_named named name = lookup (λ other. bytes_eq name other) named
-
--- the names of a map, with their filters
-abbrev pub named_in : BTreeMap (Vec ℕ Global) (Arc VerifiedView Global) → Named
-named_in filters = map (λ e. (e.0.items, e.1.value)) filters.entries
+filter_named named name = option_map (λ f. f.value) (lookup (is_at (λ key. slice_cmp nat_cmp name key.items)) named)
 
 -- a domain that is set up: its prefixes, links and filters; the filters that have a name; whether a command came after which
 -- prefixes stay; and all routes at the last `mark`, if there was one

@@ -1,16 +1,12 @@
 -- The lines that tell of routes at rest. (This project's own choice.) `size` is the number of nodes.
-use Rattle.std.specs.Prelude.{◌≡◌, MatchBool, ℕ, suc, zero, ◌==◌, nat_lt, Bool, true, false, not, ◌&&◌, if◌then◌else◌, List, [], ◌∷◌, ◌++◌, flat_map, slice_index_or, codes, decimal}
+use Rattle.std.specs.Prelude.{◌≡◌, MatchBool, ℕ, ◌==◌, nat_lt, Bool, true, false, not, ◌&&◌, if◌then◌else◌, List, [], ◌∷◌, ◌++◌, flat_map, slice_index_or, codes, decimal}
 use Rattle.netchange_core.specs.declared.reply.Via.{Via}
 use Rattle.netchange_core.specs.declared.reply.Via.TheVariants.{Local, Node, Nowhere}
+use Rattle.operator_cmds.specs.Looks.{texts_below}
 use Rattle.operator_cmds.specs.Replies.{via_text}
 use Rattle.domain_routes.specs.PlanView.{PlanView, is_linked}
 use Rattle.domain_routes.specs.Routes.{nowhere}
 use Rattle.domain_routes.specs.declared.best.Best.{Best}
-
--- the texts of all numbers below one, from 0 upwards
-unfoldable pub texts_below : ℕ → (ℕ → List ℕ) → List ℕ
-texts_below zero text = []
-texts_below (suc n) text = texts_below n text ++ text n
 
 -- the route of a node, in a list of the routes of all nodes to one destination
 abbrev pub route_in : ℕ → List Best → ℕ → Best

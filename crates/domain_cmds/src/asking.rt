@@ -6,6 +6,7 @@ ghost use Rattle.line_protocol.specs.declared.answers.Reply.TheVariants.{Answere
 ghost use Rattle.operator_cmds.specs.Replies.{Answers};
 ghost use Rattle.domain_cmds.specs.Script as spec;
 
+use crate::command::Question;
 use crate::fault::StateFault;
 use crate::playing::Playing;
 use crate::resting::RestingPlan;
@@ -35,7 +36,7 @@ fn are_nodes(plan: &Plan, u: u16, v: u16) -> bool
 }
 
 /// Answers `route`: a node's route at rest.
-pub(crate) fn answer_route(
+fn answer_route(
     alloc: Global,
     plan: &Plan,
     number: u32,
@@ -55,7 +56,7 @@ pub(crate) fn answer_route(
 }
 
 /// Answers `path`: the nodes on the way at rest.
-pub(crate) fn answer_path(
+fn answer_path(
     alloc: Global,
     plan: &Plan,
     number: u32,
@@ -75,7 +76,7 @@ pub(crate) fn answer_path(
 }
 
 /// Answers `table`: all routes of a node at rest.
-pub(crate) fn answer_table(
+fn answer_table(
     alloc: Global,
     domain: &mut RestingPlan,
     number: u32,
@@ -96,7 +97,7 @@ pub(crate) fn answer_table(
 }
 
 /// Answers `draw`: a picture of the routes to a node at rest.
-pub(crate) fn answer_draw(
+fn answer_draw(
     alloc: Global,
     plan: &Plan,
     number: u32,
@@ -134,7 +135,7 @@ fn marks(
 }
 
 /// Answers `changes`: the routes at rest that are not what they were at the last `mark`.
-pub(crate) fn answer_changes(
+fn answer_changes(
     alloc: Global,
     domain: &mut RestingPlan,
     marked: &Option<Arc<Vec<Column>>>,
@@ -151,7 +152,7 @@ pub(crate) fn answer_changes(
 }
 
 /// Answers `settle`: the routers are played until quiet.
-pub(crate) fn answer_settle(
+fn answer_settle(
     alloc: Global,
     plan: &Plan,
     playing: &mut Playing,
@@ -167,5 +168,29 @@ pub(crate) fn answer_settle(
             end_line(out)
         }
         None => refuse(out, StateFault::Unplayable.code(), u64::from(number)),
+    }
+}
+
+/// Answers a question.
+pub(crate) fn answer_question(
+    alloc: Global,
+    question: Question,
+    domain: &mut RestingPlan,
+    marked: &Option<Arc<Vec<Column>>>,
+    playing: &mut Playing,
+    number: u32,
+    out: &mut Vec<u8>,
+) -> Result<Reply, AllocError>
+    ensures ok { IfOk result (Answers (spec.AnswersQuestion question domain.old (option_map (λ m. m.value.items) marked.now) number) out.old.items out.new.items) }
+    ensures err { OnErr result (StartsWith out.new.items out.old.items) }
+    ensures same { domain.new ≡ domain.old }
+{
+    match question {
+        Question::Route(u, v) => answer_route(alloc, domain.plan(), number, u, v, out),
+        Question::Path(u, v) => answer_path(alloc, domain.plan(), number, u, v, out),
+        Question::Table(u) => answer_table(alloc, domain, number, u, out),
+        Question::Draw(v) => answer_draw(alloc, domain.plan(), number, v, out),
+        Question::Changes => answer_changes(alloc, domain, marked, out),
+        Question::Settle => answer_settle(alloc, domain.plan(), playing, number, out),
     }
 }

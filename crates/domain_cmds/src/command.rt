@@ -1,11 +1,23 @@
 //! A command of the domain's script.
+ghost use Rattle.std.specs.Prelude.{◌≡◌, true};
+ghost use Rattle.domain_cmds.specs.Sizes.{is_size};
+
+use operator_cmds::Direction;
 use prefix_patterns::Prefix;
+
+/// The number of nodes of a domain.
+#[derive(Clone, Copy)]
+pub struct DomainSize {
+    /// 2 to 250.
+    pub nodes: u16,
+    ghost fits: { is_size nodes ≡ true },
+}
 
 /// One command with the words after it. Contracts see it as a `CommandView`. Whether there are such nodes is judged by the script.
 #[derive(Drop)]
 pub enum Command<'a> {
-    /// `domain N`: a domain of N nodes, 2 to 250.
-    Domain(u16),
+    /// `domain N`: a domain of N nodes.
+    Domain(DomainSize),
     /// `prefix V P`: the prefix of a node.
     Prefix {
         /// V.
@@ -27,28 +39,35 @@ pub enum Command<'a> {
         /// The bytes that HEX writes.
         bytes: Vec<u8>,
     },
-    /// `link U W`: two nodes are neighbours from now on.
-    Link(u16, u16),
-    /// `cut U W`: two nodes are neighbours no more.
-    Cut(u16, u16),
-    /// `import U W NAME`: a filter of what the first node hears from the second.
-    Import {
+    /// `link U W` and `cut U W`: two nodes are neighbours from now on, or no more.
+    Link {
+        /// Whether they are.
+        linked: bool,
         /// U.
-        node: u16,
+        u: u16,
         /// W.
-        from: u16,
+        w: u16,
+    },
+    /// `import U W NAME` and `export U W NAME`: a filter of what the first node hears from the second, or tells it.
+    Use {
+        /// Which of both.
+        direction: Direction,
+        /// U.
+        u: u16,
+        /// W.
+        w: u16,
         /// NAME.
         name: &'a [u8],
     },
-    /// `export U W NAME`: a filter of what the first node tells the second.
-    Export {
-        /// U.
-        node: u16,
-        /// W.
-        to: u16,
-        /// NAME.
-        name: &'a [u8],
-    },
+    /// `mark`: remembers all routes.
+    Mark,
+    /// A question.
+    Ask(Question),
+}
+
+/// A question, after which the domain is what it was.
+#[derive(Clone, Copy)]
+pub enum Question {
     /// `route U V`: the first node's route to the second.
     Route(u16, u16),
     /// `path U V`: the nodes on the way from the first node to the second.
@@ -57,8 +76,6 @@ pub enum Command<'a> {
     Table(u16),
     /// `draw V`: a picture of all routes to a node.
     Draw(u16),
-    /// `mark`: remembers all routes.
-    Mark,
     /// `changes`: the routes that are not what they were at the last `mark`.
     Changes,
     /// `settle`: the routers exchange messages until none is left.

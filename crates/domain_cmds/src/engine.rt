@@ -46,7 +46,6 @@ impl Engine {
     ghost use Rattle.std.specs.Io.{StartsWith};
     ghost use Rattle.operator_cmds.specs.Replies.{Answers};
     ghost use Rattle.domain_cmds.specs.CommandView.{view_of};
-    ghost use Rattle.domain_cmds.specs.Commands.{HasFitSize};
     ghost use Rattle.domain_cmds.specs.Script.{AnswersCommand};
 
     /// A script at its first line.
@@ -81,7 +80,6 @@ impl Engine {
         command: Command<'_>,
         out: &mut Vec<u8>,
     ) -> Result<Reply, AllocError>
-        requires { HasFitSize (view_of command) }
         ensures ok { IfOk result (Answers (λ answer. AnswersCommand self.old.planning number (view_of command.entry) answer
             self.new.planning) out.old.items out.new.items) }
         ensures err { OnErr result (StartsWith out.new.items out.old.items) }

@@ -1,11 +1,15 @@
 //! The filters of a domain's script, by their names.
-ghost use Rattle.std.specs.Prelude.{◌≡◌, [], ℕ, IfOk, IfSome, List, OnOk, Some, if◌then◌else◌};
+ghost use Rattle.std.specs.Prelude.{◌≡◌, [], IfOk, IfSome, OnErr};
+ghost use Rattle.std.specs.Io.{StartsWith};
 ghost use Rattle.std.specs.Option.{option_map};
-ghost use Rattle.std.specs.Str.{bytes_eq};
-ghost use Rattle.domain_cmds.specs.State.{filter_named, named_in};
+ghost use Rattle.operator_cmds.specs.Replies.{Answers};
+ghost use Rattle.operator_cmds.specs.Script.{AnswersSource, gives, lacks};
+ghost use Rattle.domain_cmds.specs.State.{filter_named};
 
+use filter_source::Diagnosis;
 use filter_verifier::Verified;
-use operator_cmds::NamedFilters;
+use line_protocol::Reply;
+use operator_cmds::{NamedFilters, Source, name_source};
 use std::alloc::{AllocError, Global};
 use std::collections::BTreeMap;
 use std::marker::Model;
@@ -16,19 +20,21 @@ use std::sync::Arc;
 pub(crate) struct Filters {
     /// The number of nodes of the domains.
     size: u16,
-    /// The filter of each name, in the names' order: no choice of names makes it slow to find one.
+    /// The filter of each name.
     named: NamedFilters,
+    /// What is told of the last filter that was refused.
+    told: Option<Diagnosis>,
 }
 
 impl Model for Filters {
     ghost use Rattle.std.specs.Prelude.{◌≡◌, ℕ, IfSome, List};
-    ghost use Rattle.domain_cmds.specs.State.{FiltersView, filter_named, named_in};
+    ghost use Rattle.domain_cmds.specs.State.{FiltersView, filter_named};
 
     ghost Value = { FiltersView };
 
-    ghost view = { λ f. record { size = f.size; named = named_in f.named } };
+    ghost view = { λ f. record { size = f.size; named = f.named.entries } };
 
-    ghost invariant = { λ f. (name : List ℕ) → IfSome (filter_named (named_in f.named) name) (λ filter. filter.size ≡ f.size) };
+    ghost invariant = { λ f. (name : List ℕ) → IfSome (filter_named f.named.entries name) (λ filter. filter.size ≡ f.size) };
 }
 
 impl Filters {
@@ -39,31 +45,46 @@ impl Filters {
         Filters {
             size,
             named: BTreeMap::new(alloc),
+            told: None,
         }
     }
 
-    /// A name is given to a filter, and the filter that had it loses it.
-    pub(crate) fn name(
+    /// Answers `load` and `code`: a source is verified, and gets a name.
+    pub(crate) fn load(
         &mut self,
         alloc: Global,
+        number: u32,
         name: &[u8],
-        filter: Verified,
-    ) -> Result<(), AllocError>
-        requires { filter.size ≡ self.old.size }
+        source: Source<'_>,
+        out: &mut Vec<u8>,
+    ) -> Result<Reply, AllocError>
         ensures size { self.new.size ≡ self.old.size }
-        ensures named { OnOk result ((other : List ℕ) →
-            filter_named self.new.named other ≡ (if bytes_eq name.now other then Some filter else filter_named self.old.named other)) }
+        ensures ok { IfOk result (Answers (λ answer. AnswersSource (gives source.entry) (lacks source.entry) self.old.size number name.now
+            (filter_named self.old.named) answer (filter_named self.new.named)) out.old.items out.new.items) }
+        ensures err { OnErr result (StartsWith out.new.items out.old.items) }
     {
-        let filter = Arc::new(alloc, filter)?;
-        self.named.insert(Vec::from_slice(alloc, name)?, filter)?;
-        Ok(())
+        name_source(
+            alloc,
+            &mut self.named,
+            number,
+            name,
+            source,
+            self.size,
+            &mut self.told,
+            out,
+        )
     }
 
     /// All of them.
     pub(crate) fn all(&self) -> &NamedFilters
-        ensures { named_in result.now ≡ self.now.named }
+        ensures { result.now.entries ≡ self.now.named }
     {
         &self.named
+    }
+
+    /// What is told of the last filter that was refused.
+    pub(crate) fn told(&self) -> Option<Diagnosis> {
+        self.told
     }
 
     /// The filter of a name.

@@ -14,6 +14,6 @@ mod routes;
 mod text;
 mod verb;
 
-pub use command::Command;
+pub use command::{Command, DomainSize, Question};
 pub use engine::{run_domain, run_watched_domain};
 pub use read::read_command;

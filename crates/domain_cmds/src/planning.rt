@@ -1,22 +1,19 @@
 //! A domain that is set up: its plan, and what its script did with it.
-ghost use Rattle.std.specs.Prelude.{◌≡◌, ◌≢◌, ◌<◌, true, IfOk, IsTrue, OnErr};
+ghost use Rattle.std.specs.Prelude.{◌≡◌, ◌≢◌, ◌<◌, IfOk, IsTrue, OnErr};
 ghost use Rattle.std.specs.Io.{StartsWith};
 ghost use Rattle.domain_cmds.specs.Script as spec;
 
-use crate::asking::{
-    answer_changes, answer_draw, answer_path, answer_route, answer_settle, answer_table,
-};
-use crate::command::Command;
+use crate::asking::answer_question;
+use crate::command::{Command, DomainSize, Question};
 use crate::fault::StateFault;
 use crate::filters::Filters;
 use crate::playing::{Change, Playing};
 use crate::resting::RestingPlan;
 use crate::routes::Column;
 use domain_routes::Plan;
-use filter_source::{Diagnosis, Failure, push_verified};
-use filter_verifier::Verified;
+use filter_source::Diagnosis;
 use line_protocol::Reply;
-use operator_cmds::{NamedFilters, confirm, default_prefixes, refuse, verify_file, verify_text};
+use operator_cmds::{Direction, NamedFilters, Source, confirm, default_prefixes, refuse};
 use prefix_patterns::Prefix;
 use std::alloc::{AllocError, Global};
 use std::marker::Model;
@@ -35,8 +32,6 @@ pub(crate) struct Planning {
     marked: Option<Arc<Vec<Column>>>,
     /// Its routers.
     playing: Playing,
-    /// What is told of the last filter that was refused.
-    told: Option<Diagnosis>,
 }
 
 impl Model for Planning {
@@ -57,6 +52,17 @@ impl Model for Planning {
     ghost invariant = { λ p. p.filters.size ≡ p.domain.size };
 }
 
+/// Why two nodes that have a link, or none, are not to have one, or none.
+fn link_fault(is_linked: bool, linked: bool) -> Option<StateFault>
+    ensures { result ≡ spec.link_fault is_linked linked }
+{
+    match (is_linked, linked) {
+        (true, true) => Some(StateFault::Linked),
+        (false, false) => Some(StateFault::Apart),
+        _ => None,
+    }
+}
+
 /// Whether two nodes could be neighbours in a domain of so many nodes.
 fn are_a_pair(size: u16, u: u16, w: u16) -> bool
     ensures value { result ≡ spec.are_a_pair size u w }
@@ -66,28 +72,23 @@ fn are_a_pair(size: u16, u: u16, w: u16) -> bool
 }
 
 impl Planning {
-    ghost use Rattle.filter_source.specs.Sources.{IsRefusedText};
     ghost use Rattle.operator_cmds.specs.Replies.{Answers};
-    ghost use Rattle.operator_cmds.specs.Script.{GivesFile, GivesText, IsRefusedFile};
-    ghost use Rattle.domain_routes.specs.Edits.{exporting, importing};
+    ghost use Rattle.operator_cmds.specs.Script.{gives, lacks};
     ghost use Rattle.domain_cmds.specs.CommandView.{view_of};
-    ghost use Rattle.domain_cmds.specs.Commands.{HasFitSize, is_size};
-    ghost use Rattle.domain_cmds.specs.State.{filter_named, named_in};
+    ghost use Rattle.domain_cmds.specs.State.{filter_named};
 
     /// A domain of so many nodes without links, with the default prefixes.
-    pub(crate) fn new(alloc: Global, size: u16) -> Result<Planning, AllocError>
-        requires { is_size size ≡ true }
-        ensures { IfOk result (λ planning. planning ≡ spec.new_planning size) }
+    pub(crate) fn new(alloc: Global, size: DomainSize) -> Result<Planning, AllocError>
+        ensures { IfOk result (λ planning. planning ≡ spec.new_planning size.nodes) }
     {
-        let prefixes = default_prefixes(alloc, size)?;
+        let prefixes = default_prefixes(alloc, size.nodes)?;
         let plan = Plan::new(alloc, prefixes)?.unwrap();
         Ok(Planning {
             domain: RestingPlan::new(plan),
-            filters: Filters::new(alloc, size),
+            filters: Filters::new(alloc, size.nodes),
             begun: false,
             marked: None,
             playing: Playing::new(alloc),
-            told: None,
         })
     }
 
@@ -100,14 +101,14 @@ impl Planning {
 
     /// The filters that have names.
     pub(crate) fn filters(&self) -> &NamedFilters
-        ensures { named_in result.now ≡ self.now.filters }
+        ensures { result.now.entries ≡ self.now.filters }
     {
         self.filters.all()
     }
 
     /// What is told of the last filter that was refused.
     pub(crate) fn told(&self) -> Option<Diagnosis> {
-        self.told
+        self.filters.told()
     }
 
     /// Carries out a command, and answers it.
@@ -118,28 +119,27 @@ impl Planning {
         command: Command<'_>,
         out: &mut Vec<u8>,
     ) -> Result<Reply, AllocError>
-        requires { HasFitSize (view_of command) }
         ensures ok { IfOk result (Answers (λ answer. spec.AnswersPlanned self.old number (view_of command.entry) answer self.new) out.old.items out.new.items) }
         ensures err { OnErr result (StartsWith out.new.items out.old.items) }
     {
         match command {
             Command::Domain(_) => refuse(out, StateFault::TooLate.code(), u64::from(number)),
             Command::Prefix { node, prefix } => self.set_prefix(number, node, prefix, out),
-            Command::Load { name, text } => self.load(alloc, number, name, text, out),
-            Command::Code { name, bytes } => {
-                self.load_code(alloc, number, name, bytes.as_slice(), out)
+            Command::Load { name, text } => {
+                self.load(alloc, number, name, Source::Text(text), out)
             }
-            Command::Link(u, w) => self.link(number, u, w, out),
-            Command::Cut(u, w) => self.cut(number, u, w, out),
-            Command::Import { node, from, name } => self.import(number, node, from, name, out),
-            Command::Export { node, to, name } => self.export(number, node, to, name, out),
-            Command::Route(u, v) => self.route(alloc, number, u, v, out),
-            Command::Path(u, v) => self.path(alloc, number, u, v, out),
-            Command::Table(u) => self.table(alloc, number, u, out),
-            Command::Draw(v) => self.draw(alloc, number, v, out),
+            Command::Code { name, bytes } => {
+                self.load(alloc, number, name, Source::File(bytes.as_slice()), out)
+            }
+            Command::Link { linked, u, w } => self.set_linked(number, u, w, linked, out),
+            Command::Use {
+                direction,
+                u,
+                w,
+                name,
+            } => self.use_filter(number, direction, u, w, name, out),
             Command::Mark => self.mark(alloc, out),
-            Command::Changes => self.changes(alloc, out),
-            Command::Settle => self.settle(alloc, number, out),
+            Command::Ask(question) => self.ask(alloc, number, question, out),
         }
     }
 
@@ -164,129 +164,56 @@ impl Planning {
         confirm(out)
     }
 
-    /// Answers `load`: a filter's text is compiled and verified, and gets a name.
-    pub(crate) fn load(
+    /// Answers `load` and `code`: a source is verified, and gets a name.
+    fn load(
         &mut self,
         alloc: Global,
         number: u32,
         name: &[u8],
-        text: &[u8],
+        source: Source<'_>,
         out: &mut Vec<u8>,
     ) -> Result<Reply, AllocError>
-        ensures ok { IfOk result (Answers (λ answer. spec.AnswersSource (GivesText text.now) (IsRefusedText text.now) self.old number name.now answer self.new) out.old.items out.new.items) }
+        ensures ok { IfOk result (Answers (λ answer. spec.AnswersLoad (gives source.entry) (lacks source.entry) self.old number name.now answer self.new) out.old.items out.new.items) }
         ensures err { OnErr result (StartsWith out.new.items out.old.items) }
     {
-        let verified = verify_text(alloc, text, self.size());
-        self.name_filter(alloc, number, name, verified, out)
+        self.filters.load(alloc, number, name, source, out)
     }
 
-    /// Answers `code`: a code file is read and verified, and gets a name.
-    pub(crate) fn load_code(
-        &mut self,
-        alloc: Global,
-        number: u32,
-        name: &[u8],
-        bytes: &[u8],
-        out: &mut Vec<u8>,
-    ) -> Result<Reply, AllocError>
-        ensures ok { IfOk result (Answers (λ answer. spec.AnswersSource (GivesFile bytes.now) (IsRefusedFile bytes.now) self.old number name.now answer self.new) out.old.items out.new.items) }
-        ensures err { OnErr result (StartsWith out.new.items out.old.items) }
-    {
-        let verified = verify_file(alloc, bytes, self.size());
-        self.name_filter(alloc, number, name, verified, out)
-    }
-
-    /// Keeps what is told of a filter that is refused.
-    fn keep_told(&mut self, told: Diagnosis)
-        ensures { self.new ≡ self.old }
-    {
-        self.told = Some(told);
-    }
-
-    /// Answers by what became of a source: verified code gets the name. A refused one leaves the filter that the name has.
-    fn name_filter(
-        &mut self,
-        alloc: Global,
-        number: u32,
-        name: &[u8],
-        verified: Result<Verified, Failure>,
-        out: &mut Vec<u8>,
-    ) -> Result<Reply, AllocError>
-        requires fits { IfOk verified (λ filter. filter.size ≡ self.old.plan.size) }
-        ensures ok { IfOk result (Answers (λ answer. spec.AnswersVerified verified self.old number name.now answer self.new) out.old.items out.new.items) }
-        ensures err { OnErr result (StartsWith out.new.items out.old.items) }
-    {
-        match verified {
-            Ok(filter) => {
-                push_verified(out, &filter)?;
-                self.filters.name(alloc, name, filter)?;
-                Ok(Reply::Answered)
-            }
-            Err(Failure::Refused(told)) => {
-                let why = told.refusal;
-                self.keep_told(told);
-                refuse(out, why.code(), why.place_in_line(number))
-            }
-            Err(Failure::Memory) => Err(AllocError),
-        }
-    }
-
-    /// Answers `link`: two nodes are neighbours from now on.
-    pub(crate) fn link(
+    /// Answers `link` and `cut`: two nodes are neighbours from now on, or no more.
+    fn set_linked(
         &mut self,
         number: u32,
         u: u16,
         w: u16,
+        linked: bool,
         out: &mut Vec<u8>,
     ) -> Result<Reply, AllocError>
-        ensures ok { IfOk result (Answers (λ answer. spec.AnswersLink self.old number u w answer self.new) out.old.items out.new.items) }
+        ensures ok { IfOk result (Answers (λ answer. spec.AnswersLink linked self.old number u w answer self.new) out.old.items out.new.items) }
         ensures err { OnErr result (StartsWith out.new.items out.old.items) }
     {
         self.begun = true;
         if !are_a_pair(self.size(), u, w) {
             return refuse(out, StateFault::BadNode.code(), u64::from(number));
         }
-        if self.domain.plan().is_linked(u, w) {
-            return refuse(out, StateFault::Linked.code(), u64::from(number));
+        if let Some(why) = link_fault(self.domain.plan().is_linked(u, w), linked) {
+            return refuse(out, why.code(), u64::from(number));
         }
-        self.playing.note(Change::Link(u, w))?;
-        self.domain.link(u, w);
+        self.playing.note(Change::Link(u, w, linked))?;
+        self.domain.set_linked(u, w, linked);
         confirm(out)
     }
 
-    /// Answers `cut`: two nodes are neighbours no more.
-    pub(crate) fn cut(
+    /// Answers `import` and `export`: what the first node hears from the second, or tells it, passes a filter from now on.
+    fn use_filter(
         &mut self,
         number: u32,
-        u: u16,
-        w: u16,
-        out: &mut Vec<u8>,
-    ) -> Result<Reply, AllocError>
-        ensures ok { IfOk result (Answers (λ answer. spec.AnswersCut self.old number u w answer self.new) out.old.items out.new.items) }
-        ensures err { OnErr result (StartsWith out.new.items out.old.items) }
-    {
-        self.begun = true;
-        if !are_a_pair(self.size(), u, w) {
-            return refuse(out, StateFault::BadNode.code(), u64::from(number));
-        }
-        if !self.domain.plan().is_linked(u, w) {
-            return refuse(out, StateFault::Apart.code(), u64::from(number));
-        }
-        self.playing.note(Change::Cut(u, w))?;
-        self.domain.cut(u, w);
-        confirm(out)
-    }
-
-    /// Answers `import`: what the first node hears from the second passes a filter from now on.
-    pub(crate) fn import(
-        &mut self,
-        number: u32,
+        direction: Direction,
         u: u16,
         w: u16,
         name: &[u8],
         out: &mut Vec<u8>,
     ) -> Result<Reply, AllocError>
-        ensures ok { IfOk result (Answers (λ answer. spec.AnswersUse (filter_named self.old.filters name.now) (λ filter. importing filter u w self.old.plan) self.old number u w answer self.new) out.old.items out.new.items) }
+        ensures ok { IfOk result (Answers (λ answer. spec.AnswersUse (filter_named self.old.filters name.now) (λ filter. spec.filtering direction filter u w self.old.plan) self.old number u w answer self.new) out.old.items out.new.items) }
         ensures err { OnErr result (StartsWith out.new.items out.old.items) }
     {
         let Some(filter) = self.filters.get(name)? else {
@@ -297,114 +224,32 @@ impl Planning {
             return refuse(out, StateFault::BadNode.code(), u64::from(number));
         }
         let played = Arc::try_clone(&filter)?;
-        self.playing.note(Change::Import(u, w, played))?;
-        self.domain.set_import(u, w, filter);
+        self.playing.note(Change::Filter(direction, u, w, played))?;
+        self.domain.set_filter(direction, u, w, filter);
         confirm(out)
     }
 
-    /// Answers `export`: what the first node tells the second passes a filter from now on.
-    pub(crate) fn export(
-        &mut self,
-        number: u32,
-        u: u16,
-        w: u16,
-        name: &[u8],
-        out: &mut Vec<u8>,
-    ) -> Result<Reply, AllocError>
-        ensures ok { IfOk result (Answers (λ answer. spec.AnswersUse (filter_named self.old.filters name.now) (λ filter. exporting filter u w self.old.plan) self.old number u w answer self.new) out.old.items out.new.items) }
-        ensures err { OnErr result (StartsWith out.new.items out.old.items) }
-    {
-        let Some(filter) = self.filters.get(name)? else {
-            return refuse(out, StateFault::UnknownFilter.code(), u64::from(number));
-        };
-        self.begun = true;
-        if !are_a_pair(self.size(), u, w) {
-            return refuse(out, StateFault::BadNode.code(), u64::from(number));
-        }
-        let played = Arc::try_clone(&filter)?;
-        self.playing.note(Change::Export(u, w, played))?;
-        self.domain.set_export(u, w, filter);
-        confirm(out)
-    }
-
-    /// Answers `route`: a node's route at rest.
-    fn route(
+    /// Answers a question.
+    fn ask(
         &mut self,
         alloc: Global,
         number: u32,
-        u: u16,
-        v: u16,
+        question: Question,
         out: &mut Vec<u8>,
     ) -> Result<Reply, AllocError>
-        ensures ok { IfOk result (Answers (λ answer. spec.Asks (spec.IsToldRoute self.old.plan number u v) self.old answer self.new) out.old.items out.new.items) }
+        ensures ok { IfOk result (Answers (λ answer. spec.Asks (spec.AnswersQuestion question self.old.plan self.old.marked number) self.old answer self.new) out.old.items out.new.items) }
         ensures err { OnErr result (StartsWith out.new.items out.old.items) }
     {
         self.begun = true;
-        answer_route(alloc, self.domain.plan(), number, u, v, out)
-    }
-
-    /// Answers `path`: the nodes on the way at rest.
-    fn path(
-        &mut self,
-        alloc: Global,
-        number: u32,
-        u: u16,
-        v: u16,
-        out: &mut Vec<u8>,
-    ) -> Result<Reply, AllocError>
-        ensures ok { IfOk result (Answers (λ answer. spec.Asks (spec.IsToldPath self.old.plan number u v) self.old answer self.new) out.old.items out.new.items) }
-        ensures err { OnErr result (StartsWith out.new.items out.old.items) }
-    {
-        self.begun = true;
-        answer_path(alloc, self.domain.plan(), number, u, v, out)
-    }
-
-    /// Answers `table`: all routes of a node at rest.
-    fn table(
-        &mut self,
-        alloc: Global,
-        number: u32,
-        u: u16,
-        out: &mut Vec<u8>,
-    ) -> Result<Reply, AllocError>
-        ensures ok { IfOk result (Answers (λ answer. spec.Asks (spec.IsToldTable self.old.plan number u) self.old answer self.new) out.old.items out.new.items) }
-        ensures err { OnErr result (StartsWith out.new.items out.old.items) }
-    {
-        self.begun = true;
-        answer_table(alloc, &mut self.domain, number, u, out)
-    }
-
-    /// Answers `draw`: a picture of the routes to a node at rest.
-    fn draw(
-        &mut self,
-        alloc: Global,
-        number: u32,
-        v: u16,
-        out: &mut Vec<u8>,
-    ) -> Result<Reply, AllocError>
-        ensures ok { IfOk result (Answers (λ answer. spec.Asks (spec.IsToldDrawing self.old.plan number v) self.old answer self.new) out.old.items out.new.items) }
-        ensures err { OnErr result (StartsWith out.new.items out.old.items) }
-    {
-        self.begun = true;
-        answer_draw(alloc, self.domain.plan(), number, v, out)
-    }
-
-    /// Answers `changes`: the routes at rest that are not what they were.
-    fn changes(&mut self, alloc: Global, out: &mut Vec<u8>) -> Result<Reply, AllocError>
-        ensures ok { IfOk result (Answers (λ answer. spec.Asks (spec.IsToldChanges self.old.plan self.old.marked) self.old answer self.new) out.old.items out.new.items) }
-        ensures err { OnErr result (StartsWith out.new.items out.old.items) }
-    {
-        self.begun = true;
-        answer_changes(alloc, &mut self.domain, &self.marked, out)
-    }
-
-    /// Answers `settle`: the routers are played until quiet.
-    fn settle(&mut self, alloc: Global, number: u32, out: &mut Vec<u8>) -> Result<Reply, AllocError>
-        ensures ok { IfOk result (Answers (λ answer. spec.Asks (spec.IsToldSettled number) self.old answer self.new) out.old.items out.new.items) }
-        ensures err { OnErr result (StartsWith out.new.items out.old.items) }
-    {
-        self.begun = true;
-        answer_settle(alloc, self.domain.plan(), &mut self.playing, number, out)
+        answer_question(
+            alloc,
+            question,
+            &mut self.domain,
+            &self.marked,
+            &mut self.playing,
+            number,
+            out,
+        )
     }
 
     /// Answers `mark`: remembers all routes at rest.

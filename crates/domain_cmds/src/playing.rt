@@ -4,6 +4,7 @@ ghost use Rattle.std.specs.Prelude.{◌≡◌, ◌≢◌, ◌<◌, ◌≤◌, If
 use domain_player::{LinkFault, Routers, SettleFault, Settled};
 use domain_routes::Plan;
 use filter_verifier::Verified;
+use operator_cmds::Direction;
 use std::alloc::{AllocError, Global};
 use std::mem;
 use std::sync::Arc;
@@ -11,14 +12,10 @@ use std::sync::Arc;
 /// A change of the domain that its routers are to enter.
 #[derive(Drop)]
 pub(crate) enum Change {
-    /// Two nodes are neighbours.
-    Link(u16, u16),
-    /// Two nodes are neighbours no more.
-    Cut(u16, u16),
-    /// What the first node hears from the second passes a filter.
-    Import(u16, u16, Arc<Verified>),
-    /// What the first node tells the second passes a filter.
-    Export(u16, u16, Arc<Verified>),
+    /// Two nodes are neighbours, or no more.
+    Link(u16, u16, bool),
+    /// What the first node hears from the second, or tells it, passes a filter.
+    Filter(Direction, u16, u16, Arc<Verified>),
 }
 
 /// The routers, if they were played, and what happened since. Nothing is heard but in `settle`, so changes may be entered then.
@@ -77,25 +74,22 @@ fn fits(routers: &Routers, u: u16, w: u16, filter: &Arc<Verified>) -> bool
     are_a_pair(routers, u, w) && filter.size() == u32::from(routers.size())
 }
 
-/// Two nodes are neighbours from now on.
-fn link(routers: &mut Routers, u: u16, w: u16) -> Result<(), PlayFault> {
-    if !are_a_pair(routers, u, w) || routers.is_linked(u, w) {
+/// Two nodes are neighbours from now on, or no more.
+fn set_linked(routers: &mut Routers, u: u16, w: u16, linked: bool) -> Result<(), PlayFault> {
+    if !are_a_pair(routers, u, w) {
         return Err(PlayFault::Closed);
     }
-    Ok(routers.link(u, w)?)
-}
-
-/// Two nodes are neighbours no more.
-fn cut(routers: &mut Routers, u: u16, w: u16) -> Result<(), PlayFault> {
-    if !are_a_pair(routers, u, w) || !routers.is_linked(u, w) {
-        return Err(PlayFault::Closed);
+    match (routers.is_linked(u, w), linked) {
+        (false, true) => Ok(routers.link(u, w)?),
+        (true, false) => Ok(routers.cut(u, w)?),
+        _ => Err(PlayFault::Closed),
     }
-    Ok(routers.cut(u, w)?)
 }
 
-/// What the first node hears from the second passes a filter from now on.
-fn set_import(
+/// What the first node hears from the second, or tells it, passes a filter from now on.
+fn set_filter(
     routers: &mut Routers,
+    direction: Direction,
     u: u16,
     w: u16,
     filter: Arc<Verified>,
@@ -103,29 +97,17 @@ fn set_import(
     if !fits(routers, u, w, &filter) {
         return Err(PlayFault::Closed);
     }
-    Ok(routers.set_import(u, w, filter)?)
-}
-
-/// What the first node tells the second passes a filter from now on.
-fn set_export(
-    routers: &mut Routers,
-    u: u16,
-    w: u16,
-    filter: Arc<Verified>,
-) -> Result<(), PlayFault> {
-    if !fits(routers, u, w, &filter) {
-        return Err(PlayFault::Closed);
+    match direction {
+        Direction::Import => Ok(routers.set_import(u, w, filter)?),
+        Direction::Export => Ok(routers.set_export(u, w, filter)?),
     }
-    Ok(routers.set_export(u, w, filter)?)
 }
 
 /// The routers enter a change. Closed ones enter none.
 fn enter(routers: &mut Routers, change: Change) -> Result<(), PlayFault> {
     match change {
-        Change::Link(u, w) => link(routers, u, w),
-        Change::Cut(u, w) => cut(routers, u, w),
-        Change::Import(u, w, filter) => set_import(routers, u, w, filter),
-        Change::Export(u, w, filter) => set_export(routers, u, w, filter),
+        Change::Link(u, w, linked) => set_linked(routers, u, w, linked),
+        Change::Filter(direction, u, w, filter) => set_filter(routers, direction, u, w, filter),
     }
 }
 

@@ -1,20 +1,22 @@
 //! A line of the domain's script is read as a command.
-ghost use Rattle.std.specs.Prelude.{◌≡◌, Some, Ok, Err, MatchResult};
+ghost use Rattle.std.specs.Prelude.{◌≡◌, Some};
 ghost use Rattle.line_protocol.specs.Words.{words, without_front_blanks};
 ghost use Rattle.prefix_patterns.specs.Reading.{number_in};
 ghost use Rattle.operator_cmds.specs.Limits.{number_limit};
 ghost use Rattle.operator_cmds.specs.WordLists.{after_word, one_of, two_of, three_of};
+ghost use Rattle.operator_cmds.specs.Commands.{made};
 ghost use Rattle.domain_cmds.specs.CommandView.{view_of};
+ghost use Rattle.domain_cmds.specs.CommandView as command;
 ghost use Rattle.domain_cmds.specs.Commands as spec;
 ghost use Rattle.domain_cmds.specs.Readings.{IsRead, IsReadIn};
 
-use crate::command::Command;
+use crate::command::{Command, DomainSize, Question};
 use crate::verb::{Verb, read_verb};
 use filter_code::{LARGEST_SIZE, SMALLEST_SIZE};
 use line_protocol::{LINE_LIMIT, next_word};
 use operator_cmds::{
-    CommandFault, cut_word, is_name, read_code, read_load, read_node, read_node_prefix, read_small,
-    three_words, two_words,
+    CommandFault, Direction, cut_word, is_name, read_code, read_load, read_node, read_node_prefix,
+    read_small, three_words, two_words,
 };
 use std::alloc::Global;
 
@@ -45,28 +47,39 @@ fn read_nodes(rest: &[u8]) -> Result<(u16, u16), CommandFault>
 fn read_domain<'a>(rest: &[u8]) -> Result<Command<'a>, CommandFault>
     ensures { IsRead result (spec.domain_of (one_of (words rest.now))) }
 {
-    let size = read_node(rest)?;
-    let nodes = u32::from(size);
-    if SMALLEST_SIZE <= nodes && nodes <= LARGEST_SIZE {
-        Ok(Command::Domain(size))
+    let nodes = read_node(rest)?;
+    if SMALLEST_SIZE <= u32::from(nodes) && u32::from(nodes) <= LARGEST_SIZE {
+        Ok(Command::Domain(DomainSize { nodes }))
     } else {
         Err(CommandFault::Numbers)
     }
 }
 
-/// The numbers of two nodes and the name of a filter, where nothing follows them.
-fn read_filter(rest: &[u8]) -> Result<(u16, u16, &[u8]), CommandFault>
-    ensures { MatchResult result (λ p. spec.filter_in (three_of (words rest.now)) ≡ Ok (p.0, p.1, p.2.now))
-        (λ why. spec.filter_in (three_of (words rest.now)) ≡ Err why) }
+/// A `link` or a `cut` command by the bytes after its first word.
+fn read_link<'a>(linked: bool, rest: &[u8]) -> Result<Command<'a>, CommandFault>
+    ensures { IsRead result (made (λ p. command.Link linked p.0 p.1) (spec.nodes_in (two_of (words rest.now)))) }
 {
-    let Some((node, neighbour, name)) = three_words(rest) else {
+    let (u, w) = read_nodes(rest)?;
+    Ok(Command::Link { linked, u, w })
+}
+
+/// An `import` or an `export` command by the bytes after its first word.
+fn read_use(direction: Direction, rest: &[u8]) -> Result<Command<'_>, CommandFault>
+    ensures { IsRead result (made (λ p. command.Use direction p.0 p.1 p.2) (spec.filter_in (three_of (words rest.now)))) }
+{
+    let Some((u, w, name)) = three_words(rest) else {
         return Err(CommandFault::Words);
     };
     if !is_name(name) {
         return Err(CommandFault::Words);
     }
-    let (node, neighbour) = read_both(node, neighbour)?;
-    Ok((node, neighbour, name))
+    let (u, w) = read_both(u, w)?;
+    Ok(Command::Use {
+        direction,
+        u,
+        w,
+        name,
+    })
 }
 
 /// A command after which nothing follows.
@@ -97,35 +110,23 @@ fn read_rest(alloc: Global, verb: Verb, rest: &[u8]) -> Result<Command<'_>, Comm
             let (name, bytes) = read_code(alloc, rest)?;
             Ok(Command::Code { name, bytes })
         }
-        Verb::Link => {
-            let (u, w) = read_nodes(rest)?;
-            Ok(Command::Link(u, w))
-        }
-        Verb::Cut => {
-            let (u, w) = read_nodes(rest)?;
-            Ok(Command::Cut(u, w))
-        }
-        Verb::Import => {
-            let (node, from, name) = read_filter(rest)?;
-            Ok(Command::Import { node, from, name })
-        }
-        Verb::Export => {
-            let (node, to, name) = read_filter(rest)?;
-            Ok(Command::Export { node, to, name })
-        }
+        Verb::Link => read_link(true, rest),
+        Verb::Cut => read_link(false, rest),
+        Verb::Import => read_use(Direction::Import, rest),
+        Verb::Export => read_use(Direction::Export, rest),
         Verb::Route => {
             let (u, v) = read_nodes(rest)?;
-            Ok(Command::Route(u, v))
+            Ok(Command::Ask(Question::Route(u, v)))
         }
         Verb::Path => {
             let (u, v) = read_nodes(rest)?;
-            Ok(Command::Path(u, v))
+            Ok(Command::Ask(Question::Path(u, v)))
         }
-        Verb::Table => Ok(Command::Table(read_node(rest)?)),
-        Verb::Draw => Ok(Command::Draw(read_node(rest)?)),
+        Verb::Table => Ok(Command::Ask(Question::Table(read_node(rest)?))),
+        Verb::Draw => Ok(Command::Ask(Question::Draw(read_node(rest)?))),
         Verb::Mark => read_alone(Command::Mark, rest),
-        Verb::Changes => read_alone(Command::Changes, rest),
-        Verb::Settle => read_alone(Command::Settle, rest),
+        Verb::Changes => read_alone(Command::Ask(Question::Changes), rest),
+        Verb::Settle => read_alone(Command::Ask(Question::Settle), rest),
     }
 }
 

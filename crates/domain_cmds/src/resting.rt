@@ -1,11 +1,13 @@
 //! A plan, and its routes at rest once they are asked for.
-ghost use Rattle.std.specs.Prelude.{◌≡◌, ◌≢◌, ◌<◌, IfOk, false, true};
-ghost use Rattle.domain_routes.specs.Edits.{exporting, importing, linking, with_prefix};
+ghost use Rattle.std.specs.Prelude.{◌≡◌, ◌≢◌, ◌<◌, IfOk};
+ghost use Rattle.domain_routes.specs.Edits.{linking, with_prefix};
 ghost use Rattle.domain_cmds.specs.Rests.{AreAllRoutes};
+ghost use Rattle.domain_cmds.specs.Script.{filtering};
 
 use crate::routes::{Column, all_columns};
 use domain_routes::Plan;
 use filter_verifier::Verified;
+use operator_cmds::Direction;
 use prefix_patterns::Prefix;
 use std::alloc::{AllocError, Global};
 use std::marker::Model;
@@ -63,48 +65,33 @@ impl RestingPlan {
         self.plan.set_prefix(node, prefix);
     }
 
-    /// Two nodes are neighbours from now on.
-    pub(crate) fn link(&mut self, u: u16, w: u16)
+    /// Two nodes are neighbours from now on, or no more.
+    pub(crate) fn set_linked(&mut self, u: u16, w: u16, linked: bool)
         requires u { u < self.old.size }
         requires w { w < self.old.size }
         requires apart { u ≢ w }
-        ensures { self.new ≡ linking true u w self.old }
+        ensures { self.new ≡ linking linked u w self.old }
     {
         self.rest = None;
-        self.plan.link(u, w);
+        if linked {
+            self.plan.link(u, w);
+        } else {
+            self.plan.cut(u, w);
+        }
     }
 
-    /// Two nodes are neighbours no more.
-    pub(crate) fn cut(&mut self, u: u16, w: u16)
-        requires u { u < self.old.size }
-        requires w { w < self.old.size }
-        requires apart { u ≢ w }
-        ensures { self.new ≡ linking false u w self.old }
-    {
-        self.rest = None;
-        self.plan.cut(u, w);
-    }
-
-    /// What the first node hears from the second passes this filter from now on.
-    pub(crate) fn set_import(&mut self, u: u16, w: u16, filter: Arc<Verified>)
+    /// What the first node hears from the second, or tells it, passes this filter from now on.
+    pub(crate) fn set_filter(&mut self, direction: Direction, u: u16, w: u16, filter: Arc<Verified>)
         requires u { u < self.old.size }
         requires w { w < self.old.size }
         requires fits { filter.value.size ≡ self.old.size }
-        ensures { self.new ≡ importing filter.value u w self.old }
+        ensures { self.new ≡ filtering direction filter.value u w self.old }
     {
         self.rest = None;
-        self.plan.set_import(u, w, filter);
-    }
-
-    /// What the first node tells the second passes this filter from now on.
-    pub(crate) fn set_export(&mut self, u: u16, w: u16, filter: Arc<Verified>)
-        requires u { u < self.old.size }
-        requires w { w < self.old.size }
-        requires fits { filter.value.size ≡ self.old.size }
-        ensures { self.new ≡ exporting filter.value u w self.old }
-    {
-        self.rest = None;
-        self.plan.set_export(u, w, filter);
+        match direction {
+            Direction::Import => self.plan.set_import(u, w, filter),
+            Direction::Export => self.plan.set_export(u, w, filter),
+        }
     }
 
     /// All routes at rest. They are computed once after each change.

@@ -65,7 +65,7 @@ fn push_row(out: &mut Vec<u8>, v: u16, route: Best) -> Result<(), AllocError>
 }
 
 /// Adds the rows of a table.
-#[tactic(auto, unfolding(crate::specs::Texts::texts_below))]
+#[tactic(auto, unfolding(operator_cmds::specs::Looks::texts_below))]
 fn push_rows(out: &mut Vec<u8>, size: u16, all: &[Column], u: u16) -> Result<(), AllocError>
     ensures ok { OnOk result (out.new.items ≡ out.old.items ++ spec.rows_text size all.now u) }
     ensures err { OnErr result (StartsWith out.new.items out.old.items) }
@@ -184,7 +184,7 @@ fn push_idle(
 }
 
 /// Adds the nodes of a picture.
-#[tactic(auto, unfolding(crate::specs::Texts::texts_below))]
+#[tactic(auto, unfolding(operator_cmds::specs::Looks::texts_below))]
 fn push_nodes(out: &mut Vec<u8>, plan: &Plan, routes: &Column) -> Result<(), AllocError>
     ensures ok { OnOk result (out.new.items ≡ out.old.items ++ spec.nodes_text plan.now routes.now) }
     ensures err { OnErr result (StartsWith out.new.items out.old.items) }
@@ -196,7 +196,7 @@ fn push_nodes(out: &mut Vec<u8>, plan: &Plan, routes: &Column) -> Result<(), All
 }
 
 /// Adds the arrows of a picture.
-#[tactic(auto, unfolding(crate::specs::Texts::texts_below))]
+#[tactic(auto, unfolding(operator_cmds::specs::Looks::texts_below))]
 fn push_arrows(out: &mut Vec<u8>, plan: &Plan, routes: &Column) -> Result<(), AllocError>
     ensures ok { OnOk result (out.new.items ≡ out.old.items ++ spec.arrows_text plan.now routes.now) }
     ensures err { OnErr result (StartsWith out.new.items out.old.items) }
@@ -208,7 +208,7 @@ fn push_arrows(out: &mut Vec<u8>, plan: &Plan, routes: &Column) -> Result<(), Al
 }
 
 /// Adds the links of a node to those above it that no next hop uses.
-#[tactic(auto, unfolding(crate::specs::Texts::texts_below))]
+#[tactic(auto, unfolding(operator_cmds::specs::Looks::texts_below))]
 fn push_idles_of(out: &mut Vec<u8>, plan: &Plan, routes: &Column, u: u16) -> Result<(), AllocError>
     requires u { u < plan.now.size }
     ensures ok { OnOk result (out.new.items ≡ out.old.items ++ spec.idles_of plan.now routes.now u) }
@@ -221,7 +221,7 @@ fn push_idles_of(out: &mut Vec<u8>, plan: &Plan, routes: &Column, u: u16) -> Res
 }
 
 /// Adds the links that no next hop uses.
-#[tactic(auto, unfolding(crate::specs::Texts::texts_below))]
+#[tactic(auto, unfolding(operator_cmds::specs::Looks::texts_below))]
 fn push_idles(out: &mut Vec<u8>, plan: &Plan, routes: &Column) -> Result<(), AllocError>
     ensures ok { OnOk result (out.new.items ≡ out.old.items ++ spec.idles_text plan.now routes.now) }
     ensures err { OnErr result (StartsWith out.new.items out.old.items) }
@@ -303,7 +303,7 @@ fn push_change(
 }
 
 /// Adds the destinations to which a node's route is another than it was.
-#[tactic(auto, unfolding(crate::specs::Texts::texts_below))]
+#[tactic(auto, unfolding(operator_cmds::specs::Looks::texts_below))]
 fn push_changes_of(
     out: &mut Vec<u8>,
     size: u16,
@@ -321,7 +321,7 @@ fn push_changes_of(
 }
 
 /// Adds the nodes and destinations between which the route is another than it was.
-#[tactic(auto, unfolding(crate::specs::Texts::texts_below))]
+#[tactic(auto, unfolding(operator_cmds::specs::Looks::texts_below))]
 fn push_all_changes(
     out: &mut Vec<u8>,
     size: u16,

@@ -287,25 +287,35 @@ module _ (one other after later : ScriptView) (number : ℕ) (a b : Answer) (ali
   by_prefix (Open i) (Open j) node bits stages h k = refused_both (codes "O5") number h k
   by_prefix s t node bits stages h k = absurd stages
 
-  named : (name : List ℕ) (f g : VerifiedView) → f ≡ g → Script.Names name f one after → Script.Names name g other later → AreAlike after later
-  named name f g same h k = record {
-    stage = moved_stages one.stage other.stage after.stage later.stage alike.stage h.stage k.stage;
-    filters = λ n.
-        h.filters n ∙ ap (λ (x : VerifiedView). if bytes_eq name n then Some x else one.filters n) same
-        ∙ ap (λ (x : Option VerifiedView). if bytes_eq name n then Some g else x) (alike.filters n) ∙ sym (k.filters n);
-  }
+  named : (name : List ℕ) (f g : VerifiedView) → f ≡ g → Script.GetsName name f one.filters after.filters
+      → Script.GetsName name g other.filters later.filters → (n : List ℕ) → after.filters n ≡ later.filters n
+  named name f g same h k n =
+      h n ∙ ap (λ (x : VerifiedView). if bytes_eq name n then Some x else one.filters n) same
+      ∙ ap (λ (x : Option VerifiedView). if bytes_eq name n then Some g else x) (alike.filters n) ∙ sym (k n)
 
-  by_source : (Gives : CodeView → Type 0) (Lacks : Refusal → Type 0) → Settles Gives Lacks → (n m : ℕ) (name : List ℕ) → n ≡ m
-      → Script.AnswersSource Gives Lacks n number name one a after → Script.AnswersSource Gives Lacks m number name other b later → Ends
-  by_source Gives Lacks settles n m name size (inl h) (inl k) =
+  by_answers : (Gives : CodeView → Type 0) (Lacks : Refusal → Type 0) → Settles Gives Lacks → (n m : ℕ) (name : List ℕ) → n ≡ m
+      → Script.AnswersSource Gives Lacks n number name one.filters a after.filters
+      → Script.AnswersSource Gives Lacks m number name other.filters b later.filters
+      → AreAlikeAnswers number a b × ((x : List ℕ) → after.filters x ≡ later.filters x)
+  by_answers Gives Lacks settles n m name size (inl h) (inl k) =
       let same = same_verified h.0 k.0 (settles.one _ _ h.1.gives k.1.gives) (h.1.size_is ∙ size ∙ sym k.1.size_is) in (
         inl (h.2.0 ∙ ap (λ (f : VerifiedView). let x : Answer = record { text = verified_line f.program; reply = Answered } in x) same ∙ sym k.2.0),
         named name h.0 k.0 same h.2.1 k.2.1,
       )
-  by_source Gives Lacks settles n m name size (inl h) (inr k) = absurd (not_refused Gives Lacks settles n m h.0 k.0 size h.1 k.1)
-  by_source Gives Lacks settles n m name size (inr h) (inl k) = absurd (not_refused Gives Lacks settles m n k.0 h.0 (sym size) k.1 h.1)
-  by_source Gives Lacks settles n m name size (inr h) (inr k) =
-      (inr (h.0, k.0, refusals_alike Gives Lacks settles n m h.0 k.0 size h.1 k.1, h.2.0, k.2.0), kept h.2.1 k.2.1)
+  by_answers Gives Lacks settles n m name size (inl h) (inr k) = absurd (not_refused Gives Lacks settles n m h.0 k.0 size h.1 k.1)
+  by_answers Gives Lacks settles n m name size (inr h) (inl k) = absurd (not_refused Gives Lacks settles m n k.0 h.0 (sym size) k.1 h.1)
+  by_answers Gives Lacks settles n m name size (inr h) (inr k) = (
+    inr (h.0, k.0, refusals_alike Gives Lacks settles n m h.0 k.0 size h.1 k.1, h.2.0, k.2.0),
+    λ x. h.2.1 x ∙ alike.filters x ∙ sym (k.2.1 x),
+  )
+
+  by_source : (Gives : CodeView → Type 0) (Lacks : Refusal → Type 0) → Settles Gives Lacks → (n m : ℕ) (name : List ℕ) → n ≡ m
+      → Script.NamesSource Gives Lacks n number name one a after → Script.NamesSource Gives Lacks m number name other b later → Ends
+  by_source Gives Lacks settles n m name size h k =
+      let both = by_answers Gives Lacks settles n m name size h.filters k.filters in (
+        both.0,
+        record { stage = moved_stages one.stage other.stage after.stage later.stage alike.stage h.stage k.stage; filters = both.1 },
+      )
 
   by_filter : (Gives : CodeView → Type 0) (Lacks : Refusal → Type 0) → Settles Gives Lacks → (s t : StageView) (name : List ℕ) → AreAlikeStages s t
       → Script.AnswersFilter s Gives Lacks number name one a after → Script.AnswersFilter t Gives Lacks number name other b later → Ends

@@ -48,8 +48,8 @@ module _ (before : ScriptView) (answer : Answer) (after : ScriptView) where
   filter : (stage : StageView) (Gives : CodeView → Type 0) (Lacks : Refusal → Type 0) (number : ℕ) (name : List ℕ)
       → Script.AnswersFilter stage Gives Lacks number name before answer after → GoesOn answer
   filter Empty Gives Lacks number name h = like answer _ h.0 refl
-  filter (Setting opening limit) Gives Lacks number name h = source Gives Lacks opening.size number name before answer after h
-  filter (Open journal) Gives Lacks number name h = source Gives Lacks journal.opening.size number name before answer after h
+  filter (Setting opening limit) Gives Lacks number name h = source Gives Lacks opening.size number name before.filters answer after.filters h.filters
+  filter (Open journal) Gives Lacks number name h = source Gives Lacks journal.opening.size number name before.filters answer after.filters h.filters
 
   in_journal : (journal : JournalView) (event : Event) (later : JournalView) → Script.AnswersIn journal event answer later → GoesOn answer
   in_journal journal event later h =

@@ -1,5 +1,5 @@
 -- An event that a journal entered, and the answer to it.
-use Rattle.std.proofs.Common.{◌≡◌, ℕ, ◌+◌, ◌≤◌, ◌==◌, Bool, false, List, [], ◌∷◌, ◌++◌, length, Result, Ok, Err, IfOk, sym, subst, ap, ◌∙◌, length-append, arith}
+use Rattle.std.proofs.Common.{◌≡◌, ℕ, ◌+◌, ◌≤◌, ◌==◌, Bool, false, List, [], ◌∷◌, ◌++◌, length, Result, IfOk, sym, subst, ap, ◌∙◌, length-append, arith}
 use Rattle.std.specs.Prelude.{MatchBool, codes, get_or}
 use Rattle.std.proofs.Math.Seq.{get_or-append_seam}
 use Rattle.std.proofs.lemmas.Bool.Decides.{nat_tests}
@@ -17,9 +17,10 @@ use Rattle.route_history.specs.JournalView.{JournalView}
 use Rattle.route_history.specs.declared.entry.Entry.{Entry}
 use Rattle.operator_cmds.specs.Replies.{Adds, Answers, refused, reply_answer}
 use Rattle.operator_cmds.specs.Script.{AnswersIn, entered, told_of}
+use Rattle.operator_cmds.proofs.Answering.{added}
 
 -- the last reply of a legal history is the world's
-last_reply : (w : World) (es : List Entry) (e : Entry) → IsLegalFrom w (es ++ e ∷ []) → (next (world_after w es) e.event).reply ≡ e.reply
+pub last_reply : (w : World) (es : List Entry) (e : Entry) → IsLegalFrom w (es ++ e ∷ []) → (next (world_after w es) e.event).reply ≡ e.reply
 last_reply w [] e h = h.0
 last_reply w (x ∷ xs) e h = last_reply (next w x.event).world xs e h.1
 
@@ -72,8 +73,4 @@ module _ (old new : JournalView) (event : Event) (at : ℕ) (reply : Reply)
 
   pub answered : {E : Type 0} (r : Result LineReply E) (before after : List ℕ) → IfOk r (Adds (reply_answer at reply) before after)
       → IfOk r (Answers (λ answer. AnswersIn old event answer new) before after)
-  answered (Ok line) before after h =
-      let a = reply_answer at reply in
-      let is_a : record { text = a.text; reply = line } ≡ a = ap (λ (l : LineReply). record { text = a.text; reply = l }) h.1 in
-      (a.text, h.0, answered_in (record { text = a.text; reply = line }) is_a)
-  answered (Err e) before after h = tt
+  answered r before after = added r (reply_answer at reply) (λ answer. AnswersIn old event answer new) before after answered_in

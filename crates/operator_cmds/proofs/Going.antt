@@ -45,8 +45,11 @@ one_more journal later happened answer =
     subst (λ (l : JournalView). GoesOn (Open journal) (Open l)) (sym h.1) more)
 
 module _ (before after : ScriptView) (answer : Answer) where
+  stays : (s : StageView) → before.stage ≡ s → after.stage ≡ before.stage → GoesOn s after.stage
+  stays s e k = subst (GoesOn s) (sym (k ∙ e)) (same s)
+
   kept : (s : StageView) → before.stage ≡ s → Keeps before after → GoesOn s after.stage
-  kept s e k = subst (GoesOn s) (sym (k.stage ∙ e)) (same s)
+  kept s e k = stays s e k.stage
 
   moved : (s t : StageView) → GoesOn s t → MovesTo t before after → GoesOn s after.stage
   moved s t g m = subst (GoesOn s) (sym m.moved) g
@@ -69,21 +72,11 @@ module _ (before after : ScriptView) (answer : Answer) where
       (λ x. kept (Setting o l) e x.1) h
   by_prefix (Open journal) number node bits e h = kept (Open journal) e h.1
 
-  -- a name changes no stage
-  by_names : (s : StageView) (name : List ℕ) (filter : VerifiedView) → before.stage ≡ s → Script.Names name filter before after
-      → GoesOn s after.stage
-  by_names s name filter e h = subst (GoesOn s) (sym (h.stage ∙ e)) (same s)
-
-  by_source : (Gives : CodeView → Type 0) (Lacks : Refusal → Type 0) (s : StageView) (size number : ℕ) (name : List ℕ) → before.stage ≡ s
-      → Script.AnswersSource Gives Lacks size number name before answer after → GoesOn s after.stage
-  by_source Gives Lacks s size number name e (inl h) = by_names s name h.0 e h.2.1
-  by_source Gives Lacks s size number name e (inr h) = kept s e h.2.1
-
   by_filter : (Gives : CodeView → Type 0) (Lacks : Refusal → Type 0) (s : StageView) (number : ℕ) (name : List ℕ) → before.stage ≡ s
       → Script.AnswersFilter s Gives Lacks number name before answer after → GoesOn s after.stage
   by_filter Gives Lacks Empty number name e h = kept Empty e h.1
-  by_filter Gives Lacks (Setting o l) number name e h = by_source Gives Lacks (Setting o l) o.size number name e h
-  by_filter Gives Lacks (Open journal) number name e h = by_source Gives Lacks (Open journal) journal.opening.size number name e h
+  by_filter Gives Lacks (Setting o l) number name e h = stays (Setting o l) e h.stage
+  by_filter Gives Lacks (Open journal) number name e h = stays (Open journal) e h.stage
 
   by_event : (s : StageView) (number : ℕ) (happened : Event) → before.stage ≡ s
       → Script.AnswersEvent s number happened before answer after → GoesOn s after.stage

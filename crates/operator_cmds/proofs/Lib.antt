@@ -1,5 +1,6 @@
 pub mod Fitting
 pub mod Openings
+pub mod Answering
 pub mod Naming
 pub mod Sourced
 pub mod Entering

@@ -9,7 +9,7 @@ use Rattle.std.specs.Str.{bytes_eq}
 use Rattle.std.specs.declared.sync.Arc.{Arc}
 use Rattle.std.proofs.lemmas.Map.Text.{is_eq-slice_cmp}
 use Rattle.filter_verifier.specs.VerifiedView.{VerifiedView}
-use Rattle.operator_cmds.specs.Script.{Names}
+use Rattle.operator_cmds.specs.Script.{GetsName, Names}
 use Rattle.operator_cmds.specs.Stages.{StageView}
 use Rattle.operator_cmds.specs.State.{filter_at}
 
@@ -71,13 +71,15 @@ under m n key filter h other =
     ∙ mapped (bytes_eq key.items other) filter (found m other)
 
 -- the name has the filter, and the other names have what they had
+pub gets : (m n : Filters) (key : Key) (filter : Arc VerifiedView Global) (name : List ℕ) → key.items ≡ name
+    → Updates key_cmp m n key (Some filter) → GetsName name filter.value (filter_at m) (filter_at n)
+gets m n key filter name same h other =
+    under m n key filter h other ∙ ap (λ (text : List ℕ). if bytes_eq text other then Some filter.value else filter_at m other) same
+
 pub names : (stage : StageView) (m n : Filters) (key : Key) (filter : Arc VerifiedView Global) (name : List ℕ) (view : VerifiedView)
     → key.items ≡ name → filter.value ≡ view → Updates key_cmp m n key (Some filter)
     → Names name view (record { stage = stage; filters = filter_at m }) (record { stage = stage; filters = filter_at n })
-names stage m n key filter name view same_name is_view h = record {
+names stage m n key filter name view same is_view h = record {
   stage = refl;
-  filters = λ other.
-      under m n key filter h other
-      ∙ ap (λ (text : List ℕ). if bytes_eq text other then Some filter.value else filter_at m other) same_name
-      ∙ ap (λ (v : VerifiedView). if bytes_eq name other then Some v else filter_at m other) is_view;
+  filters = subst (λ (v : VerifiedView). GetsName name v (filter_at m) (filter_at n)) is_view (gets m n key filter name same h);
 }

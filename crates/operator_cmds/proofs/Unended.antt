@@ -12,7 +12,7 @@ use Rattle.netchange_core.specs.declared.reply.Reply.{Reply}
 use Rattle.netchange_core.specs.declared.reply.Reply.TheVariants as reply
 use Rattle.operator_cmds.specs.Replies.{answered, refused, reply_answer}
 use Rattle.operator_cmds.specs.Running.{EndsEarly, EndsWithInput}
-use Rattle.operator_cmds.specs.Script.{AnswersSource, ScriptView}
+use Rattle.operator_cmds.specs.Script.{AnswersSource, Filters}
 
 -- the answer is one after which more is answered
 abbrev pub GoesOn : Answer → Type 0
@@ -36,8 +36,8 @@ replied at (reply.Messages messages) = refl
 replied at (reply.Route dist through) = refl
 replied at (reply.Refused why) = refl
 
-pub source : (Gives : CodeView → Type 0) (Lacks : Refusal → Type 0) (size number : ℕ) (name : List ℕ) (before : ScriptView) (answer : Answer)
-    (after : ScriptView) → AnswersSource Gives Lacks size number name before answer after → GoesOn answer
+pub source : (Gives : CodeView → Type 0) (Lacks : Refusal → Type 0) (size number : ℕ) (name : List ℕ) (before : Filters) (answer : Answer)
+    (after : Filters) → AnswersSource Gives Lacks size number name before answer after → GoesOn answer
 source Gives Lacks size number name before answer after (inl (filter, good, h)) = like answer _ h.0 refl
 source Gives Lacks size number name before answer after (inr (why, bad, h)) = like answer _ h.0 refl
 

@@ -1,5 +1,5 @@
 -- What a script answers to each of its lines, and what becomes of it. (This project's own choice.)
-use Rattle.std.specs.Prelude.{◌≡◌, ◌⊎◌, ℕ, ◌==◌, nat_lt, Bool, MatchBool, List, [], ◌∷◌, ◌++◌, length, Option, Some, None, Result, Ok, Err, slice_set, codes, if◌then◌else◌}
+use Rattle.std.specs.Prelude.{◌≡◌, ◌⊎◌, ℕ, ◌==◌, nat_lt, Bool, MatchBool, List, [], ◌∷◌, ◌++◌, length, Option, Some, None, Ok, Err, slice_set, codes, if◌then◌else◌}
 use Rattle.std.specs.Str.{bytes_eq}
 use Rattle.std.specs.declared.sync.Arc.{Arc}
 use Rattle.std.proofs.Common.{Global}
@@ -8,8 +8,6 @@ use Rattle.filter_parser.specs.SyntaxText.{FilterView}
 use Rattle.filter_source.specs.Refusals.{place_in_line, refusal_code}
 use Rattle.filter_source.specs.Sources.{IsRefusedText, IsUnsafe, Translates, code_in_file}
 use Rattle.filter_source.specs.VerifiedLine.{verified_line}
-use Rattle.filter_source.specs.declared.failure.Failure.{Failure}
-use Rattle.filter_source.specs.declared.failure.Failure.TheVariants as failure
 use Rattle.filter_source.specs.declared.refusal.Refusal.{Refusal}
 use Rattle.filter_verifier.specs.FirstFault.{the_fault}
 use Rattle.filter_verifier.specs.Safe.{IsSafe}
@@ -33,11 +31,19 @@ use Rattle.operator_cmds.specs.Limits.{number_limit}
 use Rattle.operator_cmds.specs.Looks.{history_text, looked}
 use Rattle.operator_cmds.specs.Replies.{answered, refused, reply_answer}
 use Rattle.operator_cmds.specs.Stages.{StageView, Empty, Setting, Open, journal_in, new_journal, session_in}
+use Rattle.operator_cmds.specs.declared.event.Direction.{Direction}
+use Rattle.operator_cmds.specs.declared.event.Direction.TheVariants as direction
+use Rattle.operator_cmds.specs.declared.filter.Source.{Source}
+use Rattle.operator_cmds.specs.declared.filter.Source.TheVariants as source
+
+-- the filter of each name
+abbrev pub Filters : Type 0
+Filters = List ℕ → Option VerifiedView
 
 -- how far a script has come, and the filter of each name
 pub record ScriptView : Type 0 where
   pub stage : StageView
-  pub filters : List ℕ → Option VerifiedView
+  pub filters : Filters
 
 -- a script at its first line
 abbrev pub fresh : ScriptView
@@ -56,9 +62,13 @@ pub record MovesTo (stage : StageView) (before after : ScriptView) : Type 0 wher
   pub filters : (name : List ℕ) → after.filters name ≡ before.filters name
 
 -- the filter of one name alone: names are compared byte by byte
+abbrev pub GetsName : List ℕ → VerifiedView → Filters → Filters → Type 0
+GetsName name filter before after =
+    (other : List ℕ) → after other ≡ (if bytes_eq name other then Some filter else before other)
+
 pub record Names (name : List ℕ) (filter : VerifiedView) (before after : ScriptView) : Type 0 where
   pub stage : after.stage ≡ before.stage
-  pub filters : (other : List ℕ) → after.filters other ≡ (if bytes_eq name other then Some filter else before.filters other)
+  pub filters : GetsName name filter before.filters after.filters
 
 -- a refusal changes nothing
 abbrev pub Refuses : List ℕ → ℕ → ScriptView → Answer → ScriptView → Type 0
@@ -101,25 +111,33 @@ abbrev pub IsRefusedBy : (CodeView → Type 0) → (Refusal → Type 0) → ℕ 
 IsRefusedBy Gives Lacks size why = Lacks why ⊎ ((program : CodeView) × Gives program × IsUnsafe program size why)
 
 -- a filter gets a name, and is answered with its cost and its peak
-abbrev pub Takes : List ℕ → VerifiedView → ScriptView → Answer → ScriptView → Type 0
+abbrev pub Takes : List ℕ → VerifiedView → Filters → Answer → Filters → Type 0
 Takes name filter before answer after =
-    (answer ≡ record { text = verified_line filter.program; reply = Answered }) × Names name filter before after
+    (answer ≡ record { text = verified_line filter.program; reply = Answered }) × GetsName name filter before after
 
 -- a source is refused, and the filter that the name has stays
-abbrev pub TurnsAway : Refusal → ℕ → ScriptView → Answer → ScriptView → Type 0
-TurnsAway why number before answer after = Refuses (refusal_code why) (place_in_line why number) before answer after
+abbrev pub TurnsAway : Refusal → ℕ → Filters → Answer → Filters → Type 0
+TurnsAway why number before answer after =
+    (answer ≡ refused (refusal_code why) (place_in_line why number)) × ((name : List ℕ) → after name ≡ before name)
 
-abbrev pub AnswersSource : (CodeView → Type 0) → (Refusal → Type 0) → ℕ → ℕ → List ℕ → ScriptView → Answer → ScriptView → Type 0
+-- the answer to a source that is to be the filter of a name, in domains of this size
+abbrev pub AnswersSource : (CodeView → Type 0) → (Refusal → Type 0) → ℕ → ℕ → List ℕ → Filters → Answer → Filters → Type 0
 AnswersSource Gives Lacks size number name before answer after =
     ((filter : VerifiedView) × IsVerified Gives size filter × Takes name filter before answer after)
     ⊎ ((why : Refusal) × IsRefusedBy Gives Lacks size why × TurnsAway why number before answer after)
 
+-- so a script answers it, and changes nothing else
+pub record NamesSource (Gives : CodeView → Type 0) (Lacks : Refusal → Type 0) (size number : ℕ) (name : List ℕ) (before : ScriptView)
+    (answer : Answer) (after : ScriptView) : Type 0 where
+  pub stage : after.stage ≡ before.stage
+  pub filters : AnswersSource Gives Lacks size number name before.filters answer after.filters
+
 abbrev pub AnswersFilter : StageView → (CodeView → Type 0) → (Refusal → Type 0) → ℕ → List ℕ → ScriptView → Answer → ScriptView → Type 0
 AnswersFilter Empty Gives Lacks number name before answer after = Refuses (codes "O4") number before answer after
 AnswersFilter (Setting opening limit) Gives Lacks number name before answer after =
-    AnswersSource Gives Lacks opening.size number name before answer after
+    NamesSource Gives Lacks opening.size number name before answer after
 AnswersFilter (Open journal) Gives Lacks number name before answer after =
-    AnswersSource Gives Lacks journal.opening.size number name before answer after
+    NamesSource Gives Lacks journal.opening.size number name before answer after
 
 -- a text spells a filter with this code; a file has this code, or is refused
 abbrev pub GivesText : List ℕ → CodeView → Type 0
@@ -131,11 +149,14 @@ GivesFile bytes program = code_in_file bytes ≡ Ok program
 abbrev pub IsRefusedFile : List ℕ → Refusal → Type 0
 IsRefusedFile bytes why = code_in_file bytes ≡ Err why
 
--- the answer by what became of a source; where memory was refused there is none
-abbrev pub AnswersVerified : Result VerifiedView Failure → ℕ → List ℕ → ScriptView → Answer → ScriptView → Type 0
-AnswersVerified (Ok filter) number name before answer after = Takes name filter before answer after
-AnswersVerified (Err (failure.Refused told)) number name before answer after = TurnsAway told.refusal number before answer after
-AnswersVerified (Err failure.Memory) number name before answer after = ⊥
+-- what a source gives, and why it gives nothing
+abbrev pub gives : Source → CodeView → Type 0
+gives (source.Text text) = GivesText text.now
+gives (source.File bytes) = GivesFile bytes.now
+
+abbrev pub lacks : Source → Refusal → Type 0
+lacks (source.Text text) = IsRefusedText text.now
+lacks (source.File bytes) = IsRefusedFile bytes.now
 
 -- ---- events
 
@@ -170,6 +191,11 @@ abbrev pub RefusesName : StageView → ℕ → ScriptView → Answer → ScriptV
 RefusesName Empty number before answer after = Refuses (codes "O4") number before answer after
 RefusesName (Setting opening limit) number before answer after = Refuses (codes "O6") number before answer after
 RefusesName (Open journal) number before answer after = Refuses (codes "O6") number before answer after
+
+-- a node gets a filter in a direction
+abbrev pub setting : Direction → ℕ → Arc VerifiedView Global → Event
+setting direction.Import node filter = event.SetImport node filter
+setting direction.Export node filter = event.SetExport node filter
 
 -- an event with the filter of a name
 abbrev pub AnswersUse : Option VerifiedView → (Arc VerifiedView Global → Event) → ℕ → ScriptView → Answer → ScriptView → Type 0

@@ -5,10 +5,35 @@ ghost use Rattle.operator_cmds.specs.Script.{AnswersIn};
 ghost use Rattle.operator_cmds.specs.Replies.{Answers};
 
 use crate::reply::{answer_reply, refuse};
+use filter_verifier::Verified;
 use line_protocol::Reply;
 use netchange_core::Event;
 use route_history::{CallFault, Journal};
 use std::alloc::AllocError;
+use std::sync::Arc;
+
+/// Which distances pass a filter: those that a neighbour tells, or those that it is told.
+#[derive(Clone, Copy)]
+pub enum Direction {
+    /// `import`: those that it tells.
+    Import,
+    /// `export`: those that it is told.
+    Export,
+}
+
+impl Direction {
+    ghost use Rattle.operator_cmds.specs.Script.{setting};
+
+    /// The event that gives a neighbour a filter in this direction.
+    pub fn event(self, node: u16, filter: Arc<Verified>) -> Event
+        ensures { result ≡ setting self node filter }
+    {
+        match self {
+            Direction::Import => Event::SetImport(node, filter),
+            Direction::Export => Event::SetExport(node, filter),
+        }
+    }
+}
 
 /// Enters an event in the journal, and answers it. A full journal refuses it with the number of its entries.
 pub fn enter(journal: &mut Journal, event: Event, out: &mut Vec<u8>) -> Result<Reply, AllocError>

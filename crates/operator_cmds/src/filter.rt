@@ -1,13 +1,34 @@
-//! The filters of a script: sources that are verified.
-ghost use Rattle.std.specs.Prelude.{IfErr, IfOk};
+//! The filters of a script: sources that are verified, and get names.
+ghost use Rattle.std.specs.Prelude.{◌≡◌, IfErr, IfOk, OnErr, OnOk};
+ghost use Rattle.std.specs.Io.{StartsWith};
 ghost use Rattle.filter_source.specs.Failures.{OnRefusal};
 ghost use Rattle.filter_source.specs.Sources.{IsRefusedText};
+ghost use Rattle.operator_cmds.specs.Replies.{Answers};
 ghost use Rattle.operator_cmds.specs.Script as spec;
+ghost use Rattle.operator_cmds.specs.State.{filter_at};
 
+use crate::reply::refuse;
 use filter_compiler::MappedCode;
-use filter_source::{Failure, compile_text_mapped, read_file, verify_code, verify_mapped};
+use filter_source::{
+    Diagnosis, Failure, compile_text_mapped, push_verified, read_file, verify_code, verify_mapped,
+};
 use filter_verifier::Verified;
-use std::alloc::Global;
+use line_protocol::Reply;
+use std::alloc::{AllocError, Global};
+use std::collections::BTreeMap;
+use std::sync::Arc;
+
+/// The filters of a script by their names, in the names' order: no choice of names makes it slow to find one.
+pub type NamedFilters = BTreeMap<Vec<u8>, Arc<Verified>>;
+
+/// What a filter is made of.
+#[derive(Clone, Copy)]
+pub enum Source<'a> {
+    /// A text.
+    Text(&'a [u8]),
+    /// The bytes of a code file.
+    File(&'a [u8]),
+}
 
 /// The verified code of a filter's text, for domains of a size.
 pub fn verify_text(alloc: Global, text: &[u8], size: u16) -> Result<Verified, Failure>
@@ -19,9 +40,66 @@ pub fn verify_text(alloc: Global, text: &[u8], size: u16) -> Result<Verified, Fa
 }
 
 /// The verified code of a code file, for domains of a size.
-pub fn verify_file(alloc: Global, bytes: &[u8], size: u16) -> Result<Verified, Failure>
+fn verify_file(alloc: Global, bytes: &[u8], size: u16) -> Result<Verified, Failure>
     ensures verified { IfOk result (λ v. spec.IsVerified (spec.GivesFile bytes.now) size v) }
     ensures refused { IfErr result (OnRefusal (spec.IsRefusedBy (spec.GivesFile bytes.now) (spec.IsRefusedFile bytes.now) size)) }
 {
     verify_code(alloc, read_file(alloc, bytes)?, u32::from(size))
+}
+
+/// The verified code of a source, for domains of a size.
+fn verify_source(alloc: Global, source: Source<'_>, size: u16) -> Result<Verified, Failure>
+    ensures verified { IfOk result (λ v. spec.IsVerified (spec.gives source.entry) size v) }
+    ensures refused { IfErr result (OnRefusal (spec.IsRefusedBy (spec.gives source.entry) (spec.lacks source.entry) size)) }
+{
+    match source {
+        Source::Text(text) => verify_text(alloc, text, size),
+        Source::File(bytes) => verify_file(alloc, bytes, size),
+    }
+}
+
+/// Gives a filter a name, which the filter that had it loses.
+pub fn give_name(
+    alloc: Global,
+    filters: &mut NamedFilters,
+    name: &[u8],
+    filter: Arc<Verified>,
+) -> Result<(), AllocError>
+    ensures ok { OnOk result (spec.GetsName name.now filter.value (filter_at filters.old) (filter_at filters.new)) }
+    ensures err { OnErr result (filters.new.entries ≡ filters.old.entries) }
+{
+    filters.insert(Vec::from_slice(alloc, name)?, filter)?;
+    Ok(())
+}
+
+/// Answers `load` and `code`: a source is verified for domains of a size, and gets a name. A refused one leaves the filter that the name
+/// has, and what is told of it is kept in `told`.
+pub fn name_source(
+    alloc: Global,
+    filters: &mut NamedFilters,
+    number: u32,
+    name: &[u8],
+    source: Source<'_>,
+    size: u16,
+    told: &mut Option<Diagnosis>,
+    out: &mut Vec<u8>,
+) -> Result<Reply, AllocError>
+    ensures ok { IfOk result (Answers (λ answer. spec.AnswersSource (spec.gives source.entry) (spec.lacks source.entry) size number name.now
+        (filter_at filters.old) answer (filter_at filters.new)) out.old.items out.new.items) }
+    ensures err { OnErr result (StartsWith out.new.items out.old.items) }
+    ensures left { OnErr result (filters.new.entries ≡ filters.old.entries) }
+{
+    match verify_source(alloc, source, size) {
+        Ok(filter) => {
+            push_verified(out, &filter)?;
+            give_name(alloc, filters, name, Arc::new(alloc, filter)?)?;
+            Ok(Reply::Answered)
+        }
+        Err(Failure::Refused(refused)) => {
+            *told = Some(refused);
+            let why = refused.refusal;
+            refuse(out, why.code(), why.place_in_line(number))
+        }
+        Err(Failure::Memory) => Err(AllocError),
+    }
 }

@@ -18,8 +18,9 @@ mod watch;
 mod words;
 
 pub use command::{Command, Look};
+pub use event::Direction;
 pub use fault::CommandFault;
-pub use filter::{verify_file, verify_text};
+pub use filter::{NamedFilters, Source, give_name, name_source, verify_text};
 pub use laws::{one_line_one_entry, two_runs_are_answered_alike};
 pub use look::{answer_history, answer_look};
 pub use name::is_name;
@@ -27,7 +28,7 @@ pub use read::{read_code, read_command, read_load, read_node, read_node_prefix, 
 pub use reply::{answer_reply, confirm, push_via, refuse};
 pub use script::{Script, ScriptFault, run_script};
 pub use stage::default_prefixes;
-pub use watch::{NamedFilters, Nobody, RefusedLine, Watch, run_watched_script};
+pub use watch::{Nobody, RefusedLine, Watch, run_watched_script};
 pub use words::{cut_word, one_word, text_in, three_words, two_words};
 
 /// A number of a command, the limit of a history excepted, is at most this.

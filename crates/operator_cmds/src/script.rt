@@ -3,16 +3,16 @@ ghost use Rattle.std.specs.Prelude.{◌≡◌, IfErr, IfOk, IfSome};
 ghost use Rattle.operator_cmds.specs.Running.{IsBrokenOff, IsCarriedOut};
 
 use crate::command::{Command, Look};
-use crate::event::enter;
+use crate::event::{Direction, enter};
 use crate::fault::{CommandFault, StateFault};
-use crate::filter::{verify_file, verify_text};
+use crate::filter::{NamedFilters, Source, give_name, name_source};
 use crate::look::{answer_history, answer_look};
 use crate::plain::{PlainCommand, read_plain};
 use crate::read::read_command;
 use crate::reply::{confirm, refuse};
 use crate::stage::{Setup, Stage};
-use crate::watch::{NamedFilters, Nobody, RefusedLine, run_watched_script};
-use filter_source::{Diagnosis, Failure, push_verified};
+use crate::watch::{Nobody, RefusedLine, run_watched_script};
+use filter_source::Diagnosis;
 use filter_verifier::Verified;
 use line_protocol::{Reply, Service, StreamFault};
 use netchange_core::Event;
@@ -31,7 +31,7 @@ pub type ScriptFault = StreamFault;
 pub struct Script {
     /// How far it has come.
     stage: Stage,
-    /// The filter of each name, in the names' order: no choice of names makes it slow to find one.
+    /// The filter of each name.
     filters: NamedFilters,
     /// What is told of the last filter that was refused.
     told: Option<Diagnosis>,
@@ -64,8 +64,6 @@ impl Script {
     ghost use Rattle.std.specs.Option.{option_map};
     ghost use Rattle.std.specs.Prelude.{OnErr, OnOk};
     ghost use Rattle.std.specs.Io.{StartsWith};
-    ghost use Rattle.filter_source.specs.Sources.{IsRefusedText};
-    ghost use Rattle.netchange_core.specs.declared.event.Event.TheVariants as event;
     ghost use Rattle.operator_cmds.specs.CommandView.{view_of};
     ghost use Rattle.operator_cmds.specs.Domain.{HasFitNumbers, IsDomain};
     ghost use Rattle.operator_cmds.specs.Entries.{open_journal};
@@ -148,8 +146,7 @@ impl Script {
     ) -> Result<(), AllocError>
         ensures { OnOk result (spec.Names name.now filter.value (script_of self.old) (script_of self.new)) }
     {
-        self.filters.insert(Vec::from_slice(alloc, name)?, filter)?;
-        Ok(())
+        give_name(alloc, &mut self.filters, name, filter)
     }
 
     /// Carries out the command of a line in the usual spelling, and answers it.
@@ -216,12 +213,18 @@ impl Script {
                 self.set_up(alloc, number, size, me, limit, out)
             }
             Command::Prefix { node, prefix } => self.set_prefix(alloc, number, node, prefix, out),
-            Command::Load { name, text } => self.load(alloc, number, name, text, out),
-            Command::Code { name, bytes } => {
-                self.load_code(alloc, number, name, bytes.as_slice(), out)
+            Command::Load { name, text } => {
+                self.load(alloc, number, name, Source::Text(text), out)
             }
-            Command::Import { node, name } => self.import(alloc, number, node, name, out),
-            Command::Export { node, name } => self.export(alloc, number, node, name, out),
+            Command::Code { name, bytes } => {
+                self.load(alloc, number, name, Source::File(bytes.as_slice()), out)
+            }
+            Command::Import { node, name } => {
+                self.use_filter(alloc, number, Direction::Import, node, name, out)
+            }
+            Command::Export { node, name } => {
+                self.use_filter(alloc, number, Direction::Export, node, name, out)
+            }
             Command::Up(node) => self.enter(alloc, number, Event::Up(node), out),
             Command::Down(node) => {
                 let event = Event::Down(self.stage.session(node));
@@ -294,120 +297,51 @@ impl Script {
         }
     }
 
-    /// Answers `load`: a filter's text is compiled and verified, and gets a name.
+    /// Answers `load` and `code`: a source is verified, and gets a name.
     fn load(
         &mut self,
         alloc: Global,
         number: u32,
         name: &[u8],
-        text: &[u8],
+        source: Source<'_>,
         out: &mut Vec<u8>,
     ) -> Result<Reply, AllocError>
-        ensures ok { IfOk result (Answers (λ answer. spec.AnswersFilter (stage_of self.old.stage) (spec.GivesText text.now)
-            (IsRefusedText text.now) number name.now (script_of self.old) answer (script_of self.new))
-            out.old.items out.new.items) }
+        ensures ok { IfOk result (Answers (λ answer. spec.AnswersFilter (stage_of self.old.stage) (spec.gives source.entry)
+            (spec.lacks source.entry) number name.now (script_of self.old) answer (script_of self.new)) out.old.items out.new.items) }
         ensures err { OnErr result (StartsWith out.new.items out.old.items) }
     {
         match self.stage.size() {
-            Some(size) => {
-                let verified = verify_text(alloc, text, size);
-                self.name_filter(alloc, number, name, verified, out)
-            }
+            Some(size) => name_source(
+                alloc,
+                &mut self.filters,
+                number,
+                name,
+                source,
+                size,
+                &mut self.told,
+                out,
+            ),
             None => refuse(out, StateFault::NoNetwork.code(), u64::from(number)),
         }
     }
 
-    /// Answers `code`: a code file is read and verified, and gets a name.
-    fn load_code(
+    /// Answers `import` and `export`: a node's distances in a direction pass a filter from now on.
+    fn use_filter(
         &mut self,
         alloc: Global,
         number: u32,
-        name: &[u8],
-        bytes: &[u8],
-        out: &mut Vec<u8>,
-    ) -> Result<Reply, AllocError>
-        ensures ok { IfOk result (Answers (λ answer. spec.AnswersFilter (stage_of self.old.stage) (spec.GivesFile bytes.now)
-            (spec.IsRefusedFile bytes.now) number name.now (script_of self.old) answer (script_of self.new))
-            out.old.items out.new.items) }
-        ensures err { OnErr result (StartsWith out.new.items out.old.items) }
-    {
-        match self.stage.size() {
-            Some(size) => {
-                let verified = verify_file(alloc, bytes, size);
-                self.name_filter(alloc, number, name, verified, out)
-            }
-            None => refuse(out, StateFault::NoNetwork.code(), u64::from(number)),
-        }
-    }
-
-    /// Answers by what became of a source: verified code gets the name. A refused one leaves the filter that the name has.
-    fn name_filter(
-        &mut self,
-        alloc: Global,
-        number: u32,
-        name: &[u8],
-        verified: Result<Verified, Failure>,
-        out: &mut Vec<u8>,
-    ) -> Result<Reply, AllocError>
-        ensures ok { IfOk result (Answers (λ answer. spec.AnswersVerified verified number name.now (script_of self.old) answer
-            (script_of self.new)) out.old.items out.new.items) }
-        ensures err { OnErr result (StartsWith out.new.items out.old.items) }
-    {
-        match verified {
-            Ok(filter) => {
-                push_verified(out, &filter)?;
-                self.set_filter(alloc, name, Arc::new(alloc, filter)?)?;
-                Ok(Reply::Answered)
-            }
-            Err(Failure::Refused(told)) => {
-                self.told = Some(told);
-                let why = told.refusal;
-                refuse(out, why.code(), why.place_in_line(number))
-            }
-            Err(Failure::Memory) => Err(AllocError),
-        }
-    }
-
-    /// Answers `import`: the distances that a node tells pass a filter from now on.
-    fn import(
-        &mut self,
-        alloc: Global,
-        number: u32,
+        direction: Direction,
         node: u16,
         name: &[u8],
         out: &mut Vec<u8>,
     ) -> Result<Reply, AllocError>
         ensures ok { IfOk result (Answers (λ answer. spec.AnswersUse (filter_at self.old.filters name.now)
-            (λ filter. event.SetImport node filter) number (script_of self.old) answer (script_of self.new))
-            out.old.items out.new.items) }
+            (spec.setting direction node) number (script_of self.old) answer (script_of self.new)) out.old.items out.new.items) }
         ensures err { OnErr result (StartsWith out.new.items out.old.items) }
     {
         match self.filters.get(name) {
             Some(filter) => {
-                let event = Event::SetImport(node, Arc::try_clone(filter)?);
-                self.enter(alloc, number, event, out)
-            }
-            None => self.refuse_name(number, out),
-        }
-    }
-
-    /// Answers `export`: the distances that a node is told pass a filter from now on.
-    fn export(
-        &mut self,
-        alloc: Global,
-        number: u32,
-        node: u16,
-        name: &[u8],
-        out: &mut Vec<u8>,
-    ) -> Result<Reply, AllocError>
-        ensures ok { IfOk result (Answers (λ answer. spec.AnswersUse (filter_at self.old.filters name.now)
-            (λ filter. event.SetExport node filter) number (script_of self.old) answer (script_of self.new))
-            out.old.items out.new.items) }
-        ensures err { OnErr result (StartsWith out.new.items out.old.items) }
-    {
-        match self.filters.get(name) {
-            Some(filter) => {
-                let event = Event::SetExport(node, Arc::try_clone(filter)?);
+                let event = direction.event(node, Arc::try_clone(filter)?);
                 self.enter(alloc, number, event, out)
             }
             None => self.refuse_name(number, out),

@@ -2,17 +2,12 @@
 ghost use Rattle.std.specs.Prelude.{◌≡◌, IfErr, IfOk, IfSome};
 ghost use Rattle.operator_cmds.specs.Running.{IsBrokenOff, IsCarriedOut};
 
+use crate::filter::NamedFilters;
 use crate::script::{Script, ScriptFault};
 use filter_source::Diagnosis;
-use filter_verifier::Verified;
 use line_protocol::{Reply, Service, answer_lines};
 use std::alloc::{AllocError, Global};
-use std::collections::BTreeMap;
 use std::io::{Read, Write};
-use std::sync::Arc;
-
-/// The filters of a script by their names, in the names' order.
-pub type NamedFilters = BTreeMap<Vec<u8>, Arc<Verified>>;
 
 /// A line of a script that is refused, and what the script knows.
 #[derive(Clone, Copy)]

@@ -1,6 +1,6 @@
--- What is known of an answer that was added holds of the answer that was given.
-use Rattle.std.proofs.Common.{◌≡◌, ℕ, Bool, true, false, List, Result, Ok, Err, IfOk, refl, ap, sym, subst, ◌∙◌}
-use Rattle.std.specs.Prelude.{MatchBool, OnOk}
+-- The answer to what a line asks for is the answer to the line.
+use Rattle.std.proofs.Common.{◌≡◌, ℕ, Bool, true, false, List, Result, Ok, Err, IfOk, refl, sym, subst, ◌∙◌}
+use Rattle.std.specs.Prelude.{MatchBool}
 use Rattle.line_protocol.specs.Answers.{Answer}
 use Rattle.line_protocol.specs.declared.answers.Reply.{Reply as LineReply}
 use Rattle.operator_cmds.specs.CommandView.{CommandView}
@@ -8,23 +8,11 @@ use Rattle.operator_cmds.specs.Commands.{Read, command_in}
 use Rattle.operator_cmds.specs.Faults.{fault_code}
 use Rattle.operator_cmds.specs.Readings.{IsFault, is_code}
 use Rattle.operator_cmds.specs.Replies.{Adds, Answers, refused}
-use Rattle.operator_cmds.specs.Script as script
 use Rattle.operator_cmds.specs.declared.fault.CommandFault.{CommandFault}
 use Rattle.operator_cmds.specs.declared.fault.CommandFault.TheVariants as fault
-use Rattle.router_operator.specs.OperatorView.{OperatorView, script_of}
-use Rattle.router_operator.specs.Operators.{AnswersCommand, AnswersLine, AnswersRead, AsScript, OnlyNames, Quits, is_quit}
-
-pub added : {E : Type 0} (r : Result LineReply E) (a : Answer) (P : Answer → Type 0) (old new : List ℕ)
-    → ((answer : Answer) → answer ≡ a → P answer) → IfOk r (Adds a old new) → IfOk r (Answers P old new)
-added (Ok reply) a P old new f h =
-    (a.text, h.0, f (record { text = a.text; reply = reply }) (ap (λ (l : LineReply). record { text = a.text; reply = l }) h.1))
-added (Err e) a P old new f h = tt
-
--- of an answer more follows
-pub answers : {E : Type 0} (r : Result LineReply E) (P Q : Answer → Type 0) (old new : List ℕ)
-    → ((answer : Answer) → P answer → Q answer) → IfOk r (Answers P old new) → IfOk r (Answers Q old new)
-answers (Ok reply) P Q old new f h = (h.0, h.1, f (record { text = h.0; reply = reply }) h.2)
-answers (Err e) P Q old new f h = tt
+use Rattle.operator_cmds.proofs.Answering.{added, answers}
+use Rattle.router_operator.specs.OperatorView.{OperatorView}
+use Rattle.router_operator.specs.Operators.{AnswersCommand, AnswersLine, AnswersRead, Quits, is_quit}
 
 -- a fact for one value of a test, where the test has it
 pub at_true : (b : Bool) (P Q : Type 0) → b ≡ true → P → MatchBool b P Q
@@ -32,13 +20,6 @@ at_true b P Q e p = subst (λ (t : Bool). MatchBool t P Q) (sym e) p
 
 pub at_false : (b : Bool) (P Q : Type 0) → b ≡ false → Q → MatchBool b P Q
 at_false b P Q e q = subst (λ (t : Bool). MatchBool t P Q) (sym e) q
-
--- a script's answer, where nothing but names changed
-pub as_script : {E : Type 0} (r : Result LineReply E) (before after : OperatorView) (number : ℕ) (command : CommandView) (old new : List ℕ)
-    → IfOk r (Answers (λ answer. script.AnswersCommand (script_of before) number command answer (script_of after)) old new)
-    → OnOk r (OnlyNames before after) → IfOk r (Answers (λ answer. AsScript before number command answer after) old new)
-as_script (Ok reply) before after number command old new h only = (h.0, h.1, record { answers = h.2; names = only })
-as_script (Err e) before after number command old new h only = tt
 
 -- ---- a line by what it asks for
 

@@ -39,9 +39,9 @@ command : (before : OperatorView) (answer : Answer) (after : OperatorView) (numb
 command before answer after number (Network size me limit) h = like answer _ h.answers.0 refl
 command before answer after number (Prefix node bits) h = like answer _ h.answers.0 refl
 command before answer after number (Load name text) h =
-    source (script.GivesText text) (IsRefusedText text) before.router.opening.size number name (script_of before) answer (script_of after) h.answers
+    source (script.GivesText text) (IsRefusedText text) before.router.opening.size number name (script_of before).filters answer (script_of after).filters h.answers.filters
 command before answer after number (Code name bytes) h =
-    source (script.GivesFile bytes) (script.IsRefusedFile bytes) before.router.opening.size number name (script_of before) answer (script_of after) h.answers
+    source (script.GivesFile bytes) (script.IsRefusedFile bytes) before.router.opening.size number name (script_of before).filters answer (script_of after).filters h.answers.filters
 command before answer after number (Import node name) h =
     by_name before answer after (filter_of before.names name) (λ f. event.SetImport node f) number h
 command before answer after number (Export node name) h =

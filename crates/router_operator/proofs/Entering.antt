@@ -9,6 +9,7 @@ use Rattle.netchange_core.specs.declared.event.Event.{Event}
 use Rattle.netchange_core.specs.declared.reply.Reply.{Reply}
 use Rattle.operator_cmds.specs.Replies.{refused, reply_answer}
 use Rattle.operator_cmds.specs.Script.{told_of}
+use Rattle.operator_cmds.proofs.Entering.{last_reply}
 use Rattle.route_history.specs.Beginning.{Begins}
 use Rattle.route_history.specs.Calls.{entry}
 use Rattle.route_history.specs.History.{IsLegal, IsLegalFrom, world_after}
@@ -22,11 +23,7 @@ use Rattle.router_operator.specs.Looking.{AnswersCall}
 use Rattle.router_operator.specs.OperatorView.{IsAt, Names, OperatorView, journal_with}
 use Rattle.router_operator.specs.Operators.{AnswersEvent, BreaksOff, Enters}
 
--- the last reply of a legal history is the world's, and what stands before it is legal
-last_reply : (w : World) (es : List Entry) (e : Entry) → IsLegalFrom w (es ++ e ∷ []) → (next (world_after w es) e.event).reply ≡ e.reply
-last_reply w [] e h = h.0
-last_reply w (x ∷ xs) e h = last_reply (next w x.event).world xs e h.1
-
+-- what stands before the last entry of a legal history is legal
 legal_front : (w : World) (es more : List Entry) → IsLegalFrom w (es ++ more) → IsLegalFrom w es
 legal_front w [] more h = tt
 legal_front w (x ∷ xs) more h = (h.0, legal_front (next w x.event).world xs more h.1)

@@ -10,7 +10,7 @@ use Rattle.slot_lock.specs.Calls.{Observed}
 use Rattle.slot_lock.specs.Held.{PassView}
 use Rattle.router_operator.specs.OperatorView.{OperatorView, journal_seen}
 use Rattle.router_operator.specs.Operators.{AnswersDown, AnswersEvent, AnswersLook, BreaksOff, GrowsByOne, Looks}
-use Rattle.router_operator.proofs.Answering.{added}
+use Rattle.operator_cmds.proofs.Answering.{added}
 use Rattle.router_operator.proofs.Entering.{begins_then}
 
 module _ {Seer : Type 0} (sees : Seer → JournalView → Seer → Type 0) (before : OperatorView) (pass : PassView) (old new : Seer)

@@ -21,6 +21,8 @@ use Rattle.operator_cmds.specs.Script.{entered, tables_of, told_of}
 use Rattle.operator_cmds.specs.Stages.{Open, session_in}
 use Rattle.operator_cmds.specs.WordLists.{one_of}
 use Rattle.operator_cmds.specs.declared.fault.CommandFault.TheVariants as fault
+use Rattle.operator_cmds.specs.declared.filter.Source.{Source}
+use Rattle.operator_cmds.specs.declared.filter.Source.TheVariants as source
 use Rattle.route_history.specs.Beginning.{Begins}
 use Rattle.route_history.specs.History.{IsLegal}
 use Rattle.route_history.specs.JournalView.{JournalView}
@@ -58,6 +60,11 @@ Refuses code number before answer after = (answer ≡ refused code number) × (a
 pub record AsScript (before : OperatorView) (number : ℕ) (command : CommandView) (answer : Answer) (after : OperatorView) : Type 0 where
   pub answers : script.AnswersCommand (script_of before) number command answer (script_of after)
   pub names : OnlyNames before after
+
+-- the command that gives the filter of a source a name
+abbrev pub loading : List ℕ → Source → CommandView
+loading name (source.Text text) = Load name text.now
+loading name (source.File bytes) = Code name bytes.now
 
 -- ---- events
 

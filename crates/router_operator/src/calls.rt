@@ -6,12 +6,21 @@ ghost use Rattle.router_operator.specs.Looking.{AnswersCall};
 
 use crate::listener::Listener;
 use line_protocol::Reply;
+use netchange_core::Event;
 use operator_cmds::{answer_reply, refuse};
 use route_history::CallFault;
 use slot_lock::Answer;
 use std::alloc::AllocError;
 use std::rt::Clock;
 use std::sync::Wait;
+
+/// The node whose export filter an event sets, if it sets one.
+pub(crate) fn exported_by(event: &Event) -> Option<u16> {
+    match event {
+        Event::SetExport(node, _) => Some(*node),
+        _ => None,
+    }
+}
 
 /// Tells a listener of the answer to a call, which set the export filter of this node, if of any.
 fn tell<R: Wait + Clock, L: Listener>(

@@ -1,26 +1,24 @@
 //! The operator.
-ghost use Rattle.std.specs.Prelude.{◌≡◌, false, IfErr, IfOk, IfSome, OnErr, OnOk};
+ghost use Rattle.std.specs.Prelude.{◌≡◌, false, IfErr, IfOk, IfSome, OnErr};
 ghost use Rattle.std.specs.Io.{StartsWith};
 ghost use Rattle.netchange_core.specs.declared.event.Event.TheVariants as event;
 ghost use Rattle.operator_cmds.specs.CommandView.{view_of};
-ghost use Rattle.operator_cmds.specs.CommandView as command;
 ghost use Rattle.operator_cmds.specs.Replies.{Answers};
 ghost use Rattle.operator_cmds.specs.Script as script;
 ghost use Rattle.router_operator.specs.Looking.{told};
-ghost use Rattle.router_operator.specs.OperatorView.{IsAt, filter_of, script_of};
+ghost use Rattle.router_operator.specs.OperatorView.{IsAt, filter_of};
 ghost use Rattle.router_operator.specs.Operators as spec;
 ghost use Rattle.router_operator.specs.Running.{IsBrokenOff, IsServed};
 
-use crate::calls::answer_call;
+use crate::calls::{answer_call, exported_by};
 use crate::listener::Listener;
 use crate::looking::{Asked, FindingSession, Looking};
 use crate::questions::{has_link, is_quit};
-use filter_source::{Failure, push_verified};
 use filter_verifier::Verified;
 use line_protocol::{Reply, Service, StreamFault, answer_lines_within};
 use netchange_core::Event;
 use operator_cmds::{
-    Command, CommandFault, confirm, read_command, refuse, verify_file, verify_text,
+    Command, CommandFault, Direction, Source, confirm, name_source, read_command, refuse,
 };
 use slot_lock::{Pass, Router};
 use std::alloc::{AllocError, Global};
@@ -179,109 +177,63 @@ impl<'a, R: Wait + Clock, L: Listener> Operator<'a, R, L> {
             Command::Receive { .. } | Command::Take(_) => {
                 refuse(out, CommandFault::Words.code(), u64::from(number))
             }
-            Command::Load { name, text } => self.load(alloc, number, name, text, out),
-            Command::Code { name, bytes } => {
-                self.load_code(alloc, number, name, bytes.as_slice(), out)
+            Command::Load { name, text } => {
+                self.load(alloc, number, name, Source::Text(text), out)
             }
-            Command::Import { node, name } => self.import(number, node, name, out),
-            Command::Export { node, name } => self.export(number, node, name, out),
+            Command::Code { name, bytes } => {
+                self.load(alloc, number, name, Source::File(bytes.as_slice()), out)
+            }
+            Command::Import { node, name } => {
+                self.use_filter(number, Direction::Import, node, name, out)
+            }
+            Command::Export { node, name } => {
+                self.use_filter(number, Direction::Export, node, name, out)
+            }
             Command::Up(node) => self.bring_up(number, node, out),
             Command::Down(node) => self.take_down(number, node, out),
-            Command::Show(node) => self.enter(Event::Show(node), None, out),
+            Command::Show(node) => self.enter(Event::Show(node), out),
             Command::Look(look) => self.look(alloc, number, Asked::Tables(look), out),
             Command::History(from) => self.look(alloc, number, Asked::Entries(from), out),
         }
     }
 
-    /// Gives a filter a name.
-    fn set_filter(
-        &mut self,
-        alloc: Global,
-        name: &[u8],
-        filter: Arc<Verified>,
-    ) -> Result<(), AllocError>
-        ensures names { OnOk result (script.Names name.now filter.value (script_of self.old) (script_of self.new)) }
-        ensures only { OnOk result (spec.OnlyNames self.old self.new) }
-        ensures left { OnErr result (self.new ≡ self.old) }
-    {
-        self.filters.insert(Vec::from_slice(alloc, name)?, filter)?;
-        Ok(())
-    }
-
-    /// Answers by what became of a source: verified code gets the name. A refused one leaves the filter that the name has.
-    fn name_filter(
-        &mut self,
-        alloc: Global,
-        number: u32,
-        name: &[u8],
-        verified: Result<Verified, Failure>,
-        out: &mut Vec<u8>,
-    ) -> Result<Reply, AllocError>
-        ensures ok { IfOk result (Answers (λ answer. script.AnswersVerified verified number name.now (script_of self.old) answer
-            (script_of self.new)) out.old.items out.new.items) }
-        ensures only { OnOk result (spec.OnlyNames self.old self.new) }
-        ensures err { OnErr result (StartsWith out.new.items out.old.items) }
-        ensures left { OnErr result (self.new ≡ self.old) }
-    {
-        match verified {
-            Ok(filter) => {
-                push_verified(out, &filter)?;
-                self.set_filter(alloc, name, Arc::new(alloc, filter)?)?;
-                Ok(Reply::Answered)
-            }
-            Err(Failure::Refused(told)) => {
-                let why = told.refusal;
-                refuse(out, why.code(), why.place_in_line(number))
-            }
-            Err(Failure::Memory) => Err(AllocError),
-        }
-    }
-
-    /// Answers `load`: a filter's text is compiled and verified, and gets a name.
+    /// Answers `load` and `code`: a source is verified, and gets a name.
     fn load(
         &mut self,
         alloc: Global,
         number: u32,
         name: &[u8],
-        text: &[u8],
+        source: Source<'_>,
         out: &mut Vec<u8>,
     ) -> Result<Reply, AllocError>
-        ensures ok { IfOk result (Answers (λ answer. spec.AsScript self.old number (command.Load name.now text.now) answer self.new)
+        ensures ok { IfOk result (Answers (λ answer. spec.AsScript self.old number (spec.loading name.now source.entry) answer self.new)
             out.old.items out.new.items) }
         ensures err { OnErr result (StartsWith out.new.items out.old.items) }
         ensures left { OnErr result (self.new ≡ self.old) }
     {
-        let verified = verify_text(alloc, text, self.size);
-        self.name_filter(alloc, number, name, verified, out)
+        let mut told = None;
+        name_source(
+            alloc,
+            &mut self.filters,
+            number,
+            name,
+            source,
+            self.size,
+            &mut told,
+            out,
+        )
     }
 
-    /// Answers `code`: a code file is read and verified, and gets a name.
-    fn load_code(
-        &mut self,
-        alloc: Global,
-        number: u32,
-        name: &[u8],
-        bytes: &[u8],
-        out: &mut Vec<u8>,
-    ) -> Result<Reply, AllocError>
-        ensures ok { IfOk result (Answers (λ answer. spec.AsScript self.old number (command.Code name.now bytes.now) answer self.new)
-            out.old.items out.new.items) }
-        ensures err { OnErr result (StartsWith out.new.items out.old.items) }
-        ensures left { OnErr result (self.new ≡ self.old) }
-    {
-        let verified = verify_file(alloc, bytes, self.size);
-        self.name_filter(alloc, number, name, verified, out)
-    }
-
-    /// Answers `import`: the distances that a node tells pass a filter from now on.
-    fn import(
+    /// Answers `import` and `export`: a node's distances in a direction pass a filter from now on.
+    fn use_filter(
         &mut self,
         number: u32,
+        direction: Direction,
         node: u16,
         name: &[u8],
         out: &mut Vec<u8>,
     ) -> Result<Reply, AllocError>
-        ensures ok { IfOk result (Answers (λ answer. spec.AnswersUse (filter_of self.old.names name.now) (λ filter. event.SetImport node filter)
+        ensures ok { IfOk result (Answers (λ answer. spec.AnswersUse (filter_of self.old.names name.now) (script.setting direction node)
             number self.old answer self.new) out.old.items out.new.items) }
         ensures err { OnErr result (StartsWith out.new.items out.old.items) }
         ensures left { OnErr result (spec.BreaksOff self.old self.new) }
@@ -289,28 +241,8 @@ impl<'a, R: Wait + Clock, L: Listener> Operator<'a, R, L> {
         let Some(filter) = self.filters.get(name) else {
             return refuse(out, UNKNOWN_FILTER, u64::from(number));
         };
-        let event = Event::SetImport(node, Arc::try_clone(filter)?);
-        self.enter(event, None, out)
-    }
-
-    /// Answers `export`: the distances that a node is told pass a filter from now on.
-    fn export(
-        &mut self,
-        number: u32,
-        node: u16,
-        name: &[u8],
-        out: &mut Vec<u8>,
-    ) -> Result<Reply, AllocError>
-        ensures ok { IfOk result (Answers (λ answer. spec.AnswersUse (filter_of self.old.names name.now) (λ filter. event.SetExport node filter)
-            number self.old answer self.new) out.old.items out.new.items) }
-        ensures err { OnErr result (StartsWith out.new.items out.old.items) }
-        ensures left { OnErr result (spec.BreaksOff self.old self.new) }
-    {
-        let Some(filter) = self.filters.get(name) else {
-            return refuse(out, UNKNOWN_FILTER, u64::from(number));
-        };
-        let event = Event::SetExport(node, Arc::try_clone(filter)?);
-        self.enter(event, Some(node), out)
+        let event = direction.event(node, Arc::try_clone(filter)?);
+        self.enter(event, out)
     }
 
     /// Answers `up`. The link of a node brings it up itself.
@@ -323,7 +255,7 @@ impl<'a, R: Wait + Clock, L: Listener> Operator<'a, R, L> {
         if has_link(self.links, node) {
             return refuse(out, LINK_DOES_IT, u64::from(number));
         }
-        self.enter(Event::Up(node), None, out)
+        self.enter(Event::Up(node), out)
     }
 
     /// Answers `down`, likewise.
@@ -338,20 +270,16 @@ impl<'a, R: Wait + Clock, L: Listener> Operator<'a, R, L> {
         }
         let mut finding = FindingSession { node, session: 0 };
         self.router.observe(self.rt, &mut self.pass, &mut finding);
-        self.enter(Event::Down(finding.session), None, out)
+        self.enter(Event::Down(finding.session), out)
     }
 
-    /// Enters an event, and answers it by the router's reply. It set the export filter of this node, if of any.
-    fn enter(
-        &mut self,
-        event: Event,
-        exported: Option<u16>,
-        out: &mut Vec<u8>,
-    ) -> Result<Reply, AllocError>
+    /// Enters an event, and answers it by the router's reply.
+    fn enter(&mut self, event: Event, out: &mut Vec<u8>) -> Result<Reply, AllocError>
         ensures ok { IfOk result (Answers (λ answer. spec.AnswersEvent self.old event answer self.new) out.old.items out.new.items) }
         ensures err { OnErr result (StartsWith out.new.items out.old.items) }
         ensures left { OnErr result (spec.BreaksOff self.old self.new) }
     {
+        let exported = exported_by(&event);
         let called = self.router.call(self.rt, &mut self.pass, event);
         answer_call(self.rt, self.listener, self.limit, exported, called, out)
     }

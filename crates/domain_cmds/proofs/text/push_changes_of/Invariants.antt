@@ -1,6 +1,7 @@
 use Rattle.std.proofs.Common.{◌≡◌, ◌++◌}
 use Rattle.std.specs.Io.{StartsWith}
-use Rattle.domain_cmds.specs.Texts.{change_text, texts_below}
+use Rattle.operator_cmds.specs.Looks.{texts_below}
+use Rattle.domain_cmds.specs.Texts.{change_text}
 use Rattle.domain_cmds.proofs.text.push_changes_of.Given as goal
 
 -- the texts so far were added

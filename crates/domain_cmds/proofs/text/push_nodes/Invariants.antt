@@ -1,6 +1,7 @@
 use Rattle.std.proofs.Common.{◌≡◌, ◌++◌}
 use Rattle.std.specs.Io.{StartsWith}
-use Rattle.domain_cmds.specs.Texts.{node_text, route_in, texts_below}
+use Rattle.operator_cmds.specs.Looks.{texts_below}
+use Rattle.domain_cmds.specs.Texts.{node_text, route_in}
 use Rattle.domain_cmds.proofs.text.push_nodes.Given as goal
 
 -- the texts so far were added

@@ -3,7 +3,7 @@ use Rattle.std.proofs.Common.{◌++◌, ap, ◌∙◌, arith}
 use Rattle.std.proofs.lemmas.Grind.{common_steps}
 use Rattle.domain_routes.specs.declared.best.Best.{Best}
 use Rattle.domain_cmds.specs.Texts.{row_text, route_of}
-use Rattle.domain_cmds.proofs.Growing.{one_text_more}
+use Rattle.operator_cmds.proofs.Growing.{one_text_more}
 use Rattle.domain_cmds.proofs.text.push_rows.Goals as goal
 
 pub loop-v-preserved : goal.loop-v-preserved

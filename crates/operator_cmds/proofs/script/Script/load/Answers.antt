@@ -1,15 +1,14 @@
--- The answer by what became of the text is the answer to the text.
-use Rattle.std.proofs.Common.{sym, ◌∙◌}
-use Rattle.filter_source.specs.Sources.{IsRefusedText}
-use Rattle.operator_cmds.specs.Script.{GivesText}
+-- The answer to a source, for domains of the script's size, is the script's.
+use Rattle.std.proofs.Common.{refl, sym, ◌∙◌}
+use Rattle.operator_cmds.specs.Script.{ScriptView, gives, lacks}
 use Rattle.operator_cmds.specs.Stages.{stage_of}
-use Rattle.operator_cmds.specs.State.{script_of}
+use Rattle.operator_cmds.specs.State.{filter_at, script_of}
 use Rattle.operator_cmds.proofs.Sourced.{sourced}
 use Rattle.operator_cmds.proofs.script.Script.load.Goals as goal
 
 pub returns-in-Some-clause-ok : goal.returns-in-Some-clause-ok
 returns-in-Some-clause-ok c =
-    sourced (GivesText c.args.text.now) (IsRefusedText c.args.text.now) (stage_of c.args.self.now.stage) c.in-Some.size
-    c.verify_text-verified.result c.args.number c.args.name.now (script_of c.args.self.now) (script_of c.name_filter.new.self)
-    c.name_filter.result c.args.out.now.items c.name_filter.new.out.items (sym c.size.ensures ∙ c.in-Some.is)
-    c.verify_text-verified.ensures.verified c.verify_text-verified.ensures.refused c.name_filter.ensures.ok
+    let stage = stage_of c.args.self.now.stage in
+    let after : ScriptView = record { stage = stage; filters = filter_at c.name_source.new.filters } in
+    sourced (gives c.args.source) (lacks c.args.source) c.args.number c.args.name.now stage c.in-Some.size (script_of c.args.self.now) after
+    c.name_source.result c.args.out.now.items c.name_source.new.out.items (sym c.size.ensures ∙ c.in-Some.is) refl c.name_source.ensures.ok

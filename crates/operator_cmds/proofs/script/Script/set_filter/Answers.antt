@@ -1,10 +1,7 @@
--- The filter gets the name.
+-- The filter gets the name, and the stage stays.
 use Rattle.std.proofs.Common.{refl}
-use Rattle.operator_cmds.specs.Stages.{stage_of}
-use Rattle.operator_cmds.proofs.Naming.{names}
+use Rattle.std.proofs.lemmas.Result.{on_ok_weaker}
 use Rattle.operator_cmds.proofs.script.Script.set_filter.Goals as goal
 
 pub returns : goal.returns
-returns c =
-    names (stage_of c.args.self.now.stage) c.args.self.now.filters c.insert.new.self c.in_ok-from_slice.field-0 c.args.filter
-    c.args.name.now c.args.filter.value c.in_ok-from_slice.ensures.items refl c.in_ok-insert.ensures.updates
+returns c = on_ok_weaker c.give_name.result (λ gets. record { stage = refl; filters = gets }) c.give_name.ensures.ok

@@ -1,5 +1,5 @@
 -- The answer to the call is the answer to the event.
-use Rattle.router_operator.proofs.Answering.{answers}
+use Rattle.operator_cmds.proofs.Answering.{answers}
 use Rattle.router_operator.proofs.Entering.{call_answers}
 use Rattle.router_operator.proofs.operator.Operator.enter.Goals as goal
 

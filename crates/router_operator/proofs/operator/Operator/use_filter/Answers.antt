@@ -3,16 +3,16 @@ use Rattle.std.proofs.Common.{Global, Option, Some, ap, sym, ◌∙◌}
 use Rattle.std.specs.Option.{option_map}
 use Rattle.std.specs.declared.sync.Arc.{Arc}
 use Rattle.filter_verifier.specs.VerifiedView.{VerifiedView}
-use Rattle.netchange_core.specs.declared.event.Event.TheVariants as event
+use Rattle.operator_cmds.specs.Script.{setting}
 use Rattle.router_operator.specs.OperatorView.{OperatorView, filter_of}
 use Rattle.router_operator.proofs.Naming.{uses}
-use Rattle.router_operator.proofs.operator.Operator.export.Goals as goal
+use Rattle.router_operator.proofs.operator.Operator.use_filter.Goals as goal
 
 pub returns-clause-ok : goal.returns-clause-ok
 returns-clause-ok g c =
-    uses c.enter.result (filter_of c.args.self.now.names c.args.name.now) (λ filter. event.SetExport c.args.node filter)
-    c.in_ok-try_clone.field-0 c.args.number c.args.self.now _ c.args.out.now.items c.enter.new.out.items
+    uses c.enter.result (filter_of c.args.self.now.names c.args.name.now) (setting c.args.direction c.args.node) c.in_ok-try_clone.field-0
+    c.event-event.result c.args.number c.args.self.now _ c.args.out.now.items c.enter.new.out.items
     (ap (λ (o : OperatorView). filter_of o.names c.args.name.now) (sym c.self.view_is)
     ∙ ap (λ (found : Option (Arc VerifiedView Global)). option_map (λ filter. filter.value) found) (sym c.in-Some.ensures.value)
     ∙ ap Some (sym c.in_ok-try_clone.ensures))
-    c.enter.ensures.ok
+    c.event-event.ensures c.enter.ensures.ok

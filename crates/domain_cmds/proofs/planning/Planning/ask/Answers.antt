@@ -1,0 +1,9 @@
+-- What is told of the plan is told of the domain, in which prefixes stay from now on.
+use Rattle.domain_cmds.proofs.Carrying.{asked}
+use Rattle.domain_cmds.proofs.planning.Planning.ask.Goals as goal
+
+pub returns-clause-ok : goal.returns-clause-ok
+returns-clause-ok c =
+    let i = c.self.inside in
+    asked c.answer_question.result c.args.out.now.items c.answer_question.new.out.items c.args.self.now i.domain i.begun _ c.args.number
+    c.answer_question.new.domain i.filters.named c.args.question c.self.view_is c.answer_question.ensures.same c.answer_question.ensures.ok
