@@ -1,15 +1,22 @@
-//! The lines of standard input: a domain, filters, and events.
+//! The lines of standard input.
 //!
-//! `network SIZE ME` comes first. `filter HEX` is a code file in hexadecimal; filters are numbered from 0. Each other line is
-//! an event: `up W`, `down W`, `recv W V D`, `take W`, `import W K`, `export W K` or `show V`, with K the number of a filter. The
-//! events before a line `begin` are answered once, and those after it again and again.
+//! For a machine they are as for `ncroute eval`: a code file in hexadecimal, then routes. Those of a domain of 64 nodes are taken, other lines are
+//! left out.
+//!
+//! For a router they are a domain, filters, and events. `network SIZE ME` comes first. `filter HEX` is a code file in hexadecimal; filters are
+//! numbered from 0. Each other line is an event: `up W`, `down W`, `recv W V D`, `take W`, `import W K`, `export W K` or `show V`, with K the number
+//! of a filter. The events before a line `begin` are answered once, and those after it again and again.
 
+use filter_code::{Code, Route};
 use filter_source::{read_hexadecimal, verify_code};
 use filter_verifier::Verified;
-use line_protocol::{Reply, Service, next_word};
-use prefix_patterns::{Ip, Prefix, read_number};
+use line_protocol::{Reply, Service, next_word, trim_blanks};
+use prefix_patterns::{read_number, read_prefix};
 use std::alloc::{AllocError, Global};
 use std::sync::Arc;
+
+/// The number of nodes of the domain whose routes are taken.
+pub const SIZE: u32 = 64;
 
 /// An event as a line has it. It names a neighbour where an event names a session.
 #[derive(Clone, Copy)]
@@ -23,14 +30,28 @@ pub enum Step {
     Show(u16),
 }
 
-/// What was read.
+/// What was read: for a machine a code and routes, for a router all else.
 #[derive(Drop)]
 pub struct Input {
+    is_for_machine: bool,
+    pub code: Option<Code>,
+    pub routes: Vec<Route>,
     pub size: u16,
     pub me: u16,
     pub filters: Vec<Arc<Verified>>,
     pub once: usize,
     pub steps: Vec<Step>,
+}
+
+/// The route that a line has, if it is one of that domain.
+fn route_in(line: &[u8]) -> Option<Route> {
+    let (net, rest) = next_word(line)?;
+    let (metric, rest) = next_word(rest)?;
+    let (size, _) = next_word(rest)?;
+    if read_number(size, SIZE)? < SIZE {
+        return None;
+    }
+    Route::new(read_prefix(net)?, read_number(metric, SIZE)?, SIZE)
 }
 
 /// The next number of a line, and the rest of the line.
@@ -58,10 +79,7 @@ fn step_of_more(word: &[u8], first: u16, rest: &[u8]) -> Option<Step> {
     match word {
         b"import" => Some(Step::SetImport(first, usize::from(second))),
         b"export" => Some(Step::SetExport(first, usize::from(second))),
-        b"recv" => {
-            let (third, _) = next_number(rest)?;
-            Some(Step::Receive(first, second, third))
-        }
+        b"recv" => Some(Step::Receive(first, second, next_number(rest)?.0)),
         _ => None,
     }
 }
@@ -75,28 +93,37 @@ fn filter_of(alloc: Global, rest: &[u8], size: u16) -> Option<Arc<Verified>> {
 }
 
 impl Input {
-    /// The prefix of each node, `10.V.0.0/16`.
-    pub fn prefixes(&self, alloc: Global) -> Option<Vec<Prefix>> {
-        let mut prefixes = Vec::new(alloc);
-        for node in 0..self.size {
-            let address = u32::from_be_bytes([10, node.to_be_bytes()[1], 0, 0]);
-            prefixes.push(Prefix::new(Ip(address), 16)?).ok()?;
+    /// Nothing yet, for a machine or for a router.
+    pub fn new(alloc: Global, is_for_machine: bool) -> Input {
+        Input {
+            is_for_machine,
+            code: None,
+            routes: Vec::new(alloc),
+            size: 0,
+            me: 0,
+            filters: Vec::new(alloc),
+            once: 0,
+            steps: Vec::new(alloc),
         }
-        Some(prefixes)
     }
 
-    /// The events that are answered once.
-    pub fn first_steps(&self) -> &[Step] {
-        self.steps.get(..self.once).unwrap_or(&[])
+    /// The events that are answered once, and those of each round.
+    pub fn parts(&self) -> (&[Step], &[Step]) {
+        self.steps.split_at(self.once.min(self.steps.len()))
     }
 
-    /// The events of each round.
-    pub fn round_steps(&self) -> &[Step] {
-        self.steps.get(self.once..).unwrap_or(&[])
+    /// Takes in a line for a machine. None where there is no code.
+    fn take_route(&mut self, alloc: Global, line: &[u8]) -> Option<()> {
+        if self.code.is_none() {
+            self.code = Some(read_hexadecimal(alloc, trim_blanks(line)).ok()?);
+        } else if let Some(route) = route_in(line) {
+            self.routes.push(route).ok()?;
+        }
+        Some(())
     }
 
-    /// Takes one line in. False where it is wrong.
-    fn take(&mut self, alloc: Global, line: &[u8]) -> Option<()> {
+    /// Takes in a line for a router. None where it is wrong.
+    fn take_event(&mut self, alloc: Global, line: &[u8]) -> Option<()> {
         let (word, rest) = next_word(line)?;
         match word {
             b"network" => {
@@ -125,7 +152,12 @@ impl Service for Input {
         line: &[u8],
         _out: &mut Vec<u8>,
     ) -> Result<Reply, AllocError> {
-        match self.take(alloc, line) {
+        let taken = if self.is_for_machine {
+            self.take_route(alloc, line)
+        } else {
+            self.take_event(alloc, line)
+        };
+        match taken {
             Some(()) => Ok(Reply::Answered),
             None => Ok(Reply::Ended),
         }
