@@ -3,7 +3,9 @@
 test_memory what it answered, how many allocations were refused, and at last 'N passed, M failed'.
 
 usage: NCROUTE=PATH scripts/check_memory.py [NAME..]
-       (NAMEs: crates whose tests are swept, and `runs` for those of the program; without them test_memory, test_locks, runs)
+       (NAMEs: crates whose tests are swept, and `runs` for those of the program; without them test_memory, test_routers, runs)
+
+Of the tests of test_routers those of the lock and of refused memory are swept.
 
 The tests of a crate are crates/NAME/out/NAME_tests, which the gate and `rt test` leave there; where there are none, `rt test` builds them.
 
@@ -28,7 +30,7 @@ sys.dont_write_bytecode = True
 import program  # noqa: E402
 
 AT_ONCE = max(2, os.cpu_count() or 1)
-CRATES = ["test_memory", "test_locks"]
+CRATES = {"test_memory": None, "test_routers": ("lock", "memory")}
 
 # The calls that the tests of test_memory make and that answer refused memory. `close` is made too, and asks for none.
 CALLS = """build read_code write_code parse check compile compile_mapped verify compile_text read_file read_hexadecimal verify_code Tables::open
@@ -94,6 +96,8 @@ def sweep_tests(sweep, pool, crate):
     passed = failed = all_refused = without = 0
     listed = subprocess.run([tests, "--list"], capture_output=True, check=True)
     for name in re.findall(r"(?m)^(.+): test$", (listed.stdout + listed.stderr).decode()):
+        if CRATES.get(crate) and name.split("::")[-2] not in CRATES[crate]:
+            continue
         faults = 0
         for nth, (status, output, errors) in sweep.all(pool, [tests, name]):
             told = output + errors
