@@ -174,7 +174,10 @@ fn entries_say(rt: HostRuntime) -> Result<(), Fail> {
         let _answer = journal.apply(entered(at, &filter)?)?;
     }
     let entries = journal.entries();
-    for (at, wanted) in (0..entries.len()).zip(&ENTRIES) {
+    for at in 0..entries.len() {
+        let Some(wanted) = ENTRIES.get(at) else {
+            break;
+        };
         expect_text(rt.alloc(), &entries.entry(at), wanted)?;
     }
     expect_number(entries.len() as u64, 10)
