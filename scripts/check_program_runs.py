@@ -225,6 +225,8 @@ FAULTS = [
      b"<stdin>:2:34: the divisor may be 0: it is 0..16 here, whatever the conditions before it; see `ncroute explain V3` (V3)\nload b filter b int c; { c = 100 / rip_metric; accept; }\n"
      + b" " * 33 + b"^\n1\n"),
     ("ncroute explain P2 2>&1 >/dev/full; echo $?", b"ncroute: E2\n1\n"),
+    ("ncroute check --size 16 -q examples/no_bogons.filter $'no_such\\xff.filter' examples/up_two.eval --explain never 2>&1; echo $?",
+     b"@@"),
     ("ncroute list examples/no_bogons.filter 2>&1 >/dev/full; echo $?", b"ncroute: E2\n3\n"),
 ]
 

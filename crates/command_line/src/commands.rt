@@ -152,6 +152,7 @@ static PARAMETERS: [(&str, Parameter); 52] = [
     ("test", LIMIT),
     ("test", EXPLAIN),
     ("test", TEST_FILES),
+    ("eval", EXPLAIN),
     ("rewrite", OLD),
     ("domain", EXPLAIN),
     ("domain", SCRIPT),

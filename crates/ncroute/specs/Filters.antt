@@ -7,7 +7,7 @@ use Rattle.filter_tools.specs.Telling.{Explains, IsCutExplanation}
 use Rattle.line_protocol.specs.declared.faults.StreamFault.{StreamFault}
 use Rattle.script_runs.specs.declared.naming.NamedFilter.{NamedFilter}
 use Rattle.script_runs.specs.declared.naming.Unfit.{Unfit}
-use Rattle.command_line.specs.declared.aid_words.Source.{Source}
+use Rattle.command_line.specs.declared.requests.Source.{Source}
 use Rattle.command_line.specs.declared.filter_words.NamedFile.{NamedFile}
 use Rattle.ncroute.specs.Reading.{IsRead, IsUnread, name_of}
 use Rattle.ncroute.specs.declared.texts.Unread.{Unread}

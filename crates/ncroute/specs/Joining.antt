@@ -4,8 +4,8 @@ use Rattle.std.specs.declared.io.Error.{Error}
 use Rattle.line_protocol.specs.Limits.{input_limit}
 use Rattle.line_protocol.specs.declared.faults.StreamFault.{StreamFault}
 use Rattle.script_runs.specs.declared.naming.NamedFilter.{NamedFilter}
-use Rattle.command_line.specs.declared.aid_words.Running.{Running}
-use Rattle.command_line.specs.declared.aid_words.Source.{Source}
+use Rattle.command_line.specs.declared.requests.Running.{Running}
+use Rattle.command_line.specs.declared.requests.Source.{Source}
 use Rattle.ncroute.specs.Filters.{ReadsFilters, StopsAtFilter}
 use Rattle.ncroute.specs.Guiding.{GuidesScript, StopsGuided}
 use Rattle.ncroute.specs.Reading.{IsRead, IsUnread, StopsTelling, TellsUnread}

@@ -9,8 +9,8 @@ use Rattle.line_protocol.specs.Runs.{ConsumesAtMost}
 use Rattle.line_protocol.specs.declared.faults.StreamFault.{StreamFault}
 use Rattle.line_protocol.specs.declared.faults.StreamFault.TheVariants as fault
 use Rattle.filter_tools.specs.Shown.{shown}
-use Rattle.command_line.specs.declared.aid_words.Source.{Source}
-use Rattle.command_line.specs.declared.aid_words.Source.TheVariants.{Input, File}
+use Rattle.command_line.specs.declared.requests.Source.{Source}
+use Rattle.command_line.specs.declared.requests.Source.TheVariants.{Input, File}
 use Rattle.ncroute.specs.Streaming.{Streams}
 use Rattle.ncroute.specs.declared.texts.Unread.{Unread}
 use Rattle.ncroute.specs.declared.texts.Unread.TheVariants as unread
@@ -99,12 +99,22 @@ module _ (opens : List ℕ → Result (Option (List ℕ)) Error → Type 0) wher
   IsUnread limit Input why known left = LeavesInput limit why known left
   IsUnread limit (File name) why known left = (left ≡ known) × LeavesFile (string_bytes name) why
 
+  -- This text was read of a source, and nothing was written or told.
+  pub record Reads (limit : ℕ) (source : Source) (text : List ℕ) (before after : Streams) : Type 0 where
+    pub read : IsRead limit source text before.reads after.reads
+    pub holds : after.holds ≡ before.holds
+    pub tells : after.tells ≡ before.tells
+
   -- A source was not read, which standard error was told, and nothing was written.
-  abbrev pub SkipsUnread : ℕ → Source → Streams → Streams → Type 0
-  SkipsUnread limit source before after = (why : Unread) × IsUnread limit source why before.reads after.reads
-      × TellsUnread source why before.tells after.tells × (after.holds ≡ before.holds)
+  pub record SkipsUnread (limit : ℕ) (source : Source) (before after : Streams) : Type 0 where
+    pub why : Unread
+    pub unread : IsUnread limit source why before.reads after.reads
+    pub told : TellsUnread source why before.tells after.tells
+    pub holds : after.holds ≡ before.holds
 
   -- A fault kept a source from being read or told of, and nothing was written.
-  abbrev pub StopsReading : StreamFault → ℕ → Source → Streams → Streams → Type 0
-  StopsReading fault limit source before after = (why : Unread) × IsUnread limit source why before.reads after.reads
-      × StopsTelling fault source why before.tells after.tells × (after.holds ≡ before.holds)
+  pub record StopsReading (fault : StreamFault) (limit : ℕ) (source : Source) (before after : Streams) : Type 0 where
+    pub why : Unread
+    pub unread : IsUnread limit source why before.reads after.reads
+    pub told : StopsTelling fault source why before.tells after.tells
+    pub holds : after.holds ≡ before.holds

@@ -22,7 +22,7 @@ use Rattle.ncroute.specs.Guiding.{IsUnmade}
 use Rattle.ncroute.specs.Loading.{LacksFilters, LoadsFilters, StopsLoading}
 use Rattle.ncroute.specs.Planning.{IsPlanOf, LacksPlan}
 use Rattle.ncroute.specs.Reading.{unmade_line}
-use Rattle.ncroute.specs.Serving.{fault_line}
+use Rattle.ncroute.specs.Ending.{fault_line}
 use Rattle.ncroute.specs.Streaming.{Streams}
 
 -- the line that tells what is wrong with the words

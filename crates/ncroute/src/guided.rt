@@ -5,8 +5,8 @@ ghost use Rattle.ncroute.specs.Guiding.{GuidesScript, RunsGuided, RunsNamed, Run
 ghost use Rattle.ncroute.specs.Scripts.{IsQuiet};
 ghost use Rattle.script_runs.specs.Running.{IsSaved, IsSavedInPart};
 
+use crate::ending::{FAILED, status_of};
 use crate::filters::{read_filters, tell_unfit};
-use crate::serve::{FAILED, status_of};
 use crate::texts::{Folder, name_of, read_source, tell_unmade, tell_unread};
 use crate::watcher::{Guide, Part, whole};
 use command_line::{Running, Source};

@@ -4,9 +4,9 @@ ghost use Rattle.std.specs.Prelude.{◌≡◌, ◌++◌, IfErr, IfOk, OnErr, OnO
 ghost use Rattle.filter_commands.specs.Faults.{stream_fault};
 ghost use Rattle.ncroute.specs.Joining.{JoinsAll, JoinsNext, LeavesNext, RunsJoined, RunsTexts, StopsAtSource, StopsJoined, StopsTexts, ended, ends_line};
 
+use crate::ending::FAILED;
 use crate::filters::read_filters;
 use crate::guided::guide_script;
-use crate::serve::FAILED;
 use crate::texts::{Folder, Unread, name_of, read_source, tell_unread};
 use crate::watcher::Part;
 use command_line::{Running, Source};

@@ -4,11 +4,12 @@ ghost use Rattle.std.specs.Prelude.{◌≡◌, None, Some, IfErr, IfOk, MatchOpt
 ghost use Rattle.filter_commands.specs.Faults.{stream_fault};
 ghost use Rattle.line_protocol.specs.Runs.{AppendsFront};
 ghost use Rattle.ncroute.specs.Routing as spec;
-ghost use Rattle.ncroute.specs.Serving.{fault_line};
+ghost use Rattle.ncroute.specs.Ending.{fault_line};
 
+use crate::console::Console;
+use crate::ending::{FAILED, report_fault};
 use crate::loading::load_filters;
 use crate::planning::plan_of;
-use crate::serve::{FAILED, report_fault};
 use crate::texts::{Folder, tell_unmade};
 use command_line::RouterWords;
 use filter_commands::ProgramFault;
@@ -233,26 +234,22 @@ pub fn serve_router<
     I: Read,
     W: Write,
     E: Write,
->(
-    rt: &R,
-    alloc: Global,
-    words: &RouterWords,
-    reader: &mut I,
-    writer: &mut W,
-    errors: &mut E,
-    voice: T,
-) -> u8
+>(rt: &R, alloc: Global, words: &RouterWords, console: &mut Console<I, W, E>, voice: T) -> u8
 where
     R::New: Send + 'static,
-    ensures { spec.ServesRouter (R.opens rt.now) (R.creates rt.now) words.now
-        (record { reads = I.remaining reader.old; holds = W.contents writer.old; tells = E.contents errors.old })
-        (record { reads = I.remaining reader.new; holds = W.contents writer.new; tells = E.contents errors.new }) result }
+    ensures { spec.ServesRouter (R.opens rt.now) (R.creates rt.now) words.now console.old console.new result }
 {
-    match set_up(rt, alloc, words, reader, errors) {
+    match set_up(rt, alloc, words, &mut console.reader, &mut console.errors) {
         Ok(Ok(setting)) => run_setting::<R, FI, FO, R::New, T, I, W, E>(
-            rt, alloc, setting, reader, writer, errors, voice,
+            rt,
+            alloc,
+            setting,
+            &mut console.reader,
+            &mut console.writer,
+            &mut console.errors,
+            voice,
         ),
         Ok(Err(status)) => status,
-        Err(fault) => tell_unset(errors, fault),
+        Err(fault) => tell_unset(&mut console.errors, fault),
     }
 }
