@@ -5,6 +5,5 @@ pub mod Untold
 mod FiltersRead
 mod JoinedRead
 mod Loaded
-mod Asked
 mod PlanAdded
 mod Routed

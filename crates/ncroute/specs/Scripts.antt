@@ -10,7 +10,7 @@ use Rattle.command_line.specs.declared.requests.Engine.TheVariants.{Router, Doma
 use Rattle.command_line.specs.declared.requests.Source.{Source}
 use Rattle.command_line.specs.declared.requests.Source.TheVariants.{Input, File}
 use Rattle.ncroute.specs.Ending.{status_of}
-use Rattle.ncroute.specs.Reading.{IsRead, SkipsUnread, StopsReading}
+use Rattle.ncroute.specs.Reading.{Reads, SkipsUnread, StopsReading}
 use Rattle.ncroute.specs.Streaming.{Streams}
 
 -- A script was answered to its end, with so many refused lines. `input` is all that the reader had, `left` what it has now; `held` and
@@ -51,17 +51,17 @@ module _ (opens : List ℕ → Result (Option (List ℕ)) Error → Type 0) wher
   -- The script of a file was read to its end, or to the limit, and carried out; or it was not read.
   abbrev pub RunsFile : Engine → Source → Bool → Streams → Streams → ℕ → Type 0
   RunsFile engine source is_explained before after status =
-      ((script : List ℕ) × (left : Option (List ℕ)) × IsRead opens input_limit source script before.reads after.reads
-      × RunsScript engine is_explained (record { reads = Some script; holds = before.holds; tells = before.tells })
-      (record { reads = left; holds = after.holds; tells = after.tells }) status)
+      ((script : List ℕ) × (mid : Streams) × (left : Option (List ℕ)) × Reads opens input_limit source script before mid
+      × RunsScript engine is_explained (record { reads = Some script; holds = mid.holds; tells = mid.tells })
+      (record { reads = left; holds = after.holds; tells = after.tells }) status × (after.reads ≡ mid.reads))
       ⊎ (SkipsUnread opens input_limit source before after × (status ≡ script_fault engine))
 
   -- A fault ended it.
   abbrev pub StopsFile : StreamFault → Engine → Source → Bool → Streams → Streams → Type 0
   StopsFile fault engine source is_explained before after = StopsReading opens fault input_limit source before after
-      ⊎ ((script : List ℕ) × (left : Option (List ℕ)) × IsRead opens input_limit source script before.reads after.reads
-      × StopsScript fault engine is_explained (record { reads = Some script; holds = before.holds; tells = before.tells })
-      (record { reads = left; holds = after.holds; tells = after.tells }))
+      ⊎ ((script : List ℕ) × (mid : Streams) × (left : Option (List ℕ)) × Reads opens input_limit source script before mid
+      × StopsScript fault engine is_explained (record { reads = Some script; holds = mid.holds; tells = mid.tells })
+      (record { reads = left; holds = after.holds; tells = after.tells }) × (after.reads ≡ mid.reads))
 
   -- A script was carried out: line by line as standard input has it, or from a file.
   abbrev pub RunsSource : Engine → Source → Bool → Streams → Streams → ℕ → Type 0

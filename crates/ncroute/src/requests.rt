@@ -171,38 +171,15 @@ fn answer<F: Folder, R: Read, W: Write, E: Write>(
         ),
         Request::Replay { source } => replay_source(files, alloc, source, console),
         Request::Rewrite { is_old } => rewrite(alloc, *is_old, console),
-        Request::Run { how, source } => guide_source(
-            files,
-            alloc,
-            how,
-            source,
-            &mut console.reader,
-            &mut console.writer,
-            &mut console.errors,
-        ),
-        Request::RunJoined { how, sources } => guide_sources(
-            files,
-            alloc,
-            how,
-            sources.as_slice(),
-            &mut console.reader,
-            &mut console.writer,
-            &mut console.errors,
-        ),
+        Request::Run { how, source } => guide_source(files, alloc, how, source, console),
+        Request::RunJoined { how, sources } => {
+            guide_sources(files, alloc, how, sources.as_slice(), console)
+        }
         Request::Script {
             engine,
             source,
             is_explained,
-        } => run_source(
-            files,
-            alloc,
-            *engine,
-            source,
-            *is_explained,
-            &mut console.reader,
-            &mut console.writer,
-            &mut console.errors,
-        ),
+        } => run_source(files, alloc, *engine, source, *is_explained, console),
         Request::Test { how, sources } => {
             test_sources(files, alloc, *how, sources.as_slice(), console)
         }

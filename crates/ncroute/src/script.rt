@@ -4,8 +4,9 @@ ghost use Rattle.filter_commands.specs.Faults.{stream_fault};
 ghost use Rattle.ncroute.specs.Scripts.{IsAnswered, IsLeftOff, IsQuiet, RunsFile, RunsScript, RunsSource, StopsFile, StopsScript, StopsSource};
 ghost use Rattle.ncroute.specs.Scripts.{script_fault};
 
+use crate::console::Console;
 use crate::ending::{FAILED, status_of};
-use crate::texts::{Folder, name_of, read_source, tell_unread};
+use crate::texts::{Folder, name_of};
 use crate::watcher::Teller;
 use command_line::{Engine, Source};
 use domain_cmds::{run_domain, run_watched_domain};
@@ -100,35 +101,24 @@ fn run_file<F: Folder, R: Read, W: Write, E: Write>(
     engine: Engine,
     source: &Source,
     is_explained: bool,
-    reader: &mut R,
-    writer: &mut W,
-    errors: &mut E,
+    console: &mut Console<R, W, E>,
 ) -> Result<u8, ProgramFault>
-    ensures finished { IfOk result (RunsFile (F.opens files.now) engine source.now is_explained
-        (record { reads = R.remaining reader.old; holds = W.contents writer.old; tells = E.contents errors.old })
-        (record { reads = R.remaining reader.new; holds = W.contents writer.new; tells = E.contents errors.new })) }
+    ensures finished { IfOk result (RunsFile (F.opens files.now) engine source.now is_explained console.old console.new) }
     ensures stopped { IfErr result (λ fault. StopsFile (F.opens files.now) (stream_fault fault) engine source.now is_explained
-        (record { reads = R.remaining reader.old; holds = W.contents writer.old; tells = E.contents errors.old })
-        (record { reads = R.remaining reader.new; holds = W.contents writer.new; tells = E.contents errors.new })) }
+        console.old console.new) }
 {
-    match read_source(files, alloc, source, INPUT_LIMIT, reader) {
-        Ok(text) => {
-            let mut script = text.as_slice();
-            let name = name_of(source);
-            carry_out(
-                alloc,
-                engine,
-                name,
-                is_explained,
-                &mut script,
-                writer,
-                errors,
-            )
-        }
-        Err(why) => {
-            tell_unread(alloc, errors, source, why)?;
-            Ok(script_fault(engine))
-        }
+    match console.read(files, alloc, source, INPUT_LIMIT) {
+        Ok(Some(text)) => carry_out(
+            alloc,
+            engine,
+            name_of(source),
+            is_explained,
+            &mut text.as_slice(),
+            &mut console.writer,
+            &mut console.errors,
+        ),
+        Ok(None) => Ok(script_fault(engine)),
+        Err(fault) => Err(fault),
     }
 }
 
@@ -139,31 +129,22 @@ pub fn run_source<F: Folder, R: Read, W: Write, E: Write>(
     engine: Engine,
     source: &Source,
     is_explained: bool,
-    reader: &mut R,
-    writer: &mut W,
-    errors: &mut E,
+    console: &mut Console<R, W, E>,
 ) -> Result<u8, ProgramFault>
-    ensures finished { IfOk result (RunsSource (F.opens files.now) engine source.now is_explained
-        (record { reads = R.remaining reader.old; holds = W.contents writer.old; tells = E.contents errors.old })
-        (record { reads = R.remaining reader.new; holds = W.contents writer.new; tells = E.contents errors.new })) }
+    ensures finished { IfOk result (RunsSource (F.opens files.now) engine source.now is_explained console.old console.new) }
     ensures stopped { IfErr result (λ fault. StopsSource (F.opens files.now) (stream_fault fault) engine source.now is_explained
-        (record { reads = R.remaining reader.old; holds = W.contents writer.old; tells = E.contents errors.old })
-        (record { reads = R.remaining reader.new; holds = W.contents writer.new; tells = E.contents errors.new })) }
+        console.old console.new) }
 {
     match source {
-        Source::Input => {
-            let name = name_of(source);
-            carry_out(alloc, engine, name, is_explained, reader, writer, errors)
-        }
-        Source::File(_) => run_file(
-            files,
+        Source::Input => carry_out(
             alloc,
             engine,
-            source,
+            name_of(source),
             is_explained,
-            reader,
-            writer,
-            errors,
+            &mut console.reader,
+            &mut console.writer,
+            &mut console.errors,
         ),
+        Source::File(_) => run_file(files, alloc, engine, source, is_explained, console),
     }
 }
