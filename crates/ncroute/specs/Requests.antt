@@ -1,5 +1,5 @@
 -- What the program does for what it is asked, and its exit status. (This project's own choice.)
-use Rattle.std.specs.Prelude.{◌≡◌, ◌⊎◌, ◌≤◌, ℕ, Bool, if◌then◌else◌, List, Option, IfSome, Result}
+use Rattle.std.specs.Prelude.{◌≡◌, ◌⊎◌, ◌≤◌, ℕ, Bool, List, Option, IfSome, Result}
 use Rattle.std.specs.Prelude.{is_some, string_bytes, ⊤}
 use Rattle.std.specs.declared.io.Error.{Error}
 use Rattle.filter_source.specs.Limits.{source_limit}
@@ -16,7 +16,7 @@ use Rattle.command_line.specs.declared.requests.Request.TheVariants as request
 use Rattle.command_line.specs.declared.requests.Source.{Source}
 use Rattle.ncroute.specs.Checking.{ChecksAll, ChecksSome}
 use Rattle.ncroute.specs.Comparing.{ComparesSources, StopsComparing}
-use Rattle.ncroute.specs.Ending.{TellsFaultLine, status_of}
+use Rattle.ncroute.specs.Ending.{TellsFaultLine, status_of, status_of_found}
 use Rattle.ncroute.specs.Guiding.{RunsGuided, StopsRun}
 use Rattle.ncroute.specs.Joining.{RunsJoined, StopsJoined}
 use Rattle.ncroute.specs.Linting.{LintsAll, StopsLinting}
@@ -56,7 +56,7 @@ pub record StopsRewriting (fault : StreamFault) (is_old : Bool) (before after : 
 pub record ListsText (size : Option ℕ) (is_code is_explained : Bool) (name text : List ℕ) (before after : Streams) (status : ℕ) : Type 0 where
   pub why : Option Diagnosis
   pub listed : ListsNamed size is_code is_explained name text before.holds after.holds before.tells after.tells why
-  pub ends : status ≡ (if is_some why then 1 else 0)
+  pub ends : status ≡ status_of_found (is_some why)
   pub reads : after.reads ≡ before.reads
 
 -- A fault ended that.

@@ -90,11 +90,15 @@ module _ (opens : List ℕ → Result (Option (List ℕ)) Error → Type 0) wher
       × RunsBy how name file (record { name = name_of source; text = text }) tally mid after found)
       ⊎ (SkipsUnread opens source_limit source before after × (found ≡ None))
 
-  -- That source is the file beside the test file that it names. A name that is not UTF-8 is no name of a file.
-  unfoldable pub RunsFile : Testing → List ℕ → FileView → Tally → Streams → Streams → Option Tally → Type 0
-  RunsFile how name file tally before after found =
-      ((source : Source) × IsFileAt (path_beside name file.filter) source × RunsBeside how name file source tally before after found)
-      ⊎ ((IsUtf8 (path_beside name file.filter) → ⊥) × TellsFault how name Name before after found)
+  -- That source is the file of this name. A name that is not UTF-8 is no name of a file.
+  unfoldable pub RunsAt : Testing → List ℕ → FileView → List ℕ → Tally → Streams → Streams → Option Tally → Type 0
+  RunsAt how name file path tally before after found =
+      ((source : Source) × IsFileAt path source × RunsBeside how name file source tally before after found)
+      ⊎ ((IsUtf8 path → ⊥) × TellsFault how name Name before after found)
+
+  -- It is the name of the file beside the test file that it names.
+  abbrev pub RunsFile : Testing → List ℕ → FileView → Tally → Streams → Streams → Option Tally → Type 0
+  RunsFile how name file tally before after found = RunsAt how name file (path_beside name file.filter) tally before after found
 
   -- The tests that a text has were run; or it is no test file.
   unfoldable pub RunsText : Testing → List ℕ → List ℕ → Tally → Streams → Streams → Option Tally → Type 0
@@ -146,10 +150,14 @@ module _ (opens : List ℕ → Result (Option (List ℕ)) Error → Type 0) wher
       × StopsBy fault how name file (record { name = name_of source; text = text }) tally mid after)
 
   -- Or while it was told that the filter has no name, or for want of memory before that.
+  unfoldable pub StopsAt : StreamFault → Testing → List ℕ → FileView → List ℕ → Tally → Streams → Streams → Type 0
+  StopsAt fault how name file path tally before after = ((fault ≡ Memory) × (after ≡ before))
+      ⊎ (((source : Source) × IsFileAt path source × StopsBeside fault how name file source tally before after)
+      ⊎ ((IsUtf8 path → ⊥) × CutsFault fault how name Name before after))
+
   unfoldable pub StopsFile : StreamFault → Testing → List ℕ → FileView → Tally → Streams → Streams → Type 0
   StopsFile fault how name file tally before after = ((fault ≡ Memory) × (after ≡ before))
-      ⊎ (((source : Source) × IsFileAt (path_beside name file.filter) source × StopsBeside fault how name file source tally before after)
-      ⊎ ((IsUtf8 (path_beside name file.filter) → ⊥) × CutsFault fault how name Name before after))
+      ⊎ StopsAt fault how name file (path_beside name file.filter) tally before after
 
   unfoldable pub StopsText : StreamFault → Testing → List ℕ → List ℕ → Tally → Streams → Streams → Type 0
   StopsText fault how name text tally before after = ((fault ≡ Memory) × (after ≡ before))

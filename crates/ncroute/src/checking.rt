@@ -3,7 +3,7 @@ ghost use Rattle.std.specs.Prelude.{◌≡◌, ◌||◌, IfErr, IfOk};
 ghost use Rattle.filter_commands.specs.Faults.{stream_fault};
 ghost use Rattle.ncroute.specs.Checking.{ChecksAll, ChecksBy, ChecksOne, ChecksSome, ChecksText, ChecksWhole, CutsBy, CutsText, CutsWhole, IsCutOne};
 
-use crate::console::Console;
+use crate::console::{Console, Loaded};
 use crate::ending::status_of_found;
 use crate::lines::{check_lines, report_on};
 use crate::linting::warn;
@@ -97,9 +97,9 @@ fn check_one<F: Folder, R: Read, W: Write, E: Write>(
     ensures cut { IfErr result (λ fault. IsCutOne (F.opens files.now) (stream_fault fault) how source.now console.old console.new) }
 {
     match console.read(files, alloc, source, SOURCE_LIMIT) {
-        Ok(Some(text)) => check_read(alloc, how, name_of(source), text.as_slice(), console),
-        Ok(None) => Ok(true),
-        Err(fault) => Err(fault),
+        Loaded::Text(text) => check_read(alloc, how, name_of(source), text.as_slice(), console),
+        Loaded::Skipped => Ok(true),
+        Loaded::Stopped(fault) => Err(fault),
     }
 }
 

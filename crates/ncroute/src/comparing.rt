@@ -5,7 +5,7 @@ ghost use Rattle.filter_workbench.specs.Comparing.{named};
 ghost use Rattle.ncroute.specs.Comparing.{ComparesSources, ComparesTexts, ComparesWith, StopsComparing, StopsComparison, StopsWith};
 ghost use Rattle.ncroute.specs.Comparing.{status_of_comparison};
 
-use crate::console::Console;
+use crate::console::{Console, Loaded};
 use crate::ending::FAILED;
 use crate::script::FAULT;
 use crate::texts::{Folder, name_of};
@@ -67,12 +67,12 @@ fn compare_with<F: Folder, R: Read, W: Write, E: Write>(
     ensures stopped { IfErr result (λ fault. StopsWith (F.opens files.now) (stream_fault fault) how (named old.now) new.now console.old console.new) }
 {
     match console.read(files, alloc, new, SOURCE_LIMIT) {
-        Ok(Some(text)) => {
+        Loaded::Text(text) => {
             let (name, text) = (name_of(new), text.as_slice());
             compare_texts(alloc, how, old, &NamedText { name, text }, console)
         }
-        Ok(None) => Ok(FAULT),
-        Err(fault) => Err(fault),
+        Loaded::Skipped => Ok(FAULT),
+        Loaded::Stopped(fault) => Err(fault),
     }
 }
 
@@ -90,11 +90,11 @@ pub fn compare_sources<F: Folder, R: Read, W: Write, E: Write>(
     ensures stopped { IfErr result (λ fault. StopsComparing (F.opens files.now) (stream_fault fault) how old.now new.now console.old console.new) }
 {
     match console.read(files, alloc, old, SOURCE_LIMIT) {
-        Ok(Some(text)) => {
+        Loaded::Text(text) => {
             let (name, text) = (name_of(old), text.as_slice());
             compare_with(files, alloc, how, &NamedText { name, text }, new, console)
         }
-        Ok(None) => Ok(FAULT),
-        Err(fault) => Err(fault),
+        Loaded::Skipped => Ok(FAULT),
+        Loaded::Stopped(fault) => Err(fault),
     }
 }

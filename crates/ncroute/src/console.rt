@@ -1,8 +1,8 @@
 //! The streams of the program.
-ghost use Rattle.std.specs.Prelude.{◌≡◌, ◌<◌, ◌≤◌, ◌+◌, ◌^◌, None, IfErr, IfOk, IfSome, OnOk, length};
+ghost use Rattle.std.specs.Prelude.{◌<◌, ◌^◌, IfErr, OnOk};
 ghost use Rattle.filter_commands.specs.Faults.{stream_fault};
 ghost use Rattle.ncroute.specs.Ending.{TellsFaultLine};
-ghost use Rattle.ncroute.specs.Reading.{Reads, SkipsUnread, StopsReading};
+ghost use Rattle.ncroute.specs.Reading.{IsLoaded, IsWithin};
 ghost use Rattle.ncroute.specs.Streaming.{CutsTelling, CutsWriting, Tells, Writes};
 
 use crate::ending::report_fault;
@@ -12,6 +12,17 @@ use filter_commands::ProgramFault;
 use std::alloc::Global;
 use std::io::{Read, Write};
 use std::marker::Model;
+
+/// What came of reading a source.
+#[derive(Drop)]
+pub enum Loaded {
+    /// Its text.
+    Text(Vec<u8>),
+    /// It cannot be read, which people were told.
+    Skipped,
+    /// This fault kept it from being read or told of.
+    Stopped(ProgramFault),
+}
 
 /// What the program reads, what it writes, and where it tells people of faults and refusals. A contract sees it as `Streams`.
 #[derive(Drop)]
@@ -33,25 +44,23 @@ impl<R: Read, W: Write, E: Write> Model for Console<R, W, E> {
 }
 
 impl<R: Read, W: Write, E: Write> Console<R, W, E> {
-    /// Reads a source: all of it, or one byte more than the limit. There is none where it cannot be read, which is told.
+    /// Reads a source: all of it, or one byte more than the limit. One that cannot be read is told of.
     pub fn read<F: Folder>(
         &mut self,
         files: &F,
         alloc: Global,
         source: &Source,
         limit: usize,
-    ) -> Result<Option<Vec<u8>>, ProgramFault>
+    ) -> Loaded
         requires { limit < 2 ^ 32 }
-        ensures read { IfOk result (λ found. IfSome found (λ text. Reads (F.opens files.now) limit source.now text.items self.old self.new)) }
-        ensures within { IfOk result (λ found. IfSome found (λ text. length text.items ≤ limit + 1)) }
-        ensures skipped { IfOk result (λ found. found ≡ None → SkipsUnread (F.opens files.now) limit source.now self.old self.new) }
-        ensures stopped { IfErr result (λ fault. StopsReading (F.opens files.now) (stream_fault fault) limit source.now self.old self.new) }
+        ensures loaded { IsLoaded (F.opens files.now) limit source.now result self.old self.new }
+        ensures within { IsWithin limit result }
     {
         match read_source(files, alloc, source, limit, &mut self.reader) {
-            Ok(text) => Ok(Some(text)),
+            Ok(text) => Loaded::Text(text),
             Err(why) => match tell_unread(alloc, &mut self.errors, source, why) {
-                Ok(()) => Ok(None),
-                Err(fault) => Err(fault),
+                Ok(()) => Loaded::Skipped,
+                Err(fault) => Loaded::Stopped(fault),
             },
         }
     }

@@ -1,10 +1,9 @@
 //! The filters that a script is started with: they are read before its first line is answered, and people are told if one is refused.
 ghost use Rattle.std.specs.Option.{option_map};
-ghost use Rattle.std.specs.Prelude.{◌≡◌, [], ◌∷◌, ◌++◌, None, IfErr, IfOk, IfSome, OnOk, slice_get};
+ghost use Rattle.std.specs.Prelude.{◌≡◌, [], ◌∷◌, ◌++◌, IfErr, IfOk, OnOk, slice_get};
 ghost use Rattle.filter_commands.specs.Faults.{stream_fault};
 ghost use Rattle.script_runs.specs.declared.naming.NamedFilter.{NamedFilter as TheFilter};
-ghost use Rattle.ncroute.specs.Filters.{IsCutFilter, IsCutUnfit, LeavesFilter, ReadsFilter, ReadsFilters, ReadsThem, SkipsFilter, StopsAtFault};
-ghost use Rattle.ncroute.specs.Filters.{StopsAtFilter, TellsOfFilter, TellsUnfit};
+ghost use Rattle.ncroute.specs.Filters.{AreLoaded, IsCutFilter, IsCutUnfit, LeavesFilter, ReadsFilter, ReadsFilters, StopsAtFilter, TellsOfFilter, TellsUnfit};
 
 use crate::console::Console;
 use crate::texts::{Folder, Unread, name_of, read_source, tell_unread};
@@ -23,6 +22,17 @@ pub struct UnreadFilter<'a> {
     pub source: &'a Source,
     /// Why it was not read.
     pub why: Unread,
+}
+
+/// What came of reading the filters that a script is started with.
+#[derive(Drop)]
+pub enum LoadedFilters {
+    /// All of them.
+    All(Vec<NamedFilter>),
+    /// One cannot be read, which people were told.
+    Skipped,
+    /// This fault kept one from being read or told of.
+    Stopped(ProgramFault),
 }
 
 /// A copy of bytes.
@@ -110,23 +120,20 @@ pub fn read_filters<'a, F: Folder, R: Read>(
     Ok(filters)
 }
 
-/// Reads the filters of these files, in order. There are none where one of them cannot be read, which is told.
-pub fn read_or_tell<F: Folder, R: Read, W: Write, E: Write>(
+/// Reads the filters of these files, in order. One that cannot be read is told of.
+pub fn read_given<F: Folder, R: Read, W: Write, E: Write>(
     files: &F,
     alloc: Global,
     named: &[NamedFile],
     console: &mut Console<R, W, E>,
-) -> Result<Option<Vec<NamedFilter>>, ProgramFault>
-    ensures read { IfOk result (λ found. IfSome found (λ filters. ReadsThem (F.opens files.now) named.now filters.items
-        console.old console.new)) }
-    ensures skipped { IfOk result (λ found. found ≡ None → SkipsFilter (F.opens files.now) named.now console.old console.new) }
-    ensures stopped { IfErr result (λ fault. StopsAtFault (F.opens files.now) (stream_fault fault) named.now console.old console.new) }
+) -> LoadedFilters
+    ensures { AreLoaded (F.opens files.now) named.now result console.old console.new }
 {
     match read_filters(files, alloc, named, &mut console.reader) {
-        Ok(filters) => Ok(Some(filters)),
+        Ok(filters) => LoadedFilters::All(filters),
         Err(unread) => match tell_unread(alloc, &mut console.errors, unread.source, unread.why) {
-            Ok(()) => Ok(None),
-            Err(fault) => Err(fault),
+            Ok(()) => LoadedFilters::Skipped,
+            Err(fault) => LoadedFilters::Stopped(fault),
         },
     }
 }

@@ -5,9 +5,9 @@ ghost use Rattle.ncroute.specs.Guiding.{GuidesScript, RunsGuided, RunsNamed, Run
 ghost use Rattle.ncroute.specs.Scripts.{IsQuiet};
 ghost use Rattle.script_runs.specs.Running.{IsSaved, IsSavedInPart};
 
-use crate::console::Console;
+use crate::console::{Console, Loaded};
 use crate::ending::{FAILED, status_of};
-use crate::filters::{read_or_tell, tell_unfit};
+use crate::filters::{LoadedFilters, read_given, tell_unfit};
 use crate::texts::{Folder, name_of, tell_unmade};
 use crate::watcher::{Guide, Part, whole};
 use command_line::{Running, Source};
@@ -149,7 +149,7 @@ fn guide_named<F: Folder, R: Read, W: Write, E: Write>(
             &mut console.errors,
         ),
         Source::File(_) => match console.read(files, alloc, source, INPUT_LIMIT) {
-            Ok(Some(text)) => guide_script(
+            Loaded::Text(text) => guide_script(
                 files,
                 alloc,
                 how,
@@ -159,8 +159,8 @@ fn guide_named<F: Folder, R: Read, W: Write, E: Write>(
                 &mut console.writer,
                 &mut console.errors,
             ),
-            Ok(None) => Ok(FAILED),
-            Err(fault) => Err(fault),
+            Loaded::Skipped => Ok(FAILED),
+            Loaded::Stopped(fault) => Err(fault),
         },
     }
 }
@@ -177,9 +177,11 @@ pub fn guide_source<F: Folder, R: Read, W: Write, E: Write>(
     ensures stopped { IfErr result (λ fault. StopsRun (F.creates files.now) (F.opens files.now) (stream_fault fault) how.now source.now
         console.old console.new) }
 {
-    match read_or_tell(files, alloc, how.filters.as_slice(), console) {
-        Ok(Some(filters)) => { guide_named(files, alloc, how, filters.as_slice(), source, console) }
-        Ok(None) => Ok(FAILED),
-        Err(fault) => Err(fault),
+    match read_given(files, alloc, how.filters.as_slice(), console) {
+        LoadedFilters::All(filters) => {
+            guide_named(files, alloc, how, filters.as_slice(), source, console)
+        }
+        LoadedFilters::Skipped => Ok(FAILED),
+        LoadedFilters::Stopped(fault) => Err(fault),
     }
 }

@@ -1,5 +1,5 @@
 //! A configuration of BIRD, with the files that it includes in their places.
-use crate::console::Console;
+use crate::console::{Console, Loaded};
 use crate::texts::{Folder, Unread, name_of, tell_unread, write_line};
 use bird_import::{Include, cut_words, find_includes};
 use command_line::Source;
@@ -238,12 +238,14 @@ fn read_config<F: Folder, R: Read, W: Write, E: Write>(
     source: &Source,
     console: &mut Console<R, W, E>,
 ) -> Result<Option<Vec<u8>>, ProgramFault> {
-    match console.read(files, alloc, source, INPUT_LIMIT)? {
-        Some(text) if text.len() > INPUT_LIMIT => {
+    match console.read(files, alloc, source, INPUT_LIMIT) {
+        Loaded::Text(text) if text.len() <= INPUT_LIMIT => Ok(Some(text)),
+        Loaded::Text(_) => {
             tell_unread(alloc, &mut console.errors, source, Unread::TooLong)?;
             Ok(None)
         }
-        found => Ok(found),
+        Loaded::Skipped => Ok(None),
+        Loaded::Stopped(fault) => Err(fault),
     }
 }
 

@@ -6,7 +6,7 @@ ghost use Rattle.ncroute.specs.Joining.{JoinsAll, JoinsNext, LeavesNext, RunsJoi
 
 use crate::console::Console;
 use crate::ending::FAILED;
-use crate::filters::read_or_tell;
+use crate::filters::{LoadedFilters, read_given};
 use crate::guided::guide_script;
 use crate::texts::{Folder, Unread, name_of, read_source, tell_unread};
 use crate::watcher::Part;
@@ -166,11 +166,11 @@ pub fn guide_sources<F: Folder, R: Read, W: Write, E: Write>(
     ensures stopped { IfErr result (λ fault. StopsJoined (F.creates files.now) (F.opens files.now) (stream_fault fault) how.now sources.now
         console.old console.new) }
 {
-    match read_or_tell(files, alloc, how.filters.as_slice(), console) {
-        Ok(Some(filters)) => {
+    match read_given(files, alloc, how.filters.as_slice(), console) {
+        LoadedFilters::All(filters) => {
             guide_texts(files, alloc, how, filters.as_slice(), sources, console)
         }
-        Ok(None) => Ok(FAILED),
-        Err(fault) => Err(fault),
+        LoadedFilters::Skipped => Ok(FAILED),
+        LoadedFilters::Stopped(fault) => Err(fault),
     }
 }

@@ -5,7 +5,7 @@ ghost use Rattle.filter_workbench.specs.Comparing.{named};
 ghost use Rattle.ncroute.specs.Linting.{CutsLint, CutsLintText, CutsWarning, LintsAll, LintsOne, LintsText, StopsLinting, Warns, is_said};
 
 use crate::checking::is_any;
-use crate::console::Console;
+use crate::console::{Console, Loaded};
 use crate::ending::status_of_found;
 use crate::texts::{Folder, name_of};
 use command_line::{Checking, Linting, Source};
@@ -86,12 +86,12 @@ fn lint_one<F: Folder, R: Read, W: Write, E: Write>(
     ensures cut { IfErr result (λ fault. CutsLint (F.opens files.now) (stream_fault fault) how source.now console.old console.new) }
 {
     match console.read(files, alloc, source, SOURCE_LIMIT) {
-        Ok(Some(text)) => {
+        Loaded::Text(text) => {
             let (name, text) = (name_of(source), text.as_slice());
             lint_text(alloc, how, &NamedText { name, text }, console)
         }
-        Ok(None) => Ok(true),
-        Err(fault) => Err(fault),
+        Loaded::Skipped => Ok(true),
+        Loaded::Stopped(fault) => Err(fault),
     }
 }
 

@@ -6,7 +6,7 @@ ghost use Rattle.filter_commands.specs.Faults.{stream_fault};
 ghost use Rattle.history_file.specs.Replays.{verdict_line};
 ghost use Rattle.ncroute.specs.Replaying.{CutsReplay, ReplaysSource, ReplaysText, StopsReplay};
 
-use crate::console::Console;
+use crate::console::{Console, Loaded};
 use crate::ending::FAILED;
 use crate::script::FAULT;
 use crate::texts::Folder;
@@ -65,8 +65,8 @@ pub fn replay_source<F: Folder, R: Read, W: Write, E: Write>(
     ensures stopped { IfErr result (λ fault. StopsReplay (F.opens files.now) (stream_fault fault) source.now console.old console.new) }
 {
     match console.read(files, alloc, source, REPLAY_LIMIT) {
-        Ok(Some(text)) => replay_text(alloc, text.as_slice(), console),
-        Ok(None) => Ok(FAULT),
-        Err(fault) => Err(fault),
+        Loaded::Text(text) => replay_text(alloc, text.as_slice(), console),
+        Loaded::Skipped => Ok(FAULT),
+        Loaded::Stopped(fault) => Err(fault),
     }
 }

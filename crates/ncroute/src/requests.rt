@@ -7,8 +7,8 @@ ghost use Rattle.ncroute.specs.Streaming.{CutsWriting, Writes};
 
 use crate::checking::check_sources;
 use crate::comparing::compare_sources;
-use crate::console::Console;
-use crate::ending::{FAILED, status_of};
+use crate::console::{Console, Loaded};
+use crate::ending::{FAILED, status_of, status_of_found};
 use crate::guided::guide_source;
 use crate::importing::import_source;
 use crate::joined::guide_sources;
@@ -103,8 +103,7 @@ fn list<R: Read, W: Write, E: Write>(
         is_code,
         is_explained,
     ) {
-        Ok(Some(_)) => Ok(FAILED),
-        Ok(None) => Ok(0),
+        Ok(why) => Ok(status_of_found(why.is_some())),
         Err(fault) => Err(fault),
     }
 }
@@ -123,12 +122,12 @@ fn list_source<F: Folder, R: Read, W: Write, E: Write>(
     ensures stopped { IfErr result (λ fault. StopsListing (F.opens files.now) (stream_fault fault) size is_code source.now console.old console.new) }
 {
     match console.read(files, alloc, source, SOURCE_LIMIT) {
-        Ok(Some(text)) => {
+        Loaded::Text(text) => {
             let (name, text) = (name_of(source), text.as_slice());
             list(alloc, size, is_code, is_explained, name, text, console)
         }
-        Ok(None) => Ok(FAULT),
-        Err(fault) => Err(fault),
+        Loaded::Skipped => Ok(FAULT),
+        Loaded::Stopped(fault) => Err(fault),
     }
 }
 

@@ -4,7 +4,7 @@ ghost use Rattle.filter_commands.specs.Faults.{stream_fault};
 ghost use Rattle.ncroute.specs.Scripts.{IsAnswered, IsLeftOff, IsQuiet, RunsFile, RunsScript, RunsSource, StopsFile, StopsScript, StopsSource};
 ghost use Rattle.ncroute.specs.Scripts.{script_fault};
 
-use crate::console::Console;
+use crate::console::{Console, Loaded};
 use crate::ending::{FAILED, status_of};
 use crate::texts::{Folder, name_of};
 use crate::watcher::Teller;
@@ -108,7 +108,7 @@ fn run_file<F: Folder, R: Read, W: Write, E: Write>(
         console.old console.new) }
 {
     match console.read(files, alloc, source, INPUT_LIMIT) {
-        Ok(Some(text)) => carry_out(
+        Loaded::Text(text) => carry_out(
             alloc,
             engine,
             name_of(source),
@@ -117,8 +117,8 @@ fn run_file<F: Folder, R: Read, W: Write, E: Write>(
             &mut console.writer,
             &mut console.errors,
         ),
-        Ok(None) => Ok(script_fault(engine)),
-        Err(fault) => Err(fault),
+        Loaded::Skipped => Ok(script_fault(engine)),
+        Loaded::Stopped(fault) => Err(fault),
     }
 }
 

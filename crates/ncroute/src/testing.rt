@@ -1,13 +1,12 @@
 //! How test files are run.
-ghost use Rattle.std.specs.Prelude.{◌≡◌, ◌+◌, ◌<◌, ◌^◌, IfErr, IfOk, IfSome, IsUtf8, None, OnOk, length};
+ghost use Rattle.std.specs.Prelude.{◌≡◌, ◌+◌, ◌<◌, ◌^◌, IfErr, IfOk, OnOk, length};
 ghost use Rattle.filter_checks.specs.Files.{file_view};
-ghost use Rattle.filter_checks.specs.Places.{path_beside};
 ghost use Rattle.filter_commands.specs.Faults.{stream_fault};
 ghost use Rattle.filter_workbench.specs.Comparing.{named};
 ghost use Rattle.ncroute.specs.Streaming.{CutsWriting, Writes};
 ghost use Rattle.ncroute.specs.Testing as spec;
 
-use crate::console::Console;
+use crate::console::{Console, Loaded};
 use crate::ending::FAILED;
 use crate::script::FAULT;
 use crate::texts::{Folder, name_of};
@@ -138,40 +137,48 @@ fn run_beside<F: Folder, R: Read, W: Write, E: Write>(
         console.old console.new) }
 {
     match console.read(files, alloc, source, SOURCE_LIMIT) {
-        Ok(Some(text)) => {
+        Loaded::Text(text) => {
             let filter = NamedText {
                 name: name_of(source),
                 text: text.as_slice(),
             };
             run_by(alloc, how, name, file, &filter, tally, console)
         }
-        Ok(None) => Ok(None),
-        Err(fault) => Err(fault),
+        Loaded::Skipped => Ok(None),
+        Loaded::Stopped(fault) => Err(fault),
     }
 }
 
-/// The source of the file of a name. None if the name is not UTF-8.
-fn source_at(alloc: Global, path: &[u8]) -> Result<Option<Source>, AllocError>
-    ensures found { IfOk result (λ source. IfSome source (spec.IsFileAt path.now)) }
-    ensures none { IfOk result (λ source. source ≡ None → IsUtf8 path.now → ⊥) }
+/// Runs the tests of a file, whose filter is in the file of this name. There is none if the name is not UTF-8.
+#[tactic(auto, unfolding(crate::specs::Testing::RunsAt, crate::specs::Testing::StopsAt))]
+fn run_at<F: Folder, R: Read, W: Write, E: Write>(
+    files: &F,
+    alloc: Global,
+    how: Testing,
+    name: &[u8],
+    file: &TestFile,
+    path: &[u8],
+    tally: Tally,
+    console: &mut Console<R, W, E>,
+) -> Result<Option<Tally>, ProgramFault>
+    ensures finished { IfOk result (spec.RunsAt (F.opens files.now) how name.now (file_view file.now) path.now tally console.old console.new) }
+    ensures stopped { IfErr result (λ fault. spec.StopsAt (F.opens files.now) (stream_fault fault) how name.now (file_view file.now) path.now tally
+        console.old console.new) }
 {
     match str::from_utf8(path) {
-        Ok(name) => Ok(Some(Source::File(String::from_str(alloc, name)?))),
-        Err(_) => Ok(None),
+        Ok(path) => match String::from_str(alloc, path) {
+            Ok(path) => {
+                let source = Source::File(path);
+                run_beside(files, alloc, how, name, file, &source, tally, console)
+            }
+            Err(_) => Err(ProgramFault::MEMORY),
+        },
+        Err(_) => tell_fault(alloc, how, name, FileFault::Name, console),
     }
-}
-
-/// The source of the filter that a test file of this name names.
-fn filter_of(alloc: Global, name: &[u8], file: &TestFile) -> Result<Option<Source>, AllocError>
-    ensures found { IfOk result (λ source. IfSome source (spec.IsFileAt (path_beside name.now file.now.filter.items))) }
-    ensures none { IfOk result (λ source. source ≡ None → IsUtf8 (path_beside name.now file.now.filter.items) → ⊥) }
-{
-    let path = path_beside(alloc, name, file.filter.as_slice())?;
-    source_at(alloc, path.as_slice())
 }
 
 /// Runs the tests of a file, whose filter is in the file beside it that it names.
-#[tactic(auto, unfolding(crate::specs::Testing::RunsFile, crate::specs::Testing::StopsFile))]
+#[tactic(auto, unfolding(crate::specs::Testing::StopsFile))]
 fn run_file<F: Folder, R: Read, W: Write, E: Write>(
     files: &F,
     alloc: Global,
@@ -185,9 +192,17 @@ fn run_file<F: Folder, R: Read, W: Write, E: Write>(
     ensures stopped { IfErr result (λ fault. spec.StopsFile (F.opens files.now) (stream_fault fault) how name.now (file_view file.now) tally
         console.old console.new) }
 {
-    match filter_of(alloc, name, file) {
-        Ok(Some(source)) => run_beside(files, alloc, how, name, file, &source, tally, console),
-        Ok(None) => tell_fault(alloc, how, name, FileFault::Name, console),
+    match path_beside(alloc, name, file.filter.as_slice()) {
+        Ok(path) => run_at(
+            files,
+            alloc,
+            how,
+            name,
+            file,
+            path.as_slice(),
+            tally,
+            console,
+        ),
         Err(_) => Err(ProgramFault::MEMORY),
     }
 }
@@ -229,12 +244,12 @@ fn run_source<F: Folder, R: Read, W: Write, E: Write>(
         console.old console.new) }
 {
     match console.read(files, alloc, source, SOURCE_LIMIT) {
-        Ok(Some(text)) => {
+        Loaded::Text(text) => {
             let (name, text) = (name_of(source), text.as_slice());
             run_text(files, alloc, how, name, text, tally, console)
         }
-        Ok(None) => Ok(None),
-        Err(fault) => Err(fault),
+        Loaded::Skipped => Ok(None),
+        Loaded::Stopped(fault) => Err(fault),
     }
 }
 

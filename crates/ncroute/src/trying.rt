@@ -7,7 +7,7 @@ ghost use Rattle.filter_tools.specs.declared.filter.Filtered.TheVariants.{Refuse
 ghost use Rattle.ncroute.specs.Trying.{JudgesText, Reports, ReportsOff, ReportsText, StopsFilter, StopsJudging, StopsReport, StopsTrying};
 ghost use Rattle.ncroute.specs.Trying.{TriesFilter, TriesText, status_of_filter, told_refusal};
 
-use crate::console::Console;
+use crate::console::{Console, Loaded};
 use crate::ending::{FAILED, status_of};
 use crate::script::FAULT;
 use crate::texts::{Folder, name_of};
@@ -170,8 +170,8 @@ pub fn try_filter<F: Folder, R: Read, W: Write, E: Write>(
     ensures stopped { IfErr result (λ fault. StopsFilter (F.opens files.now) (stream_fault fault) how source.now console.old console.new) }
 {
     match console.read(files, alloc, source, SOURCE_LIMIT) {
-        Ok(Some(text)) => try_text(alloc, how, name_of(source), text.as_slice(), console),
-        Ok(None) => Ok(FAULT),
-        Err(fault) => Err(fault),
+        Loaded::Text(text) => try_text(alloc, how, name_of(source), text.as_slice(), console),
+        Loaded::Skipped => Ok(FAULT),
+        Loaded::Stopped(fault) => Err(fault),
     }
 }
