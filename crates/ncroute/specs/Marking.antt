@@ -66,13 +66,6 @@ pub record ChecksLines (how : Checking) (name text : List ℕ) (before after : S
   pub judged : is_refused ≡ is_some why
   pub reads : after.reads ≡ before.reads
 
--- A fault cut the report, or what is told of it, and nothing was written.
-pub record CutsMaking (fault : StreamFault) (how : Checking) (name text : List ℕ) (before after : Streams) : Type 0 where
-  pub made : Option (List ℕ)
-  pub reported : CutsReport how.is_told fault how name text (Some []) made before.tells after.tells
-  pub holds : after.holds ≡ before.holds
-  pub reads : after.reads ≡ before.reads
-
 -- A fault cut the lines of it that are written.
 pub record CutsMarked (fault : StreamFault) (how : Checking) (name text : List ℕ) (before after : Streams) : Type 0 where
   pub why : Option Diagnosis
@@ -81,6 +74,8 @@ pub record CutsMarked (fault : StreamFault) (how : Checking) (name text : List �
   pub written : IsCut fault before.holds after.holds (written_of how name report why)
   pub reads : after.reads ≡ before.reads
 
+-- Or it cut the report, or what is told of it, and nothing was written.
 unfoldable pub CutsLines : StreamFault → Checking → List ℕ → List ℕ → Streams → Streams → Type 0
-CutsLines fault how name text before after =
-    CutsMaking fault how name text before after ⊎ CutsMarked fault how name text before after
+CutsLines fault how name text before after = ((made : Option (List ℕ))
+    × CutsReport how.is_told fault how name text (Some []) made before.tells after.tells × (after.holds ≡ before.holds)
+    × (after.reads ≡ before.reads)) ⊎ CutsMarked fault how name text before after

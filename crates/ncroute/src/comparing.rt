@@ -38,7 +38,7 @@ fn compare_texts<R: Read, W: Write, E: Write>(
     ensures finished { IfOk result (ComparesTexts how (named old.now) (named new.now) console.old console.new) }
     ensures stopped { IfErr result (λ fault. StopsComparison (stream_fault fault) how (named old.now) (named new.now) console.old console.new) }
 {
-    match compare_named(
+    let found = compare_named(
         alloc,
         old,
         new,
@@ -47,10 +47,8 @@ fn compare_texts<R: Read, W: Write, E: Write>(
         how.is_explained,
         &mut console.writer,
         &mut console.errors,
-    ) {
-        Ok(found) => Ok(status_of_comparison(found)),
-        Err(fault) => Err(fault),
-    }
+    )?;
+    Ok(status_of_comparison(found))
 }
 
 /// Compares the filter of a text with that of a source, and returns the exit status.

@@ -127,26 +127,34 @@ fn guide_texts<F: Folder, R: Read, W: Write, E: Write>(
     how: &Running,
     filters: &[NamedFilter],
     sources: &[Source],
-    console: &mut Console<R, W, E>,
+    reader: &mut R,
+    writer: &mut W,
+    errors: &mut E,
 ) -> Result<u8, ProgramFault>
     ensures finished { IfOk result (RunsTexts (F.creates files.now) (F.opens files.now) how.now filters.now sources.now
-        console.old console.new) }
+        (record { reads = R.remaining reader.old; holds = W.contents writer.old; tells = E.contents errors.old })
+        (record { reads = R.remaining reader.new; holds = W.contents writer.new; tells = E.contents errors.new })) }
     ensures stopped { IfErr result (λ fault. StopsTexts (F.creates files.now) (F.opens files.now) (stream_fault fault) how.now filters.now
-        sources.now console.old console.new) }
+        sources.now
+        (record { reads = R.remaining reader.old; holds = W.contents writer.old; tells = E.contents errors.old })
+        (record { reads = R.remaining reader.new; holds = W.contents writer.new; tells = E.contents errors.new })) }
 {
-    match read_texts(files, alloc, sources, &mut console.reader) {
-        Ok(joined) => guide_script(
-            files,
-            alloc,
-            how,
-            joined.parts.as_slice(),
-            filters,
-            &mut joined.text.as_slice(),
-            &mut console.writer,
-            &mut console.errors,
-        ),
+    match read_texts(files, alloc, sources, reader) {
+        Ok(joined) => {
+            let (mut script, parts) = (joined.text.as_slice(), joined.parts.as_slice());
+            guide_script(
+                files,
+                alloc,
+                how,
+                parts,
+                filters,
+                &mut script,
+                writer,
+                errors,
+            )
+        }
         Err(unread) => {
-            tell_unread(alloc, &mut console.errors, unread.source, unread.why)?;
+            tell_unread(alloc, errors, unread.source, unread.why)?;
             Ok(FAILED)
         }
     }
@@ -167,9 +175,16 @@ pub fn guide_sources<F: Folder, R: Read, W: Write, E: Write>(
         console.old console.new) }
 {
     match read_given(files, alloc, how.filters.as_slice(), console) {
-        LoadedFilters::All(filters) => {
-            guide_texts(files, alloc, how, filters.as_slice(), sources, console)
-        }
+        LoadedFilters::All(filters) => guide_texts(
+            files,
+            alloc,
+            how,
+            filters.as_slice(),
+            sources,
+            &mut console.reader,
+            &mut console.writer,
+            &mut console.errors,
+        ),
         LoadedFilters::Skipped => Ok(FAILED),
         LoadedFilters::Stopped(fault) => Err(fault),
     }

@@ -36,7 +36,7 @@ fn lint_text<R: Read, W: Write, E: Write>(
     ensures finished { IfOk result (LintsText how (named source.now) console.old console.new) }
     ensures cut { IfErr result (λ fault. CutsLintText (stream_fault fault) how (named source.now) console.old console.new) }
 {
-    match lint_named(
+    let linted = lint_named(
         alloc,
         source,
         how.size,
@@ -44,10 +44,8 @@ fn lint_text<R: Read, W: Write, E: Write>(
         how.is_explained,
         &mut console.writer,
         &mut console.errors,
-    ) {
-        Ok(linted) => Ok(is_said(linted)),
-        Err(fault) => Err(fault),
-    }
+    )?;
+    Ok(is_said(linted))
 }
 
 /// Tells the warnings of a text that was checked, where they are asked for and it is not refused.
@@ -65,10 +63,8 @@ pub fn warn<R: Read, W: Write, E: Write>(
     match how.warning_limit {
         Some(limit) if !is_refused => {
             let source = NamedText { name, text };
-            match warn_named(alloc, &source, how.size, limit, &mut console.errors) {
-                Ok(()) => Ok(()),
-                Err(fault) => Err(fault),
-            }
+            warn_named(alloc, &source, how.size, limit, &mut console.errors)?;
+            Ok(())
         }
         _ => Ok(()),
     }

@@ -54,9 +54,15 @@ where
 {
     match words {
         Ok(Words::Asked(request)) => serve(rt, alloc, &request, console),
-        Ok(Words::Router(words)) => {
-            serve_router::<R, FI, FO, T, I, W, E>(rt, alloc, &words, console, voice)
-        }
+        Ok(Words::Router(words)) => serve_router::<R, FI, FO, T, I, W, E>(
+            rt,
+            alloc,
+            &words,
+            &mut console.reader,
+            &mut console.writer,
+            &mut console.errors,
+            voice,
+        ),
         Ok(Words::Network) => serve_network(rt, alloc, console),
         Ok(Words::Shown(status)) => status,
         Err(fault) => status_of_fault(console, fault),

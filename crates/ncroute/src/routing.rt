@@ -6,7 +6,6 @@ ghost use Rattle.line_protocol.specs.Runs.{AppendsFront};
 ghost use Rattle.ncroute.specs.Routing as spec;
 ghost use Rattle.ncroute.specs.Ending.{fault_line};
 
-use crate::console::Console;
 use crate::ending::{FAILED, report_fault};
 use crate::loading::load_filters;
 use crate::planning::plan_of;
@@ -226,6 +225,7 @@ fn tell_unset<E: Write>(errors: &mut E, fault: ProgramFault) -> u8
 
 /// Runs the router that words ask for, and returns the exit status. Its filters are verified, and the file of its history is made,
 /// before any link is opened. `voice` is where people are told of links.
+#[tactic(auto, unfolding(crate::specs::Routing::ServesRouter))]
 pub fn serve_router<
     R: Threads + Wait + Clock + Folder + LinkFolder<FI, FO> + Copy + Send + Sync + Drop + 'static,
     FI: Read + Send + Drop + 'static,
@@ -234,22 +234,26 @@ pub fn serve_router<
     I: Read,
     W: Write,
     E: Write,
->(rt: &R, alloc: Global, words: &RouterWords, console: &mut Console<I, W, E>, voice: T) -> u8
+>(
+    rt: &R,
+    alloc: Global,
+    words: &RouterWords,
+    reader: &mut I,
+    writer: &mut W,
+    errors: &mut E,
+    voice: T,
+) -> u8
 where
     R::New: Send + 'static,
-    ensures { spec.ServesRouter (R.opens rt.now) (R.creates rt.now) words.now console.old console.new result }
+    ensures { spec.ServesRouter (R.opens rt.now) (R.creates rt.now) words.now
+        (record { reads = I.remaining reader.old; holds = W.contents writer.old; tells = E.contents errors.old })
+        (record { reads = I.remaining reader.new; holds = W.contents writer.new; tells = E.contents errors.new }) result }
 {
-    match set_up(rt, alloc, words, &mut console.reader, &mut console.errors) {
+    match set_up(rt, alloc, words, reader, errors) {
         Ok(Ok(setting)) => run_setting::<R, FI, FO, R::New, T, I, W, E>(
-            rt,
-            alloc,
-            setting,
-            &mut console.reader,
-            &mut console.writer,
-            &mut console.errors,
-            voice,
+            rt, alloc, setting, reader, writer, errors, voice,
         ),
         Ok(Err(status)) => status,
-        Err(fault) => tell_unset(&mut console.errors, fault),
+        Err(fault) => tell_unset(errors, fault),
     }
 }

@@ -79,7 +79,7 @@ fn run_counted<R: Read, W: Write, E: Write>(
     ensures stopped { IfErr result (λ fault. spec.StopsCounted (stream_fault fault) how name.now (file_view file.now) (named filter.now) tally
         console.old console.new) }
 {
-    match test_named(
+    let tested = test_named(
         alloc,
         tally.count,
         how.limit,
@@ -89,10 +89,8 @@ fn run_counted<R: Read, W: Write, E: Write>(
         filter,
         &mut console.writer,
         &mut console.errors,
-    ) {
-        Ok(tested) => Ok(tally_after(tally, file.tests.len(), tested)),
-        Err(fault) => Err(fault),
-    }
+    )?;
+    Ok(tally_after(tally, file.tests.len(), tested))
 }
 
 /// Runs the tests of a file by the filter of a text, if they can be counted.
