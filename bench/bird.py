@@ -1,12 +1,12 @@
 #!/usr/bin/env python3
 """Compares the machine for verified code with BIRD on the same filters and routes: first what both accept, and then their time.
 
-usage: bird.py BENCH_FILTER NCROUTE RUNS [ROUTES]
+usage: bird.py BENCH_PARTS NCROUTE RUNS [ROUTES]
 
 Needs BIRD 2.0 (`bird`, `birdc`); as a daemon of its own it is given ROUTES static routes (20,000), each with a metric, and
 the filters below. For each filter it is asked RUNS times to show the number of routes that the filter accepts, and the least
 processor time of the daemon for an answer counts. The text of each filter is compiled by `ncroute check` and the code taken
-through `bench_filter verified`, with the same routes. From both times that for a filter that only accepts is subtracted: the
+through `bench_parts verified`, with the same routes. From both times that for a filter that only accepts is subtracted: the
 walk over the routes, and the question. Where the two accept different numbers of routes, that is said and the status is 1.
 """
 import os
@@ -115,14 +115,14 @@ def code_of(ncroute, text):
     return said.stdout.split()[1]
 
 
-def ours(bench_filter, path, runs, count):
+def ours(bench_parts, path, runs, count):
     """How many routes are accepted, the steps of a run, and the seconds of a round."""
 
     def spent(rounds):
-        return min(seconds([bench_filter, "verified", str(rounds)], path) for _ in range(runs))
+        return min(seconds([bench_parts, "verified", str(rounds)], path) for _ in range(runs))
 
     with open(path, "rb") as given:
-        said = subprocess.run([bench_filter, "verified", "1"], stdin=given, stdout=subprocess.PIPE, check=True).stdout.split()
+        said = subprocess.run([bench_parts, "verified", "1"], stdin=given, stdout=subprocess.PIPE, check=True).stdout.split()
     return int(said[1]), int(said[7]) / count, (spent(ROUNDS) - spent(0)) / ROUNDS
 
 
@@ -134,11 +134,11 @@ def write_input(path, code, routes):
 
 def measured(programs, daemon, runs, texts, routes, folder):
     """For each filter: what both accept, the steps of a run, the seconds here and in BIRD."""
-    bench_filter, ncroute = programs
+    bench_parts, ncroute = programs
     for name, text in texts.items():
         path = os.path.join(folder, name)
         write_input(path, code_of(ncroute, text), routes)
-        accepted, steps, here = ours(bench_filter, path, runs, len(routes))
+        accepted, steps, here = ours(bench_parts, path, runs, len(routes))
         by_bird, there = daemon.least(f"show route filter {name} count", runs)
         yield name, (accepted, by_bird), steps, here, there
 

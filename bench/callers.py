@@ -1,7 +1,7 @@
 #!/usr/bin/env python3
 """Compares calls through the lock with calls through a Mutex, by 1, 2 and 4 threads, and prints a table.
 
-usage: callers.py BENCH_ROUTER PLAIN RUNS INPUT..
+usage: callers.py BENCH_PARTS PLAIN RUNS INPUT..
 
   passes  the proved router, called by passes
   Mutex   the same proved journal, under the Mutex of the proved standard library

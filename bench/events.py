@@ -1,5 +1,5 @@
 #!/usr/bin/env python3
-"""Writes events for a router, as `bench_router` and the plain program read them.
+"""Writes events for a router, as `bench_parts` and the plain program read them.
 
 usage: events.py KIND SIZE
 

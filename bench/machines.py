@@ -1,8 +1,8 @@
 #!/usr/bin/env python3
 """Compares the proved machines with plain ones on the same routes: first what they say, and then their time.
 
-usage: machines.py BENCH_FILTER PLAIN C RUNS INPUT=ROUNDS..
-       machines.py BENCH_FILTER PLAIN C instructions INPUT=ROUNDS..
+usage: machines.py BENCH_PARTS PLAIN C RUNS INPUT=ROUNDS..
+       machines.py BENCH_PARTS PLAIN C instructions INPUT=ROUNDS..
 
 C is the program of `baseline/machines.c`, or `none`. Each of the machines (`run` for verified code, `run_checked`, the
 plain one in Rust, and the two in C) takes the routes of an input through its code ROUNDS times, in a process of its own

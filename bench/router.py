@@ -1,7 +1,7 @@
 #!/usr/bin/env python3
 """Compares the proved router with the plain one on the same events: first what they say, and then their time.
 
-usage: router.py BENCH_ROUTER PLAIN RUNS INPUT=ROUNDS..
+usage: router.py BENCH_PARTS PLAIN RUNS INPUT=ROUNDS..
 
 The tables, the journal and the plain router each answer the events of an input, and where their sums differ, that is
 said and the status is 1; nothing is measured then. Otherwise each is run RUNS times with ROUNDS rounds and RUNS times

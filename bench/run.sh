@@ -12,7 +12,7 @@
 #   lookup times the lookup of an int in sets of 3 to 1,024 ranges, and the match of a prefix in sets of 12 to 1,024 patterns
 #   diff times `ncroute diff` and `ncroute lint` on lists of 290 and 1,024 patterns
 #   NCROUTE=PATH       a proved `ncroute` that is built already: then none is built here
-#   BENCH_FILTER=PATH  the same for `bench_filter`, and BENCH_ROUTER=PATH for `bench_router`
+#   BENCH_PARTS=PATH   the same for `bench_parts`
 #   ROUNDS=N           how often each program is run on each input (7)
 #   ROUTES=N           the number of route lines of each input of `eval` (200,000, of straight_filter 100,000)
 set -eu
@@ -40,11 +40,11 @@ need_ncroute() {
     fi
 }
 
-# Sees to it that BENCH_FILTER names a program.
-need_filter_bench() {
-    if [ -z "${BENCH_FILTER:-}" ]; then
-        build bench_filter verified 0
-        BENCH_FILTER="$bench/../crates/bench_filter/out/bench_filter"
+# Sees to it that BENCH_PARTS names a program.
+need_bench_parts() {
+    if [ -z "${BENCH_PARTS:-}" ]; then
+        build bench_parts tables 0
+        BENCH_PARTS="$bench/../crates/bench_parts/out/bench_parts"
     fi
 }
 
@@ -113,10 +113,7 @@ if [ "$wanted" = domain ]; then
 fi
 
 if [ "$wanted" = router ]; then
-    if [ -z "${BENCH_ROUTER:-}" ]; then
-        build bench_router tables 0
-        BENCH_ROUTER="$bench/../crates/bench_router/out/bench_router"
-    fi
+    need_bench_parts
     inputs=()
     for size in 16 64 250; do
         for kind_rounds in changes=25000 no_changes=11000 show=62000 down_up=40000 imports=99000; do
@@ -124,18 +121,15 @@ if [ "$wanted" = router ]; then
             inputs+=("$folder/${kind_rounds%=*}_$size=$((${kind_rounds#*=} * 16 / size))")
         done
     done
-    "$bench/router.py" "$BENCH_ROUTER" "$folder/plain" "${ROUNDS:-7}" "${inputs[@]}"
+    "$bench/router.py" "$BENCH_PARTS" "$folder/plain" "${ROUNDS:-7}" "${inputs[@]}"
 elif [ "$wanted" = callers ]; then
-    if [ -z "${BENCH_ROUTER:-}" ]; then
-        build bench_router tables 0
-        BENCH_ROUTER="$bench/../crates/bench_router/out/bench_router"
-    fi
+    need_bench_parts
     inputs=()
     for kind in show no_changes; do
         "$bench/events.py" "$kind" 16 >"$folder/$kind"
         inputs+=("$folder/$kind")
     done
-    "$bench/callers.py" "$BENCH_ROUTER" "$folder/plain" "${ROUNDS:-7}" "${inputs[@]}"
+    "$bench/callers.py" "$BENCH_PARTS" "$folder/plain" "${ROUNDS:-7}" "${inputs[@]}"
 elif [ "$wanted" = lookup ]; then
     need_ncroute
     "$bench/lookup.py" "$NCROUTE" "${ROUNDS:-7}"
@@ -144,10 +138,10 @@ elif [ "$wanted" = diff ]; then
     "$bench/diff.py" "$NCROUTE" "${ROUNDS:-7}"
 elif [ "$wanted" = bird ]; then
     need_ncroute
-    need_filter_bench
-    "$bench/bird.py" "$BENCH_FILTER" "$NCROUTE" "${ROUNDS:-7}"
+    need_bench_parts
+    "$bench/bird.py" "$BENCH_PARTS" "$NCROUTE" "${ROUNDS:-7}"
 elif [ "$wanted" != eval ]; then
-    need_filter_bench
+    need_bench_parts
     inputs=()
     for name_rounds in accept_alone=1000 add_two_and_clip=500 set_of_1024=20 case_of_64=20 straight_filter=5; do
         "$bench/generate.py" "${name_rounds%=*}" 20000 1 64 >"$folder/${name_rounds%=*}"
@@ -159,5 +153,5 @@ elif [ "$wanted" != eval ]; then
         gcc -O3 -o "$in_c" "$bench/baseline/machines.c"
     fi
     [ "$wanted" = instructions ] && measure=instructions || measure="${ROUNDS:-7}"
-    "$bench/machines.py" "$BENCH_FILTER" "$folder/plain" "$in_c" "$measure" "${inputs[@]}"
+    "$bench/machines.py" "$BENCH_PARTS" "$folder/plain" "$in_c" "$measure" "${inputs[@]}"
 fi

@@ -1,9 +1,12 @@
-//! What tests expect. A test fails where something else is there, and its failure names both.
+//! What tests expect, and numbers that look random. A test fails where something else is there, and its failure names both.
 //!
 //! The proof of a test takes longer for each assertion in it, above all for one with a message. So tests call these
 //! functions, which are proved once.
 #![tactic(auto)]
 
+mod numbers;
+
+pub use numbers::Numbers;
 use std::alloc::Global;
 use std::fmt::Display;
 use std::str;
@@ -73,4 +76,26 @@ pub fn expect_fault<T: Display>(
 ) -> Result<(), Fail> {
     let line = fault_line(alloc, code, at, fault)?;
     expect_str(line.as_str(), wanted)
+}
+
+/// What a call answered: whether that is what it answers with ample memory, or the code of its refusal.
+pub type Answered = Result<bool, &'static str>;
+
+/// Expects that a call answered as it does with ample memory, or was refused memory, as this code tells: whether it was refused.
+pub fn is_refused(name: &str, code: &str, answered: Answered) -> Result<bool, Fail> {
+    match answered {
+        Ok(is_so) => {
+            expect(is_so, name)?;
+            Ok(false)
+        }
+        Err(found) => {
+            expect_str(found, code)?;
+            Ok(true)
+        }
+    }
+}
+
+/// The failure of a test whose call was refused memory, and answered as it should. `scripts/check_memory.py` counts these by the call.
+pub fn refused(name: &str, code: &str) -> Fail {
+    Fail::new(format_args!("{name} answered {code}"))
 }

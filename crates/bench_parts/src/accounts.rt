@@ -1,0 +1,122 @@
+//! What a caller of a router came to.
+
+use crate::input::Step;
+use crate::waits::Waits;
+use filter_verifier::Verified;
+use netchange_core::{Event, Reply};
+use std::alloc::Global;
+use std::sync::Arc;
+
+/// Numbers with their names.
+pub type Counts = Vec<(&'static str, u64)>;
+
+/// What all replies to a caller said, so that two routers can be compared; how long calls took; and the session of each neighbour, by node.
+#[derive(Drop)]
+pub struct Account {
+    pub events: u64,
+    refused: u64,
+    changed: u64,
+    messages: u64,
+    distances: u64,
+    pub waits: Waits,
+    sessions: Vec<u32>,
+}
+
+/// The neighbour whose session the event of a step names; any node where it names none.
+fn neighbour_of(step: Step) -> u16 {
+    match step {
+        Step::Up(node) | Step::Down(node) | Step::Take(node) | Step::Show(node) => node,
+        Step::Receive(node, _, _) => node,
+        Step::SetImport(node, _) | Step::SetExport(node, _) => node,
+    }
+}
+
+impl Account {
+    /// No replies yet, with these sessions.
+    pub fn new(sessions: Vec<u32>) -> Account {
+        Account {
+            events: 0,
+            refused: 0,
+            changed: 0,
+            messages: 0,
+            distances: 0,
+            waits: Waits::new(),
+            sessions,
+        }
+    }
+
+    /// No replies yet, with the same sessions.
+    pub fn another(&self, alloc: Global) -> Option<Account> {
+        Some(Account::new(self.sessions.as_slice().to_vec(alloc).ok()?))
+    }
+
+    /// The event of a step.
+    pub fn event(&self, step: Step, filters: &[Arc<Verified>]) -> Option<Event> {
+        let node = usize::from(neighbour_of(step));
+        let session = *self.sessions.get(node).unwrap_or(&0);
+        match step {
+            Step::Up(node) => Some(Event::Up(node)),
+            Step::Down(_) => Some(Event::Down(session)),
+            Step::Receive(_, dest, dist) => Some(Event::Receive(session, dest, dist)),
+            Step::Take(_) => Some(Event::Take(session, u16::MAX)),
+            Step::SetImport(node, filter) => Some(Event::SetImport(
+                node,
+                filters.get(filter)?.clone().ok()?,
+            )),
+            Step::SetExport(node, filter) => Some(Event::SetExport(
+                node,
+                filters.get(filter)?.clone().ok()?,
+            )),
+            Step::Show(node) => Some(Event::Show(node)),
+        }
+    }
+
+    /// Adds the reply to a step.
+    pub fn add(&mut self, step: Step, reply: &Reply) {
+        self.events = self.events.wrapping_add(1);
+        match reply {
+            Reply::Opened(session) => {
+                if let Some(kept) = self.sessions.get_mut(usize::from(neighbour_of(step))) {
+                    *kept = *session;
+                }
+            }
+            Reply::Done { changed } => self.changed = self
+                .changed
+                .wrapping_add(u64::from(*changed)),
+            Reply::Messages(messages) => {
+                for message in messages.as_slice() {
+                    self.messages = self.messages.wrapping_add(1);
+                    self.distances = self.distances.wrapping_add(u64::from(message.dist));
+                }
+            }
+            Reply::Route { dist, via: _ } => self.distances = self
+                .distances
+                .wrapping_add(u64::from(*dist)),
+            Reply::Refused(_) => self.refused = self.refused.wrapping_add(1),
+        }
+    }
+
+    /// Adds what another caller came to.
+    pub fn merge(&mut self, other: &Account) {
+        self.events = self.events.wrapping_add(other.events);
+        self.refused = self.refused.wrapping_add(other.refused);
+        self.changed = self.changed.wrapping_add(other.changed);
+        self.messages = self.messages.wrapping_add(other.messages);
+        self.distances = self.distances.wrapping_add(other.distances);
+        self.waits.merge(&other.waits);
+    }
+
+    /// What is told of it, with the tail of the times of calls if these were taken.
+    pub fn counts(&self, alloc: Global, is_timed: bool) -> Option<Counts> {
+        let counts = [
+            ("events", self.events),
+            ("refused", self.refused),
+            ("changed", self.changed),
+            ("messages", self.messages),
+            ("distances", self.distances),
+            ("tail", self.waits.tail()),
+        ];
+        let told = if is_timed { 6 } else { 5 };
+        counts.get(..told)?.to_vec(alloc).ok()
+    }
+}

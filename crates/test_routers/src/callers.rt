@@ -1,0 +1,189 @@
+//! Who calls a router in a test.
+
+ghost use Rattle.std.specs.Prelude.{◌<◌, IfOk};
+ghost use Rattle.slot_lock.specs.Held.{IsFirst, IsPassOf};
+
+use netchange_core::{Event, Opening};
+use prefix_patterns::{Ip, Prefix};
+use route_history::{CallFault, Journal};
+use route_session::{Gate, Link, ReadEnd, WriteEnd, read_session, write_session};
+use slot_lock::{Answer, Pass, Router, TryFault};
+use std::alloc::Global;
+use std::marker::Model;
+use std::rt::Clock;
+use std::sync::Wait;
+use std::test::Fail;
+use std::thread;
+
+/// What node 0 of a domain of so many nodes opens with. The nodes' prefixes are 10.V.0.0/16.
+pub fn opening(alloc: Global, size: u16) -> Result<Opening, Fail> {
+    let mut prefixes = Vec::new(alloc);
+    for node in 0..size {
+        let address = Ip(0x0a00_0000 + 0x1_0000 * u32::from(node % 256));
+        prefixes.push(Prefix::new(address, 16).ok_or("16 bits")?)?;
+    }
+    Ok(Opening::new(size, 0, prefixes).ok_or("a domain")?)
+}
+
+/// The router of node 0 of so many, with a history of so many entries at most, and its first pass.
+pub fn open(alloc: Global, size: u16, limit: u32) -> Result<(Router, Pass), Fail>
+    ensures { IfOk result (λ r. IsFirst r.0 r.1) }
+{
+    let journal = Journal::open(alloc, opening(alloc, size)?, limit.clamp(1, 1_000_000))?;
+    match Router::open(alloc, journal) {
+        Ok(opened) => Ok(opened),
+        Err(fault) => Err(Fail::from(fault)),
+    }
+}
+
+/// How a caller enters an event.
+#[derive(Clone, Copy)]
+pub enum Way {
+    /// It tries once.
+    Try,
+    /// It tries again and again, as long as the lock is taken.
+    TryAgain,
+    /// It waits for the lock.
+    Call,
+}
+
+/// Who calls a router, by a pass of its own. That the pass is one of the router is no matter of contracts here, so that a test knows nothing
+/// of passes.
+#[derive(Drop)]
+pub struct Caller<'a> {
+    router: &'a Router,
+    pass: Pass,
+}
+
+impl<'a> Model for Caller<'a> {
+    ghost use Rattle.slot_lock.specs.Held.{IsPassOf, PassView};
+
+    ghost Value = { PassView };
+
+    ghost view = { λ c. c.pass };
+
+    ghost invariant = { λ c. IsPassOf c.router.now c.pass };
+}
+
+impl<'a> Caller<'a> {
+    /// A caller by 30,000 shares of a pass.
+    pub fn of(router: &'a Router, pass: &mut Pass) -> Caller<'a>
+        requires of { IsPassOf router.now pass.old }
+        requires shares { 30000 < pass.old.part.shares }
+        ensures { IsPassOf router.now pass.new }
+    {
+        Caller {
+            router,
+            pass: router.split(pass, 30_000),
+        }
+    }
+
+    /// The router and the pass of the caller.
+    pub fn parts(self) -> (&'a Router, Pass)
+        ensures { IsPassOf result.0.now result.1 }
+    {
+        let Caller { router, pass } = self;
+        (router, pass)
+    }
+
+    /// The shares of the caller's pass.
+    pub fn shares(&self) -> u32 {
+        self.pass.shares()
+    }
+
+    /// Another caller, by so many shares of this one's pass. None where that has no more.
+    pub fn split(&mut self, shares: u32) -> Option<Caller<'a>> {
+        if shares == 0 || self.pass.shares() <= shares {
+            return None;
+        }
+        Some(Caller {
+            router: self.router,
+            pass: self.router.split(&mut self.pass, shares),
+        })
+    }
+
+    /// Enters an event once the lock is free.
+    pub fn call<R: Wait>(&mut self, rt: &R, event: Event) -> Result<Answer, CallFault> {
+        self.router.call(rt, &mut self.pass, event)
+    }
+
+    /// Enters an event, if the lock is free.
+    pub fn try_call(&mut self, event: Event) -> Result<Answer, TryFault> {
+        self.router.try_call(&mut self.pass, event)
+    }
+
+    /// Enters an event by tries. One that comes back, since the lock was taken, is tried again.
+    fn try_again<R: Wait>(&mut self, rt: &R, event: Event) -> Option<Answer> {
+        let mut event = event;
+        for _ in rt.forever() {
+            match self.try_call(event) {
+                Ok(answer) => return Some(answer),
+                Err(TryFault::Busy(back)) => event = back,
+                Err(_) => return None,
+            }
+            thread::yield_now();
+        }
+        unreachable!()
+    }
+
+    /// Enters an event in a way. None where it is refused.
+    pub fn enter<R: Wait>(&mut self, rt: &R, way: Way, event: Event) -> Option<Answer> {
+        match way {
+            Way::Try => self.try_call(event).ok(),
+            Way::TryAgain => self.try_again(rt, event),
+            Way::Call => self.call(rt, event).ok(),
+        }
+    }
+
+    /// Brings neighbours 1 to `last` up, in sessions 1 to `last`.
+    pub fn bring_up<R: Wait>(&mut self, rt: &R, last: u16) -> Result<(), Fail> {
+        for node in 0..last {
+            let _answer = self.call(rt, Event::Up(node.saturating_add(1)))?;
+        }
+        Ok(())
+    }
+
+    /// Reads a link in a session.
+    pub fn read<R: Wait + Clock, L: Link, G: Gate>(
+        &mut self,
+        rt: &R,
+        session: u32,
+        link: &mut L,
+        gate: &G,
+        turns: u32,
+    ) -> ReadEnd {
+        read_session(
+            rt,
+            self.router,
+            &mut self.pass,
+            session,
+            link,
+            gate,
+            0,
+            turns,
+        )
+    }
+
+    /// Writes to a link in a session.
+    pub fn write<R: Wait + Clock, L: Link, G: Gate>(
+        &mut self,
+        rt: &R,
+        alloc: Global,
+        session: u32,
+        link: &mut L,
+        gate: &G,
+        turns: u32,
+    ) -> WriteEnd {
+        write_session(
+            rt,
+            alloc,
+            self.router,
+            &mut self.pass,
+            session,
+            link,
+            gate,
+            0,
+            turns,
+        )
+    }
+}
