@@ -233,4 +233,3 @@ fn a_code_file_at_all_limits(rt: HostRuntime) -> Result<(), Fail> {
         "one byte more",
     )
 }
-

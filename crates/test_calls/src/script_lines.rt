@@ -41,5 +41,8 @@ fn reads_commands(rt: HostRuntime) -> Result<(), Fail> {
         &code,
         Command::Code { name, bytes } if *name == b"A".as_slice() && bytes.as_slice() == b"NC\xff".as_slice()
     );
-    expect(is_load && is_prefix && is_code, "a text, a prefix and a code file")
+    expect(
+        is_load && is_prefix && is_code,
+        "a text, a prefix and a code file",
+    )
 }

@@ -59,7 +59,10 @@ fn answers_no_line_whose_entry_is_not_saved(rt: HostRuntime) -> Result<(), Fail>
         let mut reader = LINES;
         let (result, answers, saved) = run(rt.alloc(), &mut reader, room);
         let is_begun = ANSWERS.starts_with(&answers) && SAVED.get(..room) == Some(saved.text());
-        expect(result == Err(ScriptFault::Write) && is_begun, "a saver that fails")?;
+        expect(
+            result == Err(ScriptFault::Write) && is_begun,
+            "a saver that fails",
+        )?;
     }
     Ok(())
 }

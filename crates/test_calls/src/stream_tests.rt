@@ -46,11 +46,7 @@ const CUT_INPUTS: [Row; 4] = [
         b"accept 3\n",
     ),
     (Engine::Check, b"filter q { accept; }", b""),
-    (
-        Engine::Script,
-        b"network 4 0\nup 1\nsh",
-        b"ok\nopened 1\n",
-    ),
+    (Engine::Script, b"network 4 0\nup 1\nsh", b"ok\nopened 1\n"),
 ];
 
 /// Faults that are no interruption. A reader that would have to wait fails as any other does.
@@ -116,7 +112,10 @@ fn expect_write_faults(alloc: Global, row: &Row, rooms: &[usize]) -> Result<(), 
         let mut writer = FailingWriter::new(alloc, *room);
         let ended = run(alloc, *engine, &mut reader, &mut writer);
         expect(ended == Err("E2"), "an output that fails")?;
-        expect(answers.get(..*room) == Some(writer.text()), "the first answers")?;
+        expect(
+            answers.get(..*room) == Some(writer.text()),
+            "the first answers",
+        )?;
     }
     Ok(())
 }
@@ -129,54 +128,46 @@ fn outputs_that_fail_are_told(rt: HostRuntime) -> Result<(), Fail> {
     Ok(())
 }
 
-/// What is read at once, and what has to be written before the next read.
-type Typed = &'static [(&'static [u8], &'static [u8])];
-
-/// Engines, and what is typed for them. One line of each is refused.
-const TYPED: [(Engine, Typed); 3] = [
-    (
-        Engine::Echo,
-        &[
-            (b"a\n", b"1 a\n"),
-            (b"b\n!c\nbeg", b"2 b\nrefused O9 3\n"),
-            (b"un\n", b"4 begun\n"),
-            (b"# d\n", b""),
-            (b"e", b""),
-        ],
-    ),
-    (
-        Engine::Eval,
-        &[
-            (b"4e4346310000000170\n", b""),
-            (b"10.0.0.0/8 3 8\n", b"accept 3\n"),
-            (
-                b"10.0.0.0/8 4\n10.0.0.0/8 5 8\n",
-                b"refused O1 3\naccept 5\n",
-            ),
-            (b"# the end\n", b""),
-        ],
-    ),
-    (
-        Engine::Script,
-        &[
-            (b"network 4 0\n", b"ok\n"),
-            (b"up 1\n", b"opened 1\n"),
-            (b"# no answer\n", b""),
-            (
-                b"take 1\nshow 9\n",
-                b"messages 0:0 1:4 2:4 3:4\nrefused N4 2\n",
-            ),
-            (b"load F filter f { reject; }\n", b"verified 1 0\n"),
-        ],
-    ),
+/// What is read at once, and what has to be written before the next read. One line of each is refused.
+const ECHOED: &[(&[u8], &[u8])] = &[
+    (b"a\n", b"1 a\n"),
+    (b"b\n!c\nbeg", b"2 b\nrefused O9 3\n"),
+    (b"un\n", b"4 begun\n"),
+    (b"# d\n", b""),
+    (b"e", b""),
 ];
+
+const EVALUATED: &[(&[u8], &[u8])] = &[
+    (b"4e4346310000000170\n", b""),
+    (b"10.0.0.0/8 3 8\n", b"accept 3\n"),
+    (
+        b"10.0.0.0/8 4\n10.0.0.0/8 5 8\n",
+        b"refused O1 3\naccept 5\n",
+    ),
+    (b"# the end\n", b""),
+];
+
+const COMMANDED: &[(&[u8], &[u8])] = &[
+    (b"network 4 0\n", b"ok\n"),
+    (b"up 1\n", b"opened 1\n"),
+    (b"# no answer\n", b""),
+    (
+        b"take 1\nshow 9\n",
+        b"messages 0:0 1:4 2:4 3:4\nrefused N4 2\n",
+    ),
+    (b"load F filter f { reject; }\n", b"verified 1 0\n"),
+];
+
+/// Expects that an engine answers each line before it reads the next.
+fn expect_answered(alloc: Global, engine: Engine, terminal: Terminal) -> Result<(), Fail> {
+    let ended = run(alloc, engine, &mut &terminal, &mut &terminal);
+    expect(ended == Ok(1), "each answer comes before the next line")
+}
 
 #[test]
 fn answers_come_before_the_next_line(rt: HostRuntime) -> Result<(), Fail> {
-    for (engine, typed) in &TYPED {
-        let terminal = Terminal::new(rt.alloc(), *typed);
-        let ended = run(rt.alloc(), *engine, &mut &terminal, &mut &terminal);
-        expect(ended == Ok(1), "each answer comes before the next line")?;
-    }
-    Ok(())
+    let alloc = rt.alloc();
+    expect_answered(alloc, Engine::Echo, Terminal::new(alloc, ECHOED))?;
+    expect_answered(alloc, Engine::Eval, Terminal::new(alloc, EVALUATED))?;
+    expect_answered(alloc, Engine::Script, Terminal::new(alloc, COMMANDED))
 }

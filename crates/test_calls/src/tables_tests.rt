@@ -176,4 +176,3 @@ fn entries_say(rt: HostRuntime) -> Result<(), Fail> {
     }
     expect_number(journal.entries().len() as u64, 10)
 }
-

@@ -33,6 +33,7 @@ fn places_are_those_of_an_editor(_rt: HostRuntime) -> Result<(), Fail> {
 
 /// A filter and its listing.
 const ACCEPT: &[u8] = b"filter a { accept; }";
+
 const LISTING: &[u8] = b"0 ACCEPT ; 1:12\n1 REJECT ; 1:20\n";
 
 /// A text is listed, and a writer that takes no more is told.

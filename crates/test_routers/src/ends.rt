@@ -14,12 +14,16 @@ use std::sync::Wait;
 use std::test::Fail;
 
 /// Messages that a router of four nodes enters.
-pub const FOUR: [Message; 4] = [
-    Message { dest: 1, dist: 0 },
-    Message { dest: 2, dist: 1 },
-    Message { dest: 3, dist: 2 },
-    Message { dest: 1, dist: 1 },
-];
+pub const FIRST: Message = Message { dest: 1, dist: 0 };
+
+pub const SECOND: Message = Message { dest: 2, dist: 1 };
+
+pub const THIRD: Message = Message { dest: 3, dist: 2 };
+
+pub const FOURTH: Message = Message { dest: 1, dist: 1 };
+
+/// All of them.
+pub const FOUR: [Message; 4] = [FIRST, SECOND, THIRD, FOURTH];
 
 /// Messages, one of which is about no node of the domain.
 const THREE: [Message; 3] = [
@@ -305,7 +309,7 @@ fn closed_links(rt: HostRuntime) -> Result<(), Fail> {
     let mut link = MemoryLink::new(rt.alloc(), FOUR.to_vec(rt.alloc())?, None);
     link.close();
     let has_ended = link.is_closed() && link.recv(&rt) == Ok(Got::Ended);
-    let fails = link.send(&rt, FOUR[0]) == Err(LinkFault) && link.given().is_empty();
+    let fails = link.send(&rt, FIRST) == Err(LinkFault) && link.given().is_empty();
     expect(
         has_ended && fails,
         "a closed link has ended and takes nothing",

@@ -202,16 +202,15 @@ const LOOKS: Work = Work {
 };
 
 /// A caller that tells of distances under session 1, and one under session 2.
-const TELLS: [Work; 2] = [
-    Work {
-        kind: Kind::Tell(1),
-        ways: &[Way::TryAgain],
-    },
-    Work {
-        kind: Kind::Tell(2),
-        ways: &[Way::TryAgain],
-    },
-];
+const TELLS_FIRST: Work = Work {
+    kind: Kind::Tell(1),
+    ways: &[Way::TryAgain],
+};
+
+const TELLS_SECOND: Work = Work {
+    kind: Kind::Tell(2),
+    ways: &[Way::TryAgain],
+};
 
 /// Each of the crowds: one that tries alone, two that look, one that tries events of each kind until they are entered beside one that waits,
 /// and two that look beside two that tell.
@@ -248,7 +247,7 @@ const CROWDS: [Crowd; 4] = [
     },
     Crowd {
         ups: 2,
-        works: &[LOOKS, TELLS[0], LOOKS, TELLS[1]],
+        works: &[LOOKS, TELLS_FIRST, LOOKS, TELLS_SECOND],
         calls: 100,
         kinds: [2, 200, 0, 200, 0, 0, 0],
     },

@@ -3,7 +3,7 @@
 
 use crate::callers::{Caller, open};
 use crate::crews::{Auditor, Crew};
-use crate::ends::FOUR;
+use crate::ends::{FIRST, FOUR, SECOND, THIRD};
 use crate::gates::{MeetingGate, NotingGate, OpenGate};
 use crate::histories::expect_replay;
 use expectations::{expect, expect_fault, expect_number};
@@ -111,9 +111,9 @@ fn run<R: Threads + Wait + Clock + Sync, G: Gate + Sync>(
 /// Readers of session 1, of which the first has no message, the second one, and so on up to four.
 const READERS: &[Job] = &[
     (Role::Reader, 1, &[]),
-    (Role::Reader, 1, &[FOUR[0]]),
-    (Role::Reader, 1, &[FOUR[0], FOUR[1]]),
-    (Role::Reader, 1, &[FOUR[0], FOUR[1], FOUR[2]]),
+    (Role::Reader, 1, &[FIRST]),
+    (Role::Reader, 1, &[FIRST, SECOND]),
+    (Role::Reader, 1, &[FIRST, SECOND, THIRD]),
     (Role::Reader, 1, &FOUR),
 ];
 

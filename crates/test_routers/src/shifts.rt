@@ -106,5 +106,5 @@ fn operate_all<'a, R: Threads + Wait + Sync>(
     operators: Vec<Operator<'a>>,
     filters: &[Arc<Verified>],
 ) -> Option<Vec<Option<Operator<'a>>>> {
-    thread::map_vec(rt, operators, &|one: Operator<'a>| one.operate(rt, filters)).ok()
+    thread::map_vec(rt, operators, &|one: Operator<'_>| one.operate(rt, filters)).ok()
 }

@@ -28,51 +28,53 @@ const SIZE: u16 = 8;
 /// The shifts of a router. They make about 7,000 entries.
 const SHIFTS: u32 = 12;
 
-/// The filters that operators replace by one another: all, none, those of a set with a metric below 5, and two farther, up to 7.
-const FILTERS: [&[Instr]; 4] = [
-    &[Instr::Accept],
-    &[Instr::Reject],
-    &[
-        Instr::Net,
-        Instr::Member(0),
-        Instr::JumpIfNot(5),
-        Instr::Metric,
-        Instr::Int(5),
-        Instr::Lt,
-        Instr::JumpIfNot(1),
-        Instr::Accept,
-        Instr::Reject,
-    ],
-    &[
-        Instr::Metric,
-        Instr::Int(2),
-        Instr::Add,
-        Instr::Received,
-        Instr::Max,
-        Instr::SetMetric,
-        Instr::Metric,
-        Instr::Int(7),
-        Instr::Le,
-        Instr::JumpIfNot(1),
-        Instr::Accept,
-        Instr::Reject,
-    ],
+/// Accepts the routes of a set with a metric below 5.
+const SOME: [Instr; 9] = [
+    Instr::Net,
+    Instr::Member(0),
+    Instr::JumpIfNot(5),
+    Instr::Metric,
+    Instr::Int(5),
+    Instr::Lt,
+    Instr::JumpIfNot(1),
+    Instr::Accept,
+    Instr::Reject,
 ];
 
-/// A filter of these instructions and the set [10.0.0.0/14{16,16}].
-fn filter(alloc: Global, instrs: &[Instr], size: u16) -> Option<Arc<Verified>> {
+/// Makes routes farther by 2, and accepts them up to 7.
+const FARTHER: [Instr; 12] = [
+    Instr::Metric,
+    Instr::Int(2),
+    Instr::Add,
+    Instr::Received,
+    Instr::Max,
+    Instr::SetMetric,
+    Instr::Metric,
+    Instr::Int(7),
+    Instr::Le,
+    Instr::JumpIfNot(1),
+    Instr::Accept,
+    Instr::Reject,
+];
+
+/// Adds a filter of these instructions and the set [10.0.0.0/14{16,16}].
+fn add(alloc: Global, filters: &mut Vec<Arc<Verified>>, instrs: &[Instr], size: u16) -> Option<()> {
     let pattern = Pattern::new(Prefix::new(Ip(0x0a00_0000), 14)?, 16, 16)?;
     let set = PatternSet::build(alloc, &[pattern]).ok()?;
-    verified(alloc, vec![in alloc; set].ok()?, instrs, u32::from(size))
+    let sets = vec![in alloc; set].ok()?;
+    filters
+        .push(verified(alloc, sets, instrs, u32::from(size))?)
+        .ok()
 }
 
-/// All filters, and one that is for another domain, which a router refuses.
+/// The filters that operators replace by one another: all, none, some and farther, and one that is for another domain, which a router refuses.
 fn filters(alloc: Global) -> Option<Vec<Arc<Verified>>> {
     let mut filters = Vec::new(alloc);
-    for instrs in &FILTERS {
-        filters.push(filter(alloc, instrs, SIZE)?).ok()?;
-    }
-    filters.push(filter(alloc, FILTERS[0], SIZE + 1)?).ok()?;
+    add(alloc, &mut filters, &[Instr::Accept], SIZE)?;
+    add(alloc, &mut filters, &[Instr::Reject], SIZE)?;
+    add(alloc, &mut filters, &SOME, SIZE)?;
+    add(alloc, &mut filters, &FARTHER, SIZE)?;
+    add(alloc, &mut filters, &[Instr::Accept], SIZE + 1)?;
     Some(filters)
 }
 
