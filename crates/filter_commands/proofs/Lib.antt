@@ -8,4 +8,3 @@ pub mod Rewritten
 pub mod RouteLines
 mod Rows
 pub mod Saying
-pub mod Viewed

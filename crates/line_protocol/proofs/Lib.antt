@@ -5,4 +5,5 @@ pub mod FeedLemmas
 pub mod RunLemmas
 pub mod EngineLemmas
 pub mod WholeLemmas
+pub mod Viewed
 pub mod Rows

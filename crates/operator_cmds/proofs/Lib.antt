@@ -7,7 +7,6 @@ pub mod Entering
 pub mod Growing
 pub mod Going
 pub mod Alike
-pub mod Viewed
 pub mod Unended
 pub mod Ending
 mod PlainLines

@@ -9,7 +9,7 @@ use Rattle.line_protocol.specs.Limits.{input_limit}
 use Rattle.line_protocol.specs.Runs.{Finishes, Reaches, Runs, RunsFront, Stops}
 use Rattle.line_protocol.specs.declared.faults.StreamFault.{StreamFault}
 use Rattle.line_protocol.specs.declared.faults.StreamFault.TheVariants.{Read, Write, Memory, TooLong}
-use Rattle.operator_cmds.proofs.Viewed.{if_known}
+use Rattle.line_protocol.proofs.Viewed.{if_known}
 use Rattle.script_runs.specs.Naming.{PreparedView, fresh_with}
 use Rattle.script_runs.specs.News.{IsToldOf}
 use Rattle.script_runs.specs.Running.{IsSaved, IsSavedInPart, IsSavedUntil}

@@ -2,7 +2,7 @@
 use Rattle.std.proofs.lemmas.Result.{IfErr-weaker, IfOk-weaker}
 use Rattle.std.specs.Prelude.{None}
 use Rattle.operator_cmds.proofs.Unended.{broken_off, carried_out}
-use Rattle.operator_cmds.proofs.Viewed.{finishes, if_known, stops}
+use Rattle.line_protocol.proofs.Viewed.{finishes, if_known, stops}
 use Rattle.domain_cmds.specs.Script.{AnswersLine}
 use Rattle.domain_cmds.proofs.Ending.{goes_on}
 use Rattle.domain_cmds.proofs.engine.run_watched_domain.Goals as goal

@@ -6,7 +6,7 @@ use Rattle.filter_commands.specs.Faults.{stream_fault}
 use Rattle.filter_commands.specs.Steps.{AnswersLine}
 use Rattle.filter_commands.specs.declared.fault.ProgramFault.TheVariants.{Stream}
 use Rattle.filter_commands.proofs.Endings.{breaks_at_refusal, breaks_off, ends_empty, ends_well, if_answered, if_known, if_refused, no_code_is_none, silent_run, some_code_is_some}
-use Rattle.filter_commands.proofs.Viewed.{finishes, stops}
+use Rattle.line_protocol.proofs.Viewed.{finishes, stops}
 use Rattle.filter_commands.proofs.eval.eval_watched_lines.Goals as goal
 use Rattle.filter_commands.proofs.eval.eval_watched_lines.Goals.{else-refused-eq0-via-then-refused-eq0+else-is_awaiting, else-refused-eq0-via-else-refused-eq0}
 

@@ -3,7 +3,7 @@ use Rattle.std.proofs.Common.{refl}
 use Rattle.filter_source.proofs.Refused.{of_error}
 use Rattle.filter_commands.proofs.Endings.{if_known}
 use Rattle.filter_commands.specs.declared.fault.ProgramFault.TheVariants.{Stream}
-use Rattle.filter_commands.proofs.Viewed.{finishes, stops}
+use Rattle.line_protocol.proofs.Viewed.{finishes, stops}
 use Rattle.filter_tools.proofs.Answered.{answers, breaks_off, ends_well}
 use Rattle.filter_tools.proofs.filter.answer_routes.Goals as goal
 

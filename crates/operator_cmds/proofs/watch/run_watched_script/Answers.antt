@@ -5,7 +5,7 @@ use Rattle.operator_cmds.specs.State.{script_of}
 use Rattle.operator_cmds.specs.declared.watch.Watched.{Watched}
 use Rattle.operator_cmds.proofs.Ending.{goes_on}
 use Rattle.operator_cmds.proofs.Unended.{broken_off, carried_out}
-use Rattle.operator_cmds.proofs.Viewed.{finishes, if_known, stops}
+use Rattle.line_protocol.proofs.Viewed.{finishes, if_known, stops}
 use Rattle.operator_cmds.proofs.watch.run_watched_script.Goals as goal
 
 pub returns-clause-finished : goal.returns-clause-finished

@@ -1,7 +1,7 @@
 -- Each end follows from how the lines were answered.
 use Rattle.std.proofs.Common.{false}
 use Rattle.std.proofs.lemmas.Result.{IfErr-weaker, IfOk-weaker}
-use Rattle.operator_cmds.proofs.Viewed.{finishes, if_known, stops}
+use Rattle.line_protocol.proofs.Viewed.{finishes, if_known, stops}
 use Rattle.script_runs.specs.Saved.{AnswersSaved, SavedView}
 use Rattle.script_runs.specs.State.{prepared_of}
 use Rattle.script_runs.proofs.Ended.{breaks, ends, told_err, told_ok}

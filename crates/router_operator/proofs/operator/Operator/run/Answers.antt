@@ -1,6 +1,6 @@
 -- Each end follows from how the lines were answered.
 use Rattle.std.proofs.lemmas.Result.{IfErr-weaker, IfOk-weaker}
-use Rattle.operator_cmds.proofs.Viewed.{if_known}
+use Rattle.line_protocol.proofs.Viewed.{if_known}
 use Rattle.router_operator.proofs.Ending.{broken_off, served}
 use Rattle.router_operator.proofs.operator.Operator.run.Goals as goal
 
