@@ -1,4 +1,3 @@
-pub mod Fitting
 pub mod Openings
 pub mod Answering
 pub mod Naming

@@ -4,7 +4,7 @@ use Rattle.std.specs.Option.{IsSome, SomeIff}
 use Rattle.std.proofs.lemmas.Bool.Decides.{nat_tests}
 use Rattle.filter_code.specs.Limits.{smallest_size, largest_size}
 use Rattle.netchange_core.specs.OpeningView.{IsOpening}
-use Rattle.operator_cmds.specs.Commands.{is_network}
+use Rattle.operator_cmds.specs.Networks.{is_network}
 use Rattle.operator_cmds.specs.Domain.{default_prefix, default_prefixes}
 
 length-default_prefixes : (v : ℕ) → length (default_prefixes v) ≡ v

@@ -30,7 +30,7 @@ pub data CommandView : Type 0 where
   History : ℕ → CommandView
 
 abbrev pub view_of : Command → CommandView
-view_of (command.Network size me limit) = Network size me limit
+view_of (command.Network n) = Network n.size n.me n.limit
 view_of (command.Prefix node prefix) = Prefix node prefix
 view_of (command.Load name text) = Load name.now text.now
 view_of (command.Code name bytes) = Code name.now bytes.items

@@ -1,6 +1,5 @@
 -- What command a line gives, or the first thing that is wrong with it. (This project's own choice.)
 use Rattle.std.specs.Prelude.{ℕ, Bool, ◌&&◌, List, [], ◌∷◌, length, nat_le, nat_lt, Option, Some, None, Result, Ok, Err, if◌then◌else◌}
-use Rattle.filter_code.specs.Limits.{smallest_size, largest_size}
 use Rattle.hex.specs.Hex.{decode_of}
 use Rattle.hex.specs.declared.error.FromHexError.{FromHexError}
 use Rattle.line_protocol.specs.Limits.{line_limit}
@@ -9,6 +8,7 @@ use Rattle.prefix_patterns.specs.Reading.{number_in, prefix_in}
 use Rattle.operator_cmds.specs.CommandView.{CommandView, Network, Prefix, Load, Code, Import, Export, Up, Down, Receive, Take, Show, Look, History}
 use Rattle.operator_cmds.specs.Limits.{number_limit, largest_limit}
 use Rattle.operator_cmds.specs.Names.{is_name}
+use Rattle.operator_cmds.specs.Networks.{is_network}
 use Rattle.operator_cmds.specs.Verbs.{verb_in}
 use Rattle.operator_cmds.specs.WordLists.{after_word, one_of, two_of, three_of}
 use Rattle.operator_cmds.specs.declared.command.Look.{Look as TablesLook}
@@ -21,10 +21,6 @@ use Rattle.operator_cmds.specs.declared.verb.Verb.TheVariants as verb
 -- a command, or what is wrong with its line
 abbrev pub Read : Type 0
 Read = Result CommandView CommandFault
-
--- a domain has 2 to 250 nodes, the router is one of them, and a history has at least one entry
-abbrev pub is_network : ℕ → ℕ → Bool
-is_network size me = nat_le smallest_size size && nat_le size largest_size && nat_lt me size
 
 abbrev pub network_parts : Option ℕ → Option ℕ → Read
 network_parts None me = Err fault.Numbers

@@ -4,6 +4,7 @@ pub mod Faults
 pub mod Verbs
 pub mod Names
 pub mod WordLists
+pub mod Networks
 pub mod CommandView
 pub mod Commands
 pub mod Readings

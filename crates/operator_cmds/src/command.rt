@@ -1,5 +1,22 @@
 //! A command of the script.
+ghost use Rattle.std.specs.Prelude.{◌≡◌, true};
+ghost use Rattle.std.proofs.Props.{props};
+ghost use Rattle.operator_cmds.specs.Networks.{IsLimit, is_network};
+
 use prefix_patterns::Prefix;
+
+/// The domain of a router, and the room of its history.
+#[derive(Clone, Copy, Debug)]
+pub struct Network {
+    /// The number of nodes, 2 to 250.
+    pub size: u16,
+    /// The node that the router is, below that.
+    pub me: u16,
+    /// The most entries of its history, 1 to 1,000,000; `None` if it is left out.
+    pub limit: Option<u32>,
+    ghost nodes: { is_network size me ≡ true },
+    ghost room: { IsLimit limit } by { Prim.hlevel props },
+}
 
 /// A look at the tables of a router.
 #[derive(Clone, Copy, Debug, PartialEq, Eq)]
@@ -16,14 +33,7 @@ pub enum Look {
 #[derive(Debug, Drop)]
 pub enum Command<'a> {
     /// `network N ME [LIMIT]`: a domain of N nodes, of which the router is ME, and the most entries of its history.
-    Network {
-        /// N, 2 to 250.
-        size: u16,
-        /// ME, below N.
-        me: u16,
-        /// LIMIT, 1 to 1,000,000; `None` if it is left out.
-        limit: Option<u32>,
-    },
+    Network(Network),
     /// `prefix V P`: the prefix of a node.
     Prefix {
         /// V; whether there is such a node is judged by the script.

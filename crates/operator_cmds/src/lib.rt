@@ -17,7 +17,7 @@ mod verb;
 mod watch;
 mod words;
 
-pub use command::{Command, Look};
+pub use command::{Command, Look, Network};
 pub use event::Direction;
 pub use fault::CommandFault;
 pub use filter::{NamedFilters, Source, give_name, name_source, verify_text};

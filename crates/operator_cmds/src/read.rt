@@ -4,11 +4,12 @@ ghost use Rattle.line_protocol.specs.Words.{words, without_front_blanks};
 ghost use Rattle.prefix_patterns.specs.Reading.{number_in};
 ghost use Rattle.operator_cmds.specs.Commands as spec;
 ghost use Rattle.operator_cmds.specs.Limits.{largest_limit, number_limit};
+ghost use Rattle.operator_cmds.specs.Networks as networks;
 ghost use Rattle.operator_cmds.specs.Readings.{IsCodeFault, IsRead, IsReadIn};
 ghost use Rattle.operator_cmds.specs.WordLists.{after_word, one_of, two_of, three_of};
 
 use crate::NUMBER_LIMIT;
-use crate::command::{Command, Look};
+use crate::command::{Command, Look, Network};
 use crate::fault::CommandFault;
 use crate::name::is_name;
 use crate::verb::{Verb, read_verb};
@@ -30,7 +31,7 @@ pub fn read_small(text: &[u8]) -> Option<u16>
 
 /// Whether a domain can have so many nodes and this one.
 fn is_network(size: u16, me: u16) -> bool
-    ensures { result ≡ spec.is_network size me }
+    ensures { result ≡ networks.is_network size me }
 {
     let nodes = u32::from(size);
     SMALLEST_SIZE <= nodes && nodes <= LARGEST_SIZE && me < size
@@ -49,11 +50,11 @@ fn read_network<'a>(size: &[u8], me: &[u8]) -> Result<Command<'a>, CommandFault>
     if !is_network(size, me) {
         return Err(CommandFault::Numbers);
     }
-    Ok(Command::Network {
+    Ok(Command::Network(Network {
         size,
         me,
         limit: None,
-    })
+    }))
 }
 
 /// `network N ME LIMIT`.
@@ -73,11 +74,11 @@ fn read_limited<'a>(size: &[u8], me: &[u8], limit: &[u8]) -> Result<Command<'a>,
     if !is_network(size, me) || limit == 0 {
         return Err(CommandFault::Numbers);
     }
-    Ok(Command::Network {
+    Ok(Command::Network(Network {
         size,
         me,
         limit: Some(limit),
-    })
+    }))
 }
 
 /// A `network` command by the bytes after its first word.

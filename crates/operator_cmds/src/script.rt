@@ -2,7 +2,7 @@
 ghost use Rattle.std.specs.Prelude.{◌≡◌, IfErr, IfOk, IfSome};
 ghost use Rattle.operator_cmds.specs.Running.{IsBrokenOff, IsCarriedOut};
 
-use crate::command::{Command, Look};
+use crate::command::{Command, Look, Network};
 use crate::event::{Direction, enter};
 use crate::fault::{CommandFault, StateFault};
 use crate::filter::{NamedFilters, Source, give_name, name_source};
@@ -65,7 +65,6 @@ impl Script {
     ghost use Rattle.std.specs.Prelude.{OnErr, OnOk};
     ghost use Rattle.std.specs.Io.{StartsWith};
     ghost use Rattle.operator_cmds.specs.CommandView.{view_of};
-    ghost use Rattle.operator_cmds.specs.Domain.{HasFitNumbers, IsDomain};
     ghost use Rattle.operator_cmds.specs.Entries.{open_journal};
     ghost use Rattle.operator_cmds.specs.Looks.{history_text, looked};
     ghost use Rattle.operator_cmds.specs.PlainLines.{plain_view};
@@ -203,15 +202,12 @@ impl Script {
         command: Command<'_>,
         out: &mut Vec<u8>,
     ) -> Result<Reply, AllocError>
-        requires { HasFitNumbers (view_of command) }
         ensures ok { IfOk result (Answers (λ answer. spec.AnswersCommand (script_of self.old) number (view_of command.entry) answer
             (script_of self.new)) out.old.items out.new.items) }
         ensures err { OnErr result (StartsWith out.new.items out.old.items) }
     {
         match command {
-            Command::Network { size, me, limit } => {
-                self.set_up(alloc, number, size, me, limit, out)
-            }
+            Command::Network(network) => self.set_up(alloc, number, network, out),
             Command::Prefix { node, prefix } => self.set_prefix(alloc, number, node, prefix, out),
             Command::Load { name, text } => {
                 self.load(alloc, number, name, Source::Text(text), out)
@@ -250,19 +246,16 @@ impl Script {
         &mut self,
         alloc: Global,
         number: u32,
-        size: u16,
-        me: u16,
-        limit: Option<u32>,
+        network: Network,
         out: &mut Vec<u8>,
     ) -> Result<Reply, AllocError>
-        requires { IsDomain size me limit }
-        ensures ok { IfOk result (Answers (λ answer. spec.AnswersNetwork (stage_of self.old.stage) number size me limit
-            (script_of self.old) answer (script_of self.new)) out.old.items out.new.items) }
+        ensures ok { IfOk result (Answers (λ answer. spec.AnswersNetwork (stage_of self.old.stage) number network.size network.me
+            network.limit (script_of self.old) answer (script_of self.new)) out.old.items out.new.items) }
         ensures err { OnErr result (StartsWith out.new.items out.old.items) }
     {
         match self.stage {
             Stage::Empty => {
-                self.stage = Stage::Setting(Setup::new(alloc, size, me, limit)?);
+                self.stage = Stage::Setting(Setup::new(alloc, network)?);
                 confirm(out)
             }
             Stage::Setting(_) | Stage::Open(_) => {

@@ -4,6 +4,7 @@ ghost use Rattle.prefix_patterns.specs.Bits.{prefix_bits};
 ghost use Rattle.operator_cmds.specs.Domain as spec;
 ghost use Rattle.operator_cmds.specs.Limits.{largest_limit};
 
+use crate::command::Network;
 use netchange_core::Opening;
 use prefix_patterns::{Ip, Prefix};
 use route_history::{Journal, LARGEST_LIMIT};
@@ -62,16 +63,16 @@ pub fn default_prefixes(alloc: Global, size: u16) -> Result<Vec<Prefix>, AllocEr
 }
 
 impl Setup {
-    /// A domain of `size` nodes in which the router is node `me`, with the default prefixes.
-    pub fn new(alloc: Global, size: u16, me: u16, limit: Option<u32>) -> Result<Setup, AllocError>
-        requires { spec.IsDomain size me limit }
-        ensures { IfOk result (λ setup. (setup.opening ≡ spec.default_opening size me) × (setup.limit ≡ spec.limit_or limit)) }
+    /// A domain with the default prefixes.
+    pub fn new(alloc: Global, network: Network) -> Result<Setup, AllocError>
+        ensures { IfOk result (λ setup. (setup.opening ≡ spec.default_opening network.size network.me)
+            × (setup.limit ≡ spec.limit_or network.limit)) }
     {
-        let prefixes = default_prefixes(alloc, size)?;
-        let opening = Opening::new(size, me, prefixes).unwrap();
+        let prefixes = default_prefixes(alloc, network.size)?;
+        let opening = Opening::new(network.size, network.me, prefixes).unwrap();
         Ok(Setup {
             opening,
-            limit: limit.unwrap_or(LARGEST_LIMIT),
+            limit: network.limit.unwrap_or(LARGEST_LIMIT),
         })
     }
 

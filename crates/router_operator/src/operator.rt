@@ -171,7 +171,7 @@ impl<'a, R: Wait + Clock, L: Listener> Operator<'a, R, L> {
         ensures left { OnErr result (spec.BreaksOff self.old self.new) }
     {
         match command {
-            Command::Network { .. } | Command::Prefix { .. } => {
+            Command::Network(_) | Command::Prefix { .. } => {
                 refuse(out, TOO_LATE, u64::from(number))
             }
             Command::Receive { .. } | Command::Take(_) => {

@@ -1,7 +1,7 @@
 -- What an option adds to what a router is told, or why it is refused. (This project's own choice.)
 use Rattle.std.specs.Prelude.{◌≡◌, ℕ, ◌&&◌, Bool, true, false, nat_le, nat_lt, List, [], ◌∷◌, ◌++◌, Option, Some, String, slice_set, string_bytes}
 use Rattle.std.proofs.Common.{Global}
-use Rattle.operator_cmds.specs.Commands.{is_network}
+use Rattle.operator_cmds.specs.Networks.{is_network}
 use Rattle.operator_cmds.specs.Domain.{default_opening, limit_or}
 use Rattle.operator_cmds.specs.Limits.{largest_limit}
 use Rattle.router_options.specs.Forms.{IsLink, IsPrefix, IsUse, is_link, is_prefix, is_use, node_in, said_in}

@@ -37,9 +37,12 @@ fn prefix_text(alloc: Global, node: u16, prefix: &Prefix) -> Result<String, Fail
 /// A command in text.
 fn command_text(alloc: Global, command: &Command<'_>) -> Result<String, Fail> {
     match command {
-        Command::Network { size, me, limit } => {
-            network_text(alloc, *size, *me, limit.unwrap_or(0))
-        }
+        Command::Network(network) => network_text(
+            alloc,
+            network.size,
+            network.me,
+            network.limit.unwrap_or(0),
+        ),
         Command::Load { name, text } => load_text(alloc, name, text),
         Command::Code { name, bytes } => bytes_text(alloc, name, bytes.as_slice()),
         Command::Prefix { node, prefix } => prefix_text(alloc, *node, prefix),

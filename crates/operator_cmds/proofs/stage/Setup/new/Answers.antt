@@ -5,4 +5,4 @@ use Rattle.operator_cmds.proofs.stage.Setup.new.Goals as goal
 pub unwrap-opening-requires : goal.unwrap-opening-requires
 unwrap-opening-requires c =
     is_there c.new.result _ _ c.new.ensures
-    (is_opening c.args.size c.args.me c.in_ok-prefixes.prefixes.items c.requires.nodes c.in_ok-prefixes.ensures)
+    (is_opening c.args.network.size c.args.network.me c.in_ok-prefixes.prefixes.items c.args.network.nodes c.in_ok-prefixes.ensures)
