@@ -30,12 +30,6 @@ changed_views ns k n d f h e =
     ∙ ap (λ m. slice_set (map view_of ns) k m) (e ∙ ap f (view_at ns k d h))
     ∙ sym (change_set k f (map view_of ns) (omega (arith, length-map ns view_of)))
 
--- the same, where room was made before
-pub changed_after : (ns ms : List Neighbour) (k : ℕ) (n d : Neighbour) (f : NeighbourView → NeighbourView) → k < length ms →
-    map view_of ms ≡ map view_of ns → view_of n ≡ f (view_of (slice_index_or ms k d)) →
-    map view_of (slice_set ms k n) ≡ change k f (map view_of ns)
-changed_after ns ms k n d f h same e = changed_views ms k n d f h e ∙ ap (λ qs. change k f qs) same
-
 -- what is made of each neighbour, where one changed
 pub map_change : {X : Type 0} (g : NeighbourView → X) (k : ℕ) (f : NeighbourView → NeighbourView) (ns : List NeighbourView) →
     k < length ns → map g (change k f ns) ≡ slice_set (map g ns) k (g (neighbour_at (change k f ns) k))

@@ -1,5 +1,5 @@
 -- Who holds a session: one neighbour at most, and a search finds it.
-use Rattle.std.proofs.Common.{◌≡◌, ap, refl, ℕ, ◌<◌, ◌≤◌, ◌==◌, ◌∙◌, sym, true, inl, inr, Option, Some, None, List, length, position, arith}
+use Rattle.std.proofs.Common.{◌≡◌, ap, refl, ℕ, ◌<◌, ◌≤◌, ◌==◌, ◌∙◌, sym, true, inl, inr, IfSome, Option, Some, None, List, length, position, arith}
 use Rattle.std.proofs.lemmas.Bool.{cases_Bool, and_parts, and_from, both_ways, ltb-true, ltb-false, lt-ltb, eqb-true, eq-eqb}
 use Rattle.std.proofs.lemmas.List.{get_or_past}
 use Rattle.std.proofs.lemmas.List.Quantifiers.{position-Some}
@@ -31,6 +31,10 @@ within ns k up = elim (cases_Bool (nat_lt k (length ns))) [
       absurd (omega arith)
 ]
 
+-- who is up is a neighbour
+pub up_within : (ns : List NeighbourView) (k : ℕ) → is_up (neighbour_at ns k) ≡ true → k < length ns
+up_within ns k up = within ns k (ltb-true 0 (neighbour_at ns k).session up)
+
 -- whoever is found holds the session
 pub found_holds : (ns : List NeighbourView) (s k : ℕ) → position (has_session s) ns ≡ Some k →
     (k < length ns) × (0 < s) × ((neighbour_at ns k).session ≡ s)
@@ -42,6 +46,12 @@ found_holds ns s k h =
 -- and is up
 pub found_up : (ns : List NeighbourView) (s k : ℕ) → position (has_session s) ns ≡ Some k → is_up (neighbour_at ns k) ≡ true
 found_up ns s k h = (has_it s (neighbour_at ns k) (position-Some (has_session s) ns k nobody h).1).0
+
+-- whoever a look finds is up
+pub holder_up : (ns : List NeighbourView) (s : ℕ) (o : Option ℕ) → o ≡ position (has_session s) ns →
+    IfSome o (λ k. is_up (neighbour_at ns k) ≡ true)
+holder_up ns s None e = tt
+holder_up ns s (Some k) e = found_up ns s k (sym e)
 
 found : (ns : List NeighbourView) (s k : ℕ) → AreApart ns → 0 < s → (neighbour_at ns k).session ≡ s → (o : Option ℕ) →
     position (has_session s) ns ≡ o → (o ≡ None → ⊥) → o ≡ Some k

@@ -1,5 +1,4 @@
 pub mod Change
-pub mod Errors
 pub mod Goes
 pub mod Good
 pub mod Holders
@@ -17,6 +16,7 @@ pub mod Rooms
 pub mod Rows
 pub mod Scanned
 pub mod Settled
+pub mod States
 pub mod Unchanged
 pub mod Views
 pub mod Worlds

@@ -8,7 +8,7 @@ use Rattle.netchange_core.specs.declared.best_route.BestRoute.{BestRoute}
 use Rattle.netchange_core.specs.declared.destination.Destination.{Destination}
 use Rattle.netchange_core.specs.declared.neighbour.Neighbour.{Neighbour}
 use Rattle.netchange_core.specs.Best.{best_by, neighbour_distance}
-use Rattle.netchange_core.specs.declared.sessions.Sessions.{Sessions}
+use Rattle.netchange_core.specs.declared.state.State.{State}
 use Rattle.netchange_core.specs.OpeningView.{OpeningView}
 use Rattle.netchange_core.specs.Present.{ArePresent, sessions_of}
 use Rattle.netchange_core.specs.World.{NeighbourView, World}
@@ -23,8 +23,12 @@ view_of n = record {
   queue = n.queue.items;
 }
 
-abbrev pub world_of : OpeningView → ℕ → List Neighbour → World
-world_of o sessions ns = record { opening = o; sessions = sessions; neighbours = map view_of ns }
+abbrev pub views_of : State → List NeighbourView
+views_of s = map view_of s.neighbours.items
+
+-- a state as the world that it stands for
+abbrev pub world_of : State → World
+world_of s = record { opening = s.opening; sessions = s.sessions.count; neighbours = views_of s }
 
 -- the filter behind an optional handle
 abbrev pub filter_of : Option (Arc VerifiedView Global) → Option VerifiedView
@@ -63,10 +67,10 @@ pub record AreKept (o : OpeningView) (ns : List NeighbourView) (ds : List Destin
   pub distances : (v : ℕ) (d : Destination) → v < o.size →
       (slice_index_or ds v d).distances.items ≡ map (neighbour_distance o v) ns
 
--- and the list of the present sessions is that of the neighbours
-pub record AreTables (o : OpeningView) (sessions : Sessions) (ns : List NeighbourView) (ds : List Destination) : Type 0 where
-  pub kept : AreKept o ns ds
-  pub present : ArePresent sessions.count (sessions_of ns) sessions.present.items
+-- a state is right: and the list of the present sessions is that of the neighbours
+pub record AreTables (s : State) : Type 0 where
+  pub kept : AreKept s.opening (views_of s) s.destinations.items
+  pub present : ArePresent s.sessions.count (sessions_of (views_of s)) s.sessions.present.items
 
 -- the distances to the nodes, as kept, and as these neighbours give them
 abbrev pub kept_distance : List Destination → ℕ → ℕ

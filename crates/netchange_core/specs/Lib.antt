@@ -1,3 +1,4 @@
+-- What callers cite.
 pub mod Best
 pub mod Calls
 pub mod Codes
@@ -6,8 +7,10 @@ pub mod Leading
 pub mod Next
 pub mod OpeningView
 pub mod Pass
-pub mod Present
 pub mod Room
-pub mod Settling
 pub mod Whole
 pub mod World
+-- What only the bodies of this crate are proved against.
+pub mod Handling
+pub mod Present
+pub mod Settling

@@ -18,6 +18,7 @@ mod reply;
 mod room;
 mod sessions;
 mod settling;
+mod state;
 mod tables;
 mod take;
 mod telling;

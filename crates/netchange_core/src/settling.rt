@@ -2,12 +2,11 @@
 
 ghost use Rattle.std.specs.Prelude.{◌≡◌, ℕ, ◌+◌, ◌<◌, ◌≤◌, ◌==◌, not, if◌then◌else◌, map, length, slice_index_or, slice_set};
 ghost use Rattle.netchange_core.specs.Best.{best_by, neighbour_distance};
-ghost use Rattle.netchange_core.specs.Kept.{AreDestinations, AreKept, AreNeighbours, IsDestination, IsNeighbour, distance_by, kept_distance, view_of};
+ghost use Rattle.netchange_core.specs.Kept.{AreNeighbours, IsDestination, IsNeighbour, view_of};
 ghost use Rattle.netchange_core.specs.Leading.{ListsReachable};
-ghost use Rattle.netchange_core.specs.Next.{count_changes, tell, tell_changes};
 ghost use Rattle.netchange_core.specs.Present.{AreListed, sessions_of};
 ghost use Rattle.netchange_core.specs.Room.{HaveRoom};
-ghost use Rattle.netchange_core.specs.Settling.{AreStaleAt, told_if_differs};
+ghost use Rattle.netchange_core.specs.Settling.{IsStaleAt, Settles, told_if_differs};
 ghost use Rattle.netchange_core.specs.World.{neighbour_at};
 
 use crate::best_route::{BestRoute, revised};
@@ -16,6 +15,7 @@ use crate::filter::pass;
 use crate::neighbour::Neighbour;
 use crate::opening::Opening;
 use crate::sessions::Present;
+use crate::state::State;
 use crate::telling::tell_if_differs;
 
 /// How far a node is from a neighbour, after the import filter.
@@ -105,36 +105,26 @@ fn settle_at(
     tell_if_differs(opening, present, neighbours, node, old, route.dist)
 }
 
-/// Brings all routes up to date, after one neighbour changed, and tells the distances that changed. Answers how many did.
-pub(crate) fn settle(
-    opening: &Opening,
-    present: &[Present],
-    neighbours: &mut [Neighbour],
-    destinations: &mut [Destination],
-    hop: usize,
-) -> u16
-    requires hop { hop < opening.now.size }
-    requires neighbours { AreNeighbours opening.now.size (map view_of neighbours.old) }
-    requires listed { AreListed (sessions_of (map view_of neighbours.old)) present.now }
-    requires destinations { AreDestinations opening.now destinations.old }
-    requires stale { AreStaleAt opening.now hop (map view_of neighbours.old) destinations.old }
-    requires room { HaveRoom opening.now.size neighbours.old }
-    ensures told { map view_of neighbours.new ≡ tell_changes opening.now (kept_distance destinations.old)
-        (distance_by opening.now (map view_of neighbours.old)) opening.now.size (map view_of neighbours.old) }
-    ensures count { result ≡ count_changes (kept_distance destinations.old)
-        (distance_by opening.now (map view_of neighbours.old)) opening.now.size }
-    ensures kept { AreKept opening.now (map view_of neighbours.new) destinations.new }
-{
-    let mut changed = 0;
-    for node in 0..opening.size() {
-        changed += u16::from(settle_at(
-            opening,
-            present,
-            neighbours,
-            &mut destinations[usize::from(node)],
-            node,
-            hop,
-        ));
+impl State {
+    /// Brings all routes up to date, after one neighbour changed, and tells the distances that changed. Answers how many did.
+    pub(crate) fn settle(&mut self, hop: usize) -> u16
+        requires { IsStaleAt hop self.old }
+        ensures { Settles self.old self.new result }
+    {
+        let present = self.sessions.present.as_slice();
+        let neighbours = self.neighbours.as_mut_slice();
+        let destinations = self.destinations.as_mut_slice();
+        let mut changed = 0;
+        for node in 0..self.opening.size() {
+            changed += u16::from(settle_at(
+                &self.opening,
+                present,
+                neighbours,
+                &mut destinations[usize::from(node)],
+                node,
+                hop,
+            ));
+        }
+        changed
     }
-    changed
 }

@@ -7,35 +7,31 @@ ghost use Rattle.netchange_core.specs.Next.{answered, next};
 ghost use Rattle.netchange_core.specs.World.{neighbour_at};
 
 use crate::best_route::BestRoute;
-use crate::destination::{Destination, make_destinations};
+use crate::destination::make_destinations;
 use crate::event::Event;
-use crate::handle::handle;
-use crate::neighbour::{Neighbour, make_newcomers};
+use crate::neighbour::make_newcomers;
 use crate::opening::Opening;
 use crate::reply::Reply;
-use crate::sessions::{Sessions, holder};
+use crate::sessions::Sessions;
+use crate::state::State;
 use std::alloc::{AllocError, Global};
 use std::marker::Model;
 
 /// The tables of a router. A contract sees them as the `World`.
 #[derive(Debug, Drop)]
 pub struct Tables {
-    opening: Opening,
-    sessions: Sessions,
-    neighbours: Vec<Neighbour>,
-    destinations: Vec<Destination>,
+    state: State,
 }
 
 impl Model for Tables {
-    ghost use Rattle.std.specs.Prelude.{map};
-    ghost use Rattle.netchange_core.specs.Kept.{AreTables, view_of, world_of};
+    ghost use Rattle.netchange_core.specs.Kept.{AreTables, world_of};
     ghost use Rattle.netchange_core.specs.World.{World};
 
     ghost Value = { World };
 
-    ghost view = { λ t. world_of t.opening t.sessions.count t.neighbours.items };
+    ghost view = { λ t. world_of t.state };
 
-    ghost invariant = { λ t. AreTables t.opening t.sessions (map view_of t.neighbours.items) t.destinations.items };
+    ghost invariant = { λ t. AreTables t.state };
 }
 
 impl Tables {
@@ -45,15 +41,17 @@ impl Tables {
     {
         let neighbours = make_newcomers(alloc, &opening)?;
         let destinations = make_destinations(alloc, &opening)?;
-        Ok(Tables {
+        let sessions = Sessions {
+            count: 0,
+            present: Vec::new(alloc),
+        };
+        let state = State {
             opening,
-            sessions: Sessions {
-                count: 0,
-                present: Vec::new(alloc),
-            },
+            sessions,
             neighbours,
             destinations,
-        })
+        };
+        Ok(Tables { state })
     }
 
     /// Applies an event. After an error nothing is changed, since all growth is made before the first change.
@@ -64,21 +62,15 @@ impl Tables {
         ensures opening { self.new.opening ≡ self.old.opening }
         ensures fits { IfOk result (λ r. length (carried r) ≤ room_of self.old event.now) }
     {
-        handle(
-            &self.opening,
-            &mut self.sessions,
-            &mut self.neighbours,
-            &mut self.destinations,
-            event,
-        )
+        self.state.handle(event)
     }
 
     /// How many messages wait for the up neighbour whose present session this is; 0 where there is none.
     pub fn queued(&self, session: u32) -> usize
         ensures { result ≡ queued_of self.now session }
     {
-        match holder(&self.sessions, session) {
-            Some(node) => self.neighbours[node].queue.len(),
+        match self.state.holder(session) {
+            Some(node) => self.state.neighbours[node].queue.len(),
             None => 0,
         }
     }
@@ -89,7 +81,7 @@ impl Tables {
         // Only a node of the domain is up.
         ensures within { 0 < result → node < self.now.opening.size }
     {
-        match self.neighbours.get(usize::from(node)) {
+        match self.state.neighbours.get(usize::from(node)) {
             Some(neighbour) => neighbour.session,
             None => 0,
         }
@@ -100,7 +92,7 @@ impl Tables {
         requires { dest < self.now.opening.size }
         ensures { result ≡ best self.now dest }
     {
-        self.destinations[usize::from(dest)].route
+        self.state.destinations[usize::from(dest)].route
     }
 
     /// The distance to a node that another told last in its present session; the size of the domain where it told none.
@@ -109,7 +101,7 @@ impl Tables {
         requires dest { dest < self.now.opening.size }
         ensures { result ≡ slice_index (neighbour_at self.now.neighbours node).raw dest }
     {
-        self.neighbours[usize::from(node)].raw[usize::from(dest)]
+        self.state.neighbours[usize::from(node)].raw[usize::from(dest)]
     }
 
     /// How far a node is from another, as that told and after its import filter; the size of the domain where it is not up.
@@ -118,13 +110,13 @@ impl Tables {
         requires dest { dest < self.now.opening.size }
         ensures { result ≡ neighbour_distance self.now.opening dest (neighbour_at self.now.neighbours node) }
     {
-        self.destinations[usize::from(dest)].distances[usize::from(node)]
+        self.state.destinations[usize::from(dest)].distances[usize::from(node)]
     }
 
     /// What the router was opened with.
     pub fn opening(&self) -> &Opening
         ensures { result.now ≡ self.now.opening }
     {
-        &self.opening
+        &self.state.opening
     }
 }

@@ -1,37 +1,28 @@
 //! Messages are taken to be sent.
 
-ghost use Rattle.std.specs.Prelude.{◌≡◌, ℕ, ◌<◌, IfOk, OnErr, length, map};
-ghost use Rattle.netchange_core.specs.Kept.{AreKept, view_of, world_of};
-ghost use Rattle.netchange_core.specs.Next.{answered, take_from};
-ghost use Rattle.netchange_core.specs.Present.{sessions_of};
+ghost use Rattle.std.specs.Prelude.{◌≡◌, true, Some};
+ghost use Rattle.netchange_core.specs.Kept.{AreTables, views_of, world_of};
+ghost use Rattle.netchange_core.specs.Handling.{Handles};
+ghost use Rattle.netchange_core.specs.Next.{take_from};
+ghost use Rattle.netchange_core.specs.World.{is_up, neighbour_at};
 
 use crate::changing::relieve;
-use crate::destination::Destination;
 use crate::message::Messages;
-use crate::neighbour::Neighbour;
-use crate::opening::Opening;
 use crate::reply::Reply;
+use crate::state::State;
 use std::alloc::AllocError;
 
-/// The first messages leave the queue for an up neighbour, at most so many.
-pub(crate) fn take(
-    opening: &Opening,
-    neighbours: &mut [Neighbour],
-    destinations: &[Destination],
-    hop: usize,
-    max: u16,
-) -> Result<Reply, AllocError>
-    requires kept { AreKept opening.now (map view_of neighbours.old) destinations.now }
-    requires hop { hop < length neighbours.old }
-    ensures done { (n : ℕ) → let w = world_of opening.now n neighbours.old in
-        IfOk result (λ r. take_from w (Some hop) max ≡ answered (world_of opening.now n neighbours.new) r) }
-    ensures kept { AreKept opening.now (map view_of neighbours.new) destinations.now }
-    ensures sessions { sessions_of (map view_of neighbours.new) ≡ sessions_of (map view_of neighbours.old) }
-    ensures same { OnErr result (map view_of neighbours.new ≡ map view_of neighbours.old) }
-{
-    let neighbour = &mut neighbours[hop];
-    let count = usize::from(max).min(neighbour.queue.len());
-    let mut items = Vec::with_capacity(*neighbour.queue.allocator(), count)?;
-    relieve(neighbour, &mut items, count);
-    Ok(Reply::Messages(Messages::from_vec(items)))
+impl State {
+    /// The first messages leave the queue for an up neighbour, at most so many.
+    pub(crate) fn take(&mut self, hop: usize, max: u16) -> Result<Reply, AllocError>
+        requires right { AreTables self.old }
+        requires up { is_up (neighbour_at (views_of self.old) hop) ≡ true }
+        ensures { Handles self.old (take_from (world_of self.old) (Some hop) max) self.new result }
+    {
+        let neighbour = &mut self.neighbours[hop];
+        let count = usize::from(max).min(neighbour.queue.len());
+        let mut items = Vec::with_capacity(*neighbour.queue.allocator(), count)?;
+        relieve(neighbour, &mut items, count);
+        Ok(Reply::Messages(Messages::from_vec(items)))
+    }
 }

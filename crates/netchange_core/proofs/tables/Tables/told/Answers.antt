@@ -8,7 +8,7 @@ use Rattle.netchange_core.proofs.tables.Tables.told.Goals as goal
 
 pub index-requires-2 : goal.index-requires-2
 index-requires-2 c =
-    let ns = c.self.inside.neighbours.items in
+    let ns = c.self.inside.state.neighbours.items in
     let head = c.index.result.now in
     let kept = c.self.invariant.kept.neighbours in
     let nodes = sym (length-map ns view_of) ∙ kept.one_a_node in
