@@ -19,14 +19,15 @@ use Rattle.netchange_core.specs.Kept.{AreKept, AreNeighbours, AreTables, IsNeigh
 use Rattle.netchange_core.specs.Next.{Answered, answered, recomputed}
 use Rattle.netchange_core.specs.OpeningView.{OpeningView}
 use Rattle.netchange_core.specs.Present.{ArePresent, sessions_of}
-use Rattle.netchange_core.specs.Room.{HaveRoom}
+use Rattle.netchange_core.specs.Room.{HasRoom, HaveRoom}
 use Rattle.netchange_core.specs.Settling.{IsStaleAt, Settles, world_told}
-use Rattle.netchange_core.specs.World.{NeighbourView, change, changed, neighbour_at}
+use Rattle.netchange_core.specs.World.{NeighbourView, change, changed, neighbour_at, nobody}
 use Rattle.netchange_core.proofs.Change.{change_good, change_stale, changed_views}
 use Rattle.netchange_core.proofs.Presence.{sessions_kept, sessions_told}
+use Rattle.netchange_core.proofs.Rooms.{room_set}
 use Rattle.netchange_core.proofs.Settled.{Settled, settled_kept}
 use Rattle.netchange_core.proofs.Unchanged.{kept_unchanged}
-use Rattle.netchange_core.proofs.Views.{view_at}
+use Rattle.netchange_core.proofs.Views.{same_views, view_at}
 use Rattle.netchange_core.proofs.Worlds.{recomputed_is}
 
 -- a vector whose elements were borrowed has those that were put back
@@ -34,28 +35,11 @@ pub put_back : {X Z : Type 0} (v : Vec X Z) (xs : List X) → length xs ≡ leng
 put_back v xs e =
     ap (λ n. take n (xs ++ drop (length xs) v.items)) (v.ok.0 ∙ sym e) ∙ take-append_seam xs (drop (length xs) v.items)
 
--- room was made in the queues of a state
-pub made_room : (s : State) (lent ns : List Neighbour) → lent ≡ s.neighbours.items → length ns ≡ length lent →
-    map view_of ns ≡ map view_of lent → map view_of (with_items s.neighbours ns).items ≡ views_of s
-made_room s lent ns is long same =
-    ap (λ ms. map view_of ms) (put_back s.neighbours ns (long ∙ ap (λ (ms : List Neighbour). length ms) is))
-    ∙ same ∙ ap (λ ms. map view_of ms) is
-
-pub room_made : (s : State) (more : ℕ) (lent ns : List Neighbour) → lent ≡ s.neighbours.items → length ns ≡ length lent →
-    HaveRoom more ns → HaveRoom more (with_items s.neighbours ns).items
-room_made s more lent ns is long room =
-    subst (HaveRoom more) (sym (put_back s.neighbours ns (long ∙ ap (λ (ms : List Neighbour). length ms) is))) room
-
--- a neighbour that was borrowed after that looks as it did before
-pub looks_at : (old ns : List Neighbour) (k : ℕ) (n : Neighbour) → map view_of ns ≡ map view_of old →
-    k < length (map view_of old) → n ≡ slice_index_or ns k n → view_of n ≡ neighbour_at (map view_of old) k
-looks_at old ns k n same h is =
-    let short : k < length ns = omega (arith, h, ap (λ (ms : List NeighbourView). length ms) same, length-map ns view_of) in
-    ap view_of is ∙ view_at ns k n short ∙ ap (λ ms. neighbour_at ms k) same
-
--- a state with other neighbours and present sessions
-abbrev pub state_with : State → Vec Neighbour Global → Vec Present Global → State
-state_with s ns ps = record s { neighbours = ns; sessions = record s.sessions { present = ps } }
+-- a neighbour of a state is at hand: it is borrowed from neighbours that look as the state's, and may have got room since
+pub record IsAtHand (s : State) (ns : List Neighbour) (k : ℕ) (n : Neighbour) : Type 0 where
+  pub within : k < length (views_of s)
+  pub same : map view_of ns ≡ views_of s
+  pub is : n ≡ slice_index_or ns k n
 
 -- of the neighbours of a domain only the one in a place changed, as a function says, and is still a neighbour of the domain
 pub record ChangesOne (o : OpeningView) (k : ℕ) (f : NeighbourView → NeighbourView) (old new : List NeighbourView) : Type 0 where
@@ -63,18 +47,51 @@ pub record ChangesOne (o : OpeningView) (k : ℕ) (f : NeighbourView → Neighbo
   pub is : new ≡ change k f old
   pub good : IsNeighbour o.size (f (neighbour_at old k))
 
--- a neighbour in a vector was replaced by one that looks as a function says
-pub changes_one : (o : OpeningView) (old ns : List Neighbour) (k : ℕ) (n d : Neighbour) (f : NeighbourView → NeighbourView) →
-    map view_of ns ≡ map view_of old → k < length (map view_of old) → view_of n ≡ f (view_of (slice_index_or ns k d)) →
-    IsNeighbour o.size (f (neighbour_at (map view_of old) k)) →
-    ChangesOne o k f (map view_of old) (map view_of (slice_set ns k n))
-changes_one o old ns k n d f same h e good = record {
-  within = h;
-  is =
-      let short : k < length ns = omega (arith, h, ap (λ (ms : List NeighbourView). length ms) same, length-map ns view_of) in
-      changed_views ns k n d f short e ∙ ap (λ ms. change k f ms) same;
-  good = good;
-}
+-- room was made in the queues of a state's neighbours, which were borrowed for that
+module _ (s : State) (lent rooms : List Neighbour) (lent_is : lent ≡ s.neighbours.items) (long : length rooms ≡ length lent) where
+  back : (with_items s.neighbours rooms).items ≡ rooms
+  back = put_back s.neighbours rooms (long ∙ ap (λ (ms : List Neighbour). length ms) lent_is)
+
+  pub made_room : map view_of rooms ≡ map view_of lent → map view_of (with_items s.neighbours rooms).items ≡ views_of s
+  made_room same = ap (λ ms. map view_of ms) back ∙ same ∙ ap (λ ms. map view_of ms) lent_is
+
+  pub room_made : (more : ℕ) → HaveRoom more rooms → HaveRoom more (with_items s.neighbours rooms).items
+  room_made more room = subst (HaveRoom more) (sym back) room
+
+module _ (s : State) (right : AreTables s) (ns : List Neighbour) (k : ℕ) (n : Neighbour) (here : IsAtHand s ns k n) where
+  short : k < length ns
+  short = omega (arith, here.within, ap (λ (ms : List NeighbourView). length ms) here.same, length-map ns view_of)
+
+  -- it looks as the state has it
+  pub looks : view_of n ≡ neighbour_at (views_of s) k
+  looks = ap view_of here.is ∙ view_at ns k n short ∙ ap (λ ms. neighbour_at ms k) here.same
+
+  pub good_here : IsNeighbour s.opening.size (view_of n)
+  good_here = subst (IsNeighbour s.opening.size) (sym looks) (right.kept.neighbours.each k nobody here.within)
+
+  -- another takes its place, which looks as a function says
+  pub changes_one : (f : NeighbourView → NeighbourView) (new : Neighbour) → view_of new ≡ f (view_of n) →
+      (IsNeighbour s.opening.size (view_of n) → IsNeighbour s.opening.size (f (view_of n))) →
+      ChangesOne s.opening k f (views_of s) (map view_of (slice_set ns k new))
+  changes_one f new e good = record {
+    within = here.within;
+    is = changed_views ns k new n f short (e ∙ ap (λ m. f (view_of m)) here.is) ∙ ap (λ ms. change k f ms) here.same;
+    good = subst (λ m. IsNeighbour s.opening.size (f m)) looks (good good_here);
+  }
+
+  -- or the same
+  pub all_same : (new : Neighbour) → view_of new ≡ view_of n → map view_of (slice_set ns k new) ≡ views_of s
+  all_same new e = same_views ns k new n (e ∙ ap view_of here.is) ∙ here.same
+
+  -- and there still is room
+  pub room_stays : (more : ℕ) (new : Neighbour) → HaveRoom more ns → (HasRoom more n → HasRoom more new) →
+      HaveRoom more (slice_set ns k new)
+  room_stays more new room stays =
+      room_set more ns k new short room (stays (subst (HasRoom more) (sym here.is) (room k n short)))
+
+-- a state with other neighbours and present sessions
+abbrev pub state_with : State → Vec Neighbour Global → Vec Present Global → State
+state_with s ns ps = record s { neighbours = ns; sessions = record s.sessions { present = ps } }
 
 module _ (s : State) (right : AreTables s) (k : ℕ) (f : NeighbourView → NeighbourView) (ns : Vec Neighbour Global)
     (one : ChangesOne s.opening k f (views_of s) (map view_of ns.items)) where

@@ -1,6 +1,5 @@
-use Rattle.std.proofs.Common.{◌≡◌, ◌<◌, List, length, map, nat_eq, not, slice_index_or, slice_set, ap, refl, sym, subst, ◌∙◌, arith}
+use Rattle.std.proofs.Common.{◌≡◌, List, length, map, nat_eq, not, slice_index_or, slice_set, ap, refl, sym, subst, ◌∙◌, arith}
 use Rattle.std.specs.Int.{from_bool}
-use Rattle.std.proofs.lemmas.List.{length-map}
 use Rattle.std.specs.Vec.{with_item, with_items}
 use Rattle.netchange_core.specs.declared.neighbour.Neighbour.{Neighbour}
 use Rattle.netchange_core.specs.Best.{best_by}
@@ -9,20 +8,19 @@ use Rattle.netchange_core.specs.Leading.{ListsReachable}
 use Rattle.netchange_core.specs.Next.{heard}
 use Rattle.netchange_core.specs.Pass.{pass}
 use Rattle.netchange_core.specs.Present.{AreListed, ArePresent, sessions_of}
-use Rattle.netchange_core.specs.Room.{HasRoom, HaveRoom}
+use Rattle.netchange_core.specs.Room.{HaveRoom}
 use Rattle.netchange_core.specs.Settling.{told_if_differs}
-use Rattle.netchange_core.specs.World.{NeighbourView, neighbour_at, nobody}
+use Rattle.netchange_core.specs.World.{neighbour_at}
 use Rattle.netchange_core.proofs.Change.{change_good}
 use Rattle.netchange_core.proofs.Good.{heard_good}
 use Rattle.netchange_core.proofs.Holders.{up_within}
 use Rattle.netchange_core.proofs.Listed.{present_listed}
 use Rattle.netchange_core.proofs.Presence.{sessions_kept, sessions_told_one}
 use Rattle.netchange_core.proofs.Received.{receive_goes, received, received_kept}
-use Rattle.netchange_core.proofs.Rooms.{room_set}
 use Rattle.netchange_core.proofs.Scanned.{lists_reachable, reachable_set, up_is_listed}
-use Rattle.netchange_core.proofs.States.{ChangesOne, changes_one, done, looks_at, made_room, put_back, room_made}
+use Rattle.netchange_core.proofs.States.{ChangesOne, IsAtHand, changes_one, done, good_here, looks, made_room, put_back, room_made, room_stays}
 use Rattle.netchange_core.proofs.state.State.receive.Goals as goal
-use Rattle.netchange_core.proofs.state.State.receive.Goals.{After-hear}
+use Rattle.netchange_core.proofs.state.State.receive.Goals.{After-index_mut}
 
 pub route_after-route-requires-clause-listed : goal.route_after-route-requires-clause-listed
 route_after-route-requires-clause-listed c =
@@ -48,73 +46,58 @@ make_room_if_differs-requires c =
       listed = rw (c.as_slice-present.ensures.value, c.deref_mut.ensures.value) (present_listed _ _ _ c.requires.right.present);
     }
 
+-- the neighbour, after room was made
+here : (c : After-index_mut) → IsAtHand c.args.self.now
+    (with_items c.args.self.now.neighbours c.make_room_if_differs.new.neighbours).items c.args.hop c.index_mut.result.now
+here c = record {
+  within = up_within (views_of c.args.self.now) c.args.hop c.requires.up;
+  same = made_room c.args.self.now c.deref_mut.result.now c.make_room_if_differs.new.neighbours c.deref_mut.ensures.value
+      c.make_room_if_differs.auto.neighbours c.make_room_if_differs.ensures.same;
+  is = c.index_mut.ensures.value;
+}
+
 pub hear-requires : goal.hear-requires
 hear-requires c =
-    let s = c.args.self.now in
-    let k = c.args.hop in
-    let h = up_within (views_of s) k c.requires.up in
-    let same = made_room s c.deref_mut.result.now c.make_room_if_differs.new.neighbours c.deref_mut.ensures.value
-    c.make_room_if_differs.auto.neighbours c.make_room_if_differs.ensures.same in
-    let long : length c.index_mut.result.now.raw.items ≡ s.opening.size =
-    ap (λ m. length m.raw)
-    (looks_at s.neighbours.items (with_items s.neighbours c.make_room_if_differs.new.neighbours).items k c.index_mut.result.now same h
-    c.index_mut.ensures.value)
-    ∙ (c.requires.right.kept.neighbours.each k nobody h).one_a_node in
-    omega arith
+    let good = good_here c.args.self.now c.requires.right _ c.args.hop _ (here (goal.at.hear-requires c).After-index_mut) in
+    omega (arith, good.one_a_node)
 
 -- the neighbours after the distance was heard, before it is told
-one : (c : After-hear) → ChangesOne c.args.self.now.opening c.args.hop (heard c.args.message.dest c.args.message.dist)
-    (views_of c.args.self.now)
-    (map view_of (slice_set (with_items c.args.self.now.neighbours c.make_room_if_differs.new.neighbours).items c.args.hop
-    c.hear.new.neighbour))
-one c =
+one : (c : After-index_mut) (new : Neighbour) → view_of new ≡ heard c.args.message.dest c.args.message.dist (view_of c.index_mut.result.now) →
+    ChangesOne c.args.self.now.opening c.args.hop (heard c.args.message.dest c.args.message.dist) (views_of c.args.self.now)
+    (map view_of (slice_set (with_items c.args.self.now.neighbours c.make_room_if_differs.new.neighbours).items c.args.hop new))
+one c new e =
     let s = c.args.self.now in
-    let k = c.args.hop in
-    let f = heard c.args.message.dest c.args.message.dist in
-    let h = up_within (views_of s) k c.requires.up in
-    changes_one s.opening s.neighbours.items (with_items s.neighbours c.make_room_if_differs.new.neighbours).items k
-    c.hear.new.neighbour c.index_mut.result.now f
-    (made_room s c.deref_mut.result.now c.make_room_if_differs.new.neighbours c.deref_mut.ensures.value
-    c.make_room_if_differs.auto.neighbours c.make_room_if_differs.ensures.same) h
-    (c.hear.ensures.view ∙ ap (λ n. f (view_of n)) c.index_mut.ensures.value)
-    (heard_good s.opening.size c.args.message.dest c.args.message.dist (neighbour_at (views_of s) k) (omega arith) (omega arith)
-    (c.requires.right.kept.neighbours.each k nobody h))
+    changes_one s c.requires.right _ c.args.hop _ (here c) (heard c.args.message.dest c.args.message.dist) new e
+    (heard_good s.opening.size c.args.message.dest c.args.message.dist _ (omega arith) (omega arith))
 
 pub tell_if_differs-differs-requires-clause-neighbours : goal.tell_if_differs-differs-requires-clause-neighbours
 tell_if_differs-differs-requires-clause-neighbours c =
     let s = c.args.self.now in
-    let b = (goal.at.tell_if_differs-differs-requires-clause-neighbours c).After-hear in
+    let b = one (goal.at.tell_if_differs-differs-requires-clause-neighbours c).After-index_mut c.hear.new.neighbour c.hear.ensures.view in
     subst (λ ms. AreNeighbours s.opening.size (map view_of ms)) (sym c.deref_mut-2.ensures.value)
-    (subst (AreNeighbours s.opening.size) (sym (one b).is)
-    (change_good s.opening.size c.args.hop (heard c.args.message.dest c.args.message.dist) (views_of s) (one b).within
-    c.requires.right.kept.neighbours (one b).good))
+    (subst (AreNeighbours s.opening.size) (sym b.is)
+    (change_good s.opening.size c.args.hop (heard c.args.message.dest c.args.message.dist) (views_of s) b.within
+    c.requires.right.kept.neighbours b.good))
 
 pub tell_if_differs-differs-requires-clause-listed : goal.tell_if_differs-differs-requires-clause-listed
 tell_if_differs-differs-requires-clause-listed c =
     let s = c.args.self.now in
     let ps = s.sessions.present.items in
-    let b = (goal.at.tell_if_differs-differs-requires-clause-listed c).After-hear in
+    let b = one (goal.at.tell_if_differs-differs-requires-clause-listed c).After-index_mut c.hear.new.neighbour c.hear.ensures.view in
     subst (λ qs. AreListed (sessions_of (map view_of c.deref_mut-2.result.now)) qs) (sym c.as_slice-present.ensures.value)
     (subst (λ ms. AreListed (sessions_of (map view_of ms)) ps) (sym c.deref_mut-2.ensures.value)
     (subst (λ ss. AreListed ss ps)
-    (sym (sessions_kept (views_of s) _ c.args.hop (heard c.args.message.dest c.args.message.dist) (one b).is (λ _. refl)))
+    (sym (sessions_kept (views_of s) _ c.args.hop (heard c.args.message.dest c.args.message.dist) b.is (λ _. refl)))
     (present_listed _ _ _ c.requires.right.present)))
 
 pub tell_if_differs-differs-requires-clause-room : goal.tell_if_differs-differs-requires-clause-room
 tell_if_differs-differs-requires-clause-room c = λ differs.
     let s = c.args.self.now in
-    let k = c.args.hop in
-    let b = (goal.at.tell_if_differs-differs-requires-clause-room c).After-hear in
-    let rooms = (with_items s.neighbours c.make_room_if_differs.new.neighbours).items in
-    let same = made_room s c.deref_mut.result.now c.make_room_if_differs.new.neighbours c.deref_mut.ensures.value
-    c.make_room_if_differs.auto.neighbours c.make_room_if_differs.ensures.same in
-    let short : k < length rooms =
-    omega (arith, (one b).within, ap (λ (ms : List NeighbourView). length ms) same, length-map rooms view_of) in
-    let room : HaveRoom 1 rooms = room_made s 1 c.deref_mut.result.now c.make_room_if_differs.new.neighbours c.deref_mut.ensures.value
-    c.make_room_if_differs.auto.neighbours (c.in_ok-make_room_if_differs.ensures.room differs) in
+    let room = room_made s c.deref_mut.result.now c.make_room_if_differs.new.neighbours c.deref_mut.ensures.value
+    c.make_room_if_differs.auto.neighbours 1 (c.in_ok-make_room_if_differs.ensures.room differs) in
     subst (HaveRoom 1) (sym c.deref_mut-2.ensures.value)
-    (room_set 1 rooms k c.hear.new.neighbour short room
-    (c.hear.ensures.room 1 (subst (HasRoom 1) (sym c.index_mut.ensures.value) (room k c.index_mut.result.now short))))
+    (room_stays s c.requires.right _ c.args.hop _ (here (goal.at.tell_if_differs-differs-requires-clause-room c).After-index_mut) 1
+    c.hear.new.neighbour room (c.hear.ensures.room 1))
 
 pub returns : goal.returns
 returns c =
@@ -129,12 +112,13 @@ returns c =
     let head = c.index_mut-destination.result.now in
     let is = c.index_mut-destination.ensures.value in
     let new = c.route_after-route.result in
-    let b = (goal.at.returns c).After-hear in
-    let h = (one b).within in
+    let b = one (goal.at.returns c).After-index_mut c.hear.new.neighbour c.hear.ensures.view in
+    let h = b.within in
     let heard_by = with_item (with_items s.neighbours c.make_room_if_differs.new.neighbours) k c.hear.new.neighbour in
     let ms = map view_of heard_by.items in
     let near = c.pass-near.ensures.value
-    ∙ ap (λ m. pass o m.imports v d) (looks_at s.neighbours.items s.neighbours.items k c.index.result.now refl h c.index.ensures) in
+    ∙ ap (λ m. pass o m.imports v d) (looks s c.requires.right s.neighbours.items k c.index.result.now
+    (record { within = h; same = refl; is = c.index.ensures })) in
     let best = c.route_after-route.ensures.best
     ∙ ap (λ e. best_by o v (slice_set e.distances.items k c.pass-near.result)) is in
     let told = ap (λ qs. map view_of qs)
@@ -148,13 +132,13 @@ returns c =
     let distances = c.put.ensures.distances ∙ ap (λ e. slice_set e.distances.items k c.pass-near.result) is in
     done s _ _ _ refl
     (receive_goes o s.sessions.count ns k v d (omega arith) (omega arith)
-    ∙ received o k v d ns ms ds head c.pass-near.result new c.requires.right.kept h (one b).is (omega arith) (omega arith)
+    ∙ received o k v d ns ms ds head c.pass-near.result new c.requires.right.kept h b.is (omega arith) (omega arith)
     c.requires.up near c.from.result c.from.ensures best s.sessions.count _ c.from-2.result told counts)
     (record {
-      kept = received_kept o k v d ns ms ds head c.pass-near.result new c.requires.right.kept h (one b).is (omega arith)
+      kept = received_kept o k v d ns ms ds head c.pass-near.result new c.requires.right.kept h b.is (omega arith)
           (omega arith) c.requires.up near c.from.result c.from.ensures best _ c.put.new.destination told distances
           c.put.ensures.route;
       present = subst (λ ss. ArePresent s.sessions.count ss s.sessions.present.items)
-          (sym (ap sessions_of told ∙ sessions_told_one o v _ _ _ ∙ sessions_kept ns ms k f (one b).is (λ _. refl)))
+          (sym (ap sessions_of told ∙ sessions_told_one o v _ _ _ ∙ sessions_kept ns ms k f b.is (λ _. refl)))
           c.requires.right.present;
     })

@@ -3,7 +3,7 @@ use Rattle.std.proofs.Common.{◌≡◌, ◌≤◌, map, slice_index_or, List, l
 use Rattle.std.proofs.lemmas.List.{length-map}
 use Rattle.netchange_core.specs.declared.destination.Destination.{Destination}
 use Rattle.netchange_core.specs.declared.neighbour.Neighbour.{Neighbour}
-use Rattle.netchange_core.specs.Kept.{AreNeighbours, IsDestination, distance_by, kept_distance, view_of}
+use Rattle.netchange_core.specs.Kept.{AreNeighbours, IsDestination, distance_by, kept_distance, view_of, views_of}
 use Rattle.netchange_core.specs.Present.{AreListed, sessions_of}
 use Rattle.netchange_core.proofs.Listed.{present_listed}
 use Rattle.netchange_core.proofs.Presence.{sessions_told}
@@ -15,19 +15,22 @@ use Rattle.netchange_core.proofs.state.State.settle.Goals as goal
 pub settle_at-requires-clause-neighbours : goal.settle_at-requires-clause-neighbours
 settle_at-requires-clause-neighbours c =
     let o = c.args.self.now.opening in
+    let ns = views_of c.args.self.now in
     subst (AreNeighbours o.size) (sym c.loop-node.invariant.told)
-    (changes_good o o.size (kept_distance c.args.self.now.destinations.items) (distance_by o (map view_of c.args.self.now.neighbours.items))
-    c.loop-node.node (map view_of c.args.self.now.neighbours.items) c.requires.neighbours)
+    (changes_good o o.size (kept_distance c.args.self.now.destinations.items) (distance_by o ns) c.loop-node.node ns
+    c.requires.neighbours)
 
 pub settle_at-requires-clause-listed : goal.settle_at-requires-clause-listed
 settle_at-requires-clause-listed c =
     subst (λ ss. AreListed ss c.as_slice-present.result.now)
-    (sym (ap sessions_of c.loop-node.invariant.told ∙ sessions_told c.args.self.now.opening _ _ c.loop-node.node _)) (rw c.as_slice-present.ensures.value (present_listed _ _ _ c.requires.present))
+    (sym (ap sessions_of c.loop-node.invariant.told ∙ sessions_told c.args.self.now.opening _ _ c.loop-node.node _))
+    (rw c.as_slice-present.ensures.value (present_listed _ _ _ c.requires.present))
 
 pub settle_at-requires-clause-right : goal.settle_at-requires-clause-right
 settle_at-requires-clause-right c =
     let head = c.index-destinations-from.result in
-    subst (λ i. IsDestination c.args.self.now.opening c.loop-node.node (slice_index_or c.loop-node.destinations i head)) (sym c.from.ensures)
+    subst (λ i. IsDestination c.args.self.now.opening c.loop-node.node (slice_index_or c.loop-node.destinations i head))
+    (sym c.from.ensures)
     (subst (IsDestination c.args.self.now.opening c.loop-node.node)
     (sym (c.loop-node.invariant.rest c.loop-node.node head (le_refl c.loop-node.node)))
     (c.requires.destinations.right c.loop-node.node head (omega arith)))
@@ -39,14 +42,14 @@ settle_at-requires-clause-room c =
 pub overflow_add-changed : goal.overflow_add-changed
 overflow_add-changed c =
     let few = count_within (kept_distance c.args.self.now.destinations.items)
-    (distance_by c.args.self.now.opening (map view_of c.args.self.now.neighbours.items)) c.loop-node.node in
+    (distance_by c.args.self.now.opening (views_of c.args.self.now)) c.loop-node.node in
     let one : c.from-changed.result ≤ 1 = subst (λ n. n ≤ 1) (sym c.from-changed.ensures) (byte_within c.settle_at.result) in
     omega (arith, few, one, c.loop-node.invariant.count_is, c.size-node-end.ensures.limits.to_largest)
 
 pub loop-node-preserved : goal.loop-node-preserved
 loop-node-preserved c =
-    settled_more_at c.args.self.now.opening c.args.hop c.loop-node.node c.from.result c.args.self.now.neighbours.items c.loop-node.neighbours
-    c.settle_at.new.neighbours c.args.self.now.destinations.items c.loop-node.destinations c.settle_at.new.destination
+    settled_more_at c.args.self.now.opening c.args.hop c.loop-node.node c.from.result c.args.self.now.neighbours.items
+    c.loop-node.neighbours c.settle_at.new.neighbours c.args.self.now.destinations.items c.loop-node.destinations c.settle_at.new.destination
     c.index-destinations-from.result c.loop-node.changed c.from-changed.result c.from.ensures c.loop-node.invariant
     (omega arith) (omega (arith, length-map c.args.self.now.neighbours.items view_of)) (omega arith) (omega arith) c.requires.stale
     c.settle_at.ensures.told c.settle_at.ensures.distances c.settle_at.ensures.right c.settle_at.ensures.room
