@@ -41,6 +41,7 @@ fn show(
 }
 
 /// Carries out an event. After an error nothing is changed.
+#[inline(always)]
 pub(crate) fn handle(
     opening: &Opening,
     sessions: &mut Sessions,

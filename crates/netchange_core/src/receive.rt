@@ -21,6 +21,7 @@ use crate::telling::tell_if_differs;
 use std::alloc::AllocError;
 
 /// A message of an up neighbour came.
+#[inline(always)]
 pub(crate) fn receive(
     opening: &Opening,
     present: &[Present],
