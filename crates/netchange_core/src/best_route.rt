@@ -75,6 +75,7 @@ fn nearer(best: BestRoute, near: u16, node: u16) -> BestRoute
 
 /// The best route, where one neighbour is now at another distance, found by looking at each that is up. They stand in the order of
 /// their sessions, not of their numbers.
+#[inline(never)]
 fn nearest_after(
     size: u16,
     present: &[Present],
@@ -98,6 +99,7 @@ fn nearest_after(
 
 /// The best route, where one neighbour is now at another distance, from the one that was best. Only where the next hop
 /// got worse is each up neighbour looked at.
+#[inline(always)]
 pub(crate) fn revised(
     size: u16,
     present: &[Present],

@@ -1,6 +1,6 @@
 //! Changes of one neighbour.
 
-ghost use Rattle.std.specs.Prelude.{◌≡◌, ℕ, ◌+◌, ◌≤◌, ◌<◌, [], length, replicate, take, vec_capacity};
+ghost use Rattle.std.specs.Prelude.{◌≡◌, ℕ, ◌+◌, ◌≤◌, ◌<◌, ◌++◌, [], length, replicate, take, vec_capacity, vec_len};
 ghost use Rattle.std.specs.VecDeque.{deque_len, deque_capacity};
 ghost use Rattle.netchange_core.specs.Kept.{AreDestinations, FitsSize, filter_of, kept_distance, view_of};
 ghost use Rattle.netchange_core.specs.Next.{exporting, gone, heard, importing, joined, relieved};
@@ -85,6 +85,33 @@ pub(crate) fn export(
     }
 }
 
+/// Adds messages to a vector with room for them.
+fn append(items: &mut Vec<Message>, more: &[Message])
+    requires { vec_len items.old + length more.now ≤ vec_capacity items.old }
+    ensures items { items.new.items ≡ items.old.items ++ more.now }
+    ensures len { vec_len items.new ≡ vec_len items.old + length more.now }
+    ensures capacity { vec_capacity items.old ≤ vec_capacity items.new }
+{
+    let Ok(()) = items.extend_from_slice(more) else {
+        unreachable!()
+    };
+}
+
+/// All messages leave a neighbour's queue, into a vector with room for them.
+fn relieve_of_all(neighbour: &mut Neighbour, items: &mut Vec<Message>)
+    requires empty { items.old.items ≡ [] }
+    requires room { deque_len neighbour.old.queue ≤ vec_capacity items.old }
+    ensures view { view_of neighbour.new ≡ relieved (deque_len neighbour.old.queue) (view_of neighbour.old) }
+    ensures items { items.new.items ≡ neighbour.old.queue.items }
+{
+    let (first, second) = neighbour.queue.as_slices();
+    append(items, first);
+    if !second.is_empty() {
+        append(items, second);
+    }
+    neighbour.queue.clear();
+}
+
 /// The first messages leave a neighbour's queue, into a vector with room for them.
 pub(crate) fn relieve(neighbour: &mut Neighbour, items: &mut Vec<Message>, count: usize)
     requires count { count ≤ length neighbour.old.queue.items }
@@ -93,6 +120,10 @@ pub(crate) fn relieve(neighbour: &mut Neighbour, items: &mut Vec<Message>, count
     ensures view { view_of neighbour.new ≡ relieved count (view_of neighbour.old) }
     ensures items { items.new.items ≡ take count neighbour.old.queue.items }
 {
+    if count == neighbour.queue.len() {
+        relieve_of_all(neighbour, items);
+        return;
+    }
     for _ in 0..count {
         if let Some(message) = neighbour.queue.pop_front() {
             items.push_reserved(message);

@@ -28,6 +28,7 @@ impl State {
     }
 
     /// Carries out an event. After an error nothing is changed.
+    #[inline(always)]
     pub(crate) fn handle(&mut self, event: &Event) -> Result<Reply, AllocError>
         requires { AreTables self.old }
         ensures { Handles self.old (next (world_of self.old) event.now) self.new result }

@@ -18,6 +18,7 @@ use std::alloc::AllocError;
 
 impl State {
     /// A message of an up neighbour came.
+    #[inline(always)]
     pub(crate) fn receive(&mut self, hop: usize, message: Message) -> Result<Reply, AllocError>
         requires right { AreTables self.old }
         requires up { is_up (neighbour_at (views_of self.old) hop) ≡ true }

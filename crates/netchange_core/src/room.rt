@@ -10,11 +10,15 @@ use crate::neighbour::Neighbour;
 use crate::sessions::Present;
 use std::alloc::AllocError;
 
-/// Makes room for so many more messages to a neighbour.
+/// Makes room for so many more messages to a neighbour. Mostly there is room, which is seen without a call.
+#[inline(always)]
 pub(crate) fn reserve(neighbour: &mut Neighbour, more: usize) -> Result<(), AllocError>
     ensures same { view_of neighbour.new ≡ view_of neighbour.old }
     ensures room { OnOk result (deque_len neighbour.new.queue + more ≤ deque_capacity neighbour.new.queue) }
 {
+    if more <= neighbour.queue.capacity() - neighbour.queue.len() {
+        return Ok(());
+    }
     neighbour.queue.reserve(more)
 }
 
@@ -30,6 +34,7 @@ pub(crate) fn make_room_for(neighbour: &mut Neighbour, more: usize) -> Result<()
 }
 
 /// Makes room for so many more messages to each up neighbour.
+#[inline(never)]
 pub(crate) fn make_room(
     present: &[Present],
     neighbours: &mut [Neighbour],
@@ -46,6 +51,7 @@ pub(crate) fn make_room(
 }
 
 /// Makes room for one more message to each up neighbour, where two distances differ.
+#[inline(always)]
 pub(crate) fn make_room_if_differs(
     present: &[Present],
     neighbours: &mut [Neighbour],

@@ -23,8 +23,9 @@ pub(crate) struct Sessions {
     pub(crate) present: Vec<Present>,
 }
 
-/// The index of a session among the present ones.
-fn find(present: &[Present], session: u32) -> Option<usize>
+/// The index of a session among the present ones, wherever it is.
+#[inline(always)]
+fn search(present: &[Present], session: u32) -> Option<usize>
     requires { AreRising present.now }
     ensures found { IfSome result (λ i. (i < length present.now) × HoldsAt (λ p. p.session ≡ session) present.now i) }
     ensures absent { IfNone result (All (λ p. p.session ≢ session) present.now) }
@@ -32,7 +33,22 @@ fn find(present: &[Present], session: u32) -> Option<usize>
     present.binary_search_by_key(&session, |p| p.session).ok()
 }
 
+/// The index of a session among the present ones. While no session is over, it stands where its number says.
+#[inline(always)]
+fn find(present: &[Present], session: u32) -> Option<usize>
+    requires { AreRising present.now }
+    ensures found { IfSome result (λ i. (i < length present.now) × HoldsAt (λ p. p.session ≡ session) present.now i) }
+    ensures absent { IfNone result (All (λ p. p.session ≢ session) present.now) }
+{
+    let first = (session as usize).saturating_sub(1);
+    if first < present.len() && present[first].session == session {
+        return Some(first);
+    }
+    search(present, session)
+}
+
 /// The up neighbour whose present session this is.
+#[inline(always)]
 pub(crate) fn holder(sessions: &Sessions, session: u32) -> Option<usize>
     requires { AreRising sessions.now.present.items }
     ensures { (ns : List NeighbourView) → ArePresent sessions.now.count (sessions_of ns) sessions.now.present.items →

@@ -37,6 +37,7 @@ pub(crate) fn neighbour_distance(opening: &Opening, neighbour: &Neighbour, node:
 }
 
 /// The best route to a node, where one neighbour is now at another distance from it.
+#[inline(always)]
 pub(crate) fn route_after(
     opening: &Opening,
     present: &[Present],

@@ -55,6 +55,7 @@ impl Tables {
     }
 
     /// Applies an event. After an error nothing is changed, since all growth is made before the first change.
+    #[inline(always)]
     pub fn apply(&mut self, event: &Event) -> Result<Reply, AllocError>
         ensures done { IfOk result (λ r. next self.old event.now ≡ answered self.new r) }
         ensures same { OnErr result (self.new ≡ self.old) }

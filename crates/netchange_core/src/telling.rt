@@ -32,6 +32,7 @@ fn queue_message(opening: &Opening, neighbour: &mut Neighbour, node: u16, dist: 
 }
 
 /// Tells each up neighbour the distance to a node.
+#[inline(never)]
 fn tell_all(
     opening: &Opening,
     present: &[Present],
@@ -54,6 +55,7 @@ fn tell_all(
 }
 
 /// Tells each up neighbour the distance to a node where it is another than it was. Answers whether it is.
+#[inline(always)]
 pub(crate) fn tell_if_differs(
     opening: &Opening,
     present: &[Present],

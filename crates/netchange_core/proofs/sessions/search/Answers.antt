@@ -1,7 +1,7 @@
 use Rattle.std.proofs.Common.{rules}
 use Rattle.std.proofs.lemmas.List.Sorted.{answers_always}
 use Rattle.netchange_core.proofs.Presence.{searched}
-use Rattle.netchange_core.proofs.sessions.find.Goals as goal
+use Rattle.netchange_core.proofs.sessions.search.Goals as goal
 
 -- the closure gives a session's number
 pub returns : goal.returns
