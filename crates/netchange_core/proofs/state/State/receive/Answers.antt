@@ -10,7 +10,6 @@ use Rattle.netchange_core.specs.Pass.{pass}
 use Rattle.netchange_core.specs.Present.{AreListed, ArePresent, sessions_of}
 use Rattle.netchange_core.specs.Room.{HaveRoom}
 use Rattle.netchange_core.specs.Settling.{told_if_differs}
-use Rattle.netchange_core.specs.World.{neighbour_at}
 use Rattle.netchange_core.proofs.Change.{change_good}
 use Rattle.netchange_core.proofs.Good.{heard_good}
 use Rattle.netchange_core.proofs.Holders.{up_within}
@@ -62,7 +61,8 @@ hear-requires c =
     omega (arith, good.one_a_node)
 
 -- the neighbours after the distance was heard, before it is told
-one : (c : After-index_mut) (new : Neighbour) → view_of new ≡ heard c.args.message.dest c.args.message.dist (view_of c.index_mut.result.now) →
+one : (c : After-index_mut) (new : Neighbour) →
+    view_of new ≡ heard c.args.message.dest c.args.message.dist (view_of c.index_mut.result.now) →
     ChangesOne c.args.self.now.opening c.args.hop (heard c.args.message.dest c.args.message.dist) (views_of c.args.self.now)
     (map view_of (slice_set (with_items c.args.self.now.neighbours c.make_room_if_differs.new.neighbours).items c.args.hop new))
 one c new e =
@@ -73,7 +73,8 @@ one c new e =
 pub tell_if_differs-differs-requires-clause-neighbours : goal.tell_if_differs-differs-requires-clause-neighbours
 tell_if_differs-differs-requires-clause-neighbours c =
     let s = c.args.self.now in
-    let b = one (goal.at.tell_if_differs-differs-requires-clause-neighbours c).After-index_mut c.hear.new.neighbour c.hear.ensures.view in
+    let b = one (goal.at.tell_if_differs-differs-requires-clause-neighbours c).After-index_mut c.hear.new.neighbour
+    c.hear.ensures.view in
     subst (λ ms. AreNeighbours s.opening.size (map view_of ms)) (sym c.deref_mut-2.ensures.value)
     (subst (AreNeighbours s.opening.size) (sym b.is)
     (change_good s.opening.size c.args.hop (heard c.args.message.dest c.args.message.dist) (views_of s) b.within
@@ -83,7 +84,8 @@ pub tell_if_differs-differs-requires-clause-listed : goal.tell_if_differs-differ
 tell_if_differs-differs-requires-clause-listed c =
     let s = c.args.self.now in
     let ps = s.sessions.present.items in
-    let b = one (goal.at.tell_if_differs-differs-requires-clause-listed c).After-index_mut c.hear.new.neighbour c.hear.ensures.view in
+    let b = one (goal.at.tell_if_differs-differs-requires-clause-listed c).After-index_mut c.hear.new.neighbour
+    c.hear.ensures.view in
     subst (λ qs. AreListed (sessions_of (map view_of c.deref_mut-2.result.now)) qs) (sym c.as_slice-present.ensures.value)
     (subst (λ ms. AreListed (sessions_of (map view_of ms)) ps) (sym c.deref_mut-2.ensures.value)
     (subst (λ ss. AreListed ss ps)
