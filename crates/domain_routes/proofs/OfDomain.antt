@@ -2,7 +2,7 @@
 use Rattle.std.proofs.Common.{◌≡◌, ℕ, suc, ◌<◌, Option, Some, None, sym, ap, refl, ◌∙◌, arith}
 use Rattle.filter_verifier.specs.VerifiedView.{VerifiedView}
 use Rattle.netchange_core.specs.OpeningView.{OpeningView}
-use Rattle.netchange_core.specs.Pass.{pass}
+use Rattle.netchange_core.specs.FilteredDistance.{filtered_distance}
 use Rattle.routing_domain.specs.Domain.{Domain, exported, imported, neighbour, topology as domain_topology}
 use Rattle.routing_domain.specs.Rest.{IsRest, LeadsThrough, Topology}
 use Rattle.domain_routes.specs.OfDomain.{IsPlanOf}
@@ -40,19 +40,19 @@ rest_alike m n s to dist r = record {
 }
 
 -- a filter is shown the size and the prefixes of an opening alone
-same_pass : (o p : OpeningView) → o.size ≡ p.size → o.prefixes ≡ p.prefixes → (f : Option VerifiedView) (v d : ℕ) → pass o f v d ≡ pass p f v d
-unfolding pass
-same_pass o p size prefixes None v d = refl
-same_pass o p size prefixes (Some f) v d = cc
+same_filtered_distance : (o p : OpeningView) → o.size ≡ p.size → o.prefixes ≡ p.prefixes → (f : Option VerifiedView) (v d : ℕ) → filtered_distance o f v d ≡ filtered_distance p f v d
+unfolding filtered_distance
+same_filtered_distance o p size prefixes None v d = refl
+same_filtered_distance o p size prefixes (Some f) v d = cc
 
 toll_alike : (d : Domain) (p : PlanView) → IsPlanOf d p → (v u w x : ℕ) → u < p.size → w < p.size → toll p v u w x ≡ imported d u w v (exported d w u v x)
 toll_alike d p s v u w x short within =
-    same_pass (opening_of p) (d.router u).opening (sym (s.sizes u short)) (sym (s.prefixes u short)) (peer p u w).imports v
-    (pass (opening_of p) (peer p w u).exports v x)
-    ∙ ap (λ y. pass (d.router u).opening (peer p u w).imports v y)
-    (same_pass (opening_of p) (d.router w).opening (sym (s.sizes w within)) (sym (s.prefixes w within)) (peer p w u).exports v x)
-    ∙ ap (λ f. pass (d.router u).opening f v (pass (d.router w).opening (peer p w u).exports v x)) (sym (s.imports u w short within))
-    ∙ ap (λ f. pass (d.router u).opening (neighbour d u w).imports v (pass (d.router w).opening f v x)) (sym (s.exports w u within short))
+    same_filtered_distance (opening_of p) (d.router u).opening (sym (s.sizes u short)) (sym (s.prefixes u short)) (peer p u w).imports v
+    (filtered_distance (opening_of p) (peer p w u).exports v x)
+    ∙ ap (λ y. filtered_distance (d.router u).opening (peer p u w).imports v y)
+    (same_filtered_distance (opening_of p) (d.router w).opening (sym (s.sizes w within)) (sym (s.prefixes w within)) (peer p w u).exports v x)
+    ∙ ap (λ f. filtered_distance (d.router u).opening f v (filtered_distance (d.router w).opening (peer p w u).exports v x)) (sym (s.imports u w short within))
+    ∙ ap (λ f. filtered_distance (d.router u).opening (neighbour d u w).imports v (filtered_distance (d.router w).opening f v x)) (sym (s.exports w u within short))
 
 pub of_domain : (d : Domain) (p : PlanView) → IsPlanOf d p → (v : ℕ) (dist : ℕ → ℕ) → IsRest (topology p v) v dist →
     IsRest (domain_topology d v) v dist

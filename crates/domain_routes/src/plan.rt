@@ -9,7 +9,7 @@ ghost use Rattle.domain_routes.specs.Topology.{toll};
 use crate::peer::Peer;
 use crate::row::Row;
 use filter_verifier::Verified;
-use netchange_core::{Opening, pass};
+use netchange_core::{Opening, filtered_distance};
 use prefix_patterns::Prefix;
 use std::alloc::{AllocError, Global};
 use std::marker::Model;
@@ -177,7 +177,7 @@ impl Plan {
         ensures value { result ≡ toll self.now v u w dist }
         ensures reachable { result ≤ self.now.size }
     {
-        let told = pass(&self.opening, self.peer(w, u).exports(), v, dist);
-        pass(&self.opening, self.peer(u, w).imports(), v, told)
+        let told = filtered_distance(&self.opening, self.peer(w, u).exports(), v, dist);
+        filtered_distance(&self.opening, self.peer(u, w).imports(), v, told)
     }
 }

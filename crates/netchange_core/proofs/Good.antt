@@ -9,7 +9,7 @@ use Rattle.netchange_core.specs.Best.{neighbour_distance}
 use Rattle.netchange_core.specs.Kept.{IsNeighbour}
 use Rattle.netchange_core.specs.Next.{exporting, gone, heard, importing, joined, relieved}
 use Rattle.netchange_core.specs.OpeningView.{OpeningView}
-use Rattle.netchange_core.specs.Pass.{distance_given, pass, prefix_of}
+use Rattle.netchange_core.specs.FilteredDistance.{distance_given, filtered_distance, prefix_of}
 use Rattle.netchange_core.specs.World.{NeighbourView, is_up}
 use Rattle.netchange_core.proofs.Lists.{below_repeated}
 
@@ -57,10 +57,10 @@ relieved_good size max n p =
     record { one_a_node = p.one_a_node; reachable = p.reachable; imports = p.imports; exports = p.exports }
 
 -- what cannot be reached stays so under each filter
-pub pass_unreached : (o : OpeningView) (f : Option VerifiedView) (v : ℕ) → pass o f v o.size ≡ o.size
-unfolding pass
-pass_unreached o None v = refl
-pass_unreached o (Some f) v =
+pub filtered_unreached : (o : OpeningView) (f : Option VerifiedView) (v : ℕ) → filtered_distance o f v o.size ≡ o.size
+unfolding filtered_distance
+filtered_unreached o None v = refl
+filtered_unreached o (Some f) v =
     ap (λ b. cond b o.size (distance_given o.size (outcome_of f.program (announced (prefix_of o v) o.size o.size))))
     (eq-eqb o.size o.size refl)
 
@@ -68,25 +68,25 @@ pass_unreached o (Some f) v =
 pub joined_distance : (o : OpeningView) (dist : ℕ → ℕ) (session v : ℕ) (n : NeighbourView) → n.session ≡ 0 → v < o.size →
     neighbour_distance o v (joined o dist session n) ≡ neighbour_distance o v n
 joined_distance o dist session v n e h =
-    cond_both (nat_lt 0 session) (pass o n.imports v (slice_index (replicate o.size o.size) v)) o.size (λ x. x ≡ o.size)
-    (λ _. ap (λ x. pass o n.imports v x) (get_or-replicate o.size v o.size 0 h) ∙ pass_unreached o n.imports v) (λ _. refl)
-    ∙ sym (ap (λ s. cond (nat_lt 0 s) (pass o n.imports v (slice_index n.raw v)) o.size) e)
+    cond_both (nat_lt 0 session) (filtered_distance o n.imports v (slice_index (replicate o.size o.size) v)) o.size (λ x. x ≡ o.size)
+    (λ _. ap (λ x. filtered_distance o n.imports v x) (get_or-replicate o.size v o.size 0 h) ∙ filtered_unreached o n.imports v) (λ _. refl)
+    ∙ sym (ap (λ s. cond (nat_lt 0 s) (filtered_distance o n.imports v (slice_index n.raw v)) o.size) e)
 
 -- a filter of what is told changes nothing while the neighbour is down
 pub importing_distance : (o : OpeningView) (f : VerifiedView) (v : ℕ) (n : NeighbourView) → n.session ≡ 0 →
     neighbour_distance o v (importing f n) ≡ neighbour_distance o v n
 importing_distance o f v n e =
-    ap (λ s. cond (nat_lt 0 s) (pass o (Some f) v (slice_index n.raw v)) o.size) e
-    ∙ sym (ap (λ s. cond (nat_lt 0 s) (pass o n.imports v (slice_index n.raw v)) o.size) e)
+    ap (λ s. cond (nat_lt 0 s) (filtered_distance o (Some f) v (slice_index n.raw v)) o.size) e
+    ∙ sym (ap (λ s. cond (nat_lt 0 s) (filtered_distance o n.imports v (slice_index n.raw v)) o.size) e)
 
 -- a distance that is heard is that of one node
 pub heard_distance : (o : OpeningView) (v d u : ℕ) (n : NeighbourView) → (u ≡ v → ⊥) →
     neighbour_distance o u (heard v d n) ≡ neighbour_distance o u n
 heard_distance o v d u n other =
-    ap (λ x. cond (is_up n) (pass o n.imports u x) o.size) (get_or-set_other n.raw v u d 0 other)
+    ap (λ x. cond (is_up n) (filtered_distance o n.imports u x) o.size) (get_or-set_other n.raw v u d 0 other)
 
 pub heard_here : (o : OpeningView) (v d : ℕ) (n : NeighbourView) → v < length n.raw → is_up n ≡ true →
-    neighbour_distance o v (heard v d n) ≡ pass o n.imports v d
+    neighbour_distance o v (heard v d n) ≡ filtered_distance o n.imports v d
 heard_here o v d n h up =
-    ap (λ b. cond b (pass o n.imports v (slice_index (slice_set n.raw v d) v)) o.size) up
-    ∙ ap (λ x. pass o n.imports v x) (get_or-set_same n.raw v d 0 h)
+    ap (λ b. cond b (filtered_distance o n.imports v (slice_index (slice_set n.raw v d) v)) o.size) up
+    ∙ ap (λ x. filtered_distance o n.imports v x) (get_or-set_same n.raw v d 0 h)

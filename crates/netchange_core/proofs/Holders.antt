@@ -47,7 +47,7 @@ found_holds ns s k h =
 pub found_up : (ns : List NeighbourView) (s k : ℕ) → position (has_session s) ns ≡ Some k → is_up (neighbour_at ns k) ≡ true
 found_up ns s k h = (has_it s (neighbour_at ns k) (position-Some (has_session s) ns k nobody h).1).0
 
--- whoever a look finds is up
+-- so is whoever is found, if anyone is
 pub holder_up : (ns : List NeighbourView) (s : ℕ) (o : Option ℕ) → o ≡ position (has_session s) ns →
     IfSome o (λ k. is_up (neighbour_at ns k) ≡ true)
 holder_up ns s None e = tt

@@ -9,7 +9,7 @@ use Rattle.netchange_core.specs.declared.reply.Reply.TheVariants as reply
 use Rattle.netchange_core.specs.Best.{best_by, neighbour_distance}
 use Rattle.netchange_core.specs.Kept.{AreKept, AreNeighbours, IsDestination, distance_by}
 use Rattle.netchange_core.specs.Next.{answered, count_changes, heard, receive, recomputed, refused, tell, tell_changes}
-use Rattle.netchange_core.specs.Pass.{pass}
+use Rattle.netchange_core.specs.FilteredDistance.{filtered_distance}
 use Rattle.netchange_core.specs.OpeningView.{OpeningView}
 use Rattle.netchange_core.specs.Settling.{told_if_differs}
 use Rattle.netchange_core.specs.World.{NeighbourView, change, changed, is_up, neighbour_at, nobody}
@@ -100,7 +100,7 @@ told_good o size v a b ns good =
 
 module _ (o : OpeningView) (k v d : ℕ) (ns ms : List NeighbourView) (ds : List Destination) (head : Destination) (near : ℕ)
     (route : BestRoute) (kept : AreKept o ns ds) (h : k < length ns) (e : ms ≡ change k (heard v d) ns) (node : v < o.size)
-    (reach : d ≤ o.size) (up : is_up (neighbour_at ns k) ≡ true) (near_is : near ≡ pass o (neighbour_at ns k).imports v d)
+    (reach : d ≤ o.size) (up : is_up (neighbour_at ns k) ≡ true) (near_is : near ≡ filtered_distance o (neighbour_at ns k).imports v d)
     (i : ℕ) (place : i ≡ v)
     (best : route ≡ best_by o v (slice_set (slice_index_or ds i head).distances.items k near)) where
   others : (u : ℕ) → (u ≡ v → ⊥) → map (neighbour_distance o u) ms ≡ map (neighbour_distance o u) ns

@@ -11,7 +11,7 @@ use Rattle.netchange_core.specs.Best.{best_by}
 use Rattle.netchange_core.specs.Calls.{opened}
 use Rattle.netchange_core.specs.Next.{next}
 use Rattle.netchange_core.specs.OpeningView.{OpeningView}
-use Rattle.netchange_core.specs.Pass.{pass}
+use Rattle.netchange_core.specs.FilteredDistance.{filtered_distance}
 use Rattle.netchange_core.specs.World.{World}
 
 -- node 0 of four
@@ -36,7 +36,7 @@ nothing_reached = told 0 0 ∷ (told 1 4 ∷ (told 2 4 ∷ (told 3 4 ∷ [])))
 -- a neighbour joins, is told all distances, and nothing twice
 pub joins : replies (event.Up 1 ∷ (event.Take 1 9 ∷ (event.Take 1 9 ∷ [])))
     ≡ reply.Opened 1 ∷ (reply.Messages nothing_reached ∷ (reply.Messages [] ∷ []))
-unfolding best_by pass
+unfolding best_by filtered_distance
 joins = refl
 
 -- a neighbour that is near is the next hop; what it reaches at distance 3 is out of reach here
@@ -44,7 +44,7 @@ pub hears : replies (event.Up 1 ∷ (event.Take 1 9 ∷ (event.Receive 1 1 0 ∷
     ∷ (event.Receive 1 2 3 ∷ (event.Show 2 ∷ [])))))))
     ≡ reply.Opened 1 ∷ (reply.Messages nothing_reached ∷ (reply.Done 1 ∷ (reply.Route 1 (Node 1)
     ∷ (reply.Messages (told 1 1 ∷ []) ∷ (reply.Done 0 ∷ (reply.Route 4 Nowhere ∷ []))))))
-unfolding best_by pass
+unfolding best_by filtered_distance
 hears = refl
 
 -- of two neighbours that are as near the least is the next hop, and a changed next hop alone is not told
@@ -53,7 +53,7 @@ pub ties : replies (event.Up 1 ∷ (event.Up 2 ∷ (event.Receive 2 3 1 ∷ (eve
     ≡ reply.Opened 1 ∷ (reply.Opened 2 ∷ (reply.Done 1 ∷ (reply.Route 2 (Node 2) ∷ (reply.Done 0
     ∷ (reply.Route 2 (Node 1)
     ∷ (reply.Messages (told 0 0 ∷ (told 1 4 ∷ (told 2 4 ∷ (told 3 4 ∷ (told 3 2 ∷ []))))) ∷ []))))))
-unfolding best_by pass
+unfolding best_by filtered_distance
 ties = refl
 
 -- refusals, and a session that is over
@@ -62,11 +62,11 @@ pub refuses : replies (event.Up 1 ∷ (event.Receive 1 9 0 ∷ (event.Receive 1 
     ≡ reply.Opened 1 ∷ (reply.Refused refusal.BadDest ∷ (reply.Refused refusal.BadDist
     ∷ (reply.Refused refusal.AlreadyUp ∷ (reply.Done 0 ∷ (reply.Refused refusal.Stale ∷ (reply.Opened 2
     ∷ (reply.Refused refusal.NoNode ∷ (reply.Refused refusal.Stale ∷ []))))))))
-unfolding best_by pass
+unfolding best_by filtered_distance
 refuses = refl
 
 -- the router itself, and a node out of reach
 pub shows : replies (event.Up 1 ∷ (event.Show 0 ∷ (event.Show 1 ∷ (event.Show 4 ∷ []))))
     ≡ reply.Opened 1 ∷ (reply.Route 0 Local ∷ (reply.Route 4 Nowhere ∷ (reply.Refused refusal.BadDest ∷ [])))
-unfolding best_by pass
+unfolding best_by filtered_distance
 shows = refl

@@ -2,11 +2,11 @@
 pub mod Best
 pub mod Calls
 pub mod Codes
+pub mod FilteredDistance
 pub mod Kept
 pub mod Leading
 pub mod Next
 pub mod OpeningView
-pub mod Pass
 pub mod Room
 pub mod Whole
 pub mod World

@@ -11,7 +11,7 @@ use Rattle.netchange_core.specs.declared.reply.Reply.{Reply}
 use Rattle.netchange_core.specs.declared.reply.Reply.TheVariants as reply
 use Rattle.netchange_core.specs.Best.{best, distance}
 use Rattle.netchange_core.specs.OpeningView.{OpeningView}
-use Rattle.netchange_core.specs.Pass.{pass}
+use Rattle.netchange_core.specs.FilteredDistance.{filtered_distance}
 use Rattle.netchange_core.specs.World.{NeighbourView, World, changed, holder, is_up, neighbour_at}
 
 -- the world and the reply after an event
@@ -28,7 +28,7 @@ refused w why = answered w (reply.Refused why)
 
 -- the message that tells a neighbour with this export filter a distance
 abbrev pub message_of : OpeningView → Option VerifiedView → ℕ → ℕ → Message
-message_of o exports v d = record { dest = v; dist = pass o exports v d }
+message_of o exports v d = record { dest = v; dist = filtered_distance o exports v d }
 
 -- a neighbour, after the distance to a node was queued for it if it is up
 abbrev pub tell : OpeningView → ℕ → ℕ → NeighbourView → NeighbourView

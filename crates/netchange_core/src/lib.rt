@@ -26,7 +26,7 @@ mod up;
 
 pub use best_route::BestRoute;
 pub use event::Event;
-pub use filter::pass;
+pub use filter::filtered_distance;
 pub use laws::best_route_leads;
 pub use message::{Message, Messages};
 pub use opening::Opening;

@@ -7,7 +7,7 @@ ghost use Rattle.netchange_core.specs.Next.{receive};
 ghost use Rattle.netchange_core.specs.World.{is_up, neighbour_at};
 
 use crate::changing::hear;
-use crate::filter::pass;
+use crate::filter::filtered_distance;
 use crate::message::Message;
 use crate::reply::{Refusal, Reply};
 use crate::room::make_room_if_differs;
@@ -33,7 +33,7 @@ impl State {
             return Ok(Reply::Refused(Refusal::BadDist));
         }
         let present = self.sessions.present.as_slice();
-        let near = pass(opening, &self.neighbours[hop].imports, dest, dist);
+        let near = filtered_distance(opening, &self.neighbours[hop].imports, dest, dist);
         let destination = &mut self.destinations[usize::from(dest)];
         let route = route_after(opening, present, dest, destination, hop, near);
         let old = destination.route.dist;

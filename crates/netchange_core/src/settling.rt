@@ -11,7 +11,7 @@ ghost use Rattle.netchange_core.specs.World.{neighbour_at};
 
 use crate::best_route::{BestRoute, revised};
 use crate::destination::Destination;
-use crate::filter::pass;
+use crate::filter::filtered_distance;
 use crate::neighbour::Neighbour;
 use crate::opening::Opening;
 use crate::sessions::Present;
@@ -28,7 +28,7 @@ pub(crate) fn neighbour_distance(opening: &Opening, neighbour: &Neighbour, node:
     if neighbour.session == 0 {
         return opening.size();
     }
-    pass(
+    filtered_distance(
         opening,
         &neighbour.imports,
         node,

@@ -9,7 +9,7 @@ ghost use Rattle.netchange_core.specs.Room.{HaveRoom, queueing};
 ghost use Rattle.netchange_core.specs.Settling.{told_if_differs};
 
 use crate::destination::Destination;
-use crate::filter::pass;
+use crate::filter::filtered_distance;
 use crate::message::Message;
 use crate::neighbour::Neighbour;
 use crate::opening::Opening;
@@ -25,7 +25,7 @@ fn queue_message(opening: &Opening, neighbour: &mut Neighbour, node: u16, dist: 
     ensures len { deque_len neighbour.new.queue ≡ deque_len neighbour.old.queue + 1 }
     ensures capacity { deque_capacity neighbour.new.queue ≡ deque_capacity neighbour.old.queue }
 {
-    let dist = pass(opening, &neighbour.exports, node, dist);
+    let dist = filtered_distance(opening, &neighbour.exports, node, dist);
     neighbour
         .queue
         .push_back_reserved(Message { dest: node, dist });

@@ -6,7 +6,7 @@ use Rattle.hex.specs.Hex.{decode_pairs}
 use Rattle.line_protocol.specs.Lines.{numbered}
 use Rattle.line_protocol.specs.Runs.{Runs}
 use Rattle.netchange_core.specs.Best.{best_by}
-use Rattle.netchange_core.specs.Pass.{pass}
+use Rattle.netchange_core.specs.FilteredDistance.{filtered_distance}
 use Rattle.netchange_core.specs.declared.event.Event.TheVariants as event
 use Rattle.netchange_core.specs.declared.message.Message.{Message}
 use Rattle.netchange_core.specs.declared.reply.Reply.TheVariants as reply
@@ -95,7 +95,7 @@ tie : Runs AnswersLine fresh (numbered (codes "network 4 0\nup 1\nup 2\nrecv 2 3
     (answered (codes "ok") ∷ answered (codes "opened 1") ∷ answered (codes "opened 2") ∷ answered (codes "done 1")
     ∷ answered (codes "route 2 via 2") ∷ answered (codes "done 0") ∷ answered (codes "route 2 via 1")
     ∷ answered (codes "messages 0:0 1:4 2:4 3:4 3:2") ∷ []) (script_at (Open (tie_after 7)))
-unfolding verb_in number_in decimal_value digits best_by pass
+unfolding verb_in number_in decimal_value digits best_by filtered_distance
 tie = (
   script_at (Setting (default_opening 4 0) 1000000),
   (refl, moves _ _),
@@ -138,7 +138,7 @@ limited_after count = record { opening = default_opening 4 0; limit = 3; entries
 limit_of_three : Runs AnswersLine fresh (numbered (codes "network 4 0 3\nup 1\nshow 0\nshow 1\nshow 2\n"))
     (answered (codes "ok") ∷ answered (codes "opened 1") ∷ answered (codes "route 0 local") ∷ answered (codes "route 4 none")
     ∷ refused (codes "J1") 3 ∷ []) (script_at (Open (limited_after 3)))
-unfolding verb_in number_in decimal_value digits best_by pass
+unfolding verb_in number_in decimal_value digits best_by filtered_distance
 limit_of_three = (
   script_at (Setting (default_opening 4 0) 3),
   (refl, moves _ _),
@@ -189,7 +189,7 @@ refused_lines =
 
 -- before the first event a router knows itself alone
 first_look : looked (tables_of (new_journal (default_opening 4 1) 9)) 3 Routes ≡ answered (codes "routes 0:4 1:0 2:4 3:4")
-unfolding digits best_by pass texts_below
+unfolding digits best_by filtered_distance texts_below
 first_look = refl
 
 -- what a filter made of a distance stands behind it, where that is another
@@ -203,7 +203,7 @@ looks_at_the_tie : Runs AnswersLine (script_at (Open (tie_after 6)))
     (answered (codes "routes 0:0 1:4 2:4 3:2:1") ∷ answered (codes "neighbours 1:1 2:2") ∷ answered (codes "told 0:4 1:4 2:4 3:1")
     ∷ refused (codes "O2") 4 ∷ answered (codes "history 4 recv 1 3 1 done 0 | 5 show 3 route 2 via 1") ∷ answered (codes "history")
     ∷ []) (script_at (Open (tie_after 6)))
-unfolding verb_in number_in decimal_value digits best_by pass texts_below
+unfolding verb_in number_in decimal_value digits best_by filtered_distance texts_below
 looks_at_the_tie =
     let tied : StageView = Open (tie_after 6) in (
       script_at tied,

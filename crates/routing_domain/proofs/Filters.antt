@@ -12,7 +12,7 @@ use Rattle.netchange_core.specs.Best.{best, best_by, distance, neighbour_distanc
 use Rattle.netchange_core.specs.Kept.{IsNeighbour}
 use Rattle.netchange_core.specs.Next.{Answered, all_messages, answered, exporting, importing, is_no_neighbour, message_of, recomputed, refused}
 use Rattle.netchange_core.specs.OpeningView.{OpeningView}
-use Rattle.netchange_core.specs.Pass.{pass}
+use Rattle.netchange_core.specs.FilteredDistance.{filtered_distance}
 use Rattle.netchange_core.specs.World.{NeighbourView, World, change, changed, is_up, neighbour_at, nobody}
 use Rattle.netchange_core.proofs.Change.{change_good, changed_at, map_change_same}
 use Rattle.netchange_core.proofs.Goes.{neighbour_below}
@@ -31,14 +31,14 @@ use Rattle.routing_domain.proofs.Told.{last_told_both}
 
 -- who is told all distances is told each
 pub told_all : (o : OpeningView) (exports : Option VerifiedView) (dist : ℕ → ℕ) (count v before : ℕ) → v < count →
-    last_told v before (all_messages o exports dist count) ≡ pass o exports v (dist v)
+    last_told v before (all_messages o exports dist count) ≡ filtered_distance o exports v (dist v)
 told_all o exports dist zero v before below = absurd (omega (arith, below))
 told_all o exports dist (suc u) v before below =
     last_told_both v before (all_messages o exports dist u) (message_of o exports u (dist u) ∷ [])
     ∙ ⊎_elim
-    (λ here. ap (λ b. cond b (pass o exports u (dist u)) (last_told v before (all_messages o exports dist u))) (eq-eqb u v here)
-    ∙ ap (λ x. pass o exports x (dist x)) here)
-    (λ other. ap (λ b. cond b (pass o exports u (dist u)) (last_told v before (all_messages o exports dist u))) (ne_eqb u v other)
+    (λ here. ap (λ b. cond b (filtered_distance o exports u (dist u)) (last_told v before (all_messages o exports dist u))) (eq-eqb u v here)
+    ∙ ap (λ x. filtered_distance o exports x (dist x)) here)
+    (λ other. ap (λ b. cond b (filtered_distance o exports u (dist u)) (last_told v before (all_messages o exports dist u))) (ne_eqb u v other)
     ∙ told_all o exports dist u v before (omega (arith, below, other)))
     (cases_eq u v)
 
@@ -144,15 +144,15 @@ export_keeps size u k b r f m short = record {
         let at_k : neighbour_at (exporter r k f).neighbours b ≡ exporting r.opening (distance r) f n =
         ap (λ x. neighbour_at (exporter r k f).neighbours x) here ∙ changed_at k (exporting r.opening (distance r) f) r.neighbours near in
         let up_there : is_up n ≡ true = ap (λ x. is_up (neighbour_at r.neighbours x)) (sym here) ∙ up in
-        subst (λ y. last_told v before y.queue ≡ pass r.opening y.exports v (distance (exporter r k f) v)) (sym at_k)
+        subst (λ y. last_told v before y.queue ≡ filtered_distance r.opening y.exports v (distance (exporter r k f) v)) (sym at_k)
         (ap (λ c. last_told v before (cond c (n.queue ++ all) n.queue)) up_there
         ∙ last_told_both v before n.queue all
         ∙ told_all r.opening (Some f) (distance r) r.opening.size v (last_told v before n.queue) (omega (arith, below, m.size))
-        ∙ ap (λ x. pass r.opening (Some f) v x) (sym (exporter_distance r k f v))))
+        ∙ ap (λ x. filtered_distance r.opening (Some f) v x) (sym (exporter_distance r k f v))))
         (λ other.
-        subst (λ y. last_told v before y.queue ≡ pass r.opening y.exports v (distance (exporter r k f) v))
+        subst (λ y. last_told v before y.queue ≡ filtered_distance r.opening y.exports v (distance (exporter r k f) v))
         (sym (changed_other k b (exporting r.opening (distance r) f) r.neighbours near other))
-        (told ∙ ap (λ x. pass r.opening (neighbour_at r.neighbours b).exports v x) (sym (exporter_distance r k f v))))
+        (told ∙ ap (λ x. filtered_distance r.opening (neighbour_at r.neighbours b).exports v x) (sym (exporter_distance r k f v))))
         (cases_eq b k)
 
 pub exporting_keeps_order : (d : Domain) (u w : ℕ) (f : Arc VerifiedView Global) → IsInOrder d → u < d.size → IsInOrder (enters d u (event.SetExport w f))

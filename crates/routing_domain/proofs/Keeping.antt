@@ -6,7 +6,7 @@ use Rattle.std.proofs.lemmas.List.Elements.{All-nil}
 use Rattle.netchange_core.specs.declared.message.Message.{Message}
 use Rattle.netchange_core.specs.Best.{distance}
 use Rattle.netchange_core.specs.Kept.{AreNeighbours}
-use Rattle.netchange_core.specs.Pass.{pass}
+use Rattle.netchange_core.specs.FilteredDistance.{filtered_distance}
 use Rattle.netchange_core.specs.World.{World, is_up, neighbour_at}
 use Rattle.routing_domain.specs.Domain.{Domain, IsInOrder, IsSound, IsWithin, are_linked, last_told}
 use Rattle.routing_domain.specs.Steps.{with_router}
@@ -29,7 +29,7 @@ member_of d u o short =
 -- once these messages, queued for a neighbour, came in, it was told the distance as it is now
 abbrev pub IsTold : World → ℕ → ℕ → ℕ → Type 0
 IsTold r b v before =
-    last_told v before (neighbour_at r.neighbours b).queue ≡ pass r.opening (neighbour_at r.neighbours b).exports v (distance r v)
+    last_told v before (neighbour_at r.neighbours b).queue ≡ filtered_distance r.opening (neighbour_at r.neighbours b).exports v (distance r v)
 
 -- from one world to another a router keeps its link with a neighbour: its session, what it was told, and that it tells
 pub record KeepsLink (size : ℕ) (r s : World) (b : ℕ) : Type 0 where

@@ -7,7 +7,7 @@ use Rattle.netchange_core.specs.Best.{best_by, distance, neighbour_distance, nei
 use Rattle.netchange_core.specs.Kept.{IsNeighbour}
 use Rattle.netchange_core.specs.Next.{answered, is_no_neighbour, joined, last_session, next, up}
 use Rattle.netchange_core.specs.OpeningView.{OpeningView}
-use Rattle.netchange_core.specs.Pass.{pass}
+use Rattle.netchange_core.specs.FilteredDistance.{filtered_distance}
 use Rattle.netchange_core.specs.World.{NeighbourView, World, changed, is_up, neighbour_at, nobody}
 use Rattle.netchange_core.proofs.Change.{change_good, changed_at, map_change_same}
 use Rattle.netchange_core.proofs.Goes.{up_goes}
@@ -82,8 +82,8 @@ joiner_keeps size u k b r m short down other =
       session = ap (λ n. n.session) same;
       raw = ap (λ n. n.raw) same;
       tells = λ up v before below told.
-          subst (λ y. last_told v before y.queue ≡ pass r.opening y.exports v (distance (joiner r k) v)) (sym same)
-          (told ∙ ap (λ x. pass r.opening (neighbour_at r.neighbours b).exports v x) (sym (joiner_distance size u k v r m down below)));
+          subst (λ y. last_told v before y.queue ≡ filtered_distance r.opening y.exports v (distance (joiner r k) v)) (sym same)
+          (told ∙ ap (λ x. filtered_distance r.opening (neighbour_at r.neighbours b).exports v x) (sym (joiner_distance size u k v r m down below)));
     }
 
 joiner_at : (size u k : ℕ) (r : World) → IsMember size u r → k < size →
@@ -98,9 +98,9 @@ pub joiner_tells : (size u k v : ℕ) (r rb : World) → IsMember size u r → k
 joiner_tells size u k v r rb m short down below =
     let n = neighbour_at r.neighbours k in
     let raw = slice_index (neighbour_at rb.neighbours u).raw v in
-    subst (λ y. last_told v raw ([] ++ y.queue) ≡ pass r.opening y.exports v (distance (joiner r k) v)) (sym (joiner_at size u k r m short))
+    subst (λ y. last_told v raw ([] ++ y.queue) ≡ filtered_distance r.opening y.exports v (distance (joiner r k) v)) (sym (joiner_at size u k r m short))
     (told_all r.opening n.exports (distance r) r.opening.size v raw (omega (arith, below, m.size))
-    ∙ ap (λ x. pass r.opening n.exports v x) (sym (joiner_distance size u k v r m down below)))
+    ∙ ap (λ x. filtered_distance r.opening n.exports v x) (sym (joiner_distance size u k v r m down below)))
 
 -- the two, and the others
 pub other_end : (d : Domain) (u w : ℕ) → IsInOrder d → CanLink d u w → are_linked d w u ≡ false

@@ -12,7 +12,7 @@ use Rattle.netchange_core.specs.World.{NeighbourView, World, change, changed, is
 use Rattle.netchange_core.proofs.Change.{changed_at}
 use Rattle.netchange_core.proofs.Opened.{best_within}
 use Rattle.routing_domain.specs.Domain.{IsQueued, IsSound, IsWithin}
-use Rattle.routing_domain.proofs.Increasing.{pass_farther}
+use Rattle.routing_domain.proofs.Increasing.{filtered_farther}
 use Rattle.routing_domain.proofs.Recomputed.{changed_other, recomputed_at}
 use Rattle.routing_domain.proofs.Seen.{told_seen}
 use Rattle.routing_domain.proofs.Told.{told_changes}
@@ -21,7 +21,7 @@ use Rattle.routing_domain.proofs.Told.{told_changes}
 message_within : (o : OpeningView) (exports : Option VerifiedView) (size v d : ℕ) → o.size ≡ size → v < size → d ≤ size →
     IsWithin size (message_of o exports v d)
 message_within o exports size v d e there limit =
-    record { dest = there; dist = omega (arith, e, (pass_farther o exports v d (omega (arith, e, limit))).within) }
+    record { dest = there; dist = omega (arith, e, (filtered_farther o exports v d (omega (arith, e, limit))).within) }
 
 pub all_within : (o : OpeningView) (exports : Option VerifiedView) (size : ℕ) (dist : ℕ → ℕ) (count : ℕ) → o.size ≡ size → count ≤ size →
     ((v : ℕ) → dist v ≤ size) → All (IsWithin size) (all_messages o exports dist count)

@@ -10,7 +10,7 @@ use Rattle.netchange_core.specs.declared.message.Message.{Message}
 use Rattle.netchange_core.specs.declared.reply.Refusal.TheVariants as refusal
 use Rattle.netchange_core.specs.Best.{distance}
 use Rattle.netchange_core.specs.Next.{Answered, exporting, gone, heard, importing, joined, receive, recomputed, refused, relieved}
-use Rattle.netchange_core.specs.Pass.{pass}
+use Rattle.netchange_core.specs.FilteredDistance.{filtered_distance}
 use Rattle.netchange_core.specs.World.{World, changed, is_up, neighbour_at}
 use Rattle.netchange_core.proofs.Change.{changed_at}
 use Rattle.netchange_core.proofs.Goes.{export_goes, import_goes}
@@ -110,9 +110,9 @@ two_read g d e u w s t now x same_u same_w =
 -- the toll between two nodes is of their openings and of two filters
 toll_as : (ra sa rb sb : World) (a b v x : ℕ) → sa.opening ≡ ra.opening → (neighbour_at sa.neighbours b).imports ≡ (neighbour_at ra.neighbours b).imports →
     sb.opening ≡ rb.opening → (neighbour_at sb.neighbours a).exports ≡ (neighbour_at rb.neighbours a).exports →
-    pass sa.opening (neighbour_at sa.neighbours b).imports v (pass sb.opening (neighbour_at sb.neighbours a).exports v x)
-    ≡ pass ra.opening (neighbour_at ra.neighbours b).imports v (pass rb.opening (neighbour_at rb.neighbours a).exports v x)
-toll_as ra sa rb sb a b v x oa im ob ex = λ i. pass (oa i) (im i) v (pass (ob i) (ex i) v x)
+    filtered_distance sa.opening (neighbour_at sa.neighbours b).imports v (filtered_distance sb.opening (neighbour_at sb.neighbours a).exports v x)
+    ≡ filtered_distance ra.opening (neighbour_at ra.neighbours b).imports v (filtered_distance rb.opening (neighbour_at rb.neighbours a).exports v x)
+toll_as ra sa rb sb a b v x oa im ob ex = λ i. filtered_distance (oa i) (im i) v (filtered_distance (ob i) (ex i) v x)
 
 -- what a router sees of its neighbours that is of the topology: who is up, and the filters
 record SeesAs (r s : World) : Type 0 where
@@ -233,7 +233,7 @@ cuts_topology d u w v o from to linked =
 -- new filters
 pub import_topology : (d : Domain) (u w v : ℕ) (f : Arc VerifiedView Global) → IsInOrder d → u < d.size → w < d.size → (u ≡ w → ⊥) → f.value.size ≡ d.size →
     topology (enters d u (event.SetImport w f)) v
-    ≡ with_toll (topology d v) u w (λ x. pass (d.router u).opening (Some f.value) v (exported d w u v x))
+    ≡ with_toll (topology d v) u w (λ x. filtered_distance (d.router u).opening (Some f.value) v (exported d w u v x))
 import_topology d u w v f o from to apart fits =
     ap (λ a. topology (with_router d u a.world) v)
     (import_goes r.opening r.sessions w r.neighbours f.value (no_neighbour r.opening w (omega (arith, to, o.size u from)) (λ h. apart (sym (h ∙ o.me u from)))) (fits ∙ sym (o.size u from)))
@@ -264,19 +264,19 @@ import_topology d u w v f o from to apart fits =
     here = ap (λ y. (neighbour_at y.neighbours w).imports) (router_here d u s)
         ∙ told_seen (λ n. n.imports) r w (importing f.value) w (λ _ _. refl) ∙ ap (λ n. n.imports) (changed_at w (importing f.value) r.neighbours near)
 
-    toll : (a b x : ℕ) → (topology e v).toll a b x ≡ (with_toll (topology d v) u w (λ y. pass (d.router u).opening (Some f.value) v (exported d w u v y))).toll a b x
-    toll = pair_set (topology e v).toll (topology d v).toll u w (λ y. pass (d.router u).opening (Some f.value) v (exported d w u v y))
-        (λ x i. pass (opening u i) (here i) v (pass (opening w i) (exports w u i) v x))
+    toll : (a b x : ℕ) → (topology e v).toll a b x ≡ (with_toll (topology d v) u w (λ y. filtered_distance (d.router u).opening (Some f.value) v (exported d w u v y))).toll a b x
+    toll = pair_set (topology e v).toll (topology d v).toll u w (λ y. filtered_distance (d.router u).opening (Some f.value) v (exported d w u v y))
+        (λ x i. filtered_distance (opening u i) (here i) v (filtered_distance (opening w i) (exports w u i) v x))
         (λ a b x p. toll_as (d.router a) (e.router a) (d.router b) (e.router b) a b v x (opening a)
         (one_read (λ y. (neighbour_at y.neighbours b).imports) d u s a (λ h. recomputed_other (λ n. n.imports) r w (importing f.value) b (λ _ _. refl) near (p.other h)))
         (opening b) (exports b a))
 
-    after : topology e v ≡ with_toll (topology d v) u w (λ x. pass (d.router u).opening (Some f.value) v (exported d w u v x))
+    after : topology e v ≡ with_toll (topology d v) u w (λ x. filtered_distance (d.router u).opening (Some f.value) v (exported d w u v x))
     after = λ i. record { size = d.size; linked = λ a b. linked a b i; toll = λ a b x. toll a b x i }
 
 pub export_topology : (d : Domain) (u w v : ℕ) (f : Arc VerifiedView Global) → IsInOrder d → u < d.size → w < d.size → (u ≡ w → ⊥) → f.value.size ≡ d.size →
     topology (enters d u (event.SetExport w f)) v
-    ≡ with_toll (topology d v) w u (λ x. imported d w u v (pass (d.router u).opening (Some f.value) v x))
+    ≡ with_toll (topology d v) w u (λ x. imported d w u v (filtered_distance (d.router u).opening (Some f.value) v x))
 export_topology d u w v f o from to apart fits =
     ap (λ a. topology (with_router d u a.world) v)
     (export_goes r.opening r.sessions w r.neighbours f.value (no_neighbour r.opening w (omega (arith, to, o.size u from)) (λ h. apart (sym (h ∙ o.me u from)))) (fits ∙ sym (o.size u from)))
@@ -307,11 +307,11 @@ export_topology d u w v f o from to apart fits =
     here = ap (λ y. (neighbour_at y.neighbours w).exports) (router_here d u s)
         ∙ ap (λ n. n.exports) (changed_at w (exporting r.opening (distance r) f.value) r.neighbours near)
 
-    toll : (a b x : ℕ) → (topology e v).toll a b x ≡ (with_toll (topology d v) w u (λ y. imported d w u v (pass (d.router u).opening (Some f.value) v y))).toll a b x
-    toll = pair_set (topology e v).toll (topology d v).toll w u (λ y. imported d w u v (pass (d.router u).opening (Some f.value) v y))
-        (λ x i. pass (opening w i) (imports w u i) v (pass (opening u i) (here i) v x))
+    toll : (a b x : ℕ) → (topology e v).toll a b x ≡ (with_toll (topology d v) w u (λ y. imported d w u v (filtered_distance (d.router u).opening (Some f.value) v y))).toll a b x
+    toll = pair_set (topology e v).toll (topology d v).toll w u (λ y. imported d w u v (filtered_distance (d.router u).opening (Some f.value) v y))
+        (λ x i. filtered_distance (opening w i) (imports w u i) v (filtered_distance (opening u i) (here i) v x))
         (λ a b x p. toll_as (d.router a) (e.router a) (d.router b) (e.router b) a b v x (opening a) (imports a b) (opening b)
         (one_read (λ y. (neighbour_at y.neighbours a).exports) d u s b (λ h. ap (λ n. n.exports) (changed_other w a (exporting r.opening (distance r) f.value) r.neighbours near (λ q. p.other q h)))))
 
-    after : topology e v ≡ with_toll (topology d v) w u (λ x. imported d w u v (pass (d.router u).opening (Some f.value) v x))
+    after : topology e v ≡ with_toll (topology d v) w u (λ x. imported d w u v (filtered_distance (d.router u).opening (Some f.value) v x))
     after = λ i. record { size = d.size; linked = λ a b. linked a b i; toll = λ a b x. toll a b x i }

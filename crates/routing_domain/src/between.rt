@@ -6,7 +6,7 @@ ghost use Rattle.std.proofs.Common.{Global};
 ghost use Rattle.filter_verifier.specs.VerifiedView.{VerifiedView};
 ghost use Rattle.netchange_core.specs.declared.event.Event.TheVariants as event;
 ghost use Rattle.netchange_core.specs.declared.message.Message.{Message};
-ghost use Rattle.netchange_core.specs.Pass.{pass};
+ghost use Rattle.netchange_core.specs.FilteredDistance.{filtered_distance};
 ghost use Rattle.routing_domain.specs.Changes.{with_link, with_toll, without_link};
 ghost use Rattle.routing_domain.specs.Domain.{Domain, IsInOrder, are_linked, exported, imported, topology};
 ghost use Rattle.routing_domain.specs.Events.{CanLink, cuts, enters, links};
@@ -25,8 +25,8 @@ pub fn events_change_topology()
         topology (cuts d u w) v ≡ without_link (topology d v) u w }
     ensures set_import { (d : Domain) → (u w v : ℕ) → (f : Arc VerifiedView Global) → IsInOrder d → u < d.size → w < d.size → u ≢ w → f.value.size ≡ d.size →
         topology (enters d u (event.SetImport w f)) v
-        ≡ with_toll (topology d v) u w (λ x. pass (d.router u).opening (Some f.value) v (exported d w u v x)) }
+        ≡ with_toll (topology d v) u w (λ x. filtered_distance (d.router u).opening (Some f.value) v (exported d w u v x)) }
     ensures set_export { (d : Domain) → (u w v : ℕ) → (f : Arc VerifiedView Global) → IsInOrder d → u < d.size → w < d.size → u ≢ w → f.value.size ≡ d.size →
         topology (enters d u (event.SetExport w f)) v
-        ≡ with_toll (topology d v) w u (λ x. imported d w u v (pass (d.router u).opening (Some f.value) v x)) }
+        ≡ with_toll (topology d v) w u (λ x. imported d w u v (filtered_distance (d.router u).opening (Some f.value) v x)) }
 {}

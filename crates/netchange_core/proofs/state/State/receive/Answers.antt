@@ -6,11 +6,10 @@ use Rattle.netchange_core.specs.Best.{best_by}
 use Rattle.netchange_core.specs.Kept.{AreNeighbours, view_of, views_of}
 use Rattle.netchange_core.specs.Leading.{ListsReachable}
 use Rattle.netchange_core.specs.Next.{heard}
-use Rattle.netchange_core.specs.Pass.{pass}
+use Rattle.netchange_core.specs.FilteredDistance.{filtered_distance}
 use Rattle.netchange_core.specs.Present.{AreListed, ArePresent, sessions_of}
 use Rattle.netchange_core.specs.Room.{HaveRoom}
 use Rattle.netchange_core.specs.Settling.{told_if_differs}
-use Rattle.netchange_core.specs.World.{neighbour_at}
 use Rattle.netchange_core.proofs.Change.{change_good}
 use Rattle.netchange_core.proofs.Good.{heard_good}
 use Rattle.netchange_core.proofs.Holders.{up_within}
@@ -34,9 +33,9 @@ route_after-route-requires-clause-listed c =
     let column = ap (λ d. d.distances.items) c.index_mut-destination.ensures.value
     ∙ ap (λ j. (slice_index_or s.destinations.items j head).distances.items) c.from.ensures
     ∙ c.requires.right.kept.distances v head (omega arith) in
-    subst (λ qs. ListsReachable o.size (slice_set head.distances.items c.args.hop c.pass-near.result) qs)
+    subst (λ qs. ListsReachable o.size (slice_set head.distances.items c.args.hop c.filtered_distance-near.result) qs)
     (sym c.as_slice-present.ensures.value)
-    (reachable_set o.size head.distances.items ps c.args.hop c.pass-near.result
+    (reachable_set o.size head.distances.items ps c.args.hop c.filtered_distance-near.result
     (subst (λ xs. ListsReachable o.size xs ps) (sym column) (lists_reachable o v ns ps listed))
     (up_is_listed o v ns ps listed c.args.hop c.requires.up))
 
@@ -62,7 +61,8 @@ hear-requires c =
     omega (arith, good.one_a_node)
 
 -- the neighbours after the distance was heard, before it is told
-one : (c : After-index_mut) (new : Neighbour) → view_of new ≡ heard c.args.message.dest c.args.message.dist (view_of c.index_mut.result.now) →
+one : (c : After-index_mut) (new : Neighbour) →
+    view_of new ≡ heard c.args.message.dest c.args.message.dist (view_of c.index_mut.result.now) →
     ChangesOne c.args.self.now.opening c.args.hop (heard c.args.message.dest c.args.message.dist) (views_of c.args.self.now)
     (map view_of (slice_set (with_items c.args.self.now.neighbours c.make_room_if_differs.new.neighbours).items c.args.hop new))
 one c new e =
@@ -73,7 +73,8 @@ one c new e =
 pub tell_if_differs-differs-requires-clause-neighbours : goal.tell_if_differs-differs-requires-clause-neighbours
 tell_if_differs-differs-requires-clause-neighbours c =
     let s = c.args.self.now in
-    let b = one (goal.at.tell_if_differs-differs-requires-clause-neighbours c).After-index_mut c.hear.new.neighbour c.hear.ensures.view in
+    let b = one (goal.at.tell_if_differs-differs-requires-clause-neighbours c).After-index_mut c.hear.new.neighbour
+    c.hear.ensures.view in
     subst (λ ms. AreNeighbours s.opening.size (map view_of ms)) (sym c.deref_mut-2.ensures.value)
     (subst (AreNeighbours s.opening.size) (sym b.is)
     (change_good s.opening.size c.args.hop (heard c.args.message.dest c.args.message.dist) (views_of s) b.within
@@ -83,7 +84,8 @@ pub tell_if_differs-differs-requires-clause-listed : goal.tell_if_differs-differ
 tell_if_differs-differs-requires-clause-listed c =
     let s = c.args.self.now in
     let ps = s.sessions.present.items in
-    let b = one (goal.at.tell_if_differs-differs-requires-clause-listed c).After-index_mut c.hear.new.neighbour c.hear.ensures.view in
+    let b = one (goal.at.tell_if_differs-differs-requires-clause-listed c).After-index_mut c.hear.new.neighbour
+    c.hear.ensures.view in
     subst (λ qs. AreListed (sessions_of (map view_of c.deref_mut-2.result.now)) qs) (sym c.as_slice-present.ensures.value)
     (subst (λ ms. AreListed (sessions_of (map view_of ms)) ps) (sym c.deref_mut-2.ensures.value)
     (subst (λ ss. AreListed ss ps)
@@ -116,11 +118,11 @@ returns c =
     let h = b.within in
     let heard_by = with_item (with_items s.neighbours c.make_room_if_differs.new.neighbours) k c.hear.new.neighbour in
     let ms = map view_of heard_by.items in
-    let near = c.pass-near.ensures.value
-    ∙ ap (λ m. pass o m.imports v d) (looks s c.requires.right s.neighbours.items k c.index.result.now
+    let near = c.filtered_distance-near.ensures.value
+    ∙ ap (λ m. filtered_distance o m.imports v d) (looks s c.requires.right s.neighbours.items k c.index.result.now
     (record { within = h; same = refl; is = c.index.ensures })) in
     let best = c.route_after-route.ensures.best
-    ∙ ap (λ e. best_by o v (slice_set e.distances.items k c.pass-near.result)) is in
+    ∙ ap (λ e. best_by o v (slice_set e.distances.items k c.filtered_distance-near.result)) is in
     let told = ap (λ qs. map view_of qs)
     (put_back heard_by c.tell_if_differs-differs.new.neighbours
     (c.tell_if_differs-differs.auto.neighbours ∙ ap (λ (qs : List Neighbour). length qs) c.deref_mut-2.ensures.value))
@@ -129,13 +131,13 @@ returns c =
     ∙ ap (λ e. told_if_differs o v e.route.dist new.dist ms) is in
     let counts = c.from-2.ensures ∙ ap from_bool c.tell_if_differs-differs.ensures.differs
     ∙ ap (λ e. from_bool (not (nat_eq e.route.dist new.dist))) is in
-    let distances = c.put.ensures.distances ∙ ap (λ e. slice_set e.distances.items k c.pass-near.result) is in
+    let distances = c.put.ensures.distances ∙ ap (λ e. slice_set e.distances.items k c.filtered_distance-near.result) is in
     done s _ _ _ refl
     (receive_goes o s.sessions.count ns k v d (omega arith) (omega arith)
-    ∙ received o k v d ns ms ds head c.pass-near.result new c.requires.right.kept h b.is (omega arith) (omega arith)
+    ∙ received o k v d ns ms ds head c.filtered_distance-near.result new c.requires.right.kept h b.is (omega arith) (omega arith)
     c.requires.up near c.from.result c.from.ensures best s.sessions.count _ c.from-2.result told counts)
     (record {
-      kept = received_kept o k v d ns ms ds head c.pass-near.result new c.requires.right.kept h b.is (omega arith)
+      kept = received_kept o k v d ns ms ds head c.filtered_distance-near.result new c.requires.right.kept h b.is (omega arith)
           (omega arith) c.requires.up near c.from.result c.from.ensures best _ c.put.new.destination told distances
           c.put.ensures.route;
       present = subst (λ ss. ArePresent s.sessions.count ss s.sessions.present.items)

@@ -1,5 +1,5 @@
 use Rattle.std.specs.Int.{from_bool}
-use Rattle.std.proofs.Common.{◌≡◌, ◌≤◌, map, slice_index_or, List, length, ap, sym, subst, ◌∙◌, arith, le_refl}
+use Rattle.std.proofs.Common.{◌≡◌, ◌≤◌, slice_index_or, List, length, ap, sym, subst, ◌∙◌, arith, le_refl}
 use Rattle.std.proofs.lemmas.List.{length-map}
 use Rattle.netchange_core.specs.declared.destination.Destination.{Destination}
 use Rattle.netchange_core.specs.declared.neighbour.Neighbour.{Neighbour}
@@ -49,8 +49,8 @@ overflow_add-changed c =
 pub loop-node-preserved : goal.loop-node-preserved
 loop-node-preserved c =
     settled_more_at c.args.self.now.opening c.args.hop c.loop-node.node c.from.result c.args.self.now.neighbours.items
-    c.loop-node.neighbours c.settle_at.new.neighbours c.args.self.now.destinations.items c.loop-node.destinations c.settle_at.new.destination
-    c.index-destinations-from.result c.loop-node.changed c.from-changed.result c.from.ensures c.loop-node.invariant
+    c.loop-node.neighbours c.settle_at.new.neighbours c.args.self.now.destinations.items c.loop-node.destinations
+    c.settle_at.new.destination c.index-destinations-from.result c.loop-node.changed c.from-changed.result c.from.ensures c.loop-node.invariant
     (omega arith) (omega (arith, length-map c.args.self.now.neighbours.items view_of)) (omega arith) (omega arith) c.requires.stale
     c.settle_at.ensures.told c.settle_at.ensures.distances c.settle_at.ensures.right c.settle_at.ensures.room
     (c.from-changed.ensures ∙ ap from_bool c.settle_at.ensures.changed)
@@ -67,6 +67,6 @@ returns c =
 
 pub settle_at-requires-clause-stale : goal.settle_at-requires-clause-stale
 settle_at-requires-clause-stale c =
-    still_stale c.args.self.now.opening c.args.hop c.loop-node.node c.from.result c.args.self.now.neighbours.items c.loop-node.neighbours
-    c.args.self.now.destinations.items c.loop-node.destinations c.index-destinations-from.result c.loop-node.changed c.from.ensures
+    still_stale c.args.self.now.opening c.args.hop c.loop-node.node c.from.result c.args.self.now.neighbours.items
+    c.loop-node.neighbours c.args.self.now.destinations.items c.loop-node.destinations c.index-destinations-from.result c.loop-node.changed c.from.ensures
     c.loop-node.invariant (omega arith) (omega (arith, length-map c.args.self.now.neighbours.items view_of)) c.requires.stale

@@ -20,8 +20,11 @@ index_mut-neighbour-requires c =
 -- the neighbour
 here : (c : After-index_mut-neighbour) → IsAtHand c.args.self.now c.args.self.now.neighbours.items c.args.hop
     c.index_mut-neighbour.result.now
-here c =
-    record { within = up_within (views_of c.args.self.now) c.args.hop c.requires.up; same = refl; is = c.index_mut-neighbour.ensures.value }
+here c = record {
+  within = up_within (views_of c.args.self.now) c.args.hop c.requires.up;
+  same = refl;
+  is = c.index_mut-neighbour.ensures.value;
+}
 
 pub returns : goal.returns
 returns c =

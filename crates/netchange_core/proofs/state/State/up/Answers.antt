@@ -1,4 +1,4 @@
-use Rattle.std.proofs.Common.{◌≡◌, ◌+◌, ◌<◌, [], ◌∷◌, ◌++◌, length, map, slice_index, slice_set, ap, refl, sym, subst, ◌∙◌, arith}
+use Rattle.std.proofs.Common.{◌≡◌, ◌+◌, [], ◌∷◌, ◌++◌, length, map, slice_set, ap, refl, sym, subst, ◌∙◌, arith}
 use Rattle.std.proofs.lemmas.List.{length-map}
 use Rattle.std.specs.Vec.{with_item}
 use Rattle.netchange_core.specs.declared.reply.Reply.TheVariants as reply
@@ -29,7 +29,8 @@ here c =
     }
 
 -- the node is a neighbour that is down, and a number is left for its session
-goes : (c : After-reserve) → IsAtHand c.args.self.now c.args.self.now.neighbours.items c.from.result c.index_mut-neighbour.result.now →
+goes : (c : After-reserve) →
+    IsAtHand c.args.self.now c.args.self.now.neighbours.items c.from.result c.index_mut-neighbour.result.now →
     let s = c.args.self.now in
     up (world_of s) c.args.node
     ≡ answered (world s.opening (s.sessions.count + 1) (change c.args.node (joined s.opening (distance_by s.opening (views_of s))
@@ -102,6 +103,7 @@ pub returns-in_err-reserve-2 : goal.returns-in_err-reserve-2
 returns-in_err-reserve-2 c =
     let was = here (goal.at.returns-in_err-reserve-2 c).After-index_mut-neighbour in
     no_memory c.args.self.now _ _ _ _ c.requires
-    (all_same c.args.self.now c.requires _ c.from.result _ was c.reserve.new.neighbour c.reserve.ensures.same) c.in_err-reserve-2.ensures.items
+    (all_same c.args.self.now c.requires _ c.from.result _ was c.reserve.new.neighbour c.reserve.ensures.same)
+    c.in_err-reserve-2.ensures.items
     (subst (λ a. MayNeedMemory a.reply) (sym (goes (goal.at.returns-in_err-reserve-2 c).After-reserve was)) tt)
     c.from_residual-in_err-reserve-2.ensures.0

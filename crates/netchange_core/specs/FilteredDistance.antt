@@ -20,7 +20,7 @@ prefix_of o v = slice_index_or o.prefixes v []
 
 -- what a distance to a node becomes under a filter, which is shown the node's prefix. Without a filter the distance stays;
 -- and no filter is asked about a node that cannot be reached.
-unfoldable pub pass : OpeningView → Option VerifiedView → ℕ → ℕ → ℕ
-pass o None v d = d
-pass o (Some f) v d =
+unfoldable pub filtered_distance : OpeningView → Option VerifiedView → ℕ → ℕ → ℕ
+filtered_distance o None v d = d
+filtered_distance o (Some f) v d =
     if d == o.size then o.size else distance_given o.size (outcome_of f.program (announced (prefix_of o v) d o.size))
