@@ -24,11 +24,6 @@ pub last_reply : (w : World) (es : List Entry) (e : Entry) → IsLegalFrom w (es
 last_reply w [] e h = h.0
 last_reply w (x ∷ xs) e h = last_reply (next w x.event).world xs e h.1
 
--- what stands at the place of a new last entry is that entry
-pub last_entry : (es old : List Entry) (x e : Entry) (at : ℕ) → es ≡ old ++ x ∷ [] → at ≡ length old → e ≡ get_or es at e → e ≡ x
-last_entry es old x e at is place h =
-    h ∙ ap (λ (xs : List Entry). get_or xs at e) is ∙ ap (λ (n : ℕ). get_or (old ++ x ∷ []) n e) place ∙ get_or-append_seam old x [] e
-
 journal_is : (j : JournalView) (opening : OpeningView) (limit : ℕ) (es : List Entry) → j.opening ≡ opening → j.limit ≡ limit
     → j.entries ≡ es → j ≡ record { opening = opening; limit = limit; entries = es }
 journal_is j opening limit es p q r =

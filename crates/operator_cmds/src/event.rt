@@ -36,12 +36,13 @@ impl Direction {
 }
 
 /// Enters an event in the journal, and answers it. A full journal refuses it with the number of its entries.
+#[inline(always)]
 pub fn enter(journal: &mut Journal, event: Event, out: &mut Vec<u8>) -> Result<Reply, AllocError>
     ensures ok { IfOk result (Answers (λ answer. AnswersIn journal.old event answer journal.new) out.old.items out.new.items) }
     ensures err { OnErr result (StartsWith out.new.items out.old.items) }
 {
-    match journal.enter(event) {
-        Ok(at) => answer_reply(out, at, journal.entries().entry(at as usize).reply),
+    match journal.apply(event) {
+        Ok((at, reply)) => answer_reply(out, at, reply.as_ref()),
         Err(CallFault::Full) => {
             let entries = journal.entries().len() as u64;
             refuse(out, CallFault::Full.code(), entries)

@@ -1,5 +1,5 @@
 //! What a script answers to a line.
-ghost use Rattle.std.specs.Prelude.{◌≡◌, ◌≤◌, [], ◌∷◌, ◌++◌, flat_map, IfOk, OnOk, OnErr, codes, decimal};
+ghost use Rattle.std.specs.Prelude.{◌≡◌, ◌≤◌, ◌<◌, [], ◌∷◌, ◌++◌, flat_map, IfOk, OnOk, OnErr, codes, decimal};
 ghost use Rattle.std.specs.Io.{StartsWith};
 ghost use Rattle.netchange_core.specs.Whole.{whole_reply};
 ghost use Rattle.operator_cmds.specs.Replies as spec;
@@ -76,6 +76,7 @@ fn push_long_after(out: &mut Vec<u8>, sign: u8, n: u32) -> Result<(), AllocError
 }
 
 /// Adds a node and a number that is told of it.
+#[inline(never)]
 pub(crate) fn push_pair(out: &mut Vec<u8>, node: u16, number: u32) -> Result<(), AllocError>
     ensures ok { OnOk result (out.new.items ≡ out.old.items ++ spec.pair_text node number) }
     ensures err { OnErr result (StartsWith out.new.items out.old.items) }
@@ -84,19 +85,154 @@ pub(crate) fn push_pair(out: &mut Vec<u8>, node: u16, number: u32) -> Result<(),
     push_after(out, b':', number)
 }
 
+/// Adds a message about a node of one digit. Mostly its distance has at most three, and all of it is put there at once.
+#[inline(always)]
+fn push_of_one_digit(out: &mut Vec<u8>, dest: u16, dist: u16) -> Result<(), AllocError>
+    requires { dest < 10 }
+    ensures ok { OnOk result (out.new.items ≡ out.old.items ++ spec.pair_text dest dist) }
+    ensures err { OnErr result (StartsWith out.new.items out.old.items) }
+{
+    let to = b'0' + dest as u8;
+    if dist < 10 {
+        let one = b'0' + dist as u8;
+        return out.extend_from_slice(&[b' ', to, b':', one]);
+    }
+    if dist < 100 {
+        let (ten, one) = (b'0' + (dist / 10) as u8, b'0' + (dist % 10) as u8);
+        return out.extend_from_slice(&[b' ', to, b':', ten, one]);
+    }
+    if dist < 1_000 {
+        let tens = dist / 10;
+        let (hundred, ten) = (b'0' + (tens / 10) as u8, b'0' + (tens % 10) as u8);
+        let one = b'0' + (dist % 10) as u8;
+        return out.extend_from_slice(&[b' ', to, b':', hundred, ten, one]);
+    }
+    push_pair(out, dest, u32::from(dist))
+}
+
+/// Adds a message about a node of two digits, as one about a node of one.
+#[inline(always)]
+fn push_of_two_digits(out: &mut Vec<u8>, dest: u16, dist: u16) -> Result<(), AllocError>
+    requires least { 10 ≤ dest }
+    requires most { dest < 100 }
+    ensures ok { OnOk result (out.new.items ≡ out.old.items ++ spec.pair_text dest dist) }
+    ensures err { OnErr result (StartsWith out.new.items out.old.items) }
+{
+    let (to_ten, to) = (b'0' + (dest / 10) as u8, b'0' + (dest % 10) as u8);
+    if dist < 10 {
+        let one = b'0' + dist as u8;
+        return out.extend_from_slice(&[b' ', to_ten, to, b':', one]);
+    }
+    if dist < 100 {
+        let (ten, one) = (b'0' + (dist / 10) as u8, b'0' + (dist % 10) as u8);
+        return out.extend_from_slice(&[b' ', to_ten, to, b':', ten, one]);
+    }
+    if dist < 1_000 {
+        let tens = dist / 10;
+        let (hundred, ten) = (b'0' + (tens / 10) as u8, b'0' + (tens % 10) as u8);
+        let one = b'0' + (dist % 10) as u8;
+        return out.extend_from_slice(&[b' ', to_ten, to, b':', hundred, ten, one]);
+    }
+    push_pair(out, dest, u32::from(dist))
+}
+
+/// Adds a message about a node of three digits, as one about a node of one.
+#[inline(always)]
+fn push_of_three_digits(out: &mut Vec<u8>, dest: u16, dist: u16) -> Result<(), AllocError>
+    requires least { 100 ≤ dest }
+    requires most { dest < 1000 }
+    ensures ok { OnOk result (out.new.items ≡ out.old.items ++ spec.pair_text dest dist) }
+    ensures err { OnErr result (StartsWith out.new.items out.old.items) }
+{
+    let to_tens = dest / 10;
+    let (to_hundred, to_ten) = (b'0' + (to_tens / 10) as u8, b'0' + (to_tens % 10) as u8);
+    let to = b'0' + (dest % 10) as u8;
+    if dist < 10 {
+        let one = b'0' + dist as u8;
+        return out.extend_from_slice(&[b' ', to_hundred, to_ten, to, b':', one]);
+    }
+    if dist < 100 {
+        let (ten, one) = (b'0' + (dist / 10) as u8, b'0' + (dist % 10) as u8);
+        return out.extend_from_slice(&[b' ', to_hundred, to_ten, to, b':', ten, one]);
+    }
+    if dist < 1_000 {
+        let tens = dist / 10;
+        let (hundred, ten) = (b'0' + (tens / 10) as u8, b'0' + (tens % 10) as u8);
+        let one = b'0' + (dist % 10) as u8;
+        return out.extend_from_slice(&[b' ', to_hundred, to_ten, to, b':', hundred, ten, one]);
+    }
+    push_pair(out, dest, u32::from(dist))
+}
+
+/// Adds a message.
+#[inline(always)]
+fn push_message(out: &mut Vec<u8>, message: Message) -> Result<(), AllocError>
+    ensures ok { OnOk result (out.new.items ≡ out.old.items ++ spec.message_text message) }
+    ensures err { OnErr result (StartsWith out.new.items out.old.items) }
+{
+    let Message { dest, dist } = message;
+    if dest < 10 {
+        return push_of_one_digit(out, dest, dist);
+    }
+    if dest < 100 {
+        return push_of_two_digits(out, dest, dist);
+    }
+    if dest < 1_000 {
+        return push_of_three_digits(out, dest, dist);
+    }
+    push_pair(out, dest, u32::from(dist))
+}
+
 /// Adds messages, in order.
-fn push_messages(out: &mut Vec<u8>, messages: &[Message]) -> Result<(), AllocError>
+fn push_each(out: &mut Vec<u8>, messages: &[Message]) -> Result<(), AllocError>
     ensures ok { OnOk result (out.new.items ≡ out.old.items ++ flat_map spec.message_text messages.now) }
     ensures err { OnErr result (StartsWith out.new.items out.old.items) }
 {
     for message in messages {
-        push_pair(out, message.dest, u32::from(message.dist))?;
+        push_message(out, *message)?;
     }
     Ok(())
 }
 
+/// Adds the line of an event by which messages left a queue.
+#[inline(never)]
+fn push_messages(out: &mut Vec<u8>, messages: &[Message]) -> Result<(), AllocError>
+    ensures ok { OnOk result (out.new.items ≡ out.old.items ++ (codes "messages" ++ (flat_map spec.message_text messages.now ++ 10 ∷ []))) }
+    ensures err { OnErr result (StartsWith out.new.items out.old.items) }
+{
+    out.extend_from_slice(b"messages")?;
+    push_each(out, messages)?;
+    out.push(b'\n')?;
+    Ok(())
+}
+
+/// Adds the line of an event by which a session began.
+#[inline(never)]
+fn push_opened(out: &mut Vec<u8>, session: u32) -> Result<(), AllocError>
+    ensures ok { OnOk result (out.new.items ≡ out.old.items ++ (codes "opened " ++ (decimal session ++ 10 ∷ []))) }
+    ensures err { OnErr result (StartsWith out.new.items out.old.items) }
+{
+    out.extend_from_slice(b"opened ")?;
+    push_decimal(out, u64::from(session))?;
+    out.push(b'\n')?;
+    Ok(())
+}
+
+/// Adds the line of a look at a route.
+#[inline(never)]
+fn push_route(out: &mut Vec<u8>, dist: u16, via: Via) -> Result<(), AllocError>
+    ensures ok { OnOk result (out.new.items ≡ out.old.items ++ (codes "route " ++ (decimal dist ++ (spec.via_text via ++ 10 ∷ [])))) }
+    ensures err { OnErr result (StartsWith out.new.items out.old.items) }
+{
+    out.extend_from_slice(b"route ")?;
+    push_decimal(out, u64::from(dist))?;
+    push_via(out, via)?;
+    out.push(b'\n')?;
+    Ok(())
+}
+
 /// Adds the line of an event by which so many distances changed. Mostly they are few, and the line is put there at once.
-#[inline(always)]
+#[inline(never)]
 fn push_done(out: &mut Vec<u8>, changed: u16) -> Result<(), AllocError>
     ensures ok { OnOk result (out.new.items ≡ out.old.items ++ (codes "done " ++ (decimal changed ++ 10 ∷ []))) }
     ensures err { OnErr result (StartsWith out.new.items out.old.items) }
@@ -112,30 +248,17 @@ fn push_done(out: &mut Vec<u8>, changed: u16) -> Result<(), AllocError>
 }
 
 /// Answers an event by the router's reply to it, which has this position in the journal.
+#[inline(always)]
 pub fn answer_reply(out: &mut Vec<u8>, at: u32, reply: ReplyRef<'_>) -> Result<Reply, AllocError>
     ensures ok { IfOk result (spec.Adds (spec.reply_answer at (whole_reply reply.entry)) out.old.items out.new.items) }
     ensures err { OnErr result (StartsWith out.new.items out.old.items) }
 {
     match reply {
-        ReplyRef::Opened(session) => {
-            out.extend_from_slice(b"opened ")?;
-            push_decimal(out, u64::from(session))?;
-        }
-        ReplyRef::Done { changed } => {
-            push_done(out, changed)?;
-            return Ok(Reply::Answered);
-        }
-        ReplyRef::Messages(messages) => {
-            out.extend_from_slice(b"messages")?;
-            push_messages(out, messages)?;
-        }
-        ReplyRef::Route { dist, via } => {
-            out.extend_from_slice(b"route ")?;
-            push_decimal(out, u64::from(dist))?;
-            push_via(out, via)?;
-        }
+        ReplyRef::Opened(session) => push_opened(out, session)?,
+        ReplyRef::Done { changed } => push_done(out, changed)?,
+        ReplyRef::Messages(messages) => push_messages(out, messages)?,
+        ReplyRef::Route { dist, via } => push_route(out, dist, via)?,
         ReplyRef::Refused(why) => return refuse(out, why.code(), u64::from(at)),
     }
-    out.push(b'\n')?;
     Ok(Reply::Answered)
 }

@@ -221,21 +221,20 @@ impl Script {
             Command::Export { node, name } => {
                 self.use_filter(alloc, number, Direction::Export, node, name, out)
             }
-            Command::Up(node) => self.enter(alloc, number, Event::Up(node), out),
+            Command::Up(node) => self.enter_any(alloc, number, Event::Up(node), out),
             Command::Down(node) => {
                 let event = Event::Down(self.stage.session(node));
-                self.enter(alloc, number, event, out)
+                self.enter_any(alloc, number, event, out)
             }
             Command::Receive { node, dest, dist } => {
-                let plain = PlainCommand::Receive(node, dest, dist);
-                self.carry_out_plain(alloc, number, plain, out)
+                let event = Event::Receive(self.stage.session(node), dest, dist);
+                self.enter_any(alloc, number, event, out)
             }
             Command::Take(node) => {
-                self.carry_out_plain(alloc, number, PlainCommand::Take(node), out)
+                let event = Event::Take(self.stage.session(node), u16::MAX);
+                self.enter_any(alloc, number, event, out)
             }
-            Command::Show(node) => {
-                self.carry_out_plain(alloc, number, PlainCommand::Show(node), out)
-            }
+            Command::Show(node) => self.enter_any(alloc, number, Event::Show(node), out),
             Command::Look(look) => self.look(alloc, number, look, out),
             Command::History(from) => self.tell_history(alloc, number, from, out),
         }
@@ -335,7 +334,7 @@ impl Script {
         match self.filters.get(name) {
             Some(filter) => {
                 let event = direction.event(node, Arc::try_clone(filter)?);
-                self.enter(alloc, number, event, out)
+                self.enter_any(alloc, number, event, out)
             }
             None => self.refuse_name(number, out),
         }
@@ -399,8 +398,28 @@ impl Script {
         }
     }
 
-    /// Answers a command that is an event of the router. The first one opens the journal.
+    /// Answers a command that is an event of the router.
+    #[inline(always)]
     fn enter(
+        &mut self,
+        alloc: Global,
+        number: u32,
+        event: Event,
+        out: &mut Vec<u8>,
+    ) -> Result<Reply, AllocError>
+        ensures ok { IfOk result (Answers (λ answer. spec.AnswersEvent (stage_of self.old.stage) number event
+            (script_of self.old) answer (script_of self.new)) out.old.items out.new.items) }
+        ensures err { OnErr result (StartsWith out.new.items out.old.items) }
+    {
+        match &mut self.stage {
+            Stage::Open(journal) => enter(journal, event, out),
+            Stage::Empty | Stage::Setting(_) => self.enter_any(alloc, number, event, out),
+        }
+    }
+
+    /// Answers a command that is an event of the router. The first one opens the journal.
+    #[inline(never)]
+    fn enter_any(
         &mut self,
         alloc: Global,
         number: u32,

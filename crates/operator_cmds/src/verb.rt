@@ -83,12 +83,18 @@ impl Verb {
     }
 }
 
-/// The verb that is written so.
+/// The verb that is written so. Those of the events that a script has most often, but for those of `read_plain`, are found at once.
 #[tactic(auto, unfolding(crate::specs::Verbs::verb_in))]
 pub fn read_verb(word: &[u8]) -> Option<Verb>
     ensures { spec.verb_in word.now ≡ result }
 {
-    first_spelled(&VERBS, word)
+    match word {
+        [b'u', b'p'] => Some(Verb::Up),
+        [b'd', b'o', b'w', b'n'] => Some(Verb::Down),
+        [b'i', b'm', b'p', b'o', b'r', b't'] => Some(Verb::Import),
+        [b'e', b'x', b'p', b'o', b'r', b't'] => Some(Verb::Export),
+        _ => first_spelled(&VERBS, word),
+    }
 }
 
 /// The first of the verbs that is written so.

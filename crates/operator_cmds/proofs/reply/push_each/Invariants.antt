@@ -1,7 +1,7 @@
 use Rattle.std.proofs.Common.{◌≡◌, ◌++◌, flat_map, drop}
 use Rattle.std.specs.Io.{StartsWith}
 use Rattle.operator_cmds.specs.Replies.{message_text}
-use Rattle.operator_cmds.proofs.reply.push_messages.Given as goal
+use Rattle.operator_cmds.proofs.reply.push_each.Given as goal
 
 -- the messages so far were added, and those that are left will be
 abbrev pub invariant-loop-message : goal.invariant-loop-message
