@@ -23,6 +23,7 @@ view_of n = record {
   queue = n.queue.items;
 }
 
+-- and all neighbours of a state
 abbrev pub views_of : State → List NeighbourView
 views_of s = map view_of s.neighbours.items
 
@@ -67,7 +68,7 @@ pub record AreKept (o : OpeningView) (ns : List NeighbourView) (ds : List Destin
   pub distances : (v : ℕ) (d : Destination) → v < o.size →
       (slice_index_or ds v d).distances.items ≡ map (neighbour_distance o v) ns
 
--- a state is right: and the list of the present sessions is that of the neighbours
+-- a state is right: what it keeps is that, and its list of the present sessions is that of the neighbours
 pub record AreTables (s : State) : Type 0 where
   pub kept : AreKept s.opening (views_of s) s.destinations.items
   pub present : ArePresent s.sessions.count (sessions_of (views_of s)) s.sessions.present.items
