@@ -226,6 +226,21 @@ FAULTS = [
      + b" " * 33 + b"^\n1\n"),
     ("ncroute explain P2 2>&1 >/dev/full; echo $?", b"ncroute: E2\n1\n"),
     ("ncroute list examples/no_bogons.filter 2>&1 >/dev/full; echo $?", b"ncroute: E2\n3\n"),
+    # An output that takes no more is told. Where words are not taken, the answers are the same.
+    ("echo 8.8.8.0/24 9 | ncroute filter --size 16 examples/backup_link.filter 2>&1 >/dev/full; echo $?", b"ncroute: E2\n3\n"),
+    ("echo 8.8.8.0/24 9 | ncroute filter --size 16 --why examples/backup_link.filter 2>&1 >/dev/full; echo $?", b"ncroute: E2\n3\n"),
+    ("echo 8.8.8.0/24 9 | ncroute filter --size 16 --coverage examples/backup_link.filter 2>&1 >/dev/full; echo $?", b"ncroute: E2\n3\n"),
+    ("printf '8.8.8.0/24 9\\n8.8.8.0/24 17\\n' | ncroute filter --size 16 --explain always examples/backup_link.filter 2>/dev/full; echo $?",
+     b"accept 12\nrefused O2 2\n1\n"),
+    ("ncroute diff examples/backup_link.filter examples/no_bogons.filter 2>&1 >/dev/full; echo $?", b"ncroute: E2\n3\n"),
+    ("ncroute diff examples/backup_link.filter <(echo 'filter b { accept }') 2>/dev/full; echo $?", b"3\n"),
+    ("ncroute test examples/customer_list.test 2>&1 >/dev/full; echo $?", b"ncroute: E2\n3\n"),
+    ("printf 'filter examples/no_bogons.filter\\nsize 8\\n10.0.0.0/8 8 -> accept\\n' | ncroute test --explain always 2>/dev/full >/dev/null; echo $?", b"3\n"),
+    # A filter that is refused reads no route.
+    ("echo 8.8.8.0/24 9 | (ncroute filter --size 16 <(echo 'filter q { accept }') 2>/dev/null; cat)", b"refused P2 18\n8.8.8.0/24 9\n"),
+    ("echo 8.8.8.0/24 9 | (ncroute filter --size 16 <(echo 'filter q { x = 1; }') 2>/dev/null; cat)", b"refused Y1 11\n8.8.8.0/24 9\n"),
+    ("echo 8.8.8.0/24 9 | (ncroute filter --size 16 <(echo 'filter d { if 8 / rip_metric = 2 then accept; }') 2>/dev/null; cat)", b"refused V3 2\n8.8.8.0/24 9\n"),
+    ("echo 8.8.8.0/24 9 | (ncroute filter --size 251 <(echo 'filter a { accept; }') 2>/dev/null; cat)", b"refused V8 0\n8.8.8.0/24 9\n"),
 ]
 
 HINT = b"ncroute: reading standard input, which Ctrl-D ends\n"

@@ -121,13 +121,3 @@ fn ranges_are_in_order(_rt: HostRuntime) -> Result<(), Fail> {
     }
     Ok(())
 }
-
-#[test]
-fn faults_are_told(rt: HostRuntime) -> Result<(), Fail> {
-    let fault = SetFault::TooManyRanges;
-    let line = format!(in rt.alloc(); "{} {} {fault}", fault.code(), fault.at())?;
-    if line.as_str() != "S1 0 more than 1024 ranges in a set" {
-        return Err(Fail::new(line.as_str()));
-    }
-    Ok(())
-}

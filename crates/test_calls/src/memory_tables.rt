@@ -1,0 +1,230 @@
+//! A router's tables, its journal and its replay, with memory and without.
+
+use expectations::{Answered, expect};
+use filter_code::{Code, Instr};
+use filter_verifier::{Verified, verify};
+use netchange_core::{Event, Message, Messages, Opening, Reply, Tables};
+use prefix_patterns::{Ip, Prefix};
+use route_history::{Journal, ReplayFault, replay};
+use std::alloc::{AllocError, Global};
+use std::sync::Arc;
+use std::test::Fail;
+
+/// Node 0 of three.
+fn opening(alloc: Global) -> Result<Opening, Fail> {
+    let prefix = Prefix::new(Ip(0x0a00_0000), 16).ok_or("16 bits")?;
+    Ok(Opening::new(3, 0, vec![in alloc; prefix; 3]?).ok_or("a domain")?)
+}
+
+/// Opens tables, which have the local route.
+pub fn opened(alloc: Global) -> Result<Answered, Fail> {
+    match Tables::open(alloc, opening(alloc)?) {
+        Ok(mut tables) => Ok(Ok(distance(&mut tables, 0)? == 0 && tables.session(1) == 0)),
+        Err(_) => Ok(Err("AllocError")),
+    }
+}
+
+/// How far the tables say that a node is.
+fn distance(tables: &mut Tables, node: u16) -> Result<u16, AllocError> {
+    match tables.apply(&Event::Show(node))? {
+        Reply::Route { dist, .. } => Ok(dist),
+        _ => Ok(u16::MAX),
+    }
+}
+
+/// The tables after both neighbours came up, node 1 told its distance from itself, and its messages were taken.
+fn tables(alloc: Global) -> Result<Tables, Fail> {
+    let mut tables = Tables::open(alloc, opening(alloc)?)?;
+    let events = [
+        Event::Up(1),
+        Event::Up(2),
+        Event::Receive(1, 1, 0),
+        Event::Take(1, 9),
+    ];
+    for event in &events {
+        let _reply = tables.apply(event)?;
+    }
+    Ok(tables)
+}
+
+/// The sessions of the neighbours, how many messages wait for sessions 1, 2 and 3, and how far nodes 1 and 2 are.
+type State = ([u32; 2], [usize; 3], [u16; 2]);
+
+/// The state of those tables.
+const BEFORE: State = ([1, 2], [0, 4, 0], [1, 3]);
+
+/// The state that tables are in.
+fn state(tables: &mut Tables) -> Result<State, AllocError> {
+    let sessions = [tables.session(1), tables.session(2)];
+    let queued = [tables.queued(1), tables.queued(2), tables.queued(3)];
+    Ok((
+        sessions,
+        queued,
+        [distance(tables, 1)?, distance(tables, 2)?],
+    ))
+}
+
+/// Looks and refused events need no memory.
+pub fn looked(alloc: Global) -> Result<Answered, Fail> {
+    let mut tables = tables(alloc)?;
+    let events = [
+        Event::Up(1),
+        Event::Down(7),
+        Event::Receive(2, 3, 0),
+        Event::Take(3, 1),
+    ];
+    for event in &events {
+        match tables.apply(event) {
+            Ok(reply) => expect(matches!(reply, Reply::Refused(_)), "a refused event")?,
+            Err(_) => return Ok(Err("AllocError")),
+        }
+    }
+    match state(&mut tables) {
+        Ok(state) => Ok(Ok(state == BEFORE)),
+        Err(_) => Ok(Err("AllocError")),
+    }
+}
+
+/// An event that changes tables.
+#[derive(Clone, Copy, PartialEq, Eq)]
+pub enum Change {
+    /// Neighbour 1 comes again, after it left.
+    Up,
+    Down,
+    Receive,
+    /// Two messages are taken from the queue of session 2.
+    Take,
+    /// All routes of neighbour 1 are rejected.
+    Import,
+    /// All routes to neighbour 1 are.
+    Export,
+}
+
+/// A filter that rejects every route.
+fn rejecting(alloc: Global) -> Result<Arc<Verified>, Fail> {
+    let instrs = vec![in alloc; Instr::Reject]?;
+    let code = Code::new(0, Vec::new(alloc), Vec::new(alloc), instrs).ok_or("a code")?;
+    match verify(alloc, code, 3) {
+        Ok(verified) => Ok(Arc::new(alloc, verified)?),
+        Err((_, fault)) => Err(Fail::from(fault)),
+    }
+}
+
+/// The event of a change.
+fn event_of(alloc: Global, change: Change) -> Result<Event, Fail> {
+    match change {
+        Change::Up => Ok(Event::Up(1)),
+        Change::Down => Ok(Event::Down(1)),
+        Change::Receive => Ok(Event::Receive(2, 2, 0)),
+        Change::Take => Ok(Event::Take(2, 2)),
+        Change::Import => Ok(Event::SetImport(1, rejecting(alloc)?)),
+        Change::Export => Ok(Event::SetExport(1, rejecting(alloc)?)),
+    }
+}
+
+/// What is told to neighbour 2 first.
+const FIRST: [Message; 2] = [Message { dest: 0, dist: 0 }, Message { dest: 1, dist: 3 }];
+
+/// The reply to a change.
+fn reply_of(alloc: Global, change: Change) -> Result<Reply, AllocError> {
+    match change {
+        Change::Up => Ok(Reply::Opened(3)),
+        Change::Take => Ok(Reply::Messages(Messages::from_vec(FIRST.to_vec(alloc)?))),
+        Change::Export => Ok(Reply::Done { changed: 0 }),
+        _ => Ok(Reply::Done { changed: 1 }),
+    }
+}
+
+/// The state that a change leaves.
+fn state_after(change: Change) -> State {
+    match change {
+        Change::Up => ([3, 2], [0, 5, 3], [3, 3]),
+        Change::Down => ([0, 2], [0, 5, 0], [3, 3]),
+        Change::Receive => ([1, 2], [1, 5, 0], [1, 1]),
+        Change::Take => ([1, 2], [0, 2, 0], [1, 3]),
+        Change::Import => ([1, 2], [1, 5, 0], [3, 3]),
+        Change::Export => ([1, 2], [3, 4, 0], [1, 3]),
+    }
+}
+
+/// Applies a change. Where memory is refused the tables are as they were, and the event has its reply when it is applied again.
+pub fn applied(alloc: Global, change: Change) -> Result<Answered, Fail> {
+    let mut tables = tables(alloc)?;
+    if change == Change::Up {
+        let _reply = tables.apply(&Event::Down(1))?;
+    }
+    let (event, wanted) = (event_of(alloc, change)?, reply_of(alloc, change)?);
+    let before = state(&mut tables)?;
+    if let Ok(reply) = tables.apply(&event) {
+        let is_left = state(&mut tables)? == state_after(change);
+        return Ok(Ok(is_left && reply.is_same(&wanted)));
+    }
+    expect(state(&mut tables)? == before, "nothing changes")?;
+    let reply = tables.apply(&event)?;
+    let is_left = state(&mut tables)? == state_after(change);
+    expect(
+        is_left && reply.is_same(&wanted),
+        "an event is applied again",
+    )?;
+    Ok(Err("AllocError"))
+}
+
+/// Opens a journal.
+pub fn kept(alloc: Global) -> Result<Answered, Fail> {
+    match Journal::open(alloc, opening(alloc)?, 3) {
+        Ok(journal) => Ok(Ok(journal.limit() == 3 && journal.entries().is_empty())),
+        Err(_) => Ok(Err("AllocError")),
+    }
+}
+
+/// The event at a place of the history.
+fn event(at: u32) -> Event {
+    match at {
+        0 => Event::Up(1),
+        1 => Event::Receive(1, 1, 0),
+        _ => Event::Take(1, 9),
+    }
+}
+
+/// Enters the event at a place, which has the reply of tables. Where memory is refused the journal stays, and the event can be entered again.
+fn enter_at(journal: &mut Journal, tables: &mut Tables, at: u32) -> Result<Answered, Fail> {
+    let wanted = tables.apply(&event(at))?;
+    match journal.apply(event(at)) {
+        Ok((place, reply)) => Ok(Ok(place == at && reply.is_same(&wanted))),
+        Err(fault) => {
+            expect(journal.entries().len() == at as usize, "the journal stays")?;
+            let (place, reply) = journal.apply(event(at))?;
+            expect(place == at && reply.is_same(&wanted), "entered again")?;
+            Ok(Err(fault.code()))
+        }
+    }
+}
+
+/// Enters three events, up to the first that is refused memory.
+fn enter_all(alloc: Global, journal: &mut Journal) -> Result<Answered, Fail> {
+    let mut tables = Tables::open(alloc, opening(alloc)?)?;
+    for at in 0..3 {
+        let answered = enter_at(journal, &mut tables, at)?;
+        if answered != Ok(true) {
+            return Ok(answered);
+        }
+    }
+    Ok(Ok(true))
+}
+
+/// Enters three events.
+pub fn entered(alloc: Global) -> Result<Answered, Fail> {
+    let mut journal = Journal::open(alloc, opening(alloc)?, 3)?;
+    enter_all(alloc, &mut journal)
+}
+
+/// Replays a journal with three entries.
+pub fn replayed(alloc: Global) -> Result<Answered, Fail> {
+    let mut journal = Journal::open(alloc, opening(alloc)?, 3)?;
+    let _answered = enter_all(alloc, &mut journal)?;
+    match replay(alloc, journal.opening(), journal.entries()) {
+        Ok(tables) => Ok(Ok(tables.session(1) == 1)),
+        Err(ReplayFault::Memory) => Ok(Err("Memory")),
+        Err(_) => Ok(Ok(false)),
+    }
+}
