@@ -60,14 +60,18 @@ fn is_range(set: &IntSet) -> bool {
     set.ranges().len() == 1 && set.holds(2) && set.holds(5) && !set.holds(6)
 }
 
+/// Whether a code has one set of patterns, of those two.
+fn has_patterns(code: &Code) -> bool {
+    match patterns() {
+        Some(wanted) => matches!(code.sets(), [set] if set.patterns() == wanted.as_slice()),
+        None => false,
+    }
+}
+
 /// Whether a code is that of the file.
 fn is_code(code: &Code) -> bool {
-    let Some(patterns) = patterns() else {
-        return false;
-    };
-    let are_sets = matches!(code.sets(), [set] if set.patterns() == patterns.as_slice())
-        && matches!(code.int_sets(), [set] if is_range(set));
-    are_sets && code.locals() == 1 && code.instrs() == INSTRS.as_slice()
+    let is_set = matches!(code.int_sets(), [set] if is_range(set));
+    is_set && has_patterns(code) && code.locals() == 1 && code.instrs() == INSTRS.as_slice()
 }
 
 /// Reads the file.
@@ -112,7 +116,7 @@ fn two_ways(alloc: Global) -> Result<Code, Fail> {
 
 /// Whether a code is that one.
 fn is_two_ways(code: &Code) -> bool {
-    code.locals() == 1 && code.sets().len() == 1 && code.instrs() == TWO_WAYS.as_slice()
+    has_patterns(code) && code.locals() == 1 && code.instrs() == TWO_WAYS.as_slice()
 }
 
 /// Whether it was verified for 8 nodes: its longest way has seven steps, and one operand on the stack.

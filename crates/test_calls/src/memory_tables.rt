@@ -3,7 +3,7 @@
 use expectations::{Answered, expect};
 use filter_code::{Code, Instr};
 use filter_verifier::{Verified, verify};
-use netchange_core::{Event, Message, Messages, Opening, Reply, Tables};
+use netchange_core::{Event, Message, Messages, Opening, Reply, Tables, Via};
 use prefix_patterns::{Ip, Prefix};
 use route_history::{Journal, ReplayFault, replay};
 use std::alloc::{AllocError, Global};
@@ -19,18 +19,29 @@ fn opening(alloc: Global) -> Result<Opening, Fail> {
 /// Opens tables, which have the local route.
 pub fn opened(alloc: Global) -> Result<Answered, Fail> {
     match Tables::open(alloc, opening(alloc)?) {
-        Ok(mut tables) => Ok(Ok(distance(&mut tables, 0)? == 0 && tables.session(1) == 0)),
+        Ok(mut tables) => {
+            let is_local = route(&mut tables, 0)? == (0, Via::Local);
+            Ok(Ok(is_local && tables.session(1) == 0))
+        }
         Err(_) => Ok(Err("AllocError")),
     }
 }
 
-/// How far the tables say that a node is.
-fn distance(tables: &mut Tables, node: u16) -> Result<u16, AllocError> {
+/// The route to a node: how far it is, and its next hop.
+type Route = (u16, Via);
+
+/// The route to a node that tables have.
+fn route(tables: &mut Tables, node: u16) -> Result<Route, AllocError> {
     match tables.apply(&Event::Show(node))? {
-        Reply::Route { dist, .. } => Ok(dist),
-        _ => Ok(u16::MAX),
+        Reply::Route { dist, via } => Ok((dist, via)),
+        _ => Ok((u16::MAX, Via::Nowhere)),
     }
 }
+
+/// A route to neighbour 1 or through it, and one to neighbour 2, which are direct links; and none.
+const BY_ONE: Route = (1, Via::Node(1));
+const BY_TWO: Route = (1, Via::Node(2));
+const NONE: Route = (3, Via::Nowhere);
 
 /// The tables after both neighbours came up, node 1 told its distance from itself, and its messages were taken.
 fn tables(alloc: Global) -> Result<Tables, Fail> {
@@ -47,11 +58,11 @@ fn tables(alloc: Global) -> Result<Tables, Fail> {
     Ok(tables)
 }
 
-/// The sessions of the neighbours, how many messages wait for sessions 1, 2 and 3, and how far nodes 1 and 2 are.
-type State = ([u32; 2], [usize; 3], [u16; 2]);
+/// The sessions of the neighbours, how many messages wait for sessions 1, 2 and 3, and the routes to nodes 1 and 2.
+type State = ([u32; 2], [usize; 3], [Route; 2]);
 
 /// The state of those tables.
-const BEFORE: State = ([1, 2], [0, 4, 0], [1, 3]);
+const BEFORE: State = ([1, 2], [0, 4, 0], [BY_ONE, NONE]);
 
 /// The state that tables are in.
 fn state(tables: &mut Tables) -> Result<State, AllocError> {
@@ -60,7 +71,7 @@ fn state(tables: &mut Tables) -> Result<State, AllocError> {
     Ok((
         sessions,
         queued,
-        [distance(tables, 1)?, distance(tables, 2)?],
+        [route(tables, 1)?, route(tables, 2)?],
     ))
 }
 
@@ -138,12 +149,12 @@ fn reply_of(alloc: Global, change: Change) -> Result<Reply, AllocError> {
 /// The state that a change leaves.
 fn state_after(change: Change) -> State {
     match change {
-        Change::Up => ([3, 2], [0, 5, 3], [3, 3]),
-        Change::Down => ([0, 2], [0, 5, 0], [3, 3]),
-        Change::Receive => ([1, 2], [1, 5, 0], [1, 1]),
-        Change::Take => ([1, 2], [0, 2, 0], [1, 3]),
-        Change::Import => ([1, 2], [1, 5, 0], [3, 3]),
-        Change::Export => ([1, 2], [3, 4, 0], [1, 3]),
+        Change::Up => ([3, 2], [0, 5, 3], [NONE, NONE]),
+        Change::Down => ([0, 2], [0, 5, 0], [NONE, NONE]),
+        Change::Receive => ([1, 2], [1, 5, 0], [BY_ONE, BY_TWO]),
+        Change::Take => ([1, 2], [0, 2, 0], [BY_ONE, NONE]),
+        Change::Import => ([1, 2], [1, 5, 0], [NONE, NONE]),
+        Change::Export => ([1, 2], [3, 4, 0], [BY_ONE, NONE]),
     }
 }
 
@@ -186,9 +197,26 @@ fn event(at: u32) -> Event {
     }
 }
 
-/// Enters the event at a place, which has the reply of tables. Where memory is refused the journal stays, and the event can be entered again.
-fn enter_at(journal: &mut Journal, tables: &mut Tables, at: u32) -> Result<Answered, Fail> {
-    let wanted = tables.apply(&event(at))?;
+/// What neighbour 1 is told by then.
+const TOLD: [Message; 4] = [
+    Message { dest: 0, dist: 0 },
+    Message { dest: 1, dist: 3 },
+    Message { dest: 2, dist: 3 },
+    Message { dest: 1, dist: 1 },
+];
+
+/// The reply to the event at a place.
+fn reply(alloc: Global, at: u32) -> Result<Reply, AllocError> {
+    match at {
+        0 => Ok(Reply::Opened(1)),
+        1 => Ok(Reply::Done { changed: 1 }),
+        _ => Ok(Reply::Messages(Messages::from_vec(TOLD.to_vec(alloc)?))),
+    }
+}
+
+/// Enters the event at a place, which has its reply. Where memory is refused the journal stays, and the event can be entered again.
+fn enter_at(alloc: Global, journal: &mut Journal, at: u32) -> Result<Answered, Fail> {
+    let wanted = reply(alloc, at)?;
     match journal.apply(event(at)) {
         Ok((place, reply)) => Ok(Ok(place == at && reply.is_same(&wanted))),
         Err(fault) => {
@@ -202,9 +230,8 @@ fn enter_at(journal: &mut Journal, tables: &mut Tables, at: u32) -> Result<Answe
 
 /// Enters three events, up to the first that is refused memory.
 fn enter_all(alloc: Global, journal: &mut Journal) -> Result<Answered, Fail> {
-    let mut tables = Tables::open(alloc, opening(alloc)?)?;
     for at in 0..3 {
-        let answered = enter_at(journal, &mut tables, at)?;
+        let answered = enter_at(alloc, journal, at)?;
         if answered != Ok(true) {
             return Ok(answered);
         }

@@ -2,47 +2,59 @@
 
 use expectations::expect;
 use operator_cmds::{Command, read_command};
-use prefix_patterns::{Ip, Prefix};
 use std::test::Fail;
 
-/// Blanks between words, numbers at their limits, a text that keeps its blanks within, a prefix that has bits behind its length, and a file.
+/// A command that is wanted.
+enum Wanted {
+    /// The size, the node and the limit.
+    Network(u16, u16, Option<u32>),
+    /// The name and the text.
+    Load(&'static [u8], &'static [u8]),
+    /// The node, and the first address and the length of its prefix.
+    Prefix(u16, u32, u8),
+    /// The name and the bytes.
+    Code(&'static [u8], &'static [u8]),
+}
+
+/// Whether a command is the one that is wanted.
+fn is_wanted(command: &Command<'_>, wanted: &Wanted) -> bool {
+    match wanted {
+        Wanted::Network(size, me, limit) => {
+            matches!(command, Command::Network(it) if it.size == *size && it.me == *me && it.limit == *limit)
+        }
+        Wanted::Load(wanted, words) => {
+            matches!(command, Command::Load { name, text } if *name == *wanted && *text == *words)
+        }
+        Wanted::Prefix(of, address, len) => {
+            matches!(command, Command::Prefix { node, prefix } if node == of && prefix.address().0 == *address && prefix.len() == *len)
+        }
+        Wanted::Code(wanted, file) => {
+            matches!(command, Command::Code { name, bytes } if *name == *wanted && bytes.as_slice() == *file)
+        }
+    }
+}
+
+/// Lines, and the commands that they have: blanks between words, numbers at their limits, a text that keeps its blanks within, a prefix that has
+/// bits behind its length, and a file.
+const TAKEN: [(&[u8], Wanted); 5] = [
+    (b" network\t4  003 ", Wanted::Network(4, 3, None)),
+    (
+        b"network 250 249 1000000",
+        Wanted::Network(250, 249, Some(1_000_000)),
+    ),
+    (
+        b" load\tname_1 \t filter \t f {} \t",
+        Wanted::Load(b"name_1", b"filter \t f {}"),
+    ),
+    (b"prefix 3 10.1.2.3/8", Wanted::Prefix(3, 0x0a00_0000, 8)),
+    (b"code A 4E43ff", Wanted::Code(b"A", b"NC\xff")),
+];
+
 #[test]
 fn reads_commands(rt: HostRuntime) -> Result<(), Fail> {
-    let alloc = rt.alloc();
-    let network = read_command(alloc, b" network\t4  003 ")?;
-    let is_network = matches!(
-        network,
-        Command::Network {
-            size: 4,
-            me: 3,
-            limit: None,
-        }
-    );
-    let largest = read_command(alloc, b"network 250 249 1000000")?;
-    let is_largest = matches!(
-        largest,
-        Command::Network {
-            size: 250,
-            me: 249,
-            limit: Some(1_000_000),
-        }
-    );
-    expect(is_network && is_largest, "a network")?;
-    let load = read_command(alloc, b" load\tname_1 \t filter \t f {} \t")?;
-    let is_load = matches!(
-        &load,
-        Command::Load { name, text } if *name == b"name_1".as_slice() && *text == b"filter \t f {}".as_slice()
-    );
-    let prefix = read_command(alloc, b"prefix 3 10.1.2.3/8")?;
-    let ten = Prefix::new(Ip(0x0a00_0000), 8);
-    let is_prefix = matches!(&prefix, Command::Prefix { node: 3, prefix } if Some(*prefix) == ten);
-    let code = read_command(alloc, b"code A 4E43ff")?;
-    let is_code = matches!(
-        &code,
-        Command::Code { name, bytes } if *name == b"A".as_slice() && bytes.as_slice() == b"NC\xff".as_slice()
-    );
-    expect(
-        is_load && is_prefix && is_code,
-        "a text, a prefix and a code file",
-    )
+    for (line, wanted) in &TAKEN {
+        let is_so = is_wanted(&read_command(rt.alloc(), line)?, wanted);
+        expect(is_so, "a command")?;
+    }
+    Ok(())
 }

@@ -3,8 +3,8 @@
 use crate::line_tests::Echo;
 use crate::streams::{FailingReader, FailingWriter, Terminal};
 use expectations::{expect, expect_bytes};
-use filter_commands::{check_text, eval_lines};
-use line_protocol::answer_lines;
+use filter_commands::{ProgramFault, check_text, eval_lines};
+use line_protocol::{StreamFault, answer_lines};
 use operator_cmds::run_script;
 use std::alloc::Global;
 use std::io::{ErrorKind, Read, Write};
@@ -19,18 +19,25 @@ enum Engine {
     Script,
 }
 
-/// Answers an input: how many lines are refused, or the code of the fault.
+/// Answers an input: how many lines are refused, or the fault of a stream.
 fn run<R: Read, W: Write>(
     alloc: Global,
     engine: Engine,
     reader: &mut R,
     writer: &mut W,
-) -> Result<u32, &'static str> {
+) -> Result<u32, StreamFault> {
     match engine {
-        Engine::Echo => answer_lines(alloc, reader, writer, &mut Echo).map_err(|why| why.code()),
-        Engine::Eval => eval_lines(alloc, reader, writer).map_err(|why| why.code()),
-        Engine::Check => check_text(alloc, reader, writer, 8, false).map_err(|why| why.code()),
-        Engine::Script => run_script(alloc, reader, writer).map_err(|why| why.code()),
+        Engine::Echo => answer_lines(alloc, reader, writer, &mut Echo),
+        Engine::Eval => eval_lines(alloc, reader, writer).map_err(of_stream),
+        Engine::Check => check_text(alloc, reader, writer, 8, false).map_err(of_stream),
+        Engine::Script => run_script(alloc, reader, writer),
+    }
+}
+
+/// The fault of a stream that ended the program.
+fn of_stream(fault: ProgramFault) -> StreamFault {
+    match fault {
+        ProgramFault::Stream(fault) => fault,
     }
 }
 
@@ -64,7 +71,7 @@ fn expect_read_fault(alloc: Global, row: &Row) -> Result<(), Fail> {
         let mut reader = FailingReader::new(input, *kind);
         let mut writer = Vec::new(alloc);
         let ended = run(alloc, *engine, &mut reader, &mut writer);
-        expect(ended == Err("E1"), "an input that fails")?;
+        expect(ended == Err(StreamFault::Read), "an input that fails")?;
         expect_bytes(&writer, answers)?;
     }
     Ok(())
@@ -111,7 +118,7 @@ fn expect_write_faults(alloc: Global, row: &Row, rooms: &[usize]) -> Result<(), 
         let mut reader = *input;
         let mut writer = FailingWriter::new(alloc, *room);
         let ended = run(alloc, *engine, &mut reader, &mut writer);
-        expect(ended == Err("E2"), "an output that fails")?;
+        expect(ended == Err(StreamFault::Write), "an output that fails")?;
         expect(
             answers.get(..*room) == Some(writer.text()),
             "the first answers",
