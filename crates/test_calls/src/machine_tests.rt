@@ -56,32 +56,17 @@ fn worked_filters(rt: HostRuntime) -> Result<(), Fail> {
 /// Instructions that are run.
 #[derive(Clone, Copy)]
 enum Program {
-    These(&'static [Instr]),
+    /// ACCEPT alone.
+    Smallest,
+    /// The metric and 2, put together by an instruction, and the result set as the metric.
+    And2(Instr),
+    /// The metric set to 8.
+    Eight,
     /// One of them 1,023 times, and REJECT.
     Many(Instr),
     /// Thirty-two ones, added from the right, and the sum set as the metric.
     NestedSum,
 }
-
-/// The metric and 2, put together by ADD or by MUL, and the result set as the metric.
-const SUM: [Instr; 5] = [
-    Instr::Metric,
-    Instr::Int(2),
-    Instr::Add,
-    Instr::SetMetric,
-    Instr::Accept,
-];
-
-const PRODUCT: [Instr; 5] = [
-    Instr::Metric,
-    Instr::Int(2),
-    Instr::Mul,
-    Instr::SetMetric,
-    Instr::Accept,
-];
-
-/// Sets the metric to 8.
-const EIGHT: [Instr; 3] = [Instr::Int(8), Instr::SetMetric, Instr::Accept];
 
 /// The end of the nested sum.
 const SET_IT: [Instr; 4] = [Instr::Received, Instr::Max, Instr::SetMetric, Instr::Reject];
@@ -89,7 +74,18 @@ const SET_IT: [Instr; 4] = [Instr::Received, Instr::Max, Instr::SetMetric, Instr
 /// The instructions of a program.
 fn instrs_of(alloc: Global, program: Program) -> Result<Vec<Instr>, AllocError> {
     match program {
-        Program::These(instrs) => instrs.to_vec(alloc),
+        Program::Smallest => [Instr::Accept].to_vec(alloc),
+        Program::And2(instr) => {
+            [
+                Instr::Metric,
+                Instr::Int(2),
+                instr,
+                Instr::SetMetric,
+                Instr::Accept,
+            ]
+            .to_vec(alloc)
+        }
+        Program::Eight => [Instr::Int(8), Instr::SetMetric, Instr::Accept].to_vec(alloc),
         Program::Many(instr) => {
             let mut instrs = vec![in alloc; instr; 1023]?;
             instrs.push(Instr::Reject)?;
@@ -108,16 +104,10 @@ fn instrs_of(alloc: Global, program: Program) -> Result<Vec<Instr>, AllocError> 
 type Row = (Program, u32, u32, Verdict, u32);
 
 const ROWS: [Row; 7] = [
-    (
-        Program::These(&[Instr::Accept]),
-        3,
-        8,
-        Verdict::Accept(3),
-        1,
-    ),
-    (Program::These(&SUM), 8, 8, Verdict::Accept(8), 5),
-    (Program::These(&PRODUCT), 3, 8, Verdict::Accept(6), 5),
-    (Program::These(&EIGHT), 3, 8, Verdict::Accept(8), 3),
+    (Program::Smallest, 3, 8, Verdict::Accept(3), 1),
+    (Program::And2(Instr::Add), 8, 8, Verdict::Accept(8), 5),
+    (Program::And2(Instr::Mul), 3, 8, Verdict::Accept(6), 5),
+    (Program::Eight, 3, 8, Verdict::Accept(8), 3),
     (Program::Many(Instr::Accept), 0, 8, Verdict::Accept(0), 1),
     (
         Program::Many(Instr::Jump(0)),
