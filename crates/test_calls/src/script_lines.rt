@@ -34,8 +34,8 @@ fn is_wanted(command: &Command<'_>, wanted: &Wanted) -> bool {
     }
 }
 
-/// Lines, and the commands that they have: blanks between words, numbers at their limits, a text that keeps its blanks within, a prefix that has
-/// bits behind its length, and a file.
+/// Lines, and the commands that they have: blanks between words, numbers at their limits, a text that keeps all blanks behind its first byte, a prefix
+/// that has bits behind its length, and a file.
 const TAKEN: [(&[u8], Wanted); 5] = [
     (b" network\t4  003 ", Wanted::Network(4, 3, None)),
     (
@@ -44,7 +44,7 @@ const TAKEN: [(&[u8], Wanted); 5] = [
     ),
     (
         b" load\tname_1 \t filter \t f {} \t",
-        Wanted::Load(b"name_1", b"filter \t f {}"),
+        Wanted::Load(b"name_1", b"filter \t f {} \t"),
     ),
     (b"prefix 3 10.1.2.3/8", Wanted::Prefix(3, 0x0a00_0000, 8)),
     (b"code A 4E43ff", Wanted::Code(b"A", b"NC\xff")),
