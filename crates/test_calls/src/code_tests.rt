@@ -4,7 +4,7 @@
 use code_file::{FileFault, read_code, write_code, write_old};
 use expectations::{expect, expect_number};
 use filter_code::{Code, Instr, IntRange, IntSet, Kind, Route, Value};
-use filter_verifier::{VerifyFault, verify};
+use filter_verifier::{Verified, VerifyFault, verify};
 use prefix_patterns::{Ip, Pattern, PatternSet, Prefix};
 use std::alloc::{AllocError, Global};
 use std::test::Fail;
@@ -146,15 +146,17 @@ fn code_of(alloc: Global, instrs: &[Instr]) -> Result<Code, Fail> {
     Ok(code.ok_or("a code")?)
 }
 
+/// Expects the bounds of that code, and the code.
+fn expect_verified(verified: &Verified) -> Result<(), Fail> {
+    let are_bounds = verified.budget() == 7 && verified.depth() == 2 && verified.size() == 8;
+    expect(are_bounds, "the bounds")?;
+    expect_parts(verified.code(), (3, 1, 1), &RAISED)
+}
+
 #[test]
 fn verified_code_is_what_was_handed_in(rt: HostRuntime) -> Result<(), Fail> {
     match verify(rt.alloc(), code_of(rt.alloc(), &RAISED)?, 8) {
-        Ok(verified) => {
-            expect_number(u64::from(verified.budget()), 7)?;
-            expect_number(u64::from(verified.depth()), 2)?;
-            expect_number(u64::from(verified.size()), 8)?;
-            expect_parts(verified.code(), (3, 1, 1), &RAISED)
-        }
+        Ok(verified) => expect_verified(&verified),
         Err((_, fault)) => Err(Fail::from(fault)),
     }
 }
@@ -207,18 +209,26 @@ fn full_file(alloc: Global) -> Result<Vec<u8>, AllocError> {
     Ok(bytes)
 }
 
-/// Expects that a file is read as a code at all limits, which is written as it was read, and has no older file.
-fn expect_full(alloc: Global, bytes: &[u8]) -> Result<(), Fail> {
-    let code = read_code(alloc, bytes)?;
-    expect_parts(&code, (16, 64, 64), &[Instr::Accept; 1024])?;
+/// Whether a code is written as these bytes.
+fn is_written(alloc: Global, code: &Code, bytes: &[u8]) -> Result<bool, FileFault> {
+    Ok(write_code(alloc, code)?.as_slice() == bytes)
+}
+
+/// Expects that a code is at all limits, is written as these bytes, and has no older file.
+fn expect_full_code(alloc: Global, code: &Code, bytes: &[u8]) -> Result<(), Fail> {
+    expect_parts(code, (16, 64, 64), &[Instr::Accept; 1024])?;
     let last_set = code.sets().last().map(|set| set.patterns().len());
     let last_int_set = code.int_sets().last().map(|set| set.ranges().len());
     let are_full = last_set == Some(1024) && last_int_set == Some(1024);
     expect(are_full, "sets of 1,024")?;
-    let written = write_code(alloc, &code)?;
-    expect(written.as_slice() == bytes, "the same bytes")?;
-    let older = write_old(alloc, &code).err();
-    expect(older == Some(FileFault::OldForm), "no older file")
+    expect(is_written(alloc, code, bytes)?, "the same bytes")?;
+    let is_refused = matches!(write_old(alloc, code), Err(FileFault::OldForm));
+    expect(is_refused, "no older file")
+}
+
+/// Expects that a file is read as such a code.
+fn expect_full(alloc: Global, bytes: &[u8]) -> Result<(), Fail> {
+    expect_full_code(alloc, &read_code(alloc, bytes)?, bytes)
 }
 
 #[test]

@@ -89,19 +89,22 @@ fn many(alloc: Global, count: u32) -> Result<Vec<(u32, u32)>, Fail> {
     Ok(ends)
 }
 
+/// Expects that a set has these ranges, and holds the numbers below 4,200 that they hold.
+fn expect_set(alloc: Global, ends: &[(u32, u32)], ranges: &[IntRange]) -> Result<(), Fail> {
+    let set = IntSet::build(alloc, ranges)?;
+    if set.ranges() != ranges {
+        return Err("the ranges that were given".into());
+    }
+    for number in 0..4200u32 {
+        expect_numbers(&set, ends, &[number])?;
+    }
+    Ok(())
+}
+
 #[test]
 fn a_set_has_1024_ranges(rt: HostRuntime) -> Result<(), Fail> {
     let ends = many(rt.alloc(), 1024)?;
-    let ranges = ranges_of(rt.alloc(), &ends)?;
-    let set = IntSet::build(rt.alloc(), &ranges)?;
-    if set.ranges() != ranges.as_slice() {
-        return Err("the ranges that were given".into());
-    }
-    let mut numbers = Vec::new(rt.alloc());
-    for number in 0..4200 {
-        numbers.push(number)?;
-    }
-    expect_numbers(&set, &ends, &numbers)
+    expect_set(rt.alloc(), &ends, &ranges_of(rt.alloc(), &ends)?)
 }
 
 #[test]

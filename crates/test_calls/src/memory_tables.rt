@@ -73,23 +73,30 @@ fn state(tables: &mut Tables) -> Result<State, AllocError> {
     Ok((sessions, queued, [route(tables, 1)?, route(tables, 2)?]))
 }
 
+/// An event that is refused.
+fn refused_event(at: u32) -> Event {
+    match at {
+        0 => Event::Up(1),
+        1 => Event::Down(7),
+        2 => Event::Receive(2, 3, 0),
+        _ => Event::Take(3, 1),
+    }
+}
+
+/// Whether such events are refused, and leave those tables as they were.
+fn are_refused(tables: &mut Tables) -> Result<bool, AllocError> {
+    let mut is_so = true;
+    for at in 0..4u32 {
+        is_so = matches!(tables.apply(&refused_event(at))?, Reply::Refused(_)) && is_so;
+    }
+    Ok(is_so && state(tables)? == BEFORE)
+}
+
 /// Looks and refused events need no memory.
 pub fn looked(alloc: Global) -> Result<Answered, Fail> {
     let mut tables = tables(alloc)?;
-    let events = [
-        Event::Up(1),
-        Event::Down(7),
-        Event::Receive(2, 3, 0),
-        Event::Take(3, 1),
-    ];
-    for event in &events {
-        match tables.apply(event) {
-            Ok(reply) => expect(matches!(reply, Reply::Refused(_)), "a refused event")?,
-            Err(_) => return Ok(Err("AllocError")),
-        }
-    }
-    match state(&mut tables) {
-        Ok(state) => Ok(Ok(state == BEFORE)),
+    match are_refused(&mut tables) {
+        Ok(is_so) => Ok(Ok(is_so)),
         Err(_) => Ok(Err("AllocError")),
     }
 }
@@ -156,15 +163,25 @@ fn state_after(change: Change) -> State {
     }
 }
 
-/// Whether an event has its reply, and leaves this state.
-fn is_applied(
-    tables: &mut Tables,
-    event: &Event,
-    wanted: &Reply,
-    left: &State,
-) -> Result<bool, AllocError> {
-    let reply = tables.apply(event)?;
-    Ok(reply.is_same(wanted) && state(tables)? == *left)
+/// An event, the reply to it, and the state that it leaves.
+#[derive(Drop)]
+struct Case {
+    event: Event,
+    wanted: Reply,
+    after: State,
+}
+
+/// Whether an event has its reply, and leaves its state.
+fn is_applied(tables: &mut Tables, case: &Case) -> Result<bool, AllocError> {
+    let is_so = tables.apply(&case.event)?.is_same(&case.wanted);
+    Ok(is_so && state(tables)? == case.after)
+}
+
+/// Expects that tables are as they were, and that an event is applied to them as ever.
+fn expect_again(tables: &mut Tables, case: &Case, before: &State) -> Result<(), Fail> {
+    expect(state(tables)? == *before, "nothing changes")?;
+    let is_so = is_applied(tables, case)?;
+    expect(is_so, "an event is applied again")
 }
 
 /// Applies a change to tables in this state. Where memory is refused they are as they were, and the event has its reply when it is applied again.
@@ -174,14 +191,15 @@ fn apply_to(
     before: &State,
     change: Change,
 ) -> Result<Answered, Fail> {
-    let (event, wanted) = (event_of(alloc, change)?, reply_of(alloc, change)?);
-    let after = state_after(change);
-    match is_applied(tables, &event, &wanted, &after) {
+    let case = Case {
+        event: event_of(alloc, change)?,
+        wanted: reply_of(alloc, change)?,
+        after: state_after(change),
+    };
+    match is_applied(tables, &case) {
         Ok(is_so) => Ok(Ok(is_so)),
         Err(_) => {
-            expect(state(tables)? == *before, "nothing changes")?;
-            let is_so = is_applied(tables, &event, &wanted, &after)?;
-            expect(is_so, "an event is applied again")?;
+            expect_again(tables, &case, before)?;
             Ok(Err("AllocError"))
         }
     }
@@ -262,13 +280,18 @@ pub fn entered(alloc: Global) -> Result<Answered, Fail> {
     enter_all(alloc, &mut journal)
 }
 
+/// Replays a journal.
+fn replay_of(alloc: Global, journal: &Journal) -> Answered {
+    match replay(alloc, journal.opening(), journal.entries()) {
+        Ok(tables) => Ok(tables.session(1) == 1),
+        Err(ReplayFault::Memory) => Err("Memory"),
+        Err(_) => Ok(false),
+    }
+}
+
 /// Replays a journal with three entries.
 pub fn replayed(alloc: Global) -> Result<Answered, Fail> {
     let mut journal = Journal::open(alloc, opening(alloc)?, 3)?;
     let _answered = enter_all(alloc, &mut journal)?;
-    match replay(alloc, journal.opening(), journal.entries()) {
-        Ok(tables) => Ok(Ok(tables.session(1) == 1)),
-        Err(ReplayFault::Memory) => Ok(Err("Memory")),
-        Err(_) => Ok(Ok(false)),
-    }
+    Ok(replay_of(alloc, &journal))
 }
