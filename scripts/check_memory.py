@@ -1,13 +1,12 @@
 #!/usr/bin/env python3
-"""Refuses each allocation of tests and of runs of the program, one at a time. Prints what each refusal did that did harm, for each call of
-test_memory what it answered, how many allocations were refused, and at last 'N passed, M failed'.
+"""Refuses each allocation of tests and of runs of the program, one at a time. Prints what each refusal did that did harm, for each call that
+asks for memory what it answered, how many allocations were refused, and at last 'N passed, M failed'.
 
 usage: NCROUTE=PATH scripts/check_memory.py [NAME..]
-       (NAMEs: crates whose tests are swept, and `runs` for those of the program; without them test_memory, test_routers, runs)
+       (NAMEs: `calls` and `routers` for the tests of test_calls and of test_routers that are swept, `runs` for runs of the program; without them all)
 
-Of the tests of test_routers those of the lock and of refused memory are swept.
-
-The tests of a crate are crates/NAME/out/NAME_tests, which the gate and `rt test` leave there; where there are none, `rt test` builds them.
+The tests of a crate are crates/NAME/out/NAME_tests, which the gate and `rt test` leave there; where there are none, `rt test` builds them. Swept are
+those of the modules `memory`, and those of the lock.
 
 A test that meets a refused allocation ends with the error that it was handed (by `?`, or after it compared what a refused call left behind;
 then it also says what the call answered). A test that passes all the same did without the memory. Anything else is a fault: a wrong answer (a
@@ -30,11 +29,15 @@ sys.dont_write_bytecode = True
 import program  # noqa: E402
 
 AT_ONCE = max(2, os.cpu_count() or 1)
-CRATES = {"test_memory": None, "test_routers": ("lock", "memory")}
+# The crates whose tests are swept, and the modules of these.
+MODULES = {"calls": ("test_calls", "memory"), "routers": ("test_routers", "memory", "lock")}
 
-# The calls that the tests of test_memory make and that answer refused memory. `close` is made too, and asks for none.
-CALLS = """build read_code write_code parse check compile compile_mapped verify compile_text read_file read_hexadecimal verify_code Tables::open
-Tables::apply Journal::open Journal::apply replay Router::open try_call call run_sessions answer_lines run_script""".split()
+# The calls that these tests make and that answer refused memory. `close` is made too, and asks for none.
+CALLS = {
+    "calls": """build read_code write_code parse check compile compile_mapped verify compile_text read_file read_hexadecimal verify_code
+    Tables::open Tables::apply Journal::open Journal::apply replay answer_lines run_script""".split(),
+    "routers": ["Router::open", "try_call", "call", "run_sessions"],
+}
 
 # How a program ends that was refused memory: in any call of most commands, and in `net` also in those of a lock, a session or a channel.
 # Each of these ends has to come about.
@@ -90,13 +93,13 @@ def is_refusal(status, errors):
     return status == 101 and b"its result gives status 1\n" in errors and re.search(rb"(?m)^error: | answered ", errors)
 
 
-def sweep_tests(sweep, pool, crate):
-    """Sweeps each test of a crate, and returns how many passed and failed, and what its calls answered."""
+def sweep_tests(sweep, pool, crate, *modules):
+    """Sweeps each test of some modules of a crate, and returns how many passed and failed, and what their calls answered."""
     tests, answers = built_tests(crate), collections.defaultdict(collections.Counter)
     passed = failed = all_refused = without = 0
     listed = subprocess.run([tests, "--list"], capture_output=True, check=True)
     for name in re.findall(r"(?m)^(.+): test$", (listed.stdout + listed.stderr).decode()):
-        if CRATES.get(crate) and name.split("::")[-2] not in CRATES[crate]:
+        if name.split("::")[-2] not in modules:
             continue
         faults = 0
         for nth, (status, output, errors) in sweep.all(pool, [tests, name]):
@@ -115,10 +118,10 @@ def sweep_tests(sweep, pool, crate):
     return passed, failed, answers
 
 
-def count_calls(answers):
-    """Says how often each call of test_memory was refused memory and what it answered. Each has to be, but for `close`."""
+def count_calls(calls, answers):
+    """Says how often each of the calls was refused memory and what it answered. Each has to be."""
     passed = failed = 0
-    for call in CALLS:
+    for call in calls:
         told = ", ".join(f"{answer} ({times})" for answer, times in sorted(answers[call].items()))
         print(f"{call}: {told or 'was never refused memory'}")
         passed, failed = passed + bool(told), failed + (not told)
@@ -172,7 +175,7 @@ def sweep_runs(sweep, pool):
 
 
 def main():
-    names = sys.argv[1:] or [*CRATES, "runs"]
+    names = sys.argv[1:] or [*MODULES, "runs"]
     passed = failed = 0
     with tempfile.TemporaryDirectory() as folder, concurrent.futures.ThreadPoolExecutor(AT_ONCE) as pool:
         sweep = Sweep(folder)
@@ -180,10 +183,8 @@ def main():
             if name == "runs":
                 counts = [sweep_runs(sweep, pool)]
             else:
-                well, ill, answers = sweep_tests(sweep, pool, name)
-                counts = [(well, ill)]
-                if name == "test_memory":
-                    counts.append(count_calls(answers))
+                well, ill, answers = sweep_tests(sweep, pool, *MODULES[name])
+                counts = [(well, ill), count_calls(CALLS[name], answers)]
             passed, failed = passed + sum(it[0] for it in counts), failed + sum(it[1] for it in counts)
     program.finish(passed, failed)
 

@@ -226,6 +226,29 @@ FAULTS = [
      + b" " * 33 + b"^\n1\n"),
     ("ncroute explain P2 2>&1 >/dev/full; echo $?", b"ncroute: E2\n1\n"),
     ("ncroute list examples/no_bogons.filter 2>&1 >/dev/full; echo $?", b"ncroute: E2\n3\n"),
+    # A filter that is refused reads no route.
+    ("echo 8.8.8.0/24 9 | (ncroute filter --size 16 <(echo 'filter q { accept }') 2>/dev/null; cat)", b"refused P2 18\n8.8.8.0/24 9\n"),
+    ("echo 8.8.8.0/24 9 | (ncroute filter --size 16 <(echo 'filter q { x = 1; }') 2>/dev/null; cat)", b"refused Y1 11\n8.8.8.0/24 9\n"),
+    ("echo 8.8.8.0/24 9 | (ncroute filter --size 16 <(echo 'filter d { if 8 / rip_metric = 2 then accept; }') 2>/dev/null; cat)", b"refused V3 2\n8.8.8.0/24 9\n"),
+    ("echo 8.8.8.0/24 9 | (ncroute filter --size 251 <(echo 'filter a { accept; }') 2>/dev/null; cat)", b"refused V8 0\n8.8.8.0/24 9\n"),
+]
+
+# How many more bytes the file `$full` takes, a line of a shell that adds to it, what the line writes, and the bytes that the file took. An output that
+# fails after its first bytes is told; where words are not taken the answers are the same.
+FULL = [
+    (4, "echo 8.8.8.0/24 9 | ncroute filter --size 16 examples/backup_link.filter 2>&1 >>$full; echo $?", b"ncroute: E2\n3\n", b"acce"),
+    (4, "echo 8.8.8.0/24 9 | ncroute filter --size 16 --why examples/backup_link.filter 2>&1 >>$full; echo $?", b"ncroute: E2\n3\n", b"8.8."),
+    (4, "echo 8.8.8.0/24 9 | ncroute filter --size 16 --coverage examples/backup_link.filter 2>&1 >>$full; echo $?", b"ncroute: E2\n3\n", b"1 5:"),
+    (4, "ncroute diff examples/backup_link.filter examples/no_bogons.filter 2>&1 >>$full; echo $?", b"ncroute: E2\n3\n", b"diff"),
+    (4, "ncroute test examples/customer_list.test 2>&1 >>$full; echo $?", b"ncroute: E2\n3\n", b"TAP "),
+    (19, "ncroute test examples/customer_list.test 2>&1 >>$full; echo $?", b"ncroute: E2\n3\n", b"TAP version 13\nok 1"),
+    (4, "printf '8.8.8.0/24 9\\n8.8.8.0/24 17\\n' | ncroute filter --size 16 --explain always examples/backup_link.filter 2>>$full; echo $?",
+     b"accept 12\nrefused O2 2\n1\n", b"<std"),
+    (5, "ncroute diff examples/backup_link.filter examples/up_two.eval 2>>$full; echo $?", b"3\n", b"examp"),
+    (4, "printf 'filter examples/no_bogons.filter\\nsize 8\\n10.0.0.0/8 8 -> accept\\n' | ncroute test --explain always 2>>$full; echo $?",
+     b"TAP version 13\nnot ok 1 - 10.0.0.0/8 8 -> accept\n# 10.0.0.0/8 8 -> reject\n3\n", b"<std"),
+    (5, "printf 'filter examples/up_two.eval\\nsize 8\\n10.0.0.0/8 8 -> accept\\n' | ncroute test --explain always 2>>$full; echo $?",
+     b"TAP version 13\n3\n", b"examp"),
 ]
 
 HINT = b"ncroute: reading standard input, which Ctrl-D ends\n"
@@ -253,9 +276,15 @@ TERMINALS = [
 ]
 
 
+def filling(room, line, output, taken):
+    """Such a line with its file, which it shows at last; and what it writes."""
+    begun = f"full=$(mktemp); head -c {1024 - room} /dev/zero >$full; trap '' XFSZ; ulimit -f 1"
+    return f"{begun}; {line}; tail -c {room} $full; rm $full", output + taken
+
+
 def main():
     ncroute = program.Program()
-    faults = FAULTS if os.environ.get("NCROUTE") else []
+    faults = FAULTS + [filling(*row) for row in FULL] if os.environ.get("NCROUTE") else []
     said = ncroute.runs([(f"ncroute {words}", given) for words, given, _, _ in RUNS] + [(line, b"") for line, _ in faults])
     wanted = [(output, status) for _, _, output, status in RUNS] + [(output, 0) for _, output in faults]
     names = [f"ncroute {words}".strip() for words, _, _, _ in RUNS] + [line for line, _ in faults]

@@ -1,11 +1,11 @@
-//! What no command shows of codes: what can be made of parts, at all limits too, and what each fault says. What codes answer, and which
-//! files are refused, is in `tests/rows/`.
+//! What no command shows of codes: what can be made of parts, at all limits too. What codes answer, and which files are refused, is in
+//! `tests/rows/`.
 
 use code_file::{FileFault, read_code, write_code, write_old};
-use expectations::{expect, expect_fault, expect_number, expect_str, expect_text};
-use filter_code::{Code, FaultKind, Instr, IntRange, IntSet, Kind, Route, Value};
-use filter_verifier::{VerifyFault, verify};
-use prefix_patterns::{Ip, Pattern, PatternSet, Prefix, SetFault};
+use expectations::{expect, expect_number};
+use filter_code::{Code, Instr, IntRange, IntSet, Kind, Route, Value};
+use filter_verifier::{Verified, VerifyFault, verify};
+use prefix_patterns::{Ip, Pattern, PatternSet, Prefix};
 use std::alloc::{AllocError, Global};
 use std::test::Fail;
 
@@ -146,15 +146,17 @@ fn code_of(alloc: Global, instrs: &[Instr]) -> Result<Code, Fail> {
     Ok(code.ok_or("a code")?)
 }
 
+/// Expects the bounds of that code, and the code.
+fn expect_verified(verified: &Verified) -> Result<(), Fail> {
+    let are_bounds = verified.budget() == 7 && verified.depth() == 2 && verified.size() == 8;
+    expect(are_bounds, "the bounds")?;
+    expect_parts(verified.code(), (3, 1, 1), &RAISED)
+}
+
 #[test]
 fn verified_code_is_what_was_handed_in(rt: HostRuntime) -> Result<(), Fail> {
     match verify(rt.alloc(), code_of(rt.alloc(), &RAISED)?, 8) {
-        Ok(verified) => {
-            expect_number(u64::from(verified.budget()), 7)?;
-            expect_number(u64::from(verified.depth()), 2)?;
-            expect_number(u64::from(verified.size()), 8)?;
-            expect_parts(verified.code(), (3, 1, 1), &RAISED)
-        }
+        Ok(verified) => expect_verified(&verified),
         Err((_, fault)) => Err(Fail::from(fault)),
     }
 }
@@ -207,18 +209,26 @@ fn full_file(alloc: Global) -> Result<Vec<u8>, AllocError> {
     Ok(bytes)
 }
 
-/// Expects that a file is read as a code at all limits, which is written as it was read, and has no older file.
-fn expect_full(alloc: Global, bytes: &[u8]) -> Result<(), Fail> {
-    let code = read_code(alloc, bytes)?;
-    expect_parts(&code, (16, 64, 64), &[Instr::Accept; 1024])?;
+/// Whether a code is written as these bytes.
+fn is_written(alloc: Global, code: &Code, bytes: &[u8]) -> Result<bool, FileFault> {
+    Ok(write_code(alloc, code)?.as_slice() == bytes)
+}
+
+/// Expects that a code is at all limits, is written as these bytes, and has no older file.
+fn expect_full_code(alloc: Global, code: &Code, bytes: &[u8]) -> Result<(), Fail> {
+    expect_parts(code, (16, 64, 64), &[Instr::Accept; 1024])?;
     let last_set = code.sets().last().map(|set| set.patterns().len());
     let last_int_set = code.int_sets().last().map(|set| set.ranges().len());
     let are_full = last_set == Some(1024) && last_int_set == Some(1024);
     expect(are_full, "sets of 1,024")?;
-    let written = write_code(alloc, &code)?;
-    expect(written.as_slice() == bytes, "the same bytes")?;
-    let older = write_old(alloc, &code).err();
-    expect(older == Some(FileFault::OldForm), "no older file")
+    expect(is_written(alloc, code, bytes)?, "the same bytes")?;
+    let is_refused = matches!(write_old(alloc, code), Err(FileFault::OldForm));
+    expect(is_refused, "no older file")
+}
+
+/// Expects that a file is read as such a code.
+fn expect_full(alloc: Global, bytes: &[u8]) -> Result<(), Fail> {
+    expect_full_code(alloc, &read_code(alloc, bytes)?, bytes)
 }
 
 #[test]
@@ -232,147 +242,4 @@ fn a_code_file_at_all_limits(rt: HostRuntime) -> Result<(), Fail> {
         fault == Some(FileFault::BytesAfterEnd(end)),
         "one byte more",
     )
-}
-
-/// What each fault of a code file says.
-const FILE_FAULTS: [(FileFault, &str); 8] = [
-    (
-        FileFault::OtherMark(3),
-        "C1 3 byte 3 does not match the mark NCF1 or NCF2, which begins a code file",
-    ),
-    (
-        FileFault::EndsEarly(8),
-        "C2 8 the file ends at byte 8, inside a field",
-    ),
-    (
-        FileFault::UnknownOpcode(8),
-        "C3 8 byte 8 is no known opcode",
-    ),
-    (
-        FileFault::BadOperand(9),
-        "C4 9 the operand, pattern or range at byte 9 is out of range",
-    ),
-    (
-        FileFault::OverLimit(4),
-        "C5 4 the number at byte 4 is over its limit",
-    ),
-    (
-        FileFault::BytesAfterEnd(9),
-        "C6 9 the code ends before byte 9, and more bytes follow",
-    ),
-    (FileFault::Memory, "C7 0 out of memory"),
-    (
-        FileFault::OldForm,
-        "C8 0 the code has sets of ints, which a file with the mark NCF1 does not have",
-    ),
-];
-
-#[test]
-fn faults_of_files_say(rt: HostRuntime) -> Result<(), Fail> {
-    for (fault, wanted) in &FILE_FAULTS {
-        expect_fault(rt.alloc(), fault.code(), fault.at(), fault, wanted)?;
-    }
-    Ok(())
-}
-
-/// What each fault of a run says.
-const RUN_FAULTS: [(FaultKind, &str, &str); 7] = [
-    (
-        FaultKind::MissingOperand,
-        "K1",
-        "too few operands on the stack",
-    ),
-    (FaultKind::WrongKind, "K2", "an operand of the wrong kind"),
-    (FaultKind::ZeroDivisor, "K3", "a division by zero"),
-    (FaultKind::OutsideCode, "K4", "no instruction at this index"),
-    (
-        FaultKind::FullStack,
-        "K5",
-        "more than 32 values on the stack",
-    ),
-    (
-        FaultKind::LowerMetric,
-        "K6",
-        "a metric below the one received",
-    ),
-    (
-        FaultKind::UnknownName,
-        "K7",
-        "no such local variable or set",
-    ),
-];
-
-#[test]
-fn faults_of_runs_say(rt: HostRuntime) -> Result<(), Fail> {
-    for (kind, code, text) in &RUN_FAULTS {
-        expect_str(kind.code(), code)?;
-        expect_text(rt.alloc(), kind, text)?;
-    }
-    Ok(())
-}
-
-/// What each refusal of the verifier says.
-const REFUSALS: [(VerifyFault, &str); 10] = [
-    (
-        VerifyFault::MissingOperand(3),
-        "V1 3 instruction 3: too few operands on the stack",
-    ),
-    (
-        VerifyFault::WrongKind(3),
-        "V2 3 instruction 3: an operand has an unknown or wrong kind",
-    ),
-    (
-        VerifyFault::ZeroDivisor(3),
-        "V3 3 instruction 3: the divisor may be 0",
-    ),
-    (
-        VerifyFault::OutsideCode(3),
-        "V4 3 instruction 3: execution may continue outside the code",
-    ),
-    (
-        VerifyFault::FullStack(3),
-        "V5 3 instruction 3: the stack may overflow",
-    ),
-    (
-        VerifyFault::LowerMetric(3),
-        "V6 3 instruction 3: the new metric may be lower than the one received",
-    ),
-    (
-        VerifyFault::UnknownName(3),
-        "V7 3 instruction 3: no such local variable or set",
-    ),
-    (
-        VerifyFault::UnlikeDepths(3),
-        "V9 3 instruction 3: the stack depth differs between the paths that lead here",
-    ),
-    (
-        VerifyFault::BadSize,
-        "V8 0 the size of a domain must be 2 to 250",
-    ),
-    (VerifyFault::Memory, "V10 0 out of memory"),
-];
-
-#[test]
-fn refusals_say(rt: HostRuntime) -> Result<(), Fail> {
-    for (fault, wanted) in &REFUSALS {
-        expect_fault(rt.alloc(), fault.code(), fault.at(), fault, wanted)?;
-    }
-    Ok(())
-}
-
-/// What each fault of a set of patterns says.
-const SET_FAULTS: [(SetFault, &str); 2] = [
-    (
-        SetFault::TooManyPatterns,
-        "S1 0 more than 1024 patterns in a set",
-    ),
-    (SetFault::Memory, "S2 0 out of memory"),
-];
-
-#[test]
-fn faults_of_sets_say(rt: HostRuntime) -> Result<(), Fail> {
-    for (fault, wanted) in &SET_FAULTS {
-        expect_fault(rt.alloc(), fault.code(), fault.at(), fault, wanted)?;
-    }
-    Ok(())
 }

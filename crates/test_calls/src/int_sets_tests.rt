@@ -89,19 +89,22 @@ fn many(alloc: Global, count: u32) -> Result<Vec<(u32, u32)>, Fail> {
     Ok(ends)
 }
 
+/// Expects that a set has these ranges, and holds the numbers below 4,200 that they hold.
+fn expect_set(alloc: Global, ends: &[(u32, u32)], ranges: &[IntRange]) -> Result<(), Fail> {
+    let set = IntSet::build(alloc, ranges)?;
+    if set.ranges() != ranges {
+        return Err("the ranges that were given".into());
+    }
+    for number in 0..4200u32 {
+        expect_numbers(&set, ends, &[number])?;
+    }
+    Ok(())
+}
+
 #[test]
 fn a_set_has_1024_ranges(rt: HostRuntime) -> Result<(), Fail> {
     let ends = many(rt.alloc(), 1024)?;
-    let ranges = ranges_of(rt.alloc(), &ends)?;
-    let set = IntSet::build(rt.alloc(), &ranges)?;
-    if set.ranges() != ranges.as_slice() {
-        return Err("the ranges that were given".into());
-    }
-    let mut numbers = Vec::new(rt.alloc());
-    for number in 0..4200 {
-        numbers.push(number)?;
-    }
-    expect_numbers(&set, &ends, &numbers)
+    expect_set(rt.alloc(), &ends, &ranges_of(rt.alloc(), &ends)?)
 }
 
 #[test]
@@ -118,16 +121,6 @@ fn ranges_are_in_order(_rt: HostRuntime) -> Result<(), Fail> {
     let one = IntRange::new(7, 7).ok_or("one number")?;
     if one.low() != 7 || one.high() != 7 || IntRange::new(8, 7).is_some() {
         return Err("a range".into());
-    }
-    Ok(())
-}
-
-#[test]
-fn faults_are_told(rt: HostRuntime) -> Result<(), Fail> {
-    let fault = SetFault::TooManyRanges;
-    let line = format!(in rt.alloc(); "{} {} {fault}", fault.code(), fault.at())?;
-    if line.as_str() != "S1 0 more than 1024 ranges in a set" {
-        return Err(Fail::new(line.as_str()));
     }
     Ok(())
 }

@@ -1,15 +1,17 @@
 //! The engine that answers lines, over readers and writers that give little at a time, and fail.
 
-use expectations::{expect, expect_bytes, expect_fault};
+use expectations::{expect, expect_bytes};
 use line_protocol::{
     INPUT_LIMIT, LINE_LIMIT, Reply, Service, StreamFault, answer_lines, answer_lines_within,
     next_word, push_decimal, push_refusal, trim_blanks,
 };
 use std::alloc::{AllocError, Global};
-use std::io;
 use std::io::{ErrorKind, Read, Write};
 use std::test::Fail;
-use worked_rows::{FailingReader, FailingWriter, Terminal};
+use std::{fmt, io};
+
+/// How many bytes a sink holds.
+const HELD: usize = 600;
 
 /// How many signals interrupt each read and each write before it is made.
 const INTERRUPTIONS: u32 = 4;
@@ -21,9 +23,9 @@ fn interrupts(count: &mut u32) -> bool {
     again
 }
 
-// Gives a few bytes a read, with interruptions before each, and then ends or fails.
+/// Gives a few bytes a read, with interruptions before each, and then ends or fails. It needs no memory.
 #[derive(Drop)]
-struct Pieces<'a> {
+pub struct Pieces<'a> {
     rest: &'a [u8],
     most: usize,
     interrupted: u32,
@@ -45,10 +47,10 @@ impl Read for Pieces<'_> {
     }
 }
 
-// Takes a few bytes a write, with interruptions before each, until it is full. It needs no memory.
+/// Takes a few bytes a write, with interruptions before each, until it is full. It needs no memory.
 #[derive(Drop)]
-struct Sink {
-    held: [u8; 64],
+pub struct Sink {
+    held: [u8; HELD],
     len: usize,
     most: usize,
     room: usize,
@@ -58,14 +60,15 @@ struct Sink {
 
 impl Sink {
     fn put(&mut self, byte: u8) {
-        if self.len < 64 {
+        if self.len < HELD {
             self.held[self.len] = byte;
         }
         self.len = self.len.saturating_add(1);
     }
 
-    fn text(&self) -> &[u8] {
-        &self.held[..self.len.min(64)]
+    /// The first bytes that it took.
+    pub fn text(&self) -> &[u8] {
+        &self.held[..self.len.min(HELD)]
     }
 }
 
@@ -88,10 +91,19 @@ impl Write for Sink {
     }
 }
 
-// Answers a line by its number and the line, refuses one that begins with `!`, ends at `quit`, and
-// has no memory for `full`, after a begun answer.
+impl fmt::Write for Sink {
+    fn write_str(&mut self, text: &str) -> fmt::Result {
+        for byte in text.as_bytes() {
+            self.put(*byte);
+        }
+        Ok(())
+    }
+}
+
+/// Answers a line by its number and the line, refuses one that begins with `!`, ends at `quit`, and
+/// has no memory for `full`, after a begun answer.
 #[derive(Drop)]
-struct Echo;
+pub struct Echo;
 
 impl Service for Echo {
     ghost answers = { λ _ _ _ _ _. Unit {0} };
@@ -129,9 +141,10 @@ impl Service for Echo {
     }
 }
 
-fn make_sink(most: usize, room: usize) -> Sink {
+/// A sink with this much room, which takes so many bytes a write.
+pub fn make_sink(most: usize, room: usize) -> Sink {
     Sink {
-        held: [0; 64],
+        held: [0; HELD],
         len: 0,
         most,
         room,
@@ -140,7 +153,8 @@ fn make_sink(most: usize, room: usize) -> Sink {
     }
 }
 
-fn make_pieces(rest: &[u8], most: usize, fails: bool) -> Pieces<'_> {
+/// A reader of these bytes, which gives so many a read.
+pub fn make_pieces(rest: &[u8], most: usize, fails: bool) -> Pieces<'_> {
     Pieces {
         rest,
         most,
@@ -231,20 +245,6 @@ const KINDS: [ErrorKind; 4] = [
     ErrorKind::Other,
 ];
 
-/// Each is a fault at once, also of a reader that would have to wait. That reader fails once alone, so a run that goes on answers the
-/// whole input.
-#[test]
-fn a_failed_reader_is_not_asked_again(rt: HostRuntime) -> Result<(), Fail> {
-    for kind in &KINDS {
-        let mut reader = FailingReader::new(b"a\nbegun", *kind);
-        let mut out = make_sink(100, 100);
-        let answered = answer_lines(rt.alloc(), &mut reader, &mut out, &mut Echo);
-        expect(answered == Err(StreamFault::Read), "a failed read")?;
-        expect_bytes(out.text(), b"1 a\n")?;
-    }
-    Ok(())
-}
-
 // Fails at one write, and takes all others.
 #[derive(Drop)]
 struct Stumbling {
@@ -311,37 +311,6 @@ fn runs_read_up_to_a_chosen_limit(rt: HostRuntime) -> Result<(), Fail> {
         expect_bytes(out.text(), text)?;
     }
     Ok(())
-}
-
-/// Whether a run over two lines fails where its writer takes both answers, and fails when it is flushed.
-fn fails_at_the_flush(alloc: Global, input: &[u8]) -> bool {
-    let mut reader = input;
-    let mut out = FailingWriter::new(alloc, 8);
-    let answered = answer_lines(alloc, &mut reader, &mut out, &mut Echo);
-    answered == Err(StreamFault::Write) && out.text() == b"1 a\n2 b\n".as_slice()
-}
-
-#[test]
-fn a_failed_flush_is_told(rt: HostRuntime) -> Result<(), Fail> {
-    let fails = fails_at_the_flush(rt.alloc(), b"a\nb\n")
-        && fails_at_the_flush(rt.alloc(), b"a\nb");
-    expect(fails, "a failed flush")
-}
-
-/// What is read at once, and what has to be written before the next read.
-const TYPED: &[(&[u8], &[u8])] = &[
-    (b"a\n", b"1 a\n"),
-    (b"b\n!c\nbeg", b"2 b\nrefused O9 3\n"),
-    (b"un\n", b"4 begun\n"),
-    (b"# d\n", b""),
-    (b"e", b""),
-];
-
-#[test]
-fn a_run_answers_before_it_reads_on(rt: HostRuntime) -> Result<(), Fail> {
-    let terminal = Terminal::new(rt.alloc(), TYPED);
-    let answered = answer_lines(rt.alloc(), &mut &terminal, &mut &terminal, &mut Echo);
-    expect(answered == Ok(1), "an answer comes before the next line")
 }
 
 // Gives the line `a`, a comment up to the limit less four bytes, and then these.
@@ -418,22 +387,6 @@ fn long_lines_are_handed_on(rt: HostRuntime) -> Result<(), Fail> {
         // Two lines with their numbers are three bytes longer than the input, which has a carriage return.
         let is_whole = out.len.checked_sub(input.len()) == Some(3);
         expect(answered == Ok(0) && is_whole, "a long line")?;
-    }
-    Ok(())
-}
-
-/// The faults of streams, each with its code, its place and its text.
-const FAULTS: [(StreamFault, &str); 4] = [
-    (StreamFault::Read, "E1 0 the input could not be read"),
-    (StreamFault::Write, "E2 0 the output could not be written"),
-    (StreamFault::Memory, "E3 0 out of memory"),
-    (StreamFault::TooLong, "E4 0 the input is too long"),
-];
-
-#[test]
-fn shows_each_fault(rt: HostRuntime) -> Result<(), Fail> {
-    for (fault, wanted) in &FAULTS {
-        expect_fault(rt.alloc(), fault.code(), fault.at(), fault, wanted)?;
     }
     Ok(())
 }

@@ -1,13 +1,12 @@
 //! The machine for verified code beside the checked machine, on random verified code and random routes.
 
-use expectations::expect;
+use expectations::{Numbers, expect};
 use filter_code::{Code, Instr, IntRange, IntSet, Outcome, Route, run_counted};
 use filter_machine::{Verdict, run};
 use filter_verifier::{Verified, verify};
 use prefix_patterns::{Ip, Pattern, PatternSet, Prefix};
 use std::alloc::{AllocError, Global};
 use std::test::Fail;
-use worked_rows::Numbers;
 
 /// The size of the domain.
 const SIZE: u32 = 250;
@@ -36,6 +35,36 @@ const OPERATIONS: [Instr; 20] = [
     Instr::SetMetric,
 ];
 
+/// An address of few distinct first bits, so that many lie within one another.
+fn ip(numbers: &mut Numbers) -> Ip {
+    Ip(
+        numbers
+            .below(8)
+            .wrapping_mul(0x2000_0000)
+            .wrapping_add(numbers.below(3)),
+    )
+}
+
+/// The lengths of prefixes.
+const LENGTHS: [u8; 8] = [0, 1, 2, 3, 8, 30, 31, 32];
+
+/// A prefix of such an address.
+fn prefix(numbers: &mut Numbers) -> Option<Prefix> {
+    let len = *LENGTHS.get(numbers.place(LENGTHS.len()))?;
+    Prefix::new(ip(numbers), len)
+}
+
+/// Ints at limits.
+const INTS: [u32; 6] = [0, 1, 63, 64, 0x8000_0000, u32::MAX];
+
+/// An int, often one at a limit.
+fn int(numbers: &mut Numbers) -> u32 {
+    match INTS.get(numbers.below(7) as usize) {
+        Some(at_a_limit) => *at_a_limit,
+        None => numbers.below(u32::MAX),
+    }
+}
+
 /// The number of a local variable, one of four.
 fn local(numbers: &mut Numbers) -> u8 {
     u8::try_from(numbers.below(4)).unwrap_or(0)
@@ -44,10 +73,10 @@ fn local(numbers: &mut Numbers) -> u8 {
 /// An instruction that pushes a value and takes none.
 fn literal(numbers: &mut Numbers) -> Option<Instr> {
     Some(match numbers.below(9) {
-        0 => Instr::Int(numbers.int()),
+        0 => Instr::Int(int(numbers)),
         1 => Instr::Bool(numbers.below(2) == 0),
-        2 => Instr::Ip(numbers.ip()),
-        3 => Instr::Prefix(numbers.prefix()?),
+        2 => Instr::Ip(ip(numbers)),
+        3 => Instr::Prefix(prefix(numbers)?),
         4 => Instr::Net,
         5 => Instr::Metric,
         6 => Instr::Received,
@@ -168,7 +197,7 @@ fn outcome_of(verdict: Verdict) -> Outcome {
 fn compare(verified: &Verified, numbers: &mut Numbers) -> Result<u64, Fail> {
     let mut steps: u64 = 0;
     for _ in 0..12 {
-        let net = numbers.prefix().ok_or("a prefix")?;
+        let net = prefix(numbers).ok_or("a prefix")?;
         let metric = numbers.below(SIZE + 1).min(verified.size());
         let route = Route::new(net, metric, verified.size()).ok_or("a route")?;
         let ran = run(verified, &net, metric);

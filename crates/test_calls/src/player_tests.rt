@@ -3,12 +3,12 @@
 
 ghost use Rattle.std.specs.Prelude.{◌≢◌, ◌<◌, OnOk, length};
 
+use crate::tables_tests::prefixes;
 use domain_player::Routers;
 use expectations::{expect_number, expect_str};
 use filter_source::{compile_text, verify_code};
 use filter_verifier::Verified;
 use netchange_core::Via;
-use prefix_patterns::{Ip, Prefix};
 use std::alloc::Global;
 use std::fmt::Write;
 use std::sync::Arc;
@@ -33,19 +33,9 @@ enum Step {
     Table(u16, &'static str),
 }
 
-/// The prefixes 10.V.0.0/16 of so many nodes.
-fn prefixes(alloc: Global, size: u16) -> Result<Vec<Prefix>, Fail> {
-    let mut prefixes = Vec::new(alloc);
-    for node in 0..size {
-        let ip = Ip(0x0a00_0000 + 0x1_0000 * u32::from(node % 250));
-        prefixes.push(Prefix::new(ip, 16).ok_or("a prefix")?)?;
-    }
-    Ok(prefixes)
-}
-
 /// The routers of a domain of so many nodes, whose prefixes are 10.V.0.0/16.
 fn routers(alloc: Global, size: u16) -> Result<Routers, Fail> {
-    let prefixes = prefixes(alloc, size)?;
+    let prefixes = prefixes(alloc, u32::from(size))?;
     if prefixes.len() < 2 || prefixes.len() > 250 {
         return Err(Fail::from("the size of a domain"));
     }

@@ -1,10 +1,11 @@
 //! Addresses, prefixes, patterns and their sets: how they are made, read and displayed. What sets match is in `tests/rows/eval.rows`.
 
-use expectations::{expect, expect_number, expect_text};
+use expectations::{expect, expect_text};
 use prefix_patterns::{
     Ip, Pattern, PatternSet, Prefix, SetFault, after_byte, displayed_text_is_read, leading_number,
     leading_prefix, read_ip, read_number, read_prefix,
 };
+use std::alloc::Global;
 use std::test::Fail;
 
 /// A prefix as its first address and its length.
@@ -170,17 +171,29 @@ fn patterns_have_lengths_in_order(_rt: HostRuntime) -> Result<(), Fail> {
     Ok(())
 }
 
+/// How many patterns, and whether there is a set of so many.
+const COUNTS: [(usize, bool); 2] = [(1024, true), (1025, false)];
+
+/// Whether there is a set of a pattern so many times. It has them and matches the prefix, or there are too many.
+fn is_set_of(alloc: Global, pattern: &Pattern, count: usize) -> Result<bool, Fail> {
+    let patterns = vec![in alloc; *pattern; count]?;
+    match PatternSet::build(alloc, &patterns) {
+        Ok(set) => Ok(set.patterns() == patterns.as_slice() && set.matches(&pattern.prefix())),
+        Err(SetFault::TooManyPatterns) => Ok(false),
+        Err(fault) => Err(Fail::from(fault)),
+    }
+}
+
 #[test]
 fn sets_have_at_most_1024_patterns(rt: HostRuntime) -> Result<(), Fail> {
     let prefix = read_prefix(b"1.0.0.0/8").ok_or("no prefix")?;
     let pattern = Pattern::new(prefix, 8, 8).ok_or("no pattern")?;
-    let mut patterns = vec![in rt.alloc(); pattern; 1024]?;
-    let set = PatternSet::build(rt.alloc(), &patterns)?;
-    expect_number(set.patterns().len() as u64, 1024)?;
-    expect(set.matches(&prefix) && pattern.matches(&prefix), "a set")?;
-    patterns.push(pattern)?;
-    let fault = PatternSet::build(rt.alloc(), &patterns).err();
-    expect(fault == Some(SetFault::TooManyPatterns), "1,025 patterns")
+    expect(pattern.matches(&prefix), "a pattern")?;
+    for (count, is_set) in &COUNTS {
+        let found = is_set_of(rt.alloc(), &pattern, *count)?;
+        expect(found == *is_set, "a set")?;
+    }
+    Ok(())
 }
 
 /// The number that a text begins with, and how many bytes follow it.

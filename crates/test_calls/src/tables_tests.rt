@@ -1,18 +1,18 @@
-//! What no command shows of a router's tables: the present sessions, what waits for them, what an opening is, and what refusals say. What
+//! What no command shows of a router's tables: the present sessions, what waits for them, and what an opening is. What
 //! the tables reply is in `tests/rows/replay.rows`.
 
-use expectations::{expect, expect_number, expect_str, expect_text};
+use expectations::{expect, expect_number, expect_text};
 use filter_code::{Code, Instr};
 use filter_verifier::{Verified, verify};
-use netchange_core::{Event, Opening, Refusal, Tables};
+use netchange_core::{Event, Opening, Tables};
 use prefix_patterns::{Ip, Prefix};
-use route_history::{CallFault, Journal};
-use std::alloc::Global;
+use route_history::{CallFault, Entries, Journal};
+use std::alloc::{AllocError, Global};
 use std::sync::Arc;
 use std::test::Fail;
 
 /// The prefixes 10.V.0.0/16 of so many nodes.
-fn prefixes(alloc: Global, count: u32) -> Result<Vec<Prefix>, Fail> {
+pub fn prefixes(alloc: Global, count: u32) -> Result<Vec<Prefix>, Fail> {
     let mut prefixes = Vec::new(alloc);
     for node in 0..count {
         let address = Ip(0x0a00_0000 + 0x1_0000 * (node % 256));
@@ -74,19 +74,22 @@ fn event(at: u32) -> Event {
     }
 }
 
-/// After each of these events, the session of neighbour 1, that of neighbour 2, and how many messages wait for sessions 1, 2 and 3.
-const STATES: [(u32, u32, usize, usize, usize); 7] = [
-    (1, 0, 4, 0, 0),
-    (1, 2, 4, 4, 0),
-    (1, 2, 0, 4, 0),
-    (1, 2, 1, 5, 0),
-    (1, 2, 1, 5, 0),
-    (0, 2, 0, 6, 0),
-    (3, 2, 0, 6, 4),
+/// The session of neighbour 1, that of neighbour 2, and how many messages wait for sessions 1, 2 and 3.
+type State = (u32, u32, usize, usize, usize);
+
+/// The place of each of these events, and the state after it.
+const STATES: [(u32, State); 7] = [
+    (0, (1, 0, 4, 0, 0)),
+    (1, (1, 2, 4, 4, 0)),
+    (2, (1, 2, 0, 4, 0)),
+    (3, (1, 2, 1, 5, 0)),
+    (4, (1, 2, 1, 5, 0)),
+    (5, (0, 2, 0, 6, 0)),
+    (6, (3, 2, 0, 6, 4)),
 ];
 
-/// What tables are in, in the order of those rows.
-fn state(tables: &Tables) -> (u32, u32, usize, usize, usize) {
+/// The state that tables are in.
+fn state(tables: &Tables) -> State {
     (
         tables.session(1),
         tables.session(2),
@@ -96,35 +99,41 @@ fn state(tables: &Tables) -> (u32, u32, usize, usize, usize) {
     )
 }
 
+/// Whether an event leaves this state.
+fn leaves(tables: &mut Tables, event: &Event, wanted: &State) -> Result<bool, AllocError> {
+    let _reply = tables.apply(event)?;
+    Ok(state(tables) == *wanted)
+}
+
+/// Expects the states of new tables, and nothing of what is no session.
+fn expect_states(tables: &mut Tables) -> Result<(), Fail> {
+    expect(state(tables) == (0, 0, 0, 0, 0), "no session")?;
+    for (at, wanted) in &STATES {
+        let is_so = leaves(tables, &event(*at), wanted)?;
+        expect(is_so, "sessions and queues")?;
+    }
+    let is_none = tables.session(9) == 0 && tables.session(0) == 0 && tables.queued(0) == 0;
+    expect(is_none && tables.opening().me() == 0, "the opening")
+}
+
 #[test]
 fn tables_know_sessions_and_what_waits(rt: HostRuntime) -> Result<(), Fail> {
-    let mut tables = Tables::open(rt.alloc(), opening(rt.alloc())?)?;
-    expect(state(&tables) == (0, 0, 0, 0, 0), "no session")?;
-    for (at, wanted) in (0..10u32).zip(&STATES) {
-        let _reply = tables.apply(&event(at))?;
-        expect(state(&tables) == *wanted, "sessions and queues")?;
-    }
-    let others = u64::from(tables.session(9)) + u64::from(tables.session(0));
-    expect_number(others, 0)?;
-    expect(
-        tables.queued(0) == 0 && tables.opening().me() == 0,
-        "the opening",
-    )
+    expect_states(&mut Tables::open(rt.alloc(), opening(rt.alloc())?)?)
+}
+
+/// Expects that a journal with room for one entry stays once it is full.
+fn expect_full(journal: &mut Journal) -> Result<(), Fail> {
+    let is_first = matches!(journal.apply(Event::Up(1)), Ok((0, _)));
+    let is_full = matches!(journal.apply(Event::Up(2)), Err(CallFault::Full));
+    expect(is_first && is_full, "one entry")?;
+    let is_same = journal.limit() == 1 && journal.entries().len() == 1;
+    let are_sessions = journal.session(1) == 1 && journal.session(2) == 0;
+    expect(is_same && are_sessions, "the journal")
 }
 
 #[test]
 fn a_full_journal_stays(rt: HostRuntime) -> Result<(), Fail> {
-    let mut journal = Journal::open(rt.alloc(), opening(rt.alloc())?, 1)?;
-    let (at, _reply) = journal.apply(Event::Up(1))?;
-    let full = journal.apply(Event::Up(2)).err();
-    expect(at == 0 && full == Some(CallFault::Full), "one entry")?;
-    expect_str(CallFault::Full.code(), "J1")?;
-    expect_number(CallFault::Full.at() as u64, 0)?;
-    let is_same = journal.limit() == 1 && journal.entries().len() == 1;
-    expect(
-        is_same && journal.session(1) == 1 && journal.session(2) == 0,
-        "the journal",
-    )
+    expect_full(&mut Journal::open(rt.alloc(), opening(rt.alloc())?, 1)?)
 }
 
 /// A filter that accepts all routes of a domain of four nodes.
@@ -166,63 +175,34 @@ const ENTRIES: [&str; 10] = [
     "down 1: refused N3",
 ];
 
-#[test]
-fn entries_say(rt: HostRuntime) -> Result<(), Fail> {
-    let filter = filter(rt.alloc())?;
-    let mut journal = Journal::open(rt.alloc(), opening(rt.alloc())?, 100)?;
+/// Enters the event at a place.
+fn enter(journal: &mut Journal, at: u32, filter: &Arc<Verified>) -> Result<(), Fail> {
+    let _answer = journal.apply(entered(at, filter)?)?;
+    Ok(())
+}
+
+/// Enters all of these events.
+fn enter_all(journal: &mut Journal, filter: &Arc<Verified>) -> Result<(), Fail> {
     for at in 0..10u32 {
-        let _answer = journal.apply(entered(at, &filter)?)?;
+        enter(journal, at, filter)?;
     }
-    let entries = journal.entries();
+    Ok(())
+}
+
+/// Expects what entries say.
+fn expect_entries(alloc: Global, entries: &Entries) -> Result<(), Fail> {
     for at in 0..entries.len() {
         let Some(wanted) = ENTRIES.get(at) else {
             break;
         };
-        expect_text(rt.alloc(), &entries.entry(at), wanted)?;
+        expect_text(alloc, &entries.entry(at), wanted)?;
     }
     expect_number(entries.len() as u64, 10)
 }
 
-/// Each refusal, its code and its text.
-const REFUSALS: [(Refusal, &str, &str); 7] = [
-    (
-        Refusal::NoNode,
-        "N1",
-        "the node is the router itself, or not in the domain",
-    ),
-    (
-        Refusal::AlreadyUp,
-        "N2",
-        "the node is an up neighbour already",
-    ),
-    (
-        Refusal::Stale,
-        "N3",
-        "the session is not an up neighbour's present one",
-    ),
-    (
-        Refusal::BadDest,
-        "N4",
-        "the destination is not in the domain",
-    ),
-    (
-        Refusal::BadDist,
-        "N5",
-        "the distance is above the size of the domain",
-    ),
-    (
-        Refusal::OtherSize,
-        "N6",
-        "the filter was verified for domains of another size",
-    ),
-    (Refusal::NoSession, "N7", "no session number is left"),
-];
-
 #[test]
-fn refusals_of_events_say(rt: HostRuntime) -> Result<(), Fail> {
-    for (why, code, text) in &REFUSALS {
-        expect_str(why.code(), code)?;
-        expect_text(rt.alloc(), why, text)?;
-    }
-    Ok(())
+fn entries_say(rt: HostRuntime) -> Result<(), Fail> {
+    let mut journal = Journal::open(rt.alloc(), opening(rt.alloc())?, 100)?;
+    enter_all(&mut journal, &filter(rt.alloc())?)?;
+    expect_entries(rt.alloc(), journal.entries())
 }

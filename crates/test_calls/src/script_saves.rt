@@ -1,12 +1,12 @@
 //! What a script saves of its history where a stream fails.
 
+use crate::streams::{FailingReader, FailingWriter};
 use expectations::{expect, expect_bytes};
 use operator_cmds::{Nobody, ScriptFault};
 use script_runs::run_saved_script;
 use std::alloc::Global;
-use std::io::ErrorKind;
+use std::io::{ErrorKind, Read};
 use std::test::Fail;
-use worked_rows::{FailingReader, FailingWriter};
 
 /// A script with a look, a refused line, an event that the router refuses, and one that a full history does.
 const LINES: &[u8] = b"network 4 0 4\nup 1\nroutes\nrecv 1 1 0\nup 9\nup 1\nshow 1\nshow 0\n";
@@ -23,69 +23,55 @@ const SAVED: &[u8] = b"NCH1 4 0 4 10.0.0.0/16 10.1.0.0/16 10.2.0.0/16 10.3.0.0/1
 3 up 1 refused N2
 ";
 
-#[test]
-fn saves_the_whole_history(rt: HostRuntime) -> Result<(), Fail> {
-    let alloc = rt.alloc();
-    let mut reader = LINES;
-    let mut writer = Vec::new(alloc);
-    let saver = Vec::new(alloc);
-    let (result, saved, _) = run_saved_script(
-        alloc,
-        &mut reader,
-        &mut writer,
-        saver,
-        Nobody,
-        &[],
-        false,
-    );
-    expect(result == Ok(4), "four lines are refused")?;
-    expect_bytes(writer.as_slice(), ANSWERS)?;
-    expect_bytes(saved.as_slice(), SAVED)
-}
-
-/// Whether a script stops where its saver takes no more than so many bytes, and has answered no line whose entry is not saved.
-fn stops_at(alloc: Global, room: usize) -> bool {
-    let mut reader = LINES;
+/// A script whose saver takes no more than so many bytes: how it ends, its answers, and what is saved.
+fn run<R: Read>(
+    alloc: Global,
+    reader: &mut R,
+    room: usize,
+) -> (Result<u32, ScriptFault>, Vec<u8>, FailingWriter) {
     let mut writer = Vec::new(alloc);
     let saver = FailingWriter::new(alloc, room);
     let (result, saved, _) = run_saved_script(
         alloc,
-        &mut reader,
+        reader,
         &mut writer,
         saver,
         Nobody,
         &[],
         false,
     );
-    let is_begun = ANSWERS.starts_with(writer.as_slice()) && SAVED.starts_with(saved.text());
-    result == Err(ScriptFault::Write) && is_begun && saved.text().len() == room
+    (result, writer, saved)
+}
+
+#[test]
+fn saves_the_whole_history(rt: HostRuntime) -> Result<(), Fail> {
+    let mut reader = LINES;
+    let (result, answers, saved) = run(rt.alloc(), &mut reader, 1_000);
+    expect(result == Ok(4), "four lines are refused")?;
+    expect_bytes(&answers, ANSWERS)?;
+    expect_bytes(saved.text(), SAVED)
 }
 
 #[test]
 fn answers_no_line_whose_entry_is_not_saved(rt: HostRuntime) -> Result<(), Fail> {
     // Room for the opening and the first entry, and for a part of the second.
     for room in [75, 76, 80] {
-        expect(stops_at(rt.alloc(), room), "a saver that fails")?;
+        let mut reader = LINES;
+        let (result, answers, saved) = run(rt.alloc(), &mut reader, room);
+        let is_begun = ANSWERS.starts_with(&answers) && SAVED.get(..room) == Some(saved.text());
+        expect(
+            result == Err(ScriptFault::Write) && is_begun,
+            "a saver that fails",
+        )?;
     }
     Ok(())
 }
 
 #[test]
 fn saves_what_was_answered_before_a_read_fault(rt: HostRuntime) -> Result<(), Fail> {
-    let alloc = rt.alloc();
     let mut reader = FailingReader::new(b"network 4 0 4\nup 1\nrec", ErrorKind::BrokenPipe);
-    let mut writer = Vec::new(alloc);
-    let saver = Vec::new(alloc);
-    let (result, saved, _) = run_saved_script(
-        alloc,
-        &mut reader,
-        &mut writer,
-        saver,
-        Nobody,
-        &[],
-        false,
-    );
+    let (result, answers, saved) = run(rt.alloc(), &mut reader, 1_000);
     expect(result == Err(ScriptFault::Read), "an input that fails")?;
-    expect_bytes(writer.as_slice(), b"ok\nopened 1\n")?;
-    expect_bytes(saved.as_slice(), SAVED.get(..75).unwrap_or(SAVED))
+    expect_bytes(&answers, b"ok\nopened 1\n")?;
+    expect_bytes(saved.text(), SAVED.get(..75).unwrap_or(SAVED))
 }

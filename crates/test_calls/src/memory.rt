@@ -1,0 +1,108 @@
+//! Each call that asks for memory, where it is refused.
+//!
+//! `scripts/check_memory.py` runs this test with one allocation refused at a time, from the first to the last. So in each of its runs at most one
+//! call is refused memory. That one has to say so, and to answer as ever when it is made again; the test then ends with what the call answered.
+
+use crate::memory_code::{Source, built, read, sourced, verified, verified_source, written};
+use crate::memory_filters::{compiled, judged, judged_plainly, mapped, parsed};
+use crate::memory_lines::{answered, run};
+use crate::memory_tables::{Change, applied, entered, kept, looked, opened, replayed};
+use expectations::{Answered, expect, is_refused, refused};
+use std::alloc::Global;
+use std::test::Fail;
+
+/// A call of the tables below, on what it is made.
+#[derive(Clone, Copy)]
+enum Call {
+    Build(usize),
+    Read,
+    Write,
+    Parse,
+    Check,
+    CheckWithoutMemory,
+    Compile,
+    CompileMapped,
+    Verify,
+    Source(Source),
+    VerifyCode,
+    OpenTables,
+    Apply(Change),
+    Look,
+    OpenJournal,
+    Enter,
+    Replay,
+    Answer,
+    Run,
+}
+
+/// Each call, its name, and how it tells that memory was refused. Those that need none tell nothing.
+const CALLS: [(Call, &str, &str); 27] = [
+    (Call::Build(2), "build", "S2"),
+    (Call::Build(20), "build", "S2"),
+    (Call::Read, "read_code", "C7"),
+    (Call::Write, "write_code", "C7"),
+    (Call::Parse, "parse", "P11"),
+    (Call::Check, "check", "Y6"),
+    (
+        Call::CheckWithoutMemory,
+        "check of a filter without case",
+        "",
+    ),
+    (Call::Compile, "compile", "G3"),
+    (Call::CompileMapped, "compile_mapped", "G3"),
+    (Call::Verify, "verify", "V10"),
+    (Call::Source(Source::Text), "compile_text", "Memory"),
+    (Call::Source(Source::File), "read_file", "Memory"),
+    (Call::Source(Source::Digits), "read_hexadecimal", "Memory"),
+    (Call::VerifyCode, "verify_code", "Memory"),
+    (Call::OpenTables, "Tables::open", "AllocError"),
+    (Call::Apply(Change::Up), "Tables::apply", "AllocError"),
+    (Call::Apply(Change::Down), "Tables::apply", "AllocError"),
+    (Call::Apply(Change::Receive), "Tables::apply", "AllocError"),
+    (Call::Apply(Change::Take), "Tables::apply", "AllocError"),
+    (Call::Apply(Change::Import), "Tables::apply", "AllocError"),
+    (Call::Apply(Change::Export), "Tables::apply", "AllocError"),
+    (Call::Look, "Tables::apply of a look or a refused event", ""),
+    (Call::OpenJournal, "Journal::open", "AllocError"),
+    (Call::Enter, "Journal::apply", "J2"),
+    (Call::Replay, "replay", "Memory"),
+    (Call::Answer, "answer_lines", "E3"),
+    (Call::Run, "run_script", "E3"),
+];
+
+/// Makes a call, on values that are made for it.
+fn made(alloc: Global, call: Call) -> Result<Answered, Fail> {
+    match call {
+        Call::Build(count) => built(alloc, count),
+        Call::Read => Ok(read(alloc)),
+        Call::Write => written(alloc),
+        Call::Parse => Ok(parsed(alloc)),
+        Call::Check => judged(alloc),
+        Call::CheckWithoutMemory => judged_plainly(alloc),
+        Call::Compile => compiled(alloc),
+        Call::CompileMapped => mapped(alloc),
+        Call::Verify => verified(alloc),
+        Call::Source(source) => Ok(sourced(alloc, source)),
+        Call::VerifyCode => verified_source(alloc),
+        Call::OpenTables => opened(alloc),
+        Call::Apply(change) => applied(alloc, change),
+        Call::Look => looked(alloc),
+        Call::OpenJournal => kept(alloc),
+        Call::Enter => entered(alloc),
+        Call::Replay => replayed(alloc),
+        Call::Answer => Ok(answered(alloc)),
+        Call::Run => Ok(run(alloc)),
+    }
+}
+
+#[test]
+fn calls_are_answered_or_refused(rt: HostRuntime) -> Result<(), Fail> {
+    for (call, name, code) in &CALLS {
+        if is_refused(name, code, made(rt.alloc(), *call)?)? {
+            let is_so = made(rt.alloc(), *call)? == Ok(true);
+            expect(is_so, name)?;
+            return Err(refused(name, code));
+        }
+    }
+    Ok(())
+}

@@ -1,0 +1,127 @@
+//! A filter's text: read, judged and compiled, with memory and without.
+
+use crate::line_tests::make_sink;
+use expectations::Answered;
+use filter_code::{Code, Instr};
+use filter_compiler::{compile, compile_mapped};
+use filter_parser::{Filter, parse};
+use filter_types::{Typed, check};
+use prefix_patterns::{Ip, Pattern, Prefix};
+use std::alloc::Global;
+use std::fmt::Write;
+use std::test::Fail;
+
+/// Has what trees and code are built from: a declaration, an assignment, a sum, a suffix, parentheses, `!`, comparisons, a set, a
+/// block, and an `if` in an `if`.
+const TEXT: &str =
+    "filter f { int a; a = 1 + net.len; if !(a > 9) then if net ~ [10.0.0.0/8+] then { accept; } else reject; }";
+
+/// Has labels of a `case`, which are judged together.
+const CASE: &str = "filter c { case rip_metric { 1, 3..5: accept; else: reject; } }";
+
+/// The variable and the commands of the text `TEXT`, as the tree is shown. Numbers in front are places in the text.
+const TREE: &str = "[Decl { at: 15, kind: Int, name: [97] }] \
+    [Assign(18, Name([97]), Chain(Number(22, 1), [(24, Add, Suffixed(Attribute(26, Net), [Len]))])), \
+    If(35, Not(38, Group(39, Chain(Name(40, [97]), [(42, Greater, Number(44, 9))]))), \
+    If(52, Member(In, Attribute(55, Net), Set { at: 61, members: Patterns([OrLonger(62, Prefix { address: 167772160, len: 8 })]) }), \
+    Block(80, [Accept(82, false)]), Some(Reject(97, false))), None)]";
+
+/// Where the instructions of that text come from.
+const PLACES: [usize; 20] = [
+    15, 15, 22, 26, 26, 24, 18, 40, 44, 42, 42, 38, 35, 55, 61, 52, 82, 52, 97, 105,
+];
+
+/// The code of that text.
+const INSTRS: [Instr; 20] = [
+    Instr::Int(0),
+    Instr::Store(0),
+    Instr::Int(1),
+    Instr::Net,
+    Instr::Len,
+    Instr::Add,
+    Instr::Store(0),
+    Instr::Load(0),
+    Instr::Int(9),
+    Instr::Le,
+    Instr::Not,
+    Instr::Not,
+    Instr::JumpIfNot(6),
+    Instr::Net,
+    Instr::Member(0),
+    Instr::JumpIfNot(2),
+    Instr::Accept,
+    Instr::Jump(1),
+    Instr::Reject,
+    Instr::Reject,
+];
+
+/// Whether a filter is that of the text `TEXT`.
+fn is_tree(filter: &Filter) -> bool {
+    let mut shown = make_sink(1000, 1000);
+    let is_shown = write!(shown, "{:?} {:?}", filter.decls(), filter.body()).is_ok();
+    let is_named = filter.name() == b"f".as_slice() && filter.tokens().len() == 38;
+    is_shown && shown.text() == TREE.as_bytes() && is_named
+}
+
+/// Whether a code is that of the text `TEXT`.
+fn is_code(code: &Code) -> bool {
+    let Some(net) = Prefix::new(Ip(0x0a00_0000), 8) else {
+        return false;
+    };
+    let Some(pattern) = Pattern::new(net, 8, 32) else {
+        return false;
+    };
+    let is_set = matches!(code.sets(), [set] if set.patterns() == [pattern].as_slice());
+    is_set && code.locals() == 1 && code.instrs() == INSTRS.as_slice()
+}
+
+/// Reads the text.
+pub fn parsed(alloc: Global) -> Answered {
+    match parse(alloc, TEXT.as_bytes()) {
+        Ok(filter) => Ok(is_tree(&filter)),
+        Err(fault) => Err(fault.code()),
+    }
+}
+
+/// Judges the text with labels.
+pub fn judged(alloc: Global) -> Result<Answered, Fail> {
+    match check(alloc, parse(alloc, CASE.as_bytes())?) {
+        Ok(typed) => Ok(Ok(typed.number_of(b"c") == 0)),
+        Err(fault) => Ok(Err(fault.code())),
+    }
+}
+
+/// Judges the other text, which has none. Its variable is the first one.
+pub fn judged_plainly(alloc: Global) -> Result<Answered, Fail> {
+    match check(alloc, parse(alloc, TEXT.as_bytes())?) {
+        Ok(typed) => {
+            let are_numbers = typed.number_of(b"a") == 0 && typed.number_of(b"other") == 1;
+            Ok(Ok(are_numbers && is_tree(typed.filter())))
+        }
+        Err(fault) => Ok(Err(fault.code())),
+    }
+}
+
+/// That text, judged.
+fn typed(alloc: Global) -> Result<Typed, Fail> {
+    Ok(check(alloc, parse(alloc, TEXT.as_bytes())?)?)
+}
+
+/// Compiles the text.
+pub fn compiled(alloc: Global) -> Result<Answered, Fail> {
+    match compile(alloc, &typed(alloc)?) {
+        Ok(code) => Ok(Ok(is_code(&code))),
+        Err(fault) => Ok(Err(fault.code())),
+    }
+}
+
+/// Compiles the text, with the places of its instructions.
+pub fn mapped(alloc: Global) -> Result<Answered, Fail> {
+    match compile_mapped(alloc, &typed(alloc)?) {
+        Ok(mapped) => {
+            let are_places = mapped.places.as_slice() == PLACES.as_slice();
+            Ok(Ok(are_places && is_code(&mapped.code)))
+        }
+        Err(fault) => Ok(Err(fault.code())),
+    }
+}

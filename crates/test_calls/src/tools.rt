@@ -1,0 +1,72 @@
+//! What no command shows of `filter_tools`: the places of an editor, a listing of a text without a name, and words about the lines of `eval`.
+
+use expectations::{expect, expect_bytes};
+use filter_commands::ProgramFault;
+use filter_tools::{Routes, eval_named, place_in, write_listing};
+use std::test::Fail;
+
+/// A text with line feeds, a tab and a character of several bytes.
+const TEXT: &[u8] = b"ab\n\xe2\x82\xac\tc\n";
+
+/// Its bytes, and the line and the column of each.
+const PLACES: [(usize, usize, usize); 8] = [
+    (0, 1, 1),
+    (2, 1, 3),
+    (3, 2, 1),
+    (6, 2, 2),
+    (7, 2, 3),
+    (8, 2, 4),
+    (9, 3, 1),
+    (99, 3, 1),
+];
+
+/// Places at line feeds, at the ends, and behind characters of several bytes.
+#[test]
+fn places_are_those_of_an_editor(_rt: HostRuntime) -> Result<(), Fail> {
+    for (at, line, column) in &PLACES {
+        let place = place_in(TEXT, *at);
+        let is_there = place.line == *line && place.column == *column;
+        expect(is_there, "the place of a byte")?;
+    }
+    Ok(())
+}
+
+/// A filter and its listing.
+const ACCEPT: &[u8] = b"filter a { accept; }";
+
+const LISTING: &[u8] = b"0 ACCEPT ; 1:12\n1 REJECT ; 1:20\n";
+
+/// A text is listed, and a writer that takes no more is told.
+#[test]
+fn instructions_are_listed(rt: HostRuntime) -> Result<(), Fail> {
+    let mut writer = Vec::new(rt.alloc());
+    let why = write_listing(rt.alloc(), ACCEPT, &mut writer, None, false)?;
+    expect(why.is_none(), "a filter that is not refused")?;
+    expect_bytes(&writer, LISTING)?;
+    let mut room = [0; 4];
+    let mut short = room.as_mut_slice();
+    let listed = write_listing(rt.alloc(), ACCEPT, &mut short, None, false);
+    expect(listed == Err(ProgramFault::WRITE), "an output that fails")
+}
+
+/// Routes through a code file, of which the second is none.
+const ROUTES: &[u8] = b"4e434632000000000170\n8.8.8.0/24 3 16\n8.8.8.0/33 3 16\n";
+
+/// What is told of it.
+const TOLD: &[u8] =
+    b"r:3:1: `8.8.8.0/33` is no prefix: write one as 10.0.0.0/8 (O8)\n8.8.8.0/33 3 16\n^\n";
+
+/// A line that gives no route is told.
+#[test]
+fn refused_routes_are_told(rt: HostRuntime) -> Result<(), Fail> {
+    let mut reader = ROUTES;
+    let (mut writer, mut errors) = (Vec::new(rt.alloc()), Vec::new(rt.alloc()));
+    let routes = Routes {
+        name: b"r",
+        is_told: true,
+    };
+    let evaluated = eval_named(rt.alloc(), routes, &mut reader, &mut writer, &mut errors);
+    expect(matches!(evaluated, Ok(1)), "one line is refused")?;
+    expect_bytes(&writer, b"accept 3\nrefused O8 3\n")?;
+    expect_bytes(&errors, TOLD)
+}
