@@ -64,88 +64,14 @@ pub fn unwritten<'a>(at: usize) -> Reason<'a> {
     }
 }
 
-/// What is said of an attribute that is left to BIRD, of a word of a loop, of a type, of a word of communities, and of a word that stands where it is
-/// not taken.
-const NOT_KEPT: &str =
-    "is an attribute that this router does not keep: a route has `net` and `rip_metric`";
-
-const NO_LOOP: &str = "belongs to a loop, and there are no loops";
-
-const NO_TYPE: &str =
-    "is a type that is not taken: a variable is an int, a bool, an ip or a prefix";
-
-const NO_COMMUNITY: &str = "makes a community, and none is taken";
-
-const NOT_HERE: &str = "is not taken in this place";
-
-/// What is said of these attributes and words of BIRD's.
-const WORDS: [(&str, &str); 45] = [
-    (
-        "rip_tag",
-        "is an attribute of RIP that this router does not keep",
-    ),
-    ("dest", NOT_KEPT),
-    ("gw", NOT_KEPT),
-    ("ifname", NOT_KEPT),
-    ("ifindex", NOT_KEPT),
-    ("scope", NOT_KEPT),
-    ("cast", NOT_KEPT),
-    ("igp_metric", NOT_KEPT),
-    ("weight", NOT_KEPT),
-    ("from", NOT_KEPT),
-    ("proto", NOT_KEPT),
-    ("preference", NOT_KEPT),
-    ("source", NOT_KEPT),
-    ("onlink", NOT_KEPT),
-    ("gw_mpls", NOT_KEPT),
-    ("gw_mpls_stack", NOT_KEPT),
-    ("generated", NOT_KEPT),
-    ("for", NO_LOOP),
-    ("do", NO_LOOP),
-    ("return", "is a command of a function"),
-    ("bgppath", NO_TYPE),
-    ("bgpmask", NO_TYPE),
-    ("clist", NO_TYPE),
-    ("eclist", NO_TYPE),
-    ("lclist", NO_TYPE),
-    ("ec", NO_TYPE),
-    ("lc", NO_TYPE),
-    ("pair", NO_TYPE),
-    ("quad", NO_TYPE),
-    ("string", NO_TYPE),
-    ("rd", NO_TYPE),
-    ("bytestring", NO_TYPE),
-    ("enum", NO_TYPE),
-    ("set", "makes a variable of sets that is not taken"),
-    ("include", "names a file that was not read"),
-    ("unset", "takes an attribute away, and none is taken"),
-    ("roa_check", "asks a table of origins, and there is none"),
-    (
-        "error",
-        "ends a run as an error, and there are none: write `reject`",
-    ),
-    ("rt", NO_COMMUNITY),
-    ("ro", NO_COMMUNITY),
-    ("generic", NO_COMMUNITY),
-    ("unknown", NO_COMMUNITY),
-    ("net_type", NOT_HERE),
-    ("NET_IP4", NOT_HERE),
-    ("NET_IP6", NOT_HERE),
-];
-
-/// What is said of an attribute or another word of BIRD's, if it is one of these.
-fn words_for(name: &str) -> Option<&'static str> {
-    for row in &WORDS {
-        if row.0 == name {
-            return Some(row.1);
-        }
-    }
-    None
+/// Whether an attribute is one of BGP's.
+fn is_of_bgp(name: &str) -> bool {
+    name.starts_with("bgp_")
 }
 
-/// What is said of a word of BIRD's by its front: whose attribute it is, or which value.
-fn words_by_front(name: &str) -> Option<&'static str> {
-    if name.starts_with("bgp_") {
+/// Whose attribute a name is, if it is one of BIRD's.
+fn owner_of(name: &str) -> Option<&'static str> {
+    if is_of_bgp(name) {
         Some("is an attribute of BGP")
     } else if name.starts_with("ospf_") {
         Some("is an attribute of OSPF")
@@ -155,18 +81,79 @@ fn words_by_front(name: &str) -> Option<&'static str> {
         Some("is an attribute of Babel")
     } else if name.starts_with("ra_") {
         Some("is an attribute of router advertisements")
-    } else if name.starts_with("RTS_") || name.starts_with("RTD_") || name.starts_with("SCOPE_") {
-        Some("is a value of an attribute that this router does not keep")
-    } else if name.starts_with('\'') {
-        Some("is a name in quotes: take one of letters, digits and `_`")
     } else {
-        words_for(name)
+        owner_of_word(name)
+    }
+}
+
+/// The same of attributes whose names do not begin with their owner's.
+fn owner_of_word(name: &str) -> Option<&'static str> {
+    match name {
+        "rip_tag" => Some("is an attribute of RIP that this router does not keep"),
+        "dest"
+        | "gw"
+        | "ifname"
+        | "ifindex"
+        | "scope"
+        | "cast"
+        | "igp_metric"
+        | "weight"
+        | "from"
+        | "proto"
+        | "preference"
+        | "source"
+        | "onlink"
+        | "gw_mpls"
+        | "gw_mpls_stack"
+        | "generated" => Some(
+            "is an attribute that this router does not keep: a route has `net` and `rip_metric`",
+        ),
+        _ => None,
+    }
+}
+
+/// What is said of a word of BIRD's, if it is one of these.
+fn words_for(name: &str) -> Option<&'static str> {
+    match name {
+        "for" | "do" => Some("belongs to a loop, and there are no loops"),
+        "return" => Some("is a command of a function"),
+        "bgppath"
+        | "bgpmask"
+        | "clist"
+        | "eclist"
+        | "lclist"
+        | "ec"
+        | "lc"
+        | "pair"
+        | "quad"
+        | "string"
+        | "rd"
+        | "bytestring"
+        | "enum" => {
+            Some("is a type that is not taken: a variable is an int, a bool, an ip or a prefix")
+        }
+        "set" => Some("makes a variable of sets that is not taken"),
+        "include" => Some("names a file that was not read"),
+        "unset" => Some("takes an attribute away, and none is taken"),
+        "roa_check" => Some("asks a table of origins, and there is none"),
+        "error" => Some("ends a run as an error, and there are none: write `reject`"),
+        "rt" | "ro" | "generic" | "unknown" => Some("makes a community, and none is taken"),
+        _ if name.starts_with("RTS_") || name.starts_with("RTD_") || name.starts_with("SCOPE_") =>
+            Some("is a value of an attribute that this router does not keep"),
+        _ if name.starts_with('\'') => {
+            Some("is a name in quotes: take one of letters, digits and `_`")
+        }
+        "net_type" | "NET_IP4" | "NET_IP6" => Some("is not taken in this place"),
+        _ => None,
     }
 }
 
 /// What is said of a word that is neither a variable nor defined, or of one of BIRD's.
 fn words_of_word(name: &str, is_foreign: bool) -> &'static str {
-    match words_by_front(name) {
+    if let Some(words) = owner_of(name) {
+        return words;
+    }
+    match words_for(name) {
         Some(words) => words,
         None if is_foreign => "is not taken",
         None => "is no variable, no attribute, and not defined",
