@@ -1,12 +1,15 @@
 //! Calls of functions: the function's commands or its value stand where it is called.
 
 use crate::config::Config;
-use crate::functions::{Decision, begins_command, decision_of, function_of, is_between, value_of};
+use crate::functions::{Decision, decision_of, function_of, is_between, value_of};
 use crate::items::{Item, ItemKind};
 use crate::reason::{Reason, Why, unwritten};
 use crate::rules::split;
-use crate::step::{Call, Plan, Rule, Step, push_words};
-use crate::word::{Word, closing, find_outside, is_at, is_before, is_name_at, word_at};
+use crate::step::{Call, Plan, Rule, enclosed, planned, push_parts};
+use crate::word::{
+    Word, begins_command, closing, find_outside, is_at, is_before, is_foreign_at, is_name_at,
+    word_at,
+};
 use filter_tokens::Symbol;
 use std::alloc::{AllocError, Global};
 
@@ -17,12 +20,12 @@ fn calls(words: &[Word<'_>], at: usize) -> bool {
         && !is_before(words, at, Symbol::Dot)
 }
 
-/// The index of the first call.
+/// The index of the first call. The header of a function looks like one.
 pub fn first_call(words: &[Word<'_>]) -> Option<usize> {
-    // The header of a function looks like a call.
-    let from = match words.first() {
-        Some(word) if word.is_foreign(b"function") => 2,
-        _ => 0,
+    let from = if is_foreign_at(words, 0, b"function") {
+        2
+    } else {
+        0
     };
     for at in from..words.len() {
         if calls(words, at) {
@@ -46,17 +49,12 @@ pub fn item_of<'a>(config: &Config<'a>, word: Word<'a>) -> Result<&'a Item, Reas
             found = Some(item);
         }
     }
-    match found {
-        None => Err(Reason {
-            at: word.at,
-            why: Why::UnknownCall(word.bytes),
-        }),
-        Some(item) if !ends_before(config, item, word.at) => Err(Reason {
-            at: word.at,
-            why: Why::DefinedLater(word.bytes),
-        }),
-        Some(item) => Ok(item),
-    }
+    let why = match found {
+        Some(item) if ends_before(config, item, word.at) => return Ok(item),
+        Some(_) => Why::DefinedLater(word.bytes),
+        None => Why::UnknownCall(word.bytes),
+    };
+    Err(Reason { at: word.at, why })
 }
 
 /// Whether an item ends before a place.
@@ -67,52 +65,48 @@ fn ends_before(config: &Config<'_>, item: &Item, at: usize) -> bool {
     }
 }
 
-/// Puts words in parentheses behind others.
-fn push_grouped<'a>(
-    words: &mut Vec<Word<'a>>,
-    inner: &[Word<'a>],
-    at: usize,
-) -> Result<(), AllocError> {
-    words.push(Word::made(Symbol::LeftParen, at))?;
-    push_words(words, inner)?;
-    words.push(Word::made(Symbol::RightParen, at))?;
-    Ok(())
-}
-
-/// Puts `return` with a value that is one of two, by a condition, behind others. The word `return` comes from the words that are left out,
-/// and what is put in beside it from a place.
-fn push_decided<'a>(
-    words: &mut Vec<Word<'a>>,
+/// The words of `return` with a value that is one of two, by a condition. The word `return` comes from the words that are left out, and what
+/// is put in beside it from a place.
+fn decided<'a>(
+    alloc: Global,
     made: Decision<'_, 'a>,
     command: Word<'a>,
     at: usize,
-) -> Result<(), AllocError> {
-    let is_true = made.answer.is(Symbol::True);
-    words.push(command)?;
-    if !is_true {
-        words.push(Word::made(Symbol::Not, at))?;
-    }
-    push_grouped(words, made.condition, at)?;
-    words.push(Word::made(if is_true { Symbol::Or } else { Symbol::And }, at))?;
-    push_grouped(words, made.other, at)?;
-    words.push(Word::made(Symbol::Semicolon, at).after(b""))?;
-    Ok(())
+) -> Result<Vec<Word<'a>>, AllocError> {
+    let (open, close) = (
+        Word::made(Symbol::LeftParen, at),
+        Word::made(Symbol::RightParen, at),
+    );
+    let stop = Word::made(Symbol::Semicolon, at).after(b"");
+    let (negation, operator) = if made.answer.is(Symbol::True) {
+        (None, Symbol::Or)
+    } else {
+        (Some(Word::made(Symbol::Not, at)), Symbol::And)
+    };
+    let middle = [close, Word::made(operator, at), open];
+    let mut words = Vec::from_slice(alloc, &[command])?;
+    words.extend_from_slice(negation.as_slice())?;
+    push_parts(
+        &mut words,
+        &[&[open], made.condition, &middle, made.other, &[close, stop]],
+    )?;
+    Ok(words)
 }
 
 /// The index behind the `return` that begins at an index, in braces or not.
 fn return_end(words: &[Word<'_>], at: usize) -> Option<usize> {
     let end = if is_at(words, at, Symbol::LeftBrace) {
-        closing(words, at)?
+        closing(words, at.saturating_add(1))?
     } else {
         find_outside(words, at, Symbol::Semicolon)?
     };
-    end.checked_add(1)
+    Some(end.saturating_add(1))
 }
 
 /// The index behind two commands that return, the first of them on a condition, which begin at an index.
 fn decided_end(words: &[Word<'_>], at: usize) -> Option<usize> {
-    let first = find_outside(words, at, Symbol::Then)?.checked_add(1)?;
-    let mut last = return_end(words, first)?;
+    let then = find_outside(words, at, Symbol::Then)?;
+    let mut last = return_end(words, then.saturating_add(1))?;
     for _ in last..words.len() {
         if !(is_at(words, last, Symbol::Semicolon) || is_at(words, last, Symbol::Else)) {
             break;
@@ -122,87 +116,105 @@ fn decided_end(words: &[Word<'_>], at: usize) -> Option<usize> {
     return_end(words, last)
 }
 
-/// The first word that is `return`, if there is one.
-fn first_return<'a>(words: &[Word<'a>]) -> Option<Word<'a>> {
-    words
-        .iter()
-        .find(|word| word.is_foreign(b"return"))
-        .copied()
+/// The first word from an index on that is `return`, if there is one.
+fn first_return<'a>(words: &[Word<'a>], from: usize) -> Option<Word<'a>> {
+    for at in from..words.len() {
+        if is_foreign_at(words, at, b"return") {
+            return word_at(words, at);
+        }
+    }
+    None
 }
 
-/// The step that writes two commands of a function as one which begin at an index, if they return.
+/// What decides between the two commands of a function that begin at an index, if they return, and the index behind them.
+fn decision_at<'w, 'a>(words: &'w [Word<'a>], at: usize) -> Option<(Decision<'w, 'a>, usize)> {
+    let to = decided_end(words, at)?;
+    let made = decision_of(words.get(at..to)?)?;
+    let (front, _) = split(words, at)?;
+    if is_between(front, made.middle) {
+        Some((made, to))
+    } else {
+        None
+    }
+}
+
+/// The step that writes two commands of a function, which begin at an index, as one.
 fn decide<'a>(
     alloc: Global,
     words: &[Word<'a>],
+    made: Decision<'_, 'a>,
     at: usize,
-) -> Result<Option<Step<'a>>, AllocError> {
-    let Some(to) = decided_end(words, at) else {
-        return Ok(None);
+    to: usize,
+) -> Result<Plan<'a>, AllocError> {
+    let (Some(head), Some(command)) = (word_at(words, at), first_return(words, at)) else {
+        return Ok(Plan::Done);
     };
-    let (Some((front, _)), Some(old)) = (split(words, at), words.get(at..to)) else {
-        return Ok(None);
-    };
-    let (Some(made), Some(command), Some(head)) = (decision_of(old), first_return(old), old.first())
-    else {
-        return Ok(None);
-    };
-    if !is_between(front, made.middle) {
-        return Ok(None);
-    }
-    let mut written = Vec::new(alloc);
-    push_decided(&mut written, made, command, head.at)?;
-    Ok(Some(Step {
-        rule: Rule::Returned,
-        origin: 0,
-        from: at,
-        to,
-        words: written,
-        stuck: unwritten(command.at),
-    }))
+    let written = decided(alloc, made, command, head.at);
+    planned(Rule::Returned, at, to, written, unwritten(command.at))
 }
 
 /// Writes the first two commands of a function as one that return one value or another by a condition.
 pub fn plan_return<'a>(alloc: Global, words: &[Word<'a>]) -> Result<Plan<'a>, AllocError> {
-    if !words
-        .first()
-        .is_some_and(|word| word.is_foreign(b"function"))
-    {
+    if !is_foreign_at(words, 0, b"function") {
         return Ok(Plan::Done);
     }
     for at in 0..words.len() {
         if is_at(words, at, Symbol::If) {
-            if let Some(step) = decide(alloc, words, at)? {
-                return Ok(Plan::Step(step));
+            if let Some((made, to)) = decision_at(words, at) {
+                return decide(alloc, words, made, at, to);
             }
         }
     }
     Ok(Plan::Done)
 }
 
-/// What stands for a call at an index as a command: the commands of the function, in braces.
-fn commands_of<'a>(
-    alloc: Global,
-    body: &[Word<'a>],
-    call: Word<'a>,
-) -> Result<Vec<Word<'a>>, AllocError> {
-    let mut words = Vec::new(alloc);
-    words.push(Word::made(Symbol::LeftBrace, call.at).after(call.gap))?;
-    push_words(&mut words, body)?;
-    words.push(Word::made(Symbol::RightBrace, call.at))?;
-    Ok(words)
+/// What stands for a call.
+#[derive(Clone, Copy)]
+struct Placed<'w, 'a> {
+    /// The commands of the function, or what it returns.
+    inner: &'w [Word<'a>],
+    /// The symbol before that: a brace before commands, and a parenthesis before a value.
+    open: Symbol,
+    /// The symbol behind it.
+    close: Symbol,
+    /// The index behind the call.
+    to: usize,
 }
 
-/// What stands for it as a value: what the function returns, in parentheses.
-fn value_for<'a>(
-    alloc: Global,
-    value: &[Word<'a>],
-    call: Word<'a>,
-) -> Result<Vec<Word<'a>>, AllocError> {
-    let mut words = Vec::new(alloc);
-    words.push(Word::made(Symbol::LeftParen, call.at).after(call.gap))?;
-    push_words(&mut words, value)?;
-    words.push(Word::made(Symbol::RightParen, call.at))?;
-    Ok(words)
+/// What stands for the call at an index of the function of a name: as a command the function's commands, in braces, and as a value what it
+/// returns, in parentheses.
+fn placed_at<'w, 'a>(
+    words: &[Word<'a>],
+    at: usize,
+    name: &[u8],
+    function: &'w [Word<'a>],
+) -> Option<Placed<'w, 'a>> {
+    let body = function_of(name, function)?.body;
+    let to = at.saturating_add(3);
+    if begins_command(words, at) && is_at(words, to, Symbol::Semicolon) {
+        return Some(Placed {
+            inner: body,
+            open: Symbol::LeftBrace,
+            close: Symbol::RightBrace,
+            to: to.saturating_add(1),
+        });
+    }
+    Some(Placed {
+        inner: value_of(body)?,
+        open: Symbol::LeftParen,
+        close: Symbol::RightParen,
+        to,
+    })
+}
+
+/// Why nothing stands for the call at an index.
+fn stuck_at<'a>(words: &[Word<'a>], at: usize, call: Word<'a>) -> Reason<'a> {
+    let why = if is_at(words, at.saturating_add(2), Symbol::RightParen) {
+        Why::FunctionShape(call.bytes)
+    } else {
+        Why::FunctionArguments(call.bytes)
+    };
+    Reason { at: call.at, why }
 }
 
 /// What stands for the call at an index of a function whose words have become others, or why there is nothing.
@@ -212,38 +224,17 @@ pub fn call_at<'a>(
     at: usize,
     function: &[Word<'a>],
 ) -> Result<Result<Call<'a>, Reason<'a>>, AllocError> {
-    let (Some(call), Some((front, _))) = (word_at(words, at), split(words, at)) else {
+    let Some(call) = word_at(words, at) else {
         return Ok(Err(unwritten(0)));
     };
-    if !is_at(words, at.saturating_add(2), Symbol::RightParen) {
-        return Ok(Err(Reason {
-            at: call.at,
-            why: Why::FunctionArguments(call.bytes),
-        }));
-    }
-    let stuck = Reason {
-        at: call.at,
-        why: Why::FunctionShape(call.bytes),
-    };
-    let Some(made) = function_of(call.bytes, function) else {
-        return Ok(Err(stuck));
-    };
-    let behind = at.saturating_add(3);
-    if begins_command(front) && is_at(words, behind, Symbol::Semicolon) {
-        return Ok(Ok(Call {
+    let stuck = stuck_at(words, at, call);
+    match placed_at(words, at, call.bytes, function) {
+        Some(made) if matches!(stuck.why, Why::FunctionShape(_)) => Ok(Ok(Call {
             from: at,
-            to: behind.saturating_add(1),
-            words: commands_of(alloc, made.body, call)?,
+            to: made.to,
+            words: enclosed(alloc, made.open, made.inner, made.close, call)?,
             stuck,
-        }));
+        })),
+        _ => Ok(Err(stuck)),
     }
-    let Some(value) = value_of(made.body) else {
-        return Ok(Err(stuck));
-    };
-    Ok(Ok(Call {
-        from: at,
-        to: behind,
-        words: value_for(alloc, value, call)?,
-        stuck,
-    }))
 }

@@ -4,7 +4,7 @@ ghost use Rattle.bird_import.specs.Cases as spec;
 
 use crate::blocks::{are_commands, depth_behind};
 use crate::functions::is_block;
-use crate::rules::{are_balanced, are_same, is_same, split};
+use crate::rules::{are_balanced, are_same, is_same, split, until};
 use crate::word::{Word, WordKind, is_at};
 use filter_tokens::Symbol;
 
@@ -158,13 +158,9 @@ fn without_first<'w, 'a>(
 ) -> Option<(&'w [Word<'a>], &'w [Word<'a>])>
     ensures { IfSome result (λ left. spec.IsFirstTest subject.now label.now test.now left.0.now left.1.now) }
 {
-    let len = label.iter().position(|word| word.is(Symbol::Comma))?;
-    let (one, labels) = split(label, len)?;
-    let (comma, others) = labels.split_first()?;
-    let len = test.iter().position(|word| word.is(Symbol::Or))?;
-    let (first, tests) = split(test, len)?;
-    let (operator, left) = tests.split_first()?;
-    if comma.is(Symbol::Comma) && operator.is(Symbol::Or) && is_one_test(subject, one, first) {
+    let (one, _, others) = until(Symbol::Comma, label)?;
+    let (first, _, left) = until(Symbol::Or, test)?;
+    if is_one_test(subject, one, first) {
         Some((others, left))
     } else {
         None
@@ -209,12 +205,12 @@ fn is_apart(label: &[Word<'_>], parts: &[Word<'_>]) -> bool {
 pub fn commands_of_else<'w, 'a>(words: &'w [Word<'a>]) -> Option<&'w [Word<'a>]>
     ensures { IfSome result (λ commands. spec.IsElsePart words.now commands.now) }
 {
-    let (begin, rest) = words.split_first()?;
-    let (colon, commands) = rest.split_first()?;
-    if begin.is(Symbol::Else) && colon.is(Symbol::Colon) && are_commands(commands) {
-        Some(commands)
-    } else {
-        None
+    match words {
+        [begin, colon, commands @ ..]
+            if begin.is(Symbol::Else) && colon.is(Symbol::Colon) && are_commands(commands) => {
+            Some(commands)
+        }
+        _ => None,
     }
 }
 
@@ -222,16 +218,10 @@ pub fn commands_of_else<'w, 'a>(words: &'w [Word<'a>]) -> Option<&'w [Word<'a>]>
 fn begins_with_label(words: &[Word<'_>]) -> bool
     ensures { IsTrue result → spec.BeginsWithLabel words.now }
 {
-    let Some(len) = words.iter().position(|word| word.is(Symbol::Colon)) else {
-        return false;
-    };
-    let Some((label, rest)) = split(words, len) else {
-        return false;
-    };
-    let Some((colon, _)) = rest.split_first() else {
-        return false;
-    };
-    colon.is(Symbol::Colon) && are_of_label(label)
+    match until(Symbol::Colon, words) {
+        Some((label, _, _)) => are_of_label(label),
+        None => false,
+    }
 }
 
 /// Whether words may stand in a label.
@@ -246,15 +236,9 @@ pub fn parts_of<'w, 'a>(words: &'w [Word<'a>]) -> Option<(&'w [Word<'a>], &'w [W
     ensures { IfSome result (λ found. spec.IsCase words.now found.0.now found.1.now) }
 {
     let (begin, rest) = words.split_first()?;
-    let len = rest.iter().position(|word| word.is(Symbol::LeftBrace))?;
-    let (subject, rest) = split(rest, len)?;
-    let (opening, rest) = rest.split_first()?;
+    let (subject, _, rest) = until(Symbol::LeftBrace, rest)?;
     let (closing, parts) = rest.split_last()?;
-    if begin.is(Symbol::Case)
-        && opening.is(Symbol::LeftBrace)
-        && closing.is(Symbol::RightBrace)
-        && are_simple(subject)
-    {
+    if begin.is(Symbol::Case) && closing.is(Symbol::RightBrace) && are_simple(subject) {
         Some((subject, parts))
     } else {
         None
@@ -320,11 +304,9 @@ fn first_part<'w, 'a>(
 ) -> Option<(&'w [Word<'a>], &'w [Word<'a>], &'w [Word<'a>])>
     ensures { IfSome result (λ found. spec.IsFirstPart words.now found.0.now found.1.now found.2.now) }
 {
-    let len = words.iter().position(|word| word.is(Symbol::Colon))?;
-    let (label, rest) = split(words, len)?;
-    let (colon, rest) = rest.split_first()?;
+    let (label, _, rest) = until(Symbol::Colon, words)?;
     let (commands, after) = split(rest, commands_len(rest))?;
-    if colon.is(Symbol::Colon) && are_commands(commands) && are_parts(after) {
+    if are_commands(commands) && are_parts(after) {
         Some((label, commands, after))
     } else {
         None
@@ -452,11 +434,9 @@ fn tested<'w, 'a>(
     ensures { IfSome result (λ found. spec.IsTested words.now found.0.now found.1.now found.2.now) }
 {
     let (begin, rest) = words.split_first()?;
-    let len = rest.iter().position(|word| word.is(Symbol::Then))?;
-    let (test, rest) = split(rest, len)?;
-    let (decide, rest) = rest.split_first()?;
+    let (test, _, rest) = until(Symbol::Then, rest)?;
     let (block, rest) = split(rest, commands.saturating_add(2))?;
-    if begin.is(Symbol::If) && decide.is(Symbol::Then) {
+    if begin.is(Symbol::If) {
         Some((test, block, rest))
     } else {
         None

@@ -2,20 +2,14 @@
 
 use crate::case_rules::{Parted, only_else, parts_of, take_apart};
 use crate::reason::{Reason, Why};
-use crate::step::{Plan, Rule, Step, push_words};
-use crate::word::{Word, WordKind, closing, is_at, is_before, word_at};
+use crate::step::{Plan, Rule, enclosed, planned, push_parts};
+use crate::word::{Word, WordKind, closing, is_at, is_before, kind_at};
 use filter_tokens::Symbol;
 use std::alloc::{AllocError, Global};
 
 /// Whether the word at an index is an address.
 fn is_address_at(words: &[Word<'_>], at: usize) -> bool {
-    matches!(
-        word_at(words, at),
-        Some(Word {
-            kind: WordKind::Address(_),
-            ..
-        })
-    )
+    matches!(kind_at(words, at), WordKind::Address(_))
 }
 
 /// The index of the first brace from an index on.
@@ -43,7 +37,8 @@ struct Case<'w, 'a> {
 
 /// The `case` that begins at an index, if its first label begins with an address.
 fn case_at<'w, 'a>(words: &'w [Word<'a>], at: usize) -> Option<Case<'w, 'a>> {
-    let to = closing(words, brace_from(words, at)?)?.checked_add(1)?;
+    let open = brace_from(words, at)?;
+    let to = closing(words, open.saturating_add(1))?.saturating_add(1);
     let all = words.get(at..to)?;
     let (subject, parts) = parts_of(all)?;
     let parts = take_apart(parts)?;
@@ -67,35 +62,6 @@ fn is_of_addresses(words: &[Word<'_>], at: usize) -> bool {
     }
 }
 
-/// A range of addresses of a label, and the index behind it.
-#[derive(Clone, Copy)]
-struct Addresses<'a> {
-    /// The least.
-    low: Word<'a>,
-    /// The greatest, if there is more than one.
-    high: Option<Word<'a>>,
-    /// The index behind it.
-    behind: usize,
-}
-
-/// The range of addresses that begins at an index.
-fn range_at<'a>(label: &[Word<'a>], at: usize) -> Option<Addresses<'a>> {
-    let low = word_at(label, at)?;
-    let next = at.checked_add(1)?;
-    if !is_at(label, next, Symbol::DotDot) {
-        return Some(Addresses {
-            low,
-            high: None,
-            behind: next,
-        });
-    }
-    Some(Addresses {
-        low,
-        high: Some(word_at(label, at.checked_add(2)?)?),
-        behind: at.checked_add(3)?,
-    })
-}
-
 /// Puts the comparison of an expression with an address behind others.
 fn push_compared<'a>(
     words: &mut Vec<Word<'a>>,
@@ -103,28 +69,38 @@ fn push_compared<'a>(
     subject: &[Word<'a>],
     address: Word<'a>,
 ) -> Result<(), AllocError> {
-    push_words(words, subject)?;
-    words.push(Word::made(operator, address.at))?;
-    words.push(address.after(b" "))?;
-    Ok(())
+    words.extend_from_slice(subject)?;
+    words.extend_from_slice(&[Word::made(operator, address.at), address.after(b" ")])
 }
 
-/// Puts the test whether an expression is in a range behind others.
+/// Puts the test whether an expression is an address, or between two, behind others.
 fn push_test<'a>(
     words: &mut Vec<Word<'a>>,
     subject: &[Word<'a>],
-    range: Addresses<'a>,
+    low: Word<'a>,
+    high: Option<Word<'a>>,
 ) -> Result<(), AllocError> {
-    let Some(high) = range.high else {
-        return push_compared(words, Symbol::Equal, subject, range.low);
+    let Some(high) = high else {
+        return push_compared(words, Symbol::Equal, subject, low);
     };
-    let at = range.low.at;
-    words.push(Word::made(Symbol::LeftParen, at))?;
-    push_compared(words, Symbol::GreaterEqual, subject, range.low)?;
-    words.push(Word::made(Symbol::And, at))?;
+    words.extend_from_slice(&[Word::made(Symbol::LeftParen, low.at)])?;
+    push_compared(words, Symbol::GreaterEqual, subject, low)?;
+    words.extend_from_slice(&[Word::made(Symbol::And, low.at)])?;
     push_compared(words, Symbol::LessEqual, subject, high)?;
-    words.push(Word::made(Symbol::RightParen, at))?;
-    Ok(())
+    words.extend_from_slice(&[Word::made(Symbol::RightParen, low.at)])
+}
+
+/// The address or the range at the front of a label, and the words behind it.
+fn first_range<'w, 'a>(
+    label: &'w [Word<'a>],
+) -> Option<(Word<'a>, Option<Word<'a>>, &'w [Word<'a>])> {
+    match label {
+        [low, dots, high, behind @ ..] if dots.is(Symbol::DotDot) => {
+            Some((*low, Some(*high), behind))
+        }
+        [only, behind @ ..] => Some((*only, None, behind)),
+        [] => None,
+    }
 }
 
 /// Puts the test of a label behind others.
@@ -133,30 +109,20 @@ fn push_tests<'a>(
     subject: &[Word<'a>],
     label: &[Word<'a>],
 ) -> Result<(), AllocError> {
-    let mut from = 0;
+    let (_, mut rest) = label.split_at(0);
     for _ in 0..label.len() {
-        let Some(range) = range_at(label, from) else {
+        let Some((low, high, behind)) = first_range(rest) else {
             break;
         };
-        push_test(words, subject, range)?;
-        if !is_at(label, range.behind, Symbol::Comma) {
-            break;
+        push_test(words, subject, low, high)?;
+        match behind {
+            [comma, others @ ..] if comma.is(Symbol::Comma) => {
+                words.extend_from_slice(&[Word::made(Symbol::Or, low.at)])?;
+                rest = others;
+            }
+            _ => break,
         }
-        words.push(Word::made(Symbol::Or, range.low.at))?;
-        from = range.behind.saturating_add(1);
     }
-    Ok(())
-}
-
-/// Puts commands in braces behind others.
-fn push_block<'a>(
-    words: &mut Vec<Word<'a>>,
-    commands: &[Word<'a>],
-    at: usize,
-) -> Result<(), AllocError> {
-    words.push(Word::made(Symbol::LeftBrace, at))?;
-    push_words(words, commands)?;
-    words.push(Word::made(Symbol::RightBrace, at))?;
     Ok(())
 }
 
@@ -170,17 +136,23 @@ fn push_otherwise<'a>(
     if before.is_empty() && after.is_empty() {
         return Ok(());
     }
-    words.push(Word::made(Symbol::Else, head.at))?;
-    if let Some(commands) = only_else(before, after) {
-        return push_block(words, commands, head.at);
+    let begin = Word::made(Symbol::Else, head.at);
+    let open = Word::made(Symbol::LeftBrace, head.at);
+    let close = Word::made(Symbol::RightBrace, head.at);
+    match only_else(before, after) {
+        Some(commands) => push_parts(words, &[&[begin, open], commands, &[close]]),
+        None => push_parts(
+            words,
+            &[
+                &[begin, head.after(b" ")],
+                case.subject,
+                &[open],
+                before,
+                after,
+                &[close],
+            ],
+        ),
     }
-    words.push(head.after(b" "))?;
-    push_words(words, case.subject)?;
-    words.push(Word::made(Symbol::LeftBrace, head.at))?;
-    push_words(words, before)?;
-    push_words(words, after)?;
-    words.push(Word::made(Symbol::RightBrace, head.at))?;
-    Ok(())
 }
 
 /// The words of a `case` that is written by its first label.
@@ -189,11 +161,13 @@ fn taken<'a>(
     case: Case<'_, 'a>,
     head: Word<'a>,
 ) -> Result<Vec<Word<'a>>, AllocError> {
-    let mut words = Vec::new(alloc);
-    words.push(Word::made(Symbol::If, head.at).after(head.gap))?;
+    let begin = Word::made(Symbol::If, head.at).after(head.gap);
+    let then = Word::made(Symbol::Then, head.at);
+    let open = Word::made(Symbol::LeftBrace, head.at);
+    let close = Word::made(Symbol::RightBrace, head.at);
+    let mut words = Vec::from_slice(alloc, &[begin])?;
     push_tests(&mut words, case.subject, case.parts.label)?;
-    words.push(Word::made(Symbol::Then, head.at))?;
-    push_block(&mut words, case.parts.commands, head.at)?;
+    push_parts(&mut words, &[&[then, open], case.parts.commands, &[close]])?;
     push_otherwise(&mut words, case, head)?;
     Ok(words)
 }
@@ -206,30 +180,26 @@ fn take<'a>(
     at: usize,
     case: Case<'_, 'a>,
     head: Word<'a>,
-) -> Result<Step<'a>, AllocError> {
+) -> Result<Plan<'a>, AllocError> {
     let is_braced = is_before(words, at, Symbol::Then) || is_at(words, case.to, Symbol::Else);
-    let written = if is_braced {
-        let mut block = Vec::new(alloc);
-        push_block(&mut block, case.words, head.at)?;
-        block
+    let (rule, written) = if is_braced {
+        let (open, close) = (Symbol::LeftBrace, Symbol::RightBrace);
+        (
+            Rule::CaseBraced,
+            enclosed(alloc, open, case.words, close, head.after(b" ")),
+        )
     } else {
-        taken(alloc, case, head)?
+        (Rule::CaseTaken, taken(alloc, case, head))
     };
-    Ok(Step {
-        rule: if is_braced {
-            Rule::CaseBraced
-        } else {
-            Rule::CaseTaken
-        },
-        origin: 0,
-        from: at,
-        to: case.to,
-        words: written,
-        stuck: Reason {
-            at: head.at,
-            why: Why::CaseLabels,
-        },
-    })
+    planned(rule, at, case.to, written, wrong_labels(head))
+}
+
+/// Why a `case` is not taken.
+fn wrong_labels<'a>(head: Word<'a>) -> Reason<'a> {
+    Reason {
+        at: head.at,
+        why: Why::CaseLabels,
+    }
 }
 
 /// Writes the first `case` of addresses by its first label.
@@ -240,13 +210,10 @@ pub fn plan_case<'a>(alloc: Global, words: &[Word<'a>]) -> Result<Plan<'a>, Allo
             continue;
         }
         if let Some(case) = case_at(words, at) {
-            return Ok(Plan::Step(take(alloc, words, at, case, head)?));
+            return take(alloc, words, at, case, head);
         }
         if is_of_addresses(words, at) {
-            return Ok(Plan::Stuck(Reason {
-                at: head.at,
-                why: Why::CaseLabels,
-            }));
+            return Ok(Plan::Stuck(wrong_labels(head)));
         }
     }
     Ok(Plan::Done)

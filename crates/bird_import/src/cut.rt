@@ -18,9 +18,15 @@ fn is_word_byte(byte: u8) -> bool {
     byte.is_ascii_alphanumeric() || byte == b'_'
 }
 
-/// Whether a byte may stand in a number or an address that is none.
-fn is_number_byte(byte: u8) -> bool {
-    is_word_byte(byte) || byte == b'.' || byte == b'/'
+/// The number of bytes at the front that may stand in a word, and where that is a number or an address that is none, in one of these.
+fn front_len(rest: &[u8], is_number: bool) -> usize {
+    for at in 0..rest.len() {
+        let byte = rest[at];
+        if !(is_word_byte(byte) || (is_number && (byte == b'.' || byte == b'/'))) {
+            return at;
+        }
+    }
+    rest.len()
 }
 
 /// The number of bytes of a name in single quotes; of a quote alone where it does not end on its line.
@@ -41,14 +47,10 @@ fn foreign_len(fault: TokenFault, rest: &[u8]) -> usize {
     match fault {
         TokenFault::UnendedComment(_) | TokenFault::UnendedText(_) => 0,
         TokenFault::QuotedName(_) => quoted_len(rest),
-        TokenFault::WordLeftOut(_) | TokenFault::NameTooLong(_) => rest
-            .iter()
-            .take_while(|byte| is_word_byte(**byte))
-            .count(),
-        TokenFault::NumberTooLarge(_) | TokenFault::OutOfRange(_) | TokenFault::NoDigit(_) => rest
-            .iter()
-            .take_while(|byte| is_number_byte(**byte))
-            .count(),
+        TokenFault::WordLeftOut(_) | TokenFault::NameTooLong(_) => front_len(rest, false),
+        TokenFault::NumberTooLarge(_) | TokenFault::OutOfRange(_) | TokenFault::NoDigit(_) => {
+            front_len(rest, true)
+        }
         TokenFault::BadCharacter(_) => 1,
     }
 }

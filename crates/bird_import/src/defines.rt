@@ -3,8 +3,9 @@
 use crate::config::Config;
 use crate::items::Definition;
 use crate::reason::{Reason, Why};
-use crate::step::{Plan, Rule, Step, push_words};
-use crate::word::{Word, WordKind, closing, is_at, is_before, is_name_at};
+use crate::rules::is_kind;
+use crate::step::{Plan, Rule, Step, enclosed, joined};
+use crate::word::{Word, WordKind, bytes_at, closing, is_at, is_before, is_name_at};
 use filter_tokens::Symbol;
 use std::alloc::{AllocError, Global};
 
@@ -12,7 +13,7 @@ use std::alloc::{AllocError, Global};
 pub fn is_declared(words: &[Word<'_>], name: &[u8]) -> bool {
     for at in 1..words.len() {
         let before = words[at - 1];
-        if words[at].is_named(name) && (before.is_kind() || before.is_foreign(b"set")) {
+        if words[at].is_named(name) && (is_kind(before.kind) || before.is_foreign(b"set")) {
             return true;
         }
     }
@@ -54,25 +55,14 @@ fn look_up(config: &Config<'_>, name: &[u8]) -> Found {
 }
 
 /// Whether the word at an index is this name.
-pub fn is_named_at(words: &[Word<'_>], at: usize, name: &[u8]) -> bool {
-    match words.get(at) {
-        Some(word) => word.is_named(name),
-        None => false,
-    }
-}
-
-/// The place of the word at an index; the greatest one where there is none.
-fn place_at(words: &[Word<'_>], at: usize) -> usize {
-    match words.get(at) {
-        Some(word) => word.at,
-        None => usize::MAX,
-    }
+fn is_named_at(words: &[Word<'_>], at: usize, name: &[u8]) -> bool {
+    is_name_at(words, at) && bytes_at(words, at) == name
 }
 
 /// Whether a value needs no parentheses round it: it is one word or a set.
 fn is_closed_value(value: &[Word<'_>]) -> bool {
     value.len() == 1
-        || (is_at(value, 0, Symbol::LeftBracket) && closing(value, 0) == value.len().checked_sub(1))
+        || (is_at(value, 0, Symbol::LeftBracket) && closing(value, 1) == value.len().checked_sub(1))
 }
 
 /// The words of a value where a word stood.
@@ -81,39 +71,21 @@ fn placed<'a>(
     value: &[Word<'a>],
     word: Word<'a>,
 ) -> Result<Vec<Word<'a>>, AllocError> {
-    let mut words = Vec::new(alloc);
-    if is_closed_value(value) {
-        push_after(&mut words, value, word.gap)?;
-    } else {
-        words.push(Word::made(Symbol::LeftParen, word.at).after(word.gap))?;
-        push_words(&mut words, value)?;
-        words.push(Word::made(Symbol::RightParen, word.at))?;
-    }
-    Ok(words)
-}
-
-/// Puts words behind others, the first of them with this before it.
-pub fn push_after<'a>(
-    words: &mut Vec<Word<'a>>,
-    more: &[Word<'a>],
-    gap: &'a [u8],
-) -> Result<(), AllocError> {
-    match more.split_first() {
-        Some((first, others)) => {
-            words.push(first.after(gap))?;
-            push_words(words, others)
+    match value {
+        [first, others @ ..] if is_closed_value(value) => {
+            joined(alloc, &[first.after(word.gap)], others, &[])
         }
-        None => Ok(()),
+        _ => enclosed(alloc, Symbol::LeftParen, value, Symbol::RightParen, word),
     }
 }
 
 /// Whether the word at an index is within the brackets of a set.
 fn is_in_brackets(words: &[Word<'_>], at: usize) -> bool {
     let mut depth = 0usize;
-    for word in words.iter().take(at) {
-        if word.is(Symbol::LeftBracket) {
+    for before in 0..at {
+        if is_at(words, before, Symbol::LeftBracket) {
             depth = depth.saturating_add(1);
-        } else if word.is(Symbol::RightBracket) {
+        } else if is_at(words, before, Symbol::RightBracket) {
             depth = depth.saturating_sub(1);
         }
     }
@@ -122,16 +94,14 @@ fn is_in_brackets(words: &[Word<'_>], at: usize) -> bool {
 
 /// Whether the word at an index belongs to a label of a `case`: from it on there are constants and a `:`.
 fn is_in_label(words: &[Word<'_>], at: usize) -> bool {
-    for word in words.iter().skip(at) {
-        if word.is(Symbol::Colon) {
-            return true;
-        }
-        let is_constant = matches!(
-            word.kind,
-            WordKind::Name | WordKind::Number | WordKind::Address(_)
-        );
-        if !(is_constant || word.is(Symbol::Comma) || word.is(Symbol::DotDot)) {
-            return false;
+    for next in at..words.len() {
+        match words[next].kind {
+            WordKind::Symbol(Symbol::Colon) => return true,
+            WordKind::Name
+            | WordKind::Number
+            | WordKind::Address(_)
+            | WordKind::Symbol(Symbol::Comma | Symbol::DotDot) => {}
+            _ => return false,
         }
     }
     false
@@ -154,6 +124,14 @@ fn wants_one_word(words: &[Word<'_>], at: usize) -> bool {
     is_in_brackets(words, at) || is_in_label(words, at) || is_masked(words, at)
 }
 
+/// Whether a definition ends before a place.
+fn ends_before(config: &Config<'_>, definition: Definition, at: usize) -> bool {
+    match config.words.get(definition.to) {
+        Some(end) => end.at < at,
+        None => false,
+    }
+}
+
 /// The step that puts a definition in the place of the name at an index.
 fn place<'a>(
     alloc: Global,
@@ -163,36 +141,25 @@ fn place<'a>(
     word: Word<'a>,
     at: usize,
 ) -> Result<Plan<'a>, AllocError> {
-    if place_at(config.words, definition.to) >= word.at {
-        return Ok(Plan::Stuck(Reason {
-            at: word.at,
-            why: Why::DefinedLater(word.bytes),
-        }));
-    }
-    let stuck = Reason {
-        at: word.at,
-        why: Why::Unknown(word.bytes),
+    let why = match config.words.get(definition.from..definition.to) {
+        _ if !ends_before(config, definition, word.at) => Why::DefinedLater(word.bytes),
+        None | Some([]) => Why::Unknown(word.bytes),
+        Some(value) if is_closed_value(value) || !wants_one_word(words, at) => {
+            return Ok(Plan::Step(Step {
+                rule: Rule::Defined,
+                origin: definition.name.saturating_sub(1),
+                from: at,
+                to: at.saturating_add(1),
+                words: placed(alloc, value, word)?,
+                stuck: Reason {
+                    at: word.at,
+                    why: Why::Unknown(word.bytes),
+                },
+            }));
+        }
+        Some(_) => Why::OneWord(word.bytes),
     };
-    let Some(value) = config.words.get(definition.from..definition.to) else {
-        return Ok(Plan::Stuck(stuck));
-    };
-    if value.is_empty() {
-        return Ok(Plan::Stuck(stuck));
-    }
-    if !is_closed_value(value) && wants_one_word(words, at) {
-        return Ok(Plan::Stuck(Reason {
-            at: word.at,
-            why: Why::OneWord(word.bytes),
-        }));
-    }
-    Ok(Plan::Step(Step {
-        rule: Rule::Defined,
-        origin: definition.name.saturating_sub(1),
-        from: at,
-        to: at.saturating_add(1),
-        words: placed(alloc, value, word)?,
-        stuck,
-    }))
+    Ok(Plan::Stuck(Reason { at: word.at, why }))
 }
 
 /// Puts the definition of the first defined name in its place.

@@ -19,7 +19,7 @@ use crate::operators::{plan_grouping, plan_semicolon, plan_type_test};
 use crate::printing::plan_printing;
 use crate::reason::{Reason, Why, unwritten};
 use crate::set_variables::plan_sets;
-use crate::step::{Plan, apply, apply_call, push_words};
+use crate::step::{Plan, Rule, apply, apply_call, joined};
 use crate::unknown::first_unknown;
 use crate::word::{Word, word_at};
 use filter_tokens::Symbol;
@@ -56,55 +56,52 @@ pub struct Draft<'a> {
     pub outcome: Outcome<'a>,
 }
 
+/// The rules by which a step is looked for, in this order.
+const ORDER: [Rule; 9] = [
+    Rule::Defined,
+    Rule::Separated,
+    Rule::Unprinted,
+    Rule::SetPlaced,
+    Rule::Declared,
+    Rule::CaseTaken,
+    Rule::Ipv4Only,
+    Rule::Grouped,
+    Rule::Returned,
+];
+
+/// The plan by a rule, or by one that belongs with it.
+fn plan_by<'a>(
+    alloc: Global,
+    config: &Config<'a>,
+    words: &[Word<'a>],
+    rule: Rule,
+) -> Result<Plan<'a>, AllocError> {
+    match rule {
+        Rule::Defined => plan_definition(alloc, config, words),
+        Rule::Separated => plan_semicolon(alloc, words),
+        Rule::Unprinted | Rule::Shortened => plan_printing(alloc, words),
+        Rule::SetPlaced => plan_sets(alloc, words),
+        Rule::Declared => plan_declaration(alloc, words),
+        Rule::CaseTaken | Rule::CaseBraced => plan_case(alloc, words),
+        Rule::Ipv4Only => plan_type_test(alloc, words),
+        Rule::Grouped => plan_grouping(alloc, words),
+        Rule::Returned => plan_return(alloc, words),
+    }
+}
+
 /// The first of the plans that has something to do.
 fn plan<'a>(
     alloc: Global,
     config: &Config<'a>,
     words: &[Word<'a>],
 ) -> Result<Plan<'a>, AllocError> {
-    let definition = plan_definition(alloc, config, words)?;
-    if !matches!(definition, Plan::Done) {
-        return Ok(definition);
+    for rule in &ORDER {
+        match plan_by(alloc, config, words, *rule)? {
+            Plan::Done => {}
+            found => return Ok(found),
+        }
     }
-    plan_commands(alloc, words)
-}
-
-/// The same of the plans that look at the filter alone.
-fn plan_commands<'a>(alloc: Global, words: &[Word<'a>]) -> Result<Plan<'a>, AllocError> {
-    let semicolon = plan_semicolon(alloc, words)?;
-    if !matches!(semicolon, Plan::Done) {
-        return Ok(semicolon);
-    }
-    let printing = plan_printing(alloc, words)?;
-    if !matches!(printing, Plan::Done) {
-        return Ok(printing);
-    }
-    let sets = plan_sets(alloc, words)?;
-    if !matches!(sets, Plan::Done) {
-        return Ok(sets);
-    }
-    plan_forms(alloc, words)
-}
-
-/// The same of the plans that write one form as another.
-fn plan_forms<'a>(alloc: Global, words: &[Word<'a>]) -> Result<Plan<'a>, AllocError> {
-    let declaration = plan_declaration(alloc, words)?;
-    if !matches!(declaration, Plan::Done) {
-        return Ok(declaration);
-    }
-    let case = plan_case(alloc, words)?;
-    if !matches!(case, Plan::Done) {
-        return Ok(case);
-    }
-    let test = plan_type_test(alloc, words)?;
-    if !matches!(test, Plan::Done) {
-        return Ok(test);
-    }
-    let grouping = plan_grouping(alloc, words)?;
-    if !matches!(grouping, Plan::Done) {
-        return Ok(grouping);
-    }
-    plan_return(alloc, words)
+    Ok(Plan::Done)
 }
 
 /// What comes next for some words.
@@ -269,44 +266,42 @@ fn named_words<'a>(
 ) -> Result<Vec<Word<'a>>, AllocError>
     ensures { IfOk result (λ words. BeginsAs item_kind.Anonymous name.now all.now words.items) }
 {
-    let mut words = Vec::new(alloc);
     // `import` or `export`, then `filter`, then the rest.
     let Some((direction, others)) = all.split_first() else {
-        return Ok(words);
+        return Ok(Vec::new(alloc));
     };
     let Some((_, rest)) = others.split_first() else {
-        return Ok(words);
+        return Ok(Vec::new(alloc));
     };
-    words.push(Word::made(Symbol::Filter, direction.at).after(direction.gap))?;
-    words.push(Word::named(name, direction.at))?;
-    push_words(&mut words, rest)?;
-    Ok(words)
+    let head = Word::made(Symbol::Filter, direction.at).after(direction.gap);
+    joined(alloc, &[head], &[Word::named(name, direction.at)], rest)
 }
 
 /// The words with which a condition opens a body.
-fn condition_front<'a>(alloc: Global, at: usize) -> Result<Vec<Word<'a>>, AllocError>
-    ensures { IfOk result (λ words. kinds_of words.items ≡ word_kind.Symbol symbol.LeftBrace ∷ word_kind.Symbol symbol.If ∷ []) }
+fn condition_front<'a>(at: usize) -> [Word<'a>; 2]
+    ensures { kinds_of result ≡ word_kind.Symbol symbol.LeftBrace ∷ word_kind.Symbol symbol.If ∷ [] }
 {
-    let mut words = Vec::new(alloc);
-    words.push(Word::made(Symbol::LeftBrace, at))?;
-    words.push(Word::made(Symbol::If, at))?;
-    Ok(words)
+    [
+        Word::made(Symbol::LeftBrace, at),
+        Word::made(Symbol::If, at),
+    ]
 }
 
 /// The words behind a condition, up to the end of the body.
-fn condition_back<'a>(alloc: Global, at: usize) -> Result<Vec<Word<'a>>, AllocError>
-    ensures { IfOk result (λ words. kinds_of words.items ≡ word_kind.Symbol symbol.Then ∷ word_kind.Symbol symbol.Accept
+fn condition_back<'a>(at: usize) -> [Word<'a>; 6]
+    ensures { kinds_of result ≡ word_kind.Symbol symbol.Then ∷ word_kind.Symbol symbol.Accept
         ∷ word_kind.Symbol symbol.Semicolon ∷ word_kind.Symbol symbol.Reject ∷ word_kind.Symbol symbol.Semicolon
-        ∷ word_kind.Symbol symbol.RightBrace ∷ []) }
+        ∷ word_kind.Symbol symbol.RightBrace ∷ [] }
 {
-    let mut words = Vec::new(alloc);
-    words.push(Word::made(Symbol::Then, at))?;
-    words.push(Word::made(Symbol::Accept, at))?;
-    words.push(Word::made(Symbol::Semicolon, at).after(b""))?;
-    words.push(Word::made(Symbol::Reject, at))?;
-    words.push(Word::made(Symbol::Semicolon, at).after(b""))?;
-    words.push(Word::made(Symbol::RightBrace, at))?;
-    Ok(words)
+    let stop = Word::made(Symbol::Semicolon, at).after(b"");
+    [
+        Word::made(Symbol::Then, at),
+        Word::made(Symbol::Accept, at),
+        stop,
+        Word::made(Symbol::Reject, at),
+        stop,
+        Word::made(Symbol::RightBrace, at),
+    ]
 }
 
 /// The words of the filter that a condition stands for.
@@ -317,21 +312,16 @@ fn condition_words<'a>(
 ) -> Result<Vec<Word<'a>>, AllocError>
     ensures { IfOk result (λ words. BeginsAs item_kind.Condition name.now all.now words.items) }
 {
-    let mut words = Vec::new(alloc);
     let Some((direction, others)) = all.split_first() else {
-        return Ok(words);
+        return Ok(Vec::new(alloc));
     };
     let Some((_, condition)) = others.split_first() else {
-        return Ok(words);
+        return Ok(Vec::new(alloc));
     };
     let at = direction.at;
-    let (front, back) = (condition_front(alloc, at)?, condition_back(alloc, at)?);
-    words.push(Word::made(Symbol::Filter, at).after(direction.gap))?;
-    words.push(Word::named(name, at))?;
-    push_words(&mut words, front.as_slice())?;
-    push_words(&mut words, condition)?;
-    push_words(&mut words, back.as_slice())?;
-    Ok(words)
+    let body = joined(alloc, &condition_front(at), condition, &condition_back(at))?;
+    let head = Word::made(Symbol::Filter, at).after(direction.gap);
+    joined(alloc, &[head], &[Word::named(name, at)], body.as_slice())
 }
 
 /// The words of an item.
@@ -362,9 +352,7 @@ fn first_words<'a>(
 fn copy_of<'a>(alloc: Global, all: &[Word<'a>]) -> Result<Vec<Word<'a>>, AllocError>
     ensures { IfOk result (λ words. words.items ≡ all.now) }
 {
-    let mut words = Vec::new(alloc);
-    push_words(&mut words, all)?;
-    Ok(words)
+    Vec::from_slice(alloc, all)
 }
 
 /// Why an item cannot be a filter at all, if it cannot.
@@ -383,9 +371,15 @@ fn reason_of<'a>(config: &Config<'a>, item: &Item, at: usize) -> Option<Reason<'
 
 /// Whether a filter before an item has its name.
 fn is_named_before(config: &Config<'_>, item: &Item) -> bool {
-    config.items.iter().any(|other| other.from < item.from
-        && other.kind != ItemKind::Function
-        && other.name.as_slice() == item.name.as_slice())
+    for other in config.items {
+        if other.from < item.from
+            && other.kind != ItemKind::Function
+            && other.name.as_slice() == item.name.as_slice()
+        {
+            return true;
+        }
+    }
+    false
 }
 
 /// The words of a filter, unless one of them cannot be kept.

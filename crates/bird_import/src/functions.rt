@@ -1,12 +1,13 @@
 //! Functions without parameters: whether what is written for one means the same.
-ghost use Rattle.std.specs.Prelude.{◌≡◌, ◌≢◌, ◌⊎◌, [], ◌∷◌, All, IfSome, IsTrue, codes};
+ghost use Rattle.std.specs.Prelude.{◌≡◌, ◌⊎◌, [], ◌∷◌, All, IfSome, IsTrue, codes};
 ghost use Rattle.bird_import.specs.Functions as spec;
 ghost use Rattle.bird_import.specs.Rules.{Is, IsForeign};
 ghost use Rattle.bird_import.specs.declared.word.Word.{Word as TheWord};
-ghost use Rattle.bird_import.specs.declared.word.WordKind.TheVariants as kind;
 ghost use Rattle.filter_tokens.specs.declared.symbol.Symbol.TheVariants as symbols;
 
-use crate::rules::{are_balanced, are_of_one, are_same, ends_command, is_grouped, is_kind, split};
+use crate::rules::{
+    are_balanced, are_of_one, are_same, ends_command, is_grouped, is_kind, split, until,
+};
 use crate::word::{Word, WordKind};
 use filter_tokens::Symbol;
 
@@ -21,12 +22,12 @@ fn is_expression(words: &[Word<'_>]) -> bool
 fn value_of_return<'w, 'a>(words: &'w [Word<'a>]) -> Option<&'w [Word<'a>]>
     ensures { IfSome result (λ value. spec.IsReturn words.now value.now) }
 {
-    let (command, rest) = words.split_first()?;
-    let (stop, value) = rest.split_last()?;
-    if command.is_foreign(b"return") && stop.is(Symbol::Semicolon) && is_expression(value) {
-        Some(value)
-    } else {
-        None
+    match words {
+        [command, value @ .., stop]
+            if command.is_foreign(b"return")
+                && stop.is(Symbol::Semicolon)
+                && is_expression(value) => { Some(value) }
+        _ => None,
     }
 }
 
@@ -34,13 +35,10 @@ fn value_of_return<'w, 'a>(words: &'w [Word<'a>]) -> Option<&'w [Word<'a>]>
 fn inside_braces<'w, 'a>(words: &'w [Word<'a>]) -> Option<&'w [Word<'a>]>
     ensures { IfSome result (λ inner. spec.IsBraced inner.now words.now) }
 {
-    let (opening, rest) = words.split_first()?;
-    let (closing, inner) = rest.split_last()?;
-    if opening.is(Symbol::LeftBrace) && closing.is(Symbol::RightBrace) {
-        Some(inner)
-    } else {
-        None
-    }
+    let [opening, inner @ .., closing] = words else {
+        return None;
+    };
+    (opening.is(Symbol::LeftBrace) && closing.is(Symbol::RightBrace)).then_some(inner)
 }
 
 /// The value that words return, in braces or not.
@@ -84,9 +82,9 @@ fn are_empty(words: &[Word<'_>]) -> bool
 fn is_else(words: &[Word<'_>]) -> bool
     ensures { IsTrue result → (word : TheWord) × (words.now ≡ word ∷ []) × Is symbols.Else word }
 {
-    match words.split_first() {
-        Some((word, none)) => none.is_empty() && word.is(Symbol::Else),
-        None => false,
+    match words {
+        [word] => word.is(Symbol::Else),
+        _ => false,
     }
 }
 
@@ -127,7 +125,7 @@ fn is_answered(
     if answer.is(Symbol::True) {
         return is_joined(Symbol::Or, condition, other, value);
     }
-    let Some((negation, rest)) = value.split_first() else {
+    let [negation, rest @ ..] = value else {
         return false;
     };
     answer.is(Symbol::False)
@@ -153,10 +151,8 @@ fn condition_of<'w, 'a>(words: &'w [Word<'a>]) -> Option<(&'w [Word<'a>], &'w [W
     ensures { IfSome result (λ found. spec.IsConditional words.now found.0.now found.1.now) }
 {
     let (begin, rest) = words.split_first()?;
-    let len = rest.iter().position(|word| word.is(Symbol::Then))?;
-    let (condition, rest) = split(rest, len)?;
-    let (decide, commands) = rest.split_first()?;
-    if begin.is(Symbol::If) && decide.is(Symbol::Then) && is_expression(condition) {
+    let (condition, _, commands) = until(Symbol::Then, rest)?;
+    if begin.is(Symbol::If) && is_expression(condition) {
         Some((condition, commands))
     } else {
         None
@@ -167,8 +163,10 @@ fn condition_of<'w, 'a>(words: &'w [Word<'a>]) -> Option<(&'w [Word<'a>], &'w [W
 fn returned_word<'w, 'a>(words: &'w [Word<'a>]) -> Option<&'w Word<'a>>
     ensures { IfSome result (λ answer. spec.Returns words.now (answer.now ∷ [])) }
 {
-    let (answer, none) = returned(words)?.split_first()?;
-    if none.is_empty() { Some(answer) } else { None }
+    match returned(words)? {
+        [answer] => Some(answer),
+        _ => None,
+    }
 }
 
 /// The number of words of the `return` of one word at the front of some words, in braces or not.
@@ -179,12 +177,14 @@ fn answer_len(words: &[Word<'_>]) -> usize {
     }
 }
 
-/// The number of words before the next `return` or its brace.
-fn middle_len(words: &[Word<'_>]) -> usize {
-    words
-        .iter()
-        .take_while(|word| word.is(Symbol::Semicolon) || word.is(Symbol::Else))
-        .count()
+/// The number of words at the front of some words that are one of two keywords or punctuators.
+fn front_len(words: &[Word<'_>], one: Symbol, other: Symbol) -> usize {
+    for at in 0..words.len() {
+        if !(words[at].is(one) || words[at].is(other)) {
+            return at;
+        }
+    }
+    words.len()
 }
 
 /// The parts of words that decide what is returned.
@@ -193,7 +193,7 @@ pub fn decision_of<'w, 'a>(words: &'w [Word<'a>]) -> Option<Decision<'w, 'a>>
 {
     let (condition, rest) = condition_of(words)?;
     let (first, rest) = split(rest, answer_len(rest))?;
-    let (middle, last) = split(rest, middle_len(rest))?;
+    let (middle, last) = split(rest, front_len(rest, Symbol::Semicolon, Symbol::Else))?;
     Some(Decision {
         condition,
         answer: returned_word(first)?,
@@ -223,26 +223,13 @@ pub struct Function<'w, 'a> {
     pub end: &'w Word<'a>,
 }
 
-/// Whether none of some words is a brace that opens.
-fn have_no_brace(words: &[Word<'_>]) -> bool
-    ensures { IsTrue result → All (λ word. word.kind ≢ kind.Symbol symbols.LeftBrace) words.now }
-{
-    words.iter().all(|word| !word.is(Symbol::LeftBrace))
-}
-
 /// The words before the first brace, and what is in the braces, with the last of them.
 fn body_of<'w, 'a>(words: &'w [Word<'a>]) -> Option<(&'w [Word<'a>], &'w [Word<'a>], &'w Word<'a>)>
     ensures { IfSome result (λ found. spec.HasBody words.now found.0.now found.1.now found.2.now) }
 {
-    let len = words.iter().position(|word| word.is(Symbol::LeftBrace))?;
-    let (between, rest) = split(words, len)?;
-    let (begin, rest) = rest.split_first()?;
+    let (between, _, rest) = until(Symbol::LeftBrace, words)?;
     let (end, body) = rest.split_last()?;
-    if have_no_brace(between)
-        && begin.is(Symbol::LeftBrace)
-        && end.is(Symbol::RightBrace)
-        && are_balanced(body)
-    {
+    if end.is(Symbol::RightBrace) && are_balanced(body) {
         Some((between, body, end))
     } else {
         None
@@ -254,15 +241,9 @@ pub fn function_of<'w, 'a>(name: &[u8], words: &'w [Word<'a>]) -> Option<Functio
     ensures { IfSome result (λ made. spec.IsFunction name.now words.now made.between.now made.body.now made.end.now) }
 {
     let (head, rest) = words.split_first()?;
-    let (called, rest) = rest.split_first()?;
-    let (opening, rest) = rest.split_first()?;
-    let (closing, rest) = rest.split_first()?;
+    let (called, rest) = behind_call(rest)?;
     let (between, body, end) = body_of(rest)?;
-    if head.is_foreign(b"function")
-        && called.is_named(name)
-        && opening.is(Symbol::LeftParen)
-        && closing.is(Symbol::RightParen)
-    {
+    if head.is_foreign(b"function") && called.is_named(name) {
         Some(Function { between, body, end })
     } else {
         None
@@ -353,11 +334,10 @@ pub fn is_block(commands: &[Word<'_>], words: &[Word<'_>]) -> bool
 fn is_run(body: &[Word<'_>], front: &[Word<'_>], rest: &[Word<'_>], new: &[Word<'_>]) -> bool
     ensures { IsTrue result → spec.IsRun body.now front.now rest.now new.now }
 {
-    let Some((stop, none)) = rest.split_first() else {
+    let [stop] = rest else {
         return false;
     };
-    none.is_empty()
-        && stop.is(Symbol::Semicolon)
+    stop.is(Symbol::Semicolon)
         && begins_command(front)
         && return_nothing(body)
         && is_block(body, new)
@@ -367,10 +347,7 @@ fn is_run(body: &[Word<'_>], front: &[Word<'_>], rest: &[Word<'_>], new: &[Word<
 pub fn value_of<'w, 'a>(body: &'w [Word<'a>]) -> Option<&'w [Word<'a>]>
     ensures { IfSome result (λ value. spec.OnlyReturns body.now value.now) }
 {
-    let len = body
-        .iter()
-        .take_while(|word| word.is(Symbol::Semicolon))
-        .count();
+    let len = front_len(body, Symbol::Semicolon, Symbol::Semicolon);
     let (empty, last) = split(body, len)?;
     if are_empty(empty) {
         returned(last)
@@ -393,13 +370,11 @@ fn is_valued(body: &[Word<'_>], front: &[Word<'_>], rest: &[Word<'_>], new: &[Wo
 fn behind_call<'w, 'a>(words: &'w [Word<'a>]) -> Option<(&'w Word<'a>, &'w [Word<'a>])>
     ensures { IfSome result (λ call. spec.IsCall words.now call.0.now call.1.now) }
 {
-    let (name, rest) = words.split_first()?;
-    let (opening, rest) = rest.split_first()?;
-    let (closing, rest) = rest.split_first()?;
-    if name.is_name() && opening.is(Symbol::LeftParen) && closing.is(Symbol::RightParen) {
-        Some((name, rest))
-    } else {
-        None
+    match words {
+        [name, opening, closing, rest @ ..]
+            if name.is_name() && opening.is(Symbol::LeftParen) && closing.is(Symbol::RightParen) =>
+            { Some((name, rest)) }
+        _ => None,
     }
 }
 

@@ -1,6 +1,6 @@
 //! Files that a configuration includes.
 
-use crate::word::{Word, WordKind, is_at};
+use crate::word::{Word, WordKind};
 use filter_tokens::Symbol;
 use std::alloc::{AllocError, Global};
 
@@ -25,21 +25,20 @@ fn between_quotes(bytes: &[u8]) -> &[u8] {
 
 /// The file that is included by the word at an index.
 fn include_at<'a>(words: &[Word<'a>], at: usize) -> Option<Include<'a>> {
-    let word = words.get(at)?;
-    let text = words.get(at.checked_add(1)?)?;
-    if !(word.is_foreign(b"include") && text.kind == WordKind::Text) {
-        return None;
+    match words.get(at..)? {
+        [word, text, rest @ ..] if word.is_foreign(b"include") && text.kind == WordKind::Text => {
+            let last = match rest {
+                [stop, ..] if stop.is(Symbol::Semicolon) => stop,
+                _ => text,
+            };
+            Some(Include {
+                from: word.at,
+                to: last.at.saturating_add(last.bytes.len()),
+                name: between_quotes(text.bytes),
+            })
+        }
+        _ => None,
     }
-    let end = at.checked_add(2)?;
-    let to = match words.get(end) {
-        Some(word) if is_at(words, end, Symbol::Semicolon) => word.at.checked_add(1)?,
-        _ => text.at.checked_add(text.bytes.len())?,
-    };
-    Some(Include {
-        from: word.at,
-        to,
-        name: between_quotes(text.bytes),
-    })
 }
 
 /// The files that a configuration includes, in order.

@@ -1,6 +1,8 @@
 //! What a configuration consists of: its filters, functions and definitions.
 
-use crate::word::{Word, WordKind, closing, find_outside, is_at, is_name_at, word_at};
+use crate::word::{
+    Word, WordKind, bytes_at, closing, find_outside, is_at, is_foreign_at, is_name_at, kind_at,
+};
 use filter_tokens::Symbol;
 use std::alloc::{AllocError, Global};
 
@@ -47,15 +49,7 @@ pub struct Definition {
 
 /// Whether a block opens at an index. The braces of a pattern stand behind a prefix.
 pub fn opens_block(words: &[Word<'_>], at: usize) -> bool {
-    is_at(words, at, Symbol::LeftBrace) && !(at > 0 && is_prefix_at(words, at - 1))
-}
-
-/// Whether the word at an index is a prefix.
-fn is_prefix_at(words: &[Word<'_>], at: usize) -> bool {
-    match words.get(at) {
-        Some(word) => matches!(word.kind, WordKind::Prefix),
-        None => false,
-    }
+    is_at(words, at, Symbol::LeftBrace) && !(at > 0 && kind_at(words, at - 1) == WordKind::Prefix)
 }
 
 /// The index of the first block from an index on.
@@ -71,8 +65,8 @@ pub fn first_block(words: &[Word<'_>], from: usize) -> Option<usize> {
 /// The index behind the block of an item that begins at an index, if it is closed.
 fn block_end(words: &[Word<'_>], from: usize) -> Option<usize> {
     let open = first_block(words, from)?;
-    let close = closing(words, open)?;
-    close.checked_add(1)
+    let close = closing(words, open.saturating_add(1))?;
+    Some(close.saturating_add(1))
 }
 
 /// The definitions of a configuration.
@@ -96,14 +90,13 @@ pub fn find_definitions(alloc: Global, words: &[Word<'_>]) -> Result<Vec<Definit
 
 /// The definition that begins at an index.
 fn definition_at(words: &[Word<'_>], at: usize) -> Option<Definition> {
-    let name = at.checked_add(1)?;
-    let equal = at.checked_add(2)?;
-    let from = at.checked_add(3)?;
-    if !(is_name_at(words, name) && is_at(words, equal, Symbol::Equal)) {
-        return None;
+    let (name, from) = (at.saturating_add(1), at.saturating_add(3));
+    if is_name_at(words, name) && is_at(words, at.saturating_add(2), Symbol::Equal) {
+        let to = find_outside(words, from, Symbol::Semicolon)?;
+        Some(Definition { name, from, to })
+    } else {
+        None
     }
-    let to = find_outside(words, from, Symbol::Semicolon)?;
-    Some(Definition { name, from, to })
 }
 
 /// The heads of the blocks round a place of a configuration, from the outermost.
@@ -161,16 +154,23 @@ impl Blocks {
 
     /// Whether a block round the place is a channel of IPv6.
     fn is_ipv6(&self, words: &[Word<'_>]) -> bool {
-        self.heads.iter().any(|head| is_ipv6_channel(words, *head))
+        for head in self.heads.as_slice() {
+            if bytes_at(words, *head).starts_with(b"ipv6") {
+                return true;
+            }
+        }
+        false
     }
 }
 
 /// Whether a protocol or a template begins at an index.
 fn is_protocol(words: &[Word<'_>], head: usize) -> bool {
-    match words.get(head) {
-        Some(word) => word.is_word(b"protocol") || word.is_word(b"template"),
-        None => false,
-    }
+    is_word_at(words, head, b"protocol") || is_word_at(words, head, b"template")
+}
+
+/// Whether the word at an index is this one, a name or a word of BIRD's.
+fn is_word_at(words: &[Word<'_>], at: usize, word: &[u8]) -> bool {
+    bytes_at(words, at) == word && matches!(kind_at(words, at), WordKind::Name | WordKind::Foreign)
 }
 
 /// Whether a word behind the kind of a protocol belongs to it: there are `ospf v2`, `ospf v3` and `rip ng`.
@@ -184,12 +184,9 @@ fn is_variant(kind: &[u8], word: &[u8]) -> bool {
 
 /// The index of the name of the protocol that begins at an index, if it has one.
 fn name_of_protocol(words: &[Word<'_>], head: usize) -> Option<usize> {
-    let (kind, second) = (head.checked_add(1)?, head.checked_add(2)?);
-    let at = if is_variant(bytes_at(words, kind), bytes_at(words, second)) {
-        second.checked_add(1)?
-    } else {
-        second
-    };
+    let (kind, second) = (head.saturating_add(1), head.saturating_add(2));
+    let is_longer = is_variant(bytes_at(words, kind), bytes_at(words, second));
+    let at = head.saturating_add(if is_longer { 3 } else { 2 });
     if is_name_at(words, at) && !matches!(bytes_at(words, at), b"from") {
         Some(at)
     } else {
@@ -200,14 +197,6 @@ fn name_of_protocol(words: &[Word<'_>], head: usize) -> Option<usize> {
 /// Whether a protocol without a name begins at an index.
 fn is_nameless(words: &[Word<'_>], head: usize) -> bool {
     is_protocol(words, head) && name_of_protocol(words, head).is_none()
-}
-
-/// Whether a channel of IPv6 begins at an index.
-fn is_ipv6_channel(words: &[Word<'_>], head: usize) -> bool {
-    match words.get(head) {
-        Some(word) => word.bytes.starts_with(b"ipv6"),
-        None => false,
-    }
 }
 
 /// Puts a number at the end of a name.
@@ -229,9 +218,9 @@ fn name_of_owner(
     let mut name = Vec::new(alloc);
     if let Some(owner) = blocks.owner(words) {
         if let Some(own) = name_of_protocol(words, owner) {
-            push_bytes_of(&mut name, words, own)?;
+            name.extend_from_slice(bytes_at(words, own))?;
         } else {
-            push_bytes_of(&mut name, words, owner.saturating_add(1))?;
+            name.extend_from_slice(bytes_at(words, owner.saturating_add(1)))?;
             push_number(&mut name, blocks.number_of(words, owner))?;
         }
         name.push(b'_')?;
@@ -240,24 +229,15 @@ fn name_of_owner(
     Ok(name)
 }
 
-/// Puts the bytes of the word at an index at the end of a name.
-fn push_bytes_of(name: &mut Vec<u8>, words: &[Word<'_>], at: usize) -> Result<(), AllocError> {
-    match words.get(at) {
-        Some(word) => name.extend_from_slice(word.bytes),
-        None => Ok(()),
-    }
-}
-
 /// The kind of the item with a name that begins at an index of the outermost level, if one does.
 fn named_kind(words: &[Word<'_>], at: usize) -> Option<ItemKind> {
-    let word = word_at(words, at)?;
-    let named = word_at(words, at.saturating_add(1))?;
+    let name = at.saturating_add(1);
     // A name in quotes is none of this language: its filter is left out, and not overlooked.
-    if !(named.is_name() || named.bytes.starts_with(b"'")) {
+    if !(is_name_at(words, name) || bytes_at(words, name).starts_with(b"'")) {
         None
-    } else if word.is(Symbol::Filter) {
+    } else if is_at(words, at, Symbol::Filter) {
         Some(ItemKind::Filter)
-    } else if word.is_foreign(b"function") {
+    } else if is_foreign_at(words, at, b"function") {
         Some(ItemKind::Function)
     } else {
         None
@@ -266,14 +246,12 @@ fn named_kind(words: &[Word<'_>], at: usize) -> Option<ItemKind> {
 
 /// The kind of the item that stands behind the `import` or `export` at an index of a protocol, if one does.
 fn direction_kind(words: &[Word<'_>], at: usize) -> Option<ItemKind> {
-    let word = word_at(words, at)?;
-    if !(word.is_word(b"import") || word.is_word(b"export")) {
-        return None;
-    }
-    let next = word_at(words, at.saturating_add(1))?;
-    if next.is(Symbol::Filter) && !is_name_at(words, at.saturating_add(2)) {
+    let next = at.saturating_add(1);
+    if !(is_word_at(words, at, b"import") || is_word_at(words, at, b"export")) {
+        None
+    } else if is_at(words, next, Symbol::Filter) && !is_name_at(words, at.saturating_add(2)) {
         Some(ItemKind::Anonymous)
-    } else if next.is_word(b"where") {
+    } else if is_word_at(words, next, b"where") {
         Some(ItemKind::Condition)
     } else {
         None
@@ -285,14 +263,6 @@ fn end_of(words: &[Word<'_>], kind: ItemKind, from: usize) -> Option<usize> {
     match kind {
         ItemKind::Condition => find_outside(words, from, Symbol::Semicolon),
         _ => block_end(words, from),
-    }
-}
-
-/// The bytes of the word at an index, if there is one.
-fn bytes_at<'a>(words: &[Word<'a>], at: usize) -> &'a [u8] {
-    match words.get(at) {
-        Some(word) => word.bytes,
-        None => b"",
     }
 }
 
@@ -315,7 +285,9 @@ fn item_at(
         return Ok(None);
     };
     let name = match kind {
-        ItemKind::Filter | ItemKind::Function => { name_at(alloc, words, at.saturating_add(1))? }
+        ItemKind::Filter | ItemKind::Function => {
+            Vec::from_slice(alloc, bytes_at(words, at.saturating_add(1)))?
+        }
         ItemKind::Anonymous | ItemKind::Condition => {
             name_of_owner(alloc, words, blocks, bytes_at(words, at))?
         }
@@ -329,13 +301,6 @@ fn item_at(
         is_closed: end.is_some(),
         is_ipv6: blocks.is_ipv6(words),
     }))
-}
-
-/// The bytes of the word at an index.
-fn name_at(alloc: Global, words: &[Word<'_>], at: usize) -> Result<Vec<u8>, AllocError> {
-    let mut name = Vec::new(alloc);
-    push_bytes_of(&mut name, words, at)?;
-    Ok(name)
 }
 
 /// The filters and functions of a configuration, in order.

@@ -1,8 +1,9 @@
 //! Parentheses and semicolons that this language wants, and tests of the kind of a prefix.
 
 use crate::reason::unwritten;
-use crate::step::{Plan, Rule, Step, push_words};
-use crate::word::{Word, WordKind, is_at, is_before, word_at};
+use crate::rules::ends_command;
+use crate::step::{Plan, Rule, joined, planned};
+use crate::word::{Word, WordKind, begins_command, is_at, is_before, kind_at, word_at};
 use filter_tokens::Symbol;
 use std::alloc::{AllocError, Global};
 
@@ -39,25 +40,12 @@ fn operator_of(word: Word<'_>) -> Option<Symbol> {
     }
 }
 
-/// Whether a chain ends at a word.
-fn ends_chain(word: Word<'_>) -> bool {
-    word.is(Symbol::Semicolon)
-        || word.is(Symbol::LeftBrace)
-        || word.is(Symbol::RightBrace)
-        || word.is(Symbol::Then)
-        || word.is(Symbol::Else)
-        || word.is(Symbol::Colon)
-}
-
 /// The chain that is being read behind the word at an index, which opens or closes no parentheses.
-fn chain_behind(chain: Chain, words: &[Word<'_>], at: usize) -> Chain {
+fn chain_behind(chain: Chain, word: Word<'_>, at: usize) -> Chain {
     let next = at.saturating_add(1);
-    let Some(word) = word_at(words, at) else {
-        return chain;
-    };
     if word.is(Symbol::If) || word.is(Symbol::Case) || word.is_foreign(b"return") {
         Chain::at(next, true)
-    } else if ends_chain(word) {
+    } else if ends_command(word.kind) {
         Chain::at(next, false)
     } else if word.is(Symbol::Equal) && !chain.is_condition && at == chain.start.saturating_add(1) {
         Chain::at(next, true)
@@ -90,7 +78,7 @@ fn first_mixed(alloc: Global, words: &[Word<'_>]) -> Result<Option<(usize, usize
             if found.is_some() && chain.operator.is_some() && found != chain.operator {
                 return Ok(Some((chain.start, at)));
             }
-            chain = chain_behind(chain, words, at);
+            chain = chain_behind(chain, word, at);
         }
     }
     Ok(None)
@@ -105,40 +93,17 @@ pub fn plan_grouping<'a>(alloc: Global, words: &[Word<'a>]) -> Result<Plan<'a>, 
     let (Some(first), Some(operands)) = (word_at(words, start), words.get(start..at)) else {
         return Ok(Plan::Done);
     };
-    let mut written = Vec::new(alloc);
-    written.push(Word::made(Symbol::LeftParen, first.at))?;
-    push_words(&mut written, operands)?;
-    written.push(Word::made(Symbol::RightParen, first.at).after(b""))?;
-    Ok(Plan::Step(Step {
-        rule: Rule::Grouped,
-        origin: 0,
-        from: start,
-        to: at,
-        words: written,
-        stuck: unwritten(first.at),
-    }))
-}
-
-/// Whether the word before an index ends a command, or begins where one may stand.
-fn is_separated(words: &[Word<'_>], at: usize) -> bool {
-    is_before(words, at, Symbol::Semicolon)
-        || is_before(words, at, Symbol::RightBrace)
-        || is_before(words, at, Symbol::LeftBrace)
-        || is_before(words, at, Symbol::Colon)
-        || is_before(words, at, Symbol::Then)
-        || is_before(words, at, Symbol::Else)
+    let open = Word::made(Symbol::LeftParen, first.at);
+    let close = Word::made(Symbol::RightParen, first.at).after(b"");
+    let written = joined(alloc, &[open], operands, &[close]);
+    planned(Rule::Grouped, start, at, written, unwritten(first.at))
 }
 
 /// Whether the brace at an index closes the lengths of a pattern: numbers stand before it, behind a brace and a prefix.
 fn closes_pattern(words: &[Word<'_>], at: usize) -> bool {
     match at.checked_sub(5) {
-        Some(prefix) => matches!(
-            word_at(words, prefix),
-            Some(Word {
-                kind: WordKind::Prefix,
-                ..
-            })
-        ) && is_at(words, prefix.saturating_add(1), Symbol::LeftBrace),
+        Some(prefix) => kind_at(words, prefix) == WordKind::Prefix
+            && is_at(words, prefix.saturating_add(1), Symbol::LeftBrace),
         None => false,
     }
 }
@@ -147,23 +112,16 @@ fn closes_pattern(words: &[Word<'_>], at: usize) -> bool {
 fn wants_semicolon(words: &[Word<'_>], at: usize) -> bool {
     let ends = is_at(words, at, Symbol::Else)
         || (is_at(words, at, Symbol::RightBrace) && !closes_pattern(words, at));
-    ends && at > 0 && !is_separated(words, at)
+    ends && at > 0 && !begins_command(words, at)
 }
 
 /// Puts the first `;` that is missing before `else` or a closing brace.
 pub fn plan_semicolon<'a>(alloc: Global, words: &[Word<'a>]) -> Result<Plan<'a>, AllocError> {
     for at in 0..words.len() {
         if wants_semicolon(words, at) {
-            let mut written = Vec::new(alloc);
-            written.push(Word::made(Symbol::Semicolon, words[at].at).after(b""))?;
-            return Ok(Plan::Step(Step {
-                rule: Rule::Separated,
-                origin: 0,
-                from: at,
-                to: at,
-                words: written,
-                stuck: unwritten(words[at].at),
-            }));
+            let stop = Word::made(Symbol::Semicolon, words[at].at).after(b"");
+            let written = Vec::from_slice(alloc, &[stop]);
+            return planned(Rule::Separated, at, at, written, unwritten(stop.at));
         }
     }
     Ok(Plan::Done)
@@ -171,21 +129,22 @@ pub fn plan_semicolon<'a>(alloc: Global, words: &[Word<'a>]) -> Result<Plan<'a>,
 
 /// What a test of the kind of a prefix at an index comes to: `net.type = NET_IP4` is true, and the same with NET_IP6 false.
 fn type_test(words: &[Word<'_>], at: usize) -> Option<Symbol> {
-    let property = word_at(words, at.checked_add(2)?)?;
-    let equal = at.checked_add(3)?;
-    let kind = word_at(words, at.checked_add(4)?)?;
-    let is_test = is_at(words, at, Symbol::Net)
-        && is_at(words, at.checked_add(1)?, Symbol::Dot)
-        && property.is_named(b"type")
-        && (is_at(words, equal, Symbol::Equal) || is_at(words, equal, Symbol::NotEqual));
-    if !is_test || is_before(words, at, Symbol::Not) {
+    let [net, dot, property, compare, family] = words.get(at..at.checked_add(5)?)? else {
         return None;
-    }
-    let is_same = is_at(words, equal, Symbol::Equal);
-    if kind.is_named(b"NET_IP4") {
-        Some(if is_same { Symbol::True } else { Symbol::False })
-    } else if kind.is_named(b"NET_IP6") {
-        Some(if is_same { Symbol::False } else { Symbol::True })
+    };
+    let (is_equal, is_ipv4) = (compare.is(Symbol::Equal), family.is_named(b"NET_IP4"));
+    if net.is(Symbol::Net)
+        && dot.is(Symbol::Dot)
+        && property.is_named(b"type")
+        && (is_equal || compare.is(Symbol::NotEqual))
+        && (is_ipv4 || family.is_named(b"NET_IP6"))
+        && !is_before(words, at, Symbol::Not)
+    {
+        Some(if is_equal == is_ipv4 {
+            Symbol::True
+        } else {
+            Symbol::False
+        })
     } else {
         None
     }
@@ -195,17 +154,15 @@ fn type_test(words: &[Word<'_>], at: usize) -> Option<Symbol> {
 pub fn plan_type_test<'a>(alloc: Global, words: &[Word<'a>]) -> Result<Plan<'a>, AllocError> {
     for at in 0..words.len() {
         if let Some(symbol) = type_test(words, at) {
-            let word = words[at];
-            let mut written = Vec::new(alloc);
-            written.push(Word::made(symbol, word.at).after(word.gap))?;
-            return Ok(Plan::Step(Step {
-                rule: Rule::Ipv4Only,
-                origin: 0,
-                from: at,
-                to: at.saturating_add(5),
-                words: written,
-                stuck: unwritten(word.at),
-            }));
+            let answer = Word::made(symbol, words[at].at).after(words[at].gap);
+            let written = Vec::from_slice(alloc, &[answer]);
+            return planned(
+                Rule::Ipv4Only,
+                at,
+                at.saturating_add(5),
+                written,
+                unwritten(answer.at),
+            );
         }
     }
     Ok(Plan::Done)

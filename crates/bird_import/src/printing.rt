@@ -1,106 +1,93 @@
 //! What BIRD writes to its log: it changes no route, and is left out.
 
 use crate::reason::{Reason, Why};
-use crate::step::{Plan, Rule, Step};
-use crate::word::{Word, WordKind, begins_command, find_outside, is_at};
+use crate::step::{Plan, Rule, planned};
+use crate::word::{Word, WordKind, begins_command, find_outside, is_at, is_foreign_at, kind_at};
 use filter_tokens::Symbol;
 use std::alloc::{AllocError, Global};
 
 /// Whether the word at an index is a command that prints.
 fn prints(words: &[Word<'_>], at: usize) -> bool {
-    match words.get(at) {
-        Some(word) => (word.is_foreign(b"print") || word.is_foreign(b"printn"))
-            && begins_command(words, at),
-        None => false,
-    }
+    (is_foreign_at(words, at, b"print") || is_foreign_at(words, at, b"printn"))
+        && begins_command(words, at)
 }
 
-/// Whether the word at an index ends the filter, with something printed behind it.
-fn ends_with_terms(words: &[Word<'_>], at: usize, end: usize) -> bool {
-    let (from, second) = (at.saturating_add(1), at.saturating_add(2));
-    (is_at(words, at, Symbol::Accept) || is_at(words, at, Symbol::Reject))
-        && end > from
-        && !(end == second && is_text_at(words, from))
+/// Whether the word at an index ends the filter.
+fn ends_filter(words: &[Word<'_>], at: usize) -> bool {
+    is_at(words, at, Symbol::Accept) || is_at(words, at, Symbol::Reject)
 }
 
-/// Whether the word at an index is a text.
-fn is_text_at(words: &[Word<'_>], at: usize) -> bool {
-    match words.get(at) {
-        Some(word) => word.kind == WordKind::Text,
-        None => false,
+/// The index behind what is kept of what is printed from an index on: a text, or nothing.
+fn kept_end(words: &[Word<'_>], from: usize) -> usize {
+    if kind_at(words, from) == WordKind::Text {
+        from.saturating_add(1)
+    } else {
+        from
     }
 }
 
 /// Leaves out the command `print` that begins at an index and ends with the `;` at another.
 fn leave_out<'a>(
     alloc: Global,
-    words: &[Word<'a>],
+    word: Word<'a>,
     at: usize,
     end: usize,
 ) -> Result<Plan<'a>, AllocError> {
-    let Some(word) = words.get(at).copied() else {
-        return Ok(Plan::Done);
-    };
-    let mut written = Vec::new(alloc);
-    written.push(Word::made(Symbol::Semicolon, word.at).after(word.gap))?;
-    Ok(Plan::Step(Step {
-        rule: Rule::Unprinted,
-        origin: 0,
-        from: at,
-        to: end.saturating_add(1),
-        words: written,
-        stuck: Reason {
-            at: word.at,
-            why: Why::PrintDoesMore,
-        },
-    }))
+    let stop = Word::made(Symbol::Semicolon, word.at).after(word.gap);
+    let written = Vec::from_slice(alloc, &[stop]);
+    planned(
+        Rule::Unprinted,
+        at,
+        end.saturating_add(1),
+        written,
+        does_more(word),
+    )
 }
 
-/// Keeps a text at most of what is printed between the `accept` or `reject` at an index and the `;` at another.
+/// Keeps a text at most of what is printed between the `accept` or `reject` before an index and the `;` at another.
 fn shorten<'a>(
     alloc: Global,
     words: &[Word<'a>],
-    at: usize,
+    word: Word<'a>,
+    from: usize,
     end: usize,
 ) -> Result<Plan<'a>, AllocError> {
-    let from = at.saturating_add(1);
-    let (Some(word), Some(terms)) = (words.get(at), words.get(from..end)) else {
-        return Ok(Plan::Done);
-    };
-    let mut written = Vec::new(alloc);
-    if let Some(first) = terms.first() {
-        if is_text_at(terms, 0) {
-            written.push(*first)?;
-        }
+    match words.get(from..kept_end(words, from)) {
+        Some(kept) => planned(
+            Rule::Shortened,
+            from,
+            end,
+            Vec::from_slice(alloc, kept),
+            does_more(word),
+        ),
+        None => Ok(Plan::Done),
     }
-    Ok(Plan::Step(Step {
-        rule: Rule::Shortened,
-        origin: 0,
-        from,
-        to: end,
-        words: written,
-        stuck: Reason {
-            at: word.at,
-            why: Why::PrintDoesMore,
-        },
-    }))
+}
+
+/// Why a command that prints cannot be left out.
+fn does_more<'a>(word: Word<'a>) -> Reason<'a> {
+    Reason {
+        at: word.at,
+        why: Why::PrintDoesMore,
+    }
 }
 
 /// Leaves out what the first command that prints prints.
 pub fn plan_printing<'a>(alloc: Global, words: &[Word<'a>]) -> Result<Plan<'a>, AllocError> {
     for at in 0..words.len() {
         let is_print = prints(words, at);
-        if !is_print && !(words[at].is(Symbol::Accept) || words[at].is(Symbol::Reject)) {
+        if !is_print && !ends_filter(words, at) {
             continue;
         }
         let Some(end) = find_outside(words, at, Symbol::Semicolon) else {
             continue;
         };
         if is_print {
-            return leave_out(alloc, words, at, end);
+            return leave_out(alloc, words[at], at, end);
         }
-        if ends_with_terms(words, at, end) {
-            return shorten(alloc, words, at, end);
+        let from = at.saturating_add(1);
+        if end > kept_end(words, from) {
+            return shorten(alloc, words, words[at], from, end);
         }
     }
     Ok(Plan::Done)

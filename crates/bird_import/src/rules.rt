@@ -1,10 +1,8 @@
 //! Whether words are written as others by the rules that look at few of them.
 ghost use Rattle.bird_import.specs.Alike.{AreAlike};
-ghost use Rattle.std.specs.Prelude.{◌≡◌, ◌≢◌, ◌⊎◌, ◌∷◌, ◌++◌, List, false, All, IfSome, IsTrue, Some};
-ghost use Rattle.bird_import.specs.declared.word.Word.{Word as TheWord};
+ghost use Rattle.std.specs.Prelude.{◌≡◌, ◌≢◌, ◌∷◌, ◌++◌, false, All, IfSome, IsTrue, Some};
 ghost use Rattle.bird_import.specs.Rules as spec;
 ghost use Rattle.bird_import.specs.declared.word.WordKind.TheVariants as kind;
-ghost use Rattle.filter_tokens.specs.declared.symbol.Symbol.TheVariants as symbols;
 
 use crate::word::{Word, WordKind};
 use filter_tokens::Symbol;
@@ -35,10 +33,7 @@ pub fn are_same(words: &[Word<'_>], others: &[Word<'_>]) -> bool
 pub fn is_grouped(inner: &[Word<'_>], new: &[Word<'_>]) -> bool
     ensures { IsTrue result → spec.IsGrouped inner.now new.now }
 {
-    let Some((open, rest)) = new.split_first() else {
-        return false;
-    };
-    let Some((close, kept)) = rest.split_last() else {
+    let [open, kept @ .., close] = new else {
         return false;
     };
     open.is(Symbol::LeftParen) && close.is(Symbol::RightParen) && are_same(inner, kept)
@@ -51,11 +46,11 @@ fn is_placed(value: &[Word<'_>], new: &[Word<'_>]) -> bool
     are_same(value, new) || is_grouped(value, new)
 }
 
-/// Whether none of some words is a `;`.
-fn are_inside(words: &[Word<'_>]) -> bool
-    ensures { IsTrue result → All (λ word. word.kind ≢ kind.Symbol symbols.Semicolon) words.now }
+/// Whether none of some words is this keyword or punctuator.
+fn have_none(symbol: Symbol, words: &[Word<'_>]) -> bool
+    ensures { IsTrue result → All (λ word. word.kind ≢ kind.Symbol symbol) words.now }
 {
-    words.iter().all(|word| !word.is(Symbol::Semicolon))
+    words.iter().all(|word| !word.is(symbol))
 }
 
 /// Words in two parts, the first of them so long.
@@ -66,17 +61,19 @@ pub fn split<'w, 'a>(words: &'w [Word<'a>], len: usize) -> Option<(&'w [Word<'a>
     words.split_at_checked(len)
 }
 
-/// The words up to the first `;`, and that.
-fn until_semicolon<'w, 'a>(words: &'w [Word<'a>]) -> Option<(&'w [Word<'a>], &'w Word<'a>)>
-    ensures { IfSome result (λ found. (after : List TheWord) × (words.now ≡ found.0.now ++ found.1.now ∷ after)
-        × spec.Is symbols.Semicolon found.1.now
-        × All (λ word. word.kind ≢ kind.Symbol symbols.Semicolon) found.0.now) }
+/// The words before the first of a keyword or punctuator, that word, and the words behind it.
+pub fn until<'w, 'a>(
+    symbol: Symbol,
+    words: &'w [Word<'a>],
+) -> Option<(&'w [Word<'a>], &'w Word<'a>, &'w [Word<'a>])>
+    ensures { IfSome result (λ found. (words.now ≡ found.0.now ++ found.1.now ∷ found.2.now) × spec.Is symbol found.1.now
+        × All (λ word. word.kind ≢ kind.Symbol symbol) found.0.now) }
 {
-    let len = words.iter().position(|word| word.is(Symbol::Semicolon))?;
-    let (value, rest) = split(words, len)?;
-    let (end, _) = rest.split_first()?;
-    if are_inside(value) && end.is(Symbol::Semicolon) {
-        Some((value, end))
+    let len = words.iter().position(|word| word.is(symbol))?;
+    let (front, rest) = split(words, len)?;
+    let (found, behind) = rest.split_first()?;
+    if have_none(symbol, front) && found.is(symbol) {
+        Some((front, found, behind))
     } else {
         None
     }
@@ -86,16 +83,10 @@ fn until_semicolon<'w, 'a>(words: &'w [Word<'a>]) -> Option<(&'w [Word<'a>], &'w
 fn is_defined_by(words: &[Word<'_>], name: &Word<'_>, new: &[Word<'_>]) -> bool
     ensures { IsTrue result → spec.Defines words.now name.now new.now }
 {
-    let Some((begin, rest)) = words.split_first() else {
+    let [begin, defined, equal, rest @ ..] = words else {
         return false;
     };
-    let Some((defined, rest)) = rest.split_first() else {
-        return false;
-    };
-    let Some((equal, rest)) = rest.split_first() else {
-        return false;
-    };
-    let Some((value, end)) = until_semicolon(rest) else {
+    let Some((value, end, _)) = until(Symbol::Semicolon, rest) else {
         return false;
     };
     begin.is_foreign(b"define")
@@ -150,7 +141,7 @@ pub fn are_harmless(words: &[Word<'_>]) -> bool
 pub fn is_unprinted(old: &[Word<'_>], new: &[Word<'_>]) -> bool
     ensures { IsTrue result → spec.IsUnprinted old.now new.now }
 {
-    let (Some((print, rest)), Some((stop, none))) = (old.split_first(), new.split_first()) else {
+    let (Some((print, rest)), [stop]) = (old.split_first(), new) else {
         return false;
     };
     let Some((end, terms)) = rest.split_last() else {
@@ -159,7 +150,6 @@ pub fn is_unprinted(old: &[Word<'_>], new: &[Word<'_>]) -> bool
     (print.is_foreign(b"print") || print.is_foreign(b"printn"))
         && end.is(Symbol::Semicolon)
         && stop.is(Symbol::Semicolon)
-        && none.is_empty()
         && are_harmless(terms)
 }
 
@@ -167,13 +157,11 @@ pub fn is_unprinted(old: &[Word<'_>], new: &[Word<'_>]) -> bool
 fn is_first_text(old: &[Word<'_>], new: &[Word<'_>]) -> bool
     ensures { IsTrue result → spec.IsFirstText old.now new.now }
 {
-    let Some((kept, none)) = new.split_first() else {
-        return true;
-    };
-    let Some((text, _)) = old.split_first() else {
-        return false;
-    };
-    none.is_empty() && text.kind == WordKind::Text && is_same(text, kept)
+    match (old, new) {
+        (_, []) => true,
+        ([text, _others @ ..], [kept]) => text.kind == WordKind::Text && is_same(text, kept),
+        _ => false,
+    }
 }
 
 /// Whether what is printed behind `accept` or `reject` is cut to its first text.
@@ -192,11 +180,10 @@ pub fn is_shortened(front: &[Word<'_>], old: &[Word<'_>], new: &[Word<'_>]) -> b
 pub fn is_separated(old: &[Word<'_>], new: &[Word<'_>], back: &[Word<'_>]) -> bool
     ensures { IsTrue result → spec.IsSeparated old.now new.now back.now }
 {
-    let (Some((stop, none)), Some((next, _))) = (new.split_first(), back.split_first()) else {
+    let ([stop], Some((next, _))) = (new, back.split_first()) else {
         return false;
     };
     old.is_empty()
-        && none.is_empty()
         && stop.is(Symbol::Semicolon)
         && (next.is(Symbol::Else) || next.is(Symbol::RightBrace))
 }
@@ -341,10 +328,10 @@ fn is_assigned_behind(front: &[Word<'_>]) -> bool
 fn begins_expression(front: &[Word<'_>]) -> bool
     ensures { IsTrue result → spec.BeginsExpression front.now }
 {
-    let Some((last, _)) = front.split_last() else {
-        return false;
-    };
-    begins_behind(last) || is_assigned_behind(front)
+    match front.split_last() {
+        Some((last, _)) => begins_behind(last) || is_assigned_behind(front),
+        None => false,
+    }
 }
 
 /// Whether operands of a chain are put into parentheses.
@@ -356,14 +343,14 @@ pub fn is_chain_grouped(
 ) -> bool
     ensures { IsTrue result → spec.IsChainGrouped front.now old.now new.now back.now }
 {
-    let Some((operator, _)) = back.split_first() else {
-        return false;
-    };
-    (operator.is(Symbol::And) || operator.is(Symbol::Or))
-        && begins_expression(front)
-        && are_balanced(old)
-        && are_of_one(old)
-        && is_grouped(old, new)
+    match back.split_first() {
+        Some((operator, _)) => (operator.is(Symbol::And) || operator.is(Symbol::Or))
+            && begins_expression(front)
+            && are_balanced(old)
+            && are_of_one(old)
+            && is_grouped(old, new),
+        None => false,
+    }
 }
 
 /// Whether a word is the name of a kind.
@@ -427,14 +414,11 @@ fn is_moved(front: &[Word<'_>], declaration: &[Word<'_>], new: &[Word<'_>]) -> b
 pub fn is_hoisted(old: &[Word<'_>], new: &[Word<'_>]) -> bool
     ensures { IsTrue result → spec.IsHoisted old.now new.now }
 {
-    let Some(len) = old.len().checked_sub(3) else {
+    let Some((front, declaration)) = split(old, old.len().saturating_sub(3)) else {
         return false;
     };
-    let Some((front, declaration)) = split(old, len) else {
-        return false;
-    };
-    let Some((brace, _)) = front.split_first() else {
-        return false;
-    };
-    brace.is(Symbol::LeftBrace) && is_moved(front, declaration, new)
+    match front.split_first() {
+        Some((brace, _)) => brace.is(Symbol::LeftBrace) && is_moved(front, declaration, new),
+        None => false,
+    }
 }

@@ -4,7 +4,7 @@ ghost use Rattle.bird_import.specs.Sets as spec;
 
 use crate::blocks::are_commands;
 use crate::functions::stands_alone;
-use crate::rules::{are_balanced, are_same, closes, is_kind, is_same, split};
+use crate::rules::{are_balanced, are_same, closes, is_kind, is_same, split, until};
 use crate::word::Word;
 use filter_tokens::Symbol;
 
@@ -99,10 +99,7 @@ fn assigns_others(name: &[u8], words: &[Word<'_>]) -> bool
 fn is_set(words: &[Word<'_>]) -> bool
     ensures { IsTrue result → spec.IsSet words.now }
 {
-    let Some((opening, rest)) = words.split_first() else {
-        return false;
-    };
-    let Some((closing, inner)) = rest.split_last() else {
+    let [opening, inner @ .., closing] = words else {
         return false;
     };
     opening.is(Symbol::LeftBracket) && closing.is(Symbol::RightBracket) && are_balanced(inner)
@@ -113,10 +110,8 @@ fn given<'w, 'a>(words: &'w [Word<'a>]) -> Option<(&'w [Word<'a>], &'w [Word<'a>
     ensures { IfSome result (λ found. spec.IsGiven words.now found.0.now found.1.now) }
 {
     let (equal, rest) = words.split_first()?;
-    let len = rest.iter().position(|word| word.is(Symbol::Semicolon))?;
-    let (set, rest) = split(rest, len)?;
-    let (end, later) = rest.split_first()?;
-    if equal.is(Symbol::Equal) && is_set(set) && end.is(Symbol::Semicolon) {
+    let (set, _, later) = until(Symbol::Semicolon, rest)?;
+    if equal.is(Symbol::Equal) && is_set(set) {
         Some((set, later))
     } else {
         None
@@ -205,13 +200,12 @@ fn is_written<'w, 'a>(name: &[u8], made: &SetVariable<'w, 'a>, new: &'w [Word<'a
 pub fn declared<'w, 'a>(words: &'w [Word<'a>]) -> Option<(&'w Word<'a>, &'w [Word<'a>])>
     ensures { IfSome result (λ found. spec.IsDeclared words.now found.0.now found.1.now) }
 {
-    let (kind, rest) = words.split_first()?;
-    let (set, rest) = rest.split_first()?;
-    let (name, rest) = rest.split_first()?;
-    if is_kind(kind.kind) && set.is_foreign(b"set") && name.is_name() {
-        Some((name, rest))
-    } else {
-        None
+    match words {
+        [kind, set, name, rest @ ..]
+            if is_kind(kind.kind) && set.is_foreign(b"set") && name.is_name() => {
+            Some((name, rest))
+        }
+        _ => None,
     }
 }
 

@@ -1,5 +1,5 @@
 //! Single steps from a filter of BIRD's to one of this language.
-ghost use Rattle.std.specs.Prelude.{◌≡◌, ◌++◌, IfOk, IfSome, OnOk};
+ghost use Rattle.std.specs.Prelude.{◌≡◌, ◌++◌, IfOk, IfSome};
 ghost use Rattle.bird_import.specs.Functions.{IsCallOf};
 ghost use Rattle.bird_import.specs.Steps.{Fits, Replaces};
 
@@ -8,6 +8,7 @@ use crate::functions::is_call_of;
 use crate::reason::Reason;
 use crate::rules::split;
 use crate::word::Word;
+use filter_tokens::Symbol;
 use std::alloc::{AllocError, Global};
 
 /// Why words of a filter are written as others.
@@ -63,6 +64,24 @@ pub enum Plan<'a> {
     Stuck(Reason<'a>),
     /// Nothing.
     Done,
+}
+
+/// The plan of a step that places no definition.
+pub fn planned<'a>(
+    rule: Rule,
+    from: usize,
+    to: usize,
+    words: Result<Vec<Word<'a>>, AllocError>,
+    stuck: Reason<'a>,
+) -> Result<Plan<'a>, AllocError> {
+    Ok(Plan::Step(Step {
+        rule,
+        origin: 0,
+        from,
+        to,
+        words: words?,
+        stuck,
+    }))
 }
 
 /// The parts of some words: those before a step, those that it writes as others, and those behind it.
@@ -141,7 +160,7 @@ pub fn apply_call<'a>(
 }
 
 /// The words of three parts, side by side.
-fn joined<'a>(
+pub fn joined<'a>(
     alloc: Global,
     front: &[Word<'a>],
     new: &[Word<'a>],
@@ -149,19 +168,28 @@ fn joined<'a>(
 ) -> Result<Vec<Word<'a>>, AllocError>
     ensures { IfOk result (λ words. words.items ≡ front.now ++ new.now ++ back.now) }
 {
-    let mut words = Vec::new(alloc);
-    push_words(&mut words, front)?;
-    push_words(&mut words, new)?;
-    push_words(&mut words, back)?;
+    let mut words = Vec::from_slice(alloc, front)?;
+    words.extend_from_slice(new)?;
+    words.extend_from_slice(back)?;
     Ok(words)
 }
 
-/// Puts words behind others.
-pub fn push_words<'a>(words: &mut Vec<Word<'a>>, more: &[Word<'a>]) -> Result<(), AllocError>
-    ensures { OnOk result (words.new.items ≡ words.old.items ++ more.now) }
-{
-    for word in more {
-        words.push(*word)?;
+/// Words between two symbols, in the place of a word.
+pub fn enclosed<'a>(
+    alloc: Global,
+    open: Symbol,
+    inner: &[Word<'a>],
+    close: Symbol,
+    word: Word<'a>,
+) -> Result<Vec<Word<'a>>, AllocError> {
+    let front = Word::made(open, word.at).after(word.gap);
+    joined(alloc, &[front], inner, &[Word::made(close, word.at)])
+}
+
+/// Puts words behind others, part by part.
+pub fn push_parts<'a>(words: &mut Vec<Word<'a>>, parts: &[&[Word<'a>]]) -> Result<(), AllocError> {
+    for part in parts {
+        words.extend_from_slice(part)?;
     }
     Ok(())
 }

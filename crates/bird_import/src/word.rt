@@ -2,6 +2,7 @@
 ghost use Rattle.std.specs.Prelude.{◌≡◌, ◌↔◌, IsTrue};
 ghost use Rattle.bird_import.specs.declared.word.WordKind.TheVariants as kind;
 
+use crate::rules::{closes, ends_command, opens};
 use filter_tokens::{Symbol, TokenKind};
 use prefix_patterns::Ip;
 
@@ -128,19 +129,6 @@ impl<'a> Word<'a> {
     {
         self.kind == WordKind::Foreign && self.bytes == name
     }
-
-    /// Whether it is this word, a name or one of BIRD's.
-    pub fn is_word(self, name: &[u8]) -> bool {
-        self.is_named(name) || self.is_foreign(name)
-    }
-
-    /// Whether it is the name of a kind.
-    pub fn is_kind(self) -> bool {
-        self.is(Symbol::Int)
-            || self.is(Symbol::Bool)
-            || self.is(Symbol::Ip)
-            || self.is(Symbol::Prefix)
-    }
 }
 
 /// The word at an index, if there is one.
@@ -148,20 +136,35 @@ pub fn word_at<'a>(words: &[Word<'a>], at: usize) -> Option<Word<'a>> {
     words.get(at).copied()
 }
 
+/// What the word at an index is, and a byte that begins no word where there is none.
+pub fn kind_at(words: &[Word<'_>], at: usize) -> WordKind {
+    match words.get(at) {
+        Some(word) => word.kind,
+        None => WordKind::Strange,
+    }
+}
+
+/// The bytes of the word at an index, if there is one.
+pub fn bytes_at<'a>(words: &[Word<'a>], at: usize) -> &'a [u8] {
+    match words.get(at) {
+        Some(word) => word.bytes,
+        None => b"",
+    }
+}
+
 /// Whether the word at an index is this keyword or punctuator.
 pub fn is_at(words: &[Word<'_>], at: usize, symbol: Symbol) -> bool {
-    match words.get(at) {
-        Some(word) => word.is(symbol),
-        None => false,
-    }
+    kind_at(words, at) == WordKind::Symbol(symbol)
 }
 
 /// Whether the word at an index is a name.
 pub fn is_name_at(words: &[Word<'_>], at: usize) -> bool {
-    match words.get(at) {
-        Some(word) => word.is_name(),
-        None => false,
-    }
+    kind_at(words, at) == WordKind::Name
+}
+
+/// Whether the word at an index is this word of BIRD's.
+pub fn is_foreign_at(words: &[Word<'_>], at: usize, name: &[u8]) -> bool {
+    kind_at(words, at) == WordKind::Foreign && bytes_at(words, at) == name
 }
 
 /// Whether the word before an index is this keyword or punctuator.
@@ -171,30 +174,20 @@ pub fn is_before(words: &[Word<'_>], at: usize, symbol: Symbol) -> bool {
 
 /// Whether a command may begin at an index: behind a brace, a `;`, a label, `then` or `else`.
 pub fn begins_command(words: &[Word<'_>], at: usize) -> bool {
-    stands_alone(words, at)
-        || is_before(words, at, Symbol::Then)
-        || is_before(words, at, Symbol::Else)
-        || is_before(words, at, Symbol::Colon)
-}
-
-/// Whether a command that begins at an index is in no condition: it is behind a brace or a `;`.
-pub fn stands_alone(words: &[Word<'_>], at: usize) -> bool {
-    is_before(words, at, Symbol::LeftBrace)
-        || is_before(words, at, Symbol::RightBrace)
-        || is_before(words, at, Symbol::Semicolon)
+    at > 0 && ends_command(kind_at(words, at - 1))
 }
 
 /// The index of the first of these symbols from an index on, outside parentheses, brackets and braces that are opened there.
 pub fn find_outside(words: &[Word<'_>], from: usize, symbol: Symbol) -> Option<usize> {
     let mut depth = 0usize;
     for at in from..words.len() {
-        let word = words[at];
-        if depth == 0 && word.is(symbol) {
+        let kind = words[at].kind;
+        if depth == 0 && kind == WordKind::Symbol(symbol) {
             return Some(at);
         }
-        if opens(word) {
+        if opens(kind) {
             depth = depth.saturating_add(1);
-        } else if closes(word) {
+        } else if closes(kind) {
             if depth == 0 {
                 return None;
             }
@@ -204,25 +197,15 @@ pub fn find_outside(words: &[Word<'_>], from: usize, symbol: Symbol) -> Option<u
     None
 }
 
-/// Whether a word opens parentheses, brackets or braces.
-pub fn opens(word: Word<'_>) -> bool {
-    word.is(Symbol::LeftParen) || word.is(Symbol::LeftBracket) || word.is(Symbol::LeftBrace)
-}
-
-/// Whether a word closes them.
-pub fn closes(word: Word<'_>) -> bool {
-    word.is(Symbol::RightParen) || word.is(Symbol::RightBracket) || word.is(Symbol::RightBrace)
-}
-
-/// The index of what closes the parentheses, brackets or braces that are opened at an index.
-pub fn closing(words: &[Word<'_>], open: usize) -> Option<usize> {
+/// The index of what closes the parentheses, brackets or braces that are open before an index.
+pub fn closing(words: &[Word<'_>], from: usize) -> Option<usize> {
     let mut depth = 0usize;
-    for at in open..words.len() {
-        let word = words[at];
-        if opens(word) {
+    for at in from..words.len() {
+        let kind = words[at].kind;
+        if opens(kind) {
             depth = depth.saturating_add(1);
-        } else if closes(word) {
-            if depth <= 1 {
+        } else if closes(kind) {
+            if depth == 0 {
                 return Some(at);
             }
             depth -= 1;
