@@ -2,17 +2,22 @@
 
 use filter_parser::{Command, Decl, Expr, Filter, Label, Op, Target};
 
+/// The most variables that are followed. A filter has 16 at most.
+const FOLLOWED: usize = 32;
+
 /// What is known where a filter has ended: nothing is read behind it.
 const ALL: u32 = u32::MAX;
 
-/// The bit of a variable of this name; none for other names, and for variables behind the first 32. A filter has 16 at most.
+/// The bit of a variable of this name; none for other names, and for variables that are not followed.
 fn bit_of(variables: &[Decl], name: &[u8]) -> u32 {
-    for at in 0..variables.len() {
-        if variables[at].name.as_slice() == name {
-            return 1u32.checked_shl(at as u32).unwrap_or(0);
-        }
+    let at = variables
+        .iter()
+        .take(FOLLOWED)
+        .position(|variable| variable.name.as_slice() == name);
+    match at {
+        Some(at) => 1u32.checked_shl(at as u32).unwrap_or(0),
+        None => 0,
     }
-    0
 }
 
 /// The place of a name in an expression that is read where only these variables are assigned, if there is one.
