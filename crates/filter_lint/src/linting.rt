@@ -25,7 +25,7 @@ use std::alloc::{AllocError, Global};
 use std::io::Write;
 
 /// What comes of a filter.
-#[derive(Clone, Copy, Debug, PartialEq, Eq)]
+#[derive(Clone, Copy)]
 pub enum Linted {
     /// It is refused, which is told.
     Refused,
