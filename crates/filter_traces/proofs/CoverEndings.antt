@@ -1,17 +1,14 @@
 -- How a run of `filter --coverage` ends.
-use Rattle.std.proofs.Common.{◌≡◌, ℕ, ◌+◌, ◌-◌, ◌^◌, ◌<◌, ◌≤◌, true, false, List, ◌++◌, length, min, Option, Some, None, IfSome, inl, inr, refl, ap, subst, ◌∙◌, arith}
+use Rattle.std.proofs.Common.{◌≡◌, ℕ, ◌+◌, ◌-◌, ◌^◌, ◌<◌, ◌≤◌, true, false, List, ◌++◌, length, min, Option, IfSome, inr, ap, subst, ◌∙◌, arith}
 use Rattle.std.specs.Prelude.{◌⊎◌, slice_index}
 use Rattle.std.specs.Io.KnownBytes.{Appends}
 use Rattle.std.proofs.lemmas.List.Sums.{count_by-le-length}
 use Rattle.filter_parser.specs.SyntaxText.{FilterView}
-use Rattle.filter_source.specs.declared.diagnosis.Diagnosis.{Diagnosis}
 use Rattle.line_protocol.specs.Lines.{numbered}
 use Rattle.line_protocol.specs.declared.faults.StreamFault.{StreamFault}
-use Rattle.line_protocol.specs.declared.faults.StreamFault.TheVariants as stream
 use Rattle.filter_commands.proofs.Endings.{if_known}
-use Rattle.filter_commands.specs.Checking.{IsDiagnosis}
 use Rattle.filter_commands.specs.Evaluation.{IsCut}
-use Rattle.filter_tools.specs.Filtering.{AnswersEach, AnswersFirst, refusal_line, routes_limit}
+use Rattle.filter_tools.specs.Filtering.{AnswersEach, AnswersFirst, routes_limit}
 use Rattle.filter_tools.specs.declared.filter.Filtered.TheVariants as filtered
 use Rattle.filter_traces.proofs.Counts.{below, few_lines}
 use Rattle.filter_traces.proofs.Lists.{same_lines}
@@ -59,20 +56,6 @@ told_off t s fault known left held mid holds n counted cut_short =
     if_known known
     (λ input f. inr (record { mid = mid; refused = n; answered = f.0; cut = subst (IsCut fault mid holds) (counts_tell t s input f.2 f.1) cut_short }))
     counted
-
--- a refusal that is cut
-cut : (fault : StreamFault) (size : ℕ) (text input : List ℕ) (held holds : Option (List ℕ)) (told : Diagnosis)
-    → IsDiagnosis size false text told → IsCut fault held holds (refusal_line told.refusal) → CoversOff fault size text input (Some input) held holds
-cut stream.Read size text input held holds told r w = absurd w
-cut stream.Write size text input held holds told r w = inr (inl (told, r, refl, refl, w))
-cut stream.Memory size text input held holds told r w = inl (refl, refl, w)
-cut stream.TooLong size text input held holds told r w = absurd w
-
-pub cut_off : (fault : StreamFault) (size : ℕ) (text : List ℕ) (known held holds : Option (List ℕ)) (told : Diagnosis)
-    → IsDiagnosis size false text told → IsCut fault held holds (refusal_line told.refusal)
-    → IfSome known (λ input. CoversOff fault size text input known held holds)
-cut_off fault size text None held holds told r w = tt
-cut_off fault size text (Some input) held holds told r w = cut fault size text input held holds told r w
 
 -- what was counted of a filter of a text
 module _ (text : List ℕ) (size : ℕ) (filter : FilterView) (t : TracedView) (is : IsTraceOf text size filter t) where

@@ -4,13 +4,10 @@ use Rattle.std.specs.Io.KnownBytes.{Appends}
 use Rattle.filter_code.specs.CodeView.{CodeView}
 use Rattle.filter_code.specs.RouteView.{RouteView}
 use Rattle.filter_parser.specs.SyntaxText.{FilterView}
-use Rattle.filter_source.specs.declared.diagnosis.Diagnosis.{Diagnosis}
 use Rattle.line_protocol.specs.Answers.{Answer, refusal}
 use Rattle.line_protocol.specs.Lines.{numbered}
-use Rattle.line_protocol.specs.Runs.{AppendsFront}
 use Rattle.line_protocol.specs.declared.answers.Reply.TheVariants as reply
 use Rattle.line_protocol.specs.declared.faults.StreamFault.{StreamFault}
-use Rattle.line_protocol.specs.declared.faults.StreamFault.TheVariants.{Write, Memory}
 use Rattle.filter_commands.specs.Checking.{IsDiagnosis}
 use Rattle.filter_commands.specs.Eval.{Line}
 use Rattle.filter_commands.specs.Evaluation.{IsCut}
@@ -22,7 +19,7 @@ use Rattle.filter_tools.specs.declared.filter.Filtered.TheVariants.{Refused, Ans
 use Rattle.filter_traces.specs.Commands.{coverage_text}
 use Rattle.filter_traces.specs.Hits.{comes_to, counted_up}
 use Rattle.filter_traces.specs.TracedView.{TracedView}
-use Rattle.filter_traces.specs.Whys.{IsTraceOf}
+use Rattle.filter_traces.specs.Whys.{BreaksOff, IsTraceOf}
 use Rattle.filter_traces.specs.declared.coverage.Counter.{Counter}
 
 -- whether a line that was read so is a route whose run comes to the instruction at a place
@@ -88,9 +85,6 @@ pub record CoversCut (t : TracedView) (fault : StreamFault) (input : List ℕ) (
 
 -- A fault ended it: nothing was written for want of memory, a refusal was cut, only the first lines were read, or the commands were cut.
 abbrev pub CoversOff : StreamFault → ℕ → List ℕ → List ℕ → Option (List ℕ) → Option (List ℕ) → Option (List ℕ) → Type 0
-CoversOff fault size text input left held holds =
-    ((fault ≡ Memory) × (left ≡ Some input) × Appends held holds [])
-    ⊎ (((told : Diagnosis) × IsDiagnosis size false text told × (fault ≡ Write) × (left ≡ Some input)
-    × AppendsFront held holds (refusal_line told.refusal))
-    ⊎ ((filter : FilterView) × (t : TracedView) × IsTraceOf text size filter t
-    × (AnswersFirst (cover_answer t.size) fault input left held holds ⊎ CoversCut t fault input left held holds)))
+CoversOff fault size text input left held holds = BreaksOff fault size text input left held holds
+    ((filter : FilterView) × (t : TracedView) × IsTraceOf text size filter t
+    × (AnswersFirst (cover_answer t.size) fault input left held holds ⊎ CoversCut t fault input left held holds))

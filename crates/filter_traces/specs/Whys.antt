@@ -96,11 +96,15 @@ Whys size text input left held holds (Refused told) =
 Whys size text input left held holds (Answered refused) =
     (filter : FilterView) × (t : TracedView) × IsTraceOf text size filter t × AnswersEach (why_answer filter t) input left held holds refused
 
--- A fault ended it: nothing was written for want of memory, a refusal was cut, or the first lines were answered.
-abbrev pub WhysOff : StreamFault → ℕ → List ℕ → List ℕ → Option (List ℕ) → Option (List ℕ) → Option (List ℕ) → Type 0
-WhysOff fault size text input left held holds =
+-- A fault ended a run: nothing was written for want of memory, the refusal of the filter was cut, or what else there was to write.
+abbrev pub BreaksOff : StreamFault → ℕ → List ℕ → List ℕ → Option (List ℕ) → Option (List ℕ) → Option (List ℕ) → Type 0 → Type 0
+BreaksOff fault size text input left held holds Else =
     ((fault ≡ Memory) × (left ≡ Some input) × Appends held holds [])
     ⊎ (((told : Diagnosis) × IsDiagnosis size false text told × (fault ≡ Write) × (left ≡ Some input)
     × AppendsFront held holds (refusal_line told.refusal))
-    ⊎ ((filter : FilterView) × (t : TracedView) × IsTraceOf text size filter t
-    × AnswersFirst (why_answer filter t) fault input left held holds))
+    ⊎ Else)
+
+-- It ended this one: if neither, the first lines were answered.
+abbrev pub WhysOff : StreamFault → ℕ → List ℕ → List ℕ → Option (List ℕ) → Option (List ℕ) → Option (List ℕ) → Type 0
+WhysOff fault size text input left held holds = BreaksOff fault size text input left held holds
+    ((filter : FilterView) × (t : TracedView) × IsTraceOf text size filter t × AnswersFirst (why_answer filter t) fault input left held holds)

@@ -8,6 +8,7 @@ ghost use Rattle.filter_traces.specs.Sites.{site_text};
 ghost use Rattle.filter_traces.specs.Whys.{Whys, WhysOff, code_why, outcome_words, route_text, why_text};
 
 use crate::run::ToldRun;
+use crate::seen::push_prefix;
 use crate::site::push_site;
 use crate::traced::{Traced, trace_filter};
 use filter_code::{Outcome, Route};
@@ -22,9 +23,7 @@ use std::io::{Read, Write};
 fn push_route(alloc: Global, out: &mut Vec<u8>, route: &Route) -> Result<(), AllocError>
     ensures { OnOk result (out.new.items ≡ out.old.items ++ route_text route.now) }
 {
-    let prefix = route.net();
-    let text = format!(in alloc; "{prefix}")?;
-    out.extend_from_slice(text.as_bytes())?;
+    push_prefix(alloc, out, route.net())?;
     out.push(b' ')?;
     push_decimal(out, u64::from(route.metric()))
 }
