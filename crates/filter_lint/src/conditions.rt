@@ -79,5 +79,9 @@ pub(crate) fn constant_conditions(
 ) -> Result<Vec<Warning>, AllocError>
     ensures { IfOk result (λ found. found.items ≡ spec.constant_conditions source.now marks.now) }
 {
-    found_below(alloc, source.instrs().len(), |at| constant_at(source, marks, at))
+    found_below(
+        alloc,
+        source.instrs().len(),
+        |at| constant_at(source, marks, at),
+    )
 }

@@ -41,5 +41,9 @@ pub(crate) fn metrics_not_lowered(
 ) -> Result<Vec<Warning>, AllocError>
     ensures { IfOk result (λ found. found.items ≡ spec.metrics_not_lowered source.now marks.now) }
 {
-    found_below(alloc, source.instrs().len(), |at| not_lowered_at(source, marks, at))
+    found_below(
+        alloc,
+        source.instrs().len(),
+        |at| not_lowered_at(source, marks, at),
+    )
 }

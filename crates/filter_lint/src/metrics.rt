@@ -43,5 +43,9 @@ pub(crate) fn unreachable_metrics(
 ) -> Result<Vec<Warning>, AllocError>
     ensures { IfOk result (λ found. found.items ≡ spec.unreachable_metrics source.now) }
 {
-    found_below(alloc, source.instrs().len(), |at| unreachable_at(source, at))
+    found_below(
+        alloc,
+        source.instrs().len(),
+        |at| unreachable_at(source, at),
+    )
 }

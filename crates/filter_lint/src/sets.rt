@@ -116,11 +116,7 @@ fn asked_at(source: &Source, at: usize) -> Option<Asked>
 }
 
 /// What is said of the set that the instruction of an index asks for.
-fn covered_by(
-    alloc: Global,
-    source: &Source,
-    at: usize,
-) -> Result<Vec<Warning>, AllocError>
+fn covered_by(alloc: Global, source: &Source, at: usize) -> Result<Vec<Warning>, AllocError>
     ensures { IfOk result (λ found. found.items ≡ spec.covered_by source.now at) }
 {
     match asked_at(source, at) {
