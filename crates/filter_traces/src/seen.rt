@@ -38,7 +38,11 @@ fn push_truth(out: &mut Vec<u8>, truth: bool) -> Result<(), AllocError>
 }
 
 /// Puts a prefix at the end of `out`.
-pub(crate) fn push_prefix(alloc: Global, out: &mut Vec<u8>, prefix: Prefix) -> Result<(), AllocError>
+pub(crate) fn push_prefix(
+    alloc: Global,
+    out: &mut Vec<u8>,
+    prefix: Prefix,
+) -> Result<(), AllocError>
     ensures { OnOk result (out.new.items ≡ out.old.items ++ prefix_text prefix) }
 {
     let text = format!(in alloc; "{prefix}")?;
@@ -108,12 +112,7 @@ fn left_of(instr: Instr, seen: Seen) -> Option<Value>
 }
 
 /// Puts what stands right of it at the end of `out`.
-fn push_right(
-    alloc: Global,
-    out: &mut Vec<u8>,
-    instr: Instr,
-    seen: Seen,
-) -> Result<(), AllocError>
+fn push_right(alloc: Global, out: &mut Vec<u8>, instr: Instr, seen: Seen) -> Result<(), AllocError>
     ensures { OnOk result (out.new.items ≡ out.old.items ++ right_text instr seen) }
 {
     match instr {
@@ -168,12 +167,8 @@ fn push_told(
             out.push(b' ')?;
             push_operand(alloc, out, seen.top)
         }
-        Instr::Eq
-        | Instr::Lt
-        | Instr::Le
-        | Instr::Within
-        | Instr::Member(_)
-        | Instr::InSet(_) => push_compared(alloc, out, negated, instr, seen),
+        Instr::Eq | Instr::Lt | Instr::Le | Instr::Within | Instr::Member(_) | Instr::InSet(_) =>
+            push_compared(alloc, out, negated, instr, seen),
         _ => Ok(()),
     }
 }
