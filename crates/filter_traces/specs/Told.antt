@@ -59,15 +59,15 @@ left_of (instr.Member k) s = s.top
 left_of (instr.InSet k) s = s.top
 left_of i s = s.below
 
-abbrev pub right_text : Instr → Seen → List ℕ
-right_text (instr.Member k) s = codes "[..]"
-right_text (instr.InSet k) s = codes "[..]"
-right_text i s = operand_text s.top
+abbrev pub right_text : Instr → Option Value → List ℕ
+right_text (instr.Member k) top = codes "[..]"
+right_text (instr.InSet k) top = codes "[..]"
+right_text i top = operand_text top
 
 -- a comparison
 abbrev pub compared : Bool → Instr → Seen → List ℕ
 compared negated i s =
-    operand_text (left_of i s) ++ 32 ∷ [] ++ sign negated i ++ 32 ∷ [] ++ right_text i s ++ codes " is " ++ truth_given negated s.given
+    operand_text (left_of i s) ++ 32 ∷ [] ++ sign negated i ++ 32 ∷ [] ++ right_text i s.top ++ codes " is " ++ truth_given negated s.given
 
 -- what is told of an instruction that was carried out: `word` stands where it comes from, and `negated` says that a NOT of the same
 -- operator follows it

@@ -75,8 +75,8 @@ fn push_operand(alloc: Global, out: &mut Vec<u8>, operand: Option<Value>) -> Res
 }
 
 /// The sign of a comparison.
-fn sign(negated: bool, instr: Instr) -> &'static [u8]
-    ensures { result.now ≡ sign negated instr }
+fn sign(negated: bool, instr: &Instr) -> &'static [u8]
+    ensures { result.now ≡ sign negated instr.now }
 {
     match instr {
         Instr::Eq => { if negated { b"!=" } else { b"=" } }
@@ -102,8 +102,8 @@ fn push_truth_given(
 }
 
 /// What stands left of the sign of a comparison.
-fn left_of(instr: Instr, seen: Seen) -> Option<Value>
-    ensures { result ≡ left_of instr seen }
+fn left_of(instr: &Instr, seen: &Seen) -> Option<Value>
+    ensures { result ≡ left_of instr.now seen.now }
 {
     match instr {
         Instr::Member(_) | Instr::InSet(_) => seen.top,
@@ -111,13 +111,18 @@ fn left_of(instr: Instr, seen: Seen) -> Option<Value>
     }
 }
 
-/// Puts what stands right of it at the end of `out`.
-fn push_right(alloc: Global, out: &mut Vec<u8>, instr: Instr, seen: Seen) -> Result<(), AllocError>
-    ensures { OnOk result (out.new.items ≡ out.old.items ++ right_text instr seen) }
+/// Puts what stands right of it at the end of `out`, where this is on top of the stack.
+fn push_right(
+    alloc: Global,
+    out: &mut Vec<u8>,
+    instr: &Instr,
+    top: Option<Value>,
+) -> Result<(), AllocError>
+    ensures { OnOk result (out.new.items ≡ out.old.items ++ right_text instr.now top) }
 {
     match instr {
         Instr::Member(_) | Instr::InSet(_) => out.extend_from_slice(b"[..]"),
-        _ => push_operand(alloc, out, seen.top),
+        _ => push_operand(alloc, out, top),
     }
 }
 
@@ -131,11 +136,11 @@ fn push_compared(
 ) -> Result<(), AllocError>
     ensures { OnOk result (out.new.items ≡ out.old.items ++ compared negated instr seen) }
 {
-    push_operand(alloc, out, left_of(instr, seen))?;
+    push_operand(alloc, out, left_of(&instr, &seen))?;
     out.push(b' ')?;
-    out.extend_from_slice(sign(negated, instr))?;
+    out.extend_from_slice(sign(negated, &instr))?;
     out.push(b' ')?;
-    push_right(alloc, out, instr, seen)?;
+    push_right(alloc, out, &instr, seen.top)?;
     out.extend_from_slice(b" is ")?;
     push_truth_given(out, negated, seen.given)
 }
