@@ -1,14 +1,17 @@
 -- How a run of `filter --coverage` ends.
-use Rattle.std.proofs.Common.{◌≡◌, ℕ, ◌+◌, ◌-◌, ◌^◌, ◌<◌, ◌≤◌, true, false, List, ◌++◌, length, min, Option, IfSome, inr, ap, subst, ◌∙◌, arith}
+use Rattle.std.proofs.Common.{◌≡◌, ℕ, ◌+◌, ◌-◌, ◌^◌, ◌<◌, ◌≤◌, true, false, List, ◌++◌, length, min, Option, Some, None, IfSome, inl, inr, refl, ap, subst, ◌∙◌, arith}
 use Rattle.std.specs.Prelude.{◌⊎◌, slice_index}
 use Rattle.std.specs.Io.KnownBytes.{Appends}
 use Rattle.std.proofs.lemmas.List.Sums.{count_by-le-length}
 use Rattle.filter_parser.specs.SyntaxText.{FilterView}
+use Rattle.filter_source.specs.declared.diagnosis.Diagnosis.{Diagnosis}
 use Rattle.line_protocol.specs.Lines.{numbered}
 use Rattle.line_protocol.specs.declared.faults.StreamFault.{StreamFault}
+use Rattle.line_protocol.specs.declared.faults.StreamFault.TheVariants as stream
 use Rattle.filter_commands.proofs.Endings.{if_known}
+use Rattle.filter_commands.specs.Checking.{IsDiagnosis}
 use Rattle.filter_commands.specs.Evaluation.{IsCut}
-use Rattle.filter_tools.specs.Filtering.{AnswersEach, AnswersFirst, routes_limit}
+use Rattle.filter_tools.specs.Filtering.{AnswersEach, AnswersFirst, refusal_line, routes_limit}
 use Rattle.filter_tools.specs.declared.filter.Filtered.TheVariants as filtered
 use Rattle.filter_traces.proofs.Counts.{below, few_lines}
 use Rattle.filter_traces.proofs.Lists.{same_lines}

@@ -14,7 +14,7 @@ use Rattle.filter_tools.specs.Filtering.{AnswersEach, AnswersFirst, refusal_line
 use Rattle.filter_tools.specs.declared.filter.Filtered.TheVariants as filtered
 use Rattle.filter_traces.proofs.Meant.{why_as_meant}
 use Rattle.filter_traces.specs.TracedView.{TracedView}
-use Rattle.filter_traces.specs.Whys.{BreaksOff, IsTraceOf, Whys, WhysOff, code_why, why_answer}
+use Rattle.filter_traces.specs.Whys.{IsTraceOf, Whys, WhysOff, code_why, why_answer}
 
 -- what is told of a filter of a text is what the text means
 module _ (text : List ℕ) (size : ℕ) (filter : FilterView) (t : TracedView) (is : IsTraceOf text size filter t) where
@@ -32,18 +32,3 @@ module _ (text : List ℕ) (size : ℕ) (filter : FilterView) (t : TracedView) (
   broken_off known left held holds fault =
       if_known known (λ input f.
       inr (inr (filter, t, is, first_alike (code_why t) (why_answer filter t) alike fault input left held holds f)))
-
--- a refusal that is cut, whatever else there is to write
-cut : (Else : Type 0) (fault : StreamFault) (size : ℕ) (text input : List ℕ) (held holds : Option (List ℕ)) (told : Diagnosis)
-    → IsDiagnosis size false text told → IsCut fault held holds (refusal_line told.refusal)
-    → BreaksOff fault size text input (Some input) held holds Else
-cut Else stream.Read size text input held holds told r w = absurd w
-cut Else stream.Write size text input held holds told r w = inr (inl (told, r, refl, refl, w))
-cut Else stream.Memory size text input held holds told r w = inl (refl, refl, w)
-cut Else stream.TooLong size text input held holds told r w = absurd w
-
-pub cut_off : (Else : List ℕ → Type 0) (fault : StreamFault) (size : ℕ) (text : List ℕ) (known held holds : Option (List ℕ)) (told : Diagnosis)
-    → IsDiagnosis size false text told → IsCut fault held holds (refusal_line told.refusal)
-    → IfSome known (λ input. BreaksOff fault size text input known held holds (Else input))
-cut_off Else fault size text None held holds told r w = tt
-cut_off Else fault size text (Some input) held holds told r w = cut (Else input) fault size text input held holds told r w

@@ -13,13 +13,13 @@ use Rattle.filter_commands.specs.Eval.{Line}
 use Rattle.filter_commands.specs.Evaluation.{IsCut}
 use Rattle.filter_commands.specs.RouteLine.{line_code, route_in}
 use Rattle.filter_commands.specs.declared.line_fault.LineFault.{LineFault}
-use Rattle.filter_tools.specs.Filtering.{AnswersEach, AnswersFirst, refusal_line}
+use Rattle.filter_tools.specs.Filtering.{AnswersEach, AnswersFirst, BreaksOff, refusal_line}
 use Rattle.filter_tools.specs.declared.filter.Filtered.{Filtered}
 use Rattle.filter_tools.specs.declared.filter.Filtered.TheVariants.{Refused, Answered}
 use Rattle.filter_traces.specs.Commands.{coverage_text}
 use Rattle.filter_traces.specs.Hits.{comes_to, counted_up}
 use Rattle.filter_traces.specs.TracedView.{TracedView}
-use Rattle.filter_traces.specs.Whys.{BreaksOff, IsTraceOf}
+use Rattle.filter_traces.specs.Whys.{IsTraceOf}
 use Rattle.filter_traces.specs.declared.coverage.Counter.{Counter}
 
 -- whether a line that was read so is a route whose run comes to the instruction at a place

@@ -2,15 +2,14 @@
 ghost use Rattle.std.specs.Prelude.{◌≡◌, ◌≤◌, ◌++◌, ◌&&◌, not, OnOk, slice_get};
 ghost use Rattle.filter_code.specs.Limits.{instruction_limit};
 ghost use Rattle.filter_code.specs.Names.{truth_text};
-ghost use Rattle.prefix_patterns.specs.Spelling.{prefix_text};
 ghost use Rattle.filter_traces.specs.Told.{compared, is_declaration, is_negated, is_not, is_told, left_of, operand_text, right_text, same_byte};
 ghost use Rattle.filter_traces.specs.Told.{sign, step_line, told, told_line, truth_given, value_text};
 
 use crate::site::{Site, push_site, word_of};
 use crate::traced::Traced;
 use filter_code::{Instr, Value};
+use filter_tools::push_prefix;
 use line_protocol::push_decimal;
-use prefix_patterns::Prefix;
 use std::alloc::{AllocError, Global};
 
 /// What is seen of a step.
@@ -35,18 +34,6 @@ fn push_truth(out: &mut Vec<u8>, truth: bool) -> Result<(), AllocError>
     } else {
         out.extend_from_slice(b"false")
     }
-}
-
-/// Puts a prefix at the end of `out`.
-pub(crate) fn push_prefix(
-    alloc: Global,
-    out: &mut Vec<u8>,
-    prefix: Prefix,
-) -> Result<(), AllocError>
-    ensures { OnOk result (out.new.items ≡ out.old.items ++ prefix_text prefix) }
-{
-    let text = format!(in alloc; "{prefix}")?;
-    out.extend_from_slice(text.as_bytes())
 }
 
 /// Puts a value at the end of `out`, as the language spells it.

@@ -8,13 +8,12 @@ ghost use Rattle.filter_traces.specs.Sites.{site_text};
 ghost use Rattle.filter_traces.specs.Whys.{Whys, WhysOff, code_why, outcome_words, route_text, why_text};
 
 use crate::run::ToldRun;
-use crate::seen::push_prefix;
 use crate::site::push_site;
 use crate::traced::{Traced, trace_filter};
 use filter_code::{Outcome, Route};
 use filter_commands::{ProgramFault, read_route};
 use filter_source::Failure;
-use filter_tools::{Filtered, ROUTES_LIMIT, write_refusal};
+use filter_tools::{Filtered, ROUTES_LIMIT, push_prefix, write_refusal};
 use line_protocol::{Reply, Service, answer_lines_within, push_decimal, push_refusal};
 use std::alloc::{AllocError, Global};
 use std::io::{Read, Write};

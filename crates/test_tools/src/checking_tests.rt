@@ -4,7 +4,7 @@ use expectations::{expect, expect_bytes};
 use filter_checks::{Tested, read_tests, test_named};
 use filter_commands::ProgramFault;
 use filter_diff::CLASS_LIMIT;
-use filter_workbench::NamedText;
+use filter_tools::NamedText;
 use std::alloc::Global;
 use std::io::Write;
 use std::test::Fail;

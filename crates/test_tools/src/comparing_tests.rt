@@ -1,9 +1,10 @@
 //! Filters that are compared.
 
 use expectations::{expect, expect_bytes};
+use filter_checks::{Compared, compare_named};
 use filter_commands::ProgramFault;
 use filter_diff::CLASS_LIMIT;
-use filter_workbench::{Compared, NamedText, compare_named};
+use filter_tools::NamedText;
 use std::alloc::Global;
 use std::test::Fail;
 

@@ -4,7 +4,8 @@ use Rattle.filter_source.proofs.Refused.{of_error}
 use Rattle.filter_source.specs.Failures.{OnDiagnosis}
 use Rattle.filter_commands.specs.Faults.{stream_fault}
 use Rattle.filter_commands.specs.Checking.{IsDiagnosis}
-use Rattle.filter_traces.proofs.Endings.{broken_off, cut_off, explained}
+use Rattle.filter_tools.proofs.Endings.{cut_off}
+use Rattle.filter_traces.proofs.Endings.{broken_off, explained}
 use Rattle.filter_traces.proofs.why.explain_routes.Goals as goal
 
 pub returns-in_err-refused-in-Ok-clause-broken_off : goal.returns-in_err-refused-in-Ok-clause-broken_off

@@ -10,33 +10,14 @@ use Rattle.filter_diff.specs.declared.answer.Answer.{Answer}
 use Rattle.filter_diff.specs.declared.answer.Answer.TheVariants as answer
 use Rattle.filter_diff.specs.declared.part.Part.{Part}
 use Rattle.filter_parser.specs.SyntaxText.{FilterView}
-use Rattle.filter_source.specs.Sources.{Translates}
 use Rattle.filter_source.specs.declared.diagnosis.Diagnosis.{Diagnosis}
 use Rattle.filter_tools.specs.Filtering.{IsFilterOf}
-use Rattle.filter_tools.specs.Naming.{IsCutTelling, TellsOf}
-use Rattle.filter_verifier.specs.Safe.{IsSafe}
-use Rattle.filter_verifier.specs.VerifiedView.{VerifiedView}
+use Rattle.filter_tools.specs.Naming.{IsCutTelling, Named, TellsOf}
 use Rattle.line_protocol.specs.declared.faults.StreamFault.{StreamFault}
 use Rattle.line_protocol.specs.declared.faults.StreamFault.TheVariants.{Memory}
-use Rattle.filter_workbench.specs.PartLines.{parts_text}
-use Rattle.filter_workbench.specs.declared.comparing.Compared.{Compared}
-use Rattle.filter_workbench.specs.declared.comparing.Compared.TheVariants as compared
-use Rattle.filter_workbench.specs.declared.named_text.NamedText.{NamedText}
-
--- a text and the name of its source
-pub record Named : Type 0 where
-  pub name : List ℕ
-  pub text : List ℕ
-
-abbrev pub named : NamedText → Named
-named source = record { name = source.name.now; text = source.text.now }
-
--- the verified code of a text
-pub record IsVerifiedOf (size : ℕ) (text : List ℕ) (verified : VerifiedView) : Type 0 where
-  pub size_is : verified.size ≡ size
-  pub filter : FilterView
-  pub translates : Translates text filter verified.program
-  pub safe : IsSafe verified.program verified.size
+use Rattle.filter_checks.specs.PartLines.{parts_text}
+use Rattle.filter_checks.specs.declared.comparing.Compared.{Compared}
+use Rattle.filter_checks.specs.declared.comparing.Compared.TheVariants as compared
 
 -- This is told of a text: nothing where it spells a filter whose code never goes wrong in domains of the size, and otherwise why it
 -- is refused.

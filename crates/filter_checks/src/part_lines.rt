@@ -1,12 +1,11 @@
 //! The lines that tell of parts of the routes.
 ghost use Rattle.std.specs.Prelude.{◌≡◌, ◌++◌, IfOk, OnOk};
-ghost use Rattle.prefix_patterns.specs.Spelling.{prefix_text};
-ghost use Rattle.filter_workbench.specs.PartLines as spec;
+ghost use Rattle.filter_checks.specs.PartLines as spec;
 
 use filter_code::Outcome;
 use filter_diff::{Ending, Finding, Part, count_undecided};
+use filter_tools::push_prefix;
 use line_protocol::push_decimal;
-use prefix_patterns::Prefix;
 use std::alloc::{AllocError, Global};
 
 /// Puts the outcome of a run at the end of `out`.
@@ -61,14 +60,6 @@ fn push_endings(out: &mut Vec<u8>, found: Finding) -> Result<(), AllocError>
             push_ending(out, after)
         }
     }
-}
-
-/// Puts a prefix at the end of `out`.
-pub fn push_prefix(alloc: Global, out: &mut Vec<u8>, prefix: Prefix) -> Result<(), AllocError>
-    ensures { OnOk result (out.new.items ≡ out.old.items ++ prefix_text prefix) }
-{
-    let text = format!(in alloc; "{prefix}")?;
-    out.extend_from_slice(text.as_bytes())
 }
 
 /// Puts the prefixes of a part at the end of `out`, as a pattern.

@@ -1,5 +1,5 @@
-use Rattle.filter_workbench.proofs.Joined.{all_joined}
-use Rattle.filter_workbench.proofs.comparing.find_parts.Goals as goal
+use Rattle.filter_checks.proofs.Joined.{all_joined}
+use Rattle.filter_checks.proofs.comparing.find_parts.Goals as goal
 
 pub returns : goal.returns
 returns c =

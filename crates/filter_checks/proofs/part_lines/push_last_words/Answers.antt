@@ -1,7 +1,7 @@
 use Rattle.std.proofs.Common.{◌≡◌, ◌++◌, ◌≤◌, OnOk, ℕ, zero, suc, List, refl, sym, subst, arith}
 use Rattle.filter_diff.specs.declared.part.Part.{Part}
-use Rattle.filter_workbench.specs.PartLines.{last_words, several_words}
-use Rattle.filter_workbench.proofs.part_lines.push_last_words.Goals as goal
+use Rattle.filter_checks.specs.PartLines.{last_words, several_words}
+use Rattle.filter_checks.proofs.part_lines.push_last_words.Goals as goal
 
 several : (count : ℕ) (parts : List Part) → 2 ≤ count → last_words count parts ≡ several_words count
 several zero parts h = absurd (omega (arith, h))

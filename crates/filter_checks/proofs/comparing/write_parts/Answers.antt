@@ -1,9 +1,9 @@
 use Rattle.std.proofs.Common.{◌∙◌, ap}
 use Rattle.filter_commands.specs.declared.fault.ProgramFault.TheVariants.{Stream}
 use Rattle.filter_source.proofs.Refused.{of_error}
-use Rattle.filter_workbench.proofs.Endings.{parts_cut}
-use Rattle.filter_workbench.specs.PartLines.{parts_text}
-use Rattle.filter_workbench.proofs.comparing.write_parts.Goals as goal
+use Rattle.filter_checks.proofs.Compared.{parts_cut}
+use Rattle.filter_checks.specs.PartLines.{parts_text}
+use Rattle.filter_checks.proofs.comparing.write_parts.Goals as goal
 
 pub returns-in_err-write_text-clause-broken_off : goal.returns-in_err-write_text-clause-broken_off
 returns-in_err-write_text-clause-broken_off g c =

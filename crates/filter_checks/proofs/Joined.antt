@@ -5,7 +5,7 @@ use Rattle.filter_code.specs.RouteView.{RouteView}
 use Rattle.filter_diff.specs.Joins.{StandFor}
 use Rattle.filter_diff.specs.Parts.{InOne, IsSame}
 use Rattle.filter_diff.specs.declared.part.Part.{Part}
-use Rattle.filter_workbench.specs.Comparing.{AreParts}
+use Rattle.filter_checks.specs.Comparing.{AreParts}
 
 same_or_joined : (old new : CodeView) (route : RouteView) (parts others : List Part) → (InOne route others → InOne route parts)
     → IsSame old new route ⊎ InOne route others → IsSame old new route ⊎ InOne route parts

@@ -1,7 +1,7 @@
 //! A text and the name of its source.
 
 /// The text of a filter, and the name of the source that it was read from.
-#[derive(Clone, Copy, Debug)]
+#[derive(Clone, Copy)]
 pub struct NamedText<'a> {
     /// The name, as the operator gave it.
     pub name: &'a [u8],

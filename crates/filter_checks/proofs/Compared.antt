@@ -1,31 +1,23 @@
 -- How a comparison of two named texts ends.
-use Rattle.std.proofs.Common.{◌≡◌, inl, inr, ℕ, Bool, false, List, Option, Some, None, Result, Ok, Err, IfOk, IfErr, MatchResult, refl, sym, subst}
+use Rattle.std.proofs.Common.{◌≡◌, inl, inr, ℕ, Bool, false, List, Option, Some, None, Result, Ok, Err, IfOk, IfErr, MatchResult, sym, subst}
 use Rattle.std.specs.Result.{result_err}
-use Rattle.std.specs.Io.KnownBytes.{Keeps}
 use Rattle.filter_code.specs.CodeView.{CodeView}
 use Rattle.filter_commands.specs.Checking.{IsDiagnosis}
 use Rattle.filter_commands.specs.Faults.{stream_fault}
 use Rattle.filter_commands.specs.declared.fault.ProgramFault.{ProgramFault}
 use Rattle.filter_diff.specs.declared.part.Part.{Part}
 use Rattle.filter_source.specs.declared.diagnosis.Diagnosis.{Diagnosis}
-use Rattle.filter_tools.specs.Filtering.{IsFilterOf}
-use Rattle.filter_verifier.specs.Safe.{IsSafe}
+use Rattle.filter_tools.proofs.Endings.{is_filter, keeps_self}
+use Rattle.filter_tools.specs.Filtering.{IsVerifiedOf}
+use Rattle.filter_tools.specs.Naming.{Named}
 use Rattle.filter_verifier.specs.VerifiedView.{VerifiedView}
 use Rattle.line_protocol.specs.Runs.{AppendsFront}
 use Rattle.line_protocol.specs.declared.faults.StreamFault.{StreamFault}
 use Rattle.line_protocol.specs.declared.faults.StreamFault.TheVariants.{Write}
-use Rattle.filter_workbench.specs.Comparing.{AreParts, AreRefused, ComparesNamed, ComparesNamedOff, IsCutParts, IsCutTellingBoth, IsJudged, IsVerifiedOf, Named, TellsBoth, WritesParts}
-use Rattle.filter_workbench.specs.PartLines.{parts_text}
-use Rattle.filter_workbench.specs.declared.comparing.Compared.{Compared}
-use Rattle.filter_workbench.specs.declared.comparing.Compared.TheVariants as compared
-
--- what is not written to stays as it is
-keeps_self : (held : Option (List ℕ)) → Keeps held held
-keeps_self None = tt
-keeps_self (Some bytes) = refl
-
-abbrev is_filter : (size : ℕ) (text : List ℕ) (v : VerifiedView) → (is : IsVerifiedOf size text v) → IsFilterOf text size is.filter
-is_filter size text v is = record { program = v.program; translates = is.translates; safe = subst (IsSafe v.program) is.size_is is.safe }
+use Rattle.filter_checks.specs.Comparing.{AreParts, AreRefused, ComparesNamed, ComparesNamedOff, IsCutParts, IsCutTellingBoth, IsJudged, TellsBoth, WritesParts}
+use Rattle.filter_checks.specs.PartLines.{parts_text}
+use Rattle.filter_checks.specs.declared.comparing.Compared.{Compared}
+use Rattle.filter_checks.specs.declared.comparing.Compared.TheVariants as compared
 
 -- the lines of parts, and lines that are cut
 pub parts_cut : (fault : StreamFault) (old new : CodeView) (size : ℕ) (parts : List Part) (text shown : List ℕ)

@@ -3,23 +3,24 @@ ghost use Rattle.std.specs.Prelude.{◌≡◌, ◌≤◌, false, IfErr, IfOk, Ma
 ghost use Rattle.filter_code.specs.Limits.{largest_size};
 ghost use Rattle.filter_commands.specs.Checking.{IsDiagnosis};
 ghost use Rattle.filter_commands.specs.Faults.{stream_fault};
-ghost use Rattle.filter_workbench.specs.Comparing as spec;
-ghost use Rattle.filter_workbench.specs.declared.comparing.Compared.TheVariants as compared;
+ghost use Rattle.filter_tools.specs.Filtering.{IsVerifiedOf};
+ghost use Rattle.filter_tools.specs.Naming.{named};
+ghost use Rattle.filter_checks.specs.Comparing as spec;
+ghost use Rattle.filter_checks.specs.declared.comparing.Compared.TheVariants as compared;
 
-use crate::named_text::NamedText;
 use crate::part_lines::parts_text;
 use filter_code::Code;
 use filter_commands::ProgramFault;
 use filter_diff::{Answer, Part, answer_of, compare, join_all};
 use filter_source::{Diagnosis, Failure};
-use filter_tools::{tell_refusal, verified_filter};
+use filter_tools::{NamedText, tell_refusal, verified_filter};
 use filter_verifier::Verified;
 use line_protocol::write_text;
 use std::alloc::{AllocError, Global};
 use std::io::Write;
 
 /// What the comparison of two filters comes to.
-#[derive(Clone, Copy, Debug, PartialEq, Eq)]
+#[derive(Clone, Copy, PartialEq)]
 pub enum Compared {
     /// A text gives no verified code, and nothing is compared.
     Refused,
@@ -33,7 +34,7 @@ pub enum Compared {
 
 /// The verified code of a text for domains of a size, or what is told of why it is refused.
 fn judge(alloc: Global, text: &[u8], size: u32) -> Result<Result<Verified, Diagnosis>, AllocError>
-    ensures { IfOk result (λ judged. MatchResult judged (spec.IsVerifiedOf size text.now) (IsDiagnosis size false text.now)) }
+    ensures { IfOk result (λ judged. MatchResult judged (IsVerifiedOf size text.now) (IsDiagnosis size false text.now)) }
 {
     match verified_filter(alloc, text, size) {
         Ok(verified) => Ok(Ok(verified)),
@@ -113,9 +114,9 @@ fn tell_both<E: Write>(
     after: Option<Diagnosis>,
     is_explained: bool,
 ) -> Result<Compared, ProgramFault>
-    ensures ok { IfOk result (λ end. (end ≡ compared.Refused) × spec.TellsBoth is_explained (spec.named old.now) (spec.named new.now) before after
+    ensures ok { IfOk result (λ end. (end ≡ compared.Refused) × spec.TellsBoth is_explained (named old.now) (named new.now) before after
         (E.contents errors.old) (E.contents errors.new)) }
-    ensures err { IfErr result (λ fault. spec.IsCutTellingBoth (stream_fault fault) is_explained (spec.named old.now) (spec.named new.now)
+    ensures err { IfErr result (λ fault. spec.IsCutTellingBoth (stream_fault fault) is_explained (named old.now) (named new.now)
         before after (E.contents errors.old) (E.contents errors.new)) }
 {
     tell_refusal(alloc, errors, old.name, old.text, &before, is_explained)?;
@@ -136,10 +137,10 @@ pub fn compare_named<W: Write, E: Write>(
     writer: &mut W,
     errors: &mut E,
 ) -> Result<Compared, ProgramFault>
-    ensures finished { IfOk result (spec.ComparesNamed size is_explained (spec.named old.now) (spec.named new.now)
+    ensures finished { IfOk result (spec.ComparesNamed size is_explained (named old.now) (named new.now)
         (W.contents writer.old) (W.contents writer.new) (E.contents errors.old) (E.contents errors.new)) }
-    ensures broken_off { IfErr result (λ fault. spec.ComparesNamedOff (stream_fault fault) size is_explained (spec.named old.now)
-        (spec.named new.now) (W.contents writer.old) (W.contents writer.new) (E.contents errors.old) (E.contents errors.new)) }
+    ensures broken_off { IfErr result (λ fault. spec.ComparesNamedOff (stream_fault fault) size is_explained (named old.now)
+        (named new.now) (W.contents writer.old) (W.contents writer.new) (E.contents errors.old) (E.contents errors.new)) }
 {
     let before = judge(alloc, old.text, size)?;
     let after = judge(alloc, new.text, size)?;
