@@ -1,4 +1,5 @@
-pub mod Endings
+pub mod Joined
+pub mod Compared
 pub mod FirstLine
 pub mod MoreTests
 pub mod Meant

@@ -1,24 +1,126 @@
--- What tests of code say of the filter.
-use Rattle.std.proofs.Common.{ℕ, subst}
+-- What parts and tests say of codes they say of the filters that the codes are of.
+use Rattle.std.proofs.Common.{◌≡◌, ◌⊎◌, inl, inr, ℕ, Bool, true, false, List, [], ◌∷◌, All, refl, sym, ◌∙◌, ap, subst, if◌then◌else◌}
+use Rattle.std.specs.Prelude.{◌≢◌}
+use Rattle.std.specs.List.{list_any}
+use Rattle.std.proofs.lemmas.List.Elements.{All-weaker}
+use Rattle.std.proofs.lemmas.List.Folds.{Any-from_list_any}
 use Rattle.filter_code.specs.CodeView.{CodeView}
+use Rattle.filter_code.specs.Machine.{outcome_of}
 use Rattle.filter_code.specs.RouteView.{RouteView}
+use Rattle.filter_code.specs.declared.outcome.Outcome.{Outcome}
 use Rattle.filter_commands.specs.Saying.{Says, SaysTheSame}
-use Rattle.filter_compiler.specs.Verdicts.{meaning}
+use Rattle.filter_compiler.specs.Verdicts.{Verdict, meaning}
+use Rattle.filter_diff.proofs.Witness.{has_route}
+use Rattle.filter_diff.specs.Answers.{answer_of, differs}
 use Rattle.filter_diff.specs.Endings.{outcome_at}
-use Rattle.filter_diff.specs.Expectations.{IsCovered, IsMet, IsShown, route_of}
-use Rattle.filter_diff.specs.Parts.{IsIn}
-use Rattle.filter_diff.specs.declared.checking.Counterexample.{Counterexample}
-use Rattle.filter_diff.specs.declared.expectation.Expectation.{Expectation}
+use Rattle.filter_diff.specs.Parts.{Has, HasRoute, Holds, InOne, IsIn, IsReal, IsSame, IsTrueOf, is_difference}
+use Rattle.filter_diff.specs.declared.answer.Answer.{Answer}
+use Rattle.filter_diff.specs.declared.part.Finding.{Finding}
+use Rattle.filter_diff.specs.declared.part.Part.{Part}
 use Rattle.filter_parser.specs.SyntaxText.{FilterView}
 use Rattle.filter_verifier.specs.Safe.{IsRouteOf}
-use Rattle.filter_workbench.proofs.Meant.{one_outcome}
+use Rattle.filter_checks.specs.Comparing.{AreParts}
+use Rattle.filter_checks.specs.Filters.{ArePartsOf, HoldsOf}
+use Rattle.filter_diff.specs.Expectations.{IsCovered, IsMet, IsShown, route_of}
+use Rattle.filter_diff.specs.declared.checking.Counterexample.{Counterexample}
+use Rattle.filter_diff.specs.declared.expectation.Expectation.{Expectation}
+use Rattle.filter_code.specs.declared.outcome.Outcome.TheVariants as outcome
+use Rattle.filter_diff.specs.declared.answer.Answer.TheVariants as answer
+use Rattle.filter_diff.specs.declared.part.Finding.TheVariants as finding
 
+-- an outcome says one verdict, and a verdict has one outcome
+one_verdict : (v w : Verdict) (end : Outcome) → Says v end → Says w end → v ≡ w
+one_verdict v w (outcome.Accept metric) a b = a ∙ sym b
+one_verdict v w outcome.Reject a b = a ∙ sym b
+one_verdict v w (outcome.Fault why at) a b = absurd a
+
+pub one_outcome : (v : Verdict) (a b : Outcome) → Says v a → Says v b → a ≡ b
+one_outcome v (outcome.Accept metric) (outcome.Accept other) a b = cc
+one_outcome v (outcome.Accept metric) outcome.Reject a b = let no : ⊥ = cc in absurd no
+one_outcome v outcome.Reject (outcome.Accept other) a b = let no : ⊥ = cc in absurd no
+one_outcome v outcome.Reject outcome.Reject a b = refl
+one_outcome v (outcome.Fault why at) b x y = absurd x
+one_outcome v a (outcome.Fault why at) x y = absurd y
+
+-- a route of the size
 in_domain : (size : ℕ) (route : RouteView) → IsRouteOf size route → IsIn size route
 in_domain size route h = record { fits = h.net_fits; reachable = h.reachable; domain = h.size_is }
 
 of_domain : (size : ℕ) (route : RouteView) → IsIn size route → IsRouteOf size route
 of_domain size route h = record { size_is = h.domain; reachable = h.reachable; net_fits = h.fits }
 
+module _ (f g : FilterView) (p q : CodeView) (size : ℕ) (of_f : SaysTheSame f p size) (of_g : SaysTheSame g q size) where
+  same_or_in : (route : RouteView) (parts : List Part) → IsRouteOf size route → IsSame p q route ⊎ InOne route parts
+      → (meaning f route ≡ meaning g route) ⊎ InOne route parts
+  same_or_in route parts h (inl same) =
+      inl (one_verdict (meaning f route) (meaning g route) (outcome_of q route) (subst (Says (meaning f route)) same (of_f.says route h))
+      (of_g.says route h))
+  same_or_in route parts h (inr among) = inr among
+
+  holds : (found : Finding) (route : RouteView) → IsRouteOf size route → Holds p q found route → HoldsOf f g found route
+  holds finding.Undecided route h is = tt
+  holds (finding.Differ before after) route h is = record {
+    old_says = subst (Says (meaning f route)) is.old_is (of_f.says route h);
+    new_says = subst (Says (meaning g route)) is.new_is (of_g.says route h);
+    differ = λ same.
+        is.differ (one_outcome (meaning g route) (outcome_at route before) (outcome_at route after)
+        (subst (λ (v : Verdict). Says v (outcome_at route before)) same (subst (Says (meaning f route)) is.old_is (of_f.says route h)))
+        (subst (Says (meaning g route)) is.new_is (of_g.says route h)));
+  }
+
+pub of_filters : (f g : FilterView) (p q : CodeView) (size : ℕ) (parts : List Part) → SaysTheSame f p size → SaysTheSame g q size
+    → AreParts p q size parts → ArePartsOf f g size parts
+of_filters f g p q size parts of_f of_g are = record {
+  complete = λ route h. same_or_in f g p q size of_f of_g route parts h (are.complete route (in_domain size route h));
+  sound = All-weaker (IsTrueOf p q size) (λ part. (route : RouteView) → IsRouteOf size route → Has part route → HoldsOf f g part.finding route)
+      (λ part is route h has. holds f g p q size of_f of_g part.finding route h (is route (in_domain size route h) has)) parts are.sound;
+  some = All-weaker (IsReal size) (HasRoute size) (has_route size) parts are.real;
+}
+
+-- parts that come to the same are none
+either_differs : (b : Bool) → (if b then answer.Differ else answer.Undecided) ≡ answer.Same → ⊥
+either_differs true e = cc
+either_differs false e = cc
+
+out_of_none : {A : Type 0} (route : RouteView) → A ⊎ InOne route [] → A
+out_of_none route (inl a) = a
+out_of_none route (inr none) = absurd none
+
+pub all_same : (f g : FilterView) (size : ℕ) (parts : List Part) → ArePartsOf f g size parts → answer_of parts ≡ answer.Same
+    → (route : RouteView) → IsRouteOf size route → meaning f route ≡ meaning g route
+all_same f g size [] are e route h = out_of_none route (are.complete route h)
+all_same f g size (part ∷ parts) are e route h = absurd (either_differs (list_any differs (part ∷ parts)) e)
+
+-- parts that come to a difference have one that differs
+chosen : (b : Bool) → (if b then answer.Differ else answer.Undecided) ≡ answer.Differ → b ≡ true
+chosen true e = refl
+chosen false e = let no : ⊥ = cc in absurd no
+
+one_of : (parts : List Part) → answer_of parts ≡ answer.Differ → list_any differs parts ≡ true
+one_of [] e = let no : ⊥ = cc in absurd no
+one_of (part ∷ parts) e = chosen (list_any differs (part ∷ parts)) e
+
+disagree : (f g : FilterView) (found : Finding) (route : RouteView) → is_difference found ≡ true → HoldsOf f g found route
+    → meaning f route ≢ meaning g route
+disagree f g finding.Undecided route e h = let no : ⊥ = cc in absurd no
+disagree f g (finding.Differ before after) route e h = h.differ
+
+pub one_differs : (f g : FilterView) (size : ℕ) (parts : List Part) → ArePartsOf f g size parts → answer_of parts ≡ answer.Differ
+    → (route : RouteView) × IsRouteOf size route × (meaning f route ≢ meaning g route)
+one_differs f g size parts are e =
+    let any = Any-from_list_any differs parts (one_of parts e) in
+    let at = any.0 in
+    let part = any.1 in
+    let within = any.2 in
+    let is = any.3 in
+    let is_one = any.4 in
+    let some : HasRoute size part = subst (HasRoute size) is (are.some at part within) in
+    let sound = subst (λ (p : Part). (route : RouteView) → IsRouteOf size route → Has p route → HoldsOf f g p.finding route) is
+    (are.sound at part within) in
+    let of_size = of_domain size some.route some.is_in in
+    (some.route, of_size, disagree f g part.finding some.route is_one (sound some.route of_size some.has))
+
+-- what tests say
 pub held : (f : FilterView) (program : CodeView) (size : ℕ) (expected : Expectation) → SaysTheSame f program size → IsMet program size expected
     → (route : RouteView) → IsRouteOf size route → IsCovered expected route → Says (meaning f route) (outcome_at route expected.ending)
 held f program size expected says met route h covered =

@@ -1,4 +1,7 @@
 -- What callers cite.
+pub mod PartLines
+pub mod Comparing
+pub mod Filters
 pub mod Keywords
 pub mod Reading
 pub mod Files

@@ -7,8 +7,7 @@ use Rattle.filter_diff.specs.Expectations.{IsFoundOf}
 use Rattle.filter_parser.specs.SyntaxText.{FilterView}
 use Rattle.filter_source.specs.declared.diagnosis.Diagnosis.{Diagnosis}
 use Rattle.filter_tools.specs.Filtering.{IsFilterOf}
-use Rattle.filter_tools.specs.Naming.{IsCutTelling, TellsOf}
-use Rattle.filter_workbench.specs.Comparing.{Named}
+use Rattle.filter_tools.specs.Naming.{IsCutTelling, Named, TellsOf}
 use Rattle.line_protocol.specs.Runs.{AppendsFront}
 use Rattle.line_protocol.specs.declared.faults.StreamFault.{StreamFault}
 use Rattle.line_protocol.specs.declared.faults.StreamFault.TheVariants.{Memory, Write}

@@ -1,18 +1,25 @@
-//! Test files: what the verdict of a filter is to be on some routes, and whether it is.
+//! What a filter does with all routes, beside another filter, and beside what a test file says.
 #![tactic(auto)]
 
+mod comparing;
 mod faults;
 mod keyword;
 mod laws;
 mod lines;
+mod part_lines;
 mod place;
 mod reading;
 mod tap;
 mod test_file;
 mod testing;
 
+pub use comparing::{Compared, compare_named};
 pub use faults::fault_text;
-pub use laws::{held_tests_are_of_filters, shown_routes_are_of_filters};
+pub use laws::{
+    comparison_is_of_filters, held_tests_are_of_filters, parts_are_of_filters,
+    shown_routes_are_of_filters,
+};
+pub use part_lines::{parts_text, push_outcome};
 pub use place::path_beside;
 pub use tap::plan_line;
 pub use test_file::{FileFault, Test, TestFile, read_tests};

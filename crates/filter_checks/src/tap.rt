@@ -3,10 +3,10 @@ ghost use Rattle.std.specs.Prelude.{◌≡◌, ◌+◌, ◌<◌, ◌≤◌, ◌^
 ghost use Rattle.prefix_patterns.specs.Spelling.{prefix_text};
 ghost use Rattle.filter_checks.specs.Tap as spec;
 
+use crate::part_lines::push_outcome;
 use crate::testing::Ran;
 use filter_diff::{Checked, Counterexample};
-use filter_tools::push_shown;
-use filter_workbench::{push_outcome, push_prefix};
+use filter_tools::{push_prefix, push_shown};
 use line_protocol::push_decimal;
 use std::alloc::{AllocError, Global};
 

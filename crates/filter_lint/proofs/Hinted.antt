@@ -1,5 +1,5 @@
 -- What is said of an instruction as it stands is so.
-use Rattle.std.proofs.Common.{◌≡◌, ◌≢◌, ℕ, ◌+◌, ◌*◌, ◌==◌, Bool, true, false, ◌&&◌, nat_le, if◌then◌else◌, List, length, Option, Some, None, IfSome, refl, arith}
+use Rattle.std.proofs.Common.{◌≡◌, ◌≢◌, ℕ, ◌+◌, ◌*◌, ◌==◌, Bool, true, false, ◌&&◌, nat_le, nat_lt, if◌then◌else◌, List, length, Option, Some, None, IfSome, refl, arith}
 use Rattle.std.specs.Prelude.{All, option_and_then, slice_get}
 use Rattle.std.specs.List.{list_any}
 use Rattle.std.proofs.lemmas.Bool.Decides.{nat_tests}
@@ -9,13 +9,14 @@ use Rattle.filter_code.specs.CodeView.{CodeView}
 use Rattle.filter_code.specs.declared.instruction.Instr.{Instr}
 use Rattle.filter_code.specs.declared.instruction.Instr.TheVariants as instr
 use Rattle.prefix_patterns.specs.Matching.{PrefixPattern}
+use Rattle.filter_verifier.specs.InStateView.{InStateView}
 use Rattle.filter_verifier.specs.InStates.{in_state}
 use Rattle.filter_lint.specs.Arithmetic.{may_wrap, operation_of, wraps, wraps_at}
-use Rattle.filter_lint.specs.Hints.{hints, known_of}
+use Rattle.filter_lint.specs.Hints.{hints}
 use Rattle.filter_lint.specs.Known.{top_one, top_two}
 use Rattle.filter_lint.specs.Metrics.{sets_metric, unreachable_at}
 use Rattle.filter_lint.specs.Sets.{asked_by, covered_at, covered_by, covered_of, covered_where, covering}
-use Rattle.filter_lint.specs.Sources.{SourceView, is_first}
+use Rattle.filter_lint.specs.Sources.{SourceView, is_first, known_at, known_of}
 use Rattle.filter_lint.specs.Truths.{IsTrueOf}
 use Rattle.filter_lint.specs.Variables.{declared_by, is_load_of, unread_at}
 use Rattle.filter_lint.specs.declared.warning.Bounds.{Bounds}
@@ -25,25 +26,40 @@ use Rattle.filter_lint.specs.declared.warning.Warning.{Warning}
 use Rattle.filter_lint.proofs.Covered.{covered, covers_all}
 use Rattle.filter_lint.proofs.Found.{all_below, each_of}
 
+-- what is known of a stack, where the verifier comes so far
+known_there : {A : Type 0} (b : Bool) (f : InStateView → Option A) (here : InStateView) (a : A)
+    → option_and_then f (if b then Some here else None) ≡ Some a → f here ≡ Some a
+known_there true f here a e = e
+known_there false f here a e = let no : ⊥ = cc in absurd no
+
 module _ (program : CodeView) (size : ℕ) (text places : List ℕ) where
+  abbrev here : SourceView
+  here = record { text = text; program = program; places = places; size = size }
+
   -- an operation
   if_wraps : (k byte : ℕ) (i : Instr) (what : Operation) (left right : Bounds) → slice_get program.instrs k ≡ Some i → slice_get places k ≡ Some byte
-      → operation_of i ≡ Some what → top_two (in_state program size k) ≡ Some (left, right) → (t : Bool) → may_wrap what left right ≡ t
+      → operation_of i ≡ Some what → option_and_then top_two (known_at here k) ≡ Some (left, right) → (t : Bool) → may_wrap what left right ≡ t
       → IfSome (if t then Some (record { instruction = k; byte = byte; cause = cause.Wraps what left right }) else None) (IsTrueOf program size places)
   if_wraps k byte i what left right is there op known false e = tt
   if_wraps k byte i what left right is there op known true e = record {
     place = there;
-    is_so = record { i = i; there = is; is_operation = op; known = known; wraps = e };
+    is_so = record {
+      i = i;
+      there = is;
+      is_operation = op;
+      known = known_there (nat_lt k (known_of program size)) top_two (in_state program size k) (left, right) known;
+      wraps = e;
+    };
   }
 
   if_first : (k byte : ℕ) (i : Instr) (what : Operation) (both : Bounds × Bounds) → slice_get program.instrs k ≡ Some i → slice_get places k ≡ Some byte
-      → operation_of i ≡ Some what → top_two (in_state program size k) ≡ Some both → (t : Bool)
+      → operation_of i ≡ Some what → option_and_then top_two (known_at here k) ≡ Some both → (t : Bool)
       → IfSome (if t then wraps k byte what both.0 both.1 else None) (IsTrueOf program size places)
   if_first k byte i what both is there op known false = tt
   if_first k byte i what both is there op known true = if_wraps k byte i what both.0 both.1 is there op known (may_wrap what both.0 both.1) refl
 
   of_known : (k byte : ℕ) (i : Instr) (what : Operation) → slice_get program.instrs k ≡ Some i → slice_get places k ≡ Some byte
-      → operation_of i ≡ Some what → (both : Option (Bounds × Bounds)) → top_two (in_state program size k) ≡ both
+      → operation_of i ≡ Some what → (both : Option (Bounds × Bounds)) → option_and_then top_two (known_at here k) ≡ both
       → IfSome (option_and_then (λ both. if is_first places k byte then wraps k byte what both.0 both.1 else None) both) (IsTrueOf program size places)
   of_known k byte i what is there op None known = tt
   of_known k byte i what is there op (Some both) known = if_first k byte i what both is there op known (is_first places k byte)
@@ -51,10 +67,10 @@ module _ (program : CodeView) (size : ℕ) (text places : List ℕ) where
   of_operation : (k byte : ℕ) (i : Instr) → slice_get program.instrs k ≡ Some i → slice_get places k ≡ Some byte
       → (what : Option Operation) → operation_of i ≡ what
       → IfSome (option_and_then
-      (λ what. option_and_then (λ both. if is_first places k byte then wraps k byte what both.0 both.1 else None) (top_two (in_state program size k)))
+      (λ what. option_and_then (λ both. if is_first places k byte then wraps k byte what both.0 both.1 else None) (option_and_then top_two (known_at here k)))
       what) (IsTrueOf program size places)
   of_operation k byte i is there None op = tt
-  of_operation k byte i is there (Some what) op = of_known k byte i what is there op (top_two (in_state program size k)) refl
+  of_operation k byte i is there (Some what) op = of_known k byte i what is there op (option_and_then top_two (known_at here k)) refl
 
   operation_is_so : (k : ℕ) → (i : Option Instr) → slice_get program.instrs k ≡ i → (byte : Option ℕ) → slice_get places k ≡ byte
       → IfSome (option_and_then
@@ -62,7 +78,7 @@ module _ (program : CodeView) (size : ℕ) (text places : List ℕ) where
       (λ byte. option_and_then
       (λ what. option_and_then
       (λ both. if is_first places k byte then wraps k byte what both.0 both.1 else None)
-      (top_two (in_state program size k)))
+      (option_and_then top_two (known_at here k)))
       (operation_of i))
       byte)
       i) (IsTrueOf program size places)
@@ -114,23 +130,27 @@ module _ (program : CodeView) (size : ℕ) (text places : List ℕ) where
 
   -- a metric
   if_large : (k byte : ℕ) (bounds : Bounds) → slice_get program.instrs k ≡ Some instr.SetMetric → slice_get places k ≡ Some byte
-      → top_one (in_state program size k) ≡ Some bounds → (t : Bool) → nat_le size bounds.low ≡ t
+      → option_and_then top_one (known_at here k) ≡ Some bounds → (t : Bool) → nat_le size bounds.low ≡ t
       → IfSome (if t then Some (record { instruction = k; byte = byte; cause = cause.Unreachable bounds }) else None) (IsTrueOf program size places)
   if_large k byte bounds is there known false e = tt
   if_large k byte bounds is there known true e = record {
     place = there;
-    is_so = record { sets = is; known = known; large = grind (arith, nat_tests) };
+    is_so = record {
+      sets = is;
+      known = known_there (nat_lt k (known_of program size)) top_one (in_state program size k) bounds known;
+      large = grind (arith, nat_tests);
+    };
   }
 
   of_setting : (k byte : ℕ) (i : Instr) (bounds : Bounds) → slice_get program.instrs k ≡ Some i → slice_get places k ≡ Some byte
-      → top_one (in_state program size k) ≡ Some bounds
+      → option_and_then top_one (known_at here k) ≡ Some bounds
       → IfSome (if sets_metric i && nat_le size bounds.low
       then Some (record { instruction = k; byte = byte; cause = cause.Unreachable bounds }) else None) (IsTrueOf program size places)
   of_setting k byte instr.SetMetric bounds is there known = if_large k byte bounds is there known (nat_le size bounds.low) refl
   of_setting k byte _ bounds is there known = tt
 
   of_bounds : (k byte : ℕ) (i : Instr) → slice_get program.instrs k ≡ Some i → slice_get places k ≡ Some byte
-      → (bounds : Option Bounds) → top_one (in_state program size k) ≡ bounds
+      → (bounds : Option Bounds) → option_and_then top_one (known_at here k) ≡ bounds
       → IfSome (option_and_then (λ bounds. if sets_metric i && nat_le size bounds.low
       then Some (record { instruction = k; byte = byte; cause = cause.Unreachable bounds }) else None) bounds) (IsTrueOf program size places)
   of_bounds k byte i is there None known = tt
@@ -140,12 +160,12 @@ module _ (program : CodeView) (size : ℕ) (text places : List ℕ) where
       → IfSome (option_and_then
       (λ i. option_and_then
       (λ byte. option_and_then (λ bounds. if sets_metric i && nat_le size bounds.low
-      then Some (record { instruction = k; byte = byte; cause = cause.Unreachable bounds }) else None) (top_one (in_state program size k)))
+      then Some (record { instruction = k; byte = byte; cause = cause.Unreachable bounds }) else None) (option_and_then top_one (known_at here k)))
       byte)
       i) (IsTrueOf program size places)
   metric_is_so k None is byte there = tt
   metric_is_so k (Some i) is None there = tt
-  metric_is_so k (Some i) is (Some byte) there = of_bounds k byte i is there (top_one (in_state program size k)) refl
+  metric_is_so k (Some i) is (Some byte) there = of_bounds k byte i is there (option_and_then top_one (known_at here k)) refl
 
   -- a pattern
   if_covered : (k byte number : ℕ) (patterns : List PrefixPattern) (j : ℕ) (inner : PrefixPattern) → slice_get program.instrs k ≡ Some (instr.Member number)
@@ -205,17 +225,14 @@ module _ (program : CodeView) (size : ℕ) (text places : List ℕ) where
   sets_are_so k (Some i) is (Some byte) there = of_question k byte i is there
 
   -- all of them
-  pub hints_are_so : All (IsTrueOf program size places) (hints (record { text = text; instrs = program.instrs; places = places }) program size)
+  pub hints_are_so : All (IsTrueOf program size places) (hints here)
   hints_are_so =
-      let here : SourceView = record { text = text; instrs = program.instrs; places = places } in
       let P : Warning → Type 0 = IsTrueOf program size places in
+      let all = length program.instrs in
       All-append P _ _
-      (all_below P (λ (at : ℕ). wraps_at here at (in_state program size at))
-      (λ k. operation_is_so k (slice_get program.instrs k) refl (slice_get places k) refl) (known_of program size))
+      (all_below P (wraps_at here) (λ k. operation_is_so k (slice_get program.instrs k) refl (slice_get places k) refl) all)
       (All-append P _ _
-      (each_of P (covered_by here program.sets)
-      (λ k. sets_are_so k (slice_get program.instrs k) refl (slice_get places k) refl) (length program.instrs))
+      (each_of P (covered_by here) (λ k. sets_are_so k (slice_get program.instrs k) refl (slice_get places k) refl) all)
       (All-append P _ _
-      (all_below P (unread_at here) (λ k. variable_is_so k (slice_get program.instrs k) refl (slice_get places k) refl) (length program.instrs))
-      (all_below P (λ (at : ℕ). unreachable_at here size at (in_state program size at))
-      (λ k. metric_is_so k (slice_get program.instrs k) refl (slice_get places k) refl) (known_of program size))))
+      (all_below P (unread_at here) (λ k. variable_is_so k (slice_get program.instrs k) refl (slice_get places k) refl) all)
+      (all_below P (unreachable_at here) (λ k. metric_is_so k (slice_get program.instrs k) refl (slice_get places k) refl) all)))

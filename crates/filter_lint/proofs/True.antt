@@ -91,7 +91,7 @@ module _ (program : CodeView) (size : ℕ) (text places : List ℕ) where
     of_parts k (Some i) is (Some byte) there (Some mark) marked =
         of_instr k mark (is_reach.sound k mark marked) (is_reach.complete all k mark marked) i byte is there
 
-    condition_is_so : (k : ℕ) → IfSome (constant_at (record { text = text; instrs = program.instrs; places = places }) found.marks.items k)
+    condition_is_so : (k : ℕ) → IfSome (constant_at (record { text = text; program = program; places = places; size = size }) found.marks.items k)
         (IsTrueOf program size places)
     condition_is_so k =
         of_parts k (slice_get program.instrs k) refl (slice_get places k) refl (slice_get found.marks.items k) refl
@@ -126,11 +126,11 @@ module _ (program : CodeView) (size : ℕ) (text places : List ℕ) where
     of_command k (Some i) None there false was = tt
     of_command k (Some i) (Some byte) there false was = placed k byte there (is_of_command text i byte) was
 
-    command_is_so : (k : ℕ) → IfSome (unreached_in (record { text = text; instrs = program.instrs; places = places }) found.marks.items k)
+    command_is_so : (k : ℕ) → IfSome (unreached_in (record { text = text; program = program; places = places; size = size }) found.marks.items k)
         (IsTrueOf program size places)
     command_is_so k =
         of_command k (slice_get program.instrs k) (slice_get places k) refl (nat_le (length program.instrs - k) 1)
-        (was_reached (record { text = text; instrs = program.instrs; places = places }) found.marks.items k)
+        (was_reached (record { text = text; program = program; places = places; size = size }) found.marks.items k)
 
     -- an assignment of the metric
     if_raised : (k byte : ℕ) (mark : Mark) → slice_get found.marks.items k ≡ Some mark → slice_get places k ≡ Some byte → (t : Bool)
@@ -154,9 +154,9 @@ module _ (program : CodeView) (size : ℕ) (text places : List ℕ) where
 
     -- all of them
     pub on_routes_are_so : All (IsTrueOf program size places)
-        (on_routes (record { text = text; instrs = program.instrs; places = places }) found.marks.items)
+        (on_routes (record { text = text; program = program; places = places; size = size }) found.marks.items)
     on_routes_are_so =
-        let here : SourceView = record { text = text; instrs = program.instrs; places = places } in
+        let here : SourceView = record { text = text; program = program; places = places; size = size } in
         let P : Warning → Type 0 = IsTrueOf program size places in
         All-append P (constant_conditions here found.marks.items) _
         (all_below P (constant_at here found.marks.items) condition_is_so (length program.instrs))

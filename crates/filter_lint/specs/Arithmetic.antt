@@ -1,11 +1,10 @@
 -- Arithmetic that may wrap, by the ranges that the verifier knows. (This project's own choice.)
-use Rattle.std.specs.Prelude.{ℕ, ◌+◌, ◌*◌, ◌^◌, nat_lt, Bool, not, if◌then◌else◌, List, Option, Some, None, option_and_then, slice_get}
+use Rattle.std.specs.Prelude.{ℕ, ◌+◌, ◌*◌, ◌^◌, nat_lt, Bool, not, if◌then◌else◌, List, length, Option, Some, None, option_and_then, slice_get}
 use Rattle.filter_code.specs.declared.instruction.Instr.{Instr}
 use Rattle.filter_code.specs.declared.instruction.Instr.TheVariants as instr
-use Rattle.filter_verifier.specs.InStateView.{InStateView}
 use Rattle.filter_lint.specs.Finding.{below}
 use Rattle.filter_lint.specs.Known.{top_two}
-use Rattle.filter_lint.specs.Sources.{SourceView, is_first}
+use Rattle.filter_lint.specs.Sources.{SourceView, is_first, known_at}
 use Rattle.filter_lint.specs.declared.warning.Bounds.{Bounds}
 use Rattle.filter_lint.specs.declared.warning.Cause.TheVariants as cause
 use Rattle.filter_lint.specs.declared.warning.Operation.{Operation}
@@ -30,18 +29,18 @@ abbrev pub wraps : ℕ → ℕ → Operation → Bounds → Bounds → Option Wa
 wraps at byte what left right =
     if may_wrap what left right then Some (record { instruction = at; byte = byte; cause = cause.Wraps what left right }) else None
 
--- what is said of the instruction of an index, before which this is known: of those that come from one byte, it is said of the first
-abbrev pub wraps_at : SourceView → ℕ → InStateView → Option Warning
-wraps_at source at known = option_and_then
+-- what is said of the instruction of an index: of those that come from one byte, it is said of the first
+abbrev pub wraps_at : SourceView → ℕ → Option Warning
+wraps_at source at = option_and_then
     (λ i. option_and_then
     (λ byte. option_and_then
     (λ what. option_and_then
     (λ both. if is_first source.places at byte then wraps at byte what both.0 both.1 else None)
-    (top_two known))
+    (option_and_then top_two (known_at source at)))
     (operation_of i))
     (slice_get source.places at))
-    (slice_get source.instrs at)
+    (slice_get source.program.instrs at)
 
--- what is said of the first n instructions
-abbrev pub wrapping_operations : SourceView → (ℕ → InStateView) → ℕ → List Warning
-wrapping_operations source known n = below (λ at. wraps_at source at (known at)) n
+-- what is said of all instructions
+abbrev pub wrapping_operations : SourceView → List Warning
+wrapping_operations source = below (wraps_at source) (length source.program.instrs)

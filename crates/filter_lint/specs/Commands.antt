@@ -21,10 +21,10 @@ is_of_command text _ byte = false
 -- the byte of the command that the instruction of an index stands for; the last one is the REJECT at the end, and stands for none
 abbrev pub command_at : SourceView → ℕ → Option ℕ
 command_at source at =
-    if nat_le (length source.instrs - at) 1 then None
+    if nat_le (length source.program.instrs - at) 1 then None
     else option_and_then
     (λ i. option_and_then (λ byte. if is_of_command source.text i byte then Some byte else None) (slice_get source.places at))
-    (slice_get source.instrs at)
+    (slice_get source.program.instrs at)
 
 -- whether a route may come to an instruction
 abbrev pub mark_reached : Option Mark → Bool
@@ -55,4 +55,4 @@ abbrev pub unreached_in : SourceView → List Mark → ℕ → Option Warning
 unreached_in source marks at = unreached_at source marks at (was_reached source marks at)
 
 abbrev pub unreached_commands : SourceView → List Mark → List Warning
-unreached_commands source marks = below (unreached_in source marks) (length source.instrs)
+unreached_commands source marks = below (unreached_in source marks) (length source.program.instrs)

@@ -41,8 +41,8 @@ constant_at source marks at = option_and_then
     (λ i. option_and_then
     (λ byte. option_and_then (constant_by source.text at i byte) (slice_get marks at))
     (slice_get source.places at))
-    (slice_get source.instrs at)
+    (slice_get source.program.instrs at)
 
 -- what is said of all conditions
 abbrev pub constant_conditions : SourceView → List Mark → List Warning
-constant_conditions source marks = below (constant_at source marks) (length source.instrs)
+constant_conditions source marks = below (constant_at source marks) (length source.program.instrs)

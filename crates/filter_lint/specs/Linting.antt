@@ -7,9 +7,7 @@ use Rattle.filter_parser.specs.SyntaxText.{FilterView}
 use Rattle.filter_source.specs.TextPlaces.{ArePlacesOf}
 use Rattle.filter_source.specs.declared.diagnosis.Diagnosis.{Diagnosis}
 use Rattle.filter_tools.specs.Filtering.{IsFilterOf}
-use Rattle.filter_tools.specs.Naming.{IsCutTelling, TellsOf}
-use Rattle.filter_verifier.specs.VerifiedView.{VerifiedView}
-use Rattle.filter_workbench.specs.Comparing.{IsVerifiedOf, Named}
+use Rattle.filter_tools.specs.Naming.{IsCutTelling, Named, TellsOf}
 use Rattle.line_protocol.specs.Runs.{AppendsFront}
 use Rattle.line_protocol.specs.declared.faults.StreamFault.{StreamFault}
 use Rattle.line_protocol.specs.declared.faults.StreamFault.TheVariants.{Memory, Write}
@@ -21,11 +19,6 @@ use Rattle.filter_lint.specs.declared.host_bits.HostBits.{HostBits}
 use Rattle.filter_lint.specs.declared.linting.Linted.{Linted}
 use Rattle.filter_lint.specs.declared.linting.Linted.TheVariants as linted
 use Rattle.filter_lint.specs.declared.rules.Warnings.{Warnings}
-
--- the verified code of a text, and the places of the text that its instructions come from
-pub record IsJudgedOf (text : List ℕ) (size : ℕ) (verified : VerifiedView) (places : List ℕ) : Type 0 where
-  pub is_verified : IsVerifiedOf size text verified
-  pub are_places : ArePlacesOf text places
 
 -- These are the lines of the warnings of a filter's code and of the prefixes of its text that have host bits, and so many there are. Each
 -- of the warnings is true of the code.

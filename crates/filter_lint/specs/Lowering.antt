@@ -20,4 +20,4 @@ not_lowered_at source marks at = option_and_then
 
 -- what is said of all assignments of the metric
 abbrev pub metrics_not_lowered : SourceView → List Mark → List Warning
-metrics_not_lowered source marks = below (not_lowered_at source marks) (length source.instrs)
+metrics_not_lowered source marks = below (not_lowered_at source marks) (length source.program.instrs)

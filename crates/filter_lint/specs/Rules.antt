@@ -20,13 +20,13 @@ on_routes source marks = constant_conditions source marks ++ (unreached_commands
 abbrev pub said_on_routes : SourceView → Reach → List Warning
 said_on_routes source reach = if reach.is_complete then on_routes source reach.marks.items else []
 
--- all that is said of code, where this is found of the instructions that runs come to
-abbrev pub said_of : SourceView → CodeView → ℕ → Reach → List Warning
-said_of source program size reach = said_on_routes source reach ++ hints source program size
+-- all that is said, where this is found of the instructions that runs come to
+abbrev pub said_of : SourceView → Reach → List Warning
+said_of source reach = said_on_routes source reach ++ hints source
 
 -- the warnings that follow from what is found of the instructions that runs come to
 pub record AreFound (program : CodeView) (text places : List ℕ) (size : ℕ) (all : Warnings) : Type 0 where
   pub reach : Reach
-  pub is_reach : IsReach program size (watched_places (record { text = text; instrs = program.instrs; places = places }) program size) reach
-  pub found_is : all.found.items ≡ said_of (record { text = text; instrs = program.instrs; places = places }) program size reach
+  pub is_reach : IsReach program size (watched_places (record { text = text; program = program; places = places; size = size })) reach
+  pub found_is : all.found.items ≡ said_of (record { text = text; program = program; places = places; size = size }) reach
   pub complete_is : all.is_complete ≡ reach.is_complete

@@ -50,7 +50,7 @@ asked_at source at = option_and_then
     (λ i. option_and_then
     (λ byte. option_and_then (λ set. Some (record { instruction = at; byte = byte; set = set })) (asked_by i))
     (slice_get source.places at))
-    (slice_get source.instrs at)
+    (slice_get source.program.instrs at)
 
 -- what is said of the set that is asked for
 abbrev pub covered_of : Option (List PrefixPattern) → Asked → List Warning
@@ -61,9 +61,9 @@ abbrev pub covered_where : List (List PrefixPattern) → Option Asked → List W
 covered_where sets None = []
 covered_where sets (Some asked) = covered_of (slice_get sets asked.set) asked
 
-abbrev pub covered_by : SourceView → List (List PrefixPattern) → ℕ → List Warning
-covered_by source sets at = covered_where sets (asked_at source at)
+abbrev pub covered_by : SourceView → ℕ → List Warning
+covered_by source at = covered_where source.program.sets (asked_at source at)
 
 -- what is said of all sets
-abbrev pub covered_patterns : SourceView → List (List PrefixPattern) → List Warning
-covered_patterns source sets = all_of (covered_by source sets) (length source.instrs)
+abbrev pub covered_patterns : SourceView → List Warning
+covered_patterns source = all_of (covered_by source) (length source.program.instrs)

@@ -23,12 +23,12 @@ abbrev pub unread_at : SourceView → ℕ → Option Warning
 unread_at source at = option_and_then
     (λ i. option_and_then
     (λ byte. option_and_then
-    (λ number. if list_any (is_load_of number) source.instrs then None
+    (λ number. if list_any (is_load_of number) source.program.instrs then None
     else Some (record { instruction = at; byte = byte; cause = cause.Unread }))
     (declared_by i at))
     (slice_get source.places at))
-    (slice_get source.instrs at)
+    (slice_get source.program.instrs at)
 
 -- what is said of all variables
 abbrev pub unread_variables : SourceView → List Warning
-unread_variables source = below (unread_at source) (length source.instrs)
+unread_variables source = below (unread_at source) (length source.program.instrs)

@@ -1,14 +1,11 @@
 -- The assignments of the metric of which the search is asked whether they would lower it. (This project's own choice.)
-use Rattle.std.specs.Prelude.{ℕ, zero, suc, nat_lt, Bool, false, not, ◌&&◌, List, [], ◌∷◌, ◌++◌, length, Option, Some, slice_get}
-use Rattle.filter_code.specs.CodeView.{CodeView}
+use Rattle.std.specs.Prelude.{ℕ, zero, suc, Bool, true, false, not, List, [], ◌∷◌, ◌++◌, length, Option, Some, None, slice_get}
 use Rattle.filter_code.specs.declared.instruction.Instr.{Instr}
 use Rattle.filter_code.specs.declared.instruction.Instr.TheVariants as instr
 use Rattle.filter_verifier.specs.InStateView.{InStateView, Unreached, UnlikeDepths, Known}
-use Rattle.filter_verifier.specs.InStates.{in_state}
 use Rattle.filter_verifier.specs.declared.fact.Fact.{Fact}
 use Rattle.filter_verifier.specs.declared.fact.Fact.TheVariants as fact
-use Rattle.filter_lint.specs.Hints.{known_of}
-use Rattle.filter_lint.specs.Sources.{SourceView}
+use Rattle.filter_lint.specs.Sources.{SourceView, known_at}
 
 -- an int that is known to be at least the metric received
 abbrev pub is_least : Option Fact → Bool
@@ -26,19 +23,22 @@ is_known Unreached = false
 is_known UnlikeDepths = false
 is_known (Known frame) = is_least_below frame.stack
 
--- a MAX before which this is not known, by what is known before the first n instructions
-abbrev pub is_asked : Option Instr → (ℕ → InStateView) → ℕ → ℕ → Bool
-is_asked (Some instr.Max) known n at = not (nat_lt at n && is_known (known at))
-is_asked i known n at = false
+abbrev pub is_open : Option InStateView → Bool
+is_open None = true
+is_open (Some known) = not (is_known known)
 
-abbrev pub is_watched : SourceView → (ℕ → InStateView) → ℕ → ℕ → Bool
-is_watched source known n at = is_asked (slice_get source.instrs at) known n at
+-- a MAX before which this is not known
+abbrev pub is_asked : Option Instr → Option InStateView → Bool
+is_asked (Some instr.Max) known = is_open known
+is_asked i known = false
+
+abbrev pub is_watched : SourceView → ℕ → Bool
+is_watched source at = is_asked (slice_get source.program.instrs at) (known_at source at)
 
 -- whether each of the first n is one
 unfoldable pub watched : (ℕ → Bool) → ℕ → List Bool
 watched is zero = []
 watched is (suc n) = watched is n ++ (is n ∷ [])
 
-abbrev pub watched_places : SourceView → CodeView → ℕ → List Bool
-watched_places source program size =
-    watched (is_watched source (in_state program size) (known_of program size)) (length source.instrs)
+abbrev pub watched_places : SourceView → List Bool
+watched_places source = watched (is_watched source) (length source.program.instrs)

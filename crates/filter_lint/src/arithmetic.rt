@@ -1,16 +1,11 @@
 //! W3: arithmetic that may wrap, by the ranges that the verifier knows.
-ghost use Rattle.std.specs.Prelude.{◌≡◌, ◌<◌, ℕ, IfOk, length};
-ghost use Rattle.filter_verifier.specs.InStates.{in_state};
-ghost use Rattle.filter_verifier.specs.Pass.{in_state_view, state_at};
+ghost use Rattle.std.specs.Prelude.{◌≡◌, IfOk};
 ghost use Rattle.filter_lint.specs.Arithmetic as spec;
-ghost use Rattle.filter_lint.specs.Sources.{source_view};
 
-use crate::finding::push_found;
-use crate::known::top_two;
+use crate::finding::found_below;
 use crate::source::Source;
 use crate::warning::{Bounds, Cause, Operation, Warning};
-use filter_code::{Code, Instr};
-use filter_verifier::InState;
+use filter_code::Instr;
 use std::alloc::{AllocError, Global};
 
 /// The operation of an instruction, if its result may be one that no int has.
@@ -56,15 +51,15 @@ fn wraps(
     })
 }
 
-/// What is said of the instruction of an index, before which this is known. Of the instructions that come from one byte, as those of the
-/// argument of a `case` do, it is said of the first.
-fn wraps_at(source: &Source, at: usize, state: &InState) -> Option<Warning>
-    ensures { result ≡ spec.wraps_at (source_view source.now) at (in_state_view state.now) }
+/// What is said of the instruction of an index. Of the instructions that come from one byte, as those of the argument of a `case` do,
+/// it is said of the first.
+fn wraps_at(source: &Source, at: usize) -> Option<Warning>
+    ensures { result ≡ spec.wraps_at source.now at }
 {
     let instr = source.instr(at)?;
     let byte = source.place(at)?;
     let operation = operation_of(instr)?;
-    let (left, right) = top_two(state)?;
+    let (left, right) = source.top_two(at)?;
     if source.is_first(at, byte) {
         wraps(at, byte, operation, left, right)
     } else {
@@ -76,16 +71,8 @@ fn wraps_at(source: &Source, at: usize, state: &InState) -> Option<Warning>
 pub(crate) fn wrapping_operations(
     alloc: Global,
     source: &Source,
-    code: &Code,
-    size: u32,
-    states: &[InState],
 ) -> Result<Vec<Warning>, AllocError>
-    requires { (k : ℕ) → k < length states.now → state_at states.now k ≡ in_state code.now size k }
-    ensures { IfOk result (λ found. found.items ≡ spec.wrapping_operations (source_view source.now) (in_state code.now size) (length states.now)) }
+    ensures { IfOk result (λ found. found.items ≡ spec.wrapping_operations source.now) }
 {
-    let mut found = Vec::new(alloc);
-    for (at, state) in states.iter().enumerate() {
-        push_found(&mut found, wraps_at(source, at, state))?;
-    }
-    Ok(found)
+    found_below(alloc, source.instrs().len(), |at| wraps_at(source, at))
 }

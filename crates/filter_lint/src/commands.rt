@@ -1,7 +1,6 @@
 //! W2: commands that no route reaches.
 ghost use Rattle.std.specs.Prelude.{◌≡◌, IfOk};
 ghost use Rattle.filter_lint.specs.Commands as spec;
-ghost use Rattle.filter_lint.specs.Sources.{source_view};
 
 use crate::finding::push_found;
 use crate::site::is_if;
@@ -25,14 +24,14 @@ fn is_of_command(text: &[u8], instr: Instr, byte: usize) -> bool
 
 /// The byte of the command that the instruction of an index stands for. The last instruction stands for none: it is the REJECT at the end.
 fn command_at(source: &Source, at: usize) -> Option<usize>
-    ensures { result ≡ spec.command_at (source_view source.now) at }
+    ensures { result ≡ spec.command_at source.now at }
 {
-    if source.instrs.len().saturating_sub(at) <= 1 {
+    if source.instrs().len().saturating_sub(at) <= 1 {
         return None;
     }
     let instr = source.instr(at)?;
     let byte = source.place(at)?;
-    if is_of_command(source.text, instr, byte) {
+    if is_of_command(source.text(), instr, byte) {
         Some(byte)
     } else {
         None
@@ -51,7 +50,7 @@ fn is_reached(marks: &[Mark], at: usize) -> bool
 
 /// What is said of the instruction of an index, where it is known whether the command before it is reached.
 fn unreached_at(source: &Source, marks: &[Mark], at: usize, was_reached: bool) -> Option<Warning>
-    ensures { result ≡ spec.unreached_at (source_view source.now) marks.now at was_reached }
+    ensures { result ≡ spec.unreached_at source.now marks.now at was_reached }
 {
     let byte = command_at(source, at)?;
     if !was_reached || is_reached(marks, at) {
@@ -66,7 +65,7 @@ fn unreached_at(source: &Source, marks: &[Mark], at: usize, was_reached: bool) -
 
 /// Whether the last command up to an index is reached, where it is known of the one before.
 fn reached_up_to(source: &Source, marks: &[Mark], at: usize, was_reached: bool) -> bool
-    ensures { result ≡ spec.reached_up_to (source_view source.now) marks.now at was_reached }
+    ensures { result ≡ spec.reached_up_to source.now marks.now at was_reached }
 {
     match command_at(source, at) {
         Some(_) => is_reached(marks, at),
@@ -80,11 +79,11 @@ pub(crate) fn unreached_commands(
     source: &Source,
     marks: &[Mark],
 ) -> Result<Vec<Warning>, AllocError>
-    ensures { IfOk result (λ found. found.items ≡ spec.unreached_commands (source_view source.now) marks.now) }
+    ensures { IfOk result (λ found. found.items ≡ spec.unreached_commands source.now marks.now) }
 {
     let mut found = Vec::new(alloc);
     let mut was_reached = true;
-    for at in 0..source.instrs.len() {
+    for at in 0..source.instrs().len() {
         push_found(&mut found, unreached_at(source, marks, at, was_reached))?;
         was_reached = reached_up_to(source, marks, at, was_reached);
     }

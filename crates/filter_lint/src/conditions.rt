@@ -1,9 +1,8 @@
 //! W1: conditions that come out the same way on every route that comes to them.
 ghost use Rattle.std.specs.Prelude.{◌≡◌, IfOk};
 ghost use Rattle.filter_lint.specs.Conditions as spec;
-ghost use Rattle.filter_lint.specs.Sources.{source_view};
 
-use crate::finding::push_found;
+use crate::finding::found_below;
 use crate::site::{Site, site_at};
 use crate::source::Source;
 use crate::warning::{Cause, Warning};
@@ -62,12 +61,12 @@ fn constant_by(text: &[u8], at: usize, instr: Instr, byte: usize, mark: &Mark) -
 
 /// The same of the instruction of an index.
 fn constant_at(source: &Source, marks: &[Mark], at: usize) -> Option<Warning>
-    ensures { result ≡ spec.constant_at (source_view source.now) marks.now at }
+    ensures { result ≡ spec.constant_at source.now marks.now at }
 {
     let instr = source.instr(at)?;
     let byte = source.place(at)?;
     match marks.get(at) {
-        Some(mark) => constant_by(source.text, at, instr, byte, mark),
+        Some(mark) => constant_by(source.text(), at, instr, byte, mark),
         None => None,
     }
 }
@@ -78,11 +77,11 @@ pub(crate) fn constant_conditions(
     source: &Source,
     marks: &[Mark],
 ) -> Result<Vec<Warning>, AllocError>
-    ensures { IfOk result (λ found. found.items ≡ spec.constant_conditions (source_view source.now) marks.now) }
+    ensures { IfOk result (λ found. found.items ≡ spec.constant_conditions source.now marks.now) }
 {
-    let mut found = Vec::new(alloc);
-    for at in 0..source.instrs.len() {
-        push_found(&mut found, constant_at(source, marks, at))?;
-    }
-    Ok(found)
+    found_below(
+        alloc,
+        source.instrs().len(),
+        |at| constant_at(source, marks, at),
+    )
 }

@@ -1,8 +1,10 @@
 //! What the verifier knows of ints before an instruction.
-ghost use Rattle.std.specs.Prelude.{◌≡◌};
+ghost use Rattle.std.specs.Prelude.{◌≡◌, option_and_then};
 ghost use Rattle.filter_verifier.specs.Pass.{in_state_view};
 ghost use Rattle.filter_lint.specs.Known as spec;
+ghost use Rattle.filter_lint.specs.Sources.{known_at};
 
+use crate::source::Source;
 use crate::warning::Bounds;
 use filter_verifier::{Fact, InState, Range};
 
@@ -41,7 +43,7 @@ fn two_of(stack: &[Option<Fact>]) -> Option<(Bounds, Bounds)>
 }
 
 /// The bounds of the two ints on top of the stack, the upper one last, if they are known.
-pub(crate) fn top_two(state: &InState) -> Option<(Bounds, Bounds)>
+fn top_two(state: &InState) -> Option<(Bounds, Bounds)>
     ensures { result ≡ spec.top_two (in_state_view state.now) }
 {
     match state {
@@ -51,11 +53,27 @@ pub(crate) fn top_two(state: &InState) -> Option<(Bounds, Bounds)>
 }
 
 /// The bounds of the int on top of the stack, if it is known.
-pub(crate) fn top_one(state: &InState) -> Option<Bounds>
+fn top_one(state: &InState) -> Option<Bounds>
     ensures { result ≡ spec.top_one (in_state_view state.now) }
 {
     match state.top_int() {
         Some(range) => Some(bounds_of(range)),
         None => None,
+    }
+}
+
+impl<'a> Source<'a> {
+    /// The bounds of the two ints on top of the stack before the instruction of an index, the upper one last, if they are known.
+    pub(crate) fn top_two(&self, at: usize) -> Option<(Bounds, Bounds)>
+        ensures { result ≡ option_and_then spec.top_two (known_at self.now at) }
+    {
+        top_two(self.known(at)?)
+    }
+
+    /// The bounds of the int on top of the stack there, if it is known.
+    pub(crate) fn top_one(&self, at: usize) -> Option<Bounds>
+        ensures { result ≡ option_and_then spec.top_one (known_at self.now at) }
+    {
+        top_one(self.known(at)?)
     }
 }

@@ -1,10 +1,8 @@
 //! `ncroute lint`: what is plainly wrong with a filter that is verified.
-ghost use Rattle.std.specs.Prelude.{◌≡◌, ◌+◌, ◌≤◌, false, All, IfErr, IfOk, OnOk, length};
+ghost use Rattle.std.specs.Prelude.{◌≡◌, ◌+◌, ◌≤◌, All, IfErr, IfOk, OnOk, length};
 ghost use Rattle.std.specs.Io.KnownBytes.{Appends};
-ghost use Rattle.filter_commands.specs.Checking.{IsDiagnosis};
 ghost use Rattle.filter_commands.specs.Faults.{stream_fault};
-ghost use Rattle.filter_source.specs.Failures.{OnDiagnosis};
-ghost use Rattle.filter_workbench.specs.Comparing.{named};
+ghost use Rattle.filter_tools.specs.Naming.{named};
 ghost use Rattle.line_protocol.specs.Runs.{AppendsFront};
 ghost use Rattle.filter_lint.specs.Linting as spec;
 ghost use Rattle.filter_lint.specs.Rules.{AreFound};
@@ -14,42 +12,21 @@ ghost use Rattle.filter_lint.specs.WarningLines.{warnings_text as warnings_text_
 use crate::host_bits::{HostBits, find_host_bits};
 use crate::rules::{Warnings, find_warnings};
 use crate::warning_lines::warnings_text;
-use filter_commands::{ProgramFault, code_of};
-use filter_compiler::MappedCode;
-use filter_source::{Failure, verify_mapped};
-use filter_tools::tell_refusal;
+use filter_commands::ProgramFault;
+use filter_source::Failure;
+use filter_tools::{NamedText, PlacedCode, placed_code, tell_refusal};
 use filter_verifier::Verified;
-use filter_workbench::NamedText;
 use line_protocol::{StreamFault, write_text};
 use std::alloc::{AllocError, Global};
 use std::io::Write;
 
 /// What comes of a filter.
-#[derive(Clone, Copy, Debug, PartialEq, Eq)]
+#[derive(Clone, Copy)]
 pub enum Linted {
     /// It is refused, which is told.
     Refused,
     /// It is verified, and so many warnings are said of it.
     Warned(usize),
-}
-
-/// The verified code of a text, and for each instruction the byte that it comes from.
-#[derive(Drop)]
-struct Judged {
-    verified: Verified,
-    places: Vec<usize>,
-}
-
-/// The verified code of the filter that a text spells, for domains of a size, and the bytes that its instructions come from.
-fn judge(alloc: Global, text: &[u8], size: u32) -> Result<Judged, Failure>
-    ensures judged { IfOk result (λ judged. spec.IsJudgedOf text.now size judged.verified judged.places.items) }
-    ensures refused { IfErr result (OnDiagnosis (IsDiagnosis size false text.now)) }
-{
-    let MappedCode { code, places } = code_of(alloc, text, false)?;
-    match verify_mapped(alloc, code, places.as_slice(), size) {
-        Ok(verified) => Ok(Judged { verified, places }),
-        Err(failure) => Err(failure),
-    }
 }
 
 /// The lines of the warnings of a filter, and how many there are.
@@ -104,22 +81,22 @@ fn report_on(
 /// The warnings of a filter's verified code, in lines.
 fn report_of(
     alloc: Global,
-    judged: &Judged,
+    placed: &PlacedCode,
     source: &NamedText<'_>,
     limit: u64,
 ) -> Result<Report, AllocError>
-    ensures { IfOk result (λ report. spec.IsReport judged.now.verified.program judged.now.verified.size judged.now.places.items
+    ensures { IfOk result (λ report. spec.IsReport placed.now.verified.program placed.now.verified.size placed.now.places.items
         (named source.now) report.lines.items report.count) }
 {
     let all = warnings_of(
         alloc,
-        &judged.verified,
+        &placed.verified,
         source.text,
-        judged.places.as_slice(),
+        placed.places.as_slice(),
         limit,
     )?;
     let host_bits = find_host_bits(alloc, source.text)?;
-    report_on(alloc, &judged.verified, source, &all, host_bits.as_slice())
+    report_on(alloc, &placed.verified, source, &all, host_bits.as_slice())
 }
 
 /// Writes the lines of a report.
@@ -135,17 +112,17 @@ fn write_report<W: Write>(report: &Report, writer: &mut W) -> Result<(), Program
 /// Writes the warnings of a filter's verified code.
 fn write_warnings<W: Write>(
     alloc: Global,
-    judged: &Judged,
+    placed: &PlacedCode,
     source: &NamedText<'_>,
     limit: u64,
     writer: &mut W,
 ) -> Result<usize, ProgramFault>
-    ensures finished { IfOk result (spec.WritesWarnings judged.now.verified.program judged.now.verified.size judged.now.places.items
+    ensures finished { IfOk result (spec.WritesWarnings placed.now.verified.program placed.now.verified.size placed.now.places.items
         (named source.now) (W.contents writer.old) (W.contents writer.new)) }
-    ensures broken_off { IfErr result (λ fault. spec.CutsWarnings (stream_fault fault) judged.now.verified.program judged.now.verified.size
-        judged.now.places.items (named source.now) (W.contents writer.old) (W.contents writer.new)) }
+    ensures broken_off { IfErr result (λ fault. spec.CutsWarnings (stream_fault fault) placed.now.verified.program placed.now.verified.size
+        placed.now.places.items (named source.now) (W.contents writer.old) (W.contents writer.new)) }
 {
-    let report = report_of(alloc, judged, source, limit)?;
+    let report = report_of(alloc, placed, source, limit)?;
     write_report(&report, writer)?;
     Ok(report.count)
 }
@@ -167,9 +144,9 @@ pub fn lint_named<W: Write, E: Write>(
     ensures broken_off { IfErr result (λ fault. spec.LintsNamedOff (stream_fault fault) size is_explained (named source.now)
         (W.contents writer.old) (W.contents writer.new) (E.contents errors.old) (E.contents errors.new)) }
 {
-    match judge(alloc, source.text, size) {
-        Ok(judged) => {
-            let count = write_warnings(alloc, &judged, source, limit, writer)?;
+    match placed_code(alloc, source.text, size) {
+        Ok(placed) => {
+            let count = write_warnings(alloc, &placed, source, limit, writer)?;
             Ok(Linted::Warned(count))
         }
         Err(Failure::Refused(told)) => {
@@ -199,9 +176,9 @@ pub fn warn_named<E: Write>(
     ensures broken_off { IfErr result (λ fault. spec.WarnsNamedOff (stream_fault fault) size (named source.now)
         (E.contents errors.old) (E.contents errors.new)) }
 {
-    match judge(alloc, source.text, size) {
-        Ok(judged) => {
-            write_warnings(alloc, &judged, source, limit, errors)?;
+    match placed_code(alloc, source.text, size) {
+        Ok(placed) => {
+            write_warnings(alloc, &placed, source, limit, errors)?;
             Ok(())
         }
         Err(Failure::Refused(_)) => Ok(()),

@@ -1,9 +1,8 @@
 //! W8: assignments that would lower the metric. The code of an assignment takes the greater of the value and the metric received, by a MAX.
 ghost use Rattle.std.specs.Prelude.{◌≡◌, IfOk};
 ghost use Rattle.filter_lint.specs.Lowering as spec;
-ghost use Rattle.filter_lint.specs.Sources.{source_view};
 
-use crate::finding::push_found;
+use crate::finding::found_below;
 use crate::source::Source;
 use crate::warning::{Cause, Warning};
 use filter_diff::Mark;
@@ -25,7 +24,7 @@ fn not_lowered(at: usize, byte: usize, mark: &Mark) -> Option<Warning>
 
 /// What is said of the instruction of an index.
 fn not_lowered_at(source: &Source, marks: &[Mark], at: usize) -> Option<Warning>
-    ensures { result ≡ spec.not_lowered_at (source_view source.now) marks.now at }
+    ensures { result ≡ spec.not_lowered_at source.now marks.now at }
 {
     let byte = source.place(at)?;
     match marks.get(at) {
@@ -40,11 +39,11 @@ pub(crate) fn metrics_not_lowered(
     source: &Source,
     marks: &[Mark],
 ) -> Result<Vec<Warning>, AllocError>
-    ensures { IfOk result (λ found. found.items ≡ spec.metrics_not_lowered (source_view source.now) marks.now) }
+    ensures { IfOk result (λ found. found.items ≡ spec.metrics_not_lowered source.now marks.now) }
 {
-    let mut found = Vec::new(alloc);
-    for at in 0..source.instrs.len() {
-        push_found(&mut found, not_lowered_at(source, marks, at))?;
-    }
-    Ok(found)
+    found_below(
+        alloc,
+        source.instrs().len(),
+        |at| not_lowered_at(source, marks, at),
+    )
 }

@@ -2,7 +2,6 @@
 ghost use Rattle.std.specs.Prelude.{◌≡◌, ◌≤◌, All, IfOk};
 ghost use Rattle.filter_code.specs.Limits.{largest_size};
 ghost use Rattle.filter_lint.specs.Rules as spec;
-ghost use Rattle.filter_lint.specs.Sources.{source_view};
 ghost use Rattle.filter_lint.specs.Truths.{IsTrueOf};
 
 use crate::commands::unreached_commands;
@@ -14,6 +13,7 @@ use crate::warning::Warning;
 use crate::watching::watched_places;
 use filter_code::Code;
 use filter_diff::{Mark, Reach, reach};
+use filter_verifier::survey_code;
 use std::alloc::{AllocError, Global};
 
 /// The warnings of a filter.
@@ -27,7 +27,7 @@ pub(crate) struct Warnings {
 
 /// What is said where all routes were tried.
 fn on_routes(alloc: Global, source: &Source, marks: &[Mark]) -> Result<Vec<Warning>, AllocError>
-    ensures { IfOk result (λ found. found.items ≡ spec.on_routes (source_view source.now) marks.now) }
+    ensures { IfOk result (λ found. found.items ≡ spec.on_routes source.now marks.now) }
 {
     let mut found = constant_conditions(alloc, source, marks)?;
     let commands = unreached_commands(alloc, source, marks)?;
@@ -43,7 +43,7 @@ fn said_on_routes(
     source: &Source,
     reached: &Reach,
 ) -> Result<Vec<Warning>, AllocError>
-    ensures { IfOk result (λ found. found.items ≡ spec.said_on_routes (source_view source.now) reached.now) }
+    ensures { IfOk result (λ found. found.items ≡ spec.said_on_routes source.now reached.now) }
 {
     if !reached.is_complete {
         return Ok(Vec::new(alloc));
@@ -52,21 +52,36 @@ fn said_on_routes(
 }
 
 /// All that is said of a filter's code, where this is found of the instructions that runs come to.
-fn said_of(
-    alloc: Global,
-    source: &Source,
-    code: &Code,
-    size: u32,
-    reached: &Reach,
-) -> Result<Vec<Warning>, AllocError>
-    ensures { IfOk result (λ found. found.items ≡ spec.said_of (source_view source.now) code.now size reached.now) }
+fn said_of(alloc: Global, source: &Source, reached: &Reach) -> Result<Vec<Warning>, AllocError>
+    ensures { IfOk result (λ found. found.items ≡ spec.said_of source.now reached.now) }
 {
     let mut found = said_on_routes(alloc, source, reached)?;
-    push_hints(alloc, &mut found, source, code, size)?;
+    push_hints(alloc, &mut found, source)?;
     Ok(found)
 }
 
-/// The warnings of a filter's code, for domains of a size. At most so many classes of routes are tried as the limit says.
+/// The warnings of a filter. At most so many classes of routes are tried as the limit says.
+fn find_in(alloc: Global, source: &Source, limit: u64) -> Result<Warnings, AllocError>
+    requires { source.now.size ≤ largest_size }
+    ensures found { IfOk result (spec.AreFound source.now.program source.now.text source.now.places source.now.size) }
+    ensures sound { IfOk result (λ all. All (IsTrueOf source.now.program source.now.size source.now.places) all.found.items) }
+{
+    let watched = watched_places(alloc, source)?;
+    let reached = reach(
+        alloc,
+        source.code(),
+        source.size(),
+        limit,
+        watched.as_slice(),
+    )?;
+    let found = said_of(alloc, source, &reached)?;
+    Ok(Warnings {
+        found,
+        is_complete: reached.is_complete,
+    })
+}
+
+/// The warnings of a filter's code, for domains of a size.
 pub(crate) fn find_warnings(
     alloc: Global,
     code: &Code,
@@ -79,16 +94,7 @@ pub(crate) fn find_warnings(
     ensures found { IfOk result (spec.AreFound code.now text.now places.now size) }
     ensures sound { IfOk result (λ all. All (IsTrueOf code.now size places.now) all.found.items) }
 {
-    let source = Source {
-        text,
-        instrs: code.instrs(),
-        places,
-    };
-    let watched = watched_places(alloc, &source, code, size)?;
-    let reached = reach(alloc, code, size, limit, watched.as_slice())?;
-    let found = said_of(alloc, &source, code, size, &reached)?;
-    Ok(Warnings {
-        found,
-        is_complete: reached.is_complete,
-    })
+    let survey = survey_code(alloc, code, size)?;
+    let source = Source::new(text, code, places, size, &survey);
+    find_in(alloc, &source, limit)
 }

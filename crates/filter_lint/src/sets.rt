@@ -2,13 +2,12 @@
 ghost use Rattle.std.specs.Prelude.{◌≡◌, IfOk, IsTrue, List, Bool, position};
 ghost use Rattle.prefix_patterns.specs.Matching.{Matches};
 ghost use Rattle.filter_lint.specs.Sets as spec;
-ghost use Rattle.filter_lint.specs.Sources.{source_view};
 
-use crate::finding::push_found;
+use crate::finding::found_below;
 use crate::source::Source;
 use crate::warning::{Cause, Warning};
 use filter_code::Instr;
-use prefix_patterns::{Pattern, PatternSet};
+use prefix_patterns::Pattern;
 use std::alloc::{AllocError, Global};
 
 /// An instruction that asks for a set of patterns.
@@ -89,11 +88,7 @@ fn covered_in(
 ) -> Result<Vec<Warning>, AllocError>
     ensures { IfOk result (λ found. found.items ≡ spec.covered_in patterns.now asked.now) }
 {
-    let mut found = Vec::new(alloc);
-    for at in 0..patterns.len() {
-        push_found(&mut found, covered_at(patterns, asked, at))?;
-    }
-    Ok(found)
+    found_below(alloc, patterns.len(), |at| covered_at(patterns, asked, at))
 }
 
 /// The number of the set that an instruction asks for, if it is one of patterns.
@@ -108,7 +103,7 @@ fn asked_by(instr: Instr) -> Option<u8>
 
 /// What the instruction of an index asks.
 fn asked_at(source: &Source, at: usize) -> Option<Asked>
-    ensures { result ≡ spec.asked_at (source_view source.now) at }
+    ensures { result ≡ spec.asked_at source.now at }
 {
     let instr = source.instr(at)?;
     let byte = source.place(at)?;
@@ -121,16 +116,11 @@ fn asked_at(source: &Source, at: usize) -> Option<Asked>
 }
 
 /// What is said of the set that the instruction of an index asks for.
-fn covered_by(
-    alloc: Global,
-    source: &Source,
-    sets: &[PatternSet],
-    at: usize,
-) -> Result<Vec<Warning>, AllocError>
-    ensures { IfOk result (λ found. found.items ≡ spec.covered_by (source_view source.now) sets.now at) }
+fn covered_by(alloc: Global, source: &Source, at: usize) -> Result<Vec<Warning>, AllocError>
+    ensures { IfOk result (λ found. found.items ≡ spec.covered_by source.now at) }
 {
     match asked_at(source, at) {
-        Some(asked) => match sets.get(usize::from(asked.set)) {
+        Some(asked) => match source.sets().get(usize::from(asked.set)) {
             Some(set) => covered_in(alloc, set.patterns(), &asked),
             None => Ok(Vec::new(alloc)),
         },
@@ -139,16 +129,12 @@ fn covered_by(
 }
 
 /// What is said of all sets, in the order of the code.
-pub(crate) fn covered_patterns(
-    alloc: Global,
-    source: &Source,
-    sets: &[PatternSet],
-) -> Result<Vec<Warning>, AllocError>
-    ensures { IfOk result (λ found. found.items ≡ spec.covered_patterns (source_view source.now) sets.now) }
+pub(crate) fn covered_patterns(alloc: Global, source: &Source) -> Result<Vec<Warning>, AllocError>
+    ensures { IfOk result (λ found. found.items ≡ spec.covered_patterns source.now) }
 {
     let mut found = Vec::new(alloc);
-    for at in 0..source.instrs.len() {
-        let more = covered_by(alloc, source, sets, at)?;
+    for at in 0..source.instrs().len() {
+        let more = covered_by(alloc, source, at)?;
         found.extend_from_slice(more.as_slice())?;
     }
     Ok(found)

@@ -3,7 +3,7 @@ ghost use Rattle.std.specs.Prelude.{◌≡◌, slice_get};
 ghost use Rattle.filter_lint.specs.Sites as spec;
 
 /// What stands in the text where a condition is asked.
-#[derive(Clone, Copy, Debug, PartialEq, Eq)]
+#[derive(Clone, Copy)]
 pub enum Site {
     /// The word `if`: the condition is the one behind it.
     If,

@@ -1,10 +1,9 @@
 //! W6: variables that are never read.
 ghost use Rattle.std.specs.Prelude.{◌≡◌, IfOk};
 ghost use Rattle.std.specs.List.{list_any};
-ghost use Rattle.filter_lint.specs.Sources.{source_view};
 ghost use Rattle.filter_lint.specs.Variables as spec;
 
-use crate::finding::push_found;
+use crate::finding::found_below;
 use crate::source::Source;
 use crate::warning::{Cause, Warning};
 use filter_code::Instr;
@@ -39,12 +38,12 @@ fn declared_by(instr: Instr, at: usize) -> Option<u8>
 
 /// What is said of the instruction of an index.
 fn unread_at(source: &Source, at: usize) -> Option<Warning>
-    ensures { result ≡ spec.unread_at (source_view source.now) at }
+    ensures { result ≡ spec.unread_at source.now at }
 {
     let instr = source.instr(at)?;
     let byte = source.place(at)?;
     let number = declared_by(instr, at)?;
-    if is_read(source.instrs, number) {
+    if is_read(source.instrs(), number) {
         return None;
     }
     Some(Warning {
@@ -56,11 +55,7 @@ fn unread_at(source: &Source, at: usize) -> Option<Warning>
 
 /// What is said of all variables, in the order of their declarations.
 pub(crate) fn unread_variables(alloc: Global, source: &Source) -> Result<Vec<Warning>, AllocError>
-    ensures { IfOk result (λ found. found.items ≡ spec.unread_variables (source_view source.now)) }
+    ensures { IfOk result (λ found. found.items ≡ spec.unread_variables source.now) }
 {
-    let mut found = Vec::new(alloc);
-    for at in 0..source.instrs.len() {
-        push_found(&mut found, unread_at(source, at))?;
-    }
-    Ok(found)
+    found_below(alloc, source.instrs().len(), |at| unread_at(source, at))
 }

@@ -3,7 +3,7 @@
 use crate::site::Site;
 
 /// An operation on ints whose result may be one that no int has.
-#[derive(Clone, Copy, Debug, PartialEq, Eq)]
+#[derive(Clone, Copy)]
 pub enum Operation {
     /// A sum.
     Sum,
@@ -14,7 +14,7 @@ pub enum Operation {
 }
 
 /// The least and the greatest value that an int may have.
-#[derive(Clone, Copy, Debug, PartialEq, Eq)]
+#[derive(Clone, Copy)]
 pub struct Bounds {
     /// The least value.
     pub low: u32,
@@ -23,7 +23,7 @@ pub struct Bounds {
 }
 
 /// Why a warning is said.
-#[derive(Clone, Copy, Debug, PartialEq, Eq)]
+#[derive(Clone, Copy)]
 pub enum Cause {
     /// What is asked there is true, or false, on every route that comes there.
     Constant(Site, bool),
@@ -42,7 +42,7 @@ pub enum Cause {
 }
 
 /// A warning: the index of the instruction that it is said of, the byte of the text that the instruction comes from, and why.
-#[derive(Clone, Copy, Debug, PartialEq, Eq)]
+#[derive(Clone, Copy)]
 pub struct Warning {
     /// The index of the instruction.
     pub instruction: usize,

@@ -1,14 +1,13 @@
 //! The lines of warnings.
 ghost use Rattle.std.specs.Prelude.{◌≡◌, ◌++◌, IfOk, OnOk, codes, flat_map};
-ghost use Rattle.filter_tools.specs.Explanations.{message, position};
+ghost use Rattle.filter_tools.specs.Explanations.{message};
 ghost use Rattle.filter_tools.specs.Shown.{shown};
 ghost use Rattle.filter_lint.specs.WarningLines as spec;
 
 use crate::host_bits::{HostBits, bytes_of};
 use crate::site::Site;
 use crate::warning::{Bounds, Cause, Operation, Warning};
-use filter_tools::{place_in, push_shown};
-use filter_workbench::push_prefix;
+use filter_tools::{place_in, push_position, push_prefix, push_shown};
 use line_protocol::push_decimal;
 use prefix_patterns::{ADDRESS_LENGTH, Pattern, PatternSet};
 use std::alloc::{AllocError, Global};
@@ -302,16 +301,6 @@ fn push_words(
         Cause::Unreachable(bounds) => push_unreachable(out, bounds),
         Cause::NotLowered => out.extend_from_slice(not_lowered_words()),
     }
-}
-
-/// Puts a line and a column at the end of `out`, each behind a colon.
-fn push_position(out: &mut Vec<u8>, line: usize, column: usize) -> Result<(), AllocError>
-    ensures { OnOk result (out.new.items ≡ out.old.items ++ position line column) }
-{
-    out.push(b':')?;
-    push_decimal(out, line as u64)?;
-    out.push(b':')?;
-    push_decimal(out, column as u64)
 }
 
 /// Puts what is said of a cause and its code at the end of `out`, to the end of the line.

@@ -1,14 +1,13 @@
 //! The assignments of the metric of which the search is asked whether they would lower it: those of which the verifier does not know
 //! that the value is at least the metric received.
-ghost use Rattle.std.specs.Prelude.{◌≡◌, ◌<◌, ℕ, IfOk, length};
-ghost use Rattle.filter_verifier.specs.InStates.{in_state};
-ghost use Rattle.filter_verifier.specs.Pass.{in_state_view, state_at};
-ghost use Rattle.filter_lint.specs.Sources.{source_view};
+ghost use Rattle.std.specs.Prelude.{◌≡◌, IfOk};
+ghost use Rattle.filter_verifier.specs.Pass.{in_state_view};
+ghost use Rattle.filter_lint.specs.Sources.{known_at};
 ghost use Rattle.filter_lint.specs.Watching as spec;
 
 use crate::source::Source;
-use filter_code::{Code, Instr};
-use filter_verifier::{Fact, InState, survey_code};
+use filter_code::Instr;
+use filter_verifier::{Fact, InState};
 use std::alloc::{AllocError, Global};
 
 /// Whether what is known at a place is an int that is at least the metric received.
@@ -41,45 +40,33 @@ fn is_known(state: &InState) -> bool
     }
 }
 
+/// Whether it is not known before the instruction of an index.
+fn is_open(source: &Source, at: usize) -> bool
+    ensures { result ≡ spec.is_open (known_at source.now at) }
+{
+    match source.known(at) {
+        Some(state) => !is_known(state),
+        None => true,
+    }
+}
+
 /// Whether the instruction of an index is a MAX of which the search is asked.
-fn is_watched(source: &Source, code: &Code, size: u32, states: &[InState], at: usize) -> bool
-    requires { (k : ℕ) → k < length states.now → state_at states.now k ≡ in_state code.now size k }
-    ensures { result ≡ spec.is_watched (source_view source.now) (in_state code.now size) (length states.now) at }
+fn is_watched(source: &Source, at: usize) -> bool
+    ensures { result ≡ spec.is_watched source.now at }
 {
     match source.instr(at) {
-        Some(Instr::Max) => at >= states.len() || !is_known(&states[at]),
+        Some(Instr::Max) => is_open(source, at),
         _ => false,
     }
 }
 
 /// Whether each instruction is one.
-fn watched_by(
-    alloc: Global,
-    source: &Source,
-    code: &Code,
-    size: u32,
-    states: &[InState],
-) -> Result<Vec<bool>, AllocError>
-    requires { (k : ℕ) → k < length states.now → state_at states.now k ≡ in_state code.now size k }
-    ensures { IfOk result (λ watched. watched.items
-        ≡ spec.watched (spec.is_watched (source_view source.now) (in_state code.now size) (length states.now)) (length source.now.instrs.now)) }
+pub(crate) fn watched_places(alloc: Global, source: &Source) -> Result<Vec<bool>, AllocError>
+    ensures { IfOk result (λ watched. watched.items ≡ spec.watched_places source.now) }
 {
     let mut watched = Vec::new(alloc);
-    for at in 0..source.instrs.len() {
-        watched.push(is_watched(source, code, size, states, at))?;
+    for at in 0..source.instrs().len() {
+        watched.push(is_watched(source, at))?;
     }
     Ok(watched)
-}
-
-/// Whether each instruction is one, in domains of a size.
-pub(crate) fn watched_places(
-    alloc: Global,
-    source: &Source,
-    code: &Code,
-    size: u32,
-) -> Result<Vec<bool>, AllocError>
-    ensures { IfOk result (λ watched. watched.items ≡ spec.watched_places (source_view source.now) code.now size) }
-{
-    let survey = survey_code(alloc, code, size)?;
-    watched_by(alloc, source, code, size, survey.in_states.as_slice())
 }

@@ -1,6 +1,6 @@
 -- How a run of `filter` ends, by its text.
 use Rattle.std.proofs.Common.{◌≡◌, ℕ, false, List, Option, Some, None, IfSome, IfErr, IfOk, Result, Ok, Err, inl, inr, refl, sym, subst, ◌∙◌, ap}
-use Rattle.std.specs.Io.KnownBytes.{Appends}
+use Rattle.std.specs.Io.KnownBytes.{Appends, Keeps}
 use Rattle.filter_code.specs.CodeView.{CodeView}
 use Rattle.filter_parser.specs.SyntaxText.{FilterView}
 use Rattle.filter_source.specs.Diagnoses.{TellsOfCode}
@@ -21,50 +21,46 @@ use Rattle.filter_commands.specs.Eval.{Line}
 use Rattle.filter_commands.specs.Evaluation.{IsCut}
 use Rattle.filter_tools.proofs.Answered.{answer_by, each_alike, first_alike}
 use Rattle.filter_tools.proofs.Meant.{as_meant}
-use Rattle.filter_tools.specs.Filtering.{AnswersEach, AnswersFirst, Filters, FiltersOff, IsFilterOf, filter_answer, refusal_line}
+use Rattle.filter_tools.specs.Filtering.{AnswersEach, AnswersFirst, BreaksOff, Filters, FiltersOff, IsFilterOf, IsVerifiedOf, filter_answer, refusal_line}
 use Rattle.filter_tools.specs.declared.filter.Filtered.TheVariants as filtered
 
--- a text without code
-pub no_code : (size : ℕ) (text : List ℕ) (failure : Failure) → OnRefusal (IsRefused false text) failure → IsOfSource failure
-    → OnDiagnosis (IsDiagnosis size false text) failure
-no_code size text (Refused told) refused is = inl (refused, is)
-no_code size text Memory refused is = tt
+-- what is not written to stays as it is
+pub keeps_self : (held : Option (List ℕ)) → Keeps held held
+keeps_self None = tt
+keeps_self (Some bytes) = refl
+
+-- verified code is the translation that was verified
+pub verified_of : (size : ℕ) (text : List ℕ) (program : CodeView) (v : VerifiedView) → GivesCode false text program
+    → v ≡ record { program = program; size = size } → IsSafe program size → IsVerifiedOf size text v
+verified_of size text program v gives same safe = record {
+  size_is = ap (λ (w : VerifiedView). w.size) same;
+  filter = gives.1.0;
+  translates = subst (λ (w : VerifiedView). Translates text gives.1.0 w.program) (sym same) gives.1.1;
+  safe = subst (λ (w : VerifiedView). IsSafe w.program w.size) (sym same) safe;
+}
 
 -- code that is refused
-refused_code : (size : ℕ) (text places : List ℕ) (program : CodeView) (failure : Failure) → GivesCode false text program
+pub refused_code : (size : ℕ) (text places : List ℕ) (program : CodeView) (failure : Failure) → GivesCode false text program
     → ArePlaces false text places → OnRefusal (IsUnsafe program size) failure → OnDiagnosis (TellsOfCode program places size) failure
     → OnDiagnosis (IsDiagnosis size false text) failure
 refused_code size text places program (Refused told) gives are unsafe is = inr (program, gives, unsafe, (places, are, is))
 refused_code size text places program Memory gives are unsafe is = tt
 
-pub unsafe_filter : {V : Type 0} (size : ℕ) (text places : List ℕ) (program : CodeView) (r : Result V Failure) → GivesCode false text program
-    → ArePlaces false text places → IfErr r (OnRefusal (IsUnsafe program size)) → IfErr r (OnDiagnosis (TellsOfCode program places size))
-    → IfErr r (OnDiagnosis (IsDiagnosis size false text))
-unsafe_filter size text places program (Ok v) gives are unsafe is = tt
-unsafe_filter size text places program (Err failure) gives are unsafe is = refused_code size text places program failure gives are unsafe is
-
--- verified code is the translation that was verified
-pub translated : (size : ℕ) (text : List ℕ) (program : CodeView) (r : Result VerifiedView Failure)
-    → (filter : FilterView) × Translates text filter program
-    → IfOk r (λ v. (v ≡ record { program = program; size = size }) × (the_fault program size ≡ None))
-    → IfOk r (λ v. (filter : FilterView) × Translates text filter v.program)
-translated size text program (Ok v) t h = (t.0, subst (λ (w : VerifiedView). Translates text t.0 w.program) (sym h.0) t.1)
-translated size text program (Err failure) t h = tt
+-- verified code is that of its filter
+abbrev pub is_filter : (size : ℕ) (text : List ℕ) (v : VerifiedView) → (is : IsVerifiedOf size text v) → IsFilterOf text size is.filter
+is_filter size text v is = record { program = v.program; translates = is.translates; safe = subst (IsSafe v.program) is.size_is is.safe }
 
 -- the verified code of a text answers as the text means
-module _ (text : List ℕ) (size : ℕ) (v : VerifiedView) (same : v.size ≡ size) (safe : IsSafe v.program v.size)
-    (filter : FilterView) (translates : Translates text filter v.program) where
-  is_filter : IsFilterOf text size filter
-  is_filter = record { program = v.program; translates = translates; safe = subst (IsSafe v.program) same safe }
-
-  alike : (line : Line) → answer_by v line ≡ filter_answer filter size line
-  alike line = as_meant filter v.program v.size translates.means safe line ∙ ap (λ (n : ℕ). filter_answer filter n line) same
+module _ (text : List ℕ) (size : ℕ) (v : VerifiedView) (is : IsVerifiedOf size text v) where
+  alike : (line : Line) → answer_by v line ≡ filter_answer is.filter size line
+  alike line = as_meant is.filter v.program v.size is.translates.means is.safe line ∙ ap (λ (n : ℕ). filter_answer is.filter n line) is.size_is
 
   pub answered : (known left held holds : Option (List ℕ)) (n : ℕ)
       → IfSome known (λ input. AnswersEach (answer_by v) input left held holds n)
       → IfSome known (λ input. Filters size text input left held holds (filtered.Answered n))
   answered known left held holds n =
-      if_known known (λ input f. (filter, is_filter, each_alike (answer_by v) (filter_answer filter size) alike input left held holds n f))
+      if_known known (λ input f.
+      (is.filter, is_filter size text v is, each_alike (answer_by v) (filter_answer is.filter size) alike input left held holds n f))
 
   pub first_meant : (known left held holds : Option (List ℕ)) (fault : StreamFault)
       → IfSome known (λ input. AnswersFirst (answer_by v) fault input left held holds)
@@ -72,28 +68,28 @@ module _ (text : List ℕ) (size : ℕ) (v : VerifiedView) (same : v.size ≡ si
       × AnswersFirst (filter_answer filter size) fault input left held holds)
   first_meant known left held holds fault =
       if_known known (λ input f.
-      (filter, is_filter, first_alike (answer_by v) (filter_answer filter size) alike fault input left held holds f))
+      (is.filter, is_filter size text v is, first_alike (answer_by v) (filter_answer is.filter size) alike fault input left held holds f))
 
   pub broken_off : (known left held holds : Option (List ℕ)) (fault : StreamFault)
       → IfSome known (λ input. AnswersFirst (answer_by v) fault input left held holds)
       → IfSome known (λ input. FiltersOff fault size text input left held holds)
-  broken_off known left held holds fault =
-      if_known known (λ input f.
-      inr (inr (filter, is_filter, first_alike (answer_by v) (filter_answer filter size) alike fault input left held holds f)))
+  broken_off known left held holds fault f =
+      if_known known (λ input first. inr (inr first)) (first_meant known left held holds fault f)
 
--- a refusal that is cut
-cut : (fault : StreamFault) (size : ℕ) (text input : List ℕ) (held holds : Option (List ℕ)) (told : Diagnosis)
-    → IsDiagnosis size false text told → IsCut fault held holds (refusal_line told.refusal) → FiltersOff fault size text input (Some input) held holds
-cut stream.Read size text input held holds told r w = absurd w
-cut stream.Write size text input held holds told r w = inr (inl (told, r, refl, refl, w))
-cut stream.Memory size text input held holds told r w = inl (refl, refl, w)
-cut stream.TooLong size text input held holds told r w = absurd w
-
-pub cut_off : (fault : StreamFault) (size : ℕ) (text : List ℕ) (known held holds : Option (List ℕ)) (told : Diagnosis)
+-- a refusal that is cut, whatever else there is to write
+cut : (Else : Type 0) (fault : StreamFault) (size : ℕ) (text input : List ℕ) (held holds : Option (List ℕ)) (told : Diagnosis)
     → IsDiagnosis size false text told → IsCut fault held holds (refusal_line told.refusal)
-    → IfSome known (λ input. FiltersOff fault size text input known held holds)
-cut_off fault size text None held holds told r w = tt
-cut_off fault size text (Some input) held holds told r w = cut fault size text input held holds told r w
+    → BreaksOff fault size text input (Some input) held holds Else
+cut Else stream.Read size text input held holds told r w = absurd w
+cut Else stream.Write size text input held holds told r w = inr (inl (told, r, refl, refl, w))
+cut Else stream.Memory size text input held holds told r w = inl (refl, refl, w)
+cut Else stream.TooLong size text input held holds told r w = absurd w
+
+pub cut_off : (Else : List ℕ → Type 0) (fault : StreamFault) (size : ℕ) (text : List ℕ) (known held holds : Option (List ℕ)) (told : Diagnosis)
+    → IsDiagnosis size false text told → IsCut fault held holds (refusal_line told.refusal)
+    → IfSome known (λ input. BreaksOff fault size text input known held holds (Else input))
+cut_off Else fault size text None held holds told r w = tt
+cut_off Else fault size text (Some input) held holds told r w = cut (Else input) fault size text input held holds told r w
 
 -- a filter that is refused
 pub refused_alone : (size : ℕ) (text : List ℕ) (known held holds : Option (List ℕ)) (told : Diagnosis)

@@ -10,6 +10,7 @@ use Rattle.filter_source.specs.Sources.{Translates}
 use Rattle.filter_source.specs.declared.diagnosis.Diagnosis.{Diagnosis}
 use Rattle.filter_source.specs.declared.refusal.Refusal.{Refusal}
 use Rattle.filter_verifier.specs.Safe.{IsSafe}
+use Rattle.filter_verifier.specs.VerifiedView.{VerifiedView}
 use Rattle.line_protocol.specs.Answers.{Answer, refusal, refusals, text_of}
 use Rattle.line_protocol.specs.Lines.{numbered, whole_lines}
 use Rattle.line_protocol.specs.Runs.{AppendsFront, IsWritten}
@@ -81,6 +82,13 @@ pub record IsFilterOf (text : List ℕ) (size : ℕ) (filter : FilterView) : Typ
   pub translates : Translates text filter program
   pub safe : IsSafe program size
 
+-- The text spells a filter, this is its code, and it never goes wrong in domains of this size.
+pub record IsVerifiedOf (size : ℕ) (text : List ℕ) (verified : VerifiedView) : Type 0 where
+  pub size_is : verified.size ≡ size
+  pub filter : FilterView
+  pub translates : Translates text filter verified.program
+  pub safe : IsSafe verified.program verified.size
+
 -- A run was answered to its end. A refused filter answers no route, and no line is read; otherwise each line is answered by what
 -- the text means for its route.
 abbrev pub Filters : ℕ → List ℕ → List ℕ → Option (List ℕ) → Option (List ℕ) → Option (List ℕ) → Filtered → Type 0
@@ -89,10 +97,15 @@ Filters size text input left held holds (Refused told) =
 Filters size text input left held holds (Answered refused) =
     (filter : FilterView) × IsFilterOf text size filter × AnswersEach (filter_answer filter size) input left held holds refused
 
--- A fault ended it: nothing was written for want of memory, a refusal was cut, or the first lines were answered.
-abbrev pub FiltersOff : StreamFault → ℕ → List ℕ → List ℕ → Option (List ℕ) → Option (List ℕ) → Option (List ℕ) → Type 0
-FiltersOff fault size text input left held holds =
+-- A fault ended a run: nothing was written for want of memory, the refusal of the filter was cut, or what else there was to write.
+abbrev pub BreaksOff : StreamFault → ℕ → List ℕ → List ℕ → Option (List ℕ) → Option (List ℕ) → Option (List ℕ) → Type 0 → Type 0
+BreaksOff fault size text input left held holds Else =
     ((fault ≡ Memory) × (left ≡ Some input) × Appends held holds [])
     ⊎ (((told : Diagnosis) × IsDiagnosis size false text told × (fault ≡ Write) × (left ≡ Some input)
     × AppendsFront held holds (refusal_line told.refusal))
-    ⊎ ((filter : FilterView) × IsFilterOf text size filter × AnswersFirst (filter_answer filter size) fault input left held holds))
+    ⊎ Else)
+
+-- It ended this one: if neither, the first lines were answered.
+abbrev pub FiltersOff : StreamFault → ℕ → List ℕ → List ℕ → Option (List ℕ) → Option (List ℕ) → Option (List ℕ) → Type 0
+FiltersOff fault size text input left held holds = BreaksOff fault size text input left held holds
+    ((filter : FilterView) × IsFilterOf text size filter × AnswersFirst (filter_answer filter size) fault input left held holds)

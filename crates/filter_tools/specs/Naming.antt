@@ -10,6 +10,15 @@ use Rattle.filter_tools.specs.Filtering.{refusal_line}
 use Rattle.filter_tools.specs.Listing.{IsCutListing, WritesListing}
 use Rattle.filter_tools.specs.Shown.{shown}
 use Rattle.filter_tools.specs.Telling.{Explains, IsCutExplanation}
+use Rattle.filter_tools.specs.declared.named_text.NamedText.{NamedText}
+
+-- a text and the name of its source
+pub record Named : Type 0 where
+  pub name : List ℕ
+  pub text : List ℕ
+
+abbrev pub named : NamedText → Named
+named source = record { name = source.name.now; text = source.text.now }
 
 -- the name of a source as it is shown, and the line that refuses it
 abbrev pub named_refusal : List ℕ → Refusal → List ℕ

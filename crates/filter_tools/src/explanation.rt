@@ -18,7 +18,7 @@ const SIDE: usize = 100;
 const KEPT: usize = 97;
 
 /// Puts a line and a column at the end of `out`, each behind a colon.
-fn push_position(out: &mut Vec<u8>, line: usize, column: usize) -> Result<(), AllocError>
+pub fn push_position(out: &mut Vec<u8>, line: usize, column: usize) -> Result<(), AllocError>
     ensures { OnOk result (out.new.items ≡ out.old.items ++ position line column) }
 {
     out.push(b':')?;

@@ -7,11 +7,9 @@ ghost use Rattle.filter_commands.specs.Checking.{IsDiagnosis};
 ghost use Rattle.filter_commands.specs.Evaluation.{IsCut};
 ghost use Rattle.filter_commands.specs.Faults.{stream_fault};
 ghost use Rattle.filter_machine.specs.Verdicts.{outcome_said};
-ghost use Rattle.filter_parser.specs.SyntaxText.{FilterView};
 ghost use Rattle.filter_source.specs.Failures.{OnDiagnosis};
-ghost use Rattle.filter_source.specs.Sources.{Translates};
-ghost use Rattle.filter_verifier.specs.Safe.{IsSafe};
-ghost use Rattle.filter_tools.specs.Filtering.{AnswersEach, AnswersFirst, code_answer, refusal_line};
+ghost use Rattle.filter_source.specs.TextPlaces.{ArePlacesOf};
+ghost use Rattle.filter_tools.specs.Filtering.{AnswersEach, AnswersFirst, IsVerifiedOf, code_answer, refusal_line};
 
 use filter_commands::{
     ProgramFault, RefusedRoute, WatchRoutes, WhyRefused, code_of, push_accept, read_route,
@@ -31,7 +29,7 @@ const FIRST_LINE: u32 = 1;
 pub const ROUTES_LIMIT: usize = 4_000_000_000;
 
 /// What became of a filter.
-#[derive(Clone, Copy, Debug)]
+#[derive(Clone, Copy)]
 pub enum Filtered {
     /// It is refused, and no route was answered.
     Refused(Diagnosis),
@@ -115,15 +113,37 @@ fn answer_route<S: WatchRoutes>(
     }
 }
 
-/// The verified code of the filter that a text spells, for domains of `size` nodes.
-pub fn verified_filter(alloc: Global, text: &[u8], size: u32) -> Result<Verified, Failure>
-    ensures size { IfOk result (λ verified. verified.size ≡ size) }
-    ensures translates { IfOk result (λ verified. (filter : FilterView) × Translates text.now filter verified.program) }
-    ensures safe { IfOk result (λ verified. IsSafe verified.program verified.size) }
+/// The verified code of a text, and for each instruction the byte that it comes from.
+#[derive(Drop)]
+pub struct PlacedCode {
+    /// The code.
+    pub verified: Verified,
+    /// The bytes of the text.
+    pub places: Vec<usize>,
+}
+
+/// The verified code of the filter that a text spells, for domains of `size` nodes, and the bytes that its instructions come from.
+pub fn placed_code(alloc: Global, text: &[u8], size: u32) -> Result<PlacedCode, Failure>
+    ensures verified { IfOk result (λ placed. IsVerifiedOf size text.now placed.verified) }
+    ensures places { IfOk result (λ placed. ArePlacesOf text.now placed.places.items) }
     ensures refused { IfErr result (OnDiagnosis (IsDiagnosis size false text.now)) }
 {
     let MappedCode { code, places } = code_of(alloc, text, false)?;
-    verify_mapped(alloc, code, places.as_slice(), size)
+    match verify_mapped(alloc, code, places.as_slice(), size) {
+        Ok(verified) => Ok(PlacedCode { verified, places }),
+        Err(failure) => Err(failure),
+    }
+}
+
+/// The verified code of the filter that a text spells, for domains of `size` nodes.
+pub fn verified_filter(alloc: Global, text: &[u8], size: u32) -> Result<Verified, Failure>
+    ensures verified { IfOk result (IsVerifiedOf size text.now) }
+    ensures refused { IfErr result (OnDiagnosis (IsDiagnosis size false text.now)) }
+{
+    match placed_code(alloc, text, size) {
+        Ok(placed) => Ok(placed.verified),
+        Err(failure) => Err(failure),
+    }
 }
 
 /// Answers each line of `reader` on `writer` by verified code, and shows each that is refused to who watches.

@@ -19,7 +19,7 @@ pub(crate) fn missing_assign(fault: ParseFault) -> Option<usize>
 }
 
 /// A word of a text: its bytes `from..to`.
-#[derive(Clone, Copy, Debug, PartialEq, Eq)]
+#[derive(Clone, Copy)]
 pub(crate) struct Word {
     /// The place of its first byte.
     pub from: usize,

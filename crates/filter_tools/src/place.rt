@@ -5,7 +5,7 @@ ghost use Rattle.line_protocol.specs.Lines.{is_line_feed};
 ghost use Rattle.filter_tools.specs.Places.{begins_character, behind_last_feed, before_first_feed, column_at, is_inside, line_at};
 
 /// A place in a text, and the line that it is in.
-#[derive(Clone, Copy, Debug, PartialEq, Eq)]
+#[derive(Clone, Copy)]
 pub struct Place<'a> {
     /// The number of its line, counted from 1.
     pub line: usize,

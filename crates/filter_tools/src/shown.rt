@@ -1,8 +1,10 @@
 //! Text as it is shown on a terminal, which it must not be able to steer.
 ghost use Rattle.std.specs.Prelude.{◌≡◌, ◌++◌, IfOk, OnOk, encode_utf8_all, flat_map};
+ghost use Rattle.prefix_patterns.specs.Spelling.{prefix_text};
 ghost use Rattle.filter_tools.specs.Shown.{indent_of, is_hidden, shown_character, shown_characters};
 
 use bstr::ByteSlice;
+use prefix_patterns::Prefix;
 use std::alloc::{AllocError, Global};
 use unicode_width::UnicodeWidthChar;
 
@@ -59,6 +61,14 @@ pub fn push_shown(alloc: Global, out: &mut Vec<u8>, bytes: &[u8]) -> Result<(), 
 {
     let shown = shown_characters(alloc, bytes)?;
     push_characters(alloc, out, shown.as_slice())
+}
+
+/// Puts a prefix at the end of `out`.
+pub fn push_prefix(alloc: Global, out: &mut Vec<u8>, prefix: Prefix) -> Result<(), AllocError>
+    ensures { OnOk result (out.new.items ≡ out.old.items ++ prefix_text prefix) }
+{
+    let text = format!(in alloc; "{prefix}")?;
+    out.extend_from_slice(text.as_bytes())
 }
 
 /// Puts what stands under a character at the end of `out`, so that a caret behind it is in its column: a tab under a tab, and

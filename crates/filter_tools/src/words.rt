@@ -77,21 +77,22 @@ fn token_words(alloc: Global, text: &[u8], fault: TokenFault) -> Result<String, 
     match fault {
         TokenFault::BadCharacter(at) => character_words(alloc, text, at),
         TokenFault::WordLeftOut(at) => left_out_words(alloc, word_at(text, at)),
-        TokenFault::OutOfRange(at) => String::from_str(alloc, range_words(text, at)),
-        TokenFault::NoDigit(_) => String::from_str(alloc, "`0x` without a hexadecimal digit"),
-        TokenFault::NumberTooLarge(_) => String::from_str(alloc, "the number exceeds 4294967295"),
-        TokenFault::NameTooLong(_) => String::from_str(alloc, "the name is longer than 64 bytes"),
-        TokenFault::UnendedComment(_) => {
-            String::from_str(alloc, "the comment is never closed by `*/`")
-        }
-        TokenFault::UnendedText(_) => String::from_str(
-            alloc,
-            "the text has no closing double quote on its line",
-        ),
-        TokenFault::QuotedName(_) => String::from_str(
-            alloc,
+        _ => String::from_str(alloc, plain_token_words(text, fault)),
+    }
+}
+
+/// The words of such a fault that repeat nothing of the text.
+fn plain_token_words(text: &[u8], fault: TokenFault) -> &'static str {
+    match fault {
+        TokenFault::OutOfRange(at) => range_words(text, at),
+        TokenFault::NoDigit(_) => "`0x` without a hexadecimal digit",
+        TokenFault::NumberTooLarge(_) => "the number exceeds 4294967295",
+        TokenFault::NameTooLong(_) => "the name is longer than 64 bytes",
+        TokenFault::UnendedComment(_) => "the comment is never closed by `*/`",
+        TokenFault::UnendedText(_) => "the text has no closing double quote on its line",
+        TokenFault::QuotedName(_) =>
             "names in single quotes are not supported: write the name without quotes",
-        ),
+        _ => "the text is no filter",
     }
 }
 
@@ -285,15 +286,17 @@ fn kind_words(alloc: Global, text: &[u8], fault: TypeFault) -> Result<String, Al
             let found = ExpectedKind::from(kind);
             format!(in alloc; "expected {expected}, found {found}")
         }
-        TypeFault::NetAssigned(_) => String::from_str(alloc, "`net` cannot be assigned"),
-        TypeFault::TooManyVariables(_) => {
-            String::from_str(alloc, "a filter has at most 16 variables")
-        }
-        TypeFault::SharedLabel(_) => String::from_str(
-            alloc,
-            "an earlier label of this `case` has a number of this label",
-        ),
-        TypeFault::Memory => String::from_str(alloc, "out of memory"),
+        _ => String::from_str(alloc, plain_kind_words(fault)),
+    }
+}
+
+/// The words of such a fault that repeat nothing of the text.
+fn plain_kind_words(fault: TypeFault) -> &'static str {
+    match fault {
+        TypeFault::NetAssigned(_) => "`net` cannot be assigned",
+        TypeFault::TooManyVariables(_) => "a filter has at most 16 variables",
+        TypeFault::SharedLabel(_) => "an earlier label of this `case` has a number of this label",
+        _ => "out of memory",
     }
 }
 

@@ -60,20 +60,6 @@ told_off t s fault known left held mid holds n counted cut_short =
     (λ input f. inr (record { mid = mid; refused = n; answered = f.0; cut = subst (IsCut fault mid holds) (counts_tell t s input f.2 f.1) cut_short }))
     counted
 
--- a refusal that is cut
-cut : (fault : StreamFault) (size : ℕ) (text input : List ℕ) (held holds : Option (List ℕ)) (told : Diagnosis)
-    → IsDiagnosis size false text told → IsCut fault held holds (refusal_line told.refusal) → CoversOff fault size text input (Some input) held holds
-cut stream.Read size text input held holds told r w = absurd w
-cut stream.Write size text input held holds told r w = inr (inl (told, r, refl, refl, w))
-cut stream.Memory size text input held holds told r w = inl (refl, refl, w)
-cut stream.TooLong size text input held holds told r w = absurd w
-
-pub cut_off : (fault : StreamFault) (size : ℕ) (text : List ℕ) (known held holds : Option (List ℕ)) (told : Diagnosis)
-    → IsDiagnosis size false text told → IsCut fault held holds (refusal_line told.refusal)
-    → IfSome known (λ input. CoversOff fault size text input known held holds)
-cut_off fault size text None held holds told r w = tt
-cut_off fault size text (Some input) held holds told r w = cut fault size text input held holds told r w
-
 -- what was counted of a filter of a text
 module _ (text : List ℕ) (size : ℕ) (filter : FilterView) (t : TracedView) (is : IsTraceOf text size filter t) where
   pub covered : (known left held holds : Option (List ℕ)) (n : ℕ) → IfSome known (λ input. CoversEach t input left held holds n)

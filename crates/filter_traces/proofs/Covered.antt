@@ -12,7 +12,7 @@ use Rattle.filter_commands.specs.Eval.{Line}
 use Rattle.filter_commands.specs.declared.line_fault.LineFault.{LineFault}
 use Rattle.filter_tools.specs.Filtering.{AnswersEach, AnswersFirst, routes_limit}
 use Rattle.filter_commands.specs.RouteLine.{route_in}
-use Rattle.filter_traces.proofs.Answered as answered
+use Rattle.filter_tools.proofs.Answered as answered
 use Rattle.filter_traces.proofs.Counts.{capped_more, count_more}
 use Rattle.filter_traces.specs.Coverage.{HasCounted, IsCounted, cover_answer, cover_read, hits, line_comes_to}
 use Rattle.filter_traces.specs.Hits.{counted_up}

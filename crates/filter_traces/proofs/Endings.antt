@@ -32,17 +32,3 @@ module _ (text : List ℕ) (size : ℕ) (filter : FilterView) (t : TracedView) (
   broken_off known left held holds fault =
       if_known known (λ input f.
       inr (inr (filter, t, is, first_alike (code_why t) (why_answer filter t) alike fault input left held holds f)))
-
--- a refusal that is cut
-cut : (fault : StreamFault) (size : ℕ) (text input : List ℕ) (held holds : Option (List ℕ)) (told : Diagnosis)
-    → IsDiagnosis size false text told → IsCut fault held holds (refusal_line told.refusal) → WhysOff fault size text input (Some input) held holds
-cut stream.Read size text input held holds told r w = absurd w
-cut stream.Write size text input held holds told r w = inr (inl (told, r, refl, refl, w))
-cut stream.Memory size text input held holds told r w = inl (refl, refl, w)
-cut stream.TooLong size text input held holds told r w = absurd w
-
-pub cut_off : (fault : StreamFault) (size : ℕ) (text : List ℕ) (known held holds : Option (List ℕ)) (told : Diagnosis)
-    → IsDiagnosis size false text told → IsCut fault held holds (refusal_line told.refusal)
-    → IfSome known (λ input. WhysOff fault size text input known held holds)
-cut_off fault size text None held holds told r w = tt
-cut_off fault size text (Some input) held holds told r w = cut fault size text input held holds told r w

@@ -9,7 +9,7 @@ use Rattle.filter_commands.specs.Eval.{Line}
 use Rattle.filter_commands.specs.declared.line_fault.LineFault.{LineFault}
 use Rattle.filter_tools.specs.Filtering.{AnswersEach, AnswersFirst, routes_limit}
 use Rattle.filter_commands.specs.RouteLine.{route_in}
-use Rattle.filter_traces.proofs.Answered as answered
+use Rattle.filter_tools.proofs.Answered as answered
 use Rattle.filter_traces.specs.TracedView.{TracedView}
 use Rattle.filter_traces.specs.Whys.{code_why, why_run}
 use Rattle.filter_traces.specs.declared.why.Explainer.{Explainer}

@@ -1,4 +1,3 @@
-pub mod Answered
 pub mod Counts
 pub mod Covered
 pub mod Covering

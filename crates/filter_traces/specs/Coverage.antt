@@ -4,19 +4,16 @@ use Rattle.std.specs.Io.KnownBytes.{Appends}
 use Rattle.filter_code.specs.CodeView.{CodeView}
 use Rattle.filter_code.specs.RouteView.{RouteView}
 use Rattle.filter_parser.specs.SyntaxText.{FilterView}
-use Rattle.filter_source.specs.declared.diagnosis.Diagnosis.{Diagnosis}
 use Rattle.line_protocol.specs.Answers.{Answer, refusal}
 use Rattle.line_protocol.specs.Lines.{numbered}
-use Rattle.line_protocol.specs.Runs.{AppendsFront}
 use Rattle.line_protocol.specs.declared.answers.Reply.TheVariants as reply
 use Rattle.line_protocol.specs.declared.faults.StreamFault.{StreamFault}
-use Rattle.line_protocol.specs.declared.faults.StreamFault.TheVariants.{Write, Memory}
 use Rattle.filter_commands.specs.Checking.{IsDiagnosis}
 use Rattle.filter_commands.specs.Eval.{Line}
 use Rattle.filter_commands.specs.Evaluation.{IsCut}
 use Rattle.filter_commands.specs.RouteLine.{line_code, route_in}
 use Rattle.filter_commands.specs.declared.line_fault.LineFault.{LineFault}
-use Rattle.filter_tools.specs.Filtering.{AnswersEach, AnswersFirst, refusal_line}
+use Rattle.filter_tools.specs.Filtering.{AnswersEach, AnswersFirst, BreaksOff, refusal_line}
 use Rattle.filter_tools.specs.declared.filter.Filtered.{Filtered}
 use Rattle.filter_tools.specs.declared.filter.Filtered.TheVariants.{Refused, Answered}
 use Rattle.filter_traces.specs.Commands.{coverage_text}
@@ -88,9 +85,6 @@ pub record CoversCut (t : TracedView) (fault : StreamFault) (input : List ℕ) (
 
 -- A fault ended it: nothing was written for want of memory, a refusal was cut, only the first lines were read, or the commands were cut.
 abbrev pub CoversOff : StreamFault → ℕ → List ℕ → List ℕ → Option (List ℕ) → Option (List ℕ) → Option (List ℕ) → Type 0
-CoversOff fault size text input left held holds =
-    ((fault ≡ Memory) × (left ≡ Some input) × Appends held holds [])
-    ⊎ (((told : Diagnosis) × IsDiagnosis size false text told × (fault ≡ Write) × (left ≡ Some input)
-    × AppendsFront held holds (refusal_line told.refusal))
-    ⊎ ((filter : FilterView) × (t : TracedView) × IsTraceOf text size filter t
-    × (AnswersFirst (cover_answer t.size) fault input left held holds ⊎ CoversCut t fault input left held holds)))
+CoversOff fault size text input left held holds = BreaksOff fault size text input left held holds
+    ((filter : FilterView) × (t : TracedView) × IsTraceOf text size filter t
+    × (AnswersFirst (cover_answer t.size) fault input left held holds ⊎ CoversCut t fault input left held holds))

@@ -53,13 +53,21 @@ abbrev pub truth_given : Bool → Option Value → List ℕ
 truth_given negated (Some (value.Bool b)) = truth_text (if negated then not b else b)
 truth_given negated _ = []
 
--- a comparison of two operands, and of one with a set
+-- what stands left and right of it: two operands, or one and a set
+abbrev pub left_of : Instr → Seen → Option Value
+left_of (instr.Member k) s = s.top
+left_of (instr.InSet k) s = s.top
+left_of i s = s.below
+
+abbrev pub right_text : Instr → Option Value → List ℕ
+right_text (instr.Member k) top = codes "[..]"
+right_text (instr.InSet k) top = codes "[..]"
+right_text i top = operand_text top
+
+-- a comparison
 abbrev pub compared : Bool → Instr → Seen → List ℕ
 compared negated i s =
-    operand_text s.below ++ 32 ∷ [] ++ sign negated i ++ 32 ∷ [] ++ operand_text s.top ++ codes " is " ++ truth_given negated s.given
-
-abbrev pub asked : Bool → Instr → Seen → List ℕ
-asked negated i s = operand_text s.top ++ 32 ∷ [] ++ sign negated i ++ codes " [..] is " ++ truth_given negated s.given
+    operand_text (left_of i s) ++ 32 ∷ [] ++ sign negated i ++ 32 ∷ [] ++ right_text i s.top ++ codes " is " ++ truth_given negated s.given
 
 -- what is told of an instruction that was carried out: `word` stands where it comes from, and `negated` says that a NOT of the same
 -- operator follows it
@@ -71,8 +79,8 @@ told word negated instr.Eq s = compared negated instr.Eq s
 told word negated instr.Lt s = compared negated instr.Lt s
 told word negated instr.Le s = compared negated instr.Le s
 told word negated instr.Within s = compared negated instr.Within s
-told word negated (instr.Member k) s = asked negated (instr.Member k) s
-told word negated (instr.InSet k) s = asked negated (instr.InSet k) s
+told word negated (instr.Member k) s = compared negated (instr.Member k) s
+told word negated (instr.InSet k) s = compared negated (instr.InSet k) s
 told word negated _ s = []
 
 -- an instruction of which something is told

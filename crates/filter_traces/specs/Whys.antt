@@ -1,6 +1,6 @@
 -- Why routes got their verdicts: for each route a line with what the filter's text means for it and where that was decided, and below it
 -- what is told of the run. (This project's own choice.)
-use Rattle.std.specs.Prelude.{◌≡◌, ◌⊎◌, ℕ, false, List, [], ◌∷◌, ◌++◌, map, Option, Some, Result, Ok, Err, codes, decimal, slice_get}
+use Rattle.std.specs.Prelude.{◌≡◌, ℕ, false, List, [], ◌∷◌, ◌++◌, map, Option, Some, Result, Ok, Err, codes, decimal, slice_get}
 use Rattle.std.specs.Io.KnownBytes.{Appends}
 use Rattle.prefix_patterns.specs.Spelling.{prefix_text}
 use Rattle.filter_code.specs.Machine.{outcome_of}
@@ -11,18 +11,15 @@ use Rattle.filter_compiler.specs.Verdicts.{Verdict, accepted, rejected, divided,
 use Rattle.filter_parser.specs.SyntaxText.{FilterView}
 use Rattle.filter_source.specs.Sources.{Translates}
 use Rattle.filter_source.specs.TextPlaces.{ArePlacesOf}
-use Rattle.filter_source.specs.declared.diagnosis.Diagnosis.{Diagnosis}
 use Rattle.filter_verifier.specs.Safe.{IsSafe}
 use Rattle.line_protocol.specs.Answers.{Answer, refusal}
-use Rattle.line_protocol.specs.Runs.{AppendsFront}
 use Rattle.line_protocol.specs.declared.answers.Reply.TheVariants as reply
 use Rattle.line_protocol.specs.declared.faults.StreamFault.{StreamFault}
-use Rattle.line_protocol.specs.declared.faults.StreamFault.TheVariants.{Write, Memory}
 use Rattle.filter_commands.specs.Checking.{IsDiagnosis}
 use Rattle.filter_commands.specs.Eval.{Line}
 use Rattle.filter_commands.specs.RouteLine.{line_code, route_in}
 use Rattle.filter_commands.specs.declared.line_fault.LineFault.{LineFault}
-use Rattle.filter_tools.specs.Filtering.{AnswersEach, AnswersFirst, refusal_line}
+use Rattle.filter_tools.specs.Filtering.{AnswersEach, AnswersFirst, BreaksOff, refusal_line}
 use Rattle.filter_tools.specs.Places.{column_at, line_at}
 use Rattle.filter_tools.specs.declared.filter.Filtered.{Filtered}
 use Rattle.filter_tools.specs.declared.filter.Filtered.TheVariants.{Refused, Answered}
@@ -98,9 +95,5 @@ Whys size text input left held holds (Answered refused) =
 
 -- A fault ended it: nothing was written for want of memory, a refusal was cut, or the first lines were answered.
 abbrev pub WhysOff : StreamFault → ℕ → List ℕ → List ℕ → Option (List ℕ) → Option (List ℕ) → Option (List ℕ) → Type 0
-WhysOff fault size text input left held holds =
-    ((fault ≡ Memory) × (left ≡ Some input) × Appends held holds [])
-    ⊎ (((told : Diagnosis) × IsDiagnosis size false text told × (fault ≡ Write) × (left ≡ Some input)
-    × AppendsFront held holds (refusal_line told.refusal))
-    ⊎ ((filter : FilterView) × (t : TracedView) × IsTraceOf text size filter t
-    × AnswersFirst (why_answer filter t) fault input left held holds))
+WhysOff fault size text input left held holds = BreaksOff fault size text input left held holds
+    ((filter : FilterView) × (t : TracedView) × IsTraceOf text size filter t × AnswersFirst (why_answer filter t) fault input left held holds)

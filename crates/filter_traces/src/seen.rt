@@ -2,17 +2,18 @@
 ghost use Rattle.std.specs.Prelude.{◌≡◌, ◌≤◌, ◌++◌, ◌&&◌, not, OnOk, slice_get};
 ghost use Rattle.filter_code.specs.Limits.{instruction_limit};
 ghost use Rattle.filter_code.specs.Names.{truth_text};
-ghost use Rattle.filter_traces.specs.Told.{asked, compared, is_declaration, is_negated, is_not, is_told, operand_text, same_byte, sign};
-ghost use Rattle.filter_traces.specs.Told.{step_line, told, told_line, truth_given, value_text};
+ghost use Rattle.filter_traces.specs.Told.{compared, is_declaration, is_negated, is_not, is_told, left_of, operand_text, right_text, same_byte};
+ghost use Rattle.filter_traces.specs.Told.{sign, step_line, told, told_line, truth_given, value_text};
 
 use crate::site::{Site, push_site, word_of};
 use crate::traced::Traced;
 use filter_code::{Instr, Value};
+use filter_tools::push_prefix;
 use line_protocol::push_decimal;
 use std::alloc::{AllocError, Global};
 
 /// What is seen of a step.
-#[derive(Clone, Copy, Debug)]
+#[derive(Clone, Copy)]
 pub(crate) struct Seen {
     /// The value below the top of the stack before the step, if there is one.
     pub(crate) below: Option<Value>,
@@ -46,10 +47,7 @@ fn push_value(alloc: Global, out: &mut Vec<u8>, value: Value) -> Result<(), Allo
             let text = format!(in alloc; "{ip}")?;
             out.extend_from_slice(text.as_bytes())
         }
-        Value::Net(prefix) => {
-            let text = format!(in alloc; "{prefix}")?;
-            out.extend_from_slice(text.as_bytes())
-        }
+        Value::Net(prefix) => push_prefix(alloc, out, prefix),
     }
 }
 
@@ -64,8 +62,8 @@ fn push_operand(alloc: Global, out: &mut Vec<u8>, operand: Option<Value>) -> Res
 }
 
 /// The sign of a comparison.
-fn sign(negated: bool, instr: Instr) -> &'static [u8]
-    ensures { result.now ≡ sign negated instr }
+fn sign(negated: bool, instr: &Instr) -> &'static [u8]
+    ensures { result.now ≡ sign negated instr.now }
 {
     match instr {
         Instr::Eq => { if negated { b"!=" } else { b"=" } }
@@ -90,7 +88,32 @@ fn push_truth_given(
     }
 }
 
-/// Puts a comparison of two operands at the end of `out`.
+/// What stands left of the sign of a comparison.
+fn left_of(instr: &Instr, seen: &Seen) -> Option<Value>
+    ensures { result ≡ left_of instr.now seen.now }
+{
+    match instr {
+        Instr::Member(_) | Instr::InSet(_) => seen.top,
+        _ => seen.below,
+    }
+}
+
+/// Puts what stands right of it at the end of `out`, where this is on top of the stack.
+fn push_right(
+    alloc: Global,
+    out: &mut Vec<u8>,
+    instr: &Instr,
+    top: Option<Value>,
+) -> Result<(), AllocError>
+    ensures { OnOk result (out.new.items ≡ out.old.items ++ right_text instr.now top) }
+{
+    match instr {
+        Instr::Member(_) | Instr::InSet(_) => out.extend_from_slice(b"[..]"),
+        _ => push_operand(alloc, out, top),
+    }
+}
+
+/// Puts a comparison at the end of `out`.
 fn push_compared(
     alloc: Global,
     out: &mut Vec<u8>,
@@ -100,29 +123,12 @@ fn push_compared(
 ) -> Result<(), AllocError>
     ensures { OnOk result (out.new.items ≡ out.old.items ++ compared negated instr seen) }
 {
-    push_operand(alloc, out, seen.below)?;
+    push_operand(alloc, out, left_of(&instr, &seen))?;
     out.push(b' ')?;
-    out.extend_from_slice(sign(negated, instr))?;
+    out.extend_from_slice(sign(negated, &instr))?;
     out.push(b' ')?;
-    push_operand(alloc, out, seen.top)?;
+    push_right(alloc, out, &instr, seen.top)?;
     out.extend_from_slice(b" is ")?;
-    push_truth_given(out, negated, seen.given)
-}
-
-/// Puts the question whether an operand is in a set at the end of `out`.
-fn push_asked(
-    alloc: Global,
-    out: &mut Vec<u8>,
-    negated: bool,
-    instr: Instr,
-    seen: Seen,
-) -> Result<(), AllocError>
-    ensures { OnOk result (out.new.items ≡ out.old.items ++ asked negated instr seen) }
-{
-    push_operand(alloc, out, seen.top)?;
-    out.push(b' ')?;
-    out.extend_from_slice(sign(negated, instr))?;
-    out.extend_from_slice(b" [..] is ")?;
     push_truth_given(out, negated, seen.given)
 }
 
@@ -153,10 +159,8 @@ fn push_told(
             out.push(b' ')?;
             push_operand(alloc, out, seen.top)
         }
-        Instr::Eq | Instr::Lt | Instr::Le | Instr::Within => {
-            push_compared(alloc, out, negated, instr, seen)
-        }
-        Instr::Member(_) | Instr::InSet(_) => push_asked(alloc, out, negated, instr, seen),
+        Instr::Eq | Instr::Lt | Instr::Le | Instr::Within | Instr::Member(_) | Instr::InSet(_) =>
+            push_compared(alloc, out, negated, instr, seen),
         _ => Ok(()),
     }
 }

@@ -6,7 +6,7 @@ use line_protocol::push_decimal;
 use std::alloc::AllocError;
 
 /// Where an instruction comes from.
-#[derive(Clone, Copy, Debug, PartialEq, Eq)]
+#[derive(Clone, Copy)]
 pub(crate) struct Site {
     /// The byte of the text.
     pub(crate) byte: usize,

@@ -8,10 +8,8 @@ ghost use Rattle.filter_traces.specs.Whys.{IsTraceOf, site_in};
 
 use crate::site::Site;
 use filter_code::{Code, Instr};
-use filter_commands::code_of;
-use filter_compiler::MappedCode;
-use filter_source::{Failure, verify_mapped};
-use filter_tools::Positions;
+use filter_source::Failure;
+use filter_tools::{PlacedCode, Positions, placed_code};
 use filter_verifier::Verified;
 use std::alloc::{AllocError, Global};
 use std::marker::Model;
@@ -117,8 +115,7 @@ pub(crate) fn trace_filter(alloc: Global, text: &[u8], size: u32) -> Result<Trac
     ensures traced { IfOk result (λ traced. (filter : FilterView) × IsTraceOf text.now size filter traced) }
     ensures refused { IfErr result (OnDiagnosis (IsDiagnosis size false text.now)) }
 {
-    let MappedCode { code, places } = code_of(alloc, text, false)?;
+    let PlacedCode { verified, places } = placed_code(alloc, text, size)?;
     let sites = sites_in(alloc, text, places.as_slice())?;
-    let verified = verify_mapped(alloc, code, places.as_slice(), size)?;
     Ok(Traced::new(verified, text, sites))
 }

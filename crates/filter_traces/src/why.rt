@@ -13,7 +13,7 @@ use crate::traced::{Traced, trace_filter};
 use filter_code::{Outcome, Route};
 use filter_commands::{ProgramFault, read_route};
 use filter_source::Failure;
-use filter_tools::{Filtered, ROUTES_LIMIT, write_refusal};
+use filter_tools::{Filtered, ROUTES_LIMIT, push_prefix, write_refusal};
 use line_protocol::{Reply, Service, answer_lines_within, push_decimal, push_refusal};
 use std::alloc::{AllocError, Global};
 use std::io::{Read, Write};
@@ -22,9 +22,7 @@ use std::io::{Read, Write};
 fn push_route(alloc: Global, out: &mut Vec<u8>, route: &Route) -> Result<(), AllocError>
     ensures { OnOk result (out.new.items ≡ out.old.items ++ route_text route.now) }
 {
-    let prefix = route.net();
-    let text = format!(in alloc; "{prefix}")?;
-    out.extend_from_slice(text.as_bytes())?;
+    push_prefix(alloc, out, route.net())?;
     out.push(b' ')?;
     push_decimal(out, u64::from(route.metric()))
 }

@@ -6,7 +6,7 @@ use Rattle.command_line.specs.declared.diff_words.Comparing.{Comparing}
 use Rattle.filter_commands.specs.Faults.{stream_fault}
 use Rattle.filter_commands.specs.declared.fault.ProgramFault.{ProgramFault}
 use Rattle.filter_source.specs.Limits.{source_limit}
-use Rattle.filter_workbench.specs.Comparing.{Named}
+use Rattle.filter_tools.specs.Naming.{Named}
 use Rattle.ncroute.specs.Comparing.{StopsComparing, StopsComparison, StopsWith}
 use Rattle.ncroute.specs.Reading.{IsRead, name_of}
 use Rattle.ncroute.specs.Streaming.{Streams}

@@ -2,9 +2,10 @@
 use Rattle.std.specs.Prelude.{◌≡◌, ◌⊎◌, ℕ, List, Option, Result}
 use Rattle.std.specs.declared.io.Error.{Error}
 use Rattle.filter_source.specs.Limits.{source_limit}
-use Rattle.filter_workbench.specs.Comparing.{ComparesNamed, ComparesNamedOff, Named}
-use Rattle.filter_workbench.specs.declared.comparing.Compared.{Compared}
-use Rattle.filter_workbench.specs.declared.comparing.Compared.TheVariants.{Refused, Same, Differ, Undecided}
+use Rattle.filter_checks.specs.Comparing.{ComparesNamed, ComparesNamedOff}
+use Rattle.filter_tools.specs.Naming.{Named}
+use Rattle.filter_checks.specs.declared.comparing.Compared.{Compared}
+use Rattle.filter_checks.specs.declared.comparing.Compared.TheVariants.{Refused, Same, Differ, Undecided}
 use Rattle.line_protocol.specs.declared.faults.StreamFault.{StreamFault}
 use Rattle.command_line.specs.declared.aid_words.Source.{Source}
 use Rattle.command_line.specs.declared.diff_words.Comparing.{Comparing}

@@ -1,7 +1,7 @@
 //! How the filters of two sources are compared.
 ghost use Rattle.std.specs.Prelude.{◌≡◌, IfErr, IfOk};
 ghost use Rattle.filter_commands.specs.Faults.{stream_fault};
-ghost use Rattle.filter_workbench.specs.Comparing.{named};
+ghost use Rattle.filter_tools.specs.Naming.{named};
 ghost use Rattle.ncroute.specs.Comparing.{ComparesSources, ComparesTexts, ComparesWith, StopsComparing, StopsComparison, StopsWith};
 ghost use Rattle.ncroute.specs.Comparing.{status_of_comparison};
 
@@ -9,9 +9,10 @@ use crate::script::FAULT;
 use crate::serve::FAILED;
 use crate::texts::{Folder, name_of, read_source, tell_unread};
 use command_line::{Comparing, Source};
+use filter_checks::{Compared, compare_named};
 use filter_commands::ProgramFault;
 use filter_source::SOURCE_LIMIT;
-use filter_workbench::{Compared, NamedText, compare_named};
+use filter_tools::NamedText;
 use std::alloc::Global;
 use std::io::{Read, Write};
 

@@ -2,7 +2,7 @@
 ghost use Rattle.std.specs.Prelude.{◌≡◌, IfErr, IfOk, OnOk};
 ghost use Rattle.filter_commands.specs.Faults.{stream_fault};
 ghost use Rattle.filter_lint.specs.Linting.{LintsNamedOff};
-ghost use Rattle.filter_workbench.specs.Comparing.{named};
+ghost use Rattle.filter_tools.specs.Naming.{named};
 ghost use Rattle.ncroute.specs.Linting.{CutsLint, CutsWarning, LintsAll, LintsOne, LintsText, StopsLinting, Warns, is_said};
 
 use crate::aid::is_any;
@@ -11,7 +11,7 @@ use command_line::{Checking, Linting, Source};
 use filter_commands::ProgramFault;
 use filter_lint::{Linted, lint_named, warn_named};
 use filter_source::SOURCE_LIMIT;
-use filter_workbench::NamedText;
+use filter_tools::NamedText;
 use std::alloc::Global;
 use std::io::{Read, Write};
 

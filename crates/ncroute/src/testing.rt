@@ -6,7 +6,7 @@ ghost use Rattle.filter_checks.specs.Files.{file_view};
 ghost use Rattle.filter_checks.specs.Places.{path_beside};
 ghost use Rattle.filter_commands.specs.Evaluation.{IsCut};
 ghost use Rattle.filter_commands.specs.Faults.{stream_fault};
-ghost use Rattle.filter_workbench.specs.Comparing.{named};
+ghost use Rattle.filter_tools.specs.Naming.{named};
 ghost use Rattle.ncroute.specs.Testing as spec;
 
 use crate::script::FAULT;
@@ -18,7 +18,7 @@ use filter_checks::{
 };
 use filter_commands::ProgramFault;
 use filter_source::SOURCE_LIMIT;
-use filter_workbench::NamedText;
+use filter_tools::NamedText;
 use line_protocol::StreamFault;
 use std::alloc::{AllocError, Global};
 use std::io::{Read, Write};

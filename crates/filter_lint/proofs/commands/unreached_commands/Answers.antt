@@ -2,13 +2,12 @@ use Rattle.std.proofs.Common.{◌++◌, ◌∙◌, Option, ap, sym}
 use Rattle.std.specs.Prelude.{option_to_list}
 use Rattle.filter_lint.proofs.Found.{next_reached, none_before, none_below, one_more}
 use Rattle.filter_lint.specs.Commands.{unreached_at, unreached_in}
-use Rattle.filter_lint.specs.Sources.{source_view}
 use Rattle.filter_lint.specs.declared.warning.Warning.{Warning}
 use Rattle.filter_lint.proofs.commands.unreached_commands.Goals as goal
 
 pub loop-at-init : goal.loop-at-init
 loop-at-init c =
-    let source = source_view c.args.source.now in
+    let source = c.args.source.now in
     record {
       said = c.new-found.ensures.items ∙ sym (none_below (unreached_in source c.args.marks.now));
       reached = sym (none_before source c.args.marks.now);
@@ -16,7 +15,7 @@ loop-at-init c =
 
 pub loop-at-preserved : goal.loop-at-preserved
 loop-at-preserved c =
-    let source = source_view c.args.source.now in
+    let source = c.args.source.now in
     let marks = c.args.marks.now in
     record {
       said = one_more (unreached_in source marks) c.loop-at.at c.loop-at.found.items c.push_found.new.out.items c.loop-at.invariant.said

@@ -1,10 +1,10 @@
-use Rattle.filter_workbench.specs.Comparing.{named}
+use Rattle.filter_tools.specs.Naming.{named}
 use Rattle.filter_lint.proofs.Endings.{reported}
 use Rattle.filter_lint.proofs.linting.report_of.Goals as goal
 
 pub returns : goal.returns
 returns c =
-    reported c.args.judged.now.verified.program c.args.judged.now.verified.size c.args.judged.now.places.items c.as_slice.result.now
+    reported c.args.placed.now.verified.program c.args.placed.now.verified.size c.args.placed.now.places.items c.as_slice.result.now
     (named c.args.source.now) c.in_ok-all.all c.in_ok-host_bits.host_bits.items c.as_slice-2.result.now c.report_on.result
     c.as_slice.ensures.value c.as_slice-2.ensures.value c.in_ok-all.ensures.found c.in_ok-all.ensures.sound
     c.in_ok-host_bits.ensures c.report_on.ensures.lines c.report_on.ensures.counted

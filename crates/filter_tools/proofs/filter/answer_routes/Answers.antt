@@ -1,10 +1,9 @@
 -- The run of the service answers each line, or the first of them.
-use Rattle.std.proofs.Common.{refl}
 use Rattle.filter_source.proofs.Refused.{of_error}
 use Rattle.filter_commands.proofs.Endings.{if_known}
 use Rattle.filter_commands.specs.declared.fault.ProgramFault.TheVariants.{Stream}
 use Rattle.line_protocol.proofs.Viewed.{finishes, stops}
-use Rattle.filter_tools.proofs.Answered.{answers, breaks_off, ends_well}
+use Rattle.filter_tools.proofs.Answered.{answers, code_breaks_off, code_ends_well}
 use Rattle.filter_tools.proofs.filter.answer_routes.Goals as goal
 
 pub returns-in_err-answer_lines_within-clause-broken_off : goal.returns-in_err-answer_lines_within-clause-broken_off
@@ -13,7 +12,8 @@ returns-in_err-answer_lines_within-clause-broken_off g c =
     let after = c.answer_lines_within.new.service in
     let fault = c.in_err-answer_lines_within.field-0.0 in
     of_error c.from_residual.result _ (Stream fault) c.from_residual.ensures.1
-    (if_known _ (λ input f. breaks_off v fault v after.verified input _ _ _ refl (stops (λ s. s.verified) answers fault (record { verified = v; watcher = c.args.watcher }) after input _ _ _ f))
+    (if_known _ (λ input f. code_breaks_off v fault after.verified input _ _ _
+    (stops (λ s. s.verified) answers fault (record { verified = v; watcher = c.args.watcher }) after input _ _ _ f))
     c.in_err-answer_lines_within.ensures.err)
 
 pub returns-clause-finished : goal.returns-clause-finished
@@ -21,5 +21,6 @@ returns-clause-finished g c =
     let v = c.args.verified in
     let after = c.answer_lines_within.new.service in
     let n = c.in_ok-answer_lines_within.field-0 in
-    if_known _ (λ input f. ends_well v v after.verified input _ _ _ n refl (finishes (λ s. s.verified) answers (record { verified = v; watcher = c.args.watcher }) after input _ _ _ n f))
+    if_known _ (λ input f. code_ends_well v after.verified input _ _ _ n
+    (finishes (λ s. s.verified) answers (record { verified = v; watcher = c.args.watcher }) after input _ _ _ n f))
     c.in_ok-answer_lines_within.ensures.ok

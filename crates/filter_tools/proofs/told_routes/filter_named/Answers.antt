@@ -9,16 +9,14 @@ use Rattle.filter_tools.proofs.told_routes.filter_named.Goals as goal
 
 pub returns-in-Ok-answer_told-clause-finished : goal.returns-in-Ok-answer_told-clause-finished
 returns-in-Ok-answer_told-clause-finished g c =
-    let t = c.in-Ok.ensures.translates in
-    answered c.args.text.now c.args.size c.in-Ok.verified c.in-Ok.ensures.size c.in-Ok.ensures.safe t.0 t.1
+    answered c.args.text.now c.args.size c.in-Ok.verified c.in-Ok.ensures.verified
     (g.R.Read.remaining c.args.reader.now) (g.R.Read.remaining c.answer_told.new.reader)
     (g.W.Write.contents c.args.writer.now) (g.W.Write.contents c.answer_told.new.writer)
     c.in-Ok-answer_told.refused c.in-Ok-answer_told.ensures.finished
 
 pub returns-in-Err-clause-broken_off : goal.returns-in-Err-clause-broken_off
 returns-in-Err-clause-broken_off g c =
-    let t = c.in-Ok.ensures.translates in
-    told_off c.args.name.now c.args.text.now c.args.size c.in-Ok.verified c.in-Ok.ensures.size c.in-Ok.ensures.safe t.0 t.1
+    told_off c.args.name.now c.args.text.now c.args.size c.in-Ok.verified c.in-Ok.ensures.verified
     (g.R.Read.remaining c.args.reader.now) (g.R.Read.remaining c.answer_told.new.reader)
     (g.W.Write.contents c.args.writer.now) (g.W.Write.contents c.answer_told.new.writer)
     (g.E.Write.contents c.args.errors.now) (g.E.Write.contents c.answer_told.new.errors)

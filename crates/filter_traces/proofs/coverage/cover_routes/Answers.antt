@@ -4,7 +4,8 @@ use Rattle.filter_source.proofs.Refused.{of_error}
 use Rattle.filter_source.specs.Failures.{OnDiagnosis}
 use Rattle.filter_commands.specs.Faults.{stream_fault}
 use Rattle.filter_commands.specs.Checking.{IsDiagnosis}
-use Rattle.filter_traces.proofs.CoverEndings.{broken_off, covered, cut_off}
+use Rattle.filter_tools.proofs.Endings.{cut_off}
+use Rattle.filter_traces.proofs.CoverEndings.{broken_off, covered}
 use Rattle.filter_traces.specs.TracedView.{TracedView}
 use Rattle.filter_traces.specs.Whys.{IsTraceOf}
 use Rattle.filter_traces.proofs.coverage.cover_routes.Goals as goal
@@ -27,7 +28,7 @@ returns-in_err-write_refusal-in-Err-Refused-clause-broken_off g c =
     let known = g.R.Read.remaining c.args.reader.now in
     of_error c.from_residual-in_err-write_refusal-in-Err-Refused.result _ fault
     c.from_residual-in_err-write_refusal-in-Err-Refused.ensures.1
-    (cut_off (stream_fault fault) c.args.size c.args.text.now known
+    (cut_off _ (stream_fault fault) c.args.size c.args.text.now known
     (g.W.Write.contents c.args.writer.now) (g.W.Write.contents c.write_refusal.new.writer) c.in-Err-Refused.told
     (subst (OnDiagnosis (IsDiagnosis c.args.size false c.args.text.now)) c.in-Err-Refused.field-0-is c.in-Err-Refused.ensures.refused)
     c.in_err-write_refusal-in-Err-Refused.ensures.err)

@@ -1,4 +1,4 @@
-use Rattle.filter_workbench.specs.Comparing.{named}
+use Rattle.filter_tools.specs.Naming.{named}
 use Rattle.ncroute.proofs.Stopped.{stopped_with}
 use Rattle.ncroute.proofs.comparing.compare_with.Goals as goal
 

@@ -1,0 +1,96 @@
+-- How a comparison of two named texts ends.
+use Rattle.std.proofs.Common.{◌≡◌, inl, inr, ℕ, Bool, false, List, Option, Some, None, Result, Ok, Err, IfOk, IfErr, MatchResult, sym, subst}
+use Rattle.std.specs.Result.{result_err}
+use Rattle.filter_code.specs.CodeView.{CodeView}
+use Rattle.filter_commands.specs.Checking.{IsDiagnosis}
+use Rattle.filter_commands.specs.Faults.{stream_fault}
+use Rattle.filter_commands.specs.declared.fault.ProgramFault.{ProgramFault}
+use Rattle.filter_diff.specs.declared.part.Part.{Part}
+use Rattle.filter_source.specs.declared.diagnosis.Diagnosis.{Diagnosis}
+use Rattle.filter_tools.proofs.Endings.{is_filter, keeps_self}
+use Rattle.filter_tools.specs.Filtering.{IsVerifiedOf}
+use Rattle.filter_tools.specs.Naming.{Named}
+use Rattle.filter_verifier.specs.VerifiedView.{VerifiedView}
+use Rattle.line_protocol.specs.Runs.{AppendsFront}
+use Rattle.line_protocol.specs.declared.faults.StreamFault.{StreamFault}
+use Rattle.line_protocol.specs.declared.faults.StreamFault.TheVariants.{Write}
+use Rattle.filter_checks.specs.Comparing.{AreParts, AreRefused, ComparesNamed, ComparesNamedOff, IsCutParts, IsCutTellingBoth, IsJudged, TellsBoth, WritesParts}
+use Rattle.filter_checks.specs.PartLines.{parts_text}
+use Rattle.filter_checks.specs.declared.comparing.Compared.{Compared}
+use Rattle.filter_checks.specs.declared.comparing.Compared.TheVariants as compared
+
+-- the lines of parts, and lines that are cut
+pub parts_cut : (fault : StreamFault) (old new : CodeView) (size : ℕ) (parts : List Part) (text shown : List ℕ)
+    (held holds : Option (List ℕ)) → fault ≡ Write → shown ≡ text → text ≡ parts_text parts → AreParts old new size parts
+    → AppendsFront held holds shown → IsCutParts fault old new size held holds
+parts_cut fault old new size parts text shown held holds is same text_is are cut =
+    subst (λ (f : StreamFault). IsCutParts f old new size held holds) (sym is)
+    (inr (parts, are, subst (AppendsFront held holds) text_is (subst (AppendsFront held holds) same cut)))
+
+-- what is told of a text, where it is judged so
+judged : (size : ℕ) (text : List ℕ) (r : Result VerifiedView Diagnosis) → MatchResult r (IsVerifiedOf size text) (IsDiagnosis size false text)
+    → IsJudged size text (result_err r)
+judged size text (Ok v) h = (h.filter, is_filter size text v h)
+judged size text (Err told) h = h
+
+pub second_refused : (size : ℕ) (old new : Named) (v : VerifiedView) (told : Diagnosis) → IsVerifiedOf size old.text v
+    → IsDiagnosis size false new.text told → AreRefused size old new None (Some told)
+second_refused size old new v told is_v h = record {
+  old_judged = (is_v.filter, is_filter size old.text v is_v);
+  new_judged = h;
+  refused = λ first second. cc;
+}
+
+pub first_refused : (size : ℕ) (old new : Named) (told : Diagnosis) (r : Result VerifiedView Diagnosis) (after : Option Diagnosis)
+    → after ≡ result_err r → IsDiagnosis size false old.text told
+    → MatchResult r (IsVerifiedOf size new.text) (IsDiagnosis size false new.text) → AreRefused size old new (Some told) after
+first_refused size old new told r after is h g = record {
+  old_judged = h;
+  new_judged = subst (IsJudged size new.text) (sym is) (judged size new.text r g);
+  refused = λ first. absurd (let no : ⊥ = cc in no);
+}
+
+module _ (size : ℕ) (is_explained : Bool) (old new : Named) where
+  -- both texts give verified code
+  module _ (v w : VerifiedView) (is_v : IsVerifiedOf size old.text v) (is_w : IsVerifiedOf size new.text w)
+      (held holds tells : Option (List ℕ)) where
+    pub both_compared : (r : Result Compared ProgramFault) → IfOk r (WritesParts v.program w.program v.size held holds)
+        → IfOk r (ComparesNamed size is_explained old new held holds tells tells)
+    both_compared (Ok end) h =
+        inr (
+          keeps_self tells,
+          is_v.filter,
+          is_filter size old.text v is_v,
+          is_w.filter,
+          is_filter size new.text w is_w,
+          subst (λ (n : ℕ). WritesParts v.program w.program n held holds end) is_v.size_is h,
+        )
+    both_compared (Err fault) h = tt
+
+    pub both_cut : (r : Result Compared ProgramFault)
+        → IfErr r (λ fault. IsCutParts (stream_fault fault) v.program w.program v.size held holds)
+        → IfErr r (λ fault. ComparesNamedOff (stream_fault fault) size is_explained old new held holds tells tells)
+    both_cut (Ok end) h = tt
+    both_cut (Err fault) h =
+        inr (inr (
+          keeps_self tells,
+          is_v.filter,
+          is_filter size old.text v is_v,
+          is_w.filter,
+          is_filter size new.text w is_w,
+          subst (λ (n : ℕ). IsCutParts (stream_fault fault) v.program w.program n held holds) is_v.size_is h,
+        ))
+
+  -- one of them is refused
+  module _ (before after : Option Diagnosis) (are : AreRefused size old new before after) (held tells told : Option (List ℕ)) where
+    pub refused_told : (r : Result Compared ProgramFault)
+        → IfOk r (λ end. (end ≡ compared.Refused) × TellsBoth is_explained old new before after tells told)
+        → IfOk r (ComparesNamed size is_explained old new held held tells told)
+    refused_told (Ok end) h = inl (h.0, keeps_self held, before, after, are, h.1)
+    refused_told (Err fault) h = tt
+
+    pub refused_cut : (r : Result Compared ProgramFault)
+        → IfErr r (λ fault. IsCutTellingBoth (stream_fault fault) is_explained old new before after tells told)
+        → IfErr r (λ fault. ComparesNamedOff (stream_fault fault) size is_explained old new held held tells told)
+    refused_cut (Ok end) h = tt
+    refused_cut (Err fault) h = inr (inl (keeps_self held, before, after, are, h))

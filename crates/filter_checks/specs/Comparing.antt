@@ -1,0 +1,90 @@
+-- How two filters are compared that have names. (This project's own choice.)
+use Rattle.std.specs.Prelude.{◌≡◌, ◌≢◌, ◌⊎◌, ℕ, Bool, false, List, [], All, Option, Some, None}
+use Rattle.std.specs.Io.KnownBytes.{Appends, Keeps}
+use Rattle.filter_code.specs.CodeView.{CodeView}
+use Rattle.filter_commands.specs.Checking.{IsDiagnosis}
+use Rattle.filter_commands.specs.Evaluation.{IsCut}
+use Rattle.filter_diff.specs.Answers.{answer_of}
+use Rattle.filter_diff.specs.Parts.{Cover, IsReal, IsTrueOf}
+use Rattle.filter_diff.specs.declared.answer.Answer.{Answer}
+use Rattle.filter_diff.specs.declared.answer.Answer.TheVariants as answer
+use Rattle.filter_diff.specs.declared.part.Part.{Part}
+use Rattle.filter_parser.specs.SyntaxText.{FilterView}
+use Rattle.filter_source.specs.declared.diagnosis.Diagnosis.{Diagnosis}
+use Rattle.filter_tools.specs.Filtering.{IsFilterOf}
+use Rattle.filter_tools.specs.Naming.{IsCutTelling, Named, TellsOf}
+use Rattle.line_protocol.specs.declared.faults.StreamFault.{StreamFault}
+use Rattle.line_protocol.specs.declared.faults.StreamFault.TheVariants.{Memory}
+use Rattle.filter_checks.specs.PartLines.{parts_text}
+use Rattle.filter_checks.specs.declared.comparing.Compared.{Compared}
+use Rattle.filter_checks.specs.declared.comparing.Compared.TheVariants as compared
+
+-- This is told of a text: nothing where it spells a filter whose code never goes wrong in domains of the size, and otherwise why it
+-- is refused.
+abbrev pub IsJudged : ℕ → List ℕ → Option Diagnosis → Type 0
+IsJudged size text None = (filter : FilterView) × IsFilterOf text size filter
+IsJudged size text (Some told) = IsDiagnosis size false text told
+
+-- These are parts of the routes outside of which the two codes have the same outcome; each has a route, and on each of its routes holds
+-- what is found of it.
+pub record AreParts (old new : CodeView) (size : ℕ) (parts : List Part) : Type 0 where
+  pub complete : Cover old new size parts
+  pub sound : All (IsTrueOf old new size) parts
+  pub real : All (IsReal size) parts
+
+-- what the comparison comes to
+abbrev pub compared_as : Answer → Compared
+compared_as answer.Same = compared.Same
+compared_as answer.Differ = compared.Differ
+compared_as answer.Undecided = compared.Undecided
+
+-- The lines of such parts were written. `held` and `holds` are what the writer held before and holds now.
+pub record WritesParts (old new : CodeView) (size : ℕ) (held holds : Option (List ℕ)) (end : Compared) : Type 0 where
+  pub parts : List Part
+  pub are_parts : AreParts old new size parts
+  pub written : Appends held holds (parts_text parts)
+  pub comes_to : end ≡ compared_as (answer_of parts)
+
+-- a fault cut them
+abbrev pub IsCutParts : StreamFault → CodeView → CodeView → ℕ → Option (List ℕ) → Option (List ℕ) → Type 0
+IsCutParts fault old new size held holds =
+    ((fault ≡ Memory) × Appends held holds [])
+    ⊎ ((parts : List Part) × AreParts old new size parts × IsCut fault held holds (parts_text parts))
+
+-- Standard error got what is told of one text, and then of another. `tells` and `told` are what it held before and holds now.
+pub record TellsBoth (is_explained : Bool) (old new : Named) (before after : Option Diagnosis) (tells told : Option (List ℕ)) : Type 0 where
+  pub between : Option (List ℕ)
+  pub old_told : TellsOf is_explained old.name old.text before tells between
+  pub new_told : TellsOf is_explained new.name new.text after between told
+
+-- A fault cut what is told of the one, or of the other.
+abbrev pub IsCutTellingBoth : StreamFault → Bool → Named → Named → Option Diagnosis → Option Diagnosis → Option (List ℕ) → Option (List ℕ) → Type 0
+IsCutTellingBoth fault is_explained old new before after tells told =
+    ((why : Diagnosis) × (before ≡ Some why) × IsCutTelling fault is_explained old.name old.text why tells told)
+    ⊎ ((why : Diagnosis) × (after ≡ Some why) × (between : Option (List ℕ)) × TellsOf is_explained old.name old.text before tells between
+    × IsCutTelling fault is_explained new.name new.text why between told)
+
+-- Two texts were judged, at least one of which is refused.
+pub record AreRefused (size : ℕ) (old new : Named) (before after : Option Diagnosis) : Type 0 where
+  pub old_judged : IsJudged size old.text before
+  pub new_judged : IsJudged size new.text after
+  pub refused : before ≡ None → after ≢ None
+
+-- The texts spell filters, and the lines of the comparison of their codes were written, and nothing told; or a text is refused, which was
+-- told, and nothing written.
+abbrev pub ComparesNamed : ℕ → Bool → Named → Named → Option (List ℕ) → Option (List ℕ) → Option (List ℕ) → Option (List ℕ) → Compared → Type 0
+ComparesNamed size is_explained old new held holds tells told end =
+    ((end ≡ compared.Refused) × Keeps held holds × (before : Option Diagnosis) × (after : Option Diagnosis)
+    × AreRefused size old new before after × TellsBoth is_explained old new before after tells told)
+    ⊎ (Keeps tells told × (f : FilterView) × (is_f : IsFilterOf old.text size f) × (g : FilterView) × (is_g : IsFilterOf new.text size g)
+    × WritesParts is_f.program is_g.program size held holds end)
+
+-- A fault ended it: before anything was written or told, for want of memory; while a refusal was told; or while the lines were written.
+abbrev pub ComparesNamedOff : StreamFault → ℕ → Bool → Named → Named → Option (List ℕ) → Option (List ℕ) → Option (List ℕ)
+    → Option (List ℕ) → Type 0
+ComparesNamedOff fault size is_explained old new held holds tells told =
+    ((fault ≡ Memory) × Appends held holds [] × Keeps tells told)
+    ⊎ ((Keeps held holds × (before : Option Diagnosis) × (after : Option Diagnosis) × AreRefused size old new before after
+    × IsCutTellingBoth fault is_explained old new before after tells told)
+    ⊎ (Keeps tells told × (f : FilterView) × (is_f : IsFilterOf old.text size f) × (g : FilterView) × (is_g : IsFilterOf new.text size g)
+    × IsCutParts fault is_f.program is_g.program size held holds))

@@ -1,0 +1,162 @@
+//! `ncroute diff`: on which routes two filters differ.
+ghost use Rattle.std.specs.Prelude.{◌≡◌, ◌≤◌, false, IfErr, IfOk, MatchResult};
+ghost use Rattle.filter_code.specs.Limits.{largest_size};
+ghost use Rattle.filter_commands.specs.Checking.{IsDiagnosis};
+ghost use Rattle.filter_commands.specs.Faults.{stream_fault};
+ghost use Rattle.filter_tools.specs.Filtering.{IsVerifiedOf};
+ghost use Rattle.filter_tools.specs.Naming.{named};
+ghost use Rattle.filter_checks.specs.Comparing as spec;
+ghost use Rattle.filter_checks.specs.declared.comparing.Compared.TheVariants as compared;
+
+use crate::part_lines::parts_text;
+use filter_code::Code;
+use filter_commands::ProgramFault;
+use filter_diff::{Answer, Part, answer_of, compare, join_all};
+use filter_source::{Diagnosis, Failure};
+use filter_tools::{NamedText, tell_refusal, verified_filter};
+use filter_verifier::Verified;
+use line_protocol::write_text;
+use std::alloc::{AllocError, Global};
+use std::io::Write;
+
+/// What the comparison of two filters comes to.
+#[derive(Clone, Copy, PartialEq)]
+pub enum Compared {
+    /// A text gives no verified code, and nothing is compared.
+    Refused,
+    /// The two filters do the same with every route.
+    Same,
+    /// They differ on some routes.
+    Differ,
+    /// No difference was found, and some routes are undecided.
+    Undecided,
+}
+
+/// The verified code of a text for domains of a size, or what is told of why it is refused.
+fn judge(alloc: Global, text: &[u8], size: u32) -> Result<Result<Verified, Diagnosis>, AllocError>
+    ensures { IfOk result (λ judged. MatchResult judged (IsVerifiedOf size text.now) (IsDiagnosis size false text.now)) }
+{
+    match verified_filter(alloc, text, size) {
+        Ok(verified) => Ok(Ok(verified)),
+        Err(Failure::Refused(told)) => Ok(Err(told)),
+        Err(Failure::Memory) => Err(AllocError),
+    }
+}
+
+/// The parts of the routes on which two codes differ or are undecided, joined.
+fn find_parts(
+    alloc: Global,
+    old: &Code,
+    new: &Code,
+    size: u32,
+    limit: u64,
+) -> Result<Vec<Part>, AllocError>
+    requires { size ≤ largest_size }
+    ensures { IfOk result (λ parts. spec.AreParts old.now new.now size parts.items) }
+{
+    let found = compare(alloc, old, new, size, limit)?;
+    join_all(alloc, found.parts)
+}
+
+/// What the comparison comes to, by what its parts come to.
+fn compared_as(found: Answer) -> Compared
+    ensures { result ≡ spec.compared_as found }
+{
+    match found {
+        Answer::Same => Compared::Same,
+        Answer::Differ => Compared::Differ,
+        Answer::Undecided => Compared::Undecided,
+    }
+}
+
+/// Compares two codes on all routes of domains of `size` nodes, and writes the lines of the parts.
+fn write_parts<W: Write>(
+    alloc: Global,
+    old: &Code,
+    new: &Code,
+    size: u32,
+    limit: u64,
+    writer: &mut W,
+) -> Result<Compared, ProgramFault>
+    requires { size ≤ largest_size }
+    ensures finished { IfOk result (spec.WritesParts old.now new.now size (W.contents writer.old) (W.contents writer.new)) }
+    ensures broken_off { IfErr result (λ fault.
+        spec.IsCutParts (stream_fault fault) old.now new.now size (W.contents writer.old) (W.contents writer.new)) }
+{
+    let parts = find_parts(alloc, old, new, size, limit)?;
+    let text = parts_text(alloc, parts.as_slice())?;
+    write_text(writer, text.as_slice())?;
+    Ok(compared_as(answer_of(parts.as_slice())))
+}
+
+/// Compares two verified codes on all routes of domains of the size that they were verified for, and writes the lines of the parts.
+fn write_comparison<W: Write>(
+    alloc: Global,
+    old: &Verified,
+    new: &Verified,
+    limit: u64,
+    writer: &mut W,
+) -> Result<Compared, ProgramFault>
+    ensures finished { IfOk result (spec.WritesParts old.now.program new.now.program old.now.size (W.contents writer.old) (W.contents writer.new)) }
+    ensures broken_off { IfErr result (λ fault.
+        spec.IsCutParts (stream_fault fault) old.now.program new.now.program old.now.size (W.contents writer.old) (W.contents writer.new)) }
+{
+    write_parts(alloc, old.code(), new.code(), old.size(), limit, writer)
+}
+
+/// Tells why each of two texts is refused, if it is.
+fn tell_both<E: Write>(
+    alloc: Global,
+    errors: &mut E,
+    old: &NamedText<'_>,
+    new: &NamedText<'_>,
+    before: Option<Diagnosis>,
+    after: Option<Diagnosis>,
+    is_explained: bool,
+) -> Result<Compared, ProgramFault>
+    ensures ok { IfOk result (λ end. (end ≡ compared.Refused) × spec.TellsBoth is_explained (named old.now) (named new.now) before after
+        (E.contents errors.old) (E.contents errors.new)) }
+    ensures err { IfErr result (λ fault. spec.IsCutTellingBoth (stream_fault fault) is_explained (named old.now) (named new.now)
+        before after (E.contents errors.old) (E.contents errors.new)) }
+{
+    tell_refusal(alloc, errors, old.name, old.text, &before, is_explained)?;
+    tell_refusal(alloc, errors, new.name, new.text, &after, is_explained)?;
+    Ok(Compared::Refused)
+}
+
+/// Compares the filters that two texts spell on all routes of domains of `size` nodes, and writes a line for each part of the routes
+/// on which they differ or on which it is not decided, then one line on all other routes. It tries at most `limit` classes of routes.
+/// A text that is refused is told on `errors` under its name, in words where `is_explained` says so, and then nothing is compared.
+pub fn compare_named<W: Write, E: Write>(
+    alloc: Global,
+    old: &NamedText<'_>,
+    new: &NamedText<'_>,
+    size: u32,
+    limit: u64,
+    is_explained: bool,
+    writer: &mut W,
+    errors: &mut E,
+) -> Result<Compared, ProgramFault>
+    ensures finished { IfOk result (spec.ComparesNamed size is_explained (named old.now) (named new.now)
+        (W.contents writer.old) (W.contents writer.new) (E.contents errors.old) (E.contents errors.new)) }
+    ensures broken_off { IfErr result (λ fault. spec.ComparesNamedOff (stream_fault fault) size is_explained (named old.now)
+        (named new.now) (W.contents writer.old) (W.contents writer.new) (E.contents errors.old) (E.contents errors.new)) }
+{
+    let before = judge(alloc, old.text, size)?;
+    let after = judge(alloc, new.text, size)?;
+    match before {
+        Ok(old_code) => match after {
+            Ok(new_code) => write_comparison(alloc, &old_code, &new_code, limit, writer),
+            Err(told) => tell_both(alloc, errors, old, new, None, Some(told), is_explained),
+        },
+        Err(told) => tell_both(
+            alloc,
+            errors,
+            old,
+            new,
+            Some(told),
+            after.err(),
+            is_explained,
+        ),
+    }
+}

@@ -1,0 +1,145 @@
+//! The lines that tell of parts of the routes.
+ghost use Rattle.std.specs.Prelude.{◌≡◌, ◌++◌, IfOk, OnOk};
+ghost use Rattle.filter_checks.specs.PartLines as spec;
+
+use filter_code::Outcome;
+use filter_diff::{Ending, Finding, Part, count_undecided};
+use filter_tools::push_prefix;
+use line_protocol::push_decimal;
+use std::alloc::{AllocError, Global};
+
+/// Puts the outcome of a run at the end of `out`.
+pub fn push_outcome(out: &mut Vec<u8>, end: Outcome) -> Result<(), AllocError>
+    ensures { OnOk result (out.new.items ≡ out.old.items ++ spec.outcome_text end) }
+{
+    match end {
+        Outcome::Accept(metric) => {
+            out.extend_from_slice(b"accept ")?;
+            push_decimal(out, u64::from(metric))
+        }
+        Outcome::Reject => out.extend_from_slice(b"reject"),
+        Outcome::Fault(kind, at) => {
+            out.extend_from_slice(b"fault ")?;
+            out.extend_from_slice(kind.code().as_bytes())?;
+            out.push(b' ')?;
+            push_decimal(out, at as u64)
+        }
+    }
+}
+
+/// Puts how the runs on all routes of a part end at the end of `out`.
+fn push_ending(out: &mut Vec<u8>, end: Ending) -> Result<(), AllocError>
+    ensures { OnOk result (out.new.items ≡ out.old.items ++ spec.ending_text end) }
+{
+    match end {
+        Ending::Unchanged => out.extend_from_slice(b"accept"),
+        Ending::Fixed(end) => push_outcome(out, end),
+    }
+}
+
+/// Puts what stands before the routes of a part at the end of `out`.
+fn push_finding_word(out: &mut Vec<u8>, found: Finding) -> Result<(), AllocError>
+    ensures { OnOk result (out.new.items ≡ out.old.items ++ spec.finding_word found) }
+{
+    match found {
+        Finding::Undecided => out.extend_from_slice(b"undecided "),
+        Finding::Differ(_, _) => out.extend_from_slice(b"differ "),
+    }
+}
+
+/// Puts what stands behind the routes of a part at the end of `out`.
+fn push_endings(out: &mut Vec<u8>, found: Finding) -> Result<(), AllocError>
+    ensures { OnOk result (out.new.items ≡ out.old.items ++ spec.endings_text found) }
+{
+    match found {
+        Finding::Undecided => Ok(()),
+        Finding::Differ(before, after) => {
+            out.extend_from_slice(b": ")?;
+            push_ending(out, before)?;
+            out.extend_from_slice(b" | ")?;
+            push_ending(out, after)
+        }
+    }
+}
+
+/// Puts the prefixes of a part at the end of `out`, as a pattern.
+fn push_pattern(alloc: Global, out: &mut Vec<u8>, part: &Part) -> Result<(), AllocError>
+    ensures { OnOk result (out.new.items ≡ out.old.items ++ spec.pattern_text part.now) }
+{
+    push_prefix(alloc, out, part.prefix)?;
+    out.push(b'{')?;
+    push_decimal(out, u64::from(part.shortest))?;
+    out.push(b',')?;
+    push_decimal(out, u64::from(part.longest))?;
+    out.push(b'}')?;
+    Ok(())
+}
+
+/// Puts the metrics of a part at the end of `out`.
+fn push_metrics(out: &mut Vec<u8>, part: &Part) -> Result<(), AllocError>
+    ensures { OnOk result (out.new.items ≡ out.old.items ++ spec.metrics_text part.now) }
+{
+    out.extend_from_slice(b", metrics ")?;
+    push_decimal(out, u64::from(part.least))?;
+    out.extend_from_slice(b"..")?;
+    push_decimal(out, u64::from(part.greatest))
+}
+
+/// Puts the line of a part at the end of `out`.
+fn push_part(alloc: Global, out: &mut Vec<u8>, part: &Part) -> Result<(), AllocError>
+    ensures { OnOk result (out.new.items ≡ out.old.items ++ spec.part_line part.now) }
+{
+    push_finding_word(out, part.finding)?;
+    push_pattern(alloc, out, part)?;
+    push_metrics(out, part)?;
+    push_endings(out, part.finding)?;
+    out.push(b'\n')?;
+    Ok(())
+}
+
+/// What stands before the number of the parts that are undecided.
+#[tactic(auto, unfolding(crate::specs::PartLines::undecided_on))]
+fn undecided_on() -> &'static [u8]
+    ensures { result.now ≡ spec.undecided_on }
+{
+    b"undecided on "
+}
+
+/// Puts how many parts are undecided at the end of `out`, where there are several.
+fn push_several_words(out: &mut Vec<u8>, count: usize) -> Result<(), AllocError>
+    ensures { OnOk result (out.new.items ≡ out.old.items ++ spec.several_words count) }
+{
+    out.extend_from_slice(undecided_on())?;
+    push_decimal(out, count as u64)?;
+    out.extend_from_slice(b" parts")
+}
+
+/// Puts the words of the last line at the end of `out`, where so many of the parts are undecided.
+fn push_last_words(out: &mut Vec<u8>, parts: &[Part], undecided: usize) -> Result<(), AllocError>
+    ensures { OnOk result (out.new.items ≡ out.old.items ++ spec.last_words undecided parts.now) }
+{
+    if undecided == 0 {
+        return if parts.is_empty() {
+            out.extend_from_slice(b"same on all routes")
+        } else {
+            out.extend_from_slice(b"same on all other routes")
+        };
+    }
+    if undecided == 1 {
+        return out.extend_from_slice(b"undecided on 1 part");
+    }
+    push_several_words(out, undecided)
+}
+
+/// The lines of parts of the routes, and the last line, on all other routes.
+pub fn parts_text(alloc: Global, parts: &[Part]) -> Result<Vec<u8>, AllocError>
+    ensures { IfOk result (λ text. text.items ≡ spec.parts_text parts.now) }
+{
+    let mut out = Vec::new(alloc);
+    for part in parts {
+        push_part(alloc, &mut out, part)?;
+    }
+    push_last_words(&mut out, parts, count_undecided(parts))?;
+    out.push(b'\n')?;
+    Ok(out)
+}

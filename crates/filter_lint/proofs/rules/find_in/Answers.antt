@@ -1,0 +1,31 @@
+use Rattle.std.proofs.Common.{◌∙◌, ap, length, refl, sym}
+use Rattle.filter_code.specs.CodeView.{CodeView}
+use Rattle.filter_lint.specs.Watching.{is_watched, watched_places}
+use Rattle.filter_lint.proofs.Tried.{said_is_so, same_reach}
+use Rattle.filter_lint.proofs.Watched.{length-watched}
+use Rattle.filter_lint.proofs.rules.find_in.Goals as goal
+
+-- the search is asked of each instruction
+pub reach-requires-clause-watched : goal.reach-requires-clause-watched
+reach-requires-clause-watched c =
+    ap length c.as_slice.ensures.value ∙ (ap length c.in_ok-watched.ensures
+    ∙ (length-watched (is_watched c.args.source.now) (length c.args.source.now.program.instrs)
+    ∙ ap (λ (p : CodeView). length p.instrs) (sym c.code.ensures)))
+
+pub returns-clause-found : goal.returns-clause-found
+returns-clause-found c =
+    let source = c.args.source.now in record {
+      reach = c.in_ok-reached.reached;
+      is_reach = same_reach c.code.result.now source.program c.size.result source.size c.as_slice.result.now (watched_places source)
+          c.in_ok-reached.reached c.code.ensures c.size.ensures (c.as_slice.ensures.value ∙ c.in_ok-watched.ensures) c.in_ok-reached.ensures;
+      found_is = c.in_ok-found.ensures;
+      complete_is = refl;
+    }
+
+pub returns-clause-sound : goal.returns-clause-sound
+returns-clause-sound c =
+    let source = c.args.source.now in
+    said_is_so source c.as_slice.result.now c.in_ok-reached.reached
+    (same_reach c.code.result.now source.program c.size.result source.size c.as_slice.result.now c.as_slice.result.now
+    c.in_ok-reached.reached c.code.ensures c.size.ensures refl c.in_ok-reached.ensures)
+    c.in_ok-found.found.items c.in_ok-found.ensures

@@ -1,5 +1,0 @@
-use Rattle.filter_workbench.proofs.Meant.{of_filters}
-use Rattle.filter_workbench.proofs.laws.parts_are_of_filters.Goals as goal
-
-pub returns : goal.returns
-returns c = of_filters

@@ -1,4 +1,0 @@
--- What callers cite.
-pub mod PartLines
-pub mod Comparing
-pub mod Filters
