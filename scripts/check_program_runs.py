@@ -69,7 +69,7 @@ RUNS = [
     ("check --size 8 --explain auto", b"filter a { accept }", b"refused P2 18\n", 1),
     ("check --size 8 --explain sometimes", FILTER, b"", 2),
     ("check --size 8 -", FILTER, LINES, 0),
-    ("check --size 8 --explain always - -", FILTER, LINES + b"refused P9 0\n", 1),
+    ("check --size 8 --explain always - -", FILTER, b"", 2),
     ("check --size 8 no_such.filter", FILTER, b"", 1),
     ("explain P99", b"", b"", 2),
     ("list", b"filter a { accept; }", b"0 ACCEPT ; 1:12\n1 REJECT ; 1:20\n", 0),
@@ -134,12 +134,12 @@ RUNS = [
     ("router --size 8 --node 3 --filter f=- --import 1=f", FILTER, b"", 0),
     ("router --size 8 --node 3 --save examples/tie.script", b"routes\n", b"", 1),
     ("run examples/tie.script no_such.script", b"", b"", 1),
-    ("run - -", b"network 4 0\nshow 0\n", b"ok\nroute 0 local\n", 0),
-    ("run --explain never - -", b"network 4 0\nshow 9", b"ok\nrefused N4 0\n", 1),
+    ("run - -", b"network 4 0\nshow 0\n", b"", 2),
+    ("run --explain never -", b"network 4 0\nshow 9", b"ok\nrefused N4 0\n", 1),
     ("check --size 8 --names", FILTER, b"<stdin>: code " + CODE + b"\n<stdin>: verified 7 2\n", 0),
     ("check --size 8 -q", FILTER, b"", 0),
     ("check --size 8 --quiet", b"filter a { accept }", b"refused P2 18\n", 1),
-    ("check --size 251 -q --names - -", FILTER, b"<stdin>: refused V8 0\n<stdin>: refused P9 0\n", 1),
+    ("check --size 251 -q --names -", FILTER, b"<stdin>: refused V8 0\n", 1),
     ("run --filter b=examples/backup_link.filter", b"import 1 b\nnetwork 16 0\nimport 1 b\nimport 2 c\n", b"refused O4 1\nok\ndone 0\nrefused O6 4\n", 1),
     ("run --filter b=examples/backup_link.filter --stop -", b"network 16 0\nimport 1 b\n", b"ok\ndone 0\n", 0),
     ("run --filter b=examples/backup_link.filter --filter c=examples/up_two.eval", b"up 1\nnetwork 16 0\nimport 1 b\n", b"refused O4 1\n", 1),
@@ -225,6 +225,8 @@ FAULTS = [
      b"<stdin>:2:34: the divisor may be 0: it is 0..16 here, whatever the conditions before it; see `ncroute explain V3` (V3)\nload b filter b int c; { c = 100 / rip_metric; accept; }\n"
      + b" " * 33 + b"^\n1\n"),
     ("ncroute explain P2 2>&1 >/dev/full; echo $?", b"ncroute: E2\n1\n"),
+    ("ncroute check --size 16 -q examples/no_bogons.filter $'no_such\\xff.filter' examples/up_two.eval --explain never 2>&1; echo $?",
+     b"no_such .filter: file name contained an unexpected NUL byte (E1)\nexamples/up_two.eval: refused P2 100\nrefused P2 100\n1\n"),
     ("ncroute list examples/no_bogons.filter 2>&1 >/dev/full; echo $?", b"ncroute: E2\n3\n"),
 ]
 

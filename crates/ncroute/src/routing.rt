@@ -4,11 +4,11 @@ ghost use Rattle.std.specs.Prelude.{◌≡◌, None, Some, IfErr, IfOk, MatchOpt
 ghost use Rattle.filter_commands.specs.Faults.{stream_fault};
 ghost use Rattle.line_protocol.specs.Runs.{AppendsFront};
 ghost use Rattle.ncroute.specs.Routing as spec;
-ghost use Rattle.ncroute.specs.Serving.{fault_line};
+ghost use Rattle.ncroute.specs.Ending.{fault_line};
 
+use crate::ending::{FAILED, report_fault};
 use crate::loading::load_filters;
 use crate::planning::plan_of;
-use crate::serve::{FAILED, report_fault};
 use crate::texts::{Folder, tell_unmade};
 use command_line::RouterWords;
 use filter_commands::ProgramFault;
@@ -225,6 +225,7 @@ fn tell_unset<E: Write>(errors: &mut E, fault: ProgramFault) -> u8
 
 /// Runs the router that words ask for, and returns the exit status. Its filters are verified, and the file of its history is made,
 /// before any link is opened. `voice` is where people are told of links.
+#[tactic(auto, unfolding(crate::specs::Routing::ServesRouter))]
 pub fn serve_router<
     R: Threads + Wait + Clock + Folder + LinkFolder<FI, FO> + Copy + Send + Sync + Drop + 'static,
     FI: Read + Send + Drop + 'static,
