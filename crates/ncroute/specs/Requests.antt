@@ -16,14 +16,14 @@ use Rattle.command_line.specs.declared.requests.Request.TheVariants as request
 use Rattle.command_line.specs.declared.requests.Source.{Source}
 use Rattle.ncroute.specs.Checking.{ChecksAll, ChecksSome}
 use Rattle.ncroute.specs.Comparing.{ComparesSources, StopsComparing}
-use Rattle.ncroute.specs.Ending.{TellsFaultLine, status_of, status_of_found}
+use Rattle.ncroute.specs.Ending.{fault_line, status_of, status_of_found}
 use Rattle.ncroute.specs.Guiding.{RunsGuided, StopsRun}
 use Rattle.ncroute.specs.Joining.{RunsJoined, StopsJoined}
 use Rattle.ncroute.specs.Linting.{LintsAll, StopsLinting}
 use Rattle.ncroute.specs.Reading.{Reads, SkipsUnread, StopsReading, name_of}
 use Rattle.ncroute.specs.Replaying.{ReplaysSource, StopsReplay}
 use Rattle.ncroute.specs.Scripts.{RunsSource, StopsSource, script_fault}
-use Rattle.ncroute.specs.Streaming.{CutsWriting, Streams, Writes}
+use Rattle.ncroute.specs.Streaming.{CutsWriting, Streams, Tells, TellsFront, Writes}
 use Rattle.ncroute.specs.Testing.{StopsSources, TestsSources}
 use Rattle.ncroute.specs.Trying.{StopsFilter, TriesFilter}
 
@@ -134,13 +134,19 @@ module _ (opens : List ℕ → Result (Option (List ℕ)) Error → Type 0) wher
     StopsAnswer fault (request.Script engine source is_explained) before after = StopsSource opens fault engine source is_explained before after
     StopsAnswer fault (request.Test how sources) before after = StopsSources opens fault how sources.items before after
 
-    -- A fault ended it, which standard error was told: the whole line, or a front of it where standard error failed too.
-    pub record TellsOfFault (what : Request) (before after : Streams) : Type 0 where
+    -- A fault ended it, and `TellsLine line mid after` says what standard error was then told of the line of the fault.
+    pub record EndsByFault (TellsLine : List ℕ → Streams → Streams → Type 0) (what : Request) (before after : Streams) : Type 0 where
       pub fault : ProgramFault
       pub mid : Streams
       pub stopped : StopsAnswer (stream_fault fault) what before mid
-      pub told : TellsFaultLine fault mid after
+      pub told : TellsLine (fault_line fault) mid after
 
-    -- What was asked for ended with this exit status: it was done to its end; or a fault ended it, and the status is that of a fault.
+    -- What was asked for ended with this exit status: it was done to its end; or a fault ended it, which standard error was told, and the
+    -- status is that of a fault.
     abbrev pub Serves : Request → Streams → Streams → ℕ → Type 0
-    Serves what before after status = Answers what before after status ⊎ (TellsOfFault what before after × (status ≡ fault_status what))
+    Serves what before after status =
+        Answers what before after status ⊎ (EndsByFault Tells what before after × (status ≡ fault_status what))
+
+    -- A fault ended it, and standard error did not take the whole line.
+    abbrev pub FailsToReport : Request → Streams → Streams → Type 0
+    FailsToReport what before after = EndsByFault TellsFront what before after

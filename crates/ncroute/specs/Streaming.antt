@@ -2,6 +2,7 @@
 use Rattle.std.specs.Prelude.{◌≡◌, ℕ, List, Option}
 use Rattle.std.specs.Io.KnownBytes.{Appends}
 use Rattle.filter_commands.specs.Evaluation.{IsCut}
+use Rattle.line_protocol.specs.Runs.{AppendsFront}
 use Rattle.line_protocol.specs.declared.faults.StreamFault.{StreamFault}
 
 -- what the input has left, what the output holds, and what standard error holds
@@ -25,6 +26,12 @@ pub record CutsWriting (fault : StreamFault) (text : List ℕ) (before after : S
 -- A text was told, and that is all.
 pub record Tells (text : List ℕ) (before after : Streams) : Type 0 where
   pub told : Appends before.tells after.tells text
+  pub reads : after.reads ≡ before.reads
+  pub holds : after.holds ≡ before.holds
+
+-- A front of it was.
+pub record TellsFront (text : List ℕ) (before after : Streams) : Type 0 where
+  pub told : AppendsFront before.tells after.tells text
   pub reads : after.reads ≡ before.reads
   pub holds : after.holds ≡ before.holds
 

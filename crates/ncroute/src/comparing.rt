@@ -6,8 +6,7 @@ ghost use Rattle.ncroute.specs.Comparing.{ComparesSources, ComparesTexts, Compar
 ghost use Rattle.ncroute.specs.Comparing.{status_of_comparison};
 
 use crate::console::{Console, Loaded};
-use crate::ending::FAILED;
-use crate::script::FAULT;
+use crate::ending::{FAILED, FAULT};
 use crate::texts::{Folder, name_of};
 use command_line::{Comparing, Source};
 use filter_commands::ProgramFault;
@@ -38,7 +37,7 @@ fn compare_texts<R: Read, W: Write, E: Write>(
     ensures finished { IfOk result (ComparesTexts how (named old.now) (named new.now) console.old console.new) }
     ensures stopped { IfErr result (λ fault. StopsComparison (stream_fault fault) how (named old.now) (named new.now) console.old console.new) }
 {
-    let found = compare_named(
+    match compare_named(
         alloc,
         old,
         new,
@@ -47,8 +46,10 @@ fn compare_texts<R: Read, W: Write, E: Write>(
         how.is_explained,
         &mut console.writer,
         &mut console.errors,
-    )?;
-    Ok(status_of_comparison(found))
+    ) {
+        Ok(found) => Ok(status_of_comparison(found)),
+        Err(fault) => Err(fault),
+    }
 }
 
 /// Compares the filter of a text with that of a source, and returns the exit status.

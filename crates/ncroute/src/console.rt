@@ -1,14 +1,15 @@
 //! The streams of the program.
-ghost use Rattle.std.specs.Prelude.{◌<◌, ◌^◌, IfErr, OnOk};
+ghost use Rattle.std.specs.Prelude.{◌<◌, ◌^◌, IfErr, OnErr, OnOk};
 ghost use Rattle.filter_commands.specs.Faults.{stream_fault};
-ghost use Rattle.ncroute.specs.Ending.{TellsFaultLine};
+ghost use Rattle.ncroute.specs.Ending.{fault_line};
 ghost use Rattle.ncroute.specs.Reading.{IsLoaded, IsWithin};
-ghost use Rattle.ncroute.specs.Streaming.{CutsTelling, CutsWriting, Tells, Writes};
+ghost use Rattle.ncroute.specs.Streaming.{CutsTelling, CutsWriting, Tells, TellsFront, Writes};
 
 use crate::ending::report_fault;
 use crate::texts::{Folder, read_source, tell_unread, write_line};
 use command_line::Source;
 use filter_commands::ProgramFault;
+use line_protocol::StreamFault;
 use std::alloc::Global;
 use std::io::{Read, Write};
 use std::marker::Model;
@@ -87,13 +88,14 @@ impl<R: Read, W: Write, E: Write> Console<R, W, E> {
         }
     }
 
-    /// Tells people of a fault. Where that fails too, nothing more can be told.
-    pub fn report(&mut self, fault: ProgramFault)
-        ensures { TellsFaultLine fault self.old self.new }
+    /// Tells people of a fault. The error is that of standard error, which did not take the whole line.
+    pub fn report(&mut self, fault: ProgramFault) -> Result<(), StreamFault>
+        ensures ok { OnOk result (Tells (fault_line fault) self.old self.new) }
+        ensures err { OnErr result (TellsFront (fault_line fault) self.old self.new) }
     {
         match report_fault(&mut self.errors, fault) {
-            Ok(()) => {}
-            Err(_) => {}
+            Ok(()) => Ok(()),
+            Err(fault) => Err(fault),
         }
     }
 }

@@ -11,6 +11,9 @@ use std::io::Write;
 /// The exit status where a line was refused or a fault ended the run.
 pub const FAILED: u8 = 1;
 
+/// The exit status where a fault of the machine ended what a refusal ends with `FAILED`.
+pub const FAULT: u8 = 3;
+
 /// The exit status of a run with that many refused lines.
 pub fn status_of(refused: u32) -> u8
     ensures { result ≡ status_of refused }
@@ -43,4 +46,13 @@ pub fn report_fault<E: Write>(errors: &mut E, fault: ProgramFault) -> Result<(),
     ensures err { OnErr result (AppendsFront (E.contents errors.old) (E.contents errors.new) (fault_line fault)) }
 {
     write_text(errors, fault_line(fault).as_bytes())
+}
+
+/// Ends a run by a fault, of which people are told as far as standard error takes the line: the exit status.
+pub fn end_by_fault<E: Write>(errors: &mut E, fault: ProgramFault) -> u8
+    ensures status { result ≡ FAILED }
+    ensures told { AppendsFront (E.contents errors.old) (E.contents errors.new) (fault_line fault) }
+{
+    let _ = report_fault(errors, fault);
+    FAILED
 }

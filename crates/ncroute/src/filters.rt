@@ -131,13 +131,10 @@ pub fn read_given<F: Folder, R: Read, W: Write, E: Write>(
 {
     match read_filters(files, alloc, named, &mut console.reader) {
         Ok(filters) => LoadedFilters::All(filters),
-        Err(unread) => {
-            let UnreadFilter { source, why } = unread;
-            match tell_unread(alloc, &mut console.errors, source, why) {
-                Ok(()) => LoadedFilters::Skipped,
-                Err(fault) => LoadedFilters::Stopped(fault),
-            }
-        }
+        Err(unread) => match tell_unread(alloc, &mut console.errors, unread.source, unread.why) {
+            Ok(()) => LoadedFilters::Skipped,
+            Err(fault) => LoadedFilters::Stopped(fault),
+        },
     }
 }
 

@@ -36,7 +36,7 @@ fn lint_text<R: Read, W: Write, E: Write>(
     ensures finished { IfOk result (LintsText how (named source.now) console.old console.new) }
     ensures cut { IfErr result (λ fault. CutsLintText (stream_fault fault) how (named source.now) console.old console.new) }
 {
-    let linted = lint_named(
+    match lint_named(
         alloc,
         source,
         how.size,
@@ -44,8 +44,10 @@ fn lint_text<R: Read, W: Write, E: Write>(
         how.is_explained,
         &mut console.writer,
         &mut console.errors,
-    )?;
-    Ok(is_said(linted))
+    ) {
+        Ok(linted) => Ok(is_said(linted)),
+        Err(fault) => Err(fault),
+    }
 }
 
 /// Tells the warnings of a text that was checked, where they are asked for and it is not refused.
@@ -63,8 +65,10 @@ pub fn warn<R: Read, W: Write, E: Write>(
     match how.warning_limit {
         Some(limit) if !is_refused => {
             let source = NamedText { name, text };
-            warn_named(alloc, &source, how.size, limit, &mut console.errors)?;
-            Ok(())
+            match warn_named(alloc, &source, how.size, limit, &mut console.errors) {
+                Ok(()) => Ok(()),
+                Err(fault) => Err(fault),
+            }
         }
         _ => Ok(()),
     }

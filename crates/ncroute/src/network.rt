@@ -1,6 +1,6 @@
 //! The command `net`: from the words to an exit status.
-ghost use Rattle.std.specs.Prelude.{◌≡◌};
-ghost use Rattle.ncroute.specs.Networking.{ServesNetwork, network_line};
+ghost use Rattle.std.specs.Prelude.{◌≡◌, IfOk, OnErr};
+ghost use Rattle.ncroute.specs.Networking.{FailsToReportNetwork, ServesNetwork, network_line};
 
 use crate::console::Console;
 use crate::ending::FAILED;
@@ -33,19 +33,21 @@ fn network_line(fault: NetworkFault) -> &'static str
     }
 }
 
-/// Runs the network, and returns the exit status: 0, or 1 where a fault ended it, which is told on standard error.
+/// Runs the network, and returns the exit status: 0, or 1 where a fault ended it, which is told. The error is that of standard error, which
+/// did not take the whole line.
 pub fn serve_network<R: Threads + Wait + Clock + Sync, I: Read, W: Write, E: Write>(
     rt: &R,
     alloc: Global,
     console: &mut Console<I, W, E>,
-) -> u8
-    ensures { ServesNetwork console.old console.new result }
+) -> Result<u8, StreamFault>
+    ensures served { IfOk result (ServesNetwork console.old console.new) }
+    ensures not_reported { OnErr result (FailsToReportNetwork console.old console.new) }
 {
     match net_lines(rt, alloc, &mut console.writer) {
-        Ok(()) => 0,
+        Ok(()) => Ok(0),
         Err(fault) => match write_text(&mut console.errors, network_line(fault).as_bytes()) {
-            Ok(()) => FAILED,
-            Err(_) => FAILED,
+            Ok(()) => Ok(FAILED),
+            Err(fault) => Err(fault),
         },
     }
 }

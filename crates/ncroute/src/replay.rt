@@ -7,8 +7,7 @@ ghost use Rattle.history_file.specs.Replays.{verdict_line};
 ghost use Rattle.ncroute.specs.Replaying.{CutsReplay, ReplaysSource, ReplaysText, StopsReplay};
 
 use crate::console::{Console, Loaded};
-use crate::ending::FAILED;
-use crate::script::FAULT;
+use crate::ending::{FAILED, FAULT};
 use crate::texts::Folder;
 use command_line::Source;
 use filter_commands::ProgramFault;

@@ -1,20 +1,20 @@
 //! From what is asked for to an exit status.
-ghost use Rattle.std.specs.Prelude.{◌≡◌, IfErr, IfOk};
+ghost use Rattle.std.specs.Prelude.{◌≡◌, IfErr, IfOk, OnErr};
 ghost use Rattle.filter_commands.specs.Faults.{stream_fault};
-ghost use Rattle.ncroute.specs.Requests.{Answers, EvaluatesTold, ListsSource, ListsText, RewritesInput, Serves, StopsAnswer, StopsEvaluating};
+ghost use Rattle.ncroute.specs.Requests.{Answers, EvaluatesTold, FailsToReport, ListsSource, ListsText, RewritesInput, Serves, StopsAnswer, StopsEvaluating};
 ghost use Rattle.ncroute.specs.Requests.{StopsList, StopsListing, StopsRewriting, fault_status};
 ghost use Rattle.ncroute.specs.Streaming.{CutsWriting, Writes};
 
 use crate::checking::check_sources;
 use crate::comparing::compare_sources;
 use crate::console::{Console, Loaded};
-use crate::ending::{FAILED, status_of, status_of_found};
+use crate::ending::{FAILED, FAULT, status_of, status_of_found};
 use crate::guided::guide_source;
 use crate::importing::import_source;
 use crate::joined::guide_sources;
 use crate::linting::lint_sources;
 use crate::replay::replay_source;
-use crate::script::{FAULT, run_source, script_fault};
+use crate::script::{run_source, script_fault};
 use crate::testing::test_sources;
 use crate::texts::{Folder, name_of};
 use crate::trying::try_filter;
@@ -22,6 +22,7 @@ use command_line::{Request, Source};
 use filter_commands::{ProgramFault, rewrite_text};
 use filter_source::SOURCE_LIMIT;
 use filter_tools::{Routes, eval_named, list_named};
+use line_protocol::StreamFault;
 use std::alloc::Global;
 use std::io::{Read, Write};
 
@@ -186,7 +187,7 @@ fn answer<F: Folder, R: Read, W: Write, E: Write>(
 }
 
 /// The exit status where a fault of the machine ends what is asked for: 1 where a command has had it from the first.
-fn fault_status(request: &Request) -> u8
+pub fn fault_status(request: &Request) -> u8
     ensures { result ≡ fault_status request.now }
 {
     match request {
@@ -207,20 +208,22 @@ fn fault_status(request: &Request) -> u8
     }
 }
 
-/// Does what is asked for, and returns the exit status: 0, or 1 where something was refused, or that of a fault, which is told.
+/// Does what is asked for, and returns the exit status: 0, or 1 where something was refused, or that of a fault, which is told. The error is
+/// that of standard error, which did not take the whole line.
 pub fn serve<F: Folder, R: Read, W: Write, E: Write>(
     files: &F,
     alloc: Global,
     request: &Request,
     console: &mut Console<R, W, E>,
-) -> u8
-    ensures { Serves (F.opens files.now) (F.creates files.now) request.now console.old console.new result }
+) -> Result<u8, StreamFault>
+    ensures served { IfOk result (Serves (F.opens files.now) (F.creates files.now) request.now console.old console.new) }
+    ensures not_reported { OnErr result (FailsToReport (F.opens files.now) (F.creates files.now) request.now console.old console.new) }
 {
     match answer(files, alloc, request, console) {
-        Ok(status) => status,
-        Err(fault) => {
-            console.report(fault);
-            fault_status(request)
-        }
+        Ok(status) => Ok(status),
+        Err(fault) => match console.report(fault) {
+            Ok(()) => Ok(fault_status(request)),
+            Err(fault) => Err(fault),
+        },
     }
 }

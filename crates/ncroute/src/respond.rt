@@ -1,16 +1,19 @@
 //! From the words of the command line to the exit status.
-ghost use Rattle.std.specs.Prelude.{◌≡◌};
+ghost use Rattle.std.specs.Prelude.{◌≡◌, ◌⊎◌};
 ghost use Rattle.filter_commands.specs.declared.fault.ProgramFault.TheVariants.{Stream};
-ghost use Rattle.ncroute.specs.Ending.{TellsFaultLine};
+ghost use Rattle.ncroute.specs.Ending.{fault_line};
+ghost use Rattle.ncroute.specs.Networking.{FailsToReportNetwork, ServesNetwork};
+ghost use Rattle.ncroute.specs.Requests.{FailsToReport, Serves, fault_status};
 ghost use Rattle.ncroute.specs.Responding.{Responds};
+ghost use Rattle.ncroute.specs.Streaming.{TellsFront};
 
 use crate::console::Console;
-use crate::ending::FAILED;
+use crate::ending::{FAILED, end_by_fault};
 use crate::network::serve_network;
-use crate::requests::serve;
+use crate::requests::{fault_status, serve};
 use crate::routing::serve_router;
 use crate::texts::Folder;
-use command_line::Words;
+use command_line::{Request, Words};
 use filter_commands::ProgramFault;
 use line_protocol::StreamFault;
 use router_daemon::LinkFolder;
@@ -20,16 +23,45 @@ use std::rt::Clock;
 use std::sync::Wait;
 use std::thread::Threads;
 
+/// Serves what is asked for: the exit status. It is that of a fault where standard error did not take the whole line.
+fn status_of_request<F: Folder, R: Read, W: Write, E: Write>(
+    files: &F,
+    alloc: Global,
+    request: &Request,
+    console: &mut Console<R, W, E>,
+) -> u8
+    ensures { Serves (F.opens files.now) (F.creates files.now) request.now console.old console.new result
+        ⊎ (FailsToReport (F.opens files.now) (F.creates files.now) request.now console.old console.new × (result ≡ fault_status request.now)) }
+{
+    match serve(files, alloc, request, console) {
+        Ok(status) => status,
+        Err(_) => fault_status(request),
+    }
+}
+
+/// Serves `net`, likewise.
+fn status_of_network<R: Threads + Wait + Clock + Sync, I: Read, W: Write, E: Write>(
+    rt: &R,
+    alloc: Global,
+    console: &mut Console<I, W, E>,
+) -> u8
+    ensures { ServesNetwork console.old console.new result ⊎ (FailsToReportNetwork console.old console.new × (result ≡ FAILED)) }
+{
+    match serve_network(rt, alloc, console) {
+        Ok(status) => status,
+        Err(_) => FAILED,
+    }
+}
+
 /// Tells of a fault that kept the words from being read: the exit status.
 fn status_of_fault<R: Read, W: Write, E: Write>(
     console: &mut Console<R, W, E>,
     fault: StreamFault,
 ) -> u8
     ensures status { result ≡ FAILED }
-    ensures told { TellsFaultLine (Stream fault) console.old console.new }
+    ensures told { TellsFront (fault_line (Stream fault)) console.old console.new }
 {
-    console.report(ProgramFault::Stream(fault));
-    FAILED
+    end_by_fault(&mut console.errors, ProgramFault::Stream(fault))
 }
 
 /// Does what the words of the command line ask for, and returns the exit status. `voice` is where people are told of a router's links.
@@ -53,7 +85,7 @@ where
     ensures { Responds (R.opens rt.now) (R.creates rt.now) words console.old console.new result }
 {
     match words {
-        Ok(Words::Asked(request)) => serve(rt, alloc, &request, console),
+        Ok(Words::Asked(request)) => status_of_request(rt, alloc, &request, console),
         Ok(Words::Router(words)) => serve_router::<R, FI, FO, T, I, W, E>(
             rt,
             alloc,
@@ -63,7 +95,7 @@ where
             &mut console.errors,
             voice,
         ),
-        Ok(Words::Network) => serve_network(rt, alloc, console),
+        Ok(Words::Network) => status_of_network(rt, alloc, console),
         Ok(Words::Shown(status)) => status,
         Err(fault) => status_of_fault(console, fault),
     }

@@ -5,7 +5,7 @@ ghost use Rattle.ncroute.specs.Scripts.{IsAnswered, IsLeftOff, IsQuiet, RunsFile
 ghost use Rattle.ncroute.specs.Scripts.{script_fault};
 
 use crate::console::{Console, Loaded};
-use crate::ending::{FAILED, status_of};
+use crate::ending::{FAILED, FAULT, status_of};
 use crate::texts::{Folder, name_of};
 use crate::watcher::Teller;
 use command_line::{Engine, Source};
@@ -15,9 +15,6 @@ use line_protocol::{INPUT_LIMIT, StreamFault};
 use operator_cmds::{run_script, run_watched_script};
 use std::alloc::Global;
 use std::io::{Read, Write};
-
-/// The exit status where a fault of the machine ended what a refusal ends with `FAILED`.
-pub const FAULT: u8 = 3;
 
 /// The exit status where a fault of the machine ends a script. That of a router has had 1 from the first.
 pub fn script_fault(engine: Engine) -> u8

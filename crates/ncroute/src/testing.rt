@@ -7,8 +7,7 @@ ghost use Rattle.ncroute.specs.Streaming.{CutsWriting, Writes};
 ghost use Rattle.ncroute.specs.Testing as spec;
 
 use crate::console::{Console, Loaded};
-use crate::ending::FAILED;
-use crate::script::FAULT;
+use crate::ending::{FAILED, FAULT};
 use crate::texts::{Folder, name_of};
 use command_line::{Source, Testing};
 use filter_checks::{
@@ -79,7 +78,7 @@ fn run_counted<R: Read, W: Write, E: Write>(
     ensures stopped { IfErr result (λ fault. spec.StopsCounted (stream_fault fault) how name.now (file_view file.now) (named filter.now) tally
         console.old console.new) }
 {
-    let tested = test_named(
+    match test_named(
         alloc,
         tally.count,
         how.limit,
@@ -89,8 +88,10 @@ fn run_counted<R: Read, W: Write, E: Write>(
         filter,
         &mut console.writer,
         &mut console.errors,
-    )?;
-    Ok(tally_after(tally, file.tests.len(), tested))
+    ) {
+        Ok(tested) => Ok(tally_after(tally, file.tests.len(), tested)),
+        Err(fault) => Err(fault),
+    }
 }
 
 /// Runs the tests of a file by the filter of a text, if they can be counted.

@@ -8,8 +8,7 @@ ghost use Rattle.ncroute.specs.Trying.{JudgesText, Reports, ReportsOff, ReportsT
 ghost use Rattle.ncroute.specs.Trying.{TriesFilter, TriesText, status_of_filter, told_refusal};
 
 use crate::console::{Console, Loaded};
-use crate::ending::{FAILED, status_of};
-use crate::script::FAULT;
+use crate::ending::{FAILED, FAULT, status_of};
 use crate::texts::{Folder, name_of};
 use command_line::{RouteReport, Source, Trying};
 use filter_commands::ProgramFault;
