@@ -1,8 +1,8 @@
 -- How the sources of names follow one another.
 use Rattle.std.proofs.Common.{◌≡◌, ℕ, ◌+◌, ◌<◌, length, List, [], ◌∷◌, ◌++◌, map, take, get_or}
 use Rattle.std.proofs.lemmas.List.{map_more}
-use Rattle.command_line.specs.Sources.{AreNamed, AreSources, IsNamed}
-use Rattle.command_line.specs.declared.aid_words.Source.{Source}
+use Rattle.command_line.specs.Sources.{AreNamed, IsNamed}
+use Rattle.command_line.specs.declared.requests.Source.{Source}
 
 -- one more name, with its source
 pub one_more : (names : List (List ℕ)) (sources : List Source) (name : List ℕ) (source : Source)

@@ -1,7 +1,7 @@
 -- Which sources the words of a command line name. (This project's own choice.)
 use Rattle.std.specs.Prelude.{◌≡◌, ℕ, List, [], ◌∷◌, codes, string_bytes, ⊤}
-use Rattle.command_line.specs.declared.aid_words.Source.{Source}
-use Rattle.command_line.specs.declared.aid_words.Source.TheVariants.{Input, File}
+use Rattle.command_line.specs.declared.requests.Source.{Source}
+use Rattle.command_line.specs.declared.requests.Source.TheVariants.{Input, File}
 
 -- the source of a name: standard input for `-`, and otherwise the file of this name
 abbrev pub IsNamed : List ℕ → Source → Type 0

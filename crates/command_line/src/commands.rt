@@ -119,7 +119,7 @@ static COMMANDS: [(&str, &str); 15] = [
 ];
 
 /// The options and arguments of each command, in the order in which its help shows them.
-static PARAMETERS: [(&str, Parameter); 52] = [
+static PARAMETERS: [(&str, Parameter); 53] = [
     ("check", SIZE),
     ("check", CODE),
     ("check", NAMES),
@@ -152,6 +152,7 @@ static PARAMETERS: [(&str, Parameter); 52] = [
     ("test", LIMIT),
     ("test", EXPLAIN),
     ("test", TEST_FILES),
+    ("eval", EXPLAIN),
     ("rewrite", OLD),
     ("domain", EXPLAIN),
     ("domain", SCRIPT),

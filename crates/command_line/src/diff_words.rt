@@ -1,5 +1,5 @@
 //! The words of `diff`.
-use crate::aid_words::{Aid, USUAL_SIZE, source_of};
+use crate::requests::{Request, USUAL_SIZE, source_of};
 use crate::telling::{Telling, is_explained};
 use crate::terminals::Terminals;
 use clap::ArgMatches;
@@ -28,20 +28,15 @@ fn comparing_in(matches: &ArgMatches<'_>, terminals: Terminals) -> Comparing {
     }
 }
 
-/// What the words of `diff` ask for. None where both filters are on standard input.
+/// What the words of `diff` ask for.
 pub fn diff_in(
     alloc: Global,
     matches: &ArgMatches<'_>,
     terminals: Terminals,
-) -> Result<Option<Aid>, AllocError> {
-    let old = matches.get_str("old").unwrap_or("-");
-    let new = matches.get_str("new").unwrap_or("-");
-    if old == "-" && new == "-" {
-        return Ok(None);
-    }
-    Ok(Some(Aid::Diff {
+) -> Result<Request, AllocError> {
+    Ok(Request::Diff {
         how: comparing_in(matches, terminals),
-        old: source_of(alloc, old)?,
-        new: source_of(alloc, new)?,
-    }))
+        old: source_of(alloc, matches.get_str("old").unwrap_or("-"))?,
+        new: source_of(alloc, matches.get_str("new").unwrap_or("-"))?,
+    })
 }

@@ -2,7 +2,7 @@
 ghost use Rattle.std.specs.Prelude.{◌≡◌, false, true, IfErr, IfOk, MatchOption, length, map, string_bytes};
 ghost use Rattle.command_line.specs.Filters as spec;
 
-use crate::aid_words::{Source, source_of};
+use crate::requests::{Source, source_of};
 use operator_cmds::is_name;
 use std::alloc::{AllocError, Global};
 

@@ -341,7 +341,7 @@ Each command is answered on standard output before more input is read:
   history ENTRY | ENTRY ..
   refused CODE AT        the command was refused, and nothing changed:
     O1 to O8     the command is wrong (AT is the number of its line)
-    N1 to N5     the router refused it (AT is its position in the history)
+    N1 to N7     the router refused it (AT is its position in the history)
     J1           the history is full (AT is the number of its entries)
     P, Y, G, V   the filter is refused, as `ncroute check` refuses it; C: its code file
 

@@ -1,7 +1,7 @@
 //! The words of the command line of `ncroute`: what they ask for, and the help that is shown in its place.
 #![tactic(auto)]
 
-mod aid_words;
+mod arguments;
 mod classes;
 mod commands;
 mod diff_words;
@@ -9,18 +9,19 @@ mod filter_words;
 mod help;
 mod lint_words;
 mod options;
+mod requests;
 mod router_words;
 mod telling;
 mod terminals;
 mod test_words;
 mod words;
 
-pub use aid_words::{Aid, Checking, Engine, Importing, RouteReport, Running, Source, Trying};
 pub use diff_words::Comparing;
 pub use filter_words::{NamedFile, WrongFilter, filters_in};
 pub use lint_words::Linting;
+pub use requests::{Checking, Engine, Importing, Request, RouteReport, Running, Source, Trying};
 pub use router_words::RouterWords;
 pub use telling::{Telling, is_explained};
 pub use terminals::{Terminals, tell_that_input_is_read, waits_for_people};
 pub use test_words::Testing;
-pub use words::{Request, Words, read, request_of};
+pub use words::{Words, read, request_of};

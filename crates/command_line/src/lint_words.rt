@@ -1,6 +1,6 @@
 //! The words of `lint`.
-use crate::aid_words::{Aid, USUAL_SIZE, has_files, sources_in};
 use crate::diff_words::USUAL_LIMIT;
+use crate::requests::{Request, USUAL_SIZE, has_files, sources_in};
 use crate::telling::{Telling, is_explained};
 use crate::terminals::Terminals;
 use clap::ArgMatches;
@@ -22,7 +22,7 @@ pub fn lint_in(
     alloc: Global,
     matches: &ArgMatches<'_>,
     terminals: Terminals,
-) -> Result<Aid, AllocError> {
+) -> Result<Request, AllocError> {
     let sources = sources_in(alloc, matches.get_strs("file").unwrap_or(&[]))?;
     let has_files = has_files(sources.as_slice());
     let how = Linting {
@@ -30,5 +30,5 @@ pub fn lint_in(
         limit: matches.get_one::<u64>("limit").unwrap_or(USUAL_LIMIT),
         is_explained: is_explained(Telling::read(matches), terminals.errors, has_files),
     };
-    Ok(Aid::Lint { how, sources })
+    Ok(Request::Lint { how, sources })
 }

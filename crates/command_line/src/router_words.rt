@@ -1,8 +1,8 @@
 //! The words of `router`.
 ghost use Rattle.std.specs.Prelude.{◌≡◌, IfOk, map, string_bytes};
 
-use crate::aid_words::text_in;
 use crate::filter_words::{NamedFile, WrongFilter, filters_in};
+use crate::requests::text_in;
 use clap::ArgMatches;
 use std::alloc::{AllocError, Global};
 

@@ -1,6 +1,6 @@
 //! Which of the standard streams are terminals.
-use crate::aid_words::{Aid, Source};
 use crate::filter_words::NamedFile;
+use crate::requests::{Request, Source};
 use crate::words::Words;
 
 /// Which of the standard streams that people type into or read are terminals.
@@ -12,44 +12,56 @@ pub struct Terminals {
     pub errors: bool,
 }
 
-/// Whether standard input is among these sources.
-fn has_input(sources: &[Source]) -> bool {
-    sources.iter().any(|source| source.is_input())
+/// How many of these sources are standard input.
+fn inputs_among(sources: &[Source]) -> usize {
+    sources.iter().filter(|source| source.is_input()).count()
 }
 
-/// Whether one of these filters is on standard input.
-fn reads_filter(filters: &[NamedFile]) -> bool {
-    filters.iter().any(|named| named.source.is_input())
+/// How many of these filters are on standard input.
+fn filters_among(filters: &[NamedFile]) -> usize {
+    filters
+        .iter()
+        .filter(|named| named.source.is_input())
+        .count()
 }
 
-/// Whether what is asked for reads standard input.
-fn reads_input(words: &Words) -> bool {
+/// How often what is asked for reads standard input to its end. A router reads what is left of it, if anything is.
+fn count_readings(words: &Words) -> usize {
     match words {
-        Words::Asked(_) | Words::Router(_) => true,
-        Words::Aided(
-            Aid::Check { sources, .. } | Aid::Lint { sources, .. } | Aid::Test { sources, .. },
-        ) => has_input(sources.as_slice()),
-        Words::Aided(Aid::Diff { old, new, .. }) => { old.is_input() || new.is_input() }
-        Words::Aided(Aid::Run { how, source }) => {
-            source.is_input() || reads_filter(how.filters.as_slice())
+        Words::Router(words) => filters_among(words.filters.as_slice()).max(1),
+        Words::Asked(
+            Request::Check { sources, .. }
+            | Request::Lint { sources, .. }
+            | Request::Test { sources, .. },
+        ) => inputs_among(sources.as_slice()),
+        Words::Asked(Request::Diff { old, new, .. }) => {
+            usize::from(old.is_input()).saturating_add(usize::from(new.is_input()))
         }
-        Words::Aided(Aid::RunJoined { how, sources }) => {
-            has_input(sources.as_slice()) || reads_filter(how.filters.as_slice())
+        Words::Asked(Request::Run { how, source }) => {
+            filters_among(how.filters.as_slice()).saturating_add(usize::from(source.is_input()))
         }
-        Words::Aided(
-            Aid::Import { source, .. }
-            | Aid::List { source, .. }
-            | Aid::Replay { source }
-            | Aid::Script { source, .. },
-        ) => source.is_input(),
-        Words::Aided(Aid::Filter { .. }) => true,
-        Words::Aided(Aid::Explain { .. }) | Words::Network | Words::Shown(_) => false,
+        Words::Asked(Request::RunJoined { how, sources }) => {
+            filters_among(how.filters.as_slice()).saturating_add(inputs_among(sources.as_slice()))
+        }
+        Words::Asked(
+            Request::Import { source, .. }
+            | Request::List { source, .. }
+            | Request::Replay { source }
+            | Request::Script { source, .. },
+        ) => usize::from(source.is_input()),
+        Words::Asked(Request::Eval { .. } | Request::Filter { .. } | Request::Rewrite { .. }) => 1,
+        Words::Asked(Request::Explain { .. }) | Words::Network | Words::Shown(_) => 0,
     }
+}
+
+/// Whether what is asked for reads standard input more than once, and would find nothing there the second time.
+pub fn reads_input_again(words: &Words) -> bool {
+    count_readings(words) > 1
 }
 
 /// Whether people are waited for: standard input is read, and they type it.
 pub fn waits_for_people(words: &Words, terminals: Terminals) -> bool {
-    terminals.input && reads_input(words)
+    terminals.input && count_readings(words) > 0
 }
 
 /// Tells people that standard input is waited for. Where standard error takes no text, they are not told.

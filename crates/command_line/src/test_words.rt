@@ -1,6 +1,6 @@
 //! The words of `test`.
-use crate::aid_words::{Aid, has_files, sources_in};
 use crate::diff_words::USUAL_LIMIT;
+use crate::requests::{Request, has_files, sources_in};
 use crate::telling::{Telling, is_explained};
 use crate::terminals::Terminals;
 use clap::ArgMatches;
@@ -20,12 +20,12 @@ pub fn test_in(
     alloc: Global,
     matches: &ArgMatches<'_>,
     terminals: Terminals,
-) -> Result<Aid, AllocError> {
+) -> Result<Request, AllocError> {
     let sources = sources_in(alloc, matches.get_strs("file").unwrap_or(&[]))?;
     let has_files = has_files(sources.as_slice());
     let how = Testing {
         limit: matches.get_one::<u64>("limit").unwrap_or(USUAL_LIMIT),
         is_explained: is_explained(Telling::read(matches), terminals.errors, has_files),
     };
-    Ok(Aid::Test { how, sources })
+    Ok(Request::Test { how, sources })
 }

@@ -1,47 +1,27 @@
 //! The words of the command line.
-use crate::aid_words::{
-    Aid, Checking, Engine, Source, asks_for_more, checked_in, filter_in, has_files, import_in,
-    list_in, names_several, replay_in, run_in, script_in,
-};
+use crate::arguments::Readable;
 use crate::classes::page_of;
 use crate::commands::program;
 use crate::diff_words::diff_in;
 use crate::filter_words::WrongFilter;
 use crate::lint_words::lint_in;
+use crate::requests::{
+    Engine, Request, asks_for_more, checked_in, eval_in, filter_in, import_in, list_in,
+    names_several, replay_in, run_in, script_in,
+};
 use crate::router_words::{RouterWords, router_in};
-use crate::terminals::Terminals;
+use crate::terminals::{Terminals, reads_input_again};
 use crate::test_words::test_in;
 use clap::error::ErrorKind;
 use clap::{ArgMatches, Error};
 use line_protocol::StreamFault;
 use std::alloc::{AllocError, Global};
 use std::convert::AsStr;
+use std::env;
 use std::rt::Env;
-use std::{env, io};
 
 /// The exit status of a run whose words were wrong.
 const WRONG_WORDS: u8 = 2;
-
-/// What the program is asked to do.
-#[derive(Clone, Copy)]
-pub enum Request {
-    /// Take the routes of standard input through a code file.
-    Eval,
-    /// Compile the filter of standard input, or read its code file, and verify the code.
-    Check {
-        /// The number of nodes of the domains that the code is for.
-        size: u32,
-        /// Standard input is a code file in hexadecimal, and not a filter's text.
-        is_code: bool,
-    },
-    /// Write the code file of standard input in the newer form.
-    Rewrite {
-        /// It is written in the older form.
-        is_old: bool,
-    },
-    /// Carry out the script of standard input: its commands drive a router.
-    Run,
-}
 
 /// What the words of the command line come to.
 #[derive(Drop)]
@@ -52,8 +32,6 @@ pub enum Words {
     Network,
     /// They ask for a router that talks to its neighbours.
     Router(RouterWords),
-    /// They ask for this, which helps people.
-    Aided(Aid),
     /// Help, or what is wrong with them, was shown. The program ends with this status.
     Shown(u8),
 }
@@ -65,11 +43,8 @@ pub fn read<R: Env + AllocGlobal + Print + Eprint>(
     terminals: Terminals,
 ) -> Result<Words, StreamFault> {
     let alloc = rt.alloc();
-    let words = match env::args(rt) {
-        Ok(words) => words,
-        Err(error) if error.kind() == io::ErrorKind::OutOfMemory => return Err(StreamFault::Memory),
-        Err(_) => return Ok(show_not_text(rt)),
-    };
+    // All words are text here, so that want of memory alone keeps them from being read.
+    let words = env::args(&(Readable { env: rt }, alloc)).map_err(|_| StreamFault::Memory)?;
     let words: Vec<String> = words.collect(alloc).map_err(|_| StreamFault::Memory)?;
     request_of(rt, alloc, words.as_slice(), terminals)
 }
@@ -83,9 +58,23 @@ pub fn request_of<R: Print + Eprint, S: AsStr>(
 ) -> Result<Words, StreamFault> {
     let program = program(alloc).map_err(|_| StreamFault::Memory)?;
     match program.try_get_matches_from(words) {
-        Ok(matches) => words_in(rt, alloc, &matches, terminals).map_err(|_| StreamFault::Memory),
+        Ok(matches) => match words_in(rt, alloc, &matches, terminals) {
+            Ok(words) => Ok(reading_once(rt, words)),
+            Err(_) => Err(StreamFault::Memory),
+        },
         Err(error) => show(rt, &error),
     }
+}
+
+/// These words, unless they ask for standard input more than once.
+fn reading_once<R: Eprint>(rt: &R, words: Words) -> Words {
+    if !reads_input_again(&words) {
+        return words;
+    }
+    let _ = eprintln!(rt;
+        "error: standard input can be read once, and these words name it more than once: as `-`, or by naming no FILE"
+    );
+    Words::Shown(WRONG_WORDS)
 }
 
 /// What the words ask for, where the parser of words accepted them.
@@ -101,45 +90,31 @@ fn words_in<R: Eprint>(
     };
     match name {
         "check" => check_in(alloc, words, terminals),
-        "diff" => diff_words(rt, alloc, words, terminals),
-        "domain" => aided(script_in(alloc, Engine::Domain, words, terminals)),
+        "diff" => asked(diff_in(alloc, words, terminals)),
+        "domain" => asked(script_in(alloc, Engine::Domain, words, terminals)),
         "explain" => explained_in(rt, alloc, words.get_str("code").unwrap_or("")),
         "filter" => filter_words(rt, alloc, words, terminals),
-        "import" => aided(import_in(alloc, words)),
-        "lint" => aided(lint_in(alloc, words, terminals)),
-        "list" => aided(list_in(alloc, words, terminals)),
+        "import" => asked(import_in(alloc, words)),
+        "lint" => asked(lint_in(alloc, words, terminals)),
+        "list" => asked(list_in(alloc, words, terminals)),
         "net" => Ok(Words::Network),
-        "replay" => aided(replay_in(alloc, words)),
+        "replay" => asked(replay_in(alloc, words)),
         "rewrite" => Ok(Words::Asked(Request::Rewrite {
             is_old: words.get_flag("old"),
         })),
         "router" => router_words(rt, alloc, words),
         "run" => run_words(rt, alloc, words, terminals),
-        "test" => aided(test_in(alloc, words, terminals)),
-        _ => Ok(Words::Asked(Request::Eval)),
+        "test" => asked(test_in(alloc, words, terminals)),
+        _ => Ok(Words::Asked(eval_in(words, terminals))),
     }
 }
 
-/// The words that ask for what helps people.
-fn aided(aid: Result<Aid, AllocError>) -> Result<Words, AllocError> {
-    match aid {
-        Ok(aid) => Ok(Words::Aided(aid)),
+/// The words that ask for this.
+fn asked(request: Result<Request, AllocError>) -> Result<Words, AllocError> {
+    match request {
+        Ok(request) => Ok(Words::Asked(request)),
         Err(error) => Err(error),
     }
-}
-
-/// What the words of `diff` ask for. Standard input has one of the filters at most.
-fn diff_words<R: Eprint>(
-    rt: &R,
-    alloc: Global,
-    diff: &ArgMatches<'_>,
-    terminals: Terminals,
-) -> Result<Words, AllocError> {
-    if let Some(aid) = diff_in(alloc, diff, terminals)? {
-        return Ok(Words::Aided(aid));
-    }
-    let _ = eprintln!(rt; "error: standard input has one filter, so OLD and NEW cannot both be -");
-    Ok(Words::Shown(WRONG_WORDS))
 }
 
 /// What the words of `filter` ask for. Standard input has the routes, so the filter is in a file.
@@ -153,8 +128,8 @@ fn filter_words<R: Eprint>(
         let _ = eprintln!(rt; "error: --why and --coverage cannot be given together");
         return Ok(Words::Shown(WRONG_WORDS));
     }
-    if let Some(aid) = filter_in(alloc, filter, terminals)? {
-        return Ok(Words::Aided(aid));
+    if let Some(request) = filter_in(alloc, filter, terminals)? {
+        return Ok(Words::Asked(request));
     }
     let _ = eprintln!(rt;
         "error: the routes come from standard input, so the filter has to be in a file"
@@ -185,20 +160,7 @@ fn check_in(
         return Ok(Words::Shown(WRONG_WORDS));
     };
     let (how, sources) = checked_in(alloc, check, size, terminals)?;
-    if is_plain(how, sources.as_slice()) {
-        Ok(Words::Asked(Request::Check {
-            size,
-            is_code: how.is_code,
-        }))
-    } else {
-        Ok(Words::Aided(Aid::Check { how, sources }))
-    }
-}
-
-/// Whether standard input alone is checked, and the report on it is all that is asked for.
-fn is_plain(how: Checking, sources: &[Source]) -> bool {
-    let is_more = how.is_explained || how.has_names || how.is_quiet || how.warning_limit.is_some();
-    !is_more && sources.len() == 1 && !has_files(sources)
+    Ok(Words::Asked(Request::Check { how, sources }))
 }
 
 /// What the words of `run` ask for.
@@ -210,18 +172,11 @@ fn run_words<R: Eprint>(
 ) -> Result<Words, AllocError> {
     if asks_for_more(run) || names_several(run) {
         return match run_in(alloc, run, terminals)? {
-            Ok(aid) => Ok(Words::Aided(aid)),
+            Ok(request) => Ok(Words::Asked(request)),
             Err(wrong) => Ok(show_wrong_filter(rt, wrong)),
         };
     }
-    match script_in(alloc, Engine::Router, run, terminals)? {
-        Aid::Script {
-            source: Source::Input,
-            is_explained: false,
-            ..
-        } => Ok(Words::Asked(Request::Run)),
-        aid => Ok(Words::Aided(aid)),
-    }
+    asked(script_in(alloc, Engine::Router, run, terminals))
 }
 
 /// Says what is wrong with a word that was to name a filter.
@@ -254,16 +209,10 @@ fn show<R: Print + Eprint>(rt: &R, error: &Error) -> Result<Words, StreamFault> 
 /// What `explain` asks for: the page of a code, the codes of a class, or the classes.
 fn explained_in<R: Eprint>(rt: &R, alloc: Global, code: &str) -> Result<Words, AllocError> {
     if let Some(page) = page_of(alloc, code)? {
-        return Ok(Words::Aided(Aid::Explain { page }));
+        return Ok(Words::Asked(Request::Explain { page }));
     }
     let _ = eprintln!(rt;
         "error: there is no code '{code}': a code is a letter and a number, as P2; `ncroute explain` lists the letters"
     );
     Ok(Words::Shown(WRONG_WORDS))
-}
-
-/// Says that a word is not text.
-fn show_not_text<R: Eprint>(rt: &R) -> Words {
-    let _ = eprintln!(rt; "error: a word of the command line is not UTF-8");
-    Words::Shown(WRONG_WORDS)
 }

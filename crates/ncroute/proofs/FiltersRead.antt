@@ -3,7 +3,7 @@ use Rattle.std.proofs.Common.{◌≡◌, ◌⊎◌, ℕ, ◌+◌, ◌++◌, List
 use Rattle.std.specs.Prelude.{OnOk, slice_get}
 use Rattle.std.specs.declared.io.Error.{Error}
 use Rattle.script_runs.specs.declared.naming.NamedFilter.{NamedFilter}
-use Rattle.command_line.specs.declared.aid_words.Source.{Source}
+use Rattle.command_line.specs.declared.requests.Source.{Source}
 use Rattle.command_line.specs.declared.filter_words.NamedFile.{NamedFile}
 use Rattle.ncroute.specs.Filters.{LeavesFilter, ReadsFilter, ReadsFirst, StopsAtFilter}
 use Rattle.ncroute.specs.declared.texts.Unread.{Unread}

@@ -2,7 +2,7 @@
 use Rattle.std.proofs.Common.{◌≡◌, ℕ, ◌+◌, List, [], Option, Some, Result, refl, add-one}
 use Rattle.std.specs.Prelude.{slice_get}
 use Rattle.std.specs.declared.io.Error.{Error}
-use Rattle.command_line.specs.declared.aid_words.Source.{Source}
+use Rattle.command_line.specs.declared.requests.Source.{Source}
 use Rattle.ncroute.specs.Joining.{JoinsFirst, JoinsNext, LeavesNext, StopsAtSource}
 use Rattle.ncroute.specs.declared.texts.Unread.{Unread}
 

@@ -3,7 +3,7 @@ use Rattle.std.proofs.Common.{◌≡◌, ℕ, ◌+◌, ◌||◌, Bool, false, Li
 use Rattle.std.specs.Prelude.{slice_get}
 use Rattle.ncroute.specs.Following.{CutsLater, DoesFirst}
 use Rattle.ncroute.specs.Streaming.{Streams}
-use Rattle.command_line.specs.declared.aid_words.Source.{Source}
+use Rattle.command_line.specs.declared.requests.Source.{Source}
 
 module _ (DoesOne : Source → Streams → Streams → Bool → Type 0) where
   pub none_done : (sources : List Source) (before : Streams) → DoesFirst DoesOne sources 0 before before false

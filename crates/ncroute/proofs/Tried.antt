@@ -6,7 +6,7 @@ use Rattle.filter_source.specs.declared.diagnosis.Diagnosis.{Diagnosis}
 use Rattle.filter_tools.specs.Telling.{Explains, IsCutExplanation}
 use Rattle.filter_tools.specs.declared.filter.Filtered.{Filtered}
 use Rattle.filter_tools.specs.declared.filter.Filtered.TheVariants.{Refused}
-use Rattle.ncroute.specs.Helping.{Reports, ReportsText, StopsReport, status_of_filter, told_refusal}
+use Rattle.ncroute.specs.Trying.{Reports, ReportsText, StopsReport, status_of_filter, told_refusal}
 use Rattle.ncroute.specs.Streaming.{Streams}
 
 module _ (is_counted : Bool) (size : ℕ) (name text : List ℕ) (is_explained : Bool) (before after : Streams) (filtered : Filtered)

@@ -1,15 +1,19 @@
 -- How the filters that a script is started with are read, and how it is told that one of them is refused. (This project's own choice.)
 use Rattle.std.specs.Prelude.{◌≡◌, ◌⊎◌, ◌<◌, ◌≤◌, ◌++◌, ℕ, zero, suc, List, [], ◌∷◌, Option, Some, None, Result, length, slice_get, string_bytes}
 use Rattle.std.specs.declared.io.Error.{Error}
+use Rattle.filter_commands.specs.Faults.{stream_fault}
 use Rattle.filter_source.specs.Limits.{source_limit}
 use Rattle.filter_source.specs.declared.diagnosis.Diagnosis.{Diagnosis}
 use Rattle.filter_tools.specs.Telling.{Explains, IsCutExplanation}
 use Rattle.line_protocol.specs.declared.faults.StreamFault.{StreamFault}
 use Rattle.script_runs.specs.declared.naming.NamedFilter.{NamedFilter}
 use Rattle.script_runs.specs.declared.naming.Unfit.{Unfit}
-use Rattle.command_line.specs.declared.aid_words.Source.{Source}
+use Rattle.command_line.specs.declared.requests.Source.{Source}
 use Rattle.command_line.specs.declared.filter_words.NamedFile.{NamedFile}
-use Rattle.ncroute.specs.Reading.{IsRead, IsUnread, name_of}
+use Rattle.ncroute.specs.Reading.{IsRead, IsUnread, StopsTelling, TellsUnread, name_of}
+use Rattle.ncroute.specs.Streaming.{Streams}
+use Rattle.ncroute.specs.declared.filters.LoadedFilters.{LoadedFilters}
+use Rattle.ncroute.specs.declared.filters.LoadedFilters.TheVariants as loaded
 use Rattle.ncroute.specs.declared.texts.Unread.{Unread}
 use Rattle.ncroute.specs.declared.texts.Unread.TheVariants as unread
 
@@ -49,6 +53,34 @@ module _ (opens : List ℕ → Result (Option (List ℕ)) Error → Type 0) wher
     pub mid : Option (List ℕ)
     pub first : ReadsFirst files n earlier known mid
     pub leaves : LeavesFilter file why mid left
+
+  -- The filters were read, in order, and nothing was written or told.
+  pub record ReadsThem (files : List NamedFile) (filters : List NamedFilter) (before after : Streams) : Type 0 where
+    pub read : ReadsFilters files filters before.reads after.reads
+    pub holds : after.holds ≡ before.holds
+    pub tells : after.tells ≡ before.tells
+
+  -- One of them was not read, which standard error was told, and nothing was written.
+  pub record SkipsFilter (files : List NamedFile) (before after : Streams) : Type 0 where
+    pub source : Source
+    pub why : Unread
+    pub stops : StopsAtFilter files source why before.reads after.reads
+    pub told : TellsUnread source why before.tells after.tells
+    pub holds : after.holds ≡ before.holds
+
+  -- A fault kept one from being read or told of, and nothing was written.
+  pub record StopsAtFault (fault : StreamFault) (files : List NamedFile) (before after : Streams) : Type 0 where
+    pub source : Source
+    pub why : Unread
+    pub stops : StopsAtFilter files source why before.reads after.reads
+    pub told : StopsTelling fault source why before.tells after.tells
+    pub holds : after.holds ≡ before.holds
+
+  -- what came of reading them
+  abbrev pub AreLoaded : List NamedFile → LoadedFilters → Streams → Streams → Type 0
+  AreLoaded files (loaded.All filters) before after = ReadsThem files filters.items before after
+  AreLoaded files loaded.Skipped before after = SkipsFilter files before after
+  AreLoaded files (loaded.Stopped fault) before after = StopsAtFault (stream_fault fault) files before after
 
 -- Standard error was told why a filter is refused, at its place in its source. `told` is what it held before, `tells` what it holds now.
 abbrev pub TellsOfFilter : Option NamedFilter → Diagnosis → Option (List ℕ) → Option (List ℕ) → Type 0

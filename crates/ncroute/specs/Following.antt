@@ -1,6 +1,7 @@
 -- How sources follow one another, of each of which something may be found. (This project's own choice.)
-use Rattle.std.specs.Prelude.{◌≡◌, ◌||◌, ℕ, zero, suc, Bool, false, List, Some, slice_get}
-use Rattle.command_line.specs.declared.aid_words.Source.{Source}
+use Rattle.std.specs.Prelude.{◌≡◌, ◌||◌, ℕ, zero, suc, Bool, false, List, Some, length, slice_get}
+use Rattle.command_line.specs.declared.requests.Source.{Source}
+use Rattle.ncroute.specs.Ending.{status_of_found}
 use Rattle.ncroute.specs.Streaming.{Streams}
 
 -- `DoesOne source before after found` says what is done with one source, and whether something is found of it.
@@ -11,6 +12,12 @@ module _ (DoesOne : Source → Streams → Streams → Bool → Type 0) where
   DoesFirst sources (suc n) before after found = (source : Source) × (mid : Streams) × (earlier : Bool) × (one : Bool)
       × (slice_get sources n ≡ Some source) × DoesFirst sources n before mid earlier × DoesOne source mid after one
       × (found ≡ (earlier || one))
+
+  -- It was done with all of them, and the exit status says whether something was found of one.
+  pub record DoesAll (sources : List Source) (before after : Streams) (status : ℕ) : Type 0 where
+    pub found : Bool
+    pub done : DoesFirst sources (length sources) before after found
+    pub ends : status ≡ status_of_found found
 
   -- `CutsOne source before after` says how a fault cuts it with one source: here behind the first of the sources.
   pub record CutsLater (CutsOne : Source → Streams → Streams → Type 0) (sources : List Source) (before after : Streams) : Type 0 where

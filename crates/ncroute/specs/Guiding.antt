@@ -10,15 +10,14 @@ use Rattle.line_protocol.specs.declared.faults.StreamFault.{StreamFault}
 use Rattle.script_runs.specs.Running.{IsSaved, IsSavedInPart}
 use Rattle.script_runs.specs.declared.naming.NamedFilter.{NamedFilter}
 use Rattle.script_runs.specs.declared.naming.Unfit.{Unfit}
-use Rattle.command_line.specs.declared.aid_words.Running.{Running}
-use Rattle.command_line.specs.declared.aid_words.Source.{Source}
-use Rattle.command_line.specs.declared.aid_words.Source.TheVariants.{Input, File}
-use Rattle.ncroute.specs.Filters.{IsCutUnfit, ReadsFilters, StopsAtFilter, TellsUnfit}
-use Rattle.ncroute.specs.Reading.{IsRead, IsUnread, StopsTelling, TellsUnread, unmade_line}
+use Rattle.command_line.specs.declared.requests.Running.{Running}
+use Rattle.command_line.specs.declared.requests.Source.{Source}
+use Rattle.command_line.specs.declared.requests.Source.TheVariants.{Input, File}
+use Rattle.ncroute.specs.Filters.{IsCutUnfit, ReadsThem, SkipsFilter, StopsAtFault, TellsUnfit}
+use Rattle.ncroute.specs.Reading.{Reads, SkipsUnread, StopsReading, unmade_line}
 use Rattle.ncroute.specs.Scripts.{IsQuiet}
-use Rattle.ncroute.specs.Serving.{status_of}
+use Rattle.ncroute.specs.Ending.{status_of}
 use Rattle.ncroute.specs.Streaming.{Streams}
-use Rattle.ncroute.specs.declared.texts.Unread.{Unread}
 
 -- A script that was started with these filters was carried out, and the exit status says whether a line was refused. `kept` and `keeps`
 -- are what the saver held before and holds now. Standard error is told nothing where people asked for no words, and the script does not end
@@ -70,7 +69,7 @@ module _ (creates : List ℕ → Result (Option (List ℕ)) Error → Type 0) wh
 
   -- A script was carried out, and its history saved; or the file of the history was not made, which standard error was told, and no line
   -- was answered.
-  abbrev pub GuidesScript : Running → List NamedFilter → Streams → Streams → ℕ → Type 0
+  unfoldable pub GuidesScript : Running → List NamedFilter → Streams → Streams → ℕ → Type 0
   GuidesScript how filters before after status =
       ((kept : Option (List ℕ)) × (keeps : Option (List ℕ)) × IsSaver how.save kept
       × RunsSaved how filters kept keeps before after status)
@@ -78,7 +77,7 @@ module _ (creates : List ℕ → Result (Option (List ℕ)) Error → Type 0) wh
       × (after.reads ≡ before.reads) × (after.holds ≡ before.holds) × (status ≡ 1))
 
   -- A fault ended it.
-  abbrev pub StopsGuided : StreamFault → Running → List NamedFilter → Streams → Streams → Type 0
+  unfoldable pub StopsGuided : StreamFault → Running → List NamedFilter → Streams → Streams → Type 0
   StopsGuided fault how filters before after =
       ((kept : Option (List ℕ)) × (keeps : Option (List ℕ)) × IsSaver how.save kept
       × StopsSaved fault how filters kept keeps before after)
@@ -91,34 +90,28 @@ module _ (creates : List ℕ → Result (Option (List ℕ)) Error → Type 0) wh
     abbrev pub RunsNamed : Running → List NamedFilter → Source → Streams → Streams → ℕ → Type 0
     RunsNamed how filters Input before after status = GuidesScript how filters before after status
     RunsNamed how filters (File name) before after status =
-        ((script : List ℕ) × (left : Option (List ℕ)) × IsRead opens input_limit (File name) script before.reads after.reads
-        × GuidesScript how filters (record { reads = Some script; holds = before.holds; tells = before.tells })
-        (record { reads = left; holds = after.holds; tells = after.tells }) status)
-        ⊎ ((why : Unread) × IsUnread opens input_limit (File name) why before.reads after.reads
-        × TellsUnread (File name) why before.tells after.tells × (after.holds ≡ before.holds) × (status ≡ 1))
+        ((script : List ℕ) × (mid : Streams) × (left : Option (List ℕ)) × Reads opens input_limit (File name) script before mid
+        × GuidesScript how filters (record { reads = Some script; holds = mid.holds; tells = mid.tells })
+        (record { reads = left; holds = after.holds; tells = after.tells }) status × (after.reads ≡ mid.reads))
+        ⊎ (SkipsUnread opens input_limit (File name) before after × (status ≡ 1))
 
     -- A fault ended it.
     abbrev pub StopsNamed : StreamFault → Running → List NamedFilter → Source → Streams → Streams → Type 0
     StopsNamed fault how filters Input before after = StopsGuided fault how filters before after
-    StopsNamed fault how filters (File name) before after =
-        ((script : List ℕ) × (left : Option (List ℕ)) × IsRead opens input_limit (File name) script before.reads after.reads
-        × StopsGuided fault how filters (record { reads = Some script; holds = before.holds; tells = before.tells })
-        (record { reads = left; holds = after.holds; tells = after.tells }))
-        ⊎ ((why : Unread) × IsUnread opens input_limit (File name) why before.reads after.reads
-        × StopsTelling fault (File name) why before.tells after.tells × (after.holds ≡ before.holds))
+    StopsNamed fault how filters (File name) before after = StopsReading opens fault input_limit (File name) before after
+        ⊎ ((script : List ℕ) × (mid : Streams) × (left : Option (List ℕ)) × Reads opens input_limit (File name) script before mid
+        × StopsGuided fault how filters (record { reads = Some script; holds = mid.holds; tells = mid.tells })
+        (record { reads = left; holds = after.holds; tells = after.tells }) × (after.reads ≡ mid.reads))
 
     -- The filters were read, in order, and then the script was carried out; or one of them was not read, and no line was answered.
     abbrev pub RunsGuided : Running → Source → Streams → Streams → ℕ → Type 0
     RunsGuided how source before after status =
-        ((filters : List NamedFilter) × (left : Option (List ℕ)) × ReadsFilters opens how.filters.items filters before.reads left
-        × RunsNamed how filters source (record { reads = left; holds = before.holds; tells = before.tells }) after status)
-        ⊎ ((unread : Source) × (why : Unread) × StopsAtFilter opens how.filters.items unread why before.reads after.reads
-        × TellsUnread unread why before.tells after.tells × (after.holds ≡ before.holds) × (status ≡ 1))
+        ((filters : List NamedFilter) × (mid : Streams) × ReadsThem opens how.filters.items filters before mid
+        × RunsNamed how filters source mid after status)
+        ⊎ (SkipsFilter opens how.filters.items before after × (status ≡ 1))
 
     -- A fault ended it.
     abbrev pub StopsRun : StreamFault → Running → Source → Streams → Streams → Type 0
-    StopsRun fault how source before after =
-        ((filters : List NamedFilter) × (left : Option (List ℕ)) × ReadsFilters opens how.filters.items filters before.reads left
-        × StopsNamed fault how filters source (record { reads = left; holds = before.holds; tells = before.tells }) after)
-        ⊎ ((unread : Source) × (why : Unread) × StopsAtFilter opens how.filters.items unread why before.reads after.reads
-        × StopsTelling fault unread why before.tells after.tells × (after.holds ≡ before.holds))
+    StopsRun fault how source before after = StopsAtFault opens fault how.filters.items before after
+        ⊎ ((filters : List NamedFilter) × (mid : Streams) × ReadsThem opens how.filters.items filters before mid
+        × StopsNamed fault how filters source mid after)

@@ -4,9 +4,9 @@ use Rattle.std.specs.declared.io.Error.{Error}
 use Rattle.line_protocol.specs.Limits.{input_limit}
 use Rattle.line_protocol.specs.declared.faults.StreamFault.{StreamFault}
 use Rattle.script_runs.specs.declared.naming.NamedFilter.{NamedFilter}
-use Rattle.command_line.specs.declared.aid_words.Running.{Running}
-use Rattle.command_line.specs.declared.aid_words.Source.{Source}
-use Rattle.ncroute.specs.Filters.{ReadsFilters, StopsAtFilter}
+use Rattle.command_line.specs.declared.requests.Running.{Running}
+use Rattle.command_line.specs.declared.requests.Source.{Source}
+use Rattle.ncroute.specs.Filters.{ReadsThem, SkipsFilter, StopsAtFault}
 use Rattle.ncroute.specs.Guiding.{GuidesScript, StopsGuided}
 use Rattle.ncroute.specs.Reading.{IsRead, IsUnread, StopsTelling, TellsUnread}
 use Rattle.ncroute.specs.Streaming.{Streams}
@@ -59,7 +59,7 @@ module _ (opens : List ℕ → Result (Option (List ℕ)) Error → Type 0) wher
 -- `creates name` says what may come of making a file of this name.
 module _ (creates opens : List ℕ → Result (Option (List ℕ)) Error → Type 0) where
   -- The sources were read, and the script that they are was carried out; or one of them was not read, and no line was answered.
-  abbrev pub RunsTexts : Running → List NamedFilter → List Source → Streams → Streams → ℕ → Type 0
+  unfoldable pub RunsTexts : Running → List NamedFilter → List Source → Streams → Streams → ℕ → Type 0
   RunsTexts how filters sources before after status =
       ((script : List ℕ) × (remains : Option (List ℕ)) × JoinsAll opens sources script before.reads after.reads
       × GuidesScript creates how filters (record { reads = Some script; holds = before.holds; tells = before.tells })
@@ -68,7 +68,7 @@ module _ (creates opens : List ℕ → Result (Option (List ℕ)) Error → Type
       × TellsUnread source why before.tells after.tells × (after.holds ≡ before.holds) × (status ≡ 1))
 
   -- A fault ended it.
-  abbrev pub StopsTexts : StreamFault → Running → List NamedFilter → List Source → Streams → Streams → Type 0
+  unfoldable pub StopsTexts : StreamFault → Running → List NamedFilter → List Source → Streams → Streams → Type 0
   StopsTexts fault how filters sources before after =
       ((script : List ℕ) × (remains : Option (List ℕ)) × JoinsAll opens sources script before.reads after.reads
       × StopsGuided creates fault how filters (record { reads = Some script; holds = before.holds; tells = before.tells })
@@ -78,17 +78,14 @@ module _ (creates opens : List ℕ → Result (Option (List ℕ)) Error → Type
 
   -- The filters were read, in order, then the sources, and then the script was carried out; or one of them was not read, and no line was
   -- answered.
-  abbrev pub RunsJoined : Running → List Source → Streams → Streams → ℕ → Type 0
+  unfoldable pub RunsJoined : Running → List Source → Streams → Streams → ℕ → Type 0
   RunsJoined how sources before after status =
-      ((filters : List NamedFilter) × (left : Option (List ℕ)) × ReadsFilters opens how.filters.items filters before.reads left
-      × RunsTexts how filters sources (record { reads = left; holds = before.holds; tells = before.tells }) after status)
-      ⊎ ((unread : Source) × (why : Unread) × StopsAtFilter opens how.filters.items unread why before.reads after.reads
-      × TellsUnread unread why before.tells after.tells × (after.holds ≡ before.holds) × (status ≡ 1))
+      ((filters : List NamedFilter) × (mid : Streams) × ReadsThem opens how.filters.items filters before mid
+      × RunsTexts how filters sources mid after status)
+      ⊎ (SkipsFilter opens how.filters.items before after × (status ≡ 1))
 
   -- A fault ended it.
-  abbrev pub StopsJoined : StreamFault → Running → List Source → Streams → Streams → Type 0
-  StopsJoined fault how sources before after =
-      ((filters : List NamedFilter) × (left : Option (List ℕ)) × ReadsFilters opens how.filters.items filters before.reads left
-      × StopsTexts fault how filters sources (record { reads = left; holds = before.holds; tells = before.tells }) after)
-      ⊎ ((unread : Source) × (why : Unread) × StopsAtFilter opens how.filters.items unread why before.reads after.reads
-      × StopsTelling fault unread why before.tells after.tells × (after.holds ≡ before.holds))
+  unfoldable pub StopsJoined : StreamFault → Running → List Source → Streams → Streams → Type 0
+  StopsJoined fault how sources before after = StopsAtFault opens fault how.filters.items before after
+      ⊎ ((filters : List NamedFilter) × (mid : Streams) × ReadsThem opens how.filters.items filters before mid
+      × StopsTexts fault how filters sources mid after)

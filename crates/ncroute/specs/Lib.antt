@@ -1,8 +1,9 @@
+pub mod Checking
 pub mod Comparing
+pub mod Ending
 pub mod Filters
 pub mod Following
 pub mod Guiding
-pub mod Helping
 pub mod Joining
 pub mod Linting
 pub mod Loading
@@ -11,9 +12,10 @@ pub mod Networking
 pub mod Planning
 pub mod Reading
 pub mod Replaying
+pub mod Requests
 pub mod Responding
 pub mod Routing
 pub mod Scripts
-pub mod Serving
 pub mod Streaming
 pub mod Testing
+pub mod Trying

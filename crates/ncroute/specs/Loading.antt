@@ -1,15 +1,15 @@
 -- How the filters of a router are read and verified, before it begins. (This project's own choice.)
-use Rattle.std.specs.Prelude.{◌≡◌, ◌⊎◌, ℕ, List, [], Option, Some, None, Result}
+use Rattle.std.specs.Prelude.{◌≡◌, ◌⊎◌, ℕ, List, Option, Some, None, Result}
 use Rattle.std.specs.declared.io.Error.{Error}
 use Rattle.line_protocol.specs.declared.faults.StreamFault.{StreamFault}
 use Rattle.line_protocol.specs.declared.faults.StreamFault.TheVariants.{Memory}
-use Rattle.operator_cmds.specs.Script.{ScriptView}
+use Rattle.operator_cmds.specs.Script.{ScriptView, fresh}
 use Rattle.operator_cmds.specs.Stages.{Empty}
 use Rattle.router_operator.specs.OperatorView.{Names, filter_of}
 use Rattle.script_runs.specs.Naming.{AreNamed}
 use Rattle.script_runs.specs.declared.naming.NamedFilter.{NamedFilter}
 use Rattle.script_runs.specs.declared.naming.Unfit.{Unfit}
-use Rattle.command_line.specs.declared.aid_words.Source.{Source}
+use Rattle.command_line.specs.declared.requests.Source.{Source}
 use Rattle.command_line.specs.declared.filter_words.NamedFile.{NamedFile}
 use Rattle.ncroute.specs.Filters.{IsCutUnfit, ReadsFilters, StopsAtFilter, TellsUnfit}
 use Rattle.ncroute.specs.Reading.{StopsTelling, TellsUnread}
@@ -19,13 +19,13 @@ use Rattle.ncroute.specs.declared.texts.Unread.{Unread}
 abbrev pub script_with : Names → ScriptView
 script_with names = record { stage = Empty; filters = filter_of names }
 
--- Each of these filters is verified for domains of this size, and its name leads to it; or this one is the first that is refused.
-abbrev pub AreLoaded : ℕ → List NamedFilter → Option Unfit → Names → Type 0
-AreLoaded size given unfit names = AreNamed size given unfit (script_with []) (script_with names)
+-- Each of these filters is verified for domains of this size, and its name leads to it.
+abbrev pub AreLoaded : ℕ → List NamedFilter → Names → Type 0
+AreLoaded size given names = AreNamed size given None fresh (script_with names)
 
--- One is refused.
+-- This one is the first that is refused.
 abbrev pub AreUnfit : ℕ → List NamedFilter → Unfit → Type 0
-AreUnfit size given unfit = (names : Names) × AreLoaded size given (Some unfit) names
+AreUnfit size given unfit = (script : ScriptView) × AreNamed size given (Some unfit) fresh script
 
 -- Standard error was told which one is refused, and why. `told` is what it held before, `tells` what it holds now.
 abbrev pub TellsOfUnfit : ℕ → List NamedFilter → Option (List ℕ) → Option (List ℕ) → Type 0
@@ -42,7 +42,7 @@ module _ (opens : List ℕ → Result (Option (List ℕ)) Error → Type 0) wher
   pub record LoadsFilters (files : List NamedFile) (size : ℕ) (names : Names) (known left : Option (List ℕ)) : Type 0 where
     pub given : List NamedFilter
     pub reads : ReadsFilters opens files given known left
-    pub loaded : AreLoaded size given None names
+    pub loaded : AreLoaded size given names
 
   -- One of them was not read, or is refused, which standard error was told.
   abbrev pub LacksFilters : List NamedFile → ℕ → Option (List ℕ) → Option (List ℕ) → Option (List ℕ) → Option (List ℕ) → Type 0

@@ -1,13 +1,15 @@
 -- The report on a source where each line begins with the source's name, or where only refusals are written. (This project's own choice.)
 use Rattle.std.specs.Prelude.{◌≡◌, ◌⊎◌, ◌==◌, ℕ, Bool, true, false, if◌then◌else◌, is_some, List, [], ◌∷◌, ◌++◌, Option, Some, None, codes}
 use Rattle.std.specs.Io.KnownBytes.{Appends}
+use Rattle.filter_commands.specs.Checking.{IsCutOff, Reports}
 use Rattle.filter_commands.specs.Evaluation.{IsCut}
 use Rattle.filter_source.specs.declared.diagnosis.Diagnosis.{Diagnosis}
 use Rattle.filter_tools.specs.Filtering.{refusal_line}
 use Rattle.filter_tools.specs.Naming.{ChecksNamed, ChecksNamedOff}
 use Rattle.filter_tools.specs.Shown.{shown}
 use Rattle.line_protocol.specs.declared.faults.StreamFault.{StreamFault}
-use Rattle.command_line.specs.declared.aid_words.Checking.{Checking}
+use Rattle.command_line.specs.declared.requests.Checking.{Checking}
+use Rattle.ncroute.specs.Streaming.{Streams}
 
 -- what stands before a byte of a text, by the byte before it: a mark where it begins a line
 abbrev pub mark_behind : List ℕ → ℕ → List ℕ
@@ -41,19 +43,39 @@ kept_lines false report why = report
 abbrev pub written_of : Checking → List ℕ → List ℕ → Option Diagnosis → List ℕ
 written_of how name report why = marked (name_mark how.has_names name) (kept_lines how.is_quiet report why)
 
--- The report on a text was made and told, and these lines of it were written, and it is said whether it refuses the text. `held` and
--- `holds` are what the writer held before and holds now, `told` and `tells` the same of standard error.
-pub record ChecksLines (how : Checking) (name text : List ℕ) (held holds told tells : Option (List ℕ)) (is_refused : Bool) : Type 0 where
+-- The report on a text was written, and its refusal was told, by its name or in words; or it was not to be told.
+abbrev pub ReportsOn : Bool → Checking → List ℕ → List ℕ → Option (List ℕ) → Option (List ℕ) → Option (List ℕ) → Option (List ℕ)
+    → Option Diagnosis → Type 0
+ReportsOn true how name text held holds told tells why =
+    ChecksNamed how.size how.is_code how.is_explained name text held holds told tells why
+ReportsOn false how name text held holds told tells why = Reports how.size how.is_code text held holds why × (tells ≡ told)
+
+-- A fault cut it.
+abbrev pub CutsReport : Bool → StreamFault → Checking → List ℕ → List ℕ → Option (List ℕ) → Option (List ℕ) → Option (List ℕ) → Option (List ℕ)
+    → Type 0
+CutsReport true fault how name text held holds told tells =
+    ChecksNamedOff fault how.size how.is_code how.is_explained name text held holds told tells
+CutsReport false fault how name text held holds told tells = IsCutOff fault how.size how.is_code text held holds × (tells ≡ told)
+
+-- The report on a text was made and told, and these lines of it were written, and it is said whether it refuses the text.
+pub record ChecksLines (how : Checking) (name text : List ℕ) (before after : Streams) (is_refused : Bool) : Type 0 where
   pub why : Option Diagnosis
   pub report : List ℕ
-  pub checked : ChecksNamed how.size how.is_code how.is_explained name text (Some []) (Some report) told tells why
-  pub written : Appends held holds (written_of how name report why)
+  pub reported : ReportsOn how.is_told how name text (Some []) (Some report) before.tells after.tells why
+  pub written : Appends before.holds after.holds (written_of how name report why)
   pub judged : is_refused ≡ is_some why
+  pub reads : after.reads ≡ before.reads
 
--- A fault cut that: the report was not made, or what is told of it was cut, and nothing was written; or what is written of it was cut.
-abbrev pub CutsLines : StreamFault → Checking → List ℕ → List ℕ → Option (List ℕ) → Option (List ℕ) → Option (List ℕ) → Option (List ℕ) → Type 0
-CutsLines fault how name text held holds told tells =
-    ((made : Option (List ℕ)) × ChecksNamedOff fault how.size how.is_code how.is_explained name text (Some []) made told tells × (holds ≡ held))
-    ⊎ ((why : Option Diagnosis) × (report : List ℕ)
-    × ChecksNamed how.size how.is_code how.is_explained name text (Some []) (Some report) told tells why
-    × IsCut fault held holds (written_of how name report why))
+-- A fault cut the lines of it that are written.
+pub record CutsMarked (fault : StreamFault) (how : Checking) (name text : List ℕ) (before after : Streams) : Type 0 where
+  pub why : Option Diagnosis
+  pub report : List ℕ
+  pub reported : ReportsOn how.is_told how name text (Some []) (Some report) before.tells after.tells why
+  pub written : IsCut fault before.holds after.holds (written_of how name report why)
+  pub reads : after.reads ≡ before.reads
+
+-- Or it cut the report, or what is told of it, and nothing was written.
+unfoldable pub CutsLines : StreamFault → Checking → List ℕ → List ℕ → Streams → Streams → Type 0
+CutsLines fault how name text before after = ((made : Option (List ℕ))
+    × CutsReport how.is_told fault how name text (Some []) made before.tells after.tells × (after.holds ≡ before.holds)
+    × (after.reads ≡ before.reads)) ⊎ CutsMarked fault how name text before after

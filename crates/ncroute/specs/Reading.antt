@@ -5,13 +5,16 @@ use Rattle.std.specs.IoError.{error_kind}
 use Rattle.std.specs.declared.io.Error.{Error}
 use Rattle.std.specs.declared.io.ErrorKind.TheVariants.{OutOfMemory}
 use Rattle.filter_commands.specs.Evaluation.{IsCut}
+use Rattle.filter_commands.specs.Faults.{stream_fault}
 use Rattle.line_protocol.specs.Runs.{ConsumesAtMost}
 use Rattle.line_protocol.specs.declared.faults.StreamFault.{StreamFault}
 use Rattle.line_protocol.specs.declared.faults.StreamFault.TheVariants as fault
 use Rattle.filter_tools.specs.Shown.{shown}
-use Rattle.command_line.specs.declared.aid_words.Source.{Source}
-use Rattle.command_line.specs.declared.aid_words.Source.TheVariants.{Input, File}
+use Rattle.command_line.specs.declared.requests.Source.{Source}
+use Rattle.command_line.specs.declared.requests.Source.TheVariants.{Input, File}
 use Rattle.ncroute.specs.Streaming.{Streams}
+use Rattle.ncroute.specs.declared.console.Loaded.{Loaded}
+use Rattle.ncroute.specs.declared.console.Loaded.TheVariants as loaded
 use Rattle.ncroute.specs.declared.texts.Unread.{Unread}
 use Rattle.ncroute.specs.declared.texts.Unread.TheVariants as unread
 
@@ -78,6 +81,12 @@ StopsTelling ended source unread.Input told tells = (ended ≡ fault.Read) × (t
 StopsTelling ended source unread.Memory told tells = (ended ≡ fault.Memory) × (tells ≡ told)
 StopsTelling ended source unread.TooLong told tells = IsCut ended told tells (long_line source)
 
+-- a text that was read goes at most one byte beyond its limit
+abbrev pub IsWithin : ℕ → Loaded → Type 0
+IsWithin limit (loaded.Text text) = length text.items ≤ limit + 1
+IsWithin limit loaded.Skipped = ⊤
+IsWithin limit (loaded.Stopped fault) = ⊤
+
 -- `opens name` says what may come of opening a file of this name: what it has to read, or why there is none.
 module _ (opens : List ℕ → Result (Option (List ℕ)) Error → Type 0) where
   -- A file of this name was opened and read.
@@ -99,12 +108,28 @@ module _ (opens : List ℕ → Result (Option (List ℕ)) Error → Type 0) wher
   IsUnread limit Input why known left = LeavesInput limit why known left
   IsUnread limit (File name) why known left = (left ≡ known) × LeavesFile (string_bytes name) why
 
+  -- This text was read of a source, and nothing was written or told.
+  pub record Reads (limit : ℕ) (source : Source) (text : List ℕ) (before after : Streams) : Type 0 where
+    pub read : IsRead limit source text before.reads after.reads
+    pub holds : after.holds ≡ before.holds
+    pub tells : after.tells ≡ before.tells
+
   -- A source was not read, which standard error was told, and nothing was written.
-  abbrev pub SkipsUnread : ℕ → Source → Streams → Streams → Type 0
-  SkipsUnread limit source before after = (why : Unread) × IsUnread limit source why before.reads after.reads
-      × TellsUnread source why before.tells after.tells × (after.holds ≡ before.holds)
+  pub record SkipsUnread (limit : ℕ) (source : Source) (before after : Streams) : Type 0 where
+    pub why : Unread
+    pub unread : IsUnread limit source why before.reads after.reads
+    pub told : TellsUnread source why before.tells after.tells
+    pub holds : after.holds ≡ before.holds
 
   -- A fault kept a source from being read or told of, and nothing was written.
-  abbrev pub StopsReading : StreamFault → ℕ → Source → Streams → Streams → Type 0
-  StopsReading fault limit source before after = (why : Unread) × IsUnread limit source why before.reads after.reads
-      × StopsTelling fault source why before.tells after.tells × (after.holds ≡ before.holds)
+  pub record StopsReading (fault : StreamFault) (limit : ℕ) (source : Source) (before after : Streams) : Type 0 where
+    pub why : Unread
+    pub unread : IsUnread limit source why before.reads after.reads
+    pub told : StopsTelling fault source why before.tells after.tells
+    pub holds : after.holds ≡ before.holds
+
+  -- what came of reading a source
+  abbrev pub IsLoaded : ℕ → Source → Loaded → Streams → Streams → Type 0
+  IsLoaded limit source (loaded.Text text) before after = Reads limit source text.items before after
+  IsLoaded limit source loaded.Skipped before after = SkipsUnread limit source before after
+  IsLoaded limit source (loaded.Stopped fault) before after = StopsReading (stream_fault fault) limit source before after

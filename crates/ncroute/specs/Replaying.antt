@@ -1,28 +1,50 @@
 -- What the program does for `replay`. (This project's own choice.)
-use Rattle.std.specs.Prelude.{◌≡◌, ℕ, ◌+◌, ◌≤◌, List, [], Option, length, if◌then◌else◌}
+use Rattle.std.specs.Prelude.{◌≡◌, ◌⊎◌, ℕ, ◌+◌, ◌≤◌, List, [], Option, Result, length, if◌then◌else◌}
 use Rattle.std.specs.Io.KnownBytes.{Appends}
+use Rattle.std.specs.declared.io.Error.{Error}
 use Rattle.history_file.specs.Replays.{IsVerdict, is_right, verdict_line}
 use Rattle.history_file.specs.declared.verdict.Verdict.{Verdict}
 use Rattle.line_protocol.specs.Runs.{AppendsFront}
 use Rattle.line_protocol.specs.declared.faults.StreamFault.{StreamFault}
 use Rattle.line_protocol.specs.declared.faults.StreamFault.TheVariants.{Read, Write, Memory, TooLong}
+use Rattle.command_line.specs.declared.requests.Source.{Source}
+use Rattle.ncroute.specs.Reading.{Reads, SkipsUnread, StopsReading}
+use Rattle.ncroute.specs.Streaming.{Streams, Writes}
 
 -- the text of a history of more bytes than this is not replayed
 abbrev pub replay_limit : ℕ
 replay_limit = 1073741824
 
 -- The line of the verdict on a text was written, and the exit status says whether it is the text of a right history, to its end.
--- `held` and `holds` are what the writer held before and holds now.
-pub record ReplaysText (text : List ℕ) (held holds : Option (List ℕ)) (status : ℕ) : Type 0 where
+pub record ReplaysText (text : List ℕ) (before after : Streams) (status : ℕ) : Type 0 where
   pub within : length text ≤ replay_limit
   pub verdict : Verdict
   pub is_verdict : IsVerdict text verdict
-  pub written : Appends held holds (verdict_line verdict)
+  pub written : Writes (verdict_line verdict) before after
   pub ends : status ≡ (if is_right verdict then 0 else 1)
 
--- What was written where a fault cut that: a text over the limit has no verdict.
-abbrev pub CutsReplay : StreamFault → List ℕ → Option (List ℕ) → Option (List ℕ) → Type 0
-CutsReplay Read text held holds = ⊥
-CutsReplay Write text held holds = (verdict : Verdict) × IsVerdict text verdict × AppendsFront held holds (verdict_line verdict)
-CutsReplay Memory text held holds = Appends held holds []
-CutsReplay TooLong text held holds = (length text ≡ replay_limit + 1) × (holds ≡ held)
+-- What was written where a fault cut that: a text over the limit has no verdict. `held` and `holds` are what the writer held before and
+-- holds now.
+abbrev pub CutsVerdict : StreamFault → List ℕ → Option (List ℕ) → Option (List ℕ) → Type 0
+CutsVerdict Read text held holds = ⊥
+CutsVerdict Write text held holds = (verdict : Verdict) × IsVerdict text verdict × AppendsFront held holds (verdict_line verdict)
+CutsVerdict Memory text held holds = Appends held holds []
+CutsVerdict TooLong text held holds = (length text ≡ replay_limit + 1) × (holds ≡ held)
+
+pub record CutsReplay (fault : StreamFault) (text : List ℕ) (before after : Streams) : Type 0 where
+  pub written : CutsVerdict fault text before.holds after.holds
+  pub reads : after.reads ≡ before.reads
+  pub tells : after.tells ≡ before.tells
+
+-- `opens name` says what may come of opening a file of this name.
+module _ (opens : List ℕ → Result (Option (List ℕ)) Error → Type 0) where
+  -- A source was read and replayed; or it was not read.
+  abbrev pub ReplaysSource : Source → Streams → Streams → ℕ → Type 0
+  ReplaysSource source before after status =
+      ((text : List ℕ) × (mid : Streams) × Reads opens replay_limit source text before mid × ReplaysText text mid after status)
+      ⊎ (SkipsUnread opens replay_limit source before after × (status ≡ 3))
+
+  -- A fault ended it.
+  abbrev pub StopsReplay : StreamFault → Source → Streams → Streams → Type 0
+  StopsReplay fault source before after = StopsReading opens fault replay_limit source before after
+      ⊎ ((text : List ℕ) × (mid : Streams) × Reads opens replay_limit source text before mid × CutsReplay fault text mid after)

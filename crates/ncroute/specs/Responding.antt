@@ -1,30 +1,25 @@
 -- What the program does for the words of its command line, and its exit status. (This project's own choice.)
-use Rattle.std.specs.Prelude.{◌≡◌, ◌⊎◌, ℕ, List, Option, Result, Ok, Err, IfSome}
+use Rattle.std.specs.Prelude.{◌≡◌, ◌⊎◌, ℕ, List, Option, Result, Ok, Err}
 use Rattle.std.specs.declared.io.Error.{Error}
 use Rattle.command_line.specs.declared.words.Words.{Words}
-use Rattle.command_line.specs.declared.words.Words.TheVariants.{Asked, Network, Router, Aided, Shown}
+use Rattle.command_line.specs.declared.words.Words.TheVariants.{Asked, Network, Router, Shown}
 use Rattle.filter_commands.specs.declared.fault.ProgramFault.TheVariants.{Stream}
-use Rattle.line_protocol.specs.Runs.{AppendsFront}
 use Rattle.line_protocol.specs.declared.faults.StreamFault.{StreamFault}
-use Rattle.ncroute.specs.Helping.{FailsToTell, ServesPeople, fault_status}
+use Rattle.ncroute.specs.Ending.{fault_line}
 use Rattle.ncroute.specs.Networking.{FailsToReportNetwork, ServesNetwork}
+use Rattle.ncroute.specs.Requests.{FailsToReport, Serves, fault_status}
 use Rattle.ncroute.specs.Routing.{ServesRouter}
-use Rattle.ncroute.specs.Serving.{FailsToReport, Serves, fault_line}
-use Rattle.ncroute.specs.Streaming.{Streams}
+use Rattle.ncroute.specs.Streaming.{Streams, TellsFront}
 
--- What was asked for was served, with its status; where standard error did not take all that it was to be told, the status is that
--- of a fault. Words that were shown something have their status, and nothing else is done. `opens name` and `creates name` say what may
--- come of opening and of making a file of this name.
+-- What was asked for was served, with its status; where standard error did not take the whole line of a fault, the status is that of a fault.
+-- Words that were shown something have their status, and nothing else is done. `opens name` and `creates name` say what may come of opening
+-- and of making a file of this name.
 abbrev pub Responds : (List ℕ → Result (Option (List ℕ)) Error → Type 0) → (List ℕ → Result (Option (List ℕ)) Error → Type 0)
     → Result Words StreamFault → Streams → Streams → ℕ → Type 0
-Responds opens creates (Ok (Asked request)) before after status = IfSome before.reads (λ input.
-    Serves request input after.reads before.holds after.holds before.tells after.tells status
-    ⊎ (FailsToReport request input after.reads before.holds after.holds before.tells after.tells × (status ≡ 1)))
-Responds opens creates (Ok Network) before after status = ServesNetwork before.holds after.holds before.tells after.tells status
-    ⊎ (FailsToReportNetwork before.holds after.holds before.tells after.tells × (status ≡ 1))
+Responds opens creates (Ok (Asked what)) before after status = Serves opens creates what before after status
+    ⊎ (FailsToReport opens creates what before after × (status ≡ fault_status what))
+Responds opens creates (Ok Network) before after status = ServesNetwork before after status
+    ⊎ (FailsToReportNetwork before after × (status ≡ 1))
 Responds opens creates (Ok (Router words)) before after status = ServesRouter opens creates words before after status
-Responds opens creates (Ok (Aided what)) before after status = ServesPeople opens creates what before after status
-    ⊎ (FailsToTell opens creates what before after × (status ≡ fault_status what))
 Responds opens creates (Ok (Shown shown)) before after status = (status ≡ shown) × (after ≡ before)
-Responds opens creates (Err fault) before after status = (status ≡ 1) × (after.reads ≡ before.reads) × (after.holds ≡ before.holds)
-    × AppendsFront before.tells after.tells (fault_line (Stream fault))
+Responds opens creates (Err fault) before after status = (status ≡ 1) × TellsFront (fault_line (Stream fault)) before after

@@ -22,7 +22,7 @@ use Rattle.ncroute.specs.Guiding.{IsUnmade}
 use Rattle.ncroute.specs.Loading.{LacksFilters, LoadsFilters, StopsLoading}
 use Rattle.ncroute.specs.Planning.{IsPlanOf, LacksPlan}
 use Rattle.ncroute.specs.Reading.{unmade_line}
-use Rattle.ncroute.specs.Serving.{fault_line}
+use Rattle.ncroute.specs.Ending.{fault_line}
 use Rattle.ncroute.specs.Streaming.{Streams}
 
 -- the line that tells what is wrong with the words
@@ -135,7 +135,7 @@ module _ (opens creates : List ℕ → Result (Option (List ℕ)) Error → Type
       × StopsSettingUp creates opens (stream_fault fault) words before.reads after.reads before.tells tells
       × AppendsFront tells after.tells (fault_line fault) × (after.holds ≡ before.holds) × (status ≡ 1)
 
-  abbrev pub ServesRouter : RouterWords → Streams → Streams → ℕ → Type 0
+  unfoldable pub ServesRouter : RouterWords → Streams → Streams → ℕ → Type 0
   ServesRouter words before after status = RunsRouter words before after status
       ⊎ ((TurnsAway creates opens words before.reads after.reads before.tells after.tells status × (after.holds ≡ before.holds))
       ⊎ StopsRouter words before after status)

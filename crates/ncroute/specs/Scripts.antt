@@ -1,11 +1,16 @@
 -- What the program does for a script, and its exit status. (This project's own choice.)
-use Rattle.std.specs.Prelude.{◌≡◌, ◌⊎◌, ℕ, Bool, true, List, Option, IfSome}
+use Rattle.std.specs.Prelude.{◌≡◌, ◌⊎◌, ℕ, Bool, true, List, Option, Some, IfSome, Result}
+use Rattle.std.specs.declared.io.Error.{Error}
+use Rattle.line_protocol.specs.Limits.{input_limit}
 use Rattle.line_protocol.specs.declared.faults.StreamFault.{StreamFault}
 use Rattle.operator_cmds.specs.Running as router
 use Rattle.domain_cmds.specs.Running as domain
-use Rattle.command_line.specs.declared.aid_words.Engine.{Engine}
-use Rattle.command_line.specs.declared.aid_words.Engine.TheVariants.{Router, Domain}
-use Rattle.ncroute.specs.Serving.{status_of}
+use Rattle.command_line.specs.declared.requests.Engine.{Engine}
+use Rattle.command_line.specs.declared.requests.Engine.TheVariants.{Router, Domain}
+use Rattle.command_line.specs.declared.requests.Source.{Source}
+use Rattle.command_line.specs.declared.requests.Source.TheVariants.{Input, File}
+use Rattle.ncroute.specs.Ending.{status_of}
+use Rattle.ncroute.specs.Reading.{Reads, SkipsUnread, StopsReading}
 use Rattle.ncroute.specs.Streaming.{Streams}
 
 -- A script was answered to its end, with so many refused lines. `input` is all that the reader had, `left` what it has now; `held` and
@@ -40,3 +45,30 @@ pub record RunsScript (engine : Engine) (is_explained : Bool) (before after : St
 pub record StopsScript (fault : StreamFault) (engine : Engine) (is_explained : Bool) (before after : Streams) : Type 0 where
   pub left_off : IfSome before.reads (λ input. IsLeftOff engine fault input after.reads before.holds after.holds)
   pub quiet : IsQuiet is_explained before.tells after.tells
+
+-- `opens name` says what may come of opening a file of this name.
+module _ (opens : List ℕ → Result (Option (List ℕ)) Error → Type 0) where
+  -- The script of a file was read to its end, or to the limit, and carried out; or it was not read.
+  abbrev pub RunsFile : Engine → Source → Bool → Streams → Streams → ℕ → Type 0
+  RunsFile engine source is_explained before after status =
+      ((script : List ℕ) × (mid : Streams) × (left : Option (List ℕ)) × Reads opens input_limit source script before mid
+      × RunsScript engine is_explained (record { reads = Some script; holds = mid.holds; tells = mid.tells })
+      (record { reads = left; holds = after.holds; tells = after.tells }) status × (after.reads ≡ mid.reads))
+      ⊎ (SkipsUnread opens input_limit source before after × (status ≡ script_fault engine))
+
+  -- A fault ended it.
+  abbrev pub StopsFile : StreamFault → Engine → Source → Bool → Streams → Streams → Type 0
+  StopsFile fault engine source is_explained before after = StopsReading opens fault input_limit source before after
+      ⊎ ((script : List ℕ) × (mid : Streams) × (left : Option (List ℕ)) × Reads opens input_limit source script before mid
+      × StopsScript fault engine is_explained (record { reads = Some script; holds = mid.holds; tells = mid.tells })
+      (record { reads = left; holds = after.holds; tells = after.tells }) × (after.reads ≡ mid.reads))
+
+  -- A script was carried out: line by line as standard input has it, or from a file.
+  abbrev pub RunsSource : Engine → Source → Bool → Streams → Streams → ℕ → Type 0
+  RunsSource engine Input is_explained before after status = RunsScript engine is_explained before after status
+  RunsSource engine (File name) is_explained before after status = RunsFile engine (File name) is_explained before after status
+
+  -- A fault ended it.
+  abbrev pub StopsSource : StreamFault → Engine → Source → Bool → Streams → Streams → Type 0
+  StopsSource fault engine Input is_explained before after = StopsScript fault engine is_explained before after
+  StopsSource fault engine (File name) is_explained before after = StopsFile fault engine (File name) is_explained before after

@@ -1,7 +1,6 @@
 -- What the program does with test files. (This project's own choice; the lines are those of the Test Anything Protocol.)
 use Rattle.std.specs.Prelude.{◌≡◌, ◌⊎◌, ◌||◌, ◌+◌, ℕ, zero, suc, false, if◌then◌else◌, List, [], ◌∷◌, ◌++◌, Option, Some, None, Result, Ok, Err}
 use Rattle.std.specs.Prelude.{IsUtf8, codes, length, nat_lt, slice_get, string_bytes}
-use Rattle.std.specs.Io.KnownBytes.{Appends}
 use Rattle.std.specs.declared.io.Error.{Error}
 use Rattle.filter_checks.specs.Faults.{fault_text}
 use Rattle.filter_checks.specs.Files.{FileView, file_in}
@@ -12,16 +11,15 @@ use Rattle.filter_checks.specs.declared.test_file.FileFault.{FileFault}
 use Rattle.filter_checks.specs.declared.test_file.FileFault.TheVariants.{Name}
 use Rattle.filter_checks.specs.declared.testing.Tested.{Tested}
 use Rattle.filter_checks.specs.declared.testing.Tested.TheVariants.{Ran, Refused}
-use Rattle.filter_commands.specs.Evaluation.{IsCut}
 use Rattle.filter_source.specs.Limits.{source_limit}
 use Rattle.filter_tools.specs.Naming.{Named}
 use Rattle.line_protocol.specs.declared.faults.StreamFault.{StreamFault}
 use Rattle.line_protocol.specs.declared.faults.StreamFault.TheVariants.{Memory, TooLong}
-use Rattle.command_line.specs.declared.aid_words.Source.{Source}
-use Rattle.command_line.specs.declared.aid_words.Source.TheVariants.{Input, File}
+use Rattle.command_line.specs.declared.requests.Source.{Source}
+use Rattle.command_line.specs.declared.requests.Source.TheVariants.{Input, File}
 use Rattle.command_line.specs.declared.test_words.Testing.{Testing}
-use Rattle.ncroute.specs.Reading.{IsRead, SkipsUnread, StopsReading, name_of}
-use Rattle.ncroute.specs.Streaming.{Streams}
+use Rattle.ncroute.specs.Reading.{Reads, SkipsUnread, StopsReading, name_of}
+use Rattle.ncroute.specs.Streaming.{CutsTelling, CutsWriting, Streams, Tells, Writes}
 use Rattle.ncroute.specs.declared.testing.Tally.{Tally}
 
 -- the first line of the output
@@ -50,32 +48,33 @@ abbrev pub status_of_tests : Option Tally → ℕ
 status_of_tests None = 3
 status_of_tests (Some tally) = if tally.has_failed then 1 else 0
 
--- The tests of a file were run by the filter of a text, or that is refused. `found` is how many tests were run by then; `held` and `holds`
--- are what the writer held before and holds now, `told` and `tells` the same of standard error.
-pub record RunsBy (how : Testing) (name : List ℕ) (file : FileView) (filter : Named) (tally : Tally) (held holds told tells : Option (List ℕ))
+-- The tests of a file were run by the filter of a text, or that is refused. `found` is how many tests were run by then.
+pub record RunsBy (how : Testing) (name : List ℕ) (file : FileView) (filter : Named) (tally : Tally) (before after : Streams)
     (found : Option Tally) : Type 0 where
   pub tested : Tested
-  pub named : TestsNamed tally.count how.is_explained name file filter held holds told tells tested
+  pub named : TestsNamed tally.count how.is_explained name file filter before.holds after.holds before.tells after.tells tested
   pub counted : found ≡ tally_after tally (length file.tests) tested
+  pub reads : after.reads ≡ before.reads
 
--- A fault ended it. Tests that a number of 64 bits cannot count are not run.
-abbrev pub StopsBy : StreamFault → Testing → List ℕ → FileView → Named → Tally → Option (List ℕ) → Option (List ℕ) → Option (List ℕ)
-    → Option (List ℕ) → Type 0
-StopsBy fault how name file filter tally held holds told tells = ((fault ≡ TooLong) × (holds ≡ held) × (tells ≡ told))
-    ⊎ TestsNamedOff fault tally.count how.is_explained name file filter held holds told tells
+-- A fault ended it.
+pub record StopsCounted (fault : StreamFault) (how : Testing) (name : List ℕ) (file : FileView) (filter : Named) (tally : Tally)
+    (before after : Streams) : Type 0 where
+  pub named : TestsNamedOff fault tally.count how.is_explained name file filter before.holds after.holds before.tells after.tells
+  pub reads : after.reads ≡ before.reads
+
+-- Or tests that a number of 64 bits cannot count are not run.
+unfoldable pub StopsBy : StreamFault → Testing → List ℕ → FileView → Named → Tally → Streams → Streams → Type 0
+StopsBy fault how name file filter tally before after =
+    ((fault ≡ TooLong) × (after ≡ before)) ⊎ StopsCounted fault how name file filter tally before after
 
 -- Standard error was told why a text is no test file, and nothing more is run.
 pub record TellsFault (how : Testing) (name : List ℕ) (why : FileFault) (before after : Streams) (found : Option Tally) : Type 0 where
-  pub told : Appends before.tells after.tells (fault_text how.is_explained name why)
-  pub holds : after.holds ≡ before.holds
-  pub reads : after.reads ≡ before.reads
+  pub told : Tells (fault_text how.is_explained name why) before after
   pub none : found ≡ None
 
 -- A fault cut that.
-pub record CutsFault (fault : StreamFault) (how : Testing) (name : List ℕ) (why : FileFault) (before after : Streams) : Type 0 where
-  pub told : IsCut fault before.tells after.tells (fault_text how.is_explained name why)
-  pub holds : after.holds ≡ before.holds
-  pub reads : after.reads ≡ before.reads
+abbrev pub CutsFault : StreamFault → Testing → List ℕ → FileFault → Streams → Streams → Type 0
+CutsFault fault how name why before after = CutsTelling fault (fault_text how.is_explained name why) before after
 
 -- the source is the file of this name
 abbrev pub IsFileAt : List ℕ → Source → Type 0
@@ -85,29 +84,33 @@ IsFileAt path (File name) = string_bytes name ≡ path
 -- `opens name` says what may come of opening a file of this name.
 module _ (opens : List ℕ → Result (Option (List ℕ)) Error → Type 0) where
   -- The filter of a test file was read from its source, and the tests were run by it; or it was not read.
-  abbrev pub RunsBeside : Testing → List ℕ → FileView → Source → Tally → Streams → Streams → Option Tally → Type 0
+  unfoldable pub RunsBeside : Testing → List ℕ → FileView → Source → Tally → Streams → Streams → Option Tally → Type 0
   RunsBeside how name file source tally before after found =
-      ((text : List ℕ) × IsRead opens source_limit source text before.reads after.reads
-      × RunsBy how name file (record { name = name_of source; text = text }) tally before.holds after.holds before.tells after.tells found)
+      ((text : List ℕ) × (mid : Streams) × Reads opens source_limit source text before mid
+      × RunsBy how name file (record { name = name_of source; text = text }) tally mid after found)
       ⊎ (SkipsUnread opens source_limit source before after × (found ≡ None))
 
-  -- That source is the file beside the test file that it names. A name that is not UTF-8 is no name of a file.
+  -- That source is the file of this name. A name that is not UTF-8 is no name of a file.
+  unfoldable pub RunsAt : Testing → List ℕ → FileView → List ℕ → Tally → Streams → Streams → Option Tally → Type 0
+  RunsAt how name file path tally before after found =
+      ((source : Source) × IsFileAt path source × RunsBeside how name file source tally before after found)
+      ⊎ ((IsUtf8 path → ⊥) × TellsFault how name Name before after found)
+
+  -- It is the name of the file beside the test file that it names.
   abbrev pub RunsFile : Testing → List ℕ → FileView → Tally → Streams → Streams → Option Tally → Type 0
-  RunsFile how name file tally before after found =
-      ((source : Source) × IsFileAt (path_beside name file.filter) source × RunsBeside how name file source tally before after found)
-      ⊎ ((IsUtf8 (path_beside name file.filter) → ⊥) × TellsFault how name Name before after found)
+  RunsFile how name file tally before after found = RunsAt how name file (path_beside name file.filter) tally before after found
 
   -- The tests that a text has were run; or it is no test file.
-  abbrev pub RunsText : Testing → List ℕ → List ℕ → Tally → Streams → Streams → Option Tally → Type 0
+  unfoldable pub RunsText : Testing → List ℕ → List ℕ → Tally → Streams → Streams → Option Tally → Type 0
   RunsText how name text tally before after found =
       ((file : FileView) × (file_in text ≡ Ok file) × RunsFile how name file tally before after found)
       ⊎ ((why : FileFault) × (file_in text ≡ Err why) × TellsFault how name why before after found)
 
   -- A source was read, and its tests were run; or it was not read.
-  abbrev pub RunsTests : Testing → Source → Tally → Streams → Streams → Option Tally → Type 0
+  unfoldable pub RunsTests : Testing → Source → Tally → Streams → Streams → Option Tally → Type 0
   RunsTests how source tally before after found =
-      ((text : List ℕ) × (left : Option (List ℕ)) × IsRead opens source_limit source text before.reads left
-      × RunsText how (name_of source) text tally (record before { reads = left }) after found)
+      ((text : List ℕ) × (mid : Streams) × Reads opens source_limit source text before mid
+      × RunsText how (name_of source) text tally mid after found)
       ⊎ (SkipsUnread opens source_limit source before after × (found ≡ None))
 
   -- The tests of the first n of some sources were run, in order.
@@ -132,37 +135,39 @@ module _ (opens : List ℕ → Result (Option (List ℕ)) Error → Type 0) wher
 
   -- The same between the first line and the last one, and the exit status says what came of it.
   pub record TestsSources (how : Testing) (sources : List Source) (before after : Streams) (status : ℕ) : Type 0 where
-    pub begun : Option (List ℕ)
+    pub begun : Streams
     pub mid : Streams
     pub found : Option Tally
-    pub version : Appends before.holds begun version_line
-    pub run : RunsAll how sources (record before { holds = begun }) mid found
-    pub last : Appends mid.holds after.holds (last_line found)
-    pub reads : after.reads ≡ mid.reads
-    pub tells : after.tells ≡ mid.tells
+    pub version : Writes version_line before begun
+    pub run : RunsAll how sources begun mid found
+    pub last : Writes (last_line found) mid after
     pub ends : status ≡ status_of_tests found
 
   -- A fault ended it while the filter of a test file was read, or its tests were run.
-  abbrev pub StopsBeside : StreamFault → Testing → List ℕ → FileView → Source → Tally → Streams → Streams → Type 0
+  unfoldable pub StopsBeside : StreamFault → Testing → List ℕ → FileView → Source → Tally → Streams → Streams → Type 0
   StopsBeside fault how name file source tally before after = StopsReading opens fault source_limit source before after
-      ⊎ ((text : List ℕ) × IsRead opens source_limit source text before.reads after.reads
-      × StopsBy fault how name file (record { name = name_of source; text = text }) tally before.holds after.holds before.tells after.tells)
+      ⊎ ((text : List ℕ) × (mid : Streams) × Reads opens source_limit source text before mid
+      × StopsBy fault how name file (record { name = name_of source; text = text }) tally mid after)
 
   -- Or while it was told that the filter has no name, or for want of memory before that.
-  abbrev pub StopsFile : StreamFault → Testing → List ℕ → FileView → Tally → Streams → Streams → Type 0
-  StopsFile fault how name file tally before after = ((fault ≡ Memory) × (after ≡ before))
-      ⊎ (((source : Source) × IsFileAt (path_beside name file.filter) source × StopsBeside fault how name file source tally before after)
-      ⊎ ((IsUtf8 (path_beside name file.filter) → ⊥) × CutsFault fault how name Name before after))
+  unfoldable pub StopsAt : StreamFault → Testing → List ℕ → FileView → List ℕ → Tally → Streams → Streams → Type 0
+  StopsAt fault how name file path tally before after = ((fault ≡ Memory) × (after ≡ before))
+      ⊎ (((source : Source) × IsFileAt path source × StopsBeside fault how name file source tally before after)
+      ⊎ ((IsUtf8 path → ⊥) × CutsFault fault how name Name before after))
 
-  abbrev pub StopsText : StreamFault → Testing → List ℕ → List ℕ → Tally → Streams → Streams → Type 0
+  unfoldable pub StopsFile : StreamFault → Testing → List ℕ → FileView → Tally → Streams → Streams → Type 0
+  StopsFile fault how name file tally before after = ((fault ≡ Memory) × (after ≡ before))
+      ⊎ StopsAt fault how name file (path_beside name file.filter) tally before after
+
+  unfoldable pub StopsText : StreamFault → Testing → List ℕ → List ℕ → Tally → Streams → Streams → Type 0
   StopsText fault how name text tally before after = ((fault ≡ Memory) × (after ≡ before))
       ⊎ (((file : FileView) × (file_in text ≡ Ok file) × StopsFile fault how name file tally before after)
       ⊎ ((why : FileFault) × (file_in text ≡ Err why) × CutsFault fault how name why before after))
 
-  abbrev pub StopsTests : StreamFault → Testing → Source → Tally → Streams → Streams → Type 0
+  unfoldable pub StopsTests : StreamFault → Testing → Source → Tally → Streams → Streams → Type 0
   StopsTests fault how source tally before after = StopsReading opens fault source_limit source before after
-      ⊎ ((text : List ℕ) × (left : Option (List ℕ)) × IsRead opens source_limit source text before.reads left
-      × StopsText fault how (name_of source) text tally (record before { reads = left }) after)
+      ⊎ ((text : List ℕ) × (mid : Streams) × Reads opens source_limit source text before mid
+      × StopsText fault how (name_of source) text tally mid after)
 
   -- Behind the first of some sources.
   pub record StopsSome (fault : StreamFault) (how : Testing) (sources : List Source) (before after : Streams) : Type 0 where
@@ -174,19 +179,17 @@ module _ (opens : List ℕ → Result (Option (List ℕ)) Error → Type 0) wher
     pub first : RunsFirst how sources n before mid tally
     pub stopped : StopsTests fault how source tally mid after
 
-  -- A fault ended it all: the first line was cut, or a test file, or the last line.
+  -- The last line was cut.
   pub record CutsLast (fault : StreamFault) (how : Testing) (sources : List Source) (before after : Streams) : Type 0 where
-    pub begun : Option (List ℕ)
+    pub begun : Streams
     pub mid : Streams
     pub found : Option Tally
-    pub version : Appends before.holds begun version_line
-    pub run : RunsAll how sources (record before { holds = begun }) mid found
-    pub last : IsCut fault mid.holds after.holds (last_line found)
-    pub reads : after.reads ≡ mid.reads
-    pub tells : after.tells ≡ mid.tells
+    pub version : Writes version_line before begun
+    pub run : RunsAll how sources begun mid found
+    pub last : CutsWriting fault (last_line found) mid after
 
-  abbrev pub StopsSources : StreamFault → Testing → List Source → Streams → Streams → Type 0
-  StopsSources fault how sources before after =
-      (IsCut fault before.holds after.holds version_line × (after.reads ≡ before.reads) × (after.tells ≡ before.tells))
-      ⊎ (((begun : Option (List ℕ)) × Appends before.holds begun version_line
-      × StopsSome fault how sources (record before { holds = begun }) after) ⊎ CutsLast fault how sources before after)
+  -- A fault ended it all: the first line was cut, or a test file, or the last line.
+  unfoldable pub StopsSources : StreamFault → Testing → List Source → Streams → Streams → Type 0
+  StopsSources fault how sources before after = CutsWriting fault version_line before after
+      ⊎ (((begun : Streams) × Writes version_line before begun × StopsSome fault how sources begun after)
+      ⊎ CutsLast fault how sources before after)

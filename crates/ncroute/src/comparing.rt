@@ -5,9 +5,9 @@ ghost use Rattle.filter_tools.specs.Naming.{named};
 ghost use Rattle.ncroute.specs.Comparing.{ComparesSources, ComparesTexts, ComparesWith, StopsComparing, StopsComparison, StopsWith};
 ghost use Rattle.ncroute.specs.Comparing.{status_of_comparison};
 
-use crate::script::FAULT;
-use crate::serve::FAILED;
-use crate::texts::{Folder, name_of, read_source, tell_unread};
+use crate::console::{Console, Loaded};
+use crate::ending::{FAILED, FAULT};
+use crate::texts::{Folder, name_of};
 use command_line::{Comparing, Source};
 use filter_checks::{Compared, compare_named};
 use filter_commands::ProgramFault;
@@ -28,81 +28,73 @@ fn status_of_comparison(found: Compared) -> u8
 }
 
 /// Compares the filters of two texts, and returns the exit status.
-fn compare_texts<W: Write, E: Write>(
+fn compare_texts<R: Read, W: Write, E: Write>(
     alloc: Global,
     how: Comparing,
     old: &NamedText<'_>,
     new: &NamedText<'_>,
-    writer: &mut W,
-    errors: &mut E,
+    console: &mut Console<R, W, E>,
 ) -> Result<u8, ProgramFault>
-    ensures finished { IfOk result (ComparesTexts how (named old.now) (named new.now)
-        (W.contents writer.old) (W.contents writer.new) (E.contents errors.old) (E.contents errors.new)) }
-    ensures stopped { IfErr result (λ fault. StopsComparison (stream_fault fault) how (named old.now) (named new.now)
-        (W.contents writer.old) (W.contents writer.new) (E.contents errors.old) (E.contents errors.new)) }
+    ensures finished { IfOk result (ComparesTexts how (named old.now) (named new.now) console.old console.new) }
+    ensures stopped { IfErr result (λ fault. StopsComparison (stream_fault fault) how (named old.now) (named new.now) console.old console.new) }
 {
-    let (size, limit, is_explained) = (how.size, how.limit, how.is_explained);
-    let found = compare_named(alloc, old, new, size, limit, is_explained, writer, errors)?;
-    Ok(status_of_comparison(found))
+    match compare_named(
+        alloc,
+        old,
+        new,
+        how.size,
+        how.limit,
+        how.is_explained,
+        &mut console.writer,
+        &mut console.errors,
+    ) {
+        Ok(found) => Ok(status_of_comparison(found)),
+        Err(fault) => Err(fault),
+    }
 }
 
 /// Compares the filter of a text with that of a source, and returns the exit status.
+#[tactic(auto, unfolding(crate::specs::Comparing::ComparesWith, crate::specs::Comparing::StopsWith))]
 fn compare_with<F: Folder, R: Read, W: Write, E: Write>(
     files: &F,
     alloc: Global,
     how: Comparing,
     old: &NamedText<'_>,
     new: &Source,
-    reader: &mut R,
-    writer: &mut W,
-    errors: &mut E,
+    console: &mut Console<R, W, E>,
 ) -> Result<u8, ProgramFault>
-    ensures finished { IfOk result (ComparesWith (F.opens files.now) how (named old.now) new.now
-        (record { reads = R.remaining reader.old; holds = W.contents writer.old; tells = E.contents errors.old })
-        (record { reads = R.remaining reader.new; holds = W.contents writer.new; tells = E.contents errors.new })) }
-    ensures stopped { IfErr result (λ fault. StopsWith (F.opens files.now) (stream_fault fault) how (named old.now) new.now
-        (record { reads = R.remaining reader.old; holds = W.contents writer.old; tells = E.contents errors.old })
-        (record { reads = R.remaining reader.new; holds = W.contents writer.new; tells = E.contents errors.new })) }
+    ensures finished { IfOk result (ComparesWith (F.opens files.now) how (named old.now) new.now console.old console.new) }
+    ensures stopped { IfErr result (λ fault. StopsWith (F.opens files.now) (stream_fault fault) how (named old.now) new.now console.old console.new) }
 {
-    match read_source(files, alloc, new, SOURCE_LIMIT, reader) {
-        Ok(text) => {
+    match console.read(files, alloc, new, SOURCE_LIMIT) {
+        Loaded::Text(text) => {
             let (name, text) = (name_of(new), text.as_slice());
-            compare_texts(alloc, how, old, &NamedText { name, text }, writer, errors)
+            compare_texts(alloc, how, old, &NamedText { name, text }, console)
         }
-        Err(why) => {
-            tell_unread(alloc, errors, new, why)?;
-            Ok(FAULT)
-        }
+        Loaded::Skipped => Ok(FAULT),
+        Loaded::Stopped(fault) => Err(fault),
     }
 }
 
 /// Compares the filters of two sources, and returns the exit status.
+#[tactic(auto, unfolding(crate::specs::Comparing::ComparesSources, crate::specs::Comparing::StopsComparing))]
 pub fn compare_sources<F: Folder, R: Read, W: Write, E: Write>(
     files: &F,
     alloc: Global,
     how: Comparing,
     old: &Source,
     new: &Source,
-    reader: &mut R,
-    writer: &mut W,
-    errors: &mut E,
+    console: &mut Console<R, W, E>,
 ) -> Result<u8, ProgramFault>
-    ensures finished { IfOk result (ComparesSources (F.opens files.now) how old.now new.now
-        (record { reads = R.remaining reader.old; holds = W.contents writer.old; tells = E.contents errors.old })
-        (record { reads = R.remaining reader.new; holds = W.contents writer.new; tells = E.contents errors.new })) }
-    ensures stopped { IfErr result (λ fault. StopsComparing (F.opens files.now) (stream_fault fault) how old.now new.now
-        (record { reads = R.remaining reader.old; holds = W.contents writer.old; tells = E.contents errors.old })
-        (record { reads = R.remaining reader.new; holds = W.contents writer.new; tells = E.contents errors.new })) }
+    ensures finished { IfOk result (ComparesSources (F.opens files.now) how old.now new.now console.old console.new) }
+    ensures stopped { IfErr result (λ fault. StopsComparing (F.opens files.now) (stream_fault fault) how old.now new.now console.old console.new) }
 {
-    match read_source(files, alloc, old, SOURCE_LIMIT, reader) {
-        Ok(text) => {
+    match console.read(files, alloc, old, SOURCE_LIMIT) {
+        Loaded::Text(text) => {
             let (name, text) = (name_of(old), text.as_slice());
-            let old = NamedText { name, text };
-            compare_with(files, alloc, how, &old, new, reader, writer, errors)
+            compare_with(files, alloc, how, &NamedText { name, text }, new, console)
         }
-        Err(why) => {
-            tell_unread(alloc, errors, old, why)?;
-            Ok(FAULT)
-        }
+        Loaded::Skipped => Ok(FAULT),
+        Loaded::Stopped(fault) => Err(fault),
     }
 }

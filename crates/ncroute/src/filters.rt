@@ -3,9 +3,10 @@ ghost use Rattle.std.specs.Option.{option_map};
 ghost use Rattle.std.specs.Prelude.{◌≡◌, [], ◌∷◌, ◌++◌, IfErr, IfOk, OnOk, slice_get};
 ghost use Rattle.filter_commands.specs.Faults.{stream_fault};
 ghost use Rattle.script_runs.specs.declared.naming.NamedFilter.{NamedFilter as TheFilter};
-ghost use Rattle.ncroute.specs.Filters.{IsCutFilter, IsCutUnfit, LeavesFilter, ReadsFilter, ReadsFilters, StopsAtFilter, TellsOfFilter, TellsUnfit};
+ghost use Rattle.ncroute.specs.Filters.{AreLoaded, IsCutFilter, IsCutUnfit, LeavesFilter, ReadsFilter, ReadsFilters, StopsAtFilter, TellsOfFilter, TellsUnfit};
 
-use crate::texts::{Folder, Unread, name_of, read_source};
+use crate::console::Console;
+use crate::texts::{Folder, Unread, name_of, read_source, tell_unread};
 use command_line::{NamedFile, Source};
 use filter_commands::ProgramFault;
 use filter_source::{Diagnosis, SOURCE_LIMIT};
@@ -21,6 +22,17 @@ pub struct UnreadFilter<'a> {
     pub source: &'a Source,
     /// Why it was not read.
     pub why: Unread,
+}
+
+/// What came of reading the filters that a script is started with.
+#[derive(Drop)]
+pub enum LoadedFilters {
+    /// All of them.
+    All(Vec<NamedFilter>),
+    /// One cannot be read, which people were told.
+    Skipped,
+    /// This fault kept one from being read or told of.
+    Stopped(ProgramFault),
 }
 
 /// A copy of bytes.
@@ -106,6 +118,24 @@ pub fn read_filters<'a, F: Folder, R: Read>(
         }
     }
     Ok(filters)
+}
+
+/// Reads the filters of these files, in order. One that cannot be read is told of.
+pub fn read_given<F: Folder, R: Read, W: Write, E: Write>(
+    files: &F,
+    alloc: Global,
+    named: &[NamedFile],
+    console: &mut Console<R, W, E>,
+) -> LoadedFilters
+    ensures { AreLoaded (F.opens files.now) named.now result console.old console.new }
+{
+    match read_filters(files, alloc, named, &mut console.reader) {
+        Ok(filters) => LoadedFilters::All(filters),
+        Err(unread) => match tell_unread(alloc, &mut console.errors, unread.source, unread.why) {
+            Ok(()) => LoadedFilters::Skipped,
+            Err(fault) => LoadedFilters::Stopped(fault),
+        },
+    }
 }
 
 /// The filter at a place, if there is one.

@@ -5,9 +5,10 @@ ghost use Rattle.ncroute.specs.Guiding.{GuidesScript, RunsGuided, RunsNamed, Run
 ghost use Rattle.ncroute.specs.Scripts.{IsQuiet};
 ghost use Rattle.script_runs.specs.Running.{IsSaved, IsSavedInPart};
 
-use crate::filters::{read_filters, tell_unfit};
-use crate::serve::{FAILED, status_of};
-use crate::texts::{Folder, name_of, read_source, tell_unmade, tell_unread};
+use crate::console::{Console, Loaded};
+use crate::ending::{FAILED, status_of};
+use crate::filters::{LoadedFilters, read_given, tell_unfit};
+use crate::texts::{Folder, name_of, tell_unmade};
 use crate::watcher::{Guide, Part, whole};
 use command_line::{Running, Source};
 use filter_commands::ProgramFault;
@@ -80,6 +81,7 @@ fn save_to<R: Read, W: Write, V: Write + Drop, E: Write>(
 }
 
 /// Carries out a script that has these parts, and keeps its history in a new file where one is named. Returns the exit status.
+#[tactic(auto, unfolding(crate::specs::Guiding::GuidesScript, crate::specs::Guiding::StopsGuided))]
 pub fn guide_script<F: Folder, R: Read, W: Write, E: Write>(
     files: &F,
     alloc: Global,
@@ -127,51 +129,38 @@ fn guide_named<F: Folder, R: Read, W: Write, E: Write>(
     how: &Running,
     filters: &[NamedFilter],
     source: &Source,
-    reader: &mut R,
-    writer: &mut W,
-    errors: &mut E,
+    console: &mut Console<R, W, E>,
 ) -> Result<u8, ProgramFault>
     ensures finished { IfOk result (RunsNamed (F.creates files.now) (F.opens files.now) how.now filters.now source.now
-        (record { reads = R.remaining reader.old; holds = W.contents writer.old; tells = E.contents errors.old })
-        (record { reads = R.remaining reader.new; holds = W.contents writer.new; tells = E.contents errors.new })) }
+        console.old console.new) }
     ensures stopped { IfErr result (λ fault. StopsNamed (F.creates files.now) (F.opens files.now) (stream_fault fault) how.now filters.now
-        source.now
-        (record { reads = R.remaining reader.old; holds = W.contents writer.old; tells = E.contents errors.old })
-        (record { reads = R.remaining reader.new; holds = W.contents writer.new; tells = E.contents errors.new })) }
+        source.now console.old console.new) }
 {
+    let parts = [whole(name_of(source))];
     match source {
-        Source::Input => {
-            let parts = [whole(name_of(source))];
-            guide_script(
+        Source::Input => guide_script(
+            files,
+            alloc,
+            how,
+            parts.as_slice(),
+            filters,
+            &mut console.reader,
+            &mut console.writer,
+            &mut console.errors,
+        ),
+        Source::File(_) => match console.read(files, alloc, source, INPUT_LIMIT) {
+            Loaded::Text(text) => guide_script(
                 files,
                 alloc,
                 how,
                 parts.as_slice(),
                 filters,
-                reader,
-                writer,
-                errors,
-            )
-        }
-        Source::File(_) => match read_source(files, alloc, source, INPUT_LIMIT, reader) {
-            Ok(text) => {
-                let mut script = text.as_slice();
-                let parts = [whole(name_of(source))];
-                guide_script(
-                    files,
-                    alloc,
-                    how,
-                    parts.as_slice(),
-                    filters,
-                    &mut script,
-                    writer,
-                    errors,
-                )
-            }
-            Err(why) => {
-                tell_unread(alloc, errors, source, why)?;
-                Ok(FAILED)
-            }
+                &mut text.as_slice(),
+                &mut console.writer,
+                &mut console.errors,
+            ),
+            Loaded::Skipped => Ok(FAILED),
+            Loaded::Stopped(fault) => Err(fault),
         },
     }
 }
@@ -182,25 +171,17 @@ pub fn guide_source<F: Folder, R: Read, W: Write, E: Write>(
     alloc: Global,
     how: &Running,
     source: &Source,
-    reader: &mut R,
-    writer: &mut W,
-    errors: &mut E,
+    console: &mut Console<R, W, E>,
 ) -> Result<u8, ProgramFault>
-    ensures finished { IfOk result (RunsGuided (F.creates files.now) (F.opens files.now) how.now source.now
-        (record { reads = R.remaining reader.old; holds = W.contents writer.old; tells = E.contents errors.old })
-        (record { reads = R.remaining reader.new; holds = W.contents writer.new; tells = E.contents errors.new })) }
+    ensures finished { IfOk result (RunsGuided (F.creates files.now) (F.opens files.now) how.now source.now console.old console.new) }
     ensures stopped { IfErr result (λ fault. StopsRun (F.creates files.now) (F.opens files.now) (stream_fault fault) how.now source.now
-        (record { reads = R.remaining reader.old; holds = W.contents writer.old; tells = E.contents errors.old })
-        (record { reads = R.remaining reader.new; holds = W.contents writer.new; tells = E.contents errors.new })) }
+        console.old console.new) }
 {
-    match read_filters(files, alloc, how.filters.as_slice(), reader) {
-        Ok(filters) => {
-            let filters = filters.as_slice();
-            guide_named(files, alloc, how, filters, source, reader, writer, errors)
+    match read_given(files, alloc, how.filters.as_slice(), console) {
+        LoadedFilters::All(filters) => {
+            guide_named(files, alloc, how, filters.as_slice(), source, console)
         }
-        Err(unread) => {
-            tell_unread(alloc, errors, unread.source, unread.why)?;
-            Ok(FAILED)
-        }
+        LoadedFilters::Skipped => Ok(FAILED),
+        LoadedFilters::Stopped(fault) => Err(fault),
     }
 }

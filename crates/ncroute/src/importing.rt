@@ -1,12 +1,13 @@
 //! From a configuration of BIRD to verified filters, in files of their own: the engine of `import`.
 ghost use Rattle.std.specs.Prelude.{◌≤◌, IfOk};
 
+use crate::console::Console;
+use crate::ending::FAILED;
 use crate::including::{Whole, push_place, push_texts, read_whole};
-use crate::serve::FAILED;
 use crate::texts::{Folder, tell_unmade, write_line};
 use bird_import::{
-    Config, Definition, Draft, Fate, FilterText, Item, Outcome, Why, Word, cut_words,
-    find_definitions, find_items, make_drafts, origin_of, write_filter,
+    Config, Cut, Draft, Fate, FilterText, Outcome, Why, Word, cut_words, find_definitions,
+    find_items, make_drafts, origin_of, write_filter,
 };
 use command_line::{Importing, Source};
 use filter_commands::ProgramFault;
@@ -273,28 +274,63 @@ fn tell_made<W: Write>(
     write_line(writer, line.as_slice())
 }
 
+/// Writes the text of a filter into a new file, and tells what came of it. Returns whether it was written.
+fn save_made<F: Folder, R: Read, W: Write, E: Write>(
+    files: &F,
+    alloc: Global,
+    whole: &Whole,
+    name: &[u8],
+    made: &Made,
+    text: &[u8],
+    path: &str,
+    console: &mut Console<R, W, E>,
+) -> Result<bool, ProgramFault> {
+    if !save(files, alloc, path, text, &mut console.errors)? {
+        return Ok(false);
+    }
+    tell_made(alloc, whole, name, made, Some(path), &mut console.writer)?;
+    Ok(true)
+}
+
 /// Writes a filter into its file, if there is a folder for it and it is verified, and tells what came of it. Returns whether it was
 /// verified, and written where it was to be.
-fn import_one<F: Folder, W: Write, E: Write>(
+fn import_made<F: Folder, R: Read, W: Write, E: Write>(
+    files: &F,
+    alloc: Global,
+    how: &Importing,
+    whole: &Whole,
+    name: &[u8],
+    made: &Made,
+    console: &mut Console<R, W, E>,
+) -> Result<bool, ProgramFault> {
+    let (Some(folder), Some(text)) = (&how.folder, &made.text) else {
+        tell_made(alloc, whole, name, made, None, &mut console.writer)?;
+        return Ok(made.text.is_some());
+    };
+    let path = file_name(alloc, folder.as_str(), name)?;
+    save_made(
+        files,
+        alloc,
+        whole,
+        name,
+        made,
+        text.as_slice(),
+        path.as_str(),
+        console,
+    )
+}
+
+/// Makes a filter of a draft, and imports it. Returns whether it was imported.
+fn import_one<F: Folder, R: Read, W: Write, E: Write>(
     files: &F,
     alloc: Global,
     how: &Importing,
     whole: &Whole,
     draft: &Draft<'_>,
-    writer: &mut W,
-    errors: &mut E,
+    console: &mut Console<R, W, E>,
 ) -> Result<bool, ProgramFault> {
     let made = make(alloc, whole, how.size, draft)?;
-    let (Some(folder), Some(text)) = (&how.folder, &made.text) else {
-        tell_made(alloc, whole, draft.name, &made, None, writer)?;
-        return Ok(made.text.is_some());
-    };
-    let path = file_name(alloc, folder.as_str(), draft.name)?;
-    if !save(files, alloc, path.as_str(), text.as_slice(), errors)? {
-        return Ok(false);
-    }
-    tell_made(alloc, whole, draft.name, &made, Some(path.as_str()), writer)?;
-    Ok(true)
+    import_made(files, alloc, how, whole, draft.name, &made, console)
 }
 
 /// The line that tells of a byte of a configuration.
@@ -318,67 +354,52 @@ fn tell_byte<W: Write>(
 }
 
 /// Imports the filters that drafts are of. Returns whether all of them were.
-fn import_drafts<F: Folder, W: Write, E: Write>(
+fn import_drafts<F: Folder, R: Read, W: Write, E: Write>(
     files: &F,
     alloc: Global,
     how: &Importing,
     whole: &Whole,
     drafts: &[Draft<'_>],
-    writer: &mut W,
-    errors: &mut E,
+    console: &mut Console<R, W, E>,
 ) -> Result<bool, ProgramFault> {
     let mut is_whole = true;
     for draft in drafts {
-        let one = import_one(files, alloc, how, whole, draft, writer, errors)?;
+        let one = import_one(files, alloc, how, whole, draft, console)?;
         is_whole = is_whole && one;
     }
     Ok(is_whole)
 }
 
-/// Imports the filters among items, whose words may be defined. Returns whether all of them were.
-fn import_items<F: Folder, W: Write, E: Write>(
+/// Imports the filters of a configuration whose parts are found. Returns whether all of them were.
+fn import_config<F: Folder, R: Read, W: Write, E: Write>(
     files: &F,
     alloc: Global,
     how: &Importing,
     whole: &Whole,
-    words: &[Word<'_>],
-    definitions: &[Definition],
-    items: &[Item],
-    writer: &mut W,
-    errors: &mut E,
+    config: &Config<'_>,
+    console: &mut Console<R, W, E>,
 ) -> Result<bool, ProgramFault> {
-    let config = Config {
-        words,
-        definitions,
-        items,
-    };
-    let drafts = make_drafts(alloc, &config)?;
-    import_drafts(files, alloc, how, whole, drafts.as_slice(), writer, errors)
+    let drafts = make_drafts(alloc, config)?;
+    import_drafts(files, alloc, how, whole, drafts.as_slice(), console)
 }
 
 /// Imports the filters among words. Returns whether all of them were.
-fn import_words<F: Folder, W: Write, E: Write>(
+fn import_words<F: Folder, R: Read, W: Write, E: Write>(
     files: &F,
     alloc: Global,
     how: &Importing,
     whole: &Whole,
     words: &[Word<'_>],
-    writer: &mut W,
-    errors: &mut E,
+    console: &mut Console<R, W, E>,
 ) -> Result<bool, ProgramFault> {
     let definitions = find_definitions(alloc, words)?;
     let items = find_items(alloc, words)?;
-    import_items(
-        files,
-        alloc,
-        how,
-        whole,
+    let config = Config {
         words,
-        definitions.as_slice(),
-        items.as_slice(),
-        writer,
-        errors,
-    )
+        definitions: definitions.as_slice(),
+        items: items.as_slice(),
+    };
+    import_config(files, alloc, how, whole, &config, console)
 }
 
 /// Tells of each byte with which no word begins. Returns whether there is none.
@@ -399,25 +420,47 @@ fn tell_strange<W: Write>(
     Ok(has_none)
 }
 
-/// Imports the filters of a configuration. Returns whether all of it was.
-fn import_whole<F: Folder, W: Write, E: Write>(
-    files: &F,
+/// Tells where the words of a configuration end before its end, if they do. Returns whether they do not.
+fn tell_end<W: Write>(
     alloc: Global,
-    how: &Importing,
     whole: &Whole,
+    cut: &Cut<'_>,
     writer: &mut W,
-    errors: &mut E,
 ) -> Result<bool, ProgramFault> {
-    let cut = cut_words(alloc, whole.text.as_slice())?;
-    let words = cut.words.as_slice();
-    let are_taken = import_words(files, alloc, how, whole, words, writer, errors)?;
-    let are_words = tell_strange(alloc, whole, words, writer)?;
     let Some(fault) = cut.end else {
-        return Ok(are_taken && are_words);
+        return Ok(true);
     };
     let why = "a comment or a text begins here that is not closed: nothing behind it was read";
     tell_byte(alloc, whole, fault.at(), why, writer)?;
     Ok(false)
+}
+
+/// Imports the filters among the words of a configuration. Returns whether all of it was.
+fn import_cut<F: Folder, R: Read, W: Write, E: Write>(
+    files: &F,
+    alloc: Global,
+    how: &Importing,
+    whole: &Whole,
+    cut: &Cut<'_>,
+    console: &mut Console<R, W, E>,
+) -> Result<bool, ProgramFault> {
+    let words = cut.words.as_slice();
+    let are_taken = import_words(files, alloc, how, whole, words, console)?;
+    let are_words = tell_strange(alloc, whole, words, &mut console.writer)?;
+    let are_all = tell_end(alloc, whole, cut, &mut console.writer)?;
+    Ok(are_taken && are_words && are_all)
+}
+
+/// Imports the filters of a configuration. Returns whether all of it was.
+fn import_whole<F: Folder, R: Read, W: Write, E: Write>(
+    files: &F,
+    alloc: Global,
+    how: &Importing,
+    whole: &Whole,
+    console: &mut Console<R, W, E>,
+) -> Result<bool, ProgramFault> {
+    let cut = cut_words(alloc, whole.text.as_slice())?;
+    import_cut(files, alloc, how, whole, &cut, console)
 }
 
 /// Imports the filters of the configuration that a source is, and returns the exit status: 0, or 1 where something was left out.
@@ -426,15 +469,13 @@ pub fn import_source<F: Folder, R: Read, W: Write, E: Write>(
     alloc: Global,
     how: &Importing,
     source: &Source,
-    reader: &mut R,
-    writer: &mut W,
-    errors: &mut E,
+    console: &mut Console<R, W, E>,
 ) -> Result<u8, ProgramFault>
     ensures { IfOk result (λ status. status ≤ 1) }
 {
-    match read_whole(files, alloc, source, reader, writer, errors)? {
+    match read_whole(files, alloc, source, console)? {
         Some(whole) => {
-            let is_whole = import_whole(files, alloc, how, &whole, writer, errors)?;
+            let is_whole = import_whole(files, alloc, how, &whole, console)?;
             Ok(if is_whole && !whole.is_partial {
                 0
             } else {

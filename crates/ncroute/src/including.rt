@@ -1,5 +1,6 @@
 //! A configuration of BIRD, with the files that it includes in their places.
-use crate::texts::{Folder, Unread, name_of, read_source, tell_unread, write_line};
+use crate::console::{Console, Loaded};
+use crate::texts::{Folder, Unread, name_of, tell_unread, write_line};
 use bird_import::{Include, cut_words, find_includes};
 use command_line::Source;
 use filter_commands::ProgramFault;
@@ -231,20 +232,21 @@ fn tell_left<W: Write>(
 }
 
 /// Reads a file of a configuration. One that cannot be read is told of.
-fn read_config<F: Folder, R: Read, E: Write>(
+fn read_config<F: Folder, R: Read, W: Write, E: Write>(
     files: &F,
     alloc: Global,
     source: &Source,
-    reader: &mut R,
-    errors: &mut E,
+    console: &mut Console<R, W, E>,
 ) -> Result<Option<Vec<u8>>, ProgramFault> {
-    let why = match read_source(files, alloc, source, INPUT_LIMIT, reader) {
-        Ok(text) if text.len() <= INPUT_LIMIT => return Ok(Some(text)),
-        Ok(_) => Unread::TooLong,
-        Err(why) => why,
-    };
-    tell_unread(alloc, errors, source, why)?;
-    Ok(None)
+    match console.read(files, alloc, source, INPUT_LIMIT) {
+        Loaded::Text(text) if text.len() <= INPUT_LIMIT => Ok(Some(text)),
+        Loaded::Text(_) => {
+            tell_unread(alloc, &mut console.errors, source, Unread::TooLong)?;
+            Ok(None)
+        }
+        Loaded::Skipped => Ok(None),
+        Loaded::Stopped(fault) => Err(fault),
+    }
 }
 
 /// Begins to read a file: its index.
@@ -278,16 +280,14 @@ fn push_source<F: Folder, R: Read, W: Write, E: Write>(
     source: Source,
     text: &[u8],
     depth: u8,
-    reader: &mut R,
-    writer: &mut W,
-    errors: &mut E,
+    console: &mut Console<R, W, E>,
 ) -> Result<(), ProgramFault> {
     let file = open_file(alloc, whole, source, text)?;
     let included = included_in(alloc, text)?;
     let mut done = 0;
     for one in included.as_slice() {
         push_stretch(whole, file, text, done, one.from)?;
-        push_included(files, alloc, whole, one, depth, reader, writer, errors)?;
+        push_included(files, alloc, whole, one, depth, console)?;
         done = one.to;
     }
     close_file(whole, file, text, done)?;
@@ -302,24 +302,23 @@ fn push_included<F: Folder, R: Read, W: Write, E: Write>(
     whole: &mut Whole,
     included: &Include<'_>,
     depth: u8,
-    reader: &mut R,
-    writer: &mut W,
-    errors: &mut E,
+    console: &mut Console<R, W, E>,
 ) -> Result<(), ProgramFault> {
     let Some(depth) = depth.checked_sub(1) else {
         let why = "files are included at most 8 deep";
-        return tell_left(alloc, whole, included, why, writer);
+        return tell_left(alloc, whole, included, why, &mut console.writer);
     };
     match inclusion_of(alloc, whole, included.name)? {
-        Inclusion::Left(why) => tell_left(alloc, whole, included, why, writer),
-        Inclusion::Read(source) => match read_config(files, alloc, &source, reader, errors)? {
+        Inclusion::Left(why) => tell_left(alloc, whole, included, why, &mut console.writer),
+        Inclusion::Read(source) => match read_config(files, alloc, &source, console)? {
             Some(text) => {
                 let text = text.as_slice();
-                push_source(
-                    files, alloc, whole, source, text, depth, reader, writer, errors,
-                )
+                push_source(files, alloc, whole, source, text, depth, console)
             }
-            None => tell_left(alloc, whole, included, "it cannot be read", writer),
+            None => {
+                let why = "it cannot be read";
+                tell_left(alloc, whole, included, why, &mut console.writer)
+            }
         },
     }
 }
@@ -349,11 +348,9 @@ pub fn read_whole<F: Folder, R: Read, W: Write, E: Write>(
     files: &F,
     alloc: Global,
     source: &Source,
-    reader: &mut R,
-    writer: &mut W,
-    errors: &mut E,
+    console: &mut Console<R, W, E>,
 ) -> Result<Option<Whole>, ProgramFault> {
-    match read_config(files, alloc, source, reader, errors)? {
+    match read_config(files, alloc, source, console)? {
         Some(text) => {
             let mut whole = nothing(alloc);
             push_source(
@@ -363,9 +360,7 @@ pub fn read_whole<F: Folder, R: Read, W: Write, E: Write>(
                 copy_of(alloc, source)?,
                 text.as_slice(),
                 INCLUDE_DEPTH,
-                reader,
-                writer,
-                errors,
+                console,
             )?;
             Ok(Some(whole))
         }

@@ -4,9 +4,10 @@ ghost use Rattle.std.specs.Prelude.{◌≡◌, ◌++◌, IfErr, IfOk, OnErr, OnO
 ghost use Rattle.filter_commands.specs.Faults.{stream_fault};
 ghost use Rattle.ncroute.specs.Joining.{JoinsAll, JoinsNext, LeavesNext, RunsJoined, RunsTexts, StopsAtSource, StopsJoined, StopsTexts, ended, ends_line};
 
-use crate::filters::read_filters;
+use crate::console::Console;
+use crate::ending::FAILED;
+use crate::filters::{LoadedFilters, read_given};
 use crate::guided::guide_script;
-use crate::serve::FAILED;
 use crate::texts::{Folder, Unread, name_of, read_source, tell_unread};
 use crate::watcher::Part;
 use command_line::{Running, Source};
@@ -119,6 +120,7 @@ fn read_texts<'a, F: Folder, R: Read>(
 }
 
 /// Reads the sources of a script, carries it out, and returns the exit status.
+#[tactic(auto, unfolding(crate::specs::Joining::RunsTexts, crate::specs::Joining::StopsTexts))]
 fn guide_texts<F: Folder, R: Read, W: Write, E: Write>(
     files: &F,
     alloc: Global,
@@ -160,30 +162,30 @@ fn guide_texts<F: Folder, R: Read, W: Write, E: Write>(
 
 /// Reads the filters that a script is started with, then the sources that it is made of, carries the script out, and returns the exit
 /// status. What is told of a line is told at its number in its source.
+#[tactic(auto, unfolding(crate::specs::Joining::RunsJoined, crate::specs::Joining::StopsJoined))]
 pub fn guide_sources<F: Folder, R: Read, W: Write, E: Write>(
     files: &F,
     alloc: Global,
     how: &Running,
     sources: &[Source],
-    reader: &mut R,
-    writer: &mut W,
-    errors: &mut E,
+    console: &mut Console<R, W, E>,
 ) -> Result<u8, ProgramFault>
-    ensures finished { IfOk result (RunsJoined (F.creates files.now) (F.opens files.now) how.now sources.now
-        (record { reads = R.remaining reader.old; holds = W.contents writer.old; tells = E.contents errors.old })
-        (record { reads = R.remaining reader.new; holds = W.contents writer.new; tells = E.contents errors.new })) }
+    ensures finished { IfOk result (RunsJoined (F.creates files.now) (F.opens files.now) how.now sources.now console.old console.new) }
     ensures stopped { IfErr result (λ fault. StopsJoined (F.creates files.now) (F.opens files.now) (stream_fault fault) how.now sources.now
-        (record { reads = R.remaining reader.old; holds = W.contents writer.old; tells = E.contents errors.old })
-        (record { reads = R.remaining reader.new; holds = W.contents writer.new; tells = E.contents errors.new })) }
+        console.old console.new) }
 {
-    match read_filters(files, alloc, how.filters.as_slice(), reader) {
-        Ok(filters) => {
-            let filters = filters.as_slice();
-            guide_texts(files, alloc, how, filters, sources, reader, writer, errors)
-        }
-        Err(unread) => {
-            tell_unread(alloc, errors, unread.source, unread.why)?;
-            Ok(FAILED)
-        }
+    match read_given(files, alloc, how.filters.as_slice(), console) {
+        LoadedFilters::All(filters) => guide_texts(
+            files,
+            alloc,
+            how,
+            filters.as_slice(),
+            sources,
+            &mut console.reader,
+            &mut console.writer,
+            &mut console.errors,
+        ),
+        LoadedFilters::Skipped => Ok(FAILED),
+        LoadedFilters::Stopped(fault) => Err(fault),
     }
 }

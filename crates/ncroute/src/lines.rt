@@ -1,18 +1,18 @@
 //! The report on a source where each line begins with the source's name, or where only refusals are written.
-ghost use Rattle.std.specs.Prelude.{◌≡◌, ◌++◌, [], ◌∷◌, Option, Some, IfErr, IfOk, OnOk, is_some};
+ghost use Rattle.std.specs.Prelude.{◌≡◌, ◌++◌, IfErr, IfOk, OnOk};
 ghost use Rattle.std.specs.Io.KnownBytes.{Appends};
 ghost use Rattle.filter_commands.specs.Evaluation.{IsCut};
 ghost use Rattle.filter_commands.specs.Faults.{stream_fault};
-ghost use Rattle.filter_tools.specs.Naming.{ChecksNamed, ChecksNamedOff};
-ghost use Rattle.ncroute.specs.Marking.{ChecksLines, CutsLines, kept_lines, mark_behind, marked, name_mark, refusals_in, written_of};
+ghost use Rattle.ncroute.specs.Marking.{ChecksLines, CutsLines, CutsReport, ReportsOn, kept_lines, mark_behind, marked, name_mark, refusals_in, written_of};
 
+use crate::console::Console;
 use command_line::Checking;
-use filter_commands::ProgramFault;
+use filter_commands::{ProgramFault, write_report};
 use filter_source::Diagnosis;
 use filter_tools::{check_named, push_shown};
 use line_protocol::{push_refusal, write_text};
 use std::alloc::{AllocError, Global};
-use std::io::Write;
+use std::io::{Read, Write};
 
 /// What stands before each line: the name of the source as it is shown.
 fn name_mark(alloc: Global, has_names: bool, name: &[u8]) -> Result<Vec<u8>, AllocError>
@@ -113,37 +113,57 @@ fn write_lines<W: Write>(
     Ok(())
 }
 
-/// Makes the report on the text of a source and tells why it is refused, as `check_named` does, and writes the lines of it that are asked
-/// for. Returns whether the source is refused.
-pub fn check_lines<W: Write, E: Write>(
+/// Writes the report on the text of a source, and tells why it is refused where `how` says so. Returns what is told of the refusal.
+pub fn report_on<W: Write, E: Write>(
     alloc: Global,
     how: Checking,
     name: &[u8],
     text: &[u8],
     writer: &mut W,
     errors: &mut E,
-) -> Result<bool, ProgramFault>
-    ensures finished { IfOk result (ChecksLines how name.now text.now
+) -> Result<Option<Diagnosis>, ProgramFault>
+    ensures finished { IfOk result (ReportsOn how.is_told how name.now text.now
         (W.contents writer.old) (W.contents writer.new) (E.contents errors.old) (E.contents errors.new)) }
-    ensures cut { IfErr result (λ fault. CutsLines (stream_fault fault) how name.now text.now
+    ensures cut { IfErr result (λ fault. CutsReport how.is_told (stream_fault fault) how name.now text.now
         (W.contents writer.old) (W.contents writer.new) (E.contents errors.old) (E.contents errors.new)) }
 {
+    if how.is_told {
+        return check_named(
+            alloc,
+            text,
+            writer,
+            errors,
+            name,
+            how.size,
+            how.is_code,
+            how.is_explained,
+        );
+    }
+    match write_report(alloc, text, writer, how.size, how.is_code) {
+        Ok(why) => Ok(why),
+        Err(fault) => Err(fault),
+    }
+}
+
+/// Makes the report on the text of a source, as `report_on` does, and writes the lines of it that are asked for. Returns whether the source
+/// is refused.
+#[tactic(auto, unfolding(crate::specs::Marking::CutsLines))]
+pub fn check_lines<R: Read, W: Write, E: Write>(
+    alloc: Global,
+    how: Checking,
+    name: &[u8],
+    text: &[u8],
+    console: &mut Console<R, W, E>,
+) -> Result<bool, ProgramFault>
+    ensures finished { IfOk result (ChecksLines how name.now text.now console.old console.new) }
+    ensures cut { IfErr result (λ fault. CutsLines (stream_fault fault) how name.now text.now console.old console.new) }
+{
     let mut report = Vec::new(alloc);
-    let (size, is_code, is_explained) = (how.size, how.is_code, how.is_explained);
-    match check_named(
-        alloc,
-        text,
-        &mut report,
-        errors,
-        name,
-        size,
-        is_code,
-        is_explained,
-    ) {
-        Ok(why) => {
-            write_lines(alloc, how, name, report, &why, writer)?;
-            Ok(why.is_some())
-        }
+    match report_on(alloc, how, name, text, &mut report, &mut console.errors) {
+        Ok(why) => match write_lines(alloc, how, name, report, &why, &mut console.writer) {
+            Ok(()) => Ok(why.is_some()),
+            Err(fault) => Err(fault),
+        },
         Err(fault) => Err(fault),
     }
 }

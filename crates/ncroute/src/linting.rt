@@ -1,12 +1,13 @@
 //! How filters are looked through for what is plainly wrong.
 ghost use Rattle.std.specs.Prelude.{◌≡◌, IfErr, IfOk, OnOk};
 ghost use Rattle.filter_commands.specs.Faults.{stream_fault};
-ghost use Rattle.filter_lint.specs.Linting.{LintsNamedOff};
 ghost use Rattle.filter_tools.specs.Naming.{named};
-ghost use Rattle.ncroute.specs.Linting.{CutsLint, CutsWarning, LintsAll, LintsOne, LintsText, StopsLinting, Warns, is_said};
+ghost use Rattle.ncroute.specs.Linting.{CutsLint, CutsLintText, CutsWarning, LintsAll, LintsOne, LintsText, StopsLinting, Warns, is_said};
 
-use crate::aid::is_any;
-use crate::texts::{Folder, name_of, read_source, tell_unread};
+use crate::checking::is_any;
+use crate::console::{Console, Loaded};
+use crate::ending::status_of_found;
+use crate::texts::{Folder, name_of};
 use command_line::{Checking, Linting, Source};
 use filter_commands::ProgramFault;
 use filter_lint::{Linted, lint_named, warn_named};
@@ -26,40 +27,48 @@ fn is_said(linted: Linted) -> bool
 }
 
 /// Writes the warnings of a text, and returns whether something is said of it.
-fn lint_text<W: Write, E: Write>(
+fn lint_text<R: Read, W: Write, E: Write>(
     alloc: Global,
     how: Linting,
     source: &NamedText<'_>,
-    writer: &mut W,
-    errors: &mut E,
+    console: &mut Console<R, W, E>,
 ) -> Result<bool, ProgramFault>
-    ensures finished { IfOk result (LintsText how (named source.now)
-        (W.contents writer.old) (W.contents writer.new) (E.contents errors.old) (E.contents errors.new)) }
-    ensures cut { IfErr result (λ fault. LintsNamedOff (stream_fault fault) how.size how.is_explained (named source.now)
-        (W.contents writer.old) (W.contents writer.new) (E.contents errors.old) (E.contents errors.new)) }
+    ensures finished { IfOk result (LintsText how (named source.now) console.old console.new) }
+    ensures cut { IfErr result (λ fault. CutsLintText (stream_fault fault) how (named source.now) console.old console.new) }
 {
-    let (size, limit, is_explained) = (how.size, how.limit, how.is_explained);
-    let linted = lint_named(alloc, source, size, limit, is_explained, writer, errors)?;
-    Ok(is_said(linted))
+    match lint_named(
+        alloc,
+        source,
+        how.size,
+        how.limit,
+        how.is_explained,
+        &mut console.writer,
+        &mut console.errors,
+    ) {
+        Ok(linted) => Ok(is_said(linted)),
+        Err(fault) => Err(fault),
+    }
 }
 
 /// Tells the warnings of a text that was checked, where they are asked for and it is not refused.
-pub fn warn<E: Write>(
+pub fn warn<R: Read, W: Write, E: Write>(
     alloc: Global,
     how: Checking,
     name: &[u8],
     text: &[u8],
     is_refused: bool,
-    errors: &mut E,
+    console: &mut Console<R, W, E>,
 ) -> Result<(), ProgramFault>
-    ensures told { OnOk result (Warns how.warning_limit how.size is_refused name.now text.now
-        (E.contents errors.old) (E.contents errors.new)) }
-    ensures cut { IfErr result (λ fault. CutsWarning (stream_fault fault) how.size is_refused name.now text.now
-        (E.contents errors.old) (E.contents errors.new)) }
+    ensures told { OnOk result (Warns how.warning_limit how.size is_refused name.now text.now console.old console.new) }
+    ensures cut { IfErr result (λ fault. CutsWarning (stream_fault fault) how.size is_refused name.now text.now console.old console.new) }
 {
     match how.warning_limit {
         Some(limit) if !is_refused => {
-            warn_named(alloc, &NamedText { name, text }, how.size, limit, errors)
+            let source = NamedText { name, text };
+            match warn_named(alloc, &source, how.size, limit, &mut console.errors) {
+                Ok(()) => Ok(()),
+                Err(fault) => Err(fault),
+            }
         }
         _ => Ok(()),
     }
@@ -71,50 +80,36 @@ fn lint_one<F: Folder, R: Read, W: Write, E: Write>(
     alloc: Global,
     how: Linting,
     source: &Source,
-    reader: &mut R,
-    writer: &mut W,
-    errors: &mut E,
+    console: &mut Console<R, W, E>,
 ) -> Result<bool, ProgramFault>
-    ensures finished { IfOk result (LintsOne (F.opens files.now) how source.now
-        (record { reads = R.remaining reader.old; holds = W.contents writer.old; tells = E.contents errors.old })
-        (record { reads = R.remaining reader.new; holds = W.contents writer.new; tells = E.contents errors.new })) }
-    ensures cut { IfErr result (λ fault. CutsLint (F.opens files.now) (stream_fault fault) how source.now
-        (record { reads = R.remaining reader.old; holds = W.contents writer.old; tells = E.contents errors.old })
-        (record { reads = R.remaining reader.new; holds = W.contents writer.new; tells = E.contents errors.new })) }
+    ensures finished { IfOk result (LintsOne (F.opens files.now) how source.now console.old console.new) }
+    ensures cut { IfErr result (λ fault. CutsLint (F.opens files.now) (stream_fault fault) how source.now console.old console.new) }
 {
-    match read_source(files, alloc, source, SOURCE_LIMIT, reader) {
-        Ok(text) => {
+    match console.read(files, alloc, source, SOURCE_LIMIT) {
+        Loaded::Text(text) => {
             let (name, text) = (name_of(source), text.as_slice());
-            lint_text(alloc, how, &NamedText { name, text }, writer, errors)
+            lint_text(alloc, how, &NamedText { name, text }, console)
         }
-        Err(why) => {
-            tell_unread(alloc, errors, source, why)?;
-            Ok(true)
-        }
+        Loaded::Skipped => Ok(true),
+        Loaded::Stopped(fault) => Err(fault),
     }
 }
 
-/// Writes the warnings of each of some sources, in order, and returns whether something is said of one of them.
+/// Writes the warnings of each of some sources, in order, and returns the exit status: 1 where something is said of one of them.
 pub fn lint_sources<F: Folder, R: Read, W: Write, E: Write>(
     files: &F,
     alloc: Global,
     how: Linting,
     sources: &[Source],
-    reader: &mut R,
-    writer: &mut W,
-    errors: &mut E,
-) -> Result<bool, ProgramFault>
-    ensures finished { IfOk result (LintsAll (F.opens files.now) how sources.now
-        (record { reads = R.remaining reader.old; holds = W.contents writer.old; tells = E.contents errors.old })
-        (record { reads = R.remaining reader.new; holds = W.contents writer.new; tells = E.contents errors.new })) }
-    ensures cut { IfErr result (λ fault. StopsLinting (F.opens files.now) (stream_fault fault) how sources.now
-        (record { reads = R.remaining reader.old; holds = W.contents writer.old; tells = E.contents errors.old })
-        (record { reads = R.remaining reader.new; holds = W.contents writer.new; tells = E.contents errors.new })) }
+    console: &mut Console<R, W, E>,
+) -> Result<u8, ProgramFault>
+    ensures finished { IfOk result (LintsAll (F.opens files.now) how sources.now console.old console.new) }
+    ensures cut { IfErr result (λ fault. StopsLinting (F.opens files.now) (stream_fault fault) how sources.now console.old console.new) }
 {
     let mut is_any_said = false;
     for source in sources {
-        let one = lint_one(files, alloc, how, source, reader, writer, errors)?;
+        let one = lint_one(files, alloc, how, source, console)?;
         is_any_said = is_any(is_any_said, one);
     }
-    Ok(is_any_said)
+    Ok(status_of_found(is_any_said))
 }

@@ -1,68 +1,17 @@
 //! The filters of a router are read and verified, before any of its links is opened.
-ghost use Rattle.std.specs.Prelude.{◌≡◌, None, Some, IfErr, IfOk, MatchOption, MatchResult, OnOk};
+ghost use Rattle.std.specs.Prelude.{◌≡◌, IfErr, IfOk, MatchOption, MatchResult};
 ghost use Rattle.filter_commands.specs.Faults.{stream_fault};
-ghost use Rattle.operator_cmds.specs.Script.{Names as GetsFilter};
-ghost use Rattle.script_runs.specs.Naming.{AreNamed};
-ghost use Rattle.script_runs.specs.News.{IsFailureAt};
 ghost use Rattle.ncroute.specs.Loading as spec;
 
 use crate::filters::{read_filters, tell_unfit};
 use crate::texts::{Folder, tell_unread};
 use command_line::NamedFile;
 use filter_commands::ProgramFault;
-use filter_source::Failure;
-use filter_verifier::Verified;
-use operator_cmds::verify_text;
+use operator_cmds::Script;
 use router_daemon::Filters;
-use script_runs::{NamedFilter, Unfit};
+use script_runs::{NamedFilter, Unfit, name_filters};
 use std::alloc::{AllocError, Global};
-use std::collections::BTreeMap;
 use std::io::{Read, Write};
-use std::sync::Arc;
-
-/// Gives a verified filter its name.
-fn give_name(
-    alloc: Global,
-    filters: &mut Filters,
-    name: &[u8],
-    filter: Verified,
-) -> Result<(), AllocError>
-    ensures { OnOk result (GetsFilter name.now filter (spec.script_with filters.old.entries) (spec.script_with filters.new.entries)) }
-{
-    let name = Vec::from_slice(alloc, name)?;
-    let filter = Arc::new(alloc, filter)?;
-    filters.insert(name, filter)?;
-    Ok(())
-}
-
-/// The filter at a place that was not verified, if it is refused.
-fn unfit_at(index: usize, failure: Failure) -> Result<Option<Unfit>, AllocError>
-    ensures { IfOk result (IsFailureAt index failure) }
-{
-    match failure {
-        Failure::Refused(told) => Ok(Some(Unfit { index, told })),
-        Failure::Memory => Err(AllocError),
-    }
-}
-
-/// Verifies each of some filters for domains of a size, and gives it its name, up to the first that is refused, which is returned.
-fn name_filters(
-    alloc: Global,
-    filters: &mut Filters,
-    given: &[NamedFilter],
-    size: u16,
-) -> Result<Option<Unfit>, AllocError>
-    ensures { IfOk result (λ unfit. AreNamed size given.now unfit (spec.script_with filters.old.entries) (spec.script_with filters.new.entries)) }
-{
-    for index in 0..given.len() {
-        let named = &given[index];
-        match verify_text(alloc, named.text.as_slice(), size) {
-            Ok(filter) => give_name(alloc, filters, named.name.as_slice(), filter)?,
-            Err(failure) => return unfit_at(index, failure),
-        }
-    }
-    Ok(None)
-}
 
 /// The filters of these texts, by name, each of them verified; or the first that is refused for domains of this size.
 fn verify_filters(
@@ -70,12 +19,12 @@ fn verify_filters(
     given: &[NamedFilter],
     size: u16,
 ) -> Result<Result<Filters, Unfit>, AllocError>
-    ensures { IfOk result (λ verified. MatchResult verified (λ filters. spec.AreLoaded size given.now None filters.entries)
+    ensures { IfOk result (λ verified. MatchResult verified (λ filters. spec.AreLoaded size given.now filters.entries)
         (spec.AreUnfit size given.now)) }
 {
-    let mut filters = BTreeMap::new(alloc);
-    match name_filters(alloc, &mut filters, given, size)? {
-        None => Ok(Ok(filters)),
+    let mut script = Script::new(alloc);
+    match name_filters(alloc, &mut script, given, size)? {
+        None => Ok(Ok(script.into_filters())),
         Some(unfit) => Ok(Err(unfit)),
     }
 }
@@ -89,7 +38,7 @@ fn verify_given<E: Write>(
 ) -> Result<Option<Filters>, ProgramFault>
     ensures finished { IfOk result (λ filters. MatchOption filters
         (spec.TellsOfUnfit size given.now (E.contents errors.old) (E.contents errors.new))
-        (λ filters. spec.AreLoaded size given.now None filters.entries × (E.contents errors.new ≡ E.contents errors.old))) }
+        (λ filters. spec.AreLoaded size given.now filters.entries × (E.contents errors.new ≡ E.contents errors.old))) }
     ensures stopped { IfErr result (λ fault. spec.StopsVerifying (stream_fault fault) size given.now
         (E.contents errors.old) (E.contents errors.new)) }
 {

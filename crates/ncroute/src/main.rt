@@ -2,8 +2,10 @@
 //! routes of a whole domain.
 #![tactic(auto)]
 
-mod aid;
+mod checking;
 mod comparing;
+mod console;
+mod ending;
 mod filters;
 mod guided;
 mod importing;
@@ -15,15 +17,17 @@ mod loading;
 mod network;
 mod planning;
 mod replay;
+mod requests;
 mod respond;
 mod routing;
 mod script;
-mod serve;
 mod testing;
 mod texts;
+mod trying;
 mod watcher;
 
 use command_line::{Terminals, Words, tell_that_input_is_read, waits_for_people};
+use console::Console;
 use respond::respond;
 use std::fs;
 use std::io::{self, IsTerminal};
@@ -40,7 +44,11 @@ fn main(rt: HostRuntime) -> ExitCode {
         fs::open(&rt, NO_STREAM),
         fs::open(&rt, NO_STREAM),
     ];
-    let (reader, writer, errors) = (&mut rt.stdin(), &mut io::writer(&rt), &mut rt.stderr());
+    let mut console = Console {
+        reader: rt.stdin(),
+        writer: io::writer(&rt),
+        errors: rt.stderr(),
+    };
     let terminals = Terminals {
         input: rt.stdin().is_terminal(),
         errors: rt.stderr().is_terminal(),
@@ -52,6 +60,6 @@ fn main(rt: HostRuntime) -> ExitCode {
     {
         tell_that_input_is_read(&rt);
     }
-    let status = respond(&rt, rt.alloc(), words, reader, writer, errors, rt.stderr());
+    let status = respond(&rt, rt.alloc(), words, &mut console, rt.stderr());
     ExitCode::from(status)
 }

@@ -2,14 +2,15 @@
 ghost use Rattle.std.specs.Prelude.{◌≡◌, IfOk, OnErr};
 ghost use Rattle.ncroute.specs.Networking.{FailsToReportNetwork, ServesNetwork, network_line};
 
-use crate::serve::FAILED;
+use crate::console::Console;
+use crate::ending::FAILED;
 use line_protocol::{StreamFault, write_text};
 use ring_network::{NetworkFault, net_lines};
 use route_history::CallFault;
 use route_session::RunFault;
 use slot_lock::LockFault;
 use std::alloc::Global;
-use std::io::Write;
+use std::io::{Read, Write};
 use std::rt::Clock;
 use std::sync::Wait;
 use std::thread::Threads;
@@ -32,24 +33,21 @@ fn network_line(fault: NetworkFault) -> &'static str
     }
 }
 
-/// Runs the network, and returns the exit status: 0, or 1 where a fault ended it. A fault is reported on `errors`; the error is that
-/// of `errors`, which did not take the whole report.
-pub fn serve_network<R: Threads + Wait + Clock + Sync, W: Write, E: Write>(
+/// Runs the network, and returns the exit status: 0, or 1 where a fault ended it, which is told. The error is that of standard error, which
+/// did not take the whole line.
+pub fn serve_network<R: Threads + Wait + Clock + Sync, I: Read, W: Write, E: Write>(
     rt: &R,
     alloc: Global,
-    writer: &mut W,
-    errors: &mut E,
+    console: &mut Console<I, W, E>,
 ) -> Result<u8, StreamFault>
-    ensures served { IfOk result (λ status.
-        ServesNetwork (W.contents writer.old) (W.contents writer.new) (E.contents errors.old) (E.contents errors.new) status) }
-    ensures not_reported { OnErr result
-        (FailsToReportNetwork (W.contents writer.old) (W.contents writer.new) (E.contents errors.old) (E.contents errors.new)) }
+    ensures served { IfOk result (ServesNetwork console.old console.new) }
+    ensures not_reported { OnErr result (FailsToReportNetwork console.old console.new) }
 {
-    match net_lines(rt, alloc, writer) {
+    match net_lines(rt, alloc, &mut console.writer) {
         Ok(()) => Ok(0),
-        Err(fault) => {
-            write_text(errors, network_line(fault).as_bytes())?;
-            Ok(FAILED)
-        }
+        Err(fault) => match write_text(&mut console.errors, network_line(fault).as_bytes()) {
+            Ok(()) => Ok(FAILED),
+            Err(fault) => Err(fault),
+        },
     }
 }

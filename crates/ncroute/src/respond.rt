@@ -1,18 +1,19 @@
 //! From the words of the command line to the exit status.
-ghost use Rattle.std.specs.Prelude.{◌≡◌, ◌⊎◌, IfSome};
-ghost use Rattle.line_protocol.specs.Runs.{AppendsFront};
+ghost use Rattle.std.specs.Prelude.{◌≡◌, ◌⊎◌};
 ghost use Rattle.filter_commands.specs.declared.fault.ProgramFault.TheVariants.{Stream};
-ghost use Rattle.ncroute.specs.Helping.{FailsToTell, ServesPeople, fault_status};
+ghost use Rattle.ncroute.specs.Ending.{fault_line};
 ghost use Rattle.ncroute.specs.Networking.{FailsToReportNetwork, ServesNetwork};
+ghost use Rattle.ncroute.specs.Requests.{FailsToReport, Serves, fault_status};
 ghost use Rattle.ncroute.specs.Responding.{Responds};
-ghost use Rattle.ncroute.specs.Serving.{FailsToReport, Serves, fault_line};
+ghost use Rattle.ncroute.specs.Streaming.{TellsFront};
 
-use crate::aid::{fault_status, serve_people};
+use crate::console::Console;
+use crate::ending::{FAILED, end_by_fault};
 use crate::network::serve_network;
+use crate::requests::{fault_status, serve};
 use crate::routing::serve_router;
-use crate::serve::{FAILED, report_fault, serve};
 use crate::texts::Folder;
-use command_line::{Aid, Request, Words};
+use command_line::{Request, Words};
 use filter_commands::ProgramFault;
 use line_protocol::StreamFault;
 use router_daemon::LinkFolder;
@@ -22,73 +23,45 @@ use std::rt::Clock;
 use std::sync::Wait;
 use std::thread::Threads;
 
-/// Serves a request: the exit status. It is that of a fault where standard error took no whole report.
-fn status_of_request<R: Read, W: Write, E: Write>(
+/// Serves what is asked for: the exit status. It is that of a fault where standard error did not take the whole line.
+fn status_of_request<F: Folder, R: Read, W: Write, E: Write>(
+    files: &F,
     alloc: Global,
-    request: Request,
-    reader: &mut R,
-    writer: &mut W,
-    errors: &mut E,
+    request: &Request,
+    console: &mut Console<R, W, E>,
 ) -> u8
-    ensures { IfSome (R.remaining reader.old) (λ input.
-        Serves request input (R.remaining reader.new) (W.contents writer.old) (W.contents writer.new)
-        (E.contents errors.old) (E.contents errors.new) result
-        ⊎ (FailsToReport request input (R.remaining reader.new) (W.contents writer.old) (W.contents writer.new)
-        (E.contents errors.old) (E.contents errors.new) × (result ≡ FAILED))) }
+    ensures { Serves (F.opens files.now) (F.creates files.now) request.now console.old console.new result
+        ⊎ (FailsToReport (F.opens files.now) (F.creates files.now) request.now console.old console.new × (result ≡ fault_status request.now)) }
 {
-    match serve(alloc, request, reader, writer, errors) {
+    match serve(files, alloc, request, console) {
         Ok(status) => status,
-        Err(_) => FAILED,
+        Err(_) => fault_status(request),
     }
 }
 
 /// Serves `net`, likewise.
-fn status_of_network<R: Threads + Wait + Clock + Sync, W: Write, E: Write>(
+fn status_of_network<R: Threads + Wait + Clock + Sync, I: Read, W: Write, E: Write>(
     rt: &R,
     alloc: Global,
-    writer: &mut W,
-    errors: &mut E,
+    console: &mut Console<I, W, E>,
 ) -> u8
-    ensures { ServesNetwork (W.contents writer.old) (W.contents writer.new) (E.contents errors.old) (E.contents errors.new) result
-        ⊎ (FailsToReportNetwork (W.contents writer.old) (W.contents writer.new) (E.contents errors.old) (E.contents errors.new)
-        × (result ≡ FAILED)) }
+    ensures { ServesNetwork console.old console.new result ⊎ (FailsToReportNetwork console.old console.new × (result ≡ FAILED)) }
 {
-    match serve_network(rt, alloc, writer, errors) {
+    match serve_network(rt, alloc, console) {
         Ok(status) => status,
         Err(_) => FAILED,
     }
 }
 
-/// Serves people, likewise.
-fn status_of_aid<F: Folder, R: Read, W: Write, E: Write>(
-    files: &F,
-    alloc: Global,
-    aid: &Aid,
-    reader: &mut R,
-    writer: &mut W,
-    errors: &mut E,
+/// Tells of a fault that kept the words from being read: the exit status.
+fn status_of_fault<R: Read, W: Write, E: Write>(
+    console: &mut Console<R, W, E>,
+    fault: StreamFault,
 ) -> u8
-    ensures { ServesPeople (F.opens files.now) (F.creates files.now) aid.now
-        (record { reads = R.remaining reader.old; holds = W.contents writer.old; tells = E.contents errors.old })
-        (record { reads = R.remaining reader.new; holds = W.contents writer.new; tells = E.contents errors.new }) result
-        ⊎ (FailsToTell (F.opens files.now) (F.creates files.now) aid.now
-        (record { reads = R.remaining reader.old; holds = W.contents writer.old; tells = E.contents errors.old })
-        (record { reads = R.remaining reader.new; holds = W.contents writer.new; tells = E.contents errors.new })
-        × (result ≡ fault_status aid.now)) }
-{
-    match serve_people(files, alloc, aid, reader, writer, errors) {
-        Ok(status) => status,
-        Err(_) => fault_status(aid),
-    }
-}
-
-/// Reports a fault of the words: the exit status.
-fn status_of_fault<E: Write>(errors: &mut E, fault: StreamFault) -> u8
     ensures status { result ≡ FAILED }
-    ensures told { AppendsFront (E.contents errors.old) (E.contents errors.new) (fault_line (Stream fault)) }
+    ensures told { TellsFront (fault_line (Stream fault)) console.old console.new }
 {
-    let _ = report_fault(errors, ProgramFault::Stream(fault));
-    FAILED
+    end_by_fault(&mut console.errors, ProgramFault::Stream(fault))
 }
 
 /// Does what the words of the command line ask for, and returns the exit status. `voice` is where people are told of a router's links.
@@ -104,25 +77,26 @@ pub fn respond<
     rt: &R,
     alloc: Global,
     words: Result<Words, StreamFault>,
-    reader: &mut I,
-    writer: &mut W,
-    errors: &mut E,
+    console: &mut Console<I, W, E>,
     voice: T,
 ) -> u8
 where
     R::New: Send + 'static,
-    ensures { Responds (R.opens rt.now) (R.creates rt.now) words
-        (record { reads = I.remaining reader.old; holds = W.contents writer.old; tells = E.contents errors.old })
-        (record { reads = I.remaining reader.new; holds = W.contents writer.new; tells = E.contents errors.new }) result }
+    ensures { Responds (R.opens rt.now) (R.creates rt.now) words console.old console.new result }
 {
     match words {
-        Ok(Words::Asked(request)) => status_of_request(alloc, request, reader, writer, errors),
-        Ok(Words::Router(words)) => {
-            serve_router::<R, FI, FO, T, I, W, E>(rt, alloc, &words, reader, writer, errors, voice)
-        }
-        Ok(Words::Network) => status_of_network(rt, alloc, writer, errors),
-        Ok(Words::Aided(aid)) => status_of_aid(rt, alloc, &aid, reader, writer, errors),
+        Ok(Words::Asked(request)) => status_of_request(rt, alloc, &request, console),
+        Ok(Words::Router(words)) => serve_router::<R, FI, FO, T, I, W, E>(
+            rt,
+            alloc,
+            &words,
+            &mut console.reader,
+            &mut console.writer,
+            &mut console.errors,
+            voice,
+        ),
+        Ok(Words::Network) => status_of_network(rt, alloc, console),
         Ok(Words::Shown(status)) => status,
-        Err(fault) => status_of_fault(errors, fault),
+        Err(fault) => status_of_fault(console, fault),
     }
 }

@@ -4,11 +4,10 @@ ghost use Rattle.std.specs.Prelude.{◌≡◌, None, Some, IfErr, IfOk, MatchOpt
 ghost use Rattle.filter_commands.specs.Faults.{stream_fault};
 ghost use Rattle.line_protocol.specs.Runs.{AppendsFront};
 ghost use Rattle.ncroute.specs.Routing as spec;
-ghost use Rattle.ncroute.specs.Serving.{fault_line};
 
+use crate::ending::{FAILED, end_by_fault};
 use crate::loading::load_filters;
 use crate::planning::plan_of;
-use crate::serve::{FAILED, report_fault};
 use crate::texts::{Folder, tell_unmade};
 use command_line::RouterWords;
 use filter_commands::ProgramFault;
@@ -214,17 +213,9 @@ fn run_setting<
     }
 }
 
-/// Tells of the fault that kept a router from being set up: the exit status.
-fn tell_unset<E: Write>(errors: &mut E, fault: ProgramFault) -> u8
-    ensures status { result ≡ FAILED }
-    ensures told { AppendsFront (E.contents errors.old) (E.contents errors.new) (fault_line fault) }
-{
-    let _ = report_fault(errors, fault);
-    FAILED
-}
-
 /// Runs the router that words ask for, and returns the exit status. Its filters are verified, and the file of its history is made,
 /// before any link is opened. `voice` is where people are told of links.
+#[tactic(auto, unfolding(crate::specs::Routing::ServesRouter))]
 pub fn serve_router<
     R: Threads + Wait + Clock + Folder + LinkFolder<FI, FO> + Copy + Send + Sync + Drop + 'static,
     FI: Read + Send + Drop + 'static,
@@ -253,6 +244,6 @@ where
             rt, alloc, setting, reader, writer, errors, voice,
         ),
         Ok(Err(status)) => status,
-        Err(fault) => tell_unset(errors, fault),
+        Err(fault) => end_by_fault(errors, fault),
     }
 }

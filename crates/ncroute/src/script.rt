@@ -1,20 +1,20 @@
 //! Scripts: a router or a whole domain carries one out, and its refusals are told.
 ghost use Rattle.std.specs.Prelude.{◌≡◌, IfErr, IfOk, IfSome};
 ghost use Rattle.filter_commands.specs.Faults.{stream_fault};
-ghost use Rattle.ncroute.specs.Scripts.{IsAnswered, IsLeftOff, IsQuiet, RunsScript, StopsScript, script_fault};
+ghost use Rattle.ncroute.specs.Scripts.{IsAnswered, IsLeftOff, IsQuiet, RunsFile, RunsScript, RunsSource, StopsFile, StopsScript, StopsSource};
+ghost use Rattle.ncroute.specs.Scripts.{script_fault};
 
-use crate::serve::{FAILED, status_of};
+use crate::console::{Console, Loaded};
+use crate::ending::{FAILED, FAULT, status_of};
+use crate::texts::{Folder, name_of};
 use crate::watcher::Teller;
-use command_line::Engine;
+use command_line::{Engine, Source};
 use domain_cmds::{run_domain, run_watched_domain};
 use filter_commands::ProgramFault;
-use line_protocol::StreamFault;
+use line_protocol::{INPUT_LIMIT, StreamFault};
 use operator_cmds::{run_script, run_watched_script};
 use std::alloc::Global;
 use std::io::{Read, Write};
-
-/// The exit status where a fault of the machine ended what a refusal ends with `FAILED`.
-pub const FAULT: u8 = 3;
 
 /// The exit status where a fault of the machine ends a script. That of a router has had 1 from the first.
 pub fn script_fault(engine: Engine) -> u8
@@ -71,7 +71,7 @@ fn answer<R: Read, W: Write, E: Write>(
 
 /// Carries out a script that people know by a name, and returns the exit status. Where `is_explained` says so, it is told in words why
 /// a filter is refused.
-pub fn carry_out<R: Read, W: Write, E: Write>(
+fn carry_out<R: Read, W: Write, E: Write>(
     alloc: Global,
     engine: Engine,
     name: &[u8],
@@ -89,4 +89,59 @@ pub fn carry_out<R: Read, W: Write, E: Write>(
 {
     let refused = answer(alloc, engine, name, is_explained, reader, writer, errors)?;
     Ok(status_of(refused))
+}
+
+/// Carries out the script of a file, and returns the exit status.
+fn run_file<F: Folder, R: Read, W: Write, E: Write>(
+    files: &F,
+    alloc: Global,
+    engine: Engine,
+    source: &Source,
+    is_explained: bool,
+    console: &mut Console<R, W, E>,
+) -> Result<u8, ProgramFault>
+    ensures finished { IfOk result (RunsFile (F.opens files.now) engine source.now is_explained console.old console.new) }
+    ensures stopped { IfErr result (λ fault. StopsFile (F.opens files.now) (stream_fault fault) engine source.now is_explained
+        console.old console.new) }
+{
+    match console.read(files, alloc, source, INPUT_LIMIT) {
+        Loaded::Text(text) => carry_out(
+            alloc,
+            engine,
+            name_of(source),
+            is_explained,
+            &mut text.as_slice(),
+            &mut console.writer,
+            &mut console.errors,
+        ),
+        Loaded::Skipped => Ok(script_fault(engine)),
+        Loaded::Stopped(fault) => Err(fault),
+    }
+}
+
+/// Carries out a script, and returns the exit status. The lines of standard input are answered as they come.
+pub fn run_source<F: Folder, R: Read, W: Write, E: Write>(
+    files: &F,
+    alloc: Global,
+    engine: Engine,
+    source: &Source,
+    is_explained: bool,
+    console: &mut Console<R, W, E>,
+) -> Result<u8, ProgramFault>
+    ensures finished { IfOk result (RunsSource (F.opens files.now) engine source.now is_explained console.old console.new) }
+    ensures stopped { IfErr result (λ fault. StopsSource (F.opens files.now) (stream_fault fault) engine source.now is_explained
+        console.old console.new) }
+{
+    match source {
+        Source::Input => carry_out(
+            alloc,
+            engine,
+            name_of(source),
+            is_explained,
+            &mut console.reader,
+            &mut console.writer,
+            &mut console.errors,
+        ),
+        Source::File(_) => run_file(files, alloc, engine, source, is_explained, console),
+    }
 }

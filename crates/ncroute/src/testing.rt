@@ -1,17 +1,14 @@
 //! How test files are run.
-ghost use Rattle.std.specs.Prelude.{◌≡◌, ◌+◌, ◌<◌, ◌^◌, IfErr, IfOk, IfSome, IsUtf8, None, OnOk, length};
-ghost use Rattle.std.specs.Io.KnownBytes.{Appends};
-ghost use Rattle.filter_checks.specs.Faults.{fault_text};
+ghost use Rattle.std.specs.Prelude.{◌≡◌, ◌+◌, ◌<◌, ◌^◌, IfErr, IfOk, OnOk, length};
 ghost use Rattle.filter_checks.specs.Files.{file_view};
-ghost use Rattle.filter_checks.specs.Places.{path_beside};
-ghost use Rattle.filter_commands.specs.Evaluation.{IsCut};
 ghost use Rattle.filter_commands.specs.Faults.{stream_fault};
 ghost use Rattle.filter_tools.specs.Naming.{named};
+ghost use Rattle.ncroute.specs.Streaming.{CutsWriting, Writes};
 ghost use Rattle.ncroute.specs.Testing as spec;
 
-use crate::script::FAULT;
-use crate::serve::FAILED;
-use crate::texts::{Folder, name_of, read_source, tell_unread, write_line};
+use crate::console::{Console, Loaded};
+use crate::ending::{FAILED, FAULT};
+use crate::texts::{Folder, name_of};
 use command_line::{Source, Testing};
 use filter_checks::{
     FileFault, TestFile, Tested, fault_text, path_beside, plan_line, read_tests, test_named,
@@ -46,77 +43,83 @@ fn tally_after(tally: Tally, more: usize, tested: Tested) -> Option<Tally>
     }
 }
 
-/// Tells why the text of a file of this name is no test file.
-fn tell_words<E: Write>(
+/// Tells why the text of a file of this name is no test file. Nothing more is run then.
+fn tell_fault<R: Read, W: Write, E: Write>(
     alloc: Global,
     how: Testing,
     name: &[u8],
     why: FileFault,
-    errors: &mut E,
-) -> Result<(), ProgramFault>
-    ensures ok { OnOk result (Appends (E.contents errors.old) (E.contents errors.new) (fault_text how.is_explained name.now why)) }
-    ensures err { IfErr result (λ fault.
-        IsCut (stream_fault fault) (E.contents errors.old) (E.contents errors.new) (fault_text how.is_explained name.now why)) }
+    console: &mut Console<R, W, E>,
+) -> Result<Option<Tally>, ProgramFault>
+    ensures finished { IfOk result (spec.TellsFault how name.now why console.old console.new) }
+    ensures cut { IfErr result (λ fault. spec.CutsFault (stream_fault fault) how name.now why console.old console.new) }
 {
-    let text = fault_text(alloc, how.is_explained, name, why)?;
-    write_line(errors, text.as_slice())
+    match fault_text(alloc, how.is_explained, name, why) {
+        Ok(text) => match console.tell(text.as_slice()) {
+            Ok(()) => Ok(None),
+            Err(fault) => Err(fault),
+        },
+        Err(_) => Err(ProgramFault::MEMORY),
+    }
 }
 
 /// Runs the tests of a file by the filter of a text, and returns how many were run by then, or nothing where the filter is refused.
-fn run_counted<W: Write, E: Write>(
+fn run_counted<R: Read, W: Write, E: Write>(
     alloc: Global,
     how: Testing,
     name: &[u8],
     file: &TestFile,
     filter: &NamedText<'_>,
     tally: Tally,
-    writer: &mut W,
-    errors: &mut E,
+    console: &mut Console<R, W, E>,
 ) -> Result<Option<Tally>, ProgramFault>
     requires { tally.count + length file.now.tests.items < 2 ^ 64 }
-    ensures finished { IfOk result (spec.RunsBy how name.now (file_view file.now) (named filter.now) tally
-        (W.contents writer.old) (W.contents writer.new) (E.contents errors.old) (E.contents errors.new)) }
-    ensures stopped { IfErr result (λ fault. spec.StopsBy (stream_fault fault) how name.now (file_view file.now) (named filter.now) tally
-        (W.contents writer.old) (W.contents writer.new) (E.contents errors.old) (E.contents errors.new)) }
+    ensures finished { IfOk result (spec.RunsBy how name.now (file_view file.now) (named filter.now) tally console.old console.new) }
+    ensures stopped { IfErr result (λ fault. spec.StopsCounted (stream_fault fault) how name.now (file_view file.now) (named filter.now) tally
+        console.old console.new) }
 {
-    let (before, limit, is_explained) = (tally.count, how.limit, how.is_explained);
-    let tested = test_named(
+    match test_named(
         alloc,
-        before,
-        limit,
-        is_explained,
+        tally.count,
+        how.limit,
+        how.is_explained,
         name,
         file,
         filter,
-        writer,
-        errors,
-    )?;
-    Ok(tally_after(tally, file.tests.len(), tested))
+        &mut console.writer,
+        &mut console.errors,
+    ) {
+        Ok(tested) => Ok(tally_after(tally, file.tests.len(), tested)),
+        Err(fault) => Err(fault),
+    }
 }
 
 /// Runs the tests of a file by the filter of a text, if they can be counted.
-fn run_by<W: Write, E: Write>(
+#[tactic(auto, unfolding(crate::specs::Testing::StopsBy))]
+fn run_by<R: Read, W: Write, E: Write>(
     alloc: Global,
     how: Testing,
     name: &[u8],
     file: &TestFile,
     filter: &NamedText<'_>,
     tally: Tally,
-    writer: &mut W,
-    errors: &mut E,
+    console: &mut Console<R, W, E>,
 ) -> Result<Option<Tally>, ProgramFault>
-    ensures finished { IfOk result (spec.RunsBy how name.now (file_view file.now) (named filter.now) tally
-        (W.contents writer.old) (W.contents writer.new) (E.contents errors.old) (E.contents errors.new)) }
+    ensures finished { IfOk result (spec.RunsBy how name.now (file_view file.now) (named filter.now) tally console.old console.new) }
     ensures stopped { IfErr result (λ fault. spec.StopsBy (stream_fault fault) how name.now (file_view file.now) (named filter.now) tally
-        (W.contents writer.old) (W.contents writer.new) (E.contents errors.old) (E.contents errors.new)) }
+        console.old console.new) }
 {
     if file.tests.len() as u64 > u64::MAX - tally.count {
         return Err(ProgramFault::Stream(StreamFault::TooLong));
     }
-    run_counted(alloc, how, name, file, filter, tally, writer, errors)
+    match run_counted(alloc, how, name, file, filter, tally, console) {
+        Ok(found) => Ok(found),
+        Err(fault) => Err(fault),
+    }
 }
 
 /// Runs the tests of a file, whose filter is read from a source.
+#[tactic(auto, unfolding(crate::specs::Testing::RunsBeside, crate::specs::Testing::StopsBeside))]
 fn run_beside<F: Folder, R: Read, W: Write, E: Write>(
     files: &F,
     alloc: Global,
@@ -125,53 +128,56 @@ fn run_beside<F: Folder, R: Read, W: Write, E: Write>(
     file: &TestFile,
     source: &Source,
     tally: Tally,
-    reader: &mut R,
-    writer: &mut W,
-    errors: &mut E,
+    console: &mut Console<R, W, E>,
 ) -> Result<Option<Tally>, ProgramFault>
     ensures finished { IfOk result (spec.RunsBeside (F.opens files.now) how name.now (file_view file.now) source.now tally
-        (record { reads = R.remaining reader.old; holds = W.contents writer.old; tells = E.contents errors.old })
-        (record { reads = R.remaining reader.new; holds = W.contents writer.new; tells = E.contents errors.new })) }
+        console.old console.new) }
     ensures stopped { IfErr result (λ fault. spec.StopsBeside (F.opens files.now) (stream_fault fault) how name.now (file_view file.now) source.now tally
-        (record { reads = R.remaining reader.old; holds = W.contents writer.old; tells = E.contents errors.old })
-        (record { reads = R.remaining reader.new; holds = W.contents writer.new; tells = E.contents errors.new })) }
+        console.old console.new) }
 {
-    match read_source(files, alloc, source, SOURCE_LIMIT, reader) {
-        Ok(text) => {
+    match console.read(files, alloc, source, SOURCE_LIMIT) {
+        Loaded::Text(text) => {
             let filter = NamedText {
                 name: name_of(source),
                 text: text.as_slice(),
             };
-            run_by(alloc, how, name, file, &filter, tally, writer, errors)
+            run_by(alloc, how, name, file, &filter, tally, console)
         }
-        Err(why) => {
-            tell_unread(alloc, errors, source, why)?;
-            Ok(None)
-        }
+        Loaded::Skipped => Ok(None),
+        Loaded::Stopped(fault) => Err(fault),
     }
 }
 
-/// The source of the file of a name. None if the name is not UTF-8.
-fn source_at(alloc: Global, path: &[u8]) -> Result<Option<Source>, AllocError>
-    ensures found { IfOk result (λ source. IfSome source (spec.IsFileAt path.now)) }
-    ensures none { IfOk result (λ source. source ≡ None → IsUtf8 path.now → ⊥) }
+/// Runs the tests of a file, whose filter is in the file of this name. There is none if the name is not UTF-8.
+#[tactic(auto, unfolding(crate::specs::Testing::RunsAt, crate::specs::Testing::StopsAt))]
+fn run_at<F: Folder, R: Read, W: Write, E: Write>(
+    files: &F,
+    alloc: Global,
+    how: Testing,
+    name: &[u8],
+    file: &TestFile,
+    path: &[u8],
+    tally: Tally,
+    console: &mut Console<R, W, E>,
+) -> Result<Option<Tally>, ProgramFault>
+    ensures finished { IfOk result (spec.RunsAt (F.opens files.now) how name.now (file_view file.now) path.now tally console.old console.new) }
+    ensures stopped { IfErr result (λ fault. spec.StopsAt (F.opens files.now) (stream_fault fault) how name.now (file_view file.now) path.now tally
+        console.old console.new) }
 {
     match str::from_utf8(path) {
-        Ok(name) => Ok(Some(Source::File(String::from_str(alloc, name)?))),
-        Err(_) => Ok(None),
+        Ok(path) => match String::from_str(alloc, path) {
+            Ok(path) => {
+                let source = Source::File(path);
+                run_beside(files, alloc, how, name, file, &source, tally, console)
+            }
+            Err(_) => Err(ProgramFault::MEMORY),
+        },
+        Err(_) => tell_fault(alloc, how, name, FileFault::Name, console),
     }
-}
-
-/// The source of the filter that a test file of this name names.
-fn filter_of(alloc: Global, name: &[u8], file: &TestFile) -> Result<Option<Source>, AllocError>
-    ensures found { IfOk result (λ source. IfSome source (spec.IsFileAt (path_beside name.now file.now.filter.items))) }
-    ensures none { IfOk result (λ source. source ≡ None → IsUtf8 (path_beside name.now file.now.filter.items) → ⊥) }
-{
-    let path = path_beside(alloc, name, file.filter.as_slice())?;
-    source_at(alloc, path.as_slice())
 }
 
 /// Runs the tests of a file, whose filter is in the file beside it that it names.
+#[tactic(auto, unfolding(crate::specs::Testing::StopsFile))]
 fn run_file<F: Folder, R: Read, W: Write, E: Write>(
     files: &F,
     alloc: Global,
@@ -179,29 +185,29 @@ fn run_file<F: Folder, R: Read, W: Write, E: Write>(
     name: &[u8],
     file: &TestFile,
     tally: Tally,
-    reader: &mut R,
-    writer: &mut W,
-    errors: &mut E,
+    console: &mut Console<R, W, E>,
 ) -> Result<Option<Tally>, ProgramFault>
-    ensures finished { IfOk result (spec.RunsFile (F.opens files.now) how name.now (file_view file.now) tally
-        (record { reads = R.remaining reader.old; holds = W.contents writer.old; tells = E.contents errors.old })
-        (record { reads = R.remaining reader.new; holds = W.contents writer.new; tells = E.contents errors.new })) }
+    ensures finished { IfOk result (spec.RunsFile (F.opens files.now) how name.now (file_view file.now) tally console.old console.new) }
     ensures stopped { IfErr result (λ fault. spec.StopsFile (F.opens files.now) (stream_fault fault) how name.now (file_view file.now) tally
-        (record { reads = R.remaining reader.old; holds = W.contents writer.old; tells = E.contents errors.old })
-        (record { reads = R.remaining reader.new; holds = W.contents writer.new; tells = E.contents errors.new })) }
+        console.old console.new) }
 {
-    match filter_of(alloc, name, file)? {
-        Some(source) => run_beside(
-            files, alloc, how, name, file, &source, tally, reader, writer, errors,
+    match path_beside(alloc, name, file.filter.as_slice()) {
+        Ok(path) => run_at(
+            files,
+            alloc,
+            how,
+            name,
+            file,
+            path.as_slice(),
+            tally,
+            console,
         ),
-        None => {
-            tell_words(alloc, how, name, FileFault::Name, errors)?;
-            Ok(None)
-        }
+        Err(_) => Err(ProgramFault::MEMORY),
     }
 }
 
 /// Runs the tests that a text has, of a source of this name.
+#[tactic(auto, unfolding(crate::specs::Testing::RunsText, crate::specs::Testing::StopsText))]
 fn run_text<F: Folder, R: Read, W: Write, E: Write>(
     files: &F,
     alloc: Global,
@@ -209,56 +215,40 @@ fn run_text<F: Folder, R: Read, W: Write, E: Write>(
     name: &[u8],
     text: &[u8],
     tally: Tally,
-    reader: &mut R,
-    writer: &mut W,
-    errors: &mut E,
+    console: &mut Console<R, W, E>,
 ) -> Result<Option<Tally>, ProgramFault>
-    ensures finished { IfOk result (spec.RunsText (F.opens files.now) how name.now text.now tally
-        (record { reads = R.remaining reader.old; holds = W.contents writer.old; tells = E.contents errors.old })
-        (record { reads = R.remaining reader.new; holds = W.contents writer.new; tells = E.contents errors.new })) }
+    ensures finished { IfOk result (spec.RunsText (F.opens files.now) how name.now text.now tally console.old console.new) }
     ensures stopped { IfErr result (λ fault. spec.StopsText (F.opens files.now) (stream_fault fault) how name.now text.now tally
-        (record { reads = R.remaining reader.old; holds = W.contents writer.old; tells = E.contents errors.old })
-        (record { reads = R.remaining reader.new; holds = W.contents writer.new; tells = E.contents errors.new })) }
+        console.old console.new) }
 {
     match read_tests(alloc, text) {
-        Ok(file) => run_file(
-            files, alloc, how, name, &file, tally, reader, writer, errors,
-        ),
+        Ok(file) => run_file(files, alloc, how, name, &file, tally, console),
         Err(FileFault::Memory) => Err(ProgramFault::MEMORY),
-        Err(why) => {
-            tell_words(alloc, how, name, why, errors)?;
-            Ok(None)
-        }
+        Err(why) => tell_fault(alloc, how, name, why, console),
     }
 }
 
 /// Runs the tests of a source. Returns how many were run by then, or nothing where a file is refused or not read, which is told.
+#[tactic(auto, unfolding(crate::specs::Testing::RunsTests, crate::specs::Testing::StopsTests))]
 fn run_source<F: Folder, R: Read, W: Write, E: Write>(
     files: &F,
     alloc: Global,
     how: Testing,
     source: &Source,
     tally: Tally,
-    reader: &mut R,
-    writer: &mut W,
-    errors: &mut E,
+    console: &mut Console<R, W, E>,
 ) -> Result<Option<Tally>, ProgramFault>
-    ensures finished { IfOk result (spec.RunsTests (F.opens files.now) how source.now tally
-        (record { reads = R.remaining reader.old; holds = W.contents writer.old; tells = E.contents errors.old })
-        (record { reads = R.remaining reader.new; holds = W.contents writer.new; tells = E.contents errors.new })) }
+    ensures finished { IfOk result (spec.RunsTests (F.opens files.now) how source.now tally console.old console.new) }
     ensures stopped { IfErr result (λ fault. spec.StopsTests (F.opens files.now) (stream_fault fault) how source.now tally
-        (record { reads = R.remaining reader.old; holds = W.contents writer.old; tells = E.contents errors.old })
-        (record { reads = R.remaining reader.new; holds = W.contents writer.new; tells = E.contents errors.new })) }
+        console.old console.new) }
 {
-    match read_source(files, alloc, source, SOURCE_LIMIT, reader) {
-        Ok(text) => {
-            let (text, name) = (text.as_slice(), name_of(source));
-            run_text(files, alloc, how, name, text, tally, reader, writer, errors)
+    match console.read(files, alloc, source, SOURCE_LIMIT) {
+        Loaded::Text(text) => {
+            let (name, text) = (name_of(source), text.as_slice());
+            run_text(files, alloc, how, name, text, tally, console)
         }
-        Err(why) => {
-            tell_unread(alloc, errors, source, why)?;
-            Ok(None)
-        }
+        Loaded::Skipped => Ok(None),
+        Loaded::Stopped(fault) => Err(fault),
     }
 }
 
@@ -268,23 +258,17 @@ fn run_all<F: Folder, R: Read, W: Write, E: Write>(
     alloc: Global,
     how: Testing,
     sources: &[Source],
-    reader: &mut R,
-    writer: &mut W,
-    errors: &mut E,
+    console: &mut Console<R, W, E>,
 ) -> Result<Option<Tally>, ProgramFault>
-    ensures finished { IfOk result (spec.RunsAll (F.opens files.now) how sources.now
-        (record { reads = R.remaining reader.old; holds = W.contents writer.old; tells = E.contents errors.old })
-        (record { reads = R.remaining reader.new; holds = W.contents writer.new; tells = E.contents errors.new })) }
-    ensures stopped { IfErr result (λ fault. spec.StopsSome (F.opens files.now) (stream_fault fault) how sources.now
-        (record { reads = R.remaining reader.old; holds = W.contents writer.old; tells = E.contents errors.old })
-        (record { reads = R.remaining reader.new; holds = W.contents writer.new; tells = E.contents errors.new })) }
+    ensures finished { IfOk result (spec.RunsAll (F.opens files.now) how sources.now console.old console.new) }
+    ensures stopped { IfErr result (λ fault. spec.StopsSome (F.opens files.now) (stream_fault fault) how sources.now console.old console.new) }
 {
     let mut tally = Tally {
         count: 0,
         has_failed: false,
     };
     for source in sources {
-        match run_source(files, alloc, how, source, tally, reader, writer, errors)? {
+        match run_source(files, alloc, how, source, tally, console)? {
             Some(after) => tally = after,
             None => return Ok(None),
         }
@@ -319,26 +303,18 @@ fn last_line(alloc: Global, found: Option<Tally>) -> Result<Vec<u8>, AllocError>
 }
 
 /// Writes the last line.
-fn write_last<W: Write>(
+fn write_last<R: Read, W: Write, E: Write>(
     alloc: Global,
     found: Option<Tally>,
-    writer: &mut W,
+    console: &mut Console<R, W, E>,
 ) -> Result<(), ProgramFault>
-    ensures ok { OnOk result (Appends (W.contents writer.old) (W.contents writer.new) (spec.last_line found)) }
-    ensures err { IfErr result (λ fault.
-        IsCut (stream_fault fault) (W.contents writer.old) (W.contents writer.new) (spec.last_line found)) }
+    ensures ok { OnOk result (Writes (spec.last_line found) console.old console.new) }
+    ensures err { IfErr result (λ fault. CutsWriting (stream_fault fault) (spec.last_line found) console.old console.new) }
 {
-    let line = last_line(alloc, found)?;
-    write_line(writer, line.as_slice())
-}
-
-/// Writes the first line.
-fn write_first<W: Write>(writer: &mut W) -> Result<(), ProgramFault>
-    ensures ok { OnOk result (Appends (W.contents writer.old) (W.contents writer.new) spec.version_line) }
-    ensures err { IfErr result (λ fault.
-        IsCut (stream_fault fault) (W.contents writer.old) (W.contents writer.new) spec.version_line) }
-{
-    write_line(writer, version_line())
+    match last_line(alloc, found) {
+        Ok(line) => console.write(line.as_slice()),
+        Err(_) => Err(ProgramFault::MEMORY),
+    }
 }
 
 /// The exit status.
@@ -352,25 +328,20 @@ fn status_of(found: Option<Tally>) -> u8
     }
 }
 
-/// Runs the tests of sources, and returns the exit status.
+/// Runs the tests of sources, between the first line and the last one, and returns the exit status.
+#[tactic(auto, unfolding(crate::specs::Testing::StopsSources))]
 pub fn test_sources<F: Folder, R: Read, W: Write, E: Write>(
     files: &F,
     alloc: Global,
     how: Testing,
     sources: &[Source],
-    reader: &mut R,
-    writer: &mut W,
-    errors: &mut E,
+    console: &mut Console<R, W, E>,
 ) -> Result<u8, ProgramFault>
-    ensures finished { IfOk result (spec.TestsSources (F.opens files.now) how sources.now
-        (record { reads = R.remaining reader.old; holds = W.contents writer.old; tells = E.contents errors.old })
-        (record { reads = R.remaining reader.new; holds = W.contents writer.new; tells = E.contents errors.new })) }
-    ensures stopped { IfErr result (λ fault. spec.StopsSources (F.opens files.now) (stream_fault fault) how sources.now
-        (record { reads = R.remaining reader.old; holds = W.contents writer.old; tells = E.contents errors.old })
-        (record { reads = R.remaining reader.new; holds = W.contents writer.new; tells = E.contents errors.new })) }
+    ensures finished { IfOk result (spec.TestsSources (F.opens files.now) how sources.now console.old console.new) }
+    ensures stopped { IfErr result (λ fault. spec.StopsSources (F.opens files.now) (stream_fault fault) how sources.now console.old console.new) }
 {
-    write_first(writer)?;
-    let found = run_all(files, alloc, how, sources, reader, writer, errors)?;
-    write_last(alloc, found, writer)?;
+    console.write(version_line())?;
+    let found = run_all(files, alloc, how, sources, console)?;
+    write_last(alloc, found, console)?;
     Ok(status_of(found))
 }

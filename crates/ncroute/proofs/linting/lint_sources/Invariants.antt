@@ -5,6 +5,4 @@ use Rattle.ncroute.proofs.linting.lint_sources.Given as goal
 -- the sources so far were linted, and something was said of one of them or of none
 abbrev pub invariant-loop-source : goal.invariant-loop-source
 invariant-loop-source g l = DoesFirst (LintsOne (g.F.Folder.opens l.files) l.how) l.sources l.source-index
-    (record { reads = g.R.Read.remaining l.fn.reader; holds = g.W.Write.contents l.fn.writer; tells = g.E.Write.contents l.fn.errors })
-    (record { reads = g.R.Read.remaining l.reader; holds = g.W.Write.contents l.writer; tells = g.E.Write.contents l.errors })
-    l.is_any_said
+    l.fn.console l.console l.is_any_said

@@ -4,6 +4,4 @@ use Rattle.ncroute.proofs.testing.run_all.Given as goal
 -- the tests of the sources so far were run
 abbrev pub invariant-loop-source : goal.invariant-loop-source
 invariant-loop-source g l = RunsFirst (g.F.Folder.opens l.files) l.how l.sources l.source-index
-    (record { reads = g.R.Read.remaining l.fn.reader; holds = g.W.Write.contents l.fn.writer; tells = g.E.Write.contents l.fn.errors })
-    (record { reads = g.R.Read.remaining l.reader; holds = g.W.Write.contents l.writer; tells = g.E.Write.contents l.errors })
-    l.tally
+    l.fn.console l.console l.tally

@@ -1,8 +1,0 @@
-use Rattle.ncroute.proofs.Stopped.{stopped_sources}
-use Rattle.ncroute.proofs.comparing.compare_sources.Goals as goal
-
-pub returns-in-Ok-clause-stopped : goal.returns-in-Ok-clause-stopped
-returns-in-Ok-clause-stopped g c =
-    stopped_sources (g.F.Folder.opens c.args.files.now) c.args.how _ _ c.compare_with.result c.args.old.now c.args.new.now
-    c.name_of-name.result.now c.as_slice-text.result.now c.in-Ok.text.items _ c.name_of-name.ensures c.as_slice-text.ensures.value
-    c.in-Ok.ensures.read c.compare_with.ensures.stopped

@@ -1,0 +1,101 @@
+//! The streams of the program.
+ghost use Rattle.std.specs.Prelude.{◌<◌, ◌^◌, IfErr, OnErr, OnOk};
+ghost use Rattle.filter_commands.specs.Faults.{stream_fault};
+ghost use Rattle.ncroute.specs.Ending.{fault_line};
+ghost use Rattle.ncroute.specs.Reading.{IsLoaded, IsWithin};
+ghost use Rattle.ncroute.specs.Streaming.{CutsTelling, CutsWriting, Tells, TellsFront, Writes};
+
+use crate::ending::report_fault;
+use crate::texts::{Folder, read_source, tell_unread, write_line};
+use command_line::Source;
+use filter_commands::ProgramFault;
+use line_protocol::StreamFault;
+use std::alloc::Global;
+use std::io::{Read, Write};
+use std::marker::Model;
+
+/// What came of reading a source.
+#[derive(Drop)]
+pub enum Loaded {
+    /// Its text.
+    Text(Vec<u8>),
+    /// It cannot be read, which people were told.
+    Skipped,
+    /// This fault kept it from being read or told of.
+    Stopped(ProgramFault),
+}
+
+/// What the program reads, what it writes, and where it tells people of faults and refusals. A contract sees it as `Streams`.
+#[derive(Drop)]
+pub struct Console<R: Read, W: Write, E: Write> {
+    /// Standard input.
+    pub reader: R,
+    /// Standard output.
+    pub writer: W,
+    /// Standard error.
+    pub errors: E,
+}
+
+impl<R: Read, W: Write, E: Write> Model for Console<R, W, E> {
+    ghost use Rattle.ncroute.specs.Streaming.{Streams};
+
+    ghost Value = { Streams };
+
+    ghost view = { λ c. record { reads = R.remaining c.reader; holds = W.contents c.writer; tells = E.contents c.errors } };
+}
+
+impl<R: Read, W: Write, E: Write> Console<R, W, E> {
+    /// Reads a source: all of it, or one byte more than the limit. One that cannot be read is told of.
+    pub fn read<F: Folder>(
+        &mut self,
+        files: &F,
+        alloc: Global,
+        source: &Source,
+        limit: usize,
+    ) -> Loaded
+        requires { limit < 2 ^ 32 }
+        ensures loaded { IsLoaded (F.opens files.now) limit source.now result self.old self.new }
+        ensures within { IsWithin limit result }
+    {
+        match read_source(files, alloc, source, limit, &mut self.reader) {
+            Ok(text) => Loaded::Text(text),
+            Err(why) => match tell_unread(alloc, &mut self.errors, source, why) {
+                Ok(()) => Loaded::Skipped,
+                Err(fault) => Loaded::Stopped(fault),
+            },
+        }
+    }
+
+    /// Writes a text.
+    pub fn write(&mut self, text: &[u8]) -> Result<(), ProgramFault>
+        ensures ok { OnOk result (Writes text.now self.old self.new) }
+        ensures err { IfErr result (λ fault. CutsWriting (stream_fault fault) text.now self.old self.new) }
+    {
+        match write_line(&mut self.writer, text) {
+            Ok(()) => Ok(()),
+            Err(fault) => Err(fault),
+        }
+    }
+
+    /// Tells people a text.
+    pub fn tell(&mut self, text: &[u8]) -> Result<(), ProgramFault>
+        ensures ok { OnOk result (Tells text.now self.old self.new) }
+        ensures err { IfErr result (λ fault. CutsTelling (stream_fault fault) text.now self.old self.new) }
+    {
+        match write_line(&mut self.errors, text) {
+            Ok(()) => Ok(()),
+            Err(fault) => Err(fault),
+        }
+    }
+
+    /// Tells people of a fault. The error is that of standard error, which did not take the whole line.
+    pub fn report(&mut self, fault: ProgramFault) -> Result<(), StreamFault>
+        ensures ok { OnOk result (Tells (fault_line fault) self.old self.new) }
+        ensures err { OnErr result (TellsFront (fault_line fault) self.old self.new) }
+    {
+        match report_fault(&mut self.errors, fault) {
+            Ok(()) => Ok(()),
+            Err(fault) => Err(fault),
+        }
+    }
+}
