@@ -1,5 +1,5 @@
 pub mod Joined
-pub mod Compared
+pub mod Comparisons
 pub mod FirstLine
 pub mod MoreTests
 pub mod Meant

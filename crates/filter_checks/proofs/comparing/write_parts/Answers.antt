@@ -1,7 +1,7 @@
 use Rattle.std.proofs.Common.{◌∙◌, ap}
 use Rattle.filter_commands.specs.declared.fault.ProgramFault.TheVariants.{Stream}
 use Rattle.filter_source.proofs.Refused.{of_error}
-use Rattle.filter_checks.proofs.Compared.{parts_cut}
+use Rattle.filter_checks.proofs.Comparisons.{parts_cut}
 use Rattle.filter_checks.specs.PartLines.{parts_text}
 use Rattle.filter_checks.proofs.comparing.write_parts.Goals as goal
 
