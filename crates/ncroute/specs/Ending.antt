@@ -1,5 +1,5 @@
 -- How a run of the program ends. (This project's own choice.)
-use Rattle.std.specs.Prelude.{◌≡◌, ◌==◌, ℕ, Bool, List, [], ◌∷◌, ◌++◌, codes, if◌then◌else◌}
+use Rattle.std.specs.Prelude.{◌==◌, ℕ, Bool, List, [], ◌∷◌, ◌++◌, codes, if◌then◌else◌}
 use Rattle.filter_commands.specs.Faults.{program_code}
 use Rattle.filter_commands.specs.declared.fault.ProgramFault.{ProgramFault}
 

@@ -63,7 +63,39 @@ fn tell_fault<R: Read, W: Write, E: Write>(
     }
 }
 
-/// Runs the tests of a file by the filter of a text, and returns how many were run by then, or nothing where the filter is refused.
+/// Runs the tests of a file by the filter of a text.
+#[tactic(auto, unfolding(crate::specs::Testing::Tests, crate::specs::Testing::CutsTests))]
+fn test<W: Write, E: Write>(
+    alloc: Global,
+    how: Testing,
+    name: &[u8],
+    file: &TestFile,
+    filter: &NamedText<'_>,
+    tally: Tally,
+    writer: &mut W,
+    errors: &mut E,
+) -> Result<Tested, ProgramFault>
+    requires { tally.count + length file.now.tests.items < 2 ^ 64 }
+    ensures finished { IfOk result (spec.Tests how name.now (file_view file.now) (named filter.now) tally
+        (W.contents writer.old) (W.contents writer.new) (E.contents errors.old) (E.contents errors.new)) }
+    ensures cut { IfErr result (λ fault. spec.CutsTests (stream_fault fault) how name.now (file_view file.now) (named filter.now) tally
+        (W.contents writer.old) (W.contents writer.new) (E.contents errors.old) (E.contents errors.new)) }
+{
+    let (before, limit, is_explained) = (tally.count, how.limit, how.is_explained);
+    test_named(
+        alloc,
+        before,
+        limit,
+        is_explained,
+        name,
+        file,
+        filter,
+        writer,
+        errors,
+    )
+}
+
+/// The same of the streams of the program. Returns how many were run by then, or nothing where the filter is refused.
 fn run_counted<R: Read, W: Write, E: Write>(
     alloc: Global,
     how: Testing,
@@ -78,14 +110,13 @@ fn run_counted<R: Read, W: Write, E: Write>(
     ensures stopped { IfErr result (λ fault. spec.StopsCounted (stream_fault fault) how name.now (file_view file.now) (named filter.now) tally
         console.old console.new) }
 {
-    match test_named(
+    match test(
         alloc,
-        tally.count,
-        how.limit,
-        how.is_explained,
+        how,
         name,
         file,
         filter,
+        tally,
         &mut console.writer,
         &mut console.errors,
     ) {

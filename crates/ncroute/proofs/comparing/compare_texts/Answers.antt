@@ -1,3 +1,4 @@
+-- A comparison of two texts, where it was made and where a fault cut it.
 use Rattle.std.proofs.Common.{refl}
 use Rattle.ncroute.proofs.comparing.compare_texts.Goals as goal
 use Rattle.ncroute.proofs.comparing.compare_texts.Goals.{in-Ok, in-Err}

@@ -1,3 +1,4 @@
+-- A filter that was not read is told, or a fault keeps it from being told.
 use Rattle.std.proofs.Common.{refl}
 use Rattle.ncroute.proofs.filters.read_given.Goals as goal
 use Rattle.ncroute.proofs.filters.read_given.Goals.{in-Ok-tell_unread, in-Err-tell_unread}

@@ -1,3 +1,4 @@
+-- The warnings of a text, where they were written and where a fault cut them.
 use Rattle.std.proofs.Common.{refl}
 use Rattle.ncroute.proofs.linting.lint_text.Goals as goal
 use Rattle.ncroute.proofs.linting.lint_text.Goals.{in-Ok, in-Err}

@@ -1,3 +1,4 @@
+-- The warnings of a text that was checked, where they were told and where a fault cut them.
 use Rattle.std.proofs.Common.{refl}
 use Rattle.ncroute.proofs.linting.warn.Goals as goal
 use Rattle.ncroute.proofs.linting.warn.Goals.{in-Ok, in-Err}
