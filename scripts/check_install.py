@@ -146,7 +146,8 @@ def bash_differs(prefix):
         (["ncroute", "filter", "--size", "16", "examples/no"], ["examples/no_bogons.filter"]),
         (["ncroute", "diff", "examples/no"], ["examples/no_bogons.filter"]),
         (["ncroute", "test", "examples/customer_list.t"], ["examples/customer_list.test"]),
-        (["ncroute", "eval", "--e"], []),
+        (["ncroute", "eval", "--e"], ["--explain"]),
+        (["ncroute", "rewrite", "--e"], []),
     )
     for words, wanted in rows:
         if (found := completed(prefix, words)) != wanted:
