@@ -5,7 +5,7 @@ use Rattle.std.proofs.lemmas.Bool.{ne_eqb}
 use Rattle.std.proofs.lemmas.List.{append-nil}
 use Rattle.code_file.specs.declared.fault.FileFault.{FileFault}
 use Rattle.code_file.specs.declared.fault.FileFault.TheVariants as fault
-use Rattle.code_file.specs.Reading.{Format, ◌>>=◌, times, Rest, read, whole, ReadsInto}
+use Rattle.code_file.specs.Reading.{Format, ◌>>=◌, times, Rest, read, whole, Reads, ReadsInto}
 use Rattle.code_file.specs.Reading.Format.{Done}
 use Rattle.code_file.proofs.Formats.{and_then, read_then}
 
@@ -20,6 +20,12 @@ pub reads_no_more : {A B : Type 0} (s : Format A) (later : A → Format B) (rest
 reads_no_more {A} s later rest found h = read_then s later rest ∙ ap (λ (r : Result (A × Rest) FileFault). and_then r later) h
 
 -- after a first format that was read, a reader of the second is one of both
+pub reads_both : {A B X : Type 0} (view : X → B) (s : Format A) (later : A → Format B) (rest left new : Rest) (x : A)
+    (r : Result X FileFault) → read s rest ≡ Ok (x, left) → Reads view (later x) left new r → Reads view (s >>= later) rest new r
+reads_both view s later rest left new x (Ok y) h given = reads_on s later rest left x h ∙ given
+reads_both view s later rest left new x (Err found) h given = reads_on s later rest left x h ∙ given
+
+-- the same of a reader that needs memory, which may be refused
 pub reads_into_both : {A B X : Type 0} (view : X → B) (s : Format A) (later : A → Format B) (rest left new : Rest) (x : A)
     (r : Result X FileFault) → read s rest ≡ Ok (x, left) → ReadsInto view (later x) left new r →
     ReadsInto view (s >>= later) rest new r

@@ -2,10 +2,10 @@
 
 ghost use Rattle.std.specs.Prelude.{◌≡◌, ◌+◌, ◌<◌, ◌≤◌, true, false, length, take, MatchOption, MatchResult, IfOk};
 ghost use Rattle.filter_code.specs.CodeView.{HasMask};
-ghost use Rattle.code_file.specs.Fields.{is_prefix, is_pattern, is_range};
+ghost use Rattle.code_file.specs.Fields.{is_prefix, is_pattern, is_range, form_of};
 ghost use Rattle.code_file.specs.Fields.FieldKind.{Mark, Locals, Sets, Patterns, IntSets, Ranges, Instructions, WordOperand, NameOperand, BitsOperand, SkipOperand};
 ghost use Rattle.code_file.specs.Reading.{past, Reads, a_number, prefix_of, pattern_of, range_of, a_pattern, a_range, a_prefix, a_truth};
-ghost use Rattle.code_file.specs.Reading.{an_instruction, a_version, a_mark};
+ghost use Rattle.code_file.specs.Reading.{a_form, an_operand, an_instruction, a_version, a_mark};
 
 use crate::fault::FileFault;
 use crate::version::Version;
@@ -262,45 +262,84 @@ impl<'a> Reader<'a> {
         }
     }
 
+    /// The opcode of an instruction in a file of this version: the instruction that has it, with a blank operand.
+    fn form(&mut self, version: Version) -> Result<Instr, FileFault>
+        ensures { Reads (λ i. i) (a_form version) self.old self.new result }
+    {
+        let at = self.at;
+        match form_with(version, self.field(1)?[0]) {
+            Some(form) => Ok(form),
+            None => Err(FileFault::UnknownOpcode(at)),
+        }
+    }
+
+    /// The operand of an instruction: the instruction with it, in place of its own.
+    fn operand(&mut self, form: Instr) -> Result<Instr, FileFault>
+        ensures value { Reads (λ i. i) (an_operand form) self.old self.new result }
+        ensures mask { IfOk result HasMask }
+    {
+        match form {
+            Instr::Int(_) => Ok(Instr::Int(self.word()?)),
+            Instr::Bool(_) => Ok(Instr::Bool(self.truth()?)),
+            Instr::Ip(_) => Ok(Instr::Ip(Ip(self.word()?))),
+            Instr::Prefix(_) => Ok(Instr::Prefix(self.prefix()?)),
+            Instr::Load(_) => Ok(Instr::Load(self.name()?)),
+            Instr::Store(_) => Ok(Instr::Store(self.name()?)),
+            Instr::Mask(_) => Ok(Instr::Mask(self.bits()?)),
+            Instr::Member(_) => Ok(Instr::Member(self.name()?)),
+            Instr::InSet(_) => Ok(Instr::InSet(self.name()?)),
+            Instr::Jump(_) => Ok(Instr::Jump(self.skip()?)),
+            Instr::JumpIfNot(_) => Ok(Instr::JumpIfNot(self.skip()?)),
+            _ => Ok(form),
+        }
+    }
+
     /// The next instruction of a file of this version: its opcode, and what is read after it.
-    #[tactic(auto, unfolding(crate::specs::Fields::form_of))]
     pub fn instruction(&mut self, version: Version) -> Result<Instr, FileFault>
         ensures value { Reads (λ i. i) (an_instruction version) self.old self.new result }
         ensures mask { IfOk result HasMask }
     {
-        let at = self.at;
-        match self.field(1)?[0] {
-            0x01 => Ok(Instr::Int(self.word()?)),
-            0x02 => Ok(Instr::Bool(self.truth()?)),
-            0x03 => Ok(Instr::Ip(Ip(self.word()?))),
-            0x04 => Ok(Instr::Prefix(self.prefix()?)),
-            0x10 => Ok(Instr::Load(self.name()?)),
-            0x11 => Ok(Instr::Store(self.name()?)),
-            0x12 => Ok(Instr::Net),
-            0x13 => Ok(Instr::Metric),
-            0x14 => Ok(Instr::Received),
-            0x15 => Ok(Instr::SetMetric),
-            0x20 => Ok(Instr::Add),
-            0x21 => Ok(Instr::Sub),
-            0x22 => Ok(Instr::Mul),
-            0x23 => Ok(Instr::Div),
-            0x24 => Ok(Instr::Max),
-            0x30 => Ok(Instr::Eq),
-            0x31 => Ok(Instr::Lt),
-            0x32 => Ok(Instr::Le),
-            0x33 => Ok(Instr::Not),
-            0x40 => Ok(Instr::Addr),
-            0x41 => Ok(Instr::Len),
-            0x42 => Ok(Instr::Mask(self.bits()?)),
-            0x50 => Ok(Instr::Within),
-            0x51 => Ok(Instr::Member(self.name()?)),
-            0x52 if version.has_int_sets() => Ok(Instr::InSet(self.name()?)),
-            0x60 => Ok(Instr::Jump(self.skip()?)),
-            0x61 => Ok(Instr::JumpIfNot(self.skip()?)),
-            0x70 => Ok(Instr::Accept),
-            0x71 => Ok(Instr::Reject),
-            _ => Err(FileFault::UnknownOpcode(at)),
-        }
+        let form = self.form(version)?;
+        self.operand(form)
+    }
+}
+
+/// The instruction of a version with this opcode, with a blank operand. None if and only if there is none.
+#[tactic(auto, unfolding(crate::specs::Fields::form_of))]
+fn form_with(version: Version, opcode: u8) -> Option<Instr>
+    ensures { result ≡ form_of version opcode }
+{
+    match opcode {
+        0x01 => Some(Instr::Int(0)),
+        0x02 => Some(Instr::Bool(false)),
+        0x03 => Some(Instr::Ip(Ip(0))),
+        0x04 => Some(Instr::Prefix(Prefix::new(Ip(0), 0)?)),
+        0x10 => Some(Instr::Load(0)),
+        0x11 => Some(Instr::Store(0)),
+        0x12 => Some(Instr::Net),
+        0x13 => Some(Instr::Metric),
+        0x14 => Some(Instr::Received),
+        0x15 => Some(Instr::SetMetric),
+        0x20 => Some(Instr::Add),
+        0x21 => Some(Instr::Sub),
+        0x22 => Some(Instr::Mul),
+        0x23 => Some(Instr::Div),
+        0x24 => Some(Instr::Max),
+        0x30 => Some(Instr::Eq),
+        0x31 => Some(Instr::Lt),
+        0x32 => Some(Instr::Le),
+        0x33 => Some(Instr::Not),
+        0x40 => Some(Instr::Addr),
+        0x41 => Some(Instr::Len),
+        0x42 => Some(Instr::Mask(0)),
+        0x50 => Some(Instr::Within),
+        0x51 => Some(Instr::Member(0)),
+        0x52 if version.has_int_sets() => Some(Instr::InSet(0)),
+        0x60 => Some(Instr::Jump(0)),
+        0x61 => Some(Instr::JumpIfNot(0)),
+        0x70 => Some(Instr::Accept),
+        0x71 => Some(Instr::Reject),
+        _ => None,
     }
 }
 
