@@ -61,7 +61,7 @@ fn emit_target(typed: &Typed, at: usize, target: &Target, out: &mut Output)
     ensures places { Notes out.old out.new (target_places at target.now) }
 {
     match target {
-        Target::Name(name) => out.put(at, Instr::Store(typed.number_of(name))),
+        Target::Name(name) => out.put(at, Instr::Store(typed.number_of(name.as_slice()))),
         Target::RipMetric => emit_metric(at, out),
         Target::Net => {}
     }

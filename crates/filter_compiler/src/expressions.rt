@@ -246,7 +246,12 @@ pub(crate) fn emit(typed: &Typed, expr: &Expr, sets: SetNumbers, out: &mut Outpu
         Expr::Address(at, address) => emit_one(*at, Instr::Ip(*address), sets, out),
         Expr::Prefix(at, prefix) => emit_one(*at, Instr::Prefix(*prefix), sets, out),
         Expr::Truth(at, truth) => emit_one(*at, Instr::Bool(*truth), sets, out),
-        Expr::Name(at, name) => emit_one(*at, Instr::Load(typed.number_of(name)), sets, out),
+        Expr::Name(at, name) => emit_one(
+            *at,
+            Instr::Load(typed.number_of(name.as_slice())),
+            sets,
+            out,
+        ),
         Expr::Attribute(at, attribute) => emit_one(*at, attribute_instr(*attribute), sets, out),
         Expr::Defined(at, _) => emit_one(*at, Instr::Bool(true), sets, out),
         Expr::Group(_, inner) => emit(typed, inner, sets, out),

@@ -1,5 +1,6 @@
 -- What callers cite.
 pub mod Codes
+pub mod Names
 pub mod Placed
 pub mod Places
 pub mod Syntax

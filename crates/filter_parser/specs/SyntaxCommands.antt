@@ -76,7 +76,7 @@ view_part_step part = (view_label part.0, commands_of part.1.items)
 
 -- what an assignment sets, without its place
 abbrev pub view_target : Target → TargetView
-view_target (target.Name text) = to_name text.items
+view_target (target.Name text) = to_name text
 view_target target.RipMetric = to_metric
 view_target target.Net = to_net
 

@@ -296,7 +296,7 @@ fn parse_variable_assignment<'a>(
     ensures { ReadsOn 1 (Some name.now.from ∷ []) view_command command_kept
         (spec.assign_with (expr_at depth) (spec.target_of input.entry.source.now.text.now name.now)) rest.entry result }
 {
-    let text = input.bytes(alloc, name)?;
+    let text = input.name(alloc, name)?;
     parse_assignment(alloc, depth, name.from, Target::Name(text), rest)
 }
 

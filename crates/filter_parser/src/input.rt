@@ -7,6 +7,7 @@ ghost use Rattle.filter_parser.specs.declared.fault.ParseFault.TheVariants.{Memo
 
 use crate::expected::Expected;
 use crate::fault::ParseFault;
+use crate::tree::Name;
 use filter_tokens::{Symbol, Token, TokenFault, TokenKind};
 use prefix_patterns::Prefix;
 use std::alloc::{AllocError, Global};
@@ -221,5 +222,12 @@ impl<'a> Input<'a> {
         ensures { IfOk result (λ v. v.items ≡ lexemes.covered self.entry.source.now.text.now token.now) }
     {
         Vec::from_slice(alloc, self.covered(token))
+    }
+
+    /// The name that a token covers.
+    pub fn name(self, alloc: Global, token: &Token) -> Result<Name, AllocError>
+        ensures { IfOk result (λ name. name ≡ lexemes.covered self.entry.source.now.text.now token.now) }
+    {
+        Name::from_slice(alloc, self.covered(token))
     }
 }

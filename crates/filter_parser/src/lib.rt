@@ -22,6 +22,6 @@ pub use expected::Expected;
 pub use fault::{ParseFault, TEXT_LIMIT};
 pub use text::parse;
 pub use tree::{
-    Attribute, Command, Decl, Expr, Filter, Kind, Label, MaskLength, Members, Membership, Op, Set,
-    SetPattern, SetRange, Suffix, Target,
+    Attribute, Command, Decl, Expr, Filter, Kind, Label, MaskLength, Members, Membership, Name, Op,
+    Set, SetPattern, SetRange, Suffix, Target,
 };

@@ -4,6 +4,7 @@ mod decl;
 mod expr;
 mod filter;
 mod mask_length;
+mod name;
 mod op;
 mod set;
 
@@ -12,5 +13,6 @@ pub use decl::{Decl, Kind};
 pub use expr::{Attribute, Expr};
 pub use filter::Filter;
 pub use mask_length::MaskLength;
+pub use name::Name;
 pub use op::{Membership, Op, Suffix};
 pub use set::{Members, Set, SetPattern, SetRange};

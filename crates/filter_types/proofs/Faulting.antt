@@ -32,7 +32,7 @@ module _ (vs : List DeclView) (x : Expr) (why : TypeFault) where
   of_one_operand form z y is inside same h =
       HasFault.of_operand form z is inside (subst (λ (w : Expr). HasFault vs w why) same h)
 
-  pub name_fault : (at : ℕ) (name : Vec ℕ Global) (text : List ℕ) → x ≡ e.Name at name → text ≡ name.items
+  pub name_fault : (at : ℕ) (name text : List ℕ) → x ≡ e.Name at name → text ≡ name
       → (kind_named vs text ≡ None) × (why ≡ fault.UnknownName at) → HasFault vs x why
   name_fault at name text is same h =
       HasFault.own (Expr-F.Name at name) (is ∙ sym (e.rolls-Name at name)) (ap (kind_named vs) (sym same) ∙ h.0, h.1)

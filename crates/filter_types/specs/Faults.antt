@@ -67,7 +67,7 @@ operands _ = []
 
 -- an expression has this fault of its own
 abbrev pub HasOwnFault : List DeclView → Expr-F Expr → TypeFault → Type 0
-HasOwnFault variables (Expr-F.Name at text) why = (kind_named variables text.items ≡ None) × (why ≡ fault.UnknownName at)
+HasOwnFault variables (Expr-F.Name at text) why = (kind_named variables text ≡ None) × (why ≡ fault.UnknownName at)
 HasOwnFault variables (Expr-F.Not at inner) why =
     IsUnfit variables (view inner.value) (expr_place inner.value) (λ k. negated k ≡ None) (λ left. wrong_kind left expected.Bool) why
 HasOwnFault variables (Expr-F.Chain first more) why = IsRefusedOperator variables first.value more.items why
@@ -87,7 +87,7 @@ pub data HasFault (variables : List DeclView) : Expr → TypeFault → Type 0 wh
 
 -- what is assigned at this place is no variable, or `net`
 abbrev pub IsTargetFault : List DeclView → ℕ → Target → TypeFault → Type 0
-IsTargetFault variables at (target.Name text) why = (kind_named variables text.items ≡ None) × (why ≡ fault.UnknownName at)
+IsTargetFault variables at (target.Name text) why = (kind_named variables text ≡ None) × (why ≡ fault.UnknownName at)
 IsTargetFault variables at target.Net why = why ≡ fault.NetAssigned at
 IsTargetFault variables at target.RipMetric why = ⊥
 

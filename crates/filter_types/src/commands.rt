@@ -26,7 +26,7 @@ fn target_kind(at: usize, target: &Target, variables: &[Decl]) -> Result<Kind, T
     ensures fault { IfErr result (IsTargetFault (map view_decl variables.now) at target.now) }
 {
     match target {
-        Target::Name(name) => resolve(at, name, variables),
+        Target::Name(name) => resolve(at, name.as_slice(), variables),
         Target::RipMetric => Ok(attribute_kind(Attribute::RipMetric)),
         Target::Net => Err(TypeFault::NetAssigned(at)),
     }

@@ -66,7 +66,7 @@ pub(crate) fn kind_of(expr: &Expr, variables: &[Decl]) -> Result<Kind, TypeFault
         Expr::Address(_, _) => Ok(Kind::Ip),
         Expr::Prefix(_, _) => Ok(Kind::Prefix),
         Expr::Truth(_, _) | Expr::Defined(_, _) => Ok(Kind::Bool),
-        Expr::Name(at, name) => resolve(*at, name, variables),
+        Expr::Name(at, name) => resolve(*at, name.as_slice(), variables),
         Expr::Attribute(_, attribute) => Ok(attribute_kind(*attribute)),
         Expr::Group(_, inner) => kind_of(inner, variables),
         Expr::Not(_, inner) => {

@@ -2,13 +2,14 @@ ghost use Rattle.std.specs.Prelude.{◌≡◌};
 ghost use Rattle.filter_parser.specs.Places.{command_place};
 
 use crate::tree::expr::Expr;
+use crate::tree::name::Name;
 use crate::tree::set::SetRange;
 
 /// What an assignment sets.
 #[derive(Debug, Drop)]
 pub enum Target {
     /// A variable.
-    Name(Vec<u8>),
+    Name(Name),
     /// `rip_metric`
     RipMetric,
     /// `net`, which the grammar has and the rules of kinds refuse.

@@ -1,6 +1,7 @@
 ghost use Rattle.std.specs.Prelude.{◌≡◌};
 ghost use Rattle.filter_parser.specs.Places.{expr_place};
 
+use crate::tree::name::Name;
 use crate::tree::op::{Membership, Op, Suffix};
 use crate::tree::set::Set;
 use prefix_patterns::{Ip, Prefix};
@@ -30,7 +31,7 @@ pub enum Expr {
     /// `true` or `false`.
     Truth(usize, bool),
     /// A variable.
-    Name(usize, Vec<u8>),
+    Name(usize, Name),
     /// `net` or `rip_metric`.
     Attribute(usize, Attribute),
     /// `defined(net)` or `defined(rip_metric)`.

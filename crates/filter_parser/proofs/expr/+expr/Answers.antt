@@ -37,6 +37,23 @@ parse_operators-returns-in-Err t c = record {
       c.in-Err.ensures.within len (c.in-Some.ensures.within len (c.loop-op.invariant.within len start));
 }
 
+-- memory was refused
+pub parse_operators-returns-in_err-more : goal.parse_operators-returns-in_err-more
+parse_operators-returns-in_err-more t c = record {
+  reads = search rules;
+  shorter = search rules;
+  placed = search rules;
+  within = search rules;
+}
+
+pub parse_operators-returns-in_err-push-in-Ok : goal.parse_operators-returns-in_err-push-in-Ok
+parse_operators-returns-in_err-push-in-Ok t c = record {
+  reads = search rules;
+  shorter = search rules;
+  placed = search rules;
+  within = search rules;
+}
+
 pub parse_operators-returns : goal.parse_operators-returns
 parse_operators-returns t c = record {
   reads = rw (c.in_ok-chain.ensures.is, c.loop-op.invariant.kept)

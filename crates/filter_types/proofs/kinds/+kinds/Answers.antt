@@ -63,14 +63,14 @@ pub kind_of-returns-in-Name-clause-fault : goal.kind_of-returns-in-Name-clause-f
 kind_of-returns-in-Name-clause-fault t c =
     let vs = map view_decl c.args.variables.now in
     err_map c.resolve.result _ (HasFault vs c.args.expr.now)
-    (λ why h. name_fault vs c.args.expr.now why c.in-Name.at c.in-Name.name c.deref.result.now c.in-Name.is c.deref.ensures.value h)
+    (λ why h. name_fault vs c.args.expr.now why c.in-Name.at c.in-Name.name c.as_slice.result.now c.in-Name.is c.as_slice.ensures h)
     c.resolve.ensures.fault
 
 pub kind_of-returns-in-Group-clause-fault : goal.kind_of-returns-in-Group-clause-fault
 kind_of-returns-in-Group-clause-fault t c =
     let vs = map view_decl c.args.variables.now in
     err_map c.kind_of.result _ (HasFault vs c.args.expr.now)
-    (λ why h. group_operand vs c.args.expr.now why c.in-Group.field-0 c.in-Group.inner c.deref-in-Group.result.now c.in-Group.is c.deref-in-Group.ensures h)
+    (λ why h. group_operand vs c.args.expr.now why c.in-Group.field-0 c.in-Group.inner c.deref.result.now c.in-Group.is c.deref.ensures h)
     c.kind_of.ensures.fault
 
 pub kind_of-returns-in_err-kind-in-Not-clause-fault : goal.kind_of-returns-in_err-kind-in-Not-clause-fault
