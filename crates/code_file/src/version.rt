@@ -2,7 +2,7 @@ ghost use Rattle.std.specs.Prelude.{◌≡◌};
 ghost use Rattle.code_file.specs.Fields.{version_byte, version_of, has_int_sets};
 
 /// A version of the format. The last byte of the mark tells it.
-#[derive(Clone, Copy, Debug, PartialEq, Eq)]
+#[derive(Clone, Copy, PartialEq, Eq)]
 pub enum Version {
     /// The mark is `NCF1`. Such a file has no sets of ints, and no INSET.
     One,

@@ -28,7 +28,7 @@ use std::sync::Arc;
 ///
 /// A link is of two routers, and memory may be refused to the second after the first has changed. So where `link`, `cut` or
 /// `settle` fails, the routers are closed: what is left is a domain of no nodes.
-#[derive(Debug, Drop)]
+#[derive(Drop)]
 pub struct Routers {
     tables: Vec<Tables>,
 }

@@ -3,7 +3,7 @@
 use netchange_core::Message;
 
 /// A message on its way between two nodes.
-#[derive(Clone, Copy, Debug)]
+#[derive(Clone, Copy)]
 pub(crate) struct Sent {
     /// The node that sent it.
     pub(crate) from: u16,

@@ -13,7 +13,7 @@ use netchange_core::Tables;
 use std::alloc::Global;
 
 /// What was played.
-#[derive(Clone, Copy, Debug, PartialEq, Eq)]
+#[derive(Clone, Copy, PartialEq, Eq)]
 pub struct Settled {
     /// How many rounds had a message.
     pub rounds: u64,

@@ -6,7 +6,7 @@ ghost use Rattle.domain_routes.specs.Offers.{IsBetter, hop_of};
 use netchange_core::Via;
 
 /// The route of a node to a destination.
-#[derive(Clone, Copy, Debug, PartialEq, Eq)]
+#[derive(Clone, Copy, PartialEq, Eq)]
 pub struct Best {
     /// The distance, 0 to the size of the domain, which says that there is no route.
     pub dist: u16,

@@ -12,7 +12,7 @@ use std::sync::Arc;
 /// stay where there is no link.
 ///
 /// A contract sees it as a `PeerView`.
-#[derive(Debug, Drop)]
+#[derive(Drop)]
 pub(crate) struct Peer {
     linked: bool,
     imports: Option<Arc<Verified>>,

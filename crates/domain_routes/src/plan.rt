@@ -20,7 +20,7 @@ use std::sync::Arc;
 /// Nodes are numbered from 0. A link is mutual, and no node is linked to itself. A filter stays where there is no link, or no
 /// link any more. A contract sees a plan as a `PlanView`. It keeps a place for each two nodes, so that nothing but making one
 /// needs memory.
-#[derive(Debug, Drop)]
+#[derive(Drop)]
 pub struct Plan {
     opening: Opening,
     rows: Vec<Row>,

@@ -10,7 +10,7 @@ use std::marker::Model;
 use std::sync::Arc;
 
 /// Each node as one node has it, by number.
-#[derive(Debug, Drop)]
+#[derive(Drop)]
 pub(crate) struct Row {
     peers: Vec<Peer>,
 }

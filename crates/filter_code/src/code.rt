@@ -13,7 +13,7 @@ use std::marker::Model;
 /// within the limits.
 ///
 /// A contract sees a code as a `CodeView`.
-#[derive(Debug, Drop)]
+#[derive(Drop)]
 pub struct Code {
     locals: u8,
     sets: Vec<PatternSet>,

@@ -8,7 +8,7 @@ use std::fmt;
 /// One instruction of filter code.
 ///
 /// Each variant begins with what it pops and pushes, the top of the stack at the right.
-#[derive(Clone, Copy, Debug, PartialEq, Eq)]
+#[derive(Clone, Copy, PartialEq, Eq)]
 pub enum Instr {
     /// to int: the number itself.
     Int(u32),

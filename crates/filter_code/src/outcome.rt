@@ -4,7 +4,7 @@ ghost use Rattle.filter_code.specs.Outcomes.{fault_code};
 use std::fmt;
 
 /// What went wrong in a run.
-#[derive(Clone, Copy, Debug, PartialEq, Eq)]
+#[derive(Clone, Copy, PartialEq, Eq)]
 pub enum FaultKind {
     /// K1: the stack has too few operands.
     MissingOperand,
@@ -23,7 +23,7 @@ pub enum FaultKind {
 }
 
 /// How a run ends.
-#[derive(Clone, Copy, Debug, PartialEq, Eq)]
+#[derive(Clone, Copy, PartialEq, Eq)]
 pub enum Outcome {
     /// The route is accepted with this metric.
     Accept(u32),
@@ -34,7 +34,7 @@ pub enum Outcome {
 }
 
 /// How a run ends, and the number of its steps.
-#[derive(Clone, Copy, Debug, PartialEq, Eq)]
+#[derive(Clone, Copy, PartialEq, Eq)]
 pub struct Counted {
     /// How the run ends.
     pub outcome: Outcome,

@@ -9,7 +9,7 @@ use std::marker::Model;
 /// number of nodes, and the metric of what cannot be reached.
 ///
 /// A contract sees a route as a `RouteView`.
-#[derive(Clone, Copy, Debug)]
+#[derive(Clone, Copy)]
 pub struct Route {
     net: Prefix,
     metric: u32,

@@ -10,7 +10,7 @@ use std::marker::Model;
 /// A stack of at most 32 values, held in place: it allocates nothing.
 ///
 /// A contract sees a stack as the list of its values, the top first.
-#[derive(Debug, Drop)]
+#[derive(Drop)]
 pub struct Stack<T> {
     values: ArrayVec<T, STACK_LIMIT>,
 }

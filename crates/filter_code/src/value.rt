@@ -4,7 +4,7 @@ ghost use Rattle.filter_code.specs.Values.{kind_of};
 use prefix_patterns::{Ip, Prefix};
 
 /// The kind of a value.
-#[derive(Clone, Copy, Debug, PartialEq, Eq)]
+#[derive(Clone, Copy, PartialEq, Eq)]
 pub enum Kind {
     Int,
     Bool,
@@ -13,7 +13,7 @@ pub enum Kind {
 }
 
 /// A value of the machine.
-#[derive(Clone, Copy, Debug, PartialEq, Eq)]
+#[derive(Clone, Copy)]
 pub enum Value {
     /// An int: a number below 2^32.
     Int(u32),

@@ -6,7 +6,7 @@ ghost use Rattle.filter_diff.specs.Answers as spec;
 use crate::part::{Finding, Part};
 
 /// What a comparison comes to.
-#[derive(Clone, Copy, Debug, PartialEq, Eq)]
+#[derive(Clone, Copy, PartialEq, Eq)]
 pub enum Answer {
     /// There are no parts: the two codes have the same outcome on every route.
     Same,

@@ -23,7 +23,7 @@ use prefix_patterns::{Pattern, Prefix};
 use std::alloc::{AllocError, Global};
 
 /// A route on which a code does not end as is expected.
-#[derive(Clone, Copy, Debug)]
+#[derive(Clone, Copy)]
 pub struct Counterexample {
     /// The prefix.
     pub prefix: Prefix,
@@ -34,7 +34,7 @@ pub struct Counterexample {
 }
 
 /// What is found of an expectation.
-#[derive(Clone, Copy, Debug)]
+#[derive(Clone, Copy)]
 pub enum Checked {
     /// The runs on all of its routes end so.
     Holds,

@@ -9,7 +9,7 @@ use prefix_patterns::{ADDRESS_LENGTH, Pattern, PatternSet, Prefix};
 
 /// A class of routes, and what is known of them: the first bits of the prefix, its length, the metric received or nothing of
 /// it, and the size.
-#[derive(Clone, Copy, Debug)]
+#[derive(Clone, Copy)]
 pub(crate) struct Class {
     pub(crate) known: Prefix,
     pub(crate) len: u8,

@@ -19,7 +19,7 @@ use std::alloc::{AllocError, Global};
 pub const CLASS_LIMIT: u64 = 1_000_000;
 
 /// What a comparison of two codes found.
-#[derive(Debug, Drop)]
+#[derive(Drop)]
 pub struct Comparison {
     /// The parts of the routes on which they differ, and those on which it is not decided.
     pub parts: Vec<Part>,

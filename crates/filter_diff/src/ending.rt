@@ -1,7 +1,7 @@
 use filter_code::Outcome;
 
 /// How the runs on some routes end.
-#[derive(Clone, Copy, Debug, PartialEq, Eq)]
+#[derive(Clone, Copy, PartialEq, Eq)]
 pub enum Ending {
     /// Each route is accepted with the metric that it was received with.
     Unchanged,

@@ -9,7 +9,7 @@ use filter_code::Outcome;
 use prefix_patterns::{Pattern, Prefix};
 
 /// Routes by their prefix and the metric received, and how runs on them are to end.
-#[derive(Clone, Copy, Debug)]
+#[derive(Clone, Copy)]
 pub struct Expectation {
     /// Their prefixes match this pattern.
     pub pattern: Pattern,

@@ -6,7 +6,7 @@ use crate::symbol::Symbol;
 use filter_code::{Instr, Stack};
 
 /// What was found of an instruction.
-#[derive(Clone, Copy, Debug, PartialEq, Eq)]
+#[derive(Clone, Copy, PartialEq, Eq)]
 pub struct Mark {
     /// The run on some route comes to it.
     pub is_reached: bool,
@@ -21,7 +21,7 @@ pub struct Mark {
 }
 
 /// What was found of the instructions of a code.
-#[derive(Debug, Drop)]
+#[derive(Drop)]
 pub struct Reach {
     /// A mark for each instruction.
     pub marks: Vec<Mark>,

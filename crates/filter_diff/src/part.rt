@@ -2,7 +2,7 @@ use crate::ending::Ending;
 use prefix_patterns::Prefix;
 
 /// What was found of the routes of a part.
-#[derive(Clone, Copy, Debug, PartialEq, Eq)]
+#[derive(Clone, Copy, PartialEq, Eq)]
 pub enum Finding {
     /// The runs of the old code end in the first way, those of the new one in the second, and these differ.
     Differ(Ending, Ending),
@@ -11,7 +11,7 @@ pub enum Finding {
 }
 
 /// A part of the routes: those whose prefix lies within one prefix, and whose length and metric are in two ranges.
-#[derive(Clone, Copy, Debug)]
+#[derive(Clone, Copy)]
 pub struct Part {
     /// The prefix within which the prefixes lie.
     pub prefix: Prefix,

@@ -1,7 +1,7 @@
 use prefix_patterns::{Ip, Prefix};
 
 /// A value of a run on each route of a class: one that is the same for all, or one by its rule.
-#[derive(Clone, Copy, Debug)]
+#[derive(Clone, Copy)]
 pub(crate) enum Symbol {
     /// An int.
     Int(u32),

@@ -1,7 +1,7 @@
 use crate::ending::Ending;
 
 /// What an instruction does on all routes of a class.
-#[derive(Clone, Copy, Debug)]
+#[derive(Clone, Copy)]
 pub(crate) enum Turn {
     /// The run goes on.
     On,

@@ -7,7 +7,7 @@ use crate::tree::Op;
 use filter_tokens::{Symbol, TokenKind};
 
 /// Operators that bind equally.
-#[derive(Clone, Copy, Debug, PartialEq, Eq)]
+#[derive(Clone, Copy, PartialEq, Eq)]
 pub enum Level {
     /// `||`
     Or,

@@ -13,7 +13,7 @@ use prefix_patterns::Prefix;
 use std::alloc::{AllocError, Global};
 
 /// What the tokens were cut from, and what ended them.
-#[derive(Clone, Copy, Debug)]
+#[derive(Clone, Copy)]
 pub struct Source<'a> {
     /// The whole text.
     pub text: &'a [u8],
@@ -22,7 +22,7 @@ pub struct Source<'a> {
 }
 
 /// What is left to read: the tokens of a text, and where they are from.
-#[derive(Clone, Copy, Debug)]
+#[derive(Clone, Copy)]
 pub struct Input<'a> {
     /// Where the tokens are from.
     pub source: &'a Source<'a>,

@@ -1,7 +1,7 @@
 use crate::tree::{Command, Decl};
 
 /// What a filter says, without the tokens of its text.
-#[derive(Debug, Drop)]
+#[derive(Drop)]
 pub struct Parts {
     /// The filter's name.
     pub name: Vec<u8>,

@@ -11,7 +11,7 @@ use thiserror::Error;
 /// Why a source gives no verified code: the fault of the step that refused it.
 ///
 /// No function of this crate answers a fault that only refused memory causes: that is `Failure::Memory`.
-#[derive(Clone, Copy, Debug, PartialEq, Eq, Error)]
+#[derive(Clone, Copy, Debug, Error)]
 pub enum Refusal {
     /// O7: the source is longer than its limit.
     #[error("the source is longer than 1048576 bytes")]

@@ -6,7 +6,7 @@ ghost use Rattle.filter_tokens.specs.ByteClasses.{is_in};
 ghost use Rattle.filter_tokens.specs.Shapes.{begins_word};
 
 /// Kinds of bytes that go on as long as they can.
-#[derive(Clone, Copy, Debug)]
+#[derive(Clone, Copy)]
 pub enum ByteClass {
     /// Bytes with which a word goes on: letters, digits and `_`.
     Word,

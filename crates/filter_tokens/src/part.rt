@@ -1,7 +1,7 @@
 use crate::token_kind::TokenKind;
 
 /// One of the parts, side by side, that make up a text.
-#[derive(Clone, Copy, Debug, PartialEq, Eq)]
+#[derive(Clone, Copy)]
 pub enum Part {
     /// This many bytes of space, or of a comment.
     Gap(usize),

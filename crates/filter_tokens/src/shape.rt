@@ -1,7 +1,7 @@
 use crate::symbol::Symbol;
 
 /// What a token's bytes look like, whether or not they mean anything.
-#[derive(Clone, Copy, Debug, PartialEq, Eq)]
+#[derive(Clone, Copy)]
 pub enum Shape {
     /// A letter or `_`, and letters, digits and `_` after it.
     Word,

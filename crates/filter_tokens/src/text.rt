@@ -10,7 +10,7 @@ use crate::token::Token;
 use std::alloc::{AllocError, Global};
 
 /// A text's tokens from the left, and the fault that ended them if there was one.
-#[derive(Debug, Drop)]
+#[derive(Drop)]
 pub struct Lexed {
     /// The tokens before the fault, or all.
     pub tokens: Vec<Token>,

@@ -1,7 +1,7 @@
 use crate::token_kind::TokenKind;
 
 /// A token: what it is, and the bytes `from..to` of the text that it covers.
-#[derive(Clone, Copy, Debug, PartialEq, Eq)]
+#[derive(Clone, Copy, PartialEq, Eq)]
 pub struct Token {
     /// What it is.
     pub kind: TokenKind,

@@ -2,7 +2,7 @@ use crate::symbol::Symbol;
 use prefix_patterns::{Ip, Prefix};
 
 /// What a token is.
-#[derive(Clone, Copy, Debug, PartialEq, Eq)]
+#[derive(Clone, Copy, PartialEq, Eq)]
 pub enum TokenKind {
     /// A name, which the token's bytes spell.
     Name,

@@ -10,7 +10,7 @@ use std::fmt::{self, Display, Formatter, Write};
 use thiserror::Error;
 
 /// What a place in a filter takes.
-#[derive(Clone, Copy, Debug, PartialEq, Eq)]
+#[derive(Clone, Copy, Debug)]
 pub enum ExpectedKind {
     /// An int.
     Int,
@@ -55,7 +55,7 @@ impl From<Kind> for ExpectedKind {
 /// The first fault of a filter's names and kinds, in the order of its text, operands before their operator.
 ///
 /// A place is the number of bytes before it.
-#[derive(Clone, Copy, Debug, PartialEq, Eq, Error)]
+#[derive(Clone, Copy, Debug, Error)]
 pub enum TypeFault {
     /// Y1: the name at this place is no variable's.
     #[error("undeclared variable at byte {0}")]

@@ -17,7 +17,7 @@ use std::marker::Model;
 /// A filter whose names and kinds fit.
 ///
 /// A contract sees it as the filter.
-#[derive(Debug, Drop)]
+#[derive(Drop)]
 pub struct Typed {
     filter: Filter,
 }

@@ -7,7 +7,7 @@ ghost use Rattle.filter_verifier.specs.Surveys.{int_at};
 use crate::range::Range;
 
 /// What is known of a value: its kind, and the range of an int.
-#[derive(Clone, Copy, Debug)]
+#[derive(Clone, Copy)]
 pub enum Fact {
     Int(Range),
     Bool,

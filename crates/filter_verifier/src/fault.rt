@@ -103,7 +103,7 @@ impl<T: Drop> From<AllocFailed<T>> for VerifyFault {
 
 /// Why code was refused, and the range of the int that is refused, if it is one: of a divisor that may be 0 (V3), or of a metric that
 /// may be too low (V6).
-#[derive(Clone, Copy, Debug)]
+#[derive(Clone, Copy)]
 pub struct Unverified {
     /// The first test that failed.
     pub fault: VerifyFault,

@@ -17,7 +17,7 @@ use filter_code::{Code, LARGEST_SIZE, SMALLEST_SIZE, Stack};
 use std::alloc::{AllocError, Global};
 
 /// The bounds of a run of code that is verified.
-#[derive(Clone, Copy, Debug)]
+#[derive(Clone, Copy)]
 pub struct RunBounds {
     /// The most instructions that it executes, including the one that accepts or rejects.
     pub budget: u32,

@@ -7,7 +7,7 @@ use std::alloc::{AllocError, AllocFailed};
 use thiserror::Error;
 
 /// Why a line gives nothing.
-#[derive(Clone, Copy, Debug, PartialEq, Eq)]
+#[derive(Clone, Copy, PartialEq, Eq)]
 pub(crate) enum LineFault {
     /// It is not the line that a history has here.
     Form,
@@ -32,7 +32,7 @@ impl<T: Drop> From<AllocFailed<T>> for LineFault {
 }
 
 /// Why bytes tell no history.
-#[derive(Clone, Copy, Debug, PartialEq, Eq, Error)]
+#[derive(Clone, Copy, Debug, Error)]
 pub enum HistoryFault {
     /// H1: the line of this number, counted from 1, is the first that is not as a history has it.
     #[error("line {0} is not as a history has it")]

@@ -13,7 +13,7 @@ use route_history::Entry;
 use std::alloc::Global;
 
 /// A history as a file tells it. Whether its replies are right is not known: `replay` tells.
-#[derive(Debug, Drop)]
+#[derive(Drop)]
 pub struct SavedHistory {
     /// What the router was opened with.
     pub opening: Opening,

@@ -5,7 +5,7 @@ ghost use Rattle.history_file.specs.Keywords as spec;
 use netchange_core::Refusal;
 
 /// A word that says what follows it.
-#[derive(Clone, Copy, Debug, PartialEq, Eq)]
+#[derive(Clone, Copy, PartialEq, Eq)]
 pub(crate) enum Keyword {
     /// `up`
     Up,

@@ -13,7 +13,7 @@ use route_history::{ReplayFault, replay_list};
 use std::alloc::{AllocError, Global};
 
 /// What a replay says of the text of a history.
-#[derive(Debug, Drop)]
+#[derive(Drop)]
 pub enum Verdict {
     /// All entries are right: so many.
     Replays(u64),

@@ -5,7 +5,7 @@ ghost use Rattle.int_sets.specs.Holding.{Holds, holds};
 use std::marker::Model;
 
 /// A range of ints: the numbers from a first one to a last one, both included. It holds at least one number.
-#[derive(Clone, Copy, Debug, PartialEq, Eq)]
+#[derive(Clone, Copy, PartialEq, Eq)]
 pub struct IntRange {
     low: u32,
     high: u32,

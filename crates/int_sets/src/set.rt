@@ -15,7 +15,7 @@ pub const RANGE_LIMIT: usize = 1024;
 const SCAN_LIMIT: usize = 8;
 
 /// A set of ints. A contract sees it as the list of its ranges, in the order given.
-#[derive(Debug, Drop)]
+#[derive(Drop)]
 pub struct IntSet {
     ranges: Vec<IntRange>,
     /// The ranges in order, merged, of a set that is not scanned.

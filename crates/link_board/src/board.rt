@@ -10,7 +10,7 @@ use std::marker::Model;
 /// What those who serve the links of one router know together. A contract sees it as a `BoardView`.
 ///
 /// A link has at most one session. Whoever finds first that it is over ends it, and nobody does so twice.
-#[derive(Debug, Drop)]
+#[derive(Drop)]
 pub struct Board {
     links: Vec<Link>,
     /// The least number of entries that the history is known to have.

@@ -5,7 +5,7 @@ ghost use Rattle.link_board.specs.Steps as spec;
 use crate::waiting::Waiting;
 
 /// A link, between two of its sessions or in one.
-#[derive(Clone, Copy, Debug, PartialEq, Eq)]
+#[derive(Clone, Copy, PartialEq, Eq)]
 pub struct Link {
     /// The neighbour that it leads to.
     pub node: u16,

@@ -6,7 +6,7 @@ ghost use Rattle.link_board.specs.Steps as spec;
 ///
 /// Answers come in any order: what counts is the last position whose answer queued something, and the last one whose Take left the
 /// queue empty. So an answer that is known late, or twice, does no harm.
-#[derive(Clone, Copy, Debug, PartialEq, Eq)]
+#[derive(Clone, Copy, PartialEq, Eq)]
 pub struct Waiting {
     /// How many entries the history had with the last one that queued something; 0 where none did.
     pub queued: u64,

@@ -14,7 +14,7 @@ use thiserror::Error;
 const MARK: &[u8] = b"netchange 1 ";
 
 /// What a router says first on a link.
-#[derive(Clone, Copy, Debug, PartialEq, Eq)]
+#[derive(Clone, Copy, PartialEq, Eq)]
 pub struct Greeting {
     /// The number of nodes of its domain.
     pub size: u16,

@@ -9,7 +9,7 @@ use message_streams::StreamEnd;
 use std::alloc::AllocError;
 
 /// Why a session with a neighbour is over, or why none began.
-#[derive(Clone, Copy, Debug, PartialEq, Eq)]
+#[derive(Clone, Copy, PartialEq, Eq)]
 pub enum SessionEnd {
     /// The neighbour's stream ended, or has a line that no neighbour says here, or could not be read.
     Read {

@@ -8,7 +8,7 @@ use message_streams::{MessageReader, MessageWriter};
 use std::io::{Read, Write};
 
 /// A router's place in its domain.
-#[derive(Clone, Copy, Debug, PartialEq, Eq)]
+#[derive(Clone, Copy, PartialEq, Eq)]
 pub struct Domain {
     /// The number of nodes.
     pub size: u16,

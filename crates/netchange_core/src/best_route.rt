@@ -12,7 +12,7 @@ use crate::reply::Via;
 use crate::sessions::Present;
 
 /// The distance to a node, and through whom the route goes.
-#[derive(Clone, Copy, Debug)]
+#[derive(Clone, Copy)]
 pub struct BestRoute {
     /// The distance: the size of the domain where there is no route.
     pub dist: u16,

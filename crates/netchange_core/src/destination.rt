@@ -10,7 +10,7 @@ use crate::reply::Via;
 use std::alloc::{AllocError, Global};
 
 /// A node as a destination.
-#[derive(Debug, Drop)]
+#[derive(Drop)]
 pub(crate) struct Destination {
     /// How far it is from each neighbour, after the import filter: the size of the domain where the neighbour is down.
     pub(crate) distances: Vec<u16>,

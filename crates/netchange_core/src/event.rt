@@ -10,7 +10,7 @@ use std::sync::Arc;
 ///
 /// Nodes are named by number, and sessions by theirs. A distance is 0 to the size of the domain, which says that a node
 /// cannot be reached.
-#[derive(Debug, Drop)]
+#[derive(Drop)]
 pub enum Event {
     /// The channel to a node is there: it becomes an up neighbour, in a session of its own.
     Up(u16),

@@ -5,7 +5,7 @@ ghost use Rattle.std.specs.Prelude.{◌≡◌, ◌↔◌, IsTrue};
 use std::marker::Model;
 
 /// A router tells a neighbour its distance to a node.
-#[derive(Clone, Copy, Debug, PartialEq, Eq)]
+#[derive(Clone, Copy, PartialEq, Eq)]
 pub struct Message {
     /// The node, by number.
     pub dest: u16,
@@ -14,7 +14,7 @@ pub struct Message {
 }
 
 /// Messages in order. A contract sees them as their list.
-#[derive(Debug, Drop)]
+#[derive(Drop)]
 pub struct Messages {
     items: Vec<Message>,
 }

@@ -13,7 +13,7 @@ use std::collections::VecDeque;
 use std::sync::Arc;
 
 /// A node as a neighbour.
-#[derive(Debug, Drop)]
+#[derive(Drop)]
 pub(crate) struct Neighbour {
     /// Its present session, or 0 while it is down.
     pub(crate) session: u32,

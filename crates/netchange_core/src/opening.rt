@@ -11,7 +11,7 @@ use std::marker::Model;
 /// The routing domain, and the node in it that the router is.
 ///
 /// The domain's nodes are numbered from 0. A contract sees an opening as an `OpeningView`.
-#[derive(Debug, Drop)]
+#[derive(Drop)]
 pub struct Opening {
     size: u16,
     me: u16,

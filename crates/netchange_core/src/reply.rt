@@ -7,7 +7,7 @@ use crate::message::{Message, Messages, are_same};
 use thiserror::Error;
 
 /// Through whom a route goes.
-#[derive(Clone, Copy, Debug, PartialEq, Eq)]
+#[derive(Clone, Copy, PartialEq, Eq)]
 pub enum Via {
     /// The node is the router itself.
     Local,
@@ -18,7 +18,7 @@ pub enum Via {
 }
 
 /// Why an event was refused. A refused event changes nothing.
-#[derive(Clone, Copy, Debug, PartialEq, Eq, Error)]
+#[derive(Clone, Copy, Debug, Error)]
 pub enum Refusal {
     /// N1: the node is the router itself, or not in the domain.
     #[error("the node is the router itself, or not in the domain")]
@@ -63,7 +63,7 @@ impl Refusal {
 }
 
 /// What a router replies to an event.
-#[derive(Debug, Drop)]
+#[derive(Drop)]
 pub enum Reply {
     /// The number of the session that the event opened, 1 or more.
     Opened(u32),
@@ -86,7 +86,7 @@ pub enum Reply {
 }
 
 /// A reply whose messages, if it has any, stand somewhere else, one after another.
-#[derive(Clone, Copy, Debug)]
+#[derive(Clone, Copy)]
 pub enum ReplyRef<'a> {
     /// The number of the session that the event opened, 1 or more.
     Opened(u32),

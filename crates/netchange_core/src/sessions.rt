@@ -6,7 +6,7 @@ ghost use Rattle.netchange_core.specs.Present.{ArePresent, AreRising, sessions_o
 ghost use Rattle.netchange_core.specs.World.{NeighbourView, has_session};
 
 /// A present session.
-#[derive(Clone, Copy, Debug)]
+#[derive(Clone, Copy)]
 pub(crate) struct Present {
     /// Its number, 1 or more.
     pub(crate) session: u32,
@@ -15,7 +15,7 @@ pub(crate) struct Present {
 }
 
 /// The sessions of a router.
-#[derive(Debug, Drop)]
+#[derive(Drop)]
 pub(crate) struct Sessions {
     /// How many there were so far.
     pub(crate) count: u32,

@@ -10,7 +10,7 @@ use crate::opening::Opening;
 use crate::sessions::{Sessions, holder};
 
 /// The state of a router. The tables keep it right; the methods of an event say so of the state before and after it.
-#[derive(Debug, Drop)]
+#[derive(Drop)]
 pub(crate) struct State {
     /// What the router was opened with.
     pub(crate) opening: Opening,

@@ -18,7 +18,7 @@ use std::alloc::{AllocError, Global};
 use std::marker::Model;
 
 /// The tables of a router. A contract sees them as the `World`.
-#[derive(Debug, Drop)]
+#[derive(Drop)]
 pub struct Tables {
     state: State,
 }

@@ -6,7 +6,7 @@ ghost use Rattle.operator_cmds.specs.Networks.{IsLimit, is_network};
 use prefix_patterns::Prefix;
 
 /// The domain of a router, and the room of its history.
-#[derive(Clone, Copy, Debug)]
+#[derive(Clone, Copy)]
 pub struct Network {
     /// The number of nodes, 2 to 250.
     pub size: u16,
@@ -19,7 +19,7 @@ pub struct Network {
 }
 
 /// A look at the tables of a router.
-#[derive(Clone, Copy, Debug, PartialEq, Eq)]
+#[derive(Clone, Copy)]
 pub enum Look {
     /// `routes`: the route to each node.
     Routes,
@@ -30,7 +30,7 @@ pub enum Look {
 }
 
 /// One command with the words after it. Contracts see it as a `CommandView`.
-#[derive(Debug, Drop)]
+#[derive(Drop)]
 pub enum Command<'a> {
     /// `network N ME [LIMIT]`: a domain of N nodes, of which the router is ME, and the most entries of its history.
     Network(Network),

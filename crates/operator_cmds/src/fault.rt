@@ -4,7 +4,7 @@ ghost use Rattle.std.specs.Prelude.{◌≡◌};
 use thiserror::Error;
 
 /// Why a line gives no command.
-#[derive(Clone, Copy, Debug, PartialEq, Eq, Error)]
+#[derive(Clone, Copy, Debug, Error)]
 pub enum CommandFault {
     /// O1: the command is unknown, has too few or too many words, or names a filter by what is no name.
     #[error("an unknown command, a wrong number of words or a bad name")]
@@ -52,7 +52,7 @@ impl CommandFault {
 }
 
 /// Why the state of the script refuses a command.
-#[derive(Clone, Copy, Debug, PartialEq, Eq)]
+#[derive(Clone, Copy, PartialEq, Eq)]
 pub(crate) enum StateFault {
     /// O4: no domain is set up.
     NoNetwork,

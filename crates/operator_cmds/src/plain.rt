@@ -11,7 +11,7 @@ use line_protocol::LINE_LIMIT;
 use prefix_patterns::{after_byte, leading_number};
 
 /// A command of a line in the usual spelling. Contracts see it as a `CommandView`.
-#[derive(Clone, Copy, Debug, PartialEq, Eq)]
+#[derive(Clone, Copy)]
 pub enum PlainCommand {
     /// `recv W V D`
     Receive(u16, u16, u16),

@@ -3,7 +3,7 @@ ghost use Rattle.std.specs.Prelude.{◌≡◌, find};
 ghost use Rattle.operator_cmds.specs.Verbs as spec;
 
 /// What a command does, as its first word says.
-#[derive(Clone, Copy, Debug, PartialEq, Eq)]
+#[derive(Clone, Copy, PartialEq, Eq)]
 pub enum Verb {
     /// `network`
     Network,

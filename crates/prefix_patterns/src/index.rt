@@ -17,7 +17,7 @@ use std::alloc::{AllocError, Global};
 
 /// The patterns of each bucket as a linked list, the last pattern first. A link is one more than the index of a pattern, and 0
 /// ends the list.
-#[derive(Debug, Drop)]
+#[derive(Drop)]
 pub(crate) struct Chains {
     /// For each bucket, the link to its first pattern.
     heads: Vec<usize>,
@@ -98,7 +98,7 @@ fn grow_short(
 }
 
 /// The index of a set of patterns.
-#[derive(Debug, Drop)]
+#[derive(Drop)]
 pub(crate) struct PatternIndex {
     nodes: Vec<Node>,
     leaves: Vec<Leaf>,

@@ -15,7 +15,7 @@ pub(crate) const FEW: usize = 4;
 
 /// Up to four patterns: of each its first address, the mask of its bits, and the lengths that it allows. A place without a
 /// pattern allows none. All four are compared at once, without a branch.
-#[derive(Clone, Copy, Debug)]
+#[derive(Clone, Copy)]
 pub(crate) struct Leaf {
     addresses: [u32; FEW],
     masks: [u32; FEW],

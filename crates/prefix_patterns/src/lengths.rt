@@ -3,7 +3,7 @@ ghost use Rattle.prefix_patterns.specs.Matching.{HasOrderedLengths};
 ghost use Rattle.prefix_patterns.specs.Trees.{has_length};
 
 /// A set of lengths of prefixes, each of them a bit of the mask.
-#[derive(Clone, Copy, Debug)]
+#[derive(Clone, Copy)]
 pub(crate) struct Lengths {
     mask: u64,
 }

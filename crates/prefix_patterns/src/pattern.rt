@@ -18,7 +18,7 @@ pub(crate) const SHORT_BUCKET: usize = 256;
 /// A pattern for prefixes: a prefix, and the least and the greatest length that it allows.
 ///
 /// A prefix matches if its length is allowed and if it agrees with the pattern's prefix on the bits that both have.
-#[derive(Clone, Copy, Debug, PartialEq, Eq)]
+#[derive(Clone, Copy, PartialEq, Eq)]
 pub struct Pattern {
     prefix: Prefix,
     low: u8,

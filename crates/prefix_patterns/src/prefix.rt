@@ -14,7 +14,7 @@ use std::marker::Model;
 /// An IPv4 prefix of 0 to 32 bits: the addresses that begin with these bits.
 ///
 /// A contract sees a prefix as the list of its bits, in order.
-#[derive(Clone, Copy, Debug)]
+#[derive(Clone, Copy)]
 pub struct Prefix {
     address: u32,
     len: u8,

@@ -18,14 +18,14 @@ pub const PATTERN_LIMIT: usize = 1024;
 const SCAN_LIMIT: usize = 12;
 
 /// How a set is searched: all leaves of a few patterns, or the index of many.
-#[derive(Debug, Drop)]
+#[derive(Drop)]
 pub(crate) enum Search {
     Scan(Vec<Leaf>),
     Index(PatternIndex),
 }
 
 /// A set of patterns. A contract sees it as the list of its patterns, in the order given.
-#[derive(Debug, Drop)]
+#[derive(Drop)]
 pub struct PatternSet {
     patterns: Vec<Pattern>,
     search: Search,

@@ -14,14 +14,14 @@ use crate::prefix::Prefix;
 use std::alloc::AllocError;
 
 /// Some of the patterns: a few of them by the index of their leaf, or more by that of their node.
-#[derive(Clone, Copy, Debug)]
+#[derive(Clone, Copy)]
 pub(crate) enum Subtree {
     Few(usize),
     Inner(usize),
 }
 
 /// A node of a tree.
-#[derive(Clone, Copy, Debug)]
+#[derive(Clone, Copy)]
 pub(crate) struct Node {
     /// The lengths that the patterns which end here allow.
     own: Lengths,

@@ -10,7 +10,7 @@ use std::alloc::{AllocError, AllocFailed};
 use thiserror::Error;
 
 /// Why a network was not run to its end.
-#[derive(Clone, Copy, Debug, PartialEq, Eq, Error)]
+#[derive(Clone, Copy, Debug, Error)]
 pub enum NetworkFault {
     /// The output could not be written (E2), or memory was refused in a place that has no code of its own (E3).
     #[error(transparent)]

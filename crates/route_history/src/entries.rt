@@ -16,7 +16,7 @@ use std::marker::Model;
 
 /// What is kept of a reply. Of its messages, which stand among those of all entries, that is how many they are and where they
 /// begin.
-#[derive(Clone, Copy, Debug)]
+#[derive(Clone, Copy)]
 pub(crate) enum Kept {
     Opened(u32),
     Done { changed: u16 },
@@ -26,7 +26,7 @@ pub(crate) enum Kept {
 }
 
 /// What is kept of an entry.
-#[derive(Debug, Drop)]
+#[derive(Drop)]
 pub(crate) struct Note {
     pub(crate) event: Event,
     pub(crate) reply: Kept,
@@ -35,7 +35,7 @@ pub(crate) struct Note {
 /// The entries of a history, in order. A contract sees them as their list.
 ///
 /// An entry takes 24 bytes, and each message of its reply 4.
-#[derive(Debug, Drop)]
+#[derive(Drop)]
 pub struct Entries {
     notes: Vec<Note>,
     /// The messages of all replies, in order.

@@ -6,7 +6,7 @@ ghost use Rattle.route_history.specs.Whole.{whole_entry};
 use netchange_core::{Event, Reply, ReplyRef};
 
 /// An event at a router, and what was replied to it. A refused event is an entry too.
-#[derive(Debug, Drop)]
+#[derive(Drop)]
 pub struct Entry {
     /// What happened.
     pub event: Event,
@@ -15,7 +15,7 @@ pub struct Entry {
 }
 
 /// An entry where it stands.
-#[derive(Clone, Copy, Debug)]
+#[derive(Clone, Copy)]
 pub struct EntryRef<'a> {
     /// What happened.
     pub event: &'a Event,

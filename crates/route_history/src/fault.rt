@@ -37,7 +37,7 @@ impl CallFault {
 }
 
 /// Why a history does not replay.
-#[derive(Clone, Copy, Debug, PartialEq, Eq, Error)]
+#[derive(Clone, Copy, Debug, Error)]
 pub enum ReplayFault {
     /// The reply of the entry at this index, counted from 0, is not what the tables reply there. It is the first such entry.
     #[error("the reply of entry {0} is not what the tables reply")]

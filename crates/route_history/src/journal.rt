@@ -15,7 +15,7 @@ use std::marker::Model;
 pub const LARGEST_LIMIT: u32 = 1_000_000;
 
 /// A router's tables, with its whole history of events and replies. A contract sees it as a `JournalView`.
-#[derive(Debug, Drop)]
+#[derive(Drop)]
 pub struct Journal {
     limit: u32,
     entries: Entries,

@@ -3,7 +3,7 @@
 use netchange_core::{Message, Messages};
 
 /// Why a session ended.
-#[derive(Clone, Copy, Debug, PartialEq, Eq)]
+#[derive(Clone, Copy, PartialEq, Eq)]
 pub enum Cause {
     /// All its turns were used up.
     Turns,
@@ -20,7 +20,7 @@ pub enum Cause {
 }
 
 /// How a reader of a link ended.
-#[derive(Clone, Copy, Debug, PartialEq, Eq)]
+#[derive(Clone, Copy, PartialEq, Eq)]
 pub struct ReadEnd {
     /// Why it ended.
     pub cause: Cause,
@@ -31,7 +31,7 @@ pub struct ReadEnd {
 }
 
 /// How a writer to a link ended.
-#[derive(Debug, Drop)]
+#[derive(Drop)]
 pub struct WriteEnd {
     /// Why it ended.
     pub cause: Cause,

@@ -15,7 +15,7 @@ use std::rt::Clock;
 use std::sync::Wait;
 
 /// Which way a session goes.
-#[derive(Clone, Copy, Debug, PartialEq, Eq)]
+#[derive(Clone, Copy, PartialEq, Eq)]
 pub enum Role {
     /// From the link into the router.
     Reader,
@@ -37,7 +37,7 @@ pub struct Job<L> {
 }
 
 /// How a session ended.
-#[derive(Debug, Drop)]
+#[derive(Drop)]
 pub enum Ending {
     /// A reader ended so.
     Read(ReadEnd),

@@ -7,7 +7,7 @@ use std::sync::Wait;
 use thiserror::Error;
 
 /// What a link answers when it is asked for a message.
-#[derive(Clone, Copy, Debug, PartialEq, Eq)]
+#[derive(Clone, Copy, PartialEq, Eq)]
 pub enum Got {
     /// A message came.
     Message(Message),

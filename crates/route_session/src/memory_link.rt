@@ -10,7 +10,7 @@ use std::sync::Wait;
 
 /// A link in memory, for tests. It hands out the messages that it was made with, and then it has ended; it keeps the messages that
 /// it is given. It can be told to fail at one of its calls. It tells everything.
-#[derive(Debug, Drop)]
+#[derive(Drop)]
 pub struct MemoryLink {
     waiting: Vec<Message>,
     next: usize,

@@ -9,7 +9,7 @@ use std::alloc::{AllocError, AllocFailed};
 use thiserror::Error;
 
 /// Why a router was not run to its end, or not all that it did is saved.
-#[derive(Clone, Copy, Debug, PartialEq, Eq, Error)]
+#[derive(Clone, Copy, Debug, Error)]
 pub enum DaemonFault {
     /// E1 to E4: the operator's lines could not be read or answered.
     #[error("{0}")]

@@ -3,7 +3,7 @@ use std::alloc::{AllocError, AllocFailed};
 use thiserror::Error;
 
 /// Why the options of a router are refused.
-#[derive(Clone, Copy, Debug, PartialEq, Eq, Error)]
+#[derive(Clone, Copy, Debug, Error)]
 pub enum OptionFault {
     /// The domain has too few or too many nodes, the router is none of them, or the history has no such limit.
     #[error("--size is 2 to 250, --node is below it, and --limit is 1 to 1000000")]

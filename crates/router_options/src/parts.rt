@@ -9,7 +9,7 @@ use prefix_patterns::{Prefix, read_prefix};
 use std::alloc::Global;
 
 /// A link: the neighbour, and the files that its lines come from and go to.
-#[derive(Debug, PartialEq, Eq, Drop)]
+#[derive(PartialEq, Eq, Drop)]
 pub struct LinkFiles {
     /// The neighbour.
     pub node: u16,
@@ -20,7 +20,7 @@ pub struct LinkFiles {
 }
 
 /// A neighbour whose messages pass a filter.
-#[derive(Debug, PartialEq, Eq, Drop)]
+#[derive(PartialEq, Eq, Drop)]
 pub struct FilterUse {
     /// The neighbour.
     pub node: u16,
@@ -29,7 +29,7 @@ pub struct FilterUse {
 }
 
 /// The prefix of a node.
-#[derive(Debug, Drop)]
+#[derive(Drop)]
 pub struct NodePrefix {
     /// The node.
     pub node: u16,

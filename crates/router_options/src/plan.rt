@@ -18,7 +18,7 @@ const SMALLEST_SIZE: u32 = 2;
 const LARGEST_SIZE: u32 = 250;
 
 /// The numbers of a router, as they are given.
-#[derive(Clone, Copy, Debug, PartialEq, Eq)]
+#[derive(Clone, Copy, PartialEq, Eq)]
 pub struct Numbers {
     /// The number of nodes of the domain.
     pub size: u32,
@@ -32,7 +32,7 @@ pub struct Numbers {
 
 /// What a router is told before it begins. A node has at most one link, and each filter that is used has a name. A contract sees it as a
 /// `PlanView`.
-#[derive(Debug, Drop)]
+#[derive(Drop)]
 pub struct RouterPlan {
     /// The domain, the router's node and the prefixes.
     pub opening: Opening,

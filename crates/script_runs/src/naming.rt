@@ -16,7 +16,7 @@ use std::alloc::{AllocError, Global};
 use std::sync::Arc;
 
 /// A filter that a script is started with.
-#[derive(Debug, Drop)]
+#[derive(Drop)]
 pub struct NamedFilter {
     /// Its name.
     pub name: Vec<u8>,
@@ -27,7 +27,7 @@ pub struct NamedFilter {
 }
 
 /// The first of the filters of a script that is refused.
-#[derive(Clone, Copy, Debug)]
+#[derive(Clone, Copy)]
 pub struct Unfit {
     /// Its place among them, from 0.
     pub index: usize,

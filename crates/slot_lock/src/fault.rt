@@ -3,10 +3,11 @@
 ghost use Rattle.std.specs.Prelude.{◌≡◌};
 
 use netchange_core::Event;
+use std::fmt;
 use thiserror::Error;
 
 /// Why one try entered nothing.
-#[derive(Debug, Drop, Error)]
+#[derive(Drop, Error)]
 pub enum TryFault {
     /// L1: another caller has the lock. The event comes back.
     #[error("another caller has the lock")]
@@ -38,6 +39,13 @@ impl TryFault {
         ensures { result ≡ 0 }
     {
         0
+    }
+}
+
+/// The code alone: the event that comes back is the caller's to show.
+impl fmt::Debug for TryFault {
+    fn fmt<W: fmt::Write>(&self, f: &mut fmt::Formatter<W>) -> fmt::Result {
+        f.write_str(self.code())
     }
 }
 

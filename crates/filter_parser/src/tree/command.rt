@@ -6,7 +6,7 @@ use crate::tree::name::Name;
 use crate::tree::set::SetRange;
 
 /// What an assignment sets.
-#[derive(Debug, Drop)]
+#[derive(Drop)]
 pub enum Target {
     /// A variable.
     Name(Name),
@@ -17,7 +17,7 @@ pub enum Target {
 }
 
 /// What chooses a part of a `case`.
-#[derive(Debug, Drop)]
+#[derive(Drop)]
 pub enum Label {
     /// Ranges, at least one: the part is for the ints that one of them holds.
     Ranges(Vec<SetRange>),
@@ -26,7 +26,7 @@ pub enum Label {
 }
 
 /// A command. The number in front is the place of its first byte; that of an assignment is the place of its name.
-#[derive(Debug, Drop)]
+#[derive(Drop)]
 pub enum Command {
     /// `;` alone.
     Empty(usize),

@@ -12,7 +12,7 @@ pub enum Kind {
 }
 
 /// The declaration of a variable.
-#[derive(Debug, Drop)]
+#[derive(Drop)]
 pub struct Decl {
     /// The place of the name.
     pub at: usize,

@@ -7,7 +7,7 @@ use crate::tree::set::Set;
 use prefix_patterns::{Ip, Prefix};
 
 /// What every route has, and a filter can name.
-#[derive(Clone, Copy, Debug, PartialEq, Eq)]
+#[derive(Clone, Copy, PartialEq, Eq)]
 pub enum Attribute {
     /// `net`, the route's prefix
     Net,
@@ -20,7 +20,7 @@ pub enum Attribute {
 ///
 /// Chains of operators and of suffixes are lists, so that the depth of a tree is bounded by the limit of nesting, and not by
 /// the length of the text.
-#[derive(Debug, Drop)]
+#[derive(Drop)]
 pub enum Expr {
     /// A number, as `12` or `0x1f`.
     Number(usize, u32),

@@ -8,7 +8,7 @@ use crate::tree::decl::Decl;
 use filter_tokens::Token;
 
 /// A filter that was read.
-#[derive(Debug, Drop)]
+#[derive(Drop)]
 pub struct Filter {
     pub(crate) name: Vec<u8>,
     pub(crate) decls: Vec<Decl>,

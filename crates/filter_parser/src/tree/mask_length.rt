@@ -2,7 +2,6 @@ ghost use Rattle.std.specs.Prelude.{◌≡◌, ◌≤◌};
 ghost use Rattle.std.specs.Option.{SomeIff};
 
 use prefix_patterns::ADDRESS_LENGTH;
-use std::fmt;
 use std::marker::Model;
 
 /// How many bits of an address `.mask` keeps: 0 to 32.
@@ -42,12 +41,5 @@ impl MaskLength {
         ensures limit { result ≤ 32 }
     {
         self.bits
-    }
-}
-
-/// The number alone.
-impl fmt::Debug for MaskLength {
-    fn fmt<W: fmt::Write>(&self, f: &mut fmt::Formatter<W>) -> fmt::Result {
-        fmt::Debug::fmt(&self.bits, f)
     }
 }

@@ -1,7 +1,6 @@
 ghost use Rattle.std.specs.Prelude.{◌≡◌, IfOk};
 
 use std::alloc::{AllocError, Global};
-use std::fmt;
 use std::marker::Model;
 
 /// How long a name may be that stands in the tree itself.
@@ -62,12 +61,5 @@ impl Name {
             Letters::Here(length, bytes) => &bytes[..usize::from(*length)],
             Letters::There(bytes) => bytes.as_slice(),
         }
-    }
-}
-
-/// The bytes alone.
-impl fmt::Debug for Name {
-    fn fmt<W: fmt::Write>(&self, f: &mut fmt::Formatter<W>) -> fmt::Result {
-        fmt::Debug::fmt(self.as_slice(), f)
     }
 }

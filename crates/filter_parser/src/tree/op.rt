@@ -1,7 +1,7 @@
 use crate::tree::mask_length::MaskLength;
 
 /// An operator between two operands.
-#[derive(Clone, Copy, Debug, PartialEq, Eq)]
+#[derive(Clone, Copy, PartialEq, Eq)]
 pub enum Op {
     /// `+`
     Add,
@@ -34,7 +34,7 @@ pub enum Op {
 }
 
 /// An operator between an operand and a set.
-#[derive(Clone, Copy, Debug, PartialEq, Eq)]
+#[derive(Clone, Copy, PartialEq, Eq)]
 pub enum Membership {
     /// `~`
     In,
@@ -43,7 +43,7 @@ pub enum Membership {
 }
 
 /// What may follow an operand, after a dot.
-#[derive(Clone, Copy, Debug, PartialEq, Eq)]
+#[derive(Clone, Copy)]
 pub enum Suffix {
     /// `.ip`
     Ip,

@@ -6,7 +6,7 @@ use int_sets::IntRange;
 use prefix_patterns::{ADDRESS_LENGTH, Pattern, Prefix};
 
 /// A set in brackets: of prefixes, as `[10.0.0.0/8+, 20.0.0.0/8{9,24}]`, or of ints, as `[2, 4..6]`.
-#[derive(Debug, Drop)]
+#[derive(Drop)]
 pub struct Set {
     /// The place of its `[`.
     pub at: usize,
@@ -15,7 +15,7 @@ pub struct Set {
 }
 
 /// The members of a set, at least one. All are of one kind.
-#[derive(Debug, Drop)]
+#[derive(Drop)]
 pub enum Members {
     /// Those of a set of prefixes.
     Patterns(Vec<SetPattern>),
@@ -24,7 +24,7 @@ pub enum Members {
 }
 
 /// Ints as they are written in a set or in the label of a `case`. The place is that of the first int.
-#[derive(Clone, Copy, Debug, PartialEq, Eq)]
+#[derive(Clone, Copy)]
 pub enum SetRange {
     /// `n`: this int alone.
     One(usize, u32),
@@ -55,7 +55,7 @@ impl SetRange {
 }
 
 /// A pattern as it is written in a set. The place is that of its prefix.
-#[derive(Clone, Copy, Debug, PartialEq, Eq)]
+#[derive(Clone, Copy)]
 pub enum SetPattern {
     /// `a/len`: prefixes of the length `len` alone.
     Exact(usize, Prefix),
