@@ -242,23 +242,19 @@ pub(crate) fn carry_out(
     ensures all { length stack.new ≡ stack_limit }
 {
     match instr {
-        Instr::Int(number) => give(Tagged::int(*number), stack, depth),
-        Instr::Bool(flag) => give(Tagged::bool(*flag), stack, depth),
-        Instr::Ip(ip) => give(Tagged::ip(*ip), stack, depth),
-        Instr::Prefix(prefix) => give(Tagged::prefix(*prefix), stack, depth),
-        Instr::Load(local) => give(locals.get(*local)?, stack, depth),
+        Instr::Int(number) => give(Tagged::int(*number), stack, depth)?,
+        Instr::Bool(flag) => give(Tagged::bool(*flag), stack, depth)?,
+        Instr::Ip(ip) => give(Tagged::ip(*ip), stack, depth)?,
+        Instr::Prefix(prefix) => give(Tagged::prefix(*prefix), stack, depth)?,
+        Instr::Load(local) => give(locals.get(*local)?, stack, depth)?,
         Instr::Store(local) => {
             locals.check(*local)?;
             locals.set(*local, take_one(stack, depth)?);
-            Ok(())
         }
-        Instr::Net => give(Tagged::prefix(route.net()), stack, depth),
-        Instr::Metric => give(Tagged::int(*metric), stack, depth),
-        Instr::Received => give(Tagged::int(route.metric()), stack, depth),
-        Instr::SetMetric => {
-            *metric = metric_set(take_int(stack, depth)?, route)?;
-            Ok(())
-        }
+        Instr::Net => give(Tagged::prefix(route.net()), stack, depth)?,
+        Instr::Metric => give(Tagged::int(*metric), stack, depth)?,
+        Instr::Received => give(Tagged::int(route.metric()), stack, depth)?,
+        Instr::SetMetric => *metric = metric_set(take_int(stack, depth)?, route)?,
         Instr::Add => put(sum(take_two_ints(stack, depth)?), stack, depth),
         Instr::Sub => put(difference(take_two_ints(stack, depth)?), stack, depth),
         Instr::Mul => put(product(take_two_ints(stack, depth)?), stack, depth),
@@ -290,7 +286,7 @@ pub(crate) fn carry_out(
                 Tagged::bool(patterns.matches(&take_prefix(stack, depth)?)),
                 stack,
                 depth,
-            )
+            );
         }
         Instr::InSet(set) => {
             let ranges = int_set_at(code, *set)?;
@@ -298,21 +294,22 @@ pub(crate) fn carry_out(
                 Tagged::bool(ranges.holds(take_int(stack, depth)?)),
                 stack,
                 depth,
-            )
+            );
         }
         Instr::Jump(skipped) => {
             *pc += usize::from(*skipped);
-            Ok(())
+            return Ok(());
         }
         Instr::JumpIfNot(skipped) => {
             if !take_bool(stack, depth)? {
                 *pc += usize::from(*skipped);
+                return Ok(());
             }
-            Ok(())
         }
-        Instr::Accept => Err(Stop::Accept(*metric)),
-        Instr::Reject => Err(Stop::Reject),
+        Instr::Accept => return Err(Stop::Accept(*metric)),
+        Instr::Reject => return Err(Stop::Reject),
     }
+    Ok(())
 }
 
 /// Runs a code on a route, and answers how the run ends and after how many steps. The step that ends the run counts.

@@ -3,9 +3,8 @@
 //! The depth is a variable of its own. `Stack` writes its length to memory at each `push` and `pop`, and each step of a run
 //! would wait for the one before.
 
-ghost use Rattle.std.specs.Prelude.{◌≡◌, ◌+◌, ◌<◌, ◌≤◌, [], ◌∷◌, length, IfOk, IsOk, MatchResult};
+ghost use Rattle.std.specs.Prelude.{◌≡◌, ◌+◌, ◌<◌, ◌≤◌, [], ◌∷◌, length, IfOk, MatchResult};
 ghost use Rattle.filter_code.specs.declared.outcome.FaultKind.TheVariants as fault;
-ghost use Rattle.filter_code.specs.declared.machine.Stop.TheVariants as stop;
 ghost use Rattle.filter_code.specs.declared.value.Value.TheVariants as value;
 ghost use Rattle.filter_code.specs.Limits.{stack_limit};
 ghost use Rattle.filter_code.specs.Steps.{operands_in};
@@ -13,21 +12,15 @@ ghost use Rattle.filter_code.specs.Table.{One, Two, Good, Bad, each_is, is_bool,
 ghost use Rattle.filter_code.specs.Values.{kind_of};
 
 use crate::limits::STACK_LIMIT;
-use crate::machine::Stop;
 use crate::outcome::FaultKind;
 use crate::tagged::Tagged;
 use prefix_patterns::{Ip, Prefix};
 
-/// Puts a value on top. There is room for it, so it never stops a run; it answers as `give` does.
+/// Puts a value on top. There is room for it.
 #[inline(always)]
-pub(crate) fn put(
-    value: Tagged,
-    stack: &mut [Tagged; STACK_LIMIT],
-    depth: &mut usize,
-) -> Result<(), Stop>
+pub(crate) fn put(value: Tagged, stack: &mut [Tagged; STACK_LIMIT], depth: &mut usize)
     requires all { length stack.old ≡ stack_limit }
     requires room { depth.old < stack_limit }
-    ensures done { IsOk result }
     ensures given { operands_in stack.new depth.new ≡ value ∷ operands_in stack.old depth.old }
     ensures room { length (operands_in stack.old depth.old) < stack_limit }
     ensures depth { depth.new ≡ depth.old + 1 }
@@ -35,7 +28,6 @@ pub(crate) fn put(
 {
     stack[*depth] = value;
     *depth += 1;
-    Ok(())
 }
 
 /// Puts a value on top. A fault if and only if the stack is full.
@@ -44,20 +36,21 @@ pub(crate) fn give(
     value: Tagged,
     stack: &mut [Tagged; STACK_LIMIT],
     depth: &mut usize,
-) -> Result<(), Stop>
+) -> Result<(), FaultKind>
     requires all { length stack.old ≡ stack_limit }
     requires within { depth.old ≤ stack_limit }
     ensures given { MatchResult result (λ _. operands_in stack.new depth.new ≡ value ∷ operands_in stack.old depth.old)
-        (λ why. why ≡ stop.Fault fault.FullStack) }
+        (λ why. why ≡ fault.FullStack) }
     ensures room { MatchResult result (λ _. length (operands_in stack.old depth.old) < stack_limit)
         (λ why. stack_limit ≤ length (operands_in stack.old depth.old)) }
     ensures depth { IfOk result (λ _. depth.new ≤ stack_limit) }
     ensures all { length stack.new ≡ stack_limit }
 {
     if *depth >= STACK_LIMIT {
-        return Err(Stop::Fault(FaultKind::FullStack));
+        return Err(FaultKind::FullStack);
     }
-    put(value, stack, depth)
+    put(value, stack, depth);
+    Ok(())
 }
 
 /// Takes the top. A fault if and only if there is none.
