@@ -3,9 +3,11 @@ use Rattle.std.proofs.Common.{◌≡◌, ◌⊎◌, ⊎_elim, ℕ, ◌+◌, ◌<
 use Rattle.std.proofs.lemmas.Bool.{cases_eq}
 use Rattle.netchange_core.specs.declared.best_route.BestRoute.{BestRoute}
 use Rattle.netchange_core.specs.declared.reply.Via.TheVariants.{Node, Nowhere}
-use Rattle.netchange_core.specs.Best.{nearest, route_of}
+use Rattle.netchange_core.specs.Best.{best_by, nearest, route_of}
 use Rattle.netchange_core.specs.Leading.{LeadsBy, Through, Without}
+use Rattle.netchange_core.specs.OpeningView.{OpeningView}
 use Rattle.netchange_core.proofs.Nearest.{leads_nearest, nearest_node, nearest_nowhere}
+use Rattle.netchange_core.proofs.Opened.{other_route, own_route}
 
 -- what holds of the element that was replaced, and of each other one
 each_after : (P : ℕ → ℕ → Type 0) (xs : List ℕ) (w x : ℕ) → w < length xs → P w x →
@@ -114,3 +116,11 @@ revised_nowhere size xs w x r e short v far =
     subst (λ n. Without size n (slice_set xs w x) r.dist) (sym (length-set xs w x)) p in
     leads_nearest size (slice_set xs w x) r
     (subst (λ u. LeadsBy size (length (slice_set xs w x)) (slice_set xs w x) r.dist u) (sym v) q)
+
+-- a route that stays the nearest stays the best
+pub stays_by : (o : OpeningView) (v : ℕ) (xs : List ℕ) (w x : ℕ) (r : BestRoute) → r ≡ best_by o v xs →
+    (r ≡ nearest o.size xs → r ≡ nearest o.size (slice_set xs w x)) → r ≡ best_by o v (slice_set xs w x)
+stays_by o v xs w x r e still =
+    ⊎_elim (λ (own : v ≡ o.me). e ∙ own_route o v xs own ∙ sym (own_route o v (slice_set xs w x) own))
+    (λ (other : v ≡ o.me → ⊥). still (e ∙ other_route o v xs other) ∙ sym (other_route o v (slice_set xs w x) other))
+    (cases_eq v o.me)

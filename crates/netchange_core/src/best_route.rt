@@ -4,8 +4,9 @@ ghost use Rattle.std.specs.Prelude.{◌≡◌, ◌⊎◌, ℕ, ◌+◌, ◌<◌,
 ghost use Rattle.std.specs.List.{HoldsAt};
 ghost use Rattle.netchange_core.specs.declared.reply.Via.TheVariants.{Node};
 ghost use Rattle.netchange_core.specs.declared.sessions.Present.{Present};
-ghost use Rattle.netchange_core.specs.Best.{nearest, route_of};
+ghost use Rattle.netchange_core.specs.Best.{best_by, nearest, route_of};
 ghost use Rattle.netchange_core.specs.Leading.{LeadsListed, ListsReachable};
+ghost use Rattle.netchange_core.specs.OpeningView.{OpeningView};
 
 use crate::reply::Via;
 use crate::sessions::Present;
@@ -95,6 +96,24 @@ fn nearest_after(
         best = nearer(best, distance_at(distances, hop, near, k), session.node);
     }
     best
+}
+
+/// Whether it is seen at once that the best route stays, where one neighbour is now at another distance.
+#[inline(always)]
+pub(crate) fn stays(best: BestRoute, hop: usize, near: u16) -> bool
+    ensures { (o : OpeningView) (v : ℕ) (distances : List ℕ) → result ≡ true → best ≡ best_by o v distances →
+        hop < length distances → best ≡ best_by o v (slice_set distances hop near) }
+{
+    match best.via {
+        Via::Node(node) => {
+            if hop == usize::from(node) {
+                return false;
+            }
+            !overtakes(near, hop, best.dist, node)
+        }
+        Via::Nowhere => u32::from(best.dist) <= u32::from(near) + 1,
+        Via::Local => false,
+    }
 }
 
 /// The best route, where one neighbour is now at another distance, from the one that was best. Only where the next hop

@@ -71,11 +71,12 @@ pub(crate) fn put(destination: &mut Destination, hop: usize, near: u16, route: B
     ensures distances { destination.new.distances.items ≡ slice_set destination.old.distances.items hop near }
     ensures route { destination.new.route ≡ route }
 {
-    destination.distances[hop] = near;
     destination.route = route;
+    destination.distances[hop] = near;
 }
 
-/// Brings the route to a node up to date, after one neighbour changed. Answers whether its distance changed.
+/// Brings the route to a node up to date, after one neighbour changed. Answers whether its distance changed. Mostly the
+/// neighbour is as far from the node as it was, and then there is nothing to do.
 fn settle_at(
     opening: &Opening,
     present: &[Present],
@@ -100,6 +101,9 @@ fn settle_at(
     ensures room { (more : ℕ) → HaveRoom (more + 1) neighbours.old → HaveRoom more neighbours.new }
 {
     let near = neighbour_distance(opening, &neighbours[hop], node);
+    if near == destination.distances[hop] {
+        return false;
+    }
     let route = route_after(opening, present, node, destination, hop, near);
     let old = destination.route.dist;
     put(destination, hop, near, route);

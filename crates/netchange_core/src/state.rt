@@ -24,6 +24,7 @@ pub(crate) struct State {
 
 impl State {
     /// The up neighbour whose present session this is.
+    #[inline(always)]
     pub(crate) fn holder(&self, session: u32) -> Option<usize>
         requires { AreTables self.now }
         ensures is { result ≡ holder (world_of self.now) session }

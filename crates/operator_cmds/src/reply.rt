@@ -1,5 +1,5 @@
 //! What a script answers to a line.
-ghost use Rattle.std.specs.Prelude.{◌≡◌, ◌≤◌, ◌<◌, [], ◌∷◌, ◌++◌, flat_map, IfOk, OnOk, OnErr, codes, decimal};
+ghost use Rattle.std.specs.Prelude.{◌≡◌, ◌≤◌, ◌<◌, ◌+◌, ◌/◌, ◌%◌, [], ◌∷◌, ◌++◌, flat_map, IfOk, OnOk, OnErr, codes, decimal};
 ghost use Rattle.std.specs.Io.{StartsWith};
 ghost use Rattle.netchange_core.specs.Whole.{whole_reply};
 ghost use Rattle.operator_cmds.specs.Replies as spec;
@@ -85,6 +85,21 @@ pub(crate) fn push_pair(out: &mut Vec<u8>, node: u16, number: u32) -> Result<(),
     push_after(out, b':', number)
 }
 
+/// The two digits of each number below 100, one number after another.
+static PAIRS: [u8; 200] =
+    *b"00010203040506070809101112131415161718192021222324252627282930313233343536373839404142434445464748495051525354555657585960616263646566676869707172737475767778798081828384858687888990919293949596979899";
+
+/// The two digits of a number.
+#[inline(always)]
+fn two_digits(n: u16) -> (u8, u8)
+    requires { n < 100 }
+    ensures ten { result.0 ≡ 48 + n / 10 }
+    ensures one { result.1 ≡ 48 + n % 10 }
+{
+    let at = n as usize * 2;
+    (PAIRS[at], PAIRS[at + 1])
+}
+
 /// Adds a message about a node of one digit. Mostly its distance has at most three, and all of it is put there at once.
 #[inline(always)]
 fn push_of_one_digit(out: &mut Vec<u8>, dest: u16, dist: u16) -> Result<(), AllocError>
@@ -98,13 +113,12 @@ fn push_of_one_digit(out: &mut Vec<u8>, dest: u16, dist: u16) -> Result<(), Allo
         return out.extend_from_slice(&[b' ', to, b':', one]);
     }
     if dist < 100 {
-        let (ten, one) = (b'0' + (dist / 10) as u8, b'0' + (dist % 10) as u8);
+        let (ten, one) = two_digits(dist);
         return out.extend_from_slice(&[b' ', to, b':', ten, one]);
     }
     if dist < 1_000 {
-        let tens = dist / 10;
-        let (hundred, ten) = (b'0' + (tens / 10) as u8, b'0' + (tens % 10) as u8);
-        let one = b'0' + (dist % 10) as u8;
+        let hundred = b'0' + (dist / 100) as u8;
+        let (ten, one) = two_digits(dist % 100);
         return out.extend_from_slice(&[b' ', to, b':', hundred, ten, one]);
     }
     push_pair(out, dest, u32::from(dist))
@@ -118,19 +132,18 @@ fn push_of_two_digits(out: &mut Vec<u8>, dest: u16, dist: u16) -> Result<(), All
     ensures ok { OnOk result (out.new.items ≡ out.old.items ++ spec.pair_text dest dist) }
     ensures err { OnErr result (StartsWith out.new.items out.old.items) }
 {
-    let (to_ten, to) = (b'0' + (dest / 10) as u8, b'0' + (dest % 10) as u8);
+    let (to_ten, to) = two_digits(dest);
     if dist < 10 {
         let one = b'0' + dist as u8;
         return out.extend_from_slice(&[b' ', to_ten, to, b':', one]);
     }
     if dist < 100 {
-        let (ten, one) = (b'0' + (dist / 10) as u8, b'0' + (dist % 10) as u8);
+        let (ten, one) = two_digits(dist);
         return out.extend_from_slice(&[b' ', to_ten, to, b':', ten, one]);
     }
     if dist < 1_000 {
-        let tens = dist / 10;
-        let (hundred, ten) = (b'0' + (tens / 10) as u8, b'0' + (tens % 10) as u8);
-        let one = b'0' + (dist % 10) as u8;
+        let hundred = b'0' + (dist / 100) as u8;
+        let (ten, one) = two_digits(dist % 100);
         return out.extend_from_slice(&[b' ', to_ten, to, b':', hundred, ten, one]);
     }
     push_pair(out, dest, u32::from(dist))
@@ -144,21 +157,19 @@ fn push_of_three_digits(out: &mut Vec<u8>, dest: u16, dist: u16) -> Result<(), A
     ensures ok { OnOk result (out.new.items ≡ out.old.items ++ spec.pair_text dest dist) }
     ensures err { OnErr result (StartsWith out.new.items out.old.items) }
 {
-    let to_tens = dest / 10;
-    let (to_hundred, to_ten) = (b'0' + (to_tens / 10) as u8, b'0' + (to_tens % 10) as u8);
-    let to = b'0' + (dest % 10) as u8;
+    let to_hundred = b'0' + (dest / 100) as u8;
+    let (to_ten, to) = two_digits(dest % 100);
     if dist < 10 {
         let one = b'0' + dist as u8;
         return out.extend_from_slice(&[b' ', to_hundred, to_ten, to, b':', one]);
     }
     if dist < 100 {
-        let (ten, one) = (b'0' + (dist / 10) as u8, b'0' + (dist % 10) as u8);
+        let (ten, one) = two_digits(dist);
         return out.extend_from_slice(&[b' ', to_hundred, to_ten, to, b':', ten, one]);
     }
     if dist < 1_000 {
-        let tens = dist / 10;
-        let (hundred, ten) = (b'0' + (tens / 10) as u8, b'0' + (tens % 10) as u8);
-        let one = b'0' + (dist % 10) as u8;
+        let hundred = b'0' + (dist / 100) as u8;
+        let (ten, one) = two_digits(dist % 100);
         return out.extend_from_slice(&[b' ', to_hundred, to_ten, to, b':', hundred, ten, one]);
     }
     push_pair(out, dest, u32::from(dist))

@@ -35,8 +35,6 @@ impl Model for Journal {
 }
 
 impl Journal {
-    ghost use Rattle.netchange_core.specs.declared.reply.Reply.{Reply};
-
     /// An empty journal, of a router whose neighbours were never up. It takes as many entries as the limit, 1 to 1,000,000.
     pub fn open(alloc: Global, opening: Opening, limit: u32) -> Result<Journal, AllocError>
         requires { (1 ≤ limit) × (limit ≤ LARGEST_LIMIT) }
@@ -50,22 +48,8 @@ impl Journal {
         })
     }
 
-    /// Applies an event and enters it with its reply: its position, counted from 0. A refused event is entered too. Whether the
-    /// journal is full is judged before memory is asked for.
-    pub fn enter(&mut self, event: Event) -> Result<u32, CallFault>
-        ensures same { (self.new.opening ≡ self.old.opening) × (self.new.limit ≡ self.old.limit) }
-        ensures entered { IfOk result (λ at. (reply : Reply) × IsEntered self.old self.new event at reply
-            × (length (carried reply) ≤ room_of (world_of self.old.opening self.old.entries) event)) }
-        ensures legal { IsLegal self.new.opening self.new.entries × (length self.new.entries ≤ self.new.limit) }
-        ensures refused { IfErr result (λ f. IsRefused f self.old self.new) }
-    {
-        match self.apply(event) {
-            Ok((position, _reply)) => Ok(position),
-            Err(fault) => Err(fault),
-        }
-    }
-
-    /// Enters an event, and hands out its reply beside its position.
+    /// Applies an event and enters it with its reply: hands out its position, counted from 0, and the reply. A refused event is
+    /// entered too. Whether the journal is full is judged before memory is asked for.
     #[inline(always)]
     pub fn apply(&mut self, event: Event) -> Result<(u32, Reply), CallFault>
         ensures same { (self.new.opening ≡ self.old.opening) × (self.new.limit ≡ self.old.limit) }

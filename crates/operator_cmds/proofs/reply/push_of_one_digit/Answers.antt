@@ -1,6 +1,7 @@
 -- A node of one digit, and a distance of one, two and three.
-use Rattle.std.proofs.Common.{rules, ◌/◌, arith}
-use Rattle.std.proofs.lemmas.Fmt.{decimal_digit, decimal_step}
+use Rattle.std.proofs.Common.{rules, sym, arith}
+use Rattle.std.proofs.lemmas.Fmt.{decimal_digit}
+use Rattle.operator_cmds.proofs.Pairs.{decimal_three, decimal_two}
 use Rattle.operator_cmds.proofs.reply.push_of_one_digit.Goals as goal
 
 pub returns-then-dist-lt10-clause-ok : goal.returns-then-dist-lt10-clause-ok
@@ -9,16 +10,10 @@ returns-then-dist-lt10-clause-ok c =
 
 pub returns-then-dist-lt100-clause-ok : goal.returns-then-dist-lt100-clause-ok
 returns-then-dist-lt100-clause-ok c =
-    let ten = c.args.dist / 10 in
-    rw (decimal_digit c.args.dest c.requires, decimal_step c.args.dist c.if-dist-lt10.false (omega arith), decimal_digit ten (omega arith)) (search rules)
+    let d = c.two_digits-ten.ensures in
+    rw (decimal_digit c.args.dest c.requires, decimal_two c.args.dist (omega arith) (omega arith), sym d.ten, sym d.one) (search rules)
 
 pub returns-then-dist-lt1000-clause-ok : goal.returns-then-dist-lt1000-clause-ok
 returns-then-dist-lt1000-clause-ok c =
-    let tens = c.args.dist / 10 in
-    rw (
-      decimal_digit c.args.dest c.requires,
-      decimal_step c.args.dist (omega arith) (omega arith),
-      decimal_step tens (omega arith) (omega arith),
-      decimal_digit (tens / 10) (omega arith),
-    )
-    (search rules)
+    let d = c.two_digits-ten-then-dist-lt1000.ensures in
+    rw (decimal_digit c.args.dest c.requires, decimal_three c.args.dist (omega arith) (omega arith), sym d.ten, sym d.one) (search rules)
