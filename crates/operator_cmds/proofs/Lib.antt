@@ -12,3 +12,4 @@ mod Pairs
 mod PlainLines
 mod Rows
 mod Told
+mod Verbs

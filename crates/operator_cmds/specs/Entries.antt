@@ -1,5 +1,5 @@
 -- The entries that the lines of a script make. Who keeps the history writes each of them as it is made. (This project's own choice.)
-use Rattle.std.specs.Prelude.{◌≡◌, ◌⊎◌, ℕ, List, [], ◌∷◌, ◌++◌, Option, Some, None}
+use Rattle.std.specs.Prelude.{◌≡◌, ◌⊎◌, List, [], ◌∷◌, ◌++◌, Option, Some, None}
 use Rattle.route_history.specs.JournalView.{JournalView}
 use Rattle.route_history.specs.declared.entry.Entry.{Entry}
 use Rattle.operator_cmds.specs.Stages.{StageView, Empty, Setting, Open}

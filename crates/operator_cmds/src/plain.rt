@@ -84,13 +84,11 @@ fn after_verb<'a>(line: &'a [u8], verb: &[u8; 4]) -> Option<&'a [u8]>
     ensures found { IfSome result (λ rest. line.now ≡ verb.now ++ 32 ∷ rest.now) }
     ensures any { (rest : List ℕ) → line.now ≡ verb.now ++ 32 ∷ rest → IsSomeAnd result (λ cut. cut.now ≡ rest) }
 {
-    if line.len() < 5
-        || line[0] != verb[0]
-        || line[1] != verb[1]
-        || line[2] != verb[2]
-        || line[3] != verb[3]
-        || line[4] != b' '
-    {
+    if line.len() < 5 {
+        return None;
+    }
+    let word = [line[0], line[1], line[2], line[3]];
+    if u32::from_le_bytes(word) != u32::from_le_bytes(*verb) || line[4] != b' ' {
         return None;
     }
     Some(&line[5..])

@@ -2,7 +2,6 @@
 use Rattle.std.proofs.lemmas.Result.{IfErr-weaker, IfOk-weaker}
 use Rattle.operator_cmds.specs.Script.{AnswersLine, fresh}
 use Rattle.operator_cmds.specs.State.{script_of}
-use Rattle.operator_cmds.specs.declared.watch.Watched.{Watched}
 use Rattle.operator_cmds.proofs.Ending.{goes_on}
 use Rattle.operator_cmds.proofs.Unended.{broken_off, carried_out}
 use Rattle.line_protocol.proofs.Viewed.{finishes, if_known, stops}
