@@ -35,6 +35,13 @@ fn unset_in(variables: &[Decl], expr: &Expr, known: u32) -> Option<usize> {
         Expr::Not(_, inner) => unset_in(variables, inner, known),
         Expr::Member(_, left, _) => unset_in(variables, left, known),
         Expr::Suffixed(inner, _) => unset_in(variables, inner, known),
+        Expr::Binary(parts) => {
+            let (left, _, _, right) = &**parts;
+            match unset_in(variables, left, known) {
+                Some(at) => Some(at),
+                None => unset_in(variables, right, known),
+            }
+        }
         Expr::Chain(left, others) => match unset_in(variables, left, known) {
             Some(at) => Some(at),
             None => unset_among(variables, others.as_slice(), known),

@@ -52,6 +52,7 @@ begins_step (Expr-F.Attribute at a) = refl
 begins_step (Expr-F.Defined at a) = refl
 begins_step (Expr-F.Group at inner) = refl
 begins_step (Expr-F.Not at inner) = refl
+begins_step (Expr-F.Binary parts) = parts.value.0.1
 begins_step (Expr-F.Chain first more) = first.value.1
 begins_step (Expr-F.Member op left set) = left.value.1
 begins_step (Expr-F.Suffixed inner suffixes) = inner.value.1
@@ -78,6 +79,13 @@ chain_at x first more y ys is is_first is_more =
     ap expression_places is ∙ (chain_places first more
     ∙ (ap (λ z. expression_places z ++ flat_map one_right more.items) (sym is_first)
     ∙ ap (λ zs. expression_places y ++ flat_map one_right zs) (sym is_more)))
+
+pub binary_at : (x : Expr) (parts : Box (Expr × ℕ × Op × Expr) Global) (y : Expr × ℕ × Op × Expr) → x ≡ e.Binary parts → y ≡ parts.value
+    → expression_places x ≡ expression_places y.0 ++ right_places y.1 y.2 (expression_places y.3)
+binary_at x parts y is are =
+    ap expression_places (is ∙ sym (e.rolls-Binary parts))
+    ∙ (ap (λ (o : Origins). o.places) (fold-roll-Expr Origins origins_step (Expr-F.Binary parts))
+    ∙ ap (λ (z : Expr × ℕ × Op × Expr). expression_places z.0 ++ right_places z.1 z.2 (expression_places z.3)) (sym are))
 
 pub not_at : (x : Expr) (at : ℕ) (inner : Box Expr Global) (y : Expr) → x ≡ e.Not at inner → y ≡ inner.value
     → expression_places x ≡ expression_places y ++ at ∷ []

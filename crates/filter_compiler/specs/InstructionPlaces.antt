@@ -62,6 +62,10 @@ origins_step (Expr-F.Attribute at a) = alone at
 origins_step (Expr-F.Defined at a) = alone at
 origins_step (Expr-F.Group at inner) = record { start = at; places = inner.value.places }
 origins_step (Expr-F.Not at inner) = record { start = at; places = inner.value.places ++ at ∷ [] }
+origins_step (Expr-F.Binary parts) = record {
+  start = parts.value.0.start;
+  places = parts.value.0.places ++ right_places parts.value.1 parts.value.2 parts.value.3.places;
+}
 origins_step (Expr-F.Chain first more) =
     record { start = first.value.start; places = first.value.places ++ rights_places more.items }
 origins_step (Expr-F.Member op left set) =

@@ -260,6 +260,11 @@ pub(crate) fn emit(typed: &Typed, expr: &Expr, sets: SetNumbers, out: &mut Outpu
             out.put(*at, Instr::Not);
             next
         }
+        Expr::Binary(parts) => {
+            let (left, at, op, right) = &**parts;
+            let next = emit(typed, left, sets, out);
+            emit_right(typed, *at, *op, right, next, out)
+        }
         Expr::Chain(first, more) => {
             let next = emit(typed, first, sets, out);
             emit_chain(typed, more, next, out)

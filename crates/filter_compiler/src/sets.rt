@@ -224,6 +224,11 @@ fn gather(expr: &Expr, lists: &mut SetLists)
     match expr {
         Expr::Group(_, inner) => gather(inner, lists),
         Expr::Not(_, inner) => gather(inner, lists),
+        Expr::Binary(parts) => {
+            let (left, _, _, right) = &**parts;
+            gather(left, lists);
+            gather(right, lists);
+        }
         Expr::Chain(first, more) => {
             gather(first, lists);
             gather_chain(more, lists);

@@ -95,6 +95,7 @@ expr_kept_step (Expr-F.Attribute at a) = Some at ∷ []
 expr_kept_step (Expr-F.Defined at a) = Some at ∷ None ∷ None ∷ None ∷ []
 expr_kept_step (Expr-F.Group at inner) = Some at ∷ (inner.value ++ None ∷ [])
 expr_kept_step (Expr-F.Not at inner) = Some at ∷ inner.value
+expr_kept_step (Expr-F.Binary parts) = parts.value.0 ++ Some parts.value.1 ∷ parts.value.3
 expr_kept_step (Expr-F.Chain first more) = first.value ++ joined (map operand_kept more.items)
 expr_kept_step (Expr-F.Member op left set) = left.value ++ None ∷ set_kept set
 expr_kept_step (Expr-F.Suffixed inner suffixes) = inner.value ++ joined (map suffix_kept suffixes.items)

@@ -25,6 +25,7 @@ expr_place_step (Expr-F.Attribute at a) = at
 expr_place_step (Expr-F.Defined at a) = at
 expr_place_step (Expr-F.Group at inner) = at
 expr_place_step (Expr-F.Not at inner) = at
+expr_place_step (Expr-F.Binary parts) = parts.value.0
 expr_place_step (Expr-F.Chain first more) = first.value
 expr_place_step (Expr-F.Member op left set) = left.value
 expr_place_step (Expr-F.Suffixed inner suffixes) = inner.value

@@ -94,6 +94,7 @@ view_expr_step (Expr-F.Attribute at a) = attribute a
 view_expr_step (Expr-F.Defined at a) = defined a
 view_expr_step (Expr-F.Group at inner) = group inner.value
 view_expr_step (Expr-F.Not at inner) = negation inner.value
+view_expr_step (Expr-F.Binary parts) = binary parts.value.2 parts.value.0 parts.value.3
 view_expr_step (Expr-F.Chain first more) = chain_of first.value more.items
 view_expr_step (Expr-F.Member op left set) = member op left.value (view_members set.members)
 view_expr_step (Expr-F.Suffixed inner suffixes) = suffixes_of inner.value suffixes.items

@@ -142,8 +142,17 @@ fn parse_operators<'a>(
 ) -> Result<(Expr, Input<'a>), ParseFault>
     ensures { ReadsOn 0 (expr_kept first) view expr_kept (spec.chain_with (spec.unary_at depth) level (view first)) input.entry result }
 {
-    let mut more = Vec::with_capacity(alloc, 1)?;
-    let mut rest = input;
+    let Some((op, after)) = eat_operator(level, input) else {
+        return Ok((first, input));
+    };
+    let (right, next) = parse_operand(alloc, depth, level, after)?;
+    // Most have one operator: then no list is made.
+    if eat_operator(level, next).is_none() {
+        return Ok((binary(alloc, input.at(), op, first, right)?, next));
+    }
+    let mut more = Vec::with_capacity(alloc, 2)?;
+    more.push((input.at(), op, right))?;
+    let mut rest = next;
     while let Some((op, after)) = eat_operator(level, rest) {
         match parse_operand(alloc, depth, level, after) {
             Ok((right, next)) => {

@@ -21,15 +21,12 @@ pub fn negation(alloc: Global, at: usize, inner: Expr) -> Result<Expr, AllocErro
     Ok(Expr::Not(at, Box::new(alloc, inner)?))
 }
 
-/// An operand and the operators after it, if there are any.
+/// An operand and the operators after it.
 #[inline(always)]
 pub fn chain(alloc: Global, first: Expr, more: Vec<(usize, Op, Expr)>) -> Result<Expr, AllocError>
     ensures is { IfOk result (λ t. view t ≡ chain_of (view first) (view_more more.items)) }
     ensures placed { IfOk result (λ t. expr_kept t ≡ expr_kept first ++ joined (map operand_kept (kept_more more.items))) }
 {
-    if more.is_empty() {
-        return Ok(first);
-    }
     Ok(Expr::Chain(Box::new(alloc, first)?, more))
 }
 
@@ -38,9 +35,7 @@ pub fn binary(alloc: Global, at: usize, op: Op, left: Expr, right: Expr) -> Resu
     ensures is { IfOk result (λ t. view t ≡ ExprView.binary op (view left) (view right)) }
     ensures placed { IfOk result (λ t. expr_kept t ≡ expr_kept left ++ Some at ∷ expr_kept right) }
 {
-    let mut more = Vec::with_capacity(alloc, 1)?;
-    more.push((at, op, right))?;
-    chain(alloc, left, more)
+    Ok(Expr::Binary(Box::new(alloc, (left, at, op, right))?))
 }
 
 /// An operand and a set.

@@ -13,10 +13,10 @@ use Rattle.filter_parser.specs.declared.tree.op.Membership.{Membership}
 use Rattle.filter_parser.specs.declared.tree.op.Op.{Op}
 use Rattle.filter_parser.specs.declared.tree.op.Suffix.{Suffix}
 use Rattle.filter_parser.specs.declared.tree.set.Set.{Set}
-use Rattle.filter_types.specs.Faults.{HasFault, operands}
+use Rattle.filter_types.specs.Faults.{HasFault, IsRefusedOperator, operands}
 use Rattle.filter_types.specs.Kinds.{kind_in, kind_named}
-use Rattle.filter_types.specs.Refusals.{OperandView, member_refusal, wrong_kind}
-use Rattle.filter_types.specs.Table.{in_set, negated}
+use Rattle.filter_types.specs.Refusals.{OperandView, member_refusal, operator_refusal, wrong_kind}
+use Rattle.filter_types.specs.Table.{in_set, negated, operator}
 use Rattle.filter_types.specs.Turns.{ChainHasFault, OperatorRefuses, SuffixRefuses}
 use Rattle.filter_types.specs.declared.fault.ExpectedKind.TheVariants as expected
 use Rattle.filter_types.specs.declared.fault.TypeFault.{TypeFault}
@@ -54,6 +54,32 @@ module _ (vs : List DeclView) (x : Expr) (why : TypeFault) where
         refused = refused;
         is_said = said ∙ ap (λ (z : Expr). wrong_kind (with_kind z k) expected.Bool) same;
       })
+
+  pub binary_left : (parts : Box (Expr × ℕ × Op × Expr) Global) (y : Expr × ℕ × Op × Expr) → x ≡ e.Binary parts → y ≡ parts.value
+      → HasFault vs y.0 why → HasFault vs x why
+  binary_left parts y is same h =
+      of_one_operand (Expr-F.Binary parts) parts.value.0 y.0 (is ∙ sym (e.rolls-Binary parts)) (contains_first parts.value.0 (parts.value.3 ∷ []))
+      (ap (λ (z : Expr × ℕ × Op × Expr). z.0) same) h
+
+  pub binary_right : (parts : Box (Expr × ℕ × Op × Expr) Global) (y : Expr × ℕ × Op × Expr) → x ≡ e.Binary parts → y ≡ parts.value
+      → HasFault vs y.3 why → HasFault vs x why
+  binary_right parts y is same h =
+      of_one_operand (Expr-F.Binary parts) parts.value.3 y.3 (is ∙ sym (e.rolls-Binary parts))
+      (contains_later parts.value.0 (parts.value.3 ∷ []) parts.value.3 (contains_first parts.value.3 [])) (ap (λ (z : Expr × ℕ × Op × Expr). z.3) same) h
+
+  pub binary_fault : (parts : Box (Expr × ℕ × Op × Expr) Global) (y : Expr × ℕ × Op × Expr) (a b : Kind) → x ≡ e.Binary parts → y ≡ parts.value
+      → kind_in vs (view y.0) ≡ Some a → kind_in vs (view y.3) ≡ Some b → operator y.2 a b ≡ None
+      → why ≡ operator_refusal y.2 (with_kind y.0 a) (with_kind y.3 b) → HasFault vs x why
+  binary_fault parts y a b is same left right none said =
+      HasFault.own (Expr-F.Binary parts) (is ∙ sym (e.rolls-Binary parts))
+      (subst (λ (z : Expr × ℕ × Op × Expr). IsRefusedOperator vs z.0 ((z.1, z.2, z.3) ∷ []) why) same (record {
+        index = 0;
+        next = (y.1, y.2, y.3);
+        is = refl;
+        right = b;
+        found = right;
+        left = record { kind = a; found = left; refused = none; is_said = said };
+      }))
 
   pub chain_operand : (first : Box Expr Global) (more : Vec (ℕ × Op × Expr) Global) (y : Expr) → x ≡ e.Chain first more → y ≡ first.value
       → HasFault vs y why → HasFault vs x why

@@ -58,6 +58,7 @@ begins_step (Expr-F.Attribute at a) = (0, omega arith, refl)
 begins_step (Expr-F.Defined at a) = (0, omega arith, refl)
 begins_step (Expr-F.Group at inner) = (0, omega arith, refl)
 begins_step (Expr-F.Not at inner) = (0, omega arith, refl)
+begins_step (Expr-F.Binary parts) = Contains-append_left _ _ _ parts.value.0.1
 begins_step (Expr-F.Chain first more) = Contains-append_left _ _ _ first.value.1
 begins_step (Expr-F.Member op left set) = Contains-append_left _ _ _ left.value.1
 begins_step (Expr-F.Suffixed inner suffixes) = Contains-append_left _ _ _ inner.value.1
@@ -91,6 +92,13 @@ chain_kept first more z o (inl is) k =
     Contains-append_left (expr_kept first) _ o (subst (λ (e : Expr). Contains (expr_kept e) o) (sym is) k)
 chain_kept first more z o (inr h) k = Contains-append_right (expr_kept first) _ o (right_kept more z o h k)
 
+binary_kept : (first right : Expr) (at : ℕ) (z : Expr) (o : Option ℕ) → (first ≡ z) ⊎ Contains (right ∷ []) z → Contains (expr_kept z) o
+    → Contains (expr_kept first ++ Some at ∷ expr_kept right) o
+binary_kept first right at z o (inl is) k =
+    Contains-append_left (expr_kept first) _ o (subst (λ (e : Expr). Contains (expr_kept e) o) (sym is) k)
+binary_kept first right at z o (inr h) k =
+    Contains-append_right (expr_kept first) _ o (contains_later (Some at) _ o (same_kept right z o h k))
+
 -- an expression keeps what its operands do
 operand_step : (form : Expr-F Expr) (z : Expr) (o : Option ℕ) → Contains (operands form) z → Contains (expr_kept z) o
     → Contains (expr_kept_step (map-Expr Expr Kept expr_kept form)) o
@@ -103,6 +111,8 @@ operand_step (Expr-F.Attribute at a) z o h k = absurd (omega (arith, h.1))
 operand_step (Expr-F.Defined at a) z o h k = absurd (omega (arith, h.1))
 operand_step (Expr-F.Group at inner) z o h k = contains_later (Some at) _ o (Contains-append_left (expr_kept inner.value) _ o (same_kept inner.value z o h k))
 operand_step (Expr-F.Not at inner) z o h k = contains_later (Some at) _ o (same_kept inner.value z o h k)
+operand_step (Expr-F.Binary parts) z o h k =
+    binary_kept parts.value.0 parts.value.3 parts.value.1 z o (first_or_later parts.value.0 (parts.value.3 ∷ []) z h) k
 operand_step (Expr-F.Chain first more) z o h k = chain_kept first.value more.items z o (first_or_later first.value (map (λ x. x.2) more.items) z h) k
 operand_step (Expr-F.Member op left set) z o h k = Contains-append_left (expr_kept left.value) _ o (same_kept left.value z o h k)
 operand_step (Expr-F.Suffixed inner suffixes) z o h k = Contains-append_left (expr_kept inner.value) _ o (same_kept inner.value z o h k)
@@ -128,6 +138,21 @@ chain_fault vs first more why r (inl right) =
     (contains_later first.value (map (λ x. x.2) more.items) r.next.2 (contains_map (λ x. x.2) more.items r.next (contains_got more.items r.index r.next r.is))) right
 chain_fault vs first more why r (inr left) = at_operand (Expr-F.Chain first more) first.value why (contains_first first.value (map (λ x. x.2) more.items)) left
 
+binary_fault : (vs : List DeclView) (parts : Box (Expr × ℕ × Op × Expr) Global) (why : TypeFault)
+    → (r : IsRefusedOperator vs parts.value.0 ((parts.value.1, parts.value.2, parts.value.3) ∷ []) why)
+    → (fault_place why ≡ expr_place r.next.2) ⊎ (fault_place why ≡ expr_place parts.value.0)
+    → Contains (expr_kept_step (map-Expr Expr Kept expr_kept (Expr-F.Binary parts))) (Some (fault_place why))
+binary_fault vs parts why r (inl right) =
+    let one : List (ℕ × Op × Expr) = (parts.value.1, parts.value.2, parts.value.3) ∷ [] in
+    at_operand (Expr-F.Binary parts) r.next.2 why
+    (contains_later parts.value.0 (map (λ (x : ℕ × Op × Expr). x.2) one) r.next.2
+    (contains_map (λ (x : ℕ × Op × Expr). x.2) one r.next (contains_got one r.index r.next r.is))) right
+binary_fault vs parts why r (inr left) = at_operand (Expr-F.Binary parts) parts.value.0 why (contains_first parts.value.0 (parts.value.3 ∷ [])) left
+
+along : {a b x y : ℕ} → a ≡ b → (b ≡ x) ⊎ (b ≡ y) → (a ≡ x) ⊎ (a ≡ y)
+along e (inl f) = inl (e ∙ f)
+along e (inr f) = inr (e ∙ f)
+
 own_step : (vs : List DeclView) (form : Expr-F Expr) (why : TypeFault) → HasOwnFault vs form why
     → Contains (expr_kept_step (map-Expr Expr Kept expr_kept form)) (Some (fault_place why))
 own_step vs (Expr-F.Number at n) why h = absurd h
@@ -141,14 +166,16 @@ own_step vs (Expr-F.Defined at a) why h = absurd h
 own_step vs (Expr-F.Group at inner) why h = absurd h
 own_step vs (Expr-F.Not at inner) why h =
     at_operand (Expr-F.Not at inner) inner.value why (contains_first inner.value []) (ap fault_place h.is_said)
+own_step vs (Expr-F.Binary parts) why r =
+    let place = ap fault_place r.left.is_said in
+    let blamed = (operator_blames r.next.1 (record { at = expr_place parts.value.0; kind = r.left.kind })
+    (record { at = expr_place r.next.2; kind = r.right })).1 in
+    binary_fault vs parts why r (along place blamed)
 own_step vs (Expr-F.Chain first more) why r =
     let place = ap fault_place r.left.is_said in
     let blamed = (operator_blames r.next.1 (record { at = expr_place first.value; kind = r.left.kind })
     (record { at = expr_place r.next.2; kind = r.right })).1 in
-    chain_fault vs first more why r (along place blamed) where
-      along : {a b x y : ℕ} → a ≡ b → (b ≡ x) ⊎ (b ≡ y) → (a ≡ x) ⊎ (a ≡ y)
-      along e (inl f) = inl (e ∙ f)
-      along e (inr f) = inr (e ∙ f)
+    chain_fault vs first more why r (along place blamed)
 own_step vs (Expr-F.Member op left set) why h =
     at_operand (Expr-F.Member op left set) left.value why (contains_first left.value []) (ap fault_place h.is_said)
 own_step vs (Expr-F.Suffixed inner suffixes) why r =

@@ -14,6 +14,13 @@ use Rattle.filter_parser.specs.declared.tree.command.Command.TheOpen.{Command-F}
 use Rattle.filter_parser.specs.declared.tree.command.Command.TheVariants as command
 use Rattle.filter_parser.specs.declared.tree.command.Label.{Label}
 
+pub view_binary : (x : Expr) (parts : Box (Expr × ℕ × Op × Expr) Global) (y : Expr × ℕ × Op × Expr) → x ≡ e.Binary parts → y ≡ parts.value
+    → view x ≡ ExprView.binary y.2 (view y.0) (view y.3)
+view_binary x parts y is are =
+    ap view (is ∙ sym (e.rolls-Binary parts))
+    ∙ fold-roll-Expr ExprView view_expr_step (Expr-F.Binary parts)
+    ∙ ap (λ (z : Expr × ℕ × Op × Expr). ExprView.binary z.2 (view z.0) (view z.3)) (sym are)
+
 pub view_chain : (x : Expr) (first : Box Expr Global) (more : Vec (ℕ × Op × Expr) Global) (y : Expr) (ys : List (ℕ × Op × Expr))
     → x ≡ e.Chain first more → y ≡ first.value → ys ≡ more.items
     → view x ≡ chain_of (view y) (view_more ys)

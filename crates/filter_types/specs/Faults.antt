@@ -60,6 +60,7 @@ pub record IsRefusedSuffix (variables : List DeclView) (inner : Expr) (suffixes 
 abbrev pub operands : Expr-F Expr → List Expr
 operands (Expr-F.Group at inner) = inner.value ∷ []
 operands (Expr-F.Not at inner) = inner.value ∷ []
+operands (Expr-F.Binary parts) = parts.value.0 ∷ parts.value.3 ∷ []
 operands (Expr-F.Chain first more) = first.value ∷ map (λ x. x.2) more.items
 operands (Expr-F.Member op left set) = left.value ∷ []
 operands (Expr-F.Suffixed inner suffixes) = inner.value ∷ []
@@ -70,6 +71,8 @@ abbrev pub HasOwnFault : List DeclView → Expr-F Expr → TypeFault → Type 0
 HasOwnFault variables (Expr-F.Name at text) why = (kind_named variables text ≡ None) × (why ≡ fault.UnknownName at)
 HasOwnFault variables (Expr-F.Not at inner) why =
     IsUnfit variables (view inner.value) (expr_place inner.value) (λ k. negated k ≡ None) (λ left. wrong_kind left expected.Bool) why
+HasOwnFault variables (Expr-F.Binary parts) why =
+    IsRefusedOperator variables parts.value.0 ((parts.value.1, parts.value.2, parts.value.3) ∷ []) why
 HasOwnFault variables (Expr-F.Chain first more) why = IsRefusedOperator variables first.value more.items why
 HasOwnFault variables (Expr-F.Member op left set) why =
     IsUnfit variables (view left.value) (expr_place left.value) (λ k. in_set (view_members set.members) k ≡ None)

@@ -73,6 +73,22 @@ pub(crate) fn kind_of(expr: &Expr, variables: &[Decl]) -> Result<Kind, TypeFault
             let kind = kind_of(inner, variables)?;
             negated(Operand { expr: inner, kind })
         }
+        Expr::Binary(parts) => {
+            let (left, _, op, right) = &**parts;
+            let left_kind = kind_of(left, variables)?;
+            let right_kind = kind_of(right, variables)?;
+            operator(
+                *op,
+                Operand {
+                    expr: left,
+                    kind: left_kind,
+                },
+                Operand {
+                    expr: right,
+                    kind: right_kind,
+                },
+            )
+        }
         Expr::Chain(first, more) => {
             let kind = kind_of(first, variables)?;
             kind_of_chain(more, Operand { expr: first, kind }, variables)

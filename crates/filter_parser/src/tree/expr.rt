@@ -40,8 +40,10 @@ pub enum Expr {
     Group(usize, Box<Expr>),
     /// `!` and its operand. The place is that of its `!`.
     Not(usize, Box<Expr>),
-    /// A first operand, and one or more operators, each with its place and the operand at its right: a sum or product, a
-    /// comparison of two operands, or a chain of all `&&` or all `||`. It groups to the left: `a - b - c` is `(a - b) - c`.
+    /// Two operands and the one operator between them, with its place: a sum or product, a comparison, `&&` or `||`.
+    Binary(Box<(Expr, usize, Op, Expr)>),
+    /// A first operand, and more than one operator, each with its place and the operand at its right: a sum or product, or a
+    /// chain of all `&&` or all `||`. It groups to the left: `a - b - c` is `(a - b) - c`.
     Chain(Box<Expr>, Vec<(usize, Op, Expr)>),
     /// Whether an operand matches a set.
     Member(Membership, Box<Expr>, Set),
@@ -66,6 +68,7 @@ impl Expr {
                 Expr::Defined(at, _) => return *at,
                 Expr::Group(at, _) => return *at,
                 Expr::Not(at, _) => return *at,
+                Expr::Binary(parts) => first = &parts.0,
                 Expr::Chain(left, _) => first = left,
                 Expr::Member(_, left, _) => first = left,
                 Expr::Suffixed(inner, _) => first = inner,

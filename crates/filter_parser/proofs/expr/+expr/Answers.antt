@@ -5,11 +5,12 @@ use Rattle.filter_parser.specs.declared.tree.op.Op.{Op}
 use Rattle.filter_tokens.specs.Lexemes.{Lexeme}
 use Rattle.filter_tokens.specs.declared.symbol.Symbol.TheVariants as symbols
 use Rattle.filter_parser.specs.Readers.{symbol}
-use Rattle.filter_parser.specs.Reading.{inner_at, unary_at, next_with, postfix_with, read_of, sum_with}
+use Rattle.filter_parser.specs.Reading.{an_operator, inner_at, joins, unary_at, next_with, postfix_with, read_of, sum_with}
 use Rattle.filter_parser.specs.Steps.{remaining}
 use Rattle.filter_parser.specs.Syntax.{ExprView, view}
 use Rattle.filter_parser.proofs.Chains.{more_one, right_none, chain_on, chain_ends, chain_stops}
-use Rattle.filter_parser.proofs.Placing.{grown_more, ok_map, right_kept, rights_kept, spans_as, spans_at, spans_both, unkept_last}
+use Rattle.filter_parser.proofs.Placing.{grown_more, grown_none, ok_map, right_kept, rights_kept, spans_as, spans_at, spans_both, unkept_last}
+use Rattle.filter_parser.proofs.Turns.{starts}
 use Rattle.filter_parser.proofs.Views.{chain_more}
 use Rattle.filter_parser.proofs.Chains.{expr_read, group_none, group_read}
 use Rattle.filter_parser.proofs.Within.{failed, unread}
@@ -17,24 +18,54 @@ use Rattle.filter_parser.proofs.expr.+expr.Goals as goal
 
 pub parse_operators-loop-op-preserved : goal.parse_operators-loop-op-preserved
 parse_operators-loop-op-preserved t c = record {
-  goes = rw (c.in_ok-push-in-Ok.ensures.items, more_one c.loop-op.more.items c.at.result c.in-Some.op c.in-Ok.right, chain_more)
-      (chain_on (next_with (unary_at c.args.depth) c.args.level) c.args.level c.in-Some.ensures.found c.in-Ok.ensures.reads
-      (omega (arith, c.in-Ok.ensures.shorter, c.in-Some.ensures.shorter)) c.loop-op.invariant.goes);
+  goes = rw (c.in_ok-push-in-Ok.ensures.items, more_one c.loop-op.more.items c.at-in-Ok.result c.in-Some-eat_operator.op c.in-Ok.right, chain_more)
+      (chain_on (next_with (unary_at c.args.depth) c.args.level) c.args.level c.in-Some-eat_operator.ensures.found c.in-Ok.ensures.reads
+      (omega (arith, c.in-Ok.ensures.shorter, c.in-Some-eat_operator.ensures.shorter)) c.loop-op.invariant.goes);
   kept = c.loop-op.invariant.kept;
-  grown = grown_more c.loop-op.invariant.grown (spans_both (spans_at c.at.ensures c.in-Some.ensures.placed) c.in-Ok.ensures.placed)
+  grown = grown_more c.loop-op.invariant.grown (spans_both (spans_at c.at-in-Ok.ensures c.in-Some-eat_operator.ensures.placed) c.in-Ok.ensures.placed)
       c.in_ok-push-in-Ok.ensures.items;
-  within = λ len start. c.in-Ok.ensures.within len (c.in-Some.ensures.within len (c.loop-op.invariant.within len start));
-  shorter = omega (arith, c.in-Ok.ensures.shorter, c.in-Some.ensures.shorter);
+  within = λ len start. c.in-Ok.ensures.within len (c.in-Some-eat_operator.ensures.within len (c.loop-op.invariant.within len start));
+  shorter = omega (arith, c.in-Ok.ensures.shorter, c.in-Some-eat_operator.ensures.shorter);
 }
 
 pub parse_operators-returns-in-Err : goal.parse_operators-returns-in-Err
 parse_operators-returns-in-Err t c = record {
-  reads = λ other. chain_stops (next_with (unary_at c.args.depth) c.args.level) c.args.level c.in-Some.ensures.found
+  reads = λ other. chain_stops (next_with (unary_at c.args.depth) c.args.level) c.args.level c.in-Some-eat_operator.ensures.found
       (c.in-Err.ensures.reads other) c.loop-op.invariant.goes;
   shorter = search rules;
   placed = search rules;
   within = λ len start.
-      c.in-Err.ensures.within len (c.in-Some.ensures.within len (c.loop-op.invariant.within len start));
+      c.in-Err.ensures.within len (c.in-Some-eat_operator.ensures.within len (c.loop-op.invariant.within len start));
+}
+
+-- one operator alone
+pub parse_operators-returns-then-is_none : goal.parse_operators-returns-then-is_none
+parse_operators-returns-then-is_none t c =
+    let next = next_with (unary_at c.args.depth) c.args.level in
+    let none : an_operator c.args.level (remaining c.in_ok-right.next) ≡ None = search rules in
+    record {
+      reads = rw (c.in_ok-binary.ensures.is) (chain_ends next c.args.level none
+          (chain_on next c.args.level c.in-Some.ensures.found c.in_ok-right.ensures.reads
+          (omega (arith, c.in_ok-right.ensures.shorter, c.in-Some.ensures.shorter))
+          (starts (joins next c.args.level) (view c.args.first) (remaining c.args.input))));
+      shorter = omega (arith, c.in_ok-right.ensures.shorter, c.in-Some.ensures.shorter);
+      placed = λ start first.
+          spans_as c.in_ok-binary.ensures.placed
+          (spans_both first (spans_both (spans_at c.at.ensures c.in-Some.ensures.placed) c.in_ok-right.ensures.placed));
+      within = λ len start. c.in_ok-right.ensures.within len (c.in-Some.ensures.within len start);
+    }
+
+pub parse_operators-loop-op-init : goal.parse_operators-loop-op-init
+parse_operators-loop-op-init t c = record {
+  goes = rw (c.in_ok-push.ensures.items, c.in_ok-more.ensures.items)
+      (chain_on (next_with (unary_at c.args.depth) c.args.level) c.args.level c.in-Some.ensures.found c.in_ok-right.ensures.reads
+      (omega (arith, c.in_ok-right.ensures.shorter, c.in-Some.ensures.shorter))
+      (starts (joins (next_with (unary_at c.args.depth) c.args.level) c.args.level) (view c.args.first) (remaining c.args.input)));
+  kept = refl;
+  grown = grown_more grown_none (spans_both (spans_at c.at-2.ensures c.in-Some.ensures.placed) c.in_ok-right.ensures.placed)
+      (c.in_ok-push.ensures.items ∙ ap (λ xs. xs ++ (c.at-2.result, c.in-Some.op, c.in_ok-right.right) ∷ []) c.in_ok-more.ensures.items);
+  within = λ len start. c.in_ok-right.ensures.within len (c.in-Some.ensures.within len start);
+  shorter = omega (arith, c.in_ok-right.ensures.shorter, c.in-Some.ensures.shorter);
 }
 
 -- memory was refused
@@ -57,7 +88,7 @@ parse_operators-returns-in_err-push-in-Ok t c = record {
 pub parse_operators-returns : goal.parse_operators-returns
 parse_operators-returns t c = record {
   reads = rw (c.in_ok-chain.ensures.is, c.loop-op.invariant.kept)
-      (chain_ends (next_with (unary_at c.args.depth) c.args.level) c.args.level c.in_default.ensures.found c.loop-op.invariant.goes);
+      (chain_ends (next_with (unary_at c.args.depth) c.args.level) c.args.level c.in_default-eat_operator.ensures.found c.loop-op.invariant.goes);
   shorter = search rules;
   placed = λ start first.
       let g = c.loop-op.invariant.grown in
