@@ -52,7 +52,7 @@ take_next xs i x low is = ap (λ n. take n xs) (add-one i) ∙ (take-suc xs i x 
 
 module _ (decls : List DeclView) (a b c : Output) (k l m : SetNumbers) where
   -- an operator more, and a suffix more
-  right_next : (left : ExprView) (op : Op) (right : ExprView) → Emits a b k l (expression_part decls left)
+  pub right_next : (left : ExprView) (op : Op) (right : ExprView) → Emits a b k l (expression_part decls left)
       → Emits b c l m (right_part decls op right) → Emits a c k m (expression_part decls (binary op left right))
   right_next left op right first second =
       as_part a c k m (joined (expression_part decls left) (right_part decls op right)) (expression_part decls (binary op left right))

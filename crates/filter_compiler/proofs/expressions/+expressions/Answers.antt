@@ -3,15 +3,15 @@ use Rattle.std.proofs.lemmas.List.{append-nil}
 use Rattle.filter_code.specs.declared.instruction.Instr.TheVariants as instr
 use Rattle.filter_parser.specs.Syntax.{ExprView, view}
 use Rattle.filter_parser.specs.SyntaxText.{view_filter}
-use Rattle.filter_types.proofs.Views.{view_chain}
+use Rattle.filter_types.proofs.Views.{view_binary, view_chain}
 use Rattle.filter_compiler.specs.InstructionPlaces.{expression_places}
 use Rattle.filter_compiler.specs.Translation.{expression_code, operator_code}
 use Rattle.filter_compiler.specs.Written.{Emits, expression_part, right_part}
-use Rattle.filter_compiler.proofs.InstructionPlaces.{chain_at, member_at, not_at, one_right, places_of_both, suffixed_at}
+use Rattle.filter_compiler.proofs.InstructionPlaces.{binary_at, chain_at, member_at, not_at, one_right, places_of_both, suffixed_at}
 use Rattle.filter_compiler.proofs.Jumps.{over}
 use Rattle.filter_compiler.proofs.Notes.{as_noted, next_notes, patch_notes, then_notes, times_notes}
 use Rattle.filter_compiler.proofs.Puts.{as_part, code_then, puts_then, then, then_code, with_code}
-use Rattle.filter_compiler.proofs.Trees.{chain_next, suffix_next, takes_both}
+use Rattle.filter_compiler.proofs.Trees.{chain_next, right_next, suffix_next, takes_both}
 use Rattle.filter_compiler.proofs.Views.{view_member, view_not}
 use Rattle.filter_compiler.proofs.expressions.+expressions.Goals as goal
 
@@ -21,6 +21,14 @@ emit-returns-in-Not-clause-code t c =
     let is = view_not c.args.expr.now c.in-Not.at c.in-Not.inner c.deref-in-Not.result.now c.in-Not.is c.deref-in-Not.ensures in
     subst (λ (x : ExprView). Emits c.args.out.now c.put.new.self c.args.sets c.emit-next.result (expression_part d x)) (sym is)
     (then_code c.emit-next.ensures.code c.put.ensures.code)
+
+pub emit-returns-in-Binary-clause-code : goal.emit-returns-in-Binary-clause-code
+emit-returns-in-Binary-clause-code t c =
+    let d = (view_filter c.args.typed.now).decls in
+    let y = c.deref-in-Binary.result.now in
+    subst (λ (x : ExprView). Emits c.args.out.now c.emit_right.new.out c.args.sets c.emit_right.result (expression_part d x))
+    (sym (view_binary c.args.expr.now c.in-Binary.parts y c.in-Binary.is c.deref-in-Binary.ensures))
+    (right_next d c.args.out.now c.emit-next-in-Binary.new.out c.emit_right.new.out c.args.sets c.emit-next-in-Binary.result c.emit_right.result (view y.0) y.2 (view y.3) c.emit-next-in-Binary.ensures.code c.emit_right.ensures.code)
 
 pub emit-returns-in-Chain-clause-code : goal.emit-returns-in-Chain-clause-code
 emit-returns-in-Chain-clause-code t c =
@@ -82,6 +90,12 @@ emit-returns-in-Not-clause-places t c =
     as_noted
     (sym (not_at c.args.expr.now c.in-Not.at c.in-Not.inner c.deref-in-Not.result.now c.in-Not.is c.deref-in-Not.ensures))
     (then_notes c.emit-next.ensures.places c.put.ensures.places)
+
+pub emit-returns-in-Binary-clause-places : goal.emit-returns-in-Binary-clause-places
+emit-returns-in-Binary-clause-places t c =
+    as_noted
+    (sym (binary_at c.args.expr.now c.in-Binary.parts c.deref-in-Binary.result.now c.in-Binary.is c.deref-in-Binary.ensures))
+    (then_notes c.emit-next-in-Binary.ensures.places c.emit_right.ensures.places)
 
 pub emit-returns-in-Chain-clause-places : goal.emit-returns-in-Chain-clause-places
 emit-returns-in-Chain-clause-places t c =

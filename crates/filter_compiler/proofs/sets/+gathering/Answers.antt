@@ -1,10 +1,15 @@
 use Rattle.std.proofs.Common.{refl, ap, sym, ◌∙◌}
 use Rattle.filter_parser.specs.Syntax.{view}
-use Rattle.filter_types.proofs.Views.{view_chain, view_suffixed}
+use Rattle.filter_types.proofs.Views.{view_binary, view_chain, view_suffixed}
 use Rattle.filter_compiler.specs.Translation.{sets_of}
 use Rattle.filter_compiler.proofs.Gathering.{as_sets, chain_gathers, gathers_then, suffixes_sets}
 use Rattle.filter_compiler.proofs.Views.{view_member}
 use Rattle.filter_compiler.proofs.sets.+gathering.Goals as goal
+
+pub gather-returns-in-Binary : goal.gather-returns-in-Binary
+gather-returns-in-Binary t c =
+    as_sets (ap sets_of (sym (view_binary c.args.expr.now c.in-Binary.parts c.deref-in-Binary.result.now c.in-Binary.is c.deref-in-Binary.ensures)))
+    (gathers_then c.gather-in-Binary.ensures c.gather-in-Binary-2.ensures)
 
 pub gather-returns-in-Chain : goal.gather-returns-in-Chain
 gather-returns-in-Chain t c =
