@@ -55,6 +55,7 @@ pub fn compile_text_mapped(alloc: Global, text: &[u8]) -> Result<MappedCode, Fai
 pub fn compile_text(alloc: Global, text: &[u8]) -> Result<Code, Failure>
     ensures code { IfOk result (λ code. (filter : FilterView) × spec.Translates text.now filter code) }
     ensures refused { IfErr result (OnRefusal (spec.IsRefusedText text.now)) }
+    ensures told { IfErr result IsOfSource }
 {
     let mapped = compile_text_mapped(alloc, text)?;
     Ok(mapped.code)

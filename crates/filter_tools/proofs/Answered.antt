@@ -1,7 +1,7 @@
 -- How a run of a service ends that answers each line by a function of the line, whatever it keeps of the lines before.
-use Rattle.std.proofs.Common.{◌≡◌, ℕ, List, [], ◌∷◌, ◌++◌, map, Option, Some, Result, Ok, Err, Bool, false, MatchBool, refl, sym, ap, subst, ◌∙◌, append_assoc}
+use Rattle.std.proofs.Common.{◌≡◌, ◌≤◌, ℕ, List, [], ◌∷◌, ◌++◌, length, map, Option, Some, Result, Ok, Err, Bool, false, MatchBool, refl, sym, ap, subst, ◌∙◌, append_assoc}
 use Rattle.std.specs.Prelude.{⊤}
-use Rattle.std.specs.Io.KnownBytes.{Appends}
+use Rattle.std.specs.Io.KnownBytes.{Appends, Consumes}
 use Rattle.std.proofs.lemmas.List.{append-nil}
 use Rattle.filter_code.specs.RouteView.{RouteView}
 use Rattle.filter_verifier.specs.VerifiedView.{VerifiedView}
@@ -57,11 +57,15 @@ module _ (S : Type 0) (answers : S → ℕ → List ℕ → Answer → S → Typ
       → Finishes answers routes_limit s after input left held holds n
       → AnswersEach answer_to input left held holds n × Has (numbered input) after
   ends_well s after h input left held holds n f =
-      let all = all_answered [] s h (numbered input) f.given after f.run in (
+      let all = all_answered [] s h (numbered input) f.given after f.run in
+      let to_end = f.to_end (ap is_over all.0 ∙ none_is_over (numbered input)) in
+      let P : Option (List ℕ) → Type 0 = λ o. Consumes (Some input) o f.read in
+      let whole : input ≡ f.read ++ [] = subst P to_end f.consumed in (
         record {
           written = subst (λ (g : List Answer). Appends held holds (text_of g)) all.0 f.written;
           counted = f.counted ∙ ap refusals all.0;
-          to_end = f.to_end (ap is_over all.0 ∙ none_is_over (numbered input));
+          to_end = to_end;
+          within = subst (λ (x : List ℕ). length x ≤ routes_limit) (sym (whole ∙ append-nil f.read)) f.within;
         },
         all.1,
       )
@@ -135,6 +139,7 @@ module _ (f g : Line → Answer) (same : (line : Line) → f line ≡ g line) wh
     written = subst (λ (a : List Answer). Appends held holds (text_of a)) (same_answers (numbered input)) h.written;
     counted = h.counted ∙ ap refusals (same_answers (numbered input));
     to_end = h.to_end;
+    within = h.within;
   }
 
   reach_alike : (fault : StreamFault) (read : List ℕ) (given : List Answer) → ReachesTo f fault read given → ReachesTo g fault read given

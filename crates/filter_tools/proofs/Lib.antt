@@ -8,3 +8,5 @@ mod Rows
 pub mod HeadWords
 pub mod Harmless
 pub mod Indents
+pub mod LineWords
+pub mod BestWord

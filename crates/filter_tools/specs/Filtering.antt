@@ -1,5 +1,5 @@
 -- What `filter` answers to route lines: what the filter's text means for each route. (This project's own choice.)
-use Rattle.std.specs.Prelude.{◌≡◌, ◌⊎◌, ◌+◌, ℕ, false, List, [], ◌∷◌, ◌++◌, length, map, take, Option, Some, Result, Ok, Err, codes, decimal, ⊤}
+use Rattle.std.specs.Prelude.{◌≡◌, ◌⊎◌, ◌+◌, ◌≤◌, ℕ, false, List, [], ◌∷◌, ◌++◌, length, map, take, Option, Some, Result, Ok, Err, codes, decimal, ⊤}
 use Rattle.std.specs.Io.KnownBytes.{Appends, Consumes}
 use Rattle.filter_code.specs.CodeView.{CodeView}
 use Rattle.filter_code.specs.RouteView.{RouteView}
@@ -43,16 +43,17 @@ filter_answer filter size line = answer_meant filter line.0 (route_in (Some size
 abbrev pub code_answer : CodeView → ℕ → Line → Answer
 code_answer program size line = answer_of program line.0 (route_in (Some size) line.1)
 
+-- the most bytes of routes that a run answers
+abbrev pub routes_limit : ℕ
+routes_limit = 4000000000
+
 -- Each line of an input was answered so. `left` is what the reader has now; `held` and `holds` are what the writer held before
 -- and holds now; `refused` is the number of refused lines.
 pub record AnswersEach (answer_to : Line → Answer) (input : List ℕ) (left held holds : Option (List ℕ)) (refused : ℕ) : Type 0 where
   pub written : Appends held holds (text_of (map answer_to (numbered input)))
   pub counted : refused ≡ refusals (map answer_to (numbered input))
   pub to_end : left ≡ Some []
-
--- the most bytes of routes that a run answers
-abbrev pub routes_limit : ℕ
-routes_limit = 4000000000
+  pub within : length input ≤ routes_limit
 
 -- how far the answers reach where a fault ended the run, when `read` was read of the input
 abbrev pub ReachesTo : (Line → Answer) → StreamFault → List ℕ → List Answer → Type 0

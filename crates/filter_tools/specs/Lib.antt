@@ -9,3 +9,4 @@ pub mod Filtering
 pub mod Listing
 pub mod Naming
 pub mod ToldRoutes
+pub mod Spelled

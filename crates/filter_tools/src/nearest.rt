@@ -1,4 +1,6 @@
 //! The known word that somebody may have meant.
+ghost use Rattle.std.specs.Prelude.{◌≡◌, ◌↔◌, ◌<◌, All, true, map, IfOk, IfSome, MatchOption};
+ghost use Rattle.filter_tools.specs.Spelled.{IsFar, IsNearest};
 
 use std::alloc::{AllocError, Global};
 use strsim::osa_distance;
@@ -10,13 +12,16 @@ struct Near<'a> {
     distance: usize,
 }
 
-/// The known word to which the fewest edits lead, if they are at most a third of the word's letters. Two letters that changed places are
+/// The known word to which the fewest edits lead, if they are at most a third of the word's bytes. Two letters that changed places are
 /// one edit.
 pub fn nearest_word<'a>(
     alloc: Global,
     word: &str,
     known: &[&'a str],
-) -> Result<Option<&'a str>, AllocError> {
+) -> Result<Option<&'a str>, AllocError>
+    ensures { IfOk result (λ best. MatchOption best (All (IsFar word.now) (map (λ other. other.now) known.now))
+        (λ near. IsNearest word.now (map (λ other. other.now) known.now) near.now)) }
+{
     let mut best: Option<Near> = None;
     for candidate in known {
         let near = Near {
@@ -27,11 +32,16 @@ pub fn nearest_word<'a>(
             best = Some(near);
         }
     }
-    Ok(best.map(|near| near.word))
+    match best {
+        Some(near) => Ok(Some(near.word)),
+        None => Ok(None),
+    }
 }
 
 /// Whether fewer edits lead to a word than to the best one so far.
-fn is_nearer(near: Near, best: Option<Near>) -> bool {
+fn is_nearer(near: Near, best: Option<Near>) -> bool
+    ensures { (result ≡ true) ↔ IfSome best.entry (λ other. near.entry.distance < other.distance) }
+{
     match best {
         Some(best) => near.distance < best.distance,
         None => true,
