@@ -8,9 +8,10 @@ usage: NCROUTE=PATH scripts/check_memory.py [NAME..]
 The tests of a crate are crates/NAME/out/NAME_tests, which the gate and `rt test` leave there; where there are none, `rt test` builds them. Swept are
 those of the modules `memory`, and those of the lock.
 
-A test that meets a refused allocation ends with the error that it was handed (by `?`, or after it compared what a refused call left behind;
-then it also says what the call answered). A test that passes all the same did without the memory. Anything else is a fault: a wrong answer (a
-failed assertion, or an expectation, which is told without `error: `), a bad access, a test that does not end within a minute.
+A test that meets a refused allocation ends with the error that it was handed (by `?`, or at once by `some` or `done` of its module `asserts`, or
+after it compared what a refused call left behind; then it also says what the call answered). A test that passes all the same did without the memory.
+Anything else is a fault: a wrong answer (a failed assertion, or an expectation, which is told without `error: `), a bad access, a test that does not
+end within a minute.
 
 A run of the program that meets one ends with status 1 and the code of what was refused, and has written the first lines of its whole answer,
 each whole; or it did without, and ended as ever.
@@ -21,6 +22,7 @@ import glob
 import itertools
 import os
 import re
+import signal
 import subprocess
 import sys
 import tempfile
@@ -89,7 +91,9 @@ def built_tests(crate):
 
 
 def is_refusal(status, errors):
-    """Whether a test ended with the error that it was handed."""
+    """Whether a test ended with the error that it was handed, or that a call in it answered."""
+    if status == -signal.SIGABRT:
+        return re.search(rb"(?m)^error: ", errors)
     return status == 101 and b"its result gives status 1\n" in errors and re.search(rb"(?m)^error: | answered ", errors)
 
 

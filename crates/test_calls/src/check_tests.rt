@@ -1,27 +1,26 @@
 //! Runs of `check`: how much of a long input is read.
 
-use expectations::{expect, expect_bytes};
+use crate::asserts::{Host, done, must, must_bytes};
 use filter_commands::check_text;
-use std::alloc::Global;
-use std::test::Fail;
 
 /// The number of bytes that an input may have.
 const LIMIT: usize = 1_048_576;
 
 /// Expects what `check` answers to an input, of which it reads no more than one byte over the limit.
-fn expect_lines(
-    alloc: Global,
-    input: &[u8],
-    size: u32,
-    is_code: bool,
-    want: &str,
-) -> Result<(), Fail> {
+fn expect_lines<R: Host>(rt: &R, input: &[u8], size: u32, is_code: bool, want: &str) {
     let mut reader = input;
-    let mut writer = Vec::new(alloc);
-    let refused = check_text(alloc, &mut reader, &mut writer, size, is_code)?;
-    expect_bytes(writer.as_slice(), want.as_bytes())?;
+    let mut writer = Vec::new(rt.alloc());
+    let refused = done(
+        rt,
+        check_text(rt.alloc(), &mut reader, &mut writer, size, is_code),
+    );
+    must_bytes(rt, writer.as_slice(), want.as_bytes());
     let is_left = reader.len() == input.len().saturating_sub(LIMIT + 1);
-    expect(is_left && (refused == 1) == want.contains("refused"), want)
+    must(
+        rt,
+        is_left && (refused == 1) == want.contains("refused"),
+        want,
+    )
 }
 
 /// The bytes of an input, whether it is code, and the lines.
@@ -36,17 +35,16 @@ const LONG_INPUTS: [(usize, bool, &str); 7] = [
 ];
 
 /// A filter with so many bytes.
-fn padded(alloc: Global, len: usize) -> Result<Vec<u8>, Fail> {
-    let mut text = Vec::from_slice(alloc, b"filter q { accept; }")?;
-    text.resize(len, b' ')?;
-    Ok(text)
+fn padded<R: Host>(rt: &R, len: usize) -> Vec<u8> {
+    let mut text = done(rt, Vec::from_slice(rt.alloc(), b"filter q { accept; }"));
+    done(rt, text.resize(len, b' '));
+    text
 }
 
 #[test]
-fn inputs_have_limits(rt: HostRuntime) -> Result<(), Fail> {
+fn inputs_have_limits(rt: HostRuntime) {
     for (len, is_code, want) in &LONG_INPUTS {
-        let text = padded(rt.alloc(), *len)?;
-        expect_lines(rt.alloc(), text.as_slice(), 8, *is_code, want)?;
+        let text = padded(&rt, *len);
+        expect_lines(&rt, text.as_slice(), 8, *is_code, want);
     }
-    Ok(())
 }

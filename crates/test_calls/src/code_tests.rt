@@ -1,37 +1,39 @@
 //! What no command shows of codes: what can be made of parts, at all limits too. What codes answer, and which files are refused, is in
 //! `tests/rows/`.
 
+use crate::asserts::{Host, done, must, must_number, some};
 use code_file::{FileFault, read_code, write_code, write_old};
-use expectations::{expect, expect_number};
 use filter_code::{Code, Instr, IntRange, IntSet, Kind, Route, Value};
 use filter_verifier::{Verified, VerifyFault, verify};
 use prefix_patterns::{Ip, Pattern, PatternSet, Prefix};
-use std::alloc::{AllocError, Global};
-use std::test::Fail;
+use std::process::Abort;
 
 /// The prefix 10.0.0.0/8.
-fn net() -> Result<Prefix, Fail> {
-    Ok(Prefix::new(Ip(0x0a00_0000), 8).ok_or("a prefix of 8 bits")?)
+fn net<R: Host>(rt: &R) -> Prefix {
+    some(rt, Prefix::new(Ip(0x0a00_0000), 8), "a prefix of 8 bits")
 }
 
 /// So many sets of one pattern.
-fn sets(alloc: Global, count: u32) -> Result<Vec<PatternSet>, Fail> {
-    let pattern = Pattern::new(net()?, 15, 17).ok_or("a pattern")?;
-    let mut sets = Vec::new(alloc);
+fn sets<R: Host>(rt: &R, count: u32) -> Vec<PatternSet> {
+    let pattern = some(rt, Pattern::new(net(rt), 15, 17), "a pattern");
+    let mut sets = Vec::new(rt.alloc());
     for _set in 0..count {
-        sets.push(PatternSet::build(alloc, &[pattern])?)?;
+        done(
+            rt,
+            sets.push(done(rt, PatternSet::build(rt.alloc(), &[pattern]))),
+        );
     }
-    Ok(sets)
+    sets
 }
 
 /// So many sets of the numbers from 2 to 5.
-fn int_sets(alloc: Global, count: u32) -> Result<Vec<IntSet>, Fail> {
-    let range = IntRange::new(2, 5).ok_or("a range")?;
-    let mut sets = Vec::new(alloc);
+fn int_sets<R: Host>(rt: &R, count: u32) -> Vec<IntSet> {
+    let range = some(rt, IntRange::new(2, 5), "a range");
+    let mut sets = Vec::new(rt.alloc());
     for _set in 0..count {
-        sets.push(IntSet::build(alloc, &[range])?)?;
+        done(rt, sets.push(done(rt, IntSet::build(rt.alloc(), &[range]))));
     }
-    Ok(sets)
+    sets
 }
 
 /// The number of variables, of sets of patterns, of sets of ints and of instructions, one of these, and whether that is a code.
@@ -48,38 +50,32 @@ const PARTS: [(u8, u32, u32, usize, Instr, bool); 9] = [
 ];
 
 /// Expects that a code has the parts that it was made of.
-fn expect_parts(code: &Code, counts: (u8, u32, u32), instrs: &[Instr]) -> Result<(), Fail> {
-    expect_number(u64::from(code.locals()), u64::from(counts.0))?;
-    expect_number(code.sets().len() as u64, u64::from(counts.1))?;
-    expect_number(code.int_sets().len() as u64, u64::from(counts.2))?;
-    expect(code.instrs() == instrs, "the instructions")
+fn expect_parts<R: Host>(rt: &R, code: &Code, counts: (u8, u32, u32), instrs: &[Instr]) {
+    must_number(rt, u64::from(code.locals()), u64::from(counts.0));
+    must_number(rt, code.sets().len() as u64, u64::from(counts.1));
+    must_number(rt, code.int_sets().len() as u64, u64::from(counts.2));
+    must(rt, code.instrs() == instrs, "the instructions")
 }
 
 /// Expects that parts make a code, or that they do not.
-fn expect_code(
-    alloc: Global,
-    counts: (u8, u32, u32),
-    instrs: &[Instr],
-    is_code: bool,
-) -> Result<(), Fail> {
+fn expect_code<R: Host>(rt: &R, counts: (u8, u32, u32), instrs: &[Instr], is_code: bool) {
     let (locals, of_patterns, of_ints) = counts;
-    let (sets, int_sets) = (sets(alloc, of_patterns)?, int_sets(alloc, of_ints)?);
-    match Code::new(locals, sets, int_sets, instrs.to_vec(alloc)?) {
+    let (sets, int_sets) = (sets(rt, of_patterns), int_sets(rt, of_ints));
+    match Code::new(locals, sets, int_sets, done(rt, instrs.to_vec(rt.alloc()))) {
         Some(code) => {
-            expect(is_code, "no code")?;
-            expect_parts(&code, counts, instrs)
+            must(rt, is_code, "no code");
+            expect_parts(rt, &code, counts, instrs)
         }
-        None => expect(!is_code, "a code"),
+        None => must(rt, !is_code, "a code"),
     }
 }
 
 #[test]
-fn a_code_is_within_the_limits(rt: HostRuntime) -> Result<(), Fail> {
+fn a_code_is_within_the_limits(rt: HostRuntime) {
     for (locals, sets, int_sets, count, instr, is_code) in &PARTS {
-        let instrs = vec![in rt.alloc(); *instr; *count]?;
-        expect_code(rt.alloc(), (*locals, *sets, *int_sets), &instrs, *is_code)?;
+        let instrs = done(&rt, vec![in rt.alloc(); *instr; *count]);
+        expect_code(&rt, (*locals, *sets, *int_sets), &instrs, *is_code);
     }
-    Ok(())
 }
 
 /// A metric and a size, and whether a route has them.
@@ -95,23 +91,22 @@ const ROUTES: [(u32, u32, bool); 8] = [
 ];
 
 #[test]
-fn a_route_is_within_the_limits(_rt: HostRuntime) -> Result<(), Fail> {
+fn a_route_is_within_the_limits(rt: HostRuntime) {
     for (metric, size, is_route) in &ROUTES {
-        let is_so = match Route::new(net()?, *metric, *size) {
+        let is_so = match Route::new(net(&rt), *metric, *size) {
             Some(route) => *is_route && route.metric() == *metric && route.size() == *size,
             None => !*is_route,
         };
-        expect(is_so, "a route")?;
+        must(&rt, is_so, "a route");
     }
-    Ok(())
 }
 
 #[test]
-fn values_have_kinds(_rt: HostRuntime) -> Result<(), Fail> {
-    expect(Value::Int(7).kind() == Kind::Int, "an int")?;
-    expect(Value::Bool(true).kind() == Kind::Bool, "a bool")?;
-    expect(Value::Addr(Ip(7)).kind() == Kind::Ip, "an ip")?;
-    expect(Value::Net(net()?).kind() == Kind::Prefix, "a prefix")
+fn values_have_kinds(rt: HostRuntime) {
+    must(&rt, Value::Int(7).kind() == Kind::Int, "an int");
+    must(&rt, Value::Bool(true).kind() == Kind::Bool, "a bool");
+    must(&rt, Value::Addr(Ip(7)).kind() == Kind::Ip, "an ip");
+    must(&rt, Value::Net(net(&rt)).kind() == Kind::Prefix, "a prefix")
 }
 
 /// The metric raised by 2.
@@ -136,109 +131,111 @@ const WRAPPING: [Instr; 5] = [
 ];
 
 /// A code of these instructions, with three variables and a set of each kind.
-fn code_of(alloc: Global, instrs: &[Instr]) -> Result<Code, Fail> {
+fn code_of<R: Host>(rt: &R, instrs: &[Instr]) -> Code {
     let code = Code::new(
         3,
-        sets(alloc, 1)?,
-        int_sets(alloc, 1)?,
-        instrs.to_vec(alloc)?,
+        sets(rt, 1),
+        int_sets(rt, 1),
+        done(rt, instrs.to_vec(rt.alloc())),
     );
-    Ok(code.ok_or("a code")?)
+    some(rt, code, "a code")
 }
 
 /// Expects the bounds of that code, and the code.
-fn expect_verified(verified: &Verified) -> Result<(), Fail> {
+fn expect_verified<R: Host>(rt: &R, verified: &Verified) {
     let are_bounds = verified.budget() == 7 && verified.depth() == 2 && verified.size() == 8;
-    expect(are_bounds, "the bounds")?;
-    expect_parts(verified.code(), (3, 1, 1), &RAISED)
+    must(rt, are_bounds, "the bounds");
+    expect_parts(rt, verified.code(), (3, 1, 1), &RAISED)
 }
 
 #[test]
-fn verified_code_is_what_was_handed_in(rt: HostRuntime) -> Result<(), Fail> {
-    match verify(rt.alloc(), code_of(rt.alloc(), &RAISED)?, 8) {
-        Ok(verified) => expect_verified(&verified),
-        Err((_, fault)) => Err(Fail::from(fault)),
+fn verified_code_is_what_was_handed_in(rt: HostRuntime) {
+    match verify(rt.alloc(), code_of(&rt, &RAISED), 8) {
+        Ok(verified) => expect_verified(&rt, &verified),
+        Err((_, fault)) => rt.panic(format_args!("{fault:?}")),
     }
 }
 
 #[test]
-fn refused_code_is_handed_back(rt: HostRuntime) -> Result<(), Fail> {
-    match verify(rt.alloc(), code_of(rt.alloc(), &WRAPPING)?, 8) {
-        Ok(_) => Err(Fail::from("verified")),
+fn refused_code_is_handed_back(rt: HostRuntime) {
+    match verify(rt.alloc(), code_of(&rt, &WRAPPING), 8) {
+        Ok(_) => rt.panic("verified"),
         Err((code, fault)) => {
-            expect(fault == VerifyFault::LowerMetric(3), "another fault")?;
-            expect_parts(&code, (3, 1, 1), &WRAPPING)
+            must(&rt, fault == VerifyFault::LowerMetric(3), "another fault");
+            expect_parts(&rt, &code, (3, 1, 1), &WRAPPING)
         }
     }
 }
 
 /// The bytes of 64 sets of 1,024 patterns: X.0.0.0/24 to X.3.255.0/24 with all that is longer, where X is the number of the set.
-fn push_sets(bytes: &mut Vec<u8>) -> Result<(), AllocError> {
+fn push_sets<R: Host>(rt: &R, bytes: &mut Vec<u8>) {
     for entry in 0..65_536u32 {
         if entry % 1024 == 0 {
-            bytes.extend_from_slice(&[4, 0])?;
+            done(rt, bytes.extend_from_slice(&[4, 0]));
         }
         let [_, _, high, low] = (entry % 1024).to_be_bytes();
         let [_, _, _, set] = (entry / 1024).to_be_bytes();
-        bytes.extend_from_slice(&[set, high, low, 0, 24, 24, 32])?;
+        done(
+            rt,
+            bytes.extend_from_slice(&[set, high, low, 0, 24, 24, 32]),
+        );
     }
-    Ok(())
 }
 
 /// The bytes of 64 sets of 1,024 ranges: from each number below 1,024 to the greatest int.
-fn push_int_sets(bytes: &mut Vec<u8>) -> Result<(), AllocError> {
+fn push_int_sets<R: Host>(rt: &R, bytes: &mut Vec<u8>) {
     for entry in 0..65_536u32 {
         if entry % 1024 == 0 {
-            bytes.extend_from_slice(&[4, 0])?;
+            done(rt, bytes.extend_from_slice(&[4, 0]));
         }
-        bytes.extend_from_slice(&(entry % 1024).to_be_bytes())?;
-        bytes.extend_from_slice(&[255, 255, 255, 255])?;
+        done(rt, bytes.extend_from_slice(&(entry % 1024).to_be_bytes()));
+        done(rt, bytes.extend_from_slice(&[255, 255, 255, 255]));
     }
-    Ok(())
 }
 
 /// A code file at all limits, which no line has room for.
-fn full_file(alloc: Global) -> Result<Vec<u8>, AllocError> {
-    let mut bytes = Vec::from_slice(alloc, b"NCF2\x10\x40")?;
-    push_sets(&mut bytes)?;
-    bytes.push(0x40)?;
-    push_int_sets(&mut bytes)?;
-    bytes.extend_from_slice(&[4, 0])?;
+fn full_file<R: Host>(rt: &R) -> Vec<u8> {
+    let mut bytes = done(rt, Vec::from_slice(rt.alloc(), b"NCF2\x10\x40"));
+    push_sets(rt, &mut bytes);
+    done(rt, bytes.push(0x40));
+    push_int_sets(rt, &mut bytes);
+    done(rt, bytes.extend_from_slice(&[4, 0]));
     let end = bytes.len().saturating_add(1024);
-    bytes.resize(end, 0x70)?;
-    Ok(bytes)
+    done(rt, bytes.resize(end, 0x70));
+    bytes
 }
 
 /// Whether a code is written as these bytes.
-fn is_written(alloc: Global, code: &Code, bytes: &[u8]) -> Result<bool, FileFault> {
-    Ok(write_code(alloc, code)?.as_slice() == bytes)
+fn is_written<R: Host>(rt: &R, code: &Code, bytes: &[u8]) -> bool {
+    done(rt, write_code(rt.alloc(), code)).as_slice() == bytes
 }
 
 /// Expects that a code is at all limits, is written as these bytes, and has no older file.
-fn expect_full_code(alloc: Global, code: &Code, bytes: &[u8]) -> Result<(), Fail> {
-    expect_parts(code, (16, 64, 64), &[Instr::Accept; 1024])?;
+fn expect_full_code<R: Host>(rt: &R, code: &Code, bytes: &[u8]) {
+    expect_parts(rt, code, (16, 64, 64), &[Instr::Accept; 1024]);
     let last_set = code.sets().last().map(|set| set.patterns().len());
     let last_int_set = code.int_sets().last().map(|set| set.ranges().len());
     let are_full = last_set == Some(1024) && last_int_set == Some(1024);
-    expect(are_full, "sets of 1,024")?;
-    expect(is_written(alloc, code, bytes)?, "the same bytes")?;
-    let is_refused = matches!(write_old(alloc, code), Err(FileFault::OldForm));
-    expect(is_refused, "no older file")
+    must(rt, are_full, "sets of 1,024");
+    must(rt, is_written(rt, code, bytes), "the same bytes");
+    let is_refused = matches!(write_old(rt.alloc(), code), Err(FileFault::OldForm));
+    must(rt, is_refused, "no older file")
 }
 
 /// Expects that a file is read as such a code.
-fn expect_full(alloc: Global, bytes: &[u8]) -> Result<(), Fail> {
-    expect_full_code(alloc, &read_code(alloc, bytes)?, bytes)
+fn expect_full<R: Host>(rt: &R, bytes: &[u8]) {
+    expect_full_code(rt, &done(rt, read_code(rt.alloc(), bytes)), bytes)
 }
 
 #[test]
-fn a_code_file_at_all_limits(rt: HostRuntime) -> Result<(), Fail> {
-    let mut bytes = full_file(rt.alloc())?;
-    expect_full(rt.alloc(), &bytes)?;
+fn a_code_file_at_all_limits(rt: HostRuntime) {
+    let mut bytes = full_file(&rt);
+    expect_full(&rt, &bytes);
     let end = bytes.len();
-    bytes.push(0)?;
+    done(&rt, bytes.push(0));
     let fault = read_code(rt.alloc(), &bytes).err();
-    expect(
+    must(
+        &rt,
         fault == Some(FileFault::BytesAfterEnd(end)),
         "one byte more",
     )

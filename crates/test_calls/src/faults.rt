@@ -1,7 +1,7 @@
 //! What each fault says: its code, its place, and its text.
 
+use crate::asserts::{Host, done, must_str};
 use code_file::FileFault;
-use expectations::{expect_str, fault_line};
 use filter_code::FaultKind;
 use filter_commands::ProgramFault;
 use filter_compiler::CompileFault;
@@ -13,8 +13,7 @@ use line_protocol::StreamFault;
 use netchange_core::Refusal;
 use prefix_patterns::SetFault;
 use route_history::CallFault;
-use std::alloc::Global;
-use std::test::Fail;
+use std::fmt::Display;
 
 /// A fault of some call.
 enum Shown {
@@ -34,28 +33,32 @@ enum Shown {
     Call(CallFault),
 }
 
-/// What a fault says. One that has no place says 0.
-fn line_of(alloc: Global, fault: &Shown) -> Result<String, Fail> {
+/// A fault says this. One that has no place says 0.
+fn must_say<R: Host>(rt: &R, fault: &Shown, wanted: &str) {
     match fault {
-        Shown::Token(why) => fault_line(alloc, why.code(), why.at(), why),
-        Shown::Parse(why) => fault_line(alloc, why.code(), why.at(), why),
-        Shown::Type(why) => fault_line(alloc, why.code(), why.at(), why),
-        Shown::Compile(why) => fault_line(alloc, why.code(), why.at(), why),
-        Shown::File(why) => fault_line(alloc, why.code(), why.at(), why),
-        Shown::Run(why) => fault_line(alloc, why.code(), 0, why),
-        Shown::Verify(why) => fault_line(alloc, why.code(), why.at(), why),
-        Shown::Set(why) => fault_line(alloc, why.code(), why.at(), why),
-        Shown::Event(why) => fault_line(alloc, why.code(), 0, why),
-        Shown::Stream(why) => fault_line(alloc, why.code(), why.at(), why),
-        Shown::Ints(why) => fault_line(alloc, why.code(), why.at(), why),
-        Shown::Program(why) => program_line(alloc, ProgramFault::from(*why)),
-        Shown::Call(why) => fault_line(alloc, why.code(), why.at(), why),
+        Shown::Token(why) => must_be(rt, why.code(), why.at(), why, wanted),
+        Shown::Parse(why) => must_be(rt, why.code(), why.at(), why, wanted),
+        Shown::Type(why) => must_be(rt, why.code(), why.at(), why, wanted),
+        Shown::Compile(why) => must_be(rt, why.code(), why.at(), why, wanted),
+        Shown::File(why) => must_be(rt, why.code(), why.at(), why, wanted),
+        Shown::Run(why) => must_be(rt, why.code(), 0, why, wanted),
+        Shown::Verify(why) => must_be(rt, why.code(), why.at(), why, wanted),
+        Shown::Set(why) => must_be(rt, why.code(), why.at(), why, wanted),
+        Shown::Event(why) => must_be(rt, why.code(), 0, why, wanted),
+        Shown::Stream(why) => must_be(rt, why.code(), why.at(), why, wanted),
+        Shown::Ints(why) => must_be(rt, why.code(), why.at(), why, wanted),
+        Shown::Program(why) => {
+            let why = ProgramFault::from(*why);
+            must_be(rt, why.code(), why.at(), &why, wanted);
+        }
+        Shown::Call(why) => must_be(rt, why.code(), why.at(), why, wanted),
     }
 }
 
-/// What a fault of the program says.
-fn program_line(alloc: Global, why: ProgramFault) -> Result<String, Fail> {
-    fault_line(alloc, why.code(), why.at(), &why)
+/// The code, the place and the text of a fault are these.
+fn must_be<R: Host, T: Display>(rt: &R, code: &str, at: usize, why: &T, wanted: &str) {
+    let line = done(rt, format!(in rt.alloc(); "{code} {at} {why}"));
+    must_str(rt, line.as_str(), wanted);
 }
 
 /// Each fault, and what it says.
@@ -353,10 +356,8 @@ const FAULTS: [(Shown, &str); 80] = [
 ];
 
 #[test]
-fn faults_say(rt: HostRuntime) -> Result<(), Fail> {
+fn faults_say(rt: HostRuntime) {
     for (fault, wanted) in &FAULTS {
-        let line = line_of(rt.alloc(), fault)?;
-        expect_str(line.as_str(), wanted)?;
+        must_say(&rt, fault, wanted);
     }
-    Ok(())
 }

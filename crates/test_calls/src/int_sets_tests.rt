@@ -1,7 +1,7 @@
 //! Sets that are scanned and sets that are searched, each beside a plain list of first and last numbers.
+use crate::asserts::{Host, done, some};
 use int_sets::{IntRange, IntSet, SetFault};
-use std::alloc::Global;
-use std::test::Fail;
+use std::process::Abort;
 
 /// The first and the last number of some ranges, which overlap, touch and leave gaps.
 const ENDS: [(u32, u32); 12] = [
@@ -48,79 +48,78 @@ const NUMBERS: [u32; 24] = [
 ];
 
 /// The ranges with these first and last numbers.
-fn ranges_of(alloc: Global, ends: &[(u32, u32)]) -> Result<Vec<IntRange>, Fail> {
-    let mut ranges = Vec::new(alloc);
+fn ranges_of<R: Host>(rt: &R, ends: &[(u32, u32)]) -> Vec<IntRange> {
+    let mut ranges = Vec::new(rt.alloc());
     for (low, high) in ends {
-        ranges.push(IntRange::new(*low, *high).ok_or("a range")?)?;
+        done(
+            rt,
+            ranges.push(some(rt, IntRange::new(*low, *high), "a range")),
+        );
     }
-    Ok(ranges)
+    ranges
 }
 
 /// Expects that a set holds the numbers that ranges with these ends hold, and no others.
-fn expect_numbers(set: &IntSet, ends: &[(u32, u32)], numbers: &[u32]) -> Result<(), Fail> {
+fn expect_numbers<R: Host>(rt: &R, set: &IntSet, ends: &[(u32, u32)], numbers: &[u32]) {
     for number in numbers {
         let wanted = ends
             .iter()
             .any(|(low, high)| low <= number && number <= high);
         if set.holds(*number) != wanted {
-            return Err(Fail::new(format_args!("{number} of a set")));
+            rt.panic(format_args!("{number} of a set"));
         }
     }
-    Ok(())
 }
 
 #[test]
-fn sets_hold_what_their_ranges_hold(rt: HostRuntime) -> Result<(), Fail> {
+fn sets_hold_what_their_ranges_hold(rt: HostRuntime) {
     for count in 0..=ENDS.len() {
         let ends = &ENDS[..count];
-        let set = IntSet::build(rt.alloc(), &ranges_of(rt.alloc(), ends)?)?;
-        expect_numbers(&set, ends, &NUMBERS)?;
+        let set = done(&rt, IntSet::build(rt.alloc(), &ranges_of(&rt, ends)));
+        expect_numbers(&rt, &set, ends, &NUMBERS);
     }
-    Ok(())
 }
 
 /// The ends of as many ranges, none of which is in order.
-fn many(alloc: Global, count: u32) -> Result<Vec<(u32, u32)>, Fail> {
-    let mut ends = Vec::new(alloc);
+fn many<R: Host>(rt: &R, count: u32) -> Vec<(u32, u32)> {
+    let mut ends = Vec::new(rt.alloc());
     for at in 0..count {
         let low = at % 2048 * 919 % 4096;
-        ends.push((low, low + at % 5))?;
+        done(rt, ends.push((low, low + at % 5)));
     }
-    Ok(ends)
+    ends
 }
 
 /// Expects that a set has these ranges, and holds the numbers below 4,200 that they hold.
-fn expect_set(alloc: Global, ends: &[(u32, u32)], ranges: &[IntRange]) -> Result<(), Fail> {
-    let set = IntSet::build(alloc, ranges)?;
+fn expect_set<R: Host>(rt: &R, ends: &[(u32, u32)], ranges: &[IntRange]) {
+    let set = done(rt, IntSet::build(rt.alloc(), ranges));
     if set.ranges() != ranges {
-        return Err("the ranges that were given".into());
+        rt.panic("the ranges that were given");
     }
     for number in 0..4200u32 {
-        expect_numbers(&set, ends, &[number])?;
+        expect_numbers(rt, &set, ends, &[number]);
     }
-    Ok(())
 }
 
 #[test]
-fn a_set_has_1024_ranges(rt: HostRuntime) -> Result<(), Fail> {
-    let ends = many(rt.alloc(), 1024)?;
-    expect_set(rt.alloc(), &ends, &ranges_of(rt.alloc(), &ends)?)
+fn a_set_has_1024_ranges(rt: HostRuntime) {
+    let ends = many(&rt, 1024);
+    expect_set(&rt, &ends, &ranges_of(&rt, &ends))
 }
 
 #[test]
-fn one_more_range_is_refused(rt: HostRuntime) -> Result<(), Fail> {
-    let ranges = ranges_of(rt.alloc(), &many(rt.alloc(), 1025)?)?;
+fn one_more_range_is_refused(rt: HostRuntime) {
+    let ranges = ranges_of(&rt, &many(&rt, 1025));
     match IntSet::build(rt.alloc(), &ranges) {
-        Err(SetFault::TooManyRanges) => Ok(()),
-        _ => Err("one range too many".into()),
+        Err(SetFault::TooManyRanges) => {},
+        _ => rt.panic("one range too many"),
     }
 }
 
 #[test]
-fn ranges_are_in_order(_rt: HostRuntime) -> Result<(), Fail> {
-    let one = IntRange::new(7, 7).ok_or("one number")?;
+fn ranges_are_in_order(rt: HostRuntime) {
+    let one = some(&rt, IntRange::new(7, 7), "one number");
     if one.low() != 7 || one.high() != 7 || IntRange::new(8, 7).is_some() {
-        return Err("a range".into());
+        rt.panic("a range");
     }
-    Ok(())
 }

@@ -1,13 +1,12 @@
 //! The engine that answers lines, over readers and writers that give little at a time, and fail.
 
-use expectations::{expect, expect_bytes};
+use crate::asserts::{Host, done, must, must_bytes};
 use line_protocol::{
     INPUT_LIMIT, LINE_LIMIT, Reply, Service, StreamFault, answer_lines, answer_lines_within,
     next_word, push_decimal, push_refusal, trim_blanks,
 };
 use std::alloc::{AllocError, Global};
 use std::io::{ErrorKind, Read, Write};
-use std::test::Fail;
 use std::{fmt, io};
 
 /// How many bytes a sink holds.
@@ -209,32 +208,35 @@ const RUNS: [Run; 14] = [
 ];
 
 /// Expects how a run ends, and what it has written; all of that is flushed where it ends well.
-fn expect_run(alloc: Global, run: &Run) -> Result<(), Fail> {
+fn expect_run<R: Host>(rt: &R, run: &Run) {
     let (input, given, taken, room, want, text) = run;
     let mut reader = make_pieces(input, *given, *want == Err(StreamFault::Read));
     let mut out = make_sink(*taken, *room);
-    let answered = answer_lines(alloc, &mut reader, &mut out, &mut Echo);
-    expect_bytes(out.text(), text)?;
-    expect(answered == *want, "how a run ends")?;
+    let answered = answer_lines(rt.alloc(), &mut reader, &mut out, &mut Echo);
+    must_bytes(rt, out.text(), text);
+    must(rt, answered == *want, "how a run ends");
     let is_flushed = out.flushed == out.len;
-    expect(is_flushed || want.is_err(), "all is flushed")
+    must(rt, is_flushed || want.is_err(), "all is flushed")
 }
 
 #[test]
-fn runs_answer_whatever_the_pieces(rt: HostRuntime) -> Result<(), Fail> {
+fn runs_answer_whatever_the_pieces(rt: HostRuntime) {
     for run in &RUNS {
-        expect_run(rt.alloc(), run)?;
+        expect_run(&rt, run);
     }
-    Ok(())
 }
 
 #[test]
-fn a_run_ends_at_the_reply(rt: HostRuntime) -> Result<(), Fail> {
+fn a_run_ends_at_the_reply(rt: HostRuntime) {
     let mut reader = make_pieces(b"a\nquit\nb\nc\n", 8, false);
     let mut out = make_sink(100, 100);
     let answered = answer_lines(rt.alloc(), &mut reader, &mut out, &mut Echo);
-    expect(answered == Ok(1) && reader.rest.len() == 3, "what is left")?;
-    expect_bytes(out.text(), b"1 a\nrefused O1 2\n")
+    must(
+        &rt,
+        answered == Ok(1) && reader.rest.len() == 3,
+        "what is left",
+    );
+    must_bytes(&rt, out.text(), b"1 a\nrefused O1 2\n")
 }
 
 /// Faults that are no interruption.
@@ -284,13 +286,12 @@ fn ends_at_the_write(alloc: Global, kind: ErrorKind, left: u32) -> bool {
 
 /// Each is a fault at once, also of a writer that would take the next write. So a run that goes on ends well.
 #[test]
-fn a_failed_writer_is_not_asked_again(rt: HostRuntime) -> Result<(), Fail> {
+fn a_failed_writer_is_not_asked_again(rt: HostRuntime) {
     for kind in &KINDS {
         let ends = ends_at_the_write(rt.alloc(), *kind, 0)
             && ends_at_the_write(rt.alloc(), *kind, 1);
-        expect(ends, "a failed write")?;
+        must(&rt, ends, "a failed write");
     }
-    Ok(())
 }
 
 /// A limit that the caller chooses: the lines up to it are answered, and one byte more is the fault.
@@ -302,15 +303,14 @@ const LIMITS: [(usize, Result<u32, StreamFault>, &[u8]); 4] = [
 ];
 
 #[test]
-fn runs_read_up_to_a_chosen_limit(rt: HostRuntime) -> Result<(), Fail> {
+fn runs_read_up_to_a_chosen_limit(rt: HostRuntime) {
     for (limit, want, text) in &LIMITS {
         let mut reader = b"a\nb\nc".as_slice();
         let mut out = make_sink(100, 100);
         let answered = answer_lines_within(rt.alloc(), *limit, &mut reader, &mut out, &mut Echo);
-        expect(answered == *want, "a limit")?;
-        expect_bytes(out.text(), text)?;
+        must(&rt, answered == *want, "a limit");
+        must_bytes(&rt, out.text(), text);
     }
-    Ok(())
 }
 
 // Gives the line `a`, a comment up to the limit less four bytes, and then these.
@@ -351,7 +351,7 @@ const AT_THE_LIMIT: [(&[u8], Result<u32, StreamFault>, &[u8]); 2] = [
 ];
 
 #[test]
-fn runs_read_up_to_the_limit(rt: HostRuntime) -> Result<(), Fail> {
+fn runs_read_up_to_the_limit(rt: HostRuntime) {
     for (end, want, text) in &AT_THE_LIMIT {
         let mut reader = Long {
             given: 0,
@@ -359,10 +359,9 @@ fn runs_read_up_to_the_limit(rt: HostRuntime) -> Result<(), Fail> {
         };
         let mut out = make_sink(100, 1000);
         let answered = answer_lines(rt.alloc(), &mut reader, &mut out, &mut Echo);
-        expect(answered == *want, "the limit")?;
-        expect_bytes(out.text(), text)?;
+        must(&rt, answered == *want, "the limit");
+        must_bytes(&rt, out.text(), text);
     }
-    Ok(())
 }
 
 /// The lengths of long lines.
@@ -377,18 +376,17 @@ const LENGTHS: [usize; 7] = [
 ];
 
 #[test]
-fn long_lines_are_handed_on(rt: HostRuntime) -> Result<(), Fail> {
+fn long_lines_are_handed_on(rt: HostRuntime) {
     for len in &LENGTHS {
-        let mut input = vec![in rt.alloc(); b'x'; *len]?;
-        input.extend_from_slice(b"\r\nb\n")?;
+        let mut input = done(&rt, vec![in rt.alloc(); b'x'; *len]);
+        done(&rt, input.extend_from_slice(b"\r\nb\n"));
         let mut reader = make_pieces(input.as_slice(), 5000, false);
         let mut out = make_sink(100_000, 10_000_000);
         let answered = answer_lines(rt.alloc(), &mut reader, &mut out, &mut Echo);
         // Two lines with their numbers are three bytes longer than the input, which has a carriage return.
         let is_whole = out.len.checked_sub(input.len()) == Some(3);
-        expect(answered == Ok(0) && is_whole, "a long line")?;
+        must(&rt, answered == Ok(0) && is_whole, "a long line");
     }
-    Ok(())
 }
 
 /// A line, its first word, and what follows without the blanks around it.
@@ -398,11 +396,10 @@ const WORDS: [(&[u8], &[u8], &[u8]); 2] = [
 ];
 
 #[test]
-fn words_are_cut(_rt: HostRuntime) -> Result<(), Fail> {
+fn words_are_cut(rt: HostRuntime) {
     for (line, first, others) in &WORDS {
         let (word, rest) = next_word(line).unwrap_or((b"", b" \t "));
-        expect_bytes(word, first)?;
-        expect_bytes(trim_blanks(rest), others)?;
+        must_bytes(&rt, word, first);
+        must_bytes(&rt, trim_blanks(rest), others);
     }
-    Ok(())
 }

@@ -1,12 +1,11 @@
 //! The machine for verified code beside the checked machine, on random verified code and random routes.
 
-use expectations::{Numbers, expect};
+use crate::asserts::{Host, done, must, some};
+use expectations::Numbers;
 use filter_code::{Code, Instr, IntRange, IntSet, Outcome, Route, run_counted};
 use filter_machine::{Verdict, run};
 use filter_verifier::{Verified, verify};
 use prefix_patterns::{Ip, Pattern, PatternSet, Prefix};
-use std::alloc::{AllocError, Global};
-use std::test::Fail;
 
 /// The size of the domain.
 const SIZE: u32 = 250;
@@ -124,65 +123,77 @@ fn patterns() -> Option<[Pattern; 2]> {
 }
 
 /// The sets of each code: of those patterns, and of none.
-fn sets(alloc: Global) -> Result<Vec<PatternSet>, Fail> {
-    let patterns = patterns().ok_or("patterns")?;
-    let mut sets = Vec::new(alloc);
+fn sets<R: Host>(rt: &R) -> Vec<PatternSet> {
+    let patterns = some(rt, patterns(), "patterns");
+    let mut sets = Vec::new(rt.alloc());
     for patterns in [patterns.as_slice(), &[]] {
-        sets.push(PatternSet::build(alloc, patterns)?)?;
+        done(
+            rt,
+            sets.push(done(rt, PatternSet::build(rt.alloc(), patterns))),
+        );
     }
-    Ok(sets)
+    sets
 }
 
 /// The sets of ints of each code: of the ints of four ranges, and of none.
-fn int_sets(alloc: Global) -> Result<Vec<IntSet>, Fail> {
-    let mut ranges = Vec::new(alloc);
+fn int_sets<R: Host>(rt: &R) -> Vec<IntSet> {
+    let mut ranges = Vec::new(rt.alloc());
     for (low, high) in [(0, 0), (3, 9), (7, 120), (200, 4_294_967_295)] {
-        ranges.push(IntRange::new(low, high).ok_or("a range")?)?;
+        done(
+            rt,
+            ranges.push(some(rt, IntRange::new(low, high), "a range")),
+        );
     }
-    let mut sets = Vec::new(alloc);
+    let mut sets = Vec::new(rt.alloc());
     for ranges in [ranges.as_slice(), &[]] {
-        sets.push(IntSet::build(alloc, ranges)?)?;
+        done(rt, sets.push(done(rt, IntSet::build(rt.alloc(), ranges))));
     }
-    Ok(sets)
+    sets
 }
 
 /// The code of these instructions, if it verifies.
-fn verified(alloc: Global, instrs: &[Instr]) -> Result<Option<Verified>, Fail> {
-    let code = Code::new(4, sets(alloc)?, int_sets(alloc)?, instrs.to_vec(alloc)?).ok_or(
+fn verified<R: Host>(rt: &R, instrs: &[Instr]) -> Option<Verified> {
+    let code = some(
+        rt,
+        Code::new(
+            4,
+            sets(rt),
+            int_sets(rt),
+            done(rt, instrs.to_vec(rt.alloc())),
+        ),
         "a code within the limits",
-    )?;
-    Ok(verify(alloc, code, SIZE).ok())
+    );
+    verify(rt.alloc(), code, SIZE).ok()
 }
 
 /// Adds what there is of some instructions.
-fn extend(instrs: &mut Vec<Instr>, piece: &[Option<Instr>]) -> Result<(), AllocError> {
+fn extend<R: Host>(rt: &R, instrs: &mut Vec<Instr>, piece: &[Option<Instr>]) {
     for instr in piece {
         if let Some(instr) = instr {
-            instrs.push(*instr)?;
+            done(rt, instrs.push(*instr));
         }
     }
-    Ok(())
 }
 
 /// Whether instructions, ended by ACCEPT, verify.
-fn is_verified(alloc: Global, instrs: &[Instr]) -> Result<bool, Fail> {
-    let mut ended = instrs.to_vec(alloc)?;
-    ended.push(Instr::Accept)?;
-    Ok(verified(alloc, &ended)?.is_some())
+fn is_verified<R: Host>(rt: &R, instrs: &[Instr]) -> bool {
+    let mut ended = done(rt, instrs.to_vec(rt.alloc()));
+    done(rt, ended.push(Instr::Accept));
+    verified(rt, &ended).is_some()
 }
 
 /// Random code that verifies: a piece stays in it if the code with it, ended by ACCEPT, verifies.
-fn random_code(alloc: Global, numbers: &mut Numbers) -> Result<Vec<Instr>, Fail> {
-    let mut instrs = Vec::new(alloc);
+fn random_code<R: Host>(rt: &R, numbers: &mut Numbers) -> Vec<Instr> {
+    let mut instrs = Vec::new(rt.alloc());
     for _ in 0..120 {
         let length = instrs.len();
-        extend(&mut instrs, &piece(numbers).ok_or("a piece")?)?;
-        if !is_verified(alloc, &instrs)? {
+        extend(rt, &mut instrs, &some(rt, piece(numbers), "a piece"));
+        if !is_verified(rt, &instrs) {
             instrs.truncate(length);
         }
     }
-    instrs.push(Instr::Accept)?;
-    Ok(instrs)
+    done(rt, instrs.push(Instr::Accept));
+    instrs
 }
 
 /// The outcome that a verdict is.
@@ -194,20 +205,20 @@ fn outcome_of(verdict: Verdict) -> Outcome {
 }
 
 /// Runs verified code by both machines on some routes, and counts the steps of all runs.
-fn compare(verified: &Verified, numbers: &mut Numbers) -> Result<u64, Fail> {
+fn compare<R: Host>(rt: &R, verified: &Verified, numbers: &mut Numbers) -> u64 {
     let mut steps: u64 = 0;
     for _ in 0..12 {
-        let net = prefix(numbers).ok_or("a prefix")?;
+        let net = some(rt, prefix(numbers), "a prefix");
         let metric = numbers.below(SIZE + 1).min(verified.size());
-        let route = Route::new(net, metric, verified.size()).ok_or("a route")?;
+        let route = some(rt, Route::new(net, metric, verified.size()), "a route");
         let ran = run(verified, &net, metric);
         let counted = run_counted(verified.code(), &route);
         let is_same = outcome_of(ran.verdict) == counted.outcome && ran.steps == counted.steps;
-        expect(is_same, "both machines answer alike")?;
-        expect(ran.steps <= verified.budget(), "within the budget")?;
+        must(rt, is_same, "both machines answer alike");
+        must(rt, ran.steps <= verified.budget(), "within the budget");
         steps = steps.saturating_add(u64::from(ran.steps));
     }
-    Ok(steps)
+    steps
 }
 
 /// How many of the instructions have an opcode.
@@ -219,11 +230,11 @@ fn count(instrs: &[Instr], opcode: u8) -> usize {
 }
 
 /// Runs random code by both machines, and adds it to the rest: how many steps its runs had.
-fn run_both(alloc: Global, numbers: &mut Numbers, all: &mut Vec<Instr>) -> Result<u64, Fail> {
-    let instrs = random_code(alloc, numbers)?;
-    all.extend_from_slice(&instrs)?;
-    let code = verified(alloc, &instrs)?.ok_or("code that verifies")?;
-    compare(&code, numbers)
+fn run_both<R: Host>(rt: &R, numbers: &mut Numbers, all: &mut Vec<Instr>) -> u64 {
+    let instrs = random_code(rt, numbers);
+    done(rt, all.extend_from_slice(&instrs));
+    let code = some(rt, verified(rt, &instrs), "code that verifies");
+    compare(rt, &code, numbers)
 }
 
 /// All opcodes.
@@ -231,17 +242,17 @@ const OPCODES: [u8; 29] =
     *b"\x01\x02\x03\x04\x10\x11\x12\x13\x14\x15\x20\x21\x22\x23\x24\x30\x31\x32\x33\x40\x41\x42\x50\x51\x52\x60\x61\x70\x71";
 
 #[test]
-fn random_code_runs_the_same(rt: HostRuntime) -> Result<(), Fail> {
+fn random_code_runs_the_same(rt: HostRuntime) {
     let mut numbers = Numbers::new(2026);
     let mut all = Vec::new(rt.alloc());
     let mut steps: u64 = 0;
     for _ in 0..40 {
-        let ran = run_both(rt.alloc(), &mut numbers, &mut all)?;
+        let ran = run_both(&rt, &mut numbers, &mut all);
         steps = steps.saturating_add(ran);
     }
     // The code has each instruction, and the runs are long enough to tell the machines apart.
     for opcode in OPCODES {
-        expect(count(&all, opcode) > 0, "each opcode")?;
+        must(&rt, count(&all, opcode) > 0, "each opcode");
     }
-    expect(steps > 10_000, "long runs")
+    must(&rt, steps > 10_000, "long runs")
 }

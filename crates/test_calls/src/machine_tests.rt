@@ -1,27 +1,25 @@
 //! Runs of verified code, with their steps, beside the checked machine.
 
+use crate::asserts::{Host, done, must, some};
 use crate::worked_filters::{FILTERS, WorkedFilter};
-use expectations::expect;
 use filter_code::{Code, Instr, Outcome, Route, run_checked};
 use filter_machine::{Ran, Verdict, run};
 use filter_source::read_hexadecimal;
 use filter_verifier::verify;
 use prefix_patterns::{Ip, Prefix, read_prefix};
-use std::alloc::{AllocError, Global};
-use std::test::Fail;
 
 /// How a route goes through verified code: the run, and the outcome of the checked machine.
-fn both(alloc: Global, code: Code, route: &Route) -> Result<(Ran, Outcome), Fail> {
-    match verify(alloc, code, route.size()) {
+fn both<R: Host>(rt: &R, code: Code, route: &Route) -> (Ran, Outcome) {
+    match verify(rt.alloc(), code, route.size()) {
         Ok(verified) => {
             let metric = route.metric();
             if metric > verified.size() {
-                return Err(Fail::from("a metric up to the size"));
+                rt.panic("a metric up to the size");
             }
             let ran = run(&verified, &route.net(), metric);
-            Ok((ran, run_checked(verified.code(), route)))
+            (ran, run_checked(verified.code(), route))
         }
-        Err((_, fault)) => Err(Fail::from(fault)),
+        Err((_, fault)) => rt.panic(format_args!("{fault:?}")),
     }
 }
 
@@ -34,23 +32,29 @@ fn outcome_of(verdict: Verdict) -> Outcome {
 }
 
 /// Compares the runs of a filter's routes with their rows, by both machines.
-fn compare(alloc: Global, row: &WorkedFilter) -> Result<(), Fail> {
+fn compare<R: Host>(rt: &R, row: &WorkedFilter) {
     for (prefix, metric, wanted, steps) in row.routes {
-        let net = read_prefix(prefix.as_bytes()).ok_or("a prefix")?;
-        let route = Route::new(net, *metric, row.size).ok_or("a route within the limits")?;
-        let (ran, outcome) = both(alloc, read_hexadecimal(alloc, row.file.as_bytes())?, &route)?;
+        let net = some(rt, read_prefix(prefix.as_bytes()), "a prefix");
+        let route = some(
+            rt,
+            Route::new(net, *metric, row.size),
+            "a route within the limits",
+        );
+        let (ran, outcome) = both(
+            rt,
+            done(rt, read_hexadecimal(rt.alloc(), row.file.as_bytes())),
+            &route,
+        );
         let is_so = outcome == *wanted && outcome_of(ran.verdict) == *wanted && ran.steps == *steps;
-        expect(is_so, row.file)?;
+        must(rt, is_so, row.file);
     }
-    Ok(())
 }
 
 #[test]
-fn worked_filters(rt: HostRuntime) -> Result<(), Fail> {
+fn worked_filters(rt: HostRuntime) {
     for row in &FILTERS {
-        compare(rt.alloc(), row)?;
+        compare(&rt, row);
     }
-    Ok(())
 }
 
 /// Instructions that are run.
@@ -72,30 +76,33 @@ enum Program {
 const SET_IT: [Instr; 4] = [Instr::Received, Instr::Max, Instr::SetMetric, Instr::Reject];
 
 /// The instructions of a program.
-fn instrs_of(alloc: Global, program: Program) -> Result<Vec<Instr>, AllocError> {
+fn instrs_of<R: Host>(rt: &R, program: Program) -> Vec<Instr> {
     match program {
-        Program::Smallest => [Instr::Accept].to_vec(alloc),
+        Program::Smallest => done(rt, [Instr::Accept].to_vec(rt.alloc())),
         Program::And2(instr) => {
-            [
+            let all = [
                 Instr::Metric,
                 Instr::Int(2),
                 instr,
                 Instr::SetMetric,
                 Instr::Accept,
-            ]
-            .to_vec(alloc)
+            ];
+            done(rt, all.to_vec(rt.alloc()))
         }
-        Program::Eight => [Instr::Int(8), Instr::SetMetric, Instr::Accept].to_vec(alloc),
+        Program::Eight => {
+            let all = [Instr::Int(8), Instr::SetMetric, Instr::Accept];
+            done(rt, all.to_vec(rt.alloc()))
+        }
         Program::Many(instr) => {
-            let mut instrs = vec![in alloc; instr; 1023]?;
-            instrs.push(Instr::Reject)?;
-            Ok(instrs)
+            let mut instrs = done(rt, vec![in rt.alloc(); instr; 1023]);
+            done(rt, instrs.push(Instr::Reject));
+            instrs
         }
         Program::NestedSum => {
-            let mut instrs = vec![in alloc; Instr::Int(1); 32]?;
-            instrs.resize(63, Instr::Add)?;
-            instrs.extend_from_slice(&SET_IT)?;
-            Ok(instrs)
+            let mut instrs = done(rt, vec![in rt.alloc(); Instr::Int(1); 32]);
+            done(rt, instrs.resize(63, Instr::Add));
+            done(rt, instrs.extend_from_slice(&SET_IT));
+            instrs
         }
     }
 }
@@ -120,26 +127,29 @@ const ROWS: [Row; 7] = [
 ];
 
 /// A code of instructions alone.
-fn code_of(alloc: Global, instrs: Vec<Instr>) -> Result<Code, Fail> {
-    let code = Code::new(0, Vec::new(alloc), Vec::new(alloc), instrs);
-    Ok(code.ok_or("a code")?)
+fn code_of<R: Host>(rt: &R, instrs: Vec<Instr>) -> Code {
+    let code = Code::new(0, Vec::new(rt.alloc()), Vec::new(rt.alloc()), instrs);
+    some(rt, code, "a code")
 }
 
 /// Expects how a program runs, by both machines.
-fn expect_run(alloc: Global, row: &Row) -> Result<(), Fail> {
+fn expect_run<R: Host>(rt: &R, row: &Row) {
     let (program, metric, size, verdict, steps) = *row;
-    let net = Prefix::new(Ip(0x0a00_0000), 8).ok_or("a prefix of 8 bits")?;
-    let route = Route::new(net, metric, size).ok_or("a route within the limits")?;
-    let code = code_of(alloc, instrs_of(alloc, program)?)?;
-    let (ran, outcome) = both(alloc, code, &route)?;
+    let net = some(rt, Prefix::new(Ip(0x0a00_0000), 8), "a prefix of 8 bits");
+    let route = some(
+        rt,
+        Route::new(net, metric, size),
+        "a route within the limits",
+    );
+    let code = code_of(rt, instrs_of(rt, program));
+    let (ran, outcome) = both(rt, code, &route);
     let is_so = ran == Ran { verdict, steps } && outcome == outcome_of(verdict);
-    expect(is_so, "the verdict and the steps")
+    must(rt, is_so, "the verdict and the steps")
 }
 
 #[test]
-fn runs_answer_as_the_checked_machine(rt: HostRuntime) -> Result<(), Fail> {
+fn runs_answer_as_the_checked_machine(rt: HostRuntime) {
     for row in &ROWS {
-        expect_run(rt.alloc(), row)?;
+        expect_run(&rt, row);
     }
-    Ok(())
 }

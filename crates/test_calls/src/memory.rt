@@ -3,12 +3,12 @@
 //! `scripts/check_memory.py` runs this test with one allocation refused at a time, from the first to the last. So in each of its runs at most one
 //! call is refused memory. That one has to say so, and to answer as ever when it is made again; the test then ends with what the call answered.
 
+use crate::asserts::{Host, must};
 use crate::memory_code::{Source, built, read, sourced, verified, verified_source, written};
 use crate::memory_filters::{compiled, judged, judged_plainly, mapped, parsed};
 use crate::memory_lines::{answered, run};
 use crate::memory_tables::{Change, applied, entered, kept, looked, opened, replayed};
-use expectations::{Answered, expect, is_refused, refused};
-use std::alloc::Global;
+use expectations::{Answered, is_refused, refused};
 use std::test::Fail;
 
 /// A call of the tables below, on what it is made.
@@ -71,36 +71,35 @@ const CALLS: [(Call, &str, &str); 27] = [
 ];
 
 /// Makes a call, on values that are made for it.
-fn made(alloc: Global, call: Call) -> Result<Answered, Fail> {
+fn made<R: Host>(rt: &R, call: Call) -> Answered {
     match call {
-        Call::Build(count) => built(alloc, count),
-        Call::Read => Ok(read(alloc)),
-        Call::Write => written(alloc),
-        Call::Parse => Ok(parsed(alloc)),
-        Call::Check => judged(alloc),
-        Call::CheckWithoutMemory => judged_plainly(alloc),
-        Call::Compile => compiled(alloc),
-        Call::CompileMapped => mapped(alloc),
-        Call::Verify => verified(alloc),
-        Call::Source(source) => Ok(sourced(alloc, source)),
-        Call::VerifyCode => verified_source(alloc),
-        Call::OpenTables => opened(alloc),
-        Call::Apply(change) => applied(alloc, change),
-        Call::Look => looked(alloc),
-        Call::OpenJournal => kept(alloc),
-        Call::Enter => entered(alloc),
-        Call::Replay => replayed(alloc),
-        Call::Answer => Ok(answered(alloc)),
-        Call::Run => Ok(run(alloc)),
+        Call::Build(count) => built(rt, count),
+        Call::Read => read(rt.alloc()),
+        Call::Write => written(rt),
+        Call::Parse => parsed(rt.alloc()),
+        Call::Check => judged(rt),
+        Call::CheckWithoutMemory => judged_plainly(rt),
+        Call::Compile => compiled(rt),
+        Call::CompileMapped => mapped(rt),
+        Call::Verify => verified(rt),
+        Call::Source(source) => sourced(rt.alloc(), source),
+        Call::VerifyCode => verified_source(rt),
+        Call::OpenTables => opened(rt),
+        Call::Apply(change) => applied(rt, change),
+        Call::Look => looked(rt),
+        Call::OpenJournal => kept(rt),
+        Call::Enter => entered(rt),
+        Call::Replay => replayed(rt),
+        Call::Answer => answered(rt.alloc()),
+        Call::Run => run(rt.alloc()),
     }
 }
 
 #[test]
 fn calls_are_answered_or_refused(rt: HostRuntime) -> Result<(), Fail> {
     for (call, name, code) in &CALLS {
-        if is_refused(name, code, made(rt.alloc(), *call)?)? {
-            let is_so = made(rt.alloc(), *call)? == Ok(true);
-            expect(is_so, name)?;
+        if is_refused(name, code, made(&rt, *call))? {
+            must(&rt, made(&rt, *call) == Ok(true), name);
             return Err(refused(name, code));
         }
     }

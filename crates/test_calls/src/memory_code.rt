@@ -1,13 +1,13 @@
 //! Sets, codes and their files, and sources of code: built, read, written and verified, with memory and without.
 
+use crate::asserts::{Host, done, must, some};
 use code_file::{read_code, write_code};
-use expectations::{Answered, expect};
+use expectations::Answered;
 use filter_code::{Code, Instr, IntSet};
 use filter_source::{Failure, compile_text, read_file, read_hexadecimal, verify_code};
 use filter_verifier::{Verified, verify};
 use prefix_patterns::{Ip, Pattern, PatternSet, Prefix};
 use std::alloc::Global;
-use std::test::Fail;
 
 /// Two patterns: 10.0.0.0/8 with lengths from 8 to 16, and 11.0.0.0/8 alone.
 fn patterns() -> Option<[Pattern; 2]> {
@@ -27,14 +27,14 @@ fn is_set(set: &PatternSet, given: &[Pattern]) -> bool {
 }
 
 /// Builds a set of so many patterns, up to 20.
-pub fn built(alloc: Global, count: usize) -> Result<Answered, Fail> {
-    let [first, second] = patterns().ok_or("two patterns")?;
+pub fn built<R: Host>(rt: &R, count: usize) -> Answered {
+    let [first, second] = some(rt, patterns(), "two patterns");
     let mut all = [second; 20];
     all[1] = first;
-    let given = all.get(..count).ok_or("20 patterns")?;
-    match PatternSet::build(alloc, given) {
-        Ok(set) => Ok(Ok(is_set(&set, given))),
-        Err(fault) => Ok(Err(fault.code())),
+    let given = some(rt, all.get(..count), "20 patterns");
+    match PatternSet::build(rt.alloc(), given) {
+        Ok(set) => Ok(is_set(&set, given)),
+        Err(fault) => Err(fault.code()),
     }
 }
 
@@ -83,13 +83,13 @@ pub fn read(alloc: Global) -> Answered {
 }
 
 /// Writes the file.
-pub fn written(alloc: Global) -> Result<Answered, Fail> {
-    let code = read_code(alloc, &FILE)?;
-    match write_code(alloc, &code) {
-        Ok(bytes) => Ok(Ok(bytes.as_slice() == FILE.as_slice())),
+pub fn written<R: Host>(rt: &R) -> Answered {
+    let code = done(rt, read_code(rt.alloc(), &FILE));
+    match write_code(rt.alloc(), &code) {
+        Ok(bytes) => Ok(bytes.as_slice() == FILE.as_slice()),
         Err(fault) => {
-            expect(is_code(&code), "the same code")?;
-            Ok(Err(fault.code()))
+            must(rt, is_code(&code), "the same code");
+            Err(fault.code())
         }
     }
 }
@@ -107,11 +107,19 @@ const TWO_WAYS: [Instr; 8] = [
 ];
 
 /// The code of those instructions, with the sets of the file.
-fn two_ways(alloc: Global) -> Result<Code, Fail> {
-    let patterns = patterns().ok_or("two patterns")?;
-    let sets = vec![in alloc; PatternSet::build(alloc, &patterns)?]?;
-    let code = Code::new(1, sets, Vec::new(alloc), TWO_WAYS.to_vec(alloc)?);
-    Ok(code.ok_or("a code")?)
+fn two_ways<R: Host>(rt: &R) -> Code {
+    let patterns = some(rt, patterns(), "two patterns");
+    let sets = done(
+        rt,
+        vec![in rt.alloc(); done(rt, PatternSet::build(rt.alloc(), &patterns))],
+    );
+    let code = Code::new(
+        1,
+        sets,
+        Vec::new(rt.alloc()),
+        done(rt, TWO_WAYS.to_vec(rt.alloc())),
+    );
+    some(rt, code, "a code")
 }
 
 /// Whether a code is that one.
@@ -126,16 +134,16 @@ fn is_verified(verified: &Verified) -> bool {
 }
 
 /// Verifies that code. The same code is handed back where memory is refused, and can be verified then.
-pub fn verified(alloc: Global) -> Result<Answered, Fail> {
-    match verify(alloc, two_ways(alloc)?, 8) {
-        Ok(verified) => Ok(Ok(is_verified(&verified))),
+pub fn verified<R: Host>(rt: &R) -> Answered {
+    match verify(rt.alloc(), two_ways(rt), 8) {
+        Ok(verified) => Ok(is_verified(&verified)),
         Err((code, fault)) => {
-            expect(is_two_ways(&code), "the same code")?;
-            match verify(alloc, code, 8) {
-                Ok(verified) => expect(is_verified(&verified), "verified again")?,
-                Err((_, again)) => return Err(Fail::from(again)),
+            must(rt, is_two_ways(&code), "the same code");
+            match verify(rt.alloc(), code, 8) {
+                Ok(verified) => must(rt, is_verified(&verified), "verified again"),
+                Err((_, again)) => rt.panic(format_args!("{again:?}")),
             }
-            Ok(Err(fault.code()))
+            Err(fault.code())
         }
     }
 }
@@ -192,13 +200,13 @@ pub fn sourced(alloc: Global, source: Source) -> Answered {
 }
 
 /// Verifies the code of a source, with its bounds.
-pub fn verified_source(alloc: Global) -> Result<Answered, Fail> {
-    match verify_code(alloc, read_file(alloc, UP_TWO_FILE)?, 8) {
+pub fn verified_source<R: Host>(rt: &R) -> Answered {
+    match verify_code(rt.alloc(), done(rt, read_file(rt.alloc(), UP_TWO_FILE)), 8) {
         Ok(verified) => {
             let are_bounds = verified.size() == 8 && verified.budget() == 7;
-            Ok(Ok(are_bounds && verified.depth() == 2 && is_up_two(verified.code())))
+            Ok(are_bounds && verified.depth() == 2 && is_up_two(verified.code()))
         }
-        Err(Failure::Memory) => Ok(Err("Memory")),
-        Err(_) => Ok(Ok(false)),
+        Err(Failure::Memory) => Err("Memory"),
+        Err(_) => Ok(false),
     }
 }

@@ -1,5 +1,6 @@
 //! A filter's text: read, judged and compiled, with memory and without.
 
+use crate::asserts::{Host, done};
 use crate::line_tests::make_sink;
 use expectations::Answered;
 use filter_code::{Code, Instr};
@@ -9,7 +10,6 @@ use filter_types::{Typed, check};
 use prefix_patterns::{Ip, Pattern, Prefix};
 use std::alloc::Global;
 use std::fmt::Write;
-use std::test::Fail;
 
 /// Has what trees and code are built from: a declaration, an assignment, a sum, a suffix, parentheses, `!`, comparisons, a set, a
 /// block, and an `if` in an `if`.
@@ -84,44 +84,47 @@ pub fn parsed(alloc: Global) -> Answered {
 }
 
 /// Judges the text with labels.
-pub fn judged(alloc: Global) -> Result<Answered, Fail> {
-    match check(alloc, parse(alloc, CASE.as_bytes())?) {
-        Ok(typed) => Ok(Ok(typed.number_of(b"c") == 0)),
-        Err(fault) => Ok(Err(fault.code())),
+pub fn judged<R: Host>(rt: &R) -> Answered {
+    match check(rt.alloc(), done(rt, parse(rt.alloc(), CASE.as_bytes()))) {
+        Ok(typed) => Ok(typed.number_of(b"c") == 0),
+        Err(fault) => Err(fault.code()),
     }
 }
 
 /// Judges the other text, which has none. Its variable is the first one.
-pub fn judged_plainly(alloc: Global) -> Result<Answered, Fail> {
-    match check(alloc, parse(alloc, TEXT.as_bytes())?) {
+pub fn judged_plainly<R: Host>(rt: &R) -> Answered {
+    match check(rt.alloc(), done(rt, parse(rt.alloc(), TEXT.as_bytes()))) {
         Ok(typed) => {
             let are_numbers = typed.number_of(b"a") == 0 && typed.number_of(b"other") == 1;
-            Ok(Ok(are_numbers && is_tree(typed.filter())))
+            Ok(are_numbers && is_tree(typed.filter()))
         }
-        Err(fault) => Ok(Err(fault.code())),
+        Err(fault) => Err(fault.code()),
     }
 }
 
 /// That text, judged.
-fn typed(alloc: Global) -> Result<Typed, Fail> {
-    Ok(check(alloc, parse(alloc, TEXT.as_bytes())?)?)
+fn typed<R: Host>(rt: &R) -> Typed {
+    done(
+        rt,
+        check(rt.alloc(), done(rt, parse(rt.alloc(), TEXT.as_bytes()))),
+    )
 }
 
 /// Compiles the text.
-pub fn compiled(alloc: Global) -> Result<Answered, Fail> {
-    match compile(alloc, &typed(alloc)?) {
-        Ok(code) => Ok(Ok(is_code(&code))),
-        Err(fault) => Ok(Err(fault.code())),
+pub fn compiled<R: Host>(rt: &R) -> Answered {
+    match compile(rt.alloc(), &typed(rt)) {
+        Ok(code) => Ok(is_code(&code)),
+        Err(fault) => Err(fault.code()),
     }
 }
 
 /// Compiles the text, with the places of its instructions.
-pub fn mapped(alloc: Global) -> Result<Answered, Fail> {
-    match compile_mapped(alloc, &typed(alloc)?) {
+pub fn mapped<R: Host>(rt: &R) -> Answered {
+    match compile_mapped(rt.alloc(), &typed(rt)) {
         Ok(mapped) => {
             let are_places = mapped.places.as_slice() == PLACES.as_slice();
-            Ok(Ok(are_places && is_code(&mapped.code)))
+            Ok(are_places && is_code(&mapped.code))
         }
-        Err(fault) => Ok(Err(fault.code())),
+        Err(fault) => Err(fault.code()),
     }
 }

@@ -1,6 +1,7 @@
 //! A router's tables, its journal and its replay, with memory and without.
 
-use expectations::{Answered, expect};
+use crate::asserts::{Host, done, must, some};
+use expectations::Answered;
 use filter_code::{Code, Instr};
 use filter_verifier::{Verified, verify};
 use netchange_core::{Event, Message, Messages, Opening, Reply, Tables, Via};
@@ -8,22 +9,25 @@ use prefix_patterns::{Ip, Prefix};
 use route_history::{Journal, ReplayFault, replay};
 use std::alloc::{AllocError, Global};
 use std::sync::Arc;
-use std::test::Fail;
 
 /// Node 0 of three.
-fn opening(alloc: Global) -> Result<Opening, Fail> {
-    let prefix = Prefix::new(Ip(0x0a00_0000), 16).ok_or("16 bits")?;
-    Ok(Opening::new(3, 0, vec![in alloc; prefix; 3]?).ok_or("a domain")?)
+fn opening<R: Host>(rt: &R) -> Opening {
+    let prefix = some(rt, Prefix::new(Ip(0x0a00_0000), 16), "16 bits");
+    some(
+        rt,
+        Opening::new(3, 0, done(rt, vec![in rt.alloc(); prefix; 3])),
+        "a domain",
+    )
 }
 
 /// Opens tables, which have the local route.
-pub fn opened(alloc: Global) -> Result<Answered, Fail> {
-    match Tables::open(alloc, opening(alloc)?) {
+pub fn opened<R: Host>(rt: &R) -> Answered {
+    match Tables::open(rt.alloc(), opening(rt)) {
         Ok(mut tables) => {
-            let is_local = route(&mut tables, 0)? == (0, Via::Local);
-            Ok(Ok(is_local && tables.session(1) == 0))
+            let is_local = done(rt, route(&mut tables, 0)) == (0, Via::Local);
+            Ok(is_local && tables.session(1) == 0)
         }
-        Err(_) => Ok(Err("AllocError")),
+        Err(_) => Err("AllocError"),
     }
 }
 
@@ -46,8 +50,8 @@ const BY_TWO: Route = (1, Via::Node(2));
 const NONE: Route = (3, Via::Nowhere);
 
 /// The tables after both neighbours came up, node 1 told its distance from itself, and its messages were taken.
-fn tables(alloc: Global) -> Result<Tables, Fail> {
-    let mut tables = Tables::open(alloc, opening(alloc)?)?;
+fn tables<R: Host>(rt: &R) -> Tables {
+    let mut tables = done(rt, Tables::open(rt.alloc(), opening(rt)));
     let events = [
         Event::Up(1),
         Event::Up(2),
@@ -55,9 +59,9 @@ fn tables(alloc: Global) -> Result<Tables, Fail> {
         Event::Take(1, 9),
     ];
     for event in &events {
-        let _reply = tables.apply(event)?;
+        let _reply = done(rt, tables.apply(event));
     }
-    Ok(tables)
+    tables
 }
 
 /// The sessions of the neighbours, how many messages wait for sessions 1, 2 and 3, and the routes to nodes 1 and 2.
@@ -93,11 +97,11 @@ fn are_refused(tables: &mut Tables) -> Result<bool, AllocError> {
 }
 
 /// Looks and refused events need no memory.
-pub fn looked(alloc: Global) -> Result<Answered, Fail> {
-    let mut tables = tables(alloc)?;
+pub fn looked<R: Host>(rt: &R) -> Answered {
+    let mut tables = tables(rt);
     match are_refused(&mut tables) {
-        Ok(is_so) => Ok(Ok(is_so)),
-        Err(_) => Ok(Err("AllocError")),
+        Ok(is_so) => Ok(is_so),
+        Err(_) => Err("AllocError"),
     }
 }
 
@@ -117,24 +121,28 @@ pub enum Change {
 }
 
 /// A filter that rejects every route.
-fn rejecting(alloc: Global) -> Result<Arc<Verified>, Fail> {
-    let instrs = vec![in alloc; Instr::Reject]?;
-    let code = Code::new(0, Vec::new(alloc), Vec::new(alloc), instrs).ok_or("a code")?;
-    match verify(alloc, code, 3) {
-        Ok(verified) => Ok(Arc::new(alloc, verified)?),
-        Err((_, fault)) => Err(Fail::from(fault)),
+fn rejecting<R: Host>(rt: &R) -> Arc<Verified> {
+    let instrs = done(rt, vec![in rt.alloc(); Instr::Reject]);
+    let code = some(
+        rt,
+        Code::new(0, Vec::new(rt.alloc()), Vec::new(rt.alloc()), instrs),
+        "a code",
+    );
+    match verify(rt.alloc(), code, 3) {
+        Ok(verified) => done(rt, Arc::new(rt.alloc(), verified)),
+        Err((_, fault)) => rt.panic(format_args!("{fault:?}")),
     }
 }
 
 /// The event of a change.
-fn event_of(alloc: Global, change: Change) -> Result<Event, Fail> {
+fn event_of<R: Host>(rt: &R, change: Change) -> Event {
     match change {
-        Change::Up => Ok(Event::Up(1)),
-        Change::Down => Ok(Event::Down(1)),
-        Change::Receive => Ok(Event::Receive(2, 2, 0)),
-        Change::Take => Ok(Event::Take(2, 2)),
-        Change::Import => Ok(Event::SetImport(1, rejecting(alloc)?)),
-        Change::Export => Ok(Event::SetExport(1, rejecting(alloc)?)),
+        Change::Up => Event::Up(1),
+        Change::Down => Event::Down(1),
+        Change::Receive => Event::Receive(2, 2, 0),
+        Change::Take => Event::Take(2, 2),
+        Change::Import => Event::SetImport(1, rejecting(rt)),
+        Change::Export => Event::SetExport(1, rejecting(rt)),
     }
 }
 
@@ -178,48 +186,43 @@ fn is_applied(tables: &mut Tables, case: &Case) -> Result<bool, AllocError> {
 }
 
 /// Expects that tables are as they were, and that an event is applied to them as ever.
-fn expect_again(tables: &mut Tables, case: &Case, before: &State) -> Result<(), Fail> {
-    expect(state(tables)? == *before, "nothing changes")?;
-    let is_so = is_applied(tables, case)?;
-    expect(is_so, "an event is applied again")
+fn expect_again<R: Host>(rt: &R, tables: &mut Tables, case: &Case, before: &State) {
+    must(rt, done(rt, state(tables)) == *before, "nothing changes");
+    let is_so = done(rt, is_applied(tables, case));
+    must(rt, is_so, "an event is applied again")
 }
 
 /// Applies a change to tables in this state. Where memory is refused they are as they were, and the event has its reply when it is applied again.
-fn apply_to(
-    alloc: Global,
-    tables: &mut Tables,
-    before: &State,
-    change: Change,
-) -> Result<Answered, Fail> {
+fn apply_to<R: Host>(rt: &R, tables: &mut Tables, before: &State, change: Change) -> Answered {
     let case = Case {
-        event: event_of(alloc, change)?,
-        wanted: reply_of(alloc, change)?,
+        event: event_of(rt, change),
+        wanted: done(rt, reply_of(rt.alloc(), change)),
         after: state_after(change),
     };
     match is_applied(tables, &case) {
-        Ok(is_so) => Ok(Ok(is_so)),
+        Ok(is_so) => Ok(is_so),
         Err(_) => {
-            expect_again(tables, &case, before)?;
-            Ok(Err("AllocError"))
+            expect_again(rt, tables, &case, before);
+            Err("AllocError")
         }
     }
 }
 
 /// Applies a change to those tables.
-pub fn applied(alloc: Global, change: Change) -> Result<Answered, Fail> {
-    let mut tables = tables(alloc)?;
+pub fn applied<R: Host>(rt: &R, change: Change) -> Answered {
+    let mut tables = tables(rt);
     if change == Change::Up {
-        let _reply = tables.apply(&Event::Down(1))?;
+        let _reply = done(rt, tables.apply(&Event::Down(1)));
     }
-    let before = state(&mut tables)?;
-    apply_to(alloc, &mut tables, &before, change)
+    let before = done(rt, state(&mut tables));
+    apply_to(rt, &mut tables, &before, change)
 }
 
 /// Opens a journal.
-pub fn kept(alloc: Global) -> Result<Answered, Fail> {
-    match Journal::open(alloc, opening(alloc)?, 3) {
-        Ok(journal) => Ok(Ok(journal.limit() == 3 && journal.entries().is_empty())),
-        Err(_) => Ok(Err("AllocError")),
+pub fn kept<R: Host>(rt: &R) -> Answered {
+    match Journal::open(rt.alloc(), opening(rt), 3) {
+        Ok(journal) => Ok(journal.limit() == 3 && journal.entries().is_empty()),
+        Err(_) => Err("AllocError"),
     }
 }
 
@@ -250,34 +253,38 @@ fn reply(alloc: Global, at: u32) -> Result<Reply, AllocError> {
 }
 
 /// Enters the event at a place, which has its reply. Where memory is refused the journal stays, and the event can be entered again.
-fn enter_at(alloc: Global, journal: &mut Journal, at: u32) -> Result<Answered, Fail> {
-    let wanted = reply(alloc, at)?;
+fn enter_at<R: Host>(rt: &R, journal: &mut Journal, at: u32) -> Answered {
+    let wanted = done(rt, reply(rt.alloc(), at));
     match journal.apply(event(at)) {
-        Ok((place, reply)) => Ok(Ok(place == at && reply.is_same(&wanted))),
+        Ok((place, reply)) => Ok(place == at && reply.is_same(&wanted)),
         Err(fault) => {
-            expect(journal.entries().len() == at as usize, "the journal stays")?;
-            let (place, reply) = journal.apply(event(at))?;
-            expect(place == at && reply.is_same(&wanted), "entered again")?;
-            Ok(Err(fault.code()))
+            must(
+                rt,
+                journal.entries().len() == at as usize,
+                "the journal stays",
+            );
+            let (place, reply) = done(rt, journal.apply(event(at)));
+            must(rt, place == at && reply.is_same(&wanted), "entered again");
+            Err(fault.code())
         }
     }
 }
 
 /// Enters three events, up to the first that is refused memory.
-fn enter_all(alloc: Global, journal: &mut Journal) -> Result<Answered, Fail> {
+fn enter_all<R: Host>(rt: &R, journal: &mut Journal) -> Answered {
     for at in 0..3 {
-        let answered = enter_at(alloc, journal, at)?;
+        let answered = enter_at(rt, journal, at);
         if answered != Ok(true) {
-            return Ok(answered);
+            return answered;
         }
     }
-    Ok(Ok(true))
+    Ok(true)
 }
 
 /// Enters three events.
-pub fn entered(alloc: Global) -> Result<Answered, Fail> {
-    let mut journal = Journal::open(alloc, opening(alloc)?, 3)?;
-    enter_all(alloc, &mut journal)
+pub fn entered<R: Host>(rt: &R) -> Answered {
+    let mut journal = done(rt, Journal::open(rt.alloc(), opening(rt), 3));
+    enter_all(rt, &mut journal)
 }
 
 /// Replays a journal.
@@ -290,8 +297,8 @@ fn replay_of(alloc: Global, journal: &Journal) -> Answered {
 }
 
 /// Replays a journal with three entries.
-pub fn replayed(alloc: Global) -> Result<Answered, Fail> {
-    let mut journal = Journal::open(alloc, opening(alloc)?, 3)?;
-    let _answered = enter_all(alloc, &mut journal)?;
-    Ok(replay_of(alloc, &journal))
+pub fn replayed<R: Host>(rt: &R) -> Answered {
+    let mut journal = done(rt, Journal::open(rt.alloc(), opening(rt), 3));
+    let _answered = enter_all(rt, &mut journal);
+    replay_of(rt.alloc(), &journal)
 }

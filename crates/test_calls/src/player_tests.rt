@@ -1,18 +1,16 @@
 //! Routers that are played until quiet: the routes of each, which no command shows, on rows that were worked out by hand. That they come to the
 //! same routes in whatever order is tried by `scripts/check_domains.py`.
 
-ghost use Rattle.std.specs.Prelude.{◌≢◌, ◌<◌, OnOk, length};
+ghost use Rattle.std.specs.Prelude.{◌≢◌, ◌<◌, length};
 
+use crate::asserts::{Host, done, must_number, must_str};
 use crate::tables_tests::prefixes;
 use domain_player::Routers;
-use expectations::{expect_number, expect_str};
 use filter_source::{compile_text, verify_code};
 use filter_verifier::Verified;
 use netchange_core::Via;
-use std::alloc::Global;
 use std::fmt::Write;
 use std::sync::Arc;
-use std::test::Fail;
 
 /// A filter that makes a distance two more.
 const UP_TWO: &[u8] = b"filter up2 { rip_metric = rip_metric + 2; accept; }";
@@ -34,115 +32,115 @@ enum Step {
 }
 
 /// The routers of a domain of so many nodes, whose prefixes are 10.V.0.0/16.
-fn routers(alloc: Global, size: u16) -> Result<Routers, Fail> {
-    let prefixes = prefixes(alloc, u32::from(size))?;
+fn routers<R: Host>(rt: &R, size: u16) -> Routers {
+    let prefixes = prefixes(rt, u32::from(size));
     if prefixes.len() < 2 || prefixes.len() > 250 {
-        return Err(Fail::from("the size of a domain"));
+        rt.panic("the size of a domain");
     }
-    Ok(Routers::open(alloc, &prefixes)?)
+    done(rt, Routers::open(rt.alloc(), &prefixes))
 }
 
 /// The filter of a text, verified for a domain of so many nodes.
-fn filter(alloc: Global, text: &[u8], size: u16) -> Result<Arc<Verified>, Fail> {
-    let code = compile_text(alloc, text)?;
-    Ok(Arc::new(alloc, verify_code(alloc, code, u32::from(size))?)?)
+fn filter<R: Host>(rt: &R, text: &[u8], size: u16) -> Arc<Verified> {
+    let code = done(rt, compile_text(rt.alloc(), text));
+    done(
+        rt,
+        Arc::new(
+            rt.alloc(),
+            done(rt, verify_code(rt.alloc(), code, u32::from(size))),
+        ),
+    )
 }
 
 /// Adds a route to a text, as `V:D:W`, or `V:D` where there is no next hop.
-fn add_route(text: &mut String, v: u16, dist: u16, via: Via) -> Result<(), Fail> {
+fn add_route<R: Host>(rt: &R, text: &mut String, v: u16, dist: u16, via: Via) {
     let space = if text.is_empty() { "" } else { " " };
     match via {
-        Via::Node(hop) => write!(text, "{space}{v}:{dist}:{hop}")?,
-        _ => write!(text, "{space}{v}:{dist}")?,
+        Via::Node(hop) => done(rt, write!(text, "{space}{v}:{dist}:{hop}")),
+        _ => done(rt, write!(text, "{space}{v}:{dist}")),
     }
-    Ok(())
 }
 
 /// All routes of a node, in text.
-fn table(alloc: Global, routers: &mut Routers, u: u16) -> Result<String, Fail> {
-    let mut text = String::new(alloc);
+fn table<R: Host>(rt: &R, routers: &mut Routers, u: u16) -> String {
+    let mut text = String::new(rt.alloc());
     for v in 0..routers.size() {
         if u >= routers.size() || v >= routers.size() {
-            return Err(Fail::from("a node"));
+            rt.panic("a node");
         }
         let (dist, via) = routers.route(u, v);
-        add_route(&mut text, v, dist, via)?;
+        add_route(rt, &mut text, v, dist, via);
     }
-    Ok(text)
+    text
 }
 
 /// Two nodes of a domain that are not the same.
-fn expect_pair(routers: &Routers, u: u16, w: u16) -> Result<(), Fail>
-    ensures { OnOk result ((u < length routers.now) × (w < length routers.now) × (u ≢ w)) }
+fn expect_pair<R: Host>(rt: &R, routers: &Routers, u: u16, w: u16)
+    ensures { (u < length routers.now) × (w < length routers.now) × (u ≢ w) }
 {
-    if u < routers.size() && w < routers.size() && u != w {
-        Ok(())
-    } else {
-        Err(Fail::from("two nodes"))
+    if u >= routers.size() || w >= routers.size() || u == w {
+        rt.panic("two nodes");
     }
 }
 
 /// Links two nodes, or cuts their link.
-fn set_link(routers: &mut Routers, u: u16, w: u16, linked: bool) -> Result<(), Fail> {
-    expect_pair(routers, u, w)?;
+fn set_link<R: Host>(rt: &R, routers: &mut Routers, u: u16, w: u16, linked: bool) {
+    expect_pair(rt, routers, u, w);
     if routers.is_linked(u, w) == linked {
-        return Err(Fail::from("linked already, or not"));
+        rt.panic("linked already, or not");
     }
     if linked {
-        routers.link(u, w)?;
+        done(rt, routers.link(u, w));
     } else {
-        routers.cut(u, w)?;
+        done(rt, routers.cut(u, w));
     }
-    Ok(())
 }
 
 /// Sets a filter of what a node is told, or of what it tells.
-fn set_filter(
-    alloc: Global,
+fn set_filter<R: Host>(
+    rt: &R,
     routers: &mut Routers,
     (u, w): (u16, u16),
     text: &[u8],
     import: bool,
-) -> Result<(), Fail> {
-    expect_pair(routers, u, w)?;
-    let filter = filter(alloc, text, routers.size())?;
+) {
+    expect_pair(rt, routers, u, w);
+    let filter = filter(rt, text, routers.size());
     if filter.size() != u32::from(routers.size()) {
-        return Err(Fail::from("a filter of another size"));
+        rt.panic("a filter of another size");
     }
     if import {
-        routers.set_import(u, w, filter)?;
+        done(rt, routers.set_import(u, w, filter));
     } else {
-        routers.set_export(u, w, filter)?;
+        done(rt, routers.set_export(u, w, filter));
     }
-    Ok(())
 }
 
 /// Takes a step, and expects what is wanted.
-fn take_step(alloc: Global, routers: &mut Routers, step: &Step) -> Result<(), Fail> {
+fn take_step<R: Host>(rt: &R, routers: &mut Routers, step: &Step) {
     match step {
-        Step::Link(u, w) => set_link(routers, *u, *w, true),
-        Step::Cut(u, w) => set_link(routers, *u, *w, false),
-        Step::Import(u, w, text) => set_filter(alloc, routers, (*u, *w), text, true),
-        Step::Export(u, w, text) => set_filter(alloc, routers, (*u, *w), text, false),
+        Step::Link(u, w) => set_link(rt, routers, *u, *w, true),
+        Step::Cut(u, w) => set_link(rt, routers, *u, *w, false),
+        Step::Import(u, w, text) => set_filter(rt, routers, (*u, *w), text, true),
+        Step::Export(u, w, text) => set_filter(rt, routers, (*u, *w), text, false),
         Step::Settle(rounds, messages) => {
-            let settled = routers.settle()?;
-            expect_number(settled.rounds, *rounds)?;
-            expect_number(settled.messages, *messages)
+            let settled = done(rt, routers.settle());
+            must_number(rt, settled.rounds, *rounds);
+            must_number(rt, settled.messages, *messages)
         }
         Step::Table(u, wanted) => {
-            let text = table(alloc, routers, *u)?;
-            expect_str(text.as_str(), wanted)
+            let text = table(rt, routers, *u);
+            must_str(rt, text.as_str(), wanted)
         }
     }
 }
 
 /// Takes all steps in a domain of so many nodes.
-fn take_steps(alloc: Global, size: u16, steps: &[Step]) -> Result<(), Fail> {
-    let mut routers = routers(alloc, size)?;
+fn take_steps<R: Host>(rt: &R, size: u16, steps: &[Step]) {
+    let mut routers = routers(rt, size);
     for step in steps {
-        take_step(alloc, &mut routers, step)?;
+        take_step(rt, &mut routers, step);
     }
-    Ok(())
 }
 
 /// A ring settles, and loses a link.
@@ -181,11 +179,11 @@ const TRIANGLE: [Step; 11] = [
 ];
 
 #[test]
-fn a_ring_settles_and_loses_a_link(rt: HostRuntime) -> Result<(), Fail> {
-    take_steps(rt.alloc(), 5, &RING)
+fn a_ring_settles_and_loses_a_link(rt: HostRuntime) {
+    take_steps(&rt, 5, &RING)
 }
 
 #[test]
-fn a_triangle_with_filters_settles(rt: HostRuntime) -> Result<(), Fail> {
-    take_steps(rt.alloc(), 5, &TRIANGLE)
+fn a_triangle_with_filters_settles(rt: HostRuntime) {
+    take_steps(&rt, 5, &TRIANGLE)
 }

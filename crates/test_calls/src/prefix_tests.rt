@@ -1,12 +1,10 @@
 //! Addresses, prefixes, patterns and their sets: how they are made, read and displayed. What sets match is in `tests/rows/eval.rows`.
 
-use expectations::{expect, expect_text};
+use crate::asserts::{Host, done, must, must_read, some};
 use prefix_patterns::{
     Ip, Pattern, PatternSet, Prefix, SetFault, after_byte, displayed_text_is_read, leading_number,
     leading_prefix, read_ip, read_number, read_prefix,
 };
-use std::alloc::Global;
-use std::test::Fail;
 
 /// A prefix as its first address and its length.
 fn parts(prefix: Prefix) -> (u32, u8) {
@@ -23,12 +21,11 @@ const MADE: [(u32, u8, Option<(u32, u8)>); 5] = [
 ];
 
 #[test]
-fn prefixes_are_made_of_an_address_and_a_length(_rt: HostRuntime) -> Result<(), Fail> {
+fn prefixes_are_made_of_an_address_and_a_length(rt: HostRuntime) {
     for (address, len, wanted) in &MADE {
         let found = Prefix::new(Ip(*address), *len).map(parts);
-        expect(found == *wanted, "a prefix")?;
+        must(&rt, found == *wanted, "a prefix");
     }
-    Ok(())
 }
 
 /// A text, a limit, and the number that it is.
@@ -48,11 +45,10 @@ const NUMBERS: [(&[u8], u32, Option<u32>); 12] = [
 ];
 
 #[test]
-fn numbers_are_digits_up_to_a_limit(_rt: HostRuntime) -> Result<(), Fail> {
+fn numbers_are_digits_up_to_a_limit(rt: HostRuntime) {
     for (text, most, wanted) in &NUMBERS {
-        expect(read_number(text, *most) == *wanted, "a number")?;
+        must(&rt, read_number(text, *most) == *wanted, "a number");
     }
-    Ok(())
 }
 
 /// A text, and the prefix that it is, as its first address and its length.
@@ -85,11 +81,10 @@ const PREFIXES: [(&[u8], Option<(u32, u8)>); 22] = [
 ];
 
 #[test]
-fn prefix_tokens_are_read(_rt: HostRuntime) -> Result<(), Fail> {
+fn prefix_tokens_are_read(rt: HostRuntime) {
     for (text, wanted) in &PREFIXES {
-        expect(read_prefix(text).map(parts) == *wanted, "a prefix")?;
+        must(&rt, read_prefix(text).map(parts) == *wanted, "a prefix");
     }
-    Ok(())
 }
 
 /// A text, and the address that it is.
@@ -104,11 +99,10 @@ const ADDRESSES: [(&[u8], Option<Ip>); 7] = [
 ];
 
 #[test]
-fn addresses_are_read(_rt: HostRuntime) -> Result<(), Fail> {
+fn addresses_are_read(rt: HostRuntime) {
     for (text, wanted) in &ADDRESSES {
-        expect(read_ip(text) == *wanted, "an address")?;
+        must(&rt, read_ip(text) == *wanted, "an address");
     }
-    Ok(())
 }
 
 /// An address and a length, and their texts.
@@ -118,14 +112,13 @@ const DISPLAYED: [(u32, u8, &str, &str); 2] = [
 ];
 
 #[test]
-fn addresses_and_prefixes_are_displayed(rt: HostRuntime) -> Result<(), Fail> {
+fn addresses_and_prefixes_are_displayed(rt: HostRuntime) {
     for (address, len, address_text, text) in &DISPLAYED {
-        let prefix = Prefix::new(Ip(*address), *len).ok_or("no prefix")?;
-        expect_text(rt.alloc(), &Ip(*address), address_text)?;
-        expect_text(rt.alloc(), &prefix, text)?;
+        let prefix = some(&rt, Prefix::new(Ip(*address), *len), "no prefix");
+        must_read(&rt, &Ip(*address), address_text);
+        must_read(&rt, &prefix, text);
     }
     displayed_text_is_read();
-    Ok(())
 }
 
 /// Two prefixes, whether the first one contains the address of the second one, and whether the second one lies within the first.
@@ -138,14 +131,13 @@ const WITHIN: [(&[u8], u32, u8, bool, bool); 5] = [
 ];
 
 #[test]
-fn addresses_and_prefixes_lie_within_prefixes(_rt: HostRuntime) -> Result<(), Fail> {
+fn addresses_and_prefixes_lie_within_prefixes(rt: HostRuntime) {
     for (outer, inner, len, contains, within) in &WITHIN {
-        let outer = read_prefix(outer).ok_or("no prefix")?;
-        let prefix = Prefix::new(Ip(*inner), *len).ok_or("no prefix")?;
-        expect(outer.contains(Ip(*inner)) == *contains, "an address")?;
-        expect(prefix.within(&outer) == *within, "a prefix")?;
+        let outer = some(&rt, read_prefix(outer), "no prefix");
+        let prefix = some(&rt, Prefix::new(Ip(*inner), *len), "no prefix");
+        must(&rt, outer.contains(Ip(*inner)) == *contains, "an address");
+        must(&rt, prefix.within(&outer) == *within, "a prefix");
     }
-    Ok(())
 }
 
 /// Two lengths, and whether a pattern has them.
@@ -157,8 +149,8 @@ fn lengths(pattern: Pattern) -> (u8, u8) {
 }
 
 #[test]
-fn patterns_have_lengths_in_order(_rt: HostRuntime) -> Result<(), Fail> {
-    let prefix = read_prefix(b"1.0.0.0/8").ok_or("no prefix")?;
+fn patterns_have_lengths_in_order(rt: HostRuntime) {
+    let prefix = some(&rt, read_prefix(b"1.0.0.0/8"), "no prefix");
     for (low, high, is_pattern) in &LENGTHS {
         let found = Pattern::new(prefix, *low, *high).map(lengths);
         let wanted = if *is_pattern {
@@ -166,34 +158,32 @@ fn patterns_have_lengths_in_order(_rt: HostRuntime) -> Result<(), Fail> {
         } else {
             None
         };
-        expect(found == wanted, "a pattern")?;
+        must(&rt, found == wanted, "a pattern");
     }
-    Ok(())
 }
 
 /// How many patterns, and whether there is a set of so many.
 const COUNTS: [(usize, bool); 2] = [(1024, true), (1025, false)];
 
 /// Whether there is a set of a pattern so many times. It has them and matches the prefix, or there are too many.
-fn is_set_of(alloc: Global, pattern: &Pattern, count: usize) -> Result<bool, Fail> {
-    let patterns = vec![in alloc; *pattern; count]?;
-    match PatternSet::build(alloc, &patterns) {
-        Ok(set) => Ok(set.patterns() == patterns.as_slice() && set.matches(&pattern.prefix())),
-        Err(SetFault::TooManyPatterns) => Ok(false),
-        Err(fault) => Err(Fail::from(fault)),
+fn is_set_of<R: Host>(rt: &R, pattern: &Pattern, count: usize) -> bool {
+    let patterns = done(rt, vec![in rt.alloc(); *pattern; count]);
+    match PatternSet::build(rt.alloc(), &patterns) {
+        Ok(set) => set.patterns() == patterns.as_slice() && set.matches(&pattern.prefix()),
+        Err(SetFault::TooManyPatterns) => false,
+        Err(fault) => rt.panic(format_args!("{fault:?}")),
     }
 }
 
 #[test]
-fn sets_have_at_most_1024_patterns(rt: HostRuntime) -> Result<(), Fail> {
-    let prefix = read_prefix(b"1.0.0.0/8").ok_or("no prefix")?;
-    let pattern = Pattern::new(prefix, 8, 8).ok_or("no pattern")?;
-    expect(pattern.matches(&prefix), "a pattern")?;
+fn sets_have_at_most_1024_patterns(rt: HostRuntime) {
+    let prefix = some(&rt, read_prefix(b"1.0.0.0/8"), "no prefix");
+    let pattern = some(&rt, Pattern::new(prefix, 8, 8), "no pattern");
+    must(&rt, pattern.matches(&prefix), "a pattern");
     for (count, is_set) in &COUNTS {
-        let found = is_set_of(rt.alloc(), &pattern, *count)?;
-        expect(found == *is_set, "a set")?;
+        let found = is_set_of(&rt, &pattern, *count);
+        must(&rt, found == *is_set, "a set");
     }
-    Ok(())
 }
 
 /// The number that a text begins with, and how many bytes follow it.
@@ -227,11 +217,10 @@ const LEADING_NUMBERS: [(&[u8], Option<(u32, usize)>); 7] = [
 ];
 
 #[test]
-fn texts_begin_with_numbers(_rt: HostRuntime) -> Result<(), Fail> {
+fn texts_begin_with_numbers(rt: HostRuntime) {
     for (text, wanted) in &LEADING_NUMBERS {
-        expect(number(text) == *wanted, "what a text begins with")?;
+        must(&rt, number(text) == *wanted, "what a text begins with");
     }
-    Ok(())
 }
 
 /// A text, the prefix that it begins with, and how many bytes follow.
@@ -247,20 +236,18 @@ const LEADING_PREFIXES: [(&[u8], Option<(u32, u8, usize)>); 8] = [
 ];
 
 #[test]
-fn texts_begin_with_prefixes(_rt: HostRuntime) -> Result<(), Fail> {
+fn texts_begin_with_prefixes(rt: HostRuntime) {
     for (text, wanted) in &LEADING_PREFIXES {
-        expect(prefix(text) == *wanted, "what a text begins with")?;
+        must(&rt, prefix(text) == *wanted, "what a text begins with");
     }
-    Ok(())
 }
 
 /// A text, and how many bytes follow a dot at its beginning.
 const DOTS: [(&[u8], Option<usize>); 3] = [(b".5", Some(1)), (b"5", None), (b"", None)];
 
 #[test]
-fn what_follows_a_byte(_rt: HostRuntime) -> Result<(), Fail> {
+fn what_follows_a_byte(rt: HostRuntime) {
     for (text, wanted) in &DOTS {
-        expect(behind_a_dot(text) == *wanted, "what follows a dot")?;
+        must(&rt, behind_a_dot(text) == *wanted, "what follows a dot");
     }
-    Ok(())
 }

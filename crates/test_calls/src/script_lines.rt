@@ -1,8 +1,7 @@
 //! One line of a script, and the command in it.
 
-use expectations::expect;
+use crate::asserts::{done, must};
 use operator_cmds::{Command, read_command};
-use std::test::Fail;
 
 /// A command that is wanted.
 enum Wanted {
@@ -51,10 +50,9 @@ const TAKEN: [(&[u8], Wanted); 5] = [
 ];
 
 #[test]
-fn reads_commands(rt: HostRuntime) -> Result<(), Fail> {
+fn reads_commands(rt: HostRuntime) {
     for (line, wanted) in &TAKEN {
-        let is_so = is_wanted(&read_command(rt.alloc(), line)?, wanted);
-        expect(is_so, "a command")?;
+        let is_so = is_wanted(&done(&rt, read_command(rt.alloc(), line)), wanted);
+        must(&rt, is_so, "a command");
     }
-    Ok(())
 }

@@ -1,12 +1,11 @@
 //! What a script saves of its history where a stream fails.
 
+use crate::asserts::{must, must_bytes};
 use crate::streams::{FailingReader, FailingWriter};
-use expectations::{expect, expect_bytes};
 use operator_cmds::{Nobody, ScriptFault};
 use script_runs::run_saved_script;
 use std::alloc::Global;
 use std::io::{ErrorKind, Read};
-use std::test::Fail;
 
 /// A script with a look, a refused line, an event that the router refuses, and one that a full history does.
 const LINES: &[u8] = b"network 4 0 4\nup 1\nroutes\nrecv 1 1 0\nup 9\nup 1\nshow 1\nshow 0\n";
@@ -44,34 +43,34 @@ fn run<R: Read>(
 }
 
 #[test]
-fn saves_the_whole_history(rt: HostRuntime) -> Result<(), Fail> {
+fn saves_the_whole_history(rt: HostRuntime) {
     let mut reader = LINES;
     let (result, answers, saved) = run(rt.alloc(), &mut reader, 1_000);
-    expect(result == Ok(4), "four lines are refused")?;
-    expect_bytes(&answers, ANSWERS)?;
-    expect_bytes(saved.text(), SAVED)
+    must(&rt, result == Ok(4), "four lines are refused");
+    must_bytes(&rt, &answers, ANSWERS);
+    must_bytes(&rt, saved.text(), SAVED)
 }
 
 #[test]
-fn answers_no_line_whose_entry_is_not_saved(rt: HostRuntime) -> Result<(), Fail> {
+fn answers_no_line_whose_entry_is_not_saved(rt: HostRuntime) {
     // Room for the opening and the first entry, and for a part of the second.
     for room in [75, 76, 80] {
         let mut reader = LINES;
         let (result, answers, saved) = run(rt.alloc(), &mut reader, room);
         let is_begun = ANSWERS.starts_with(&answers) && SAVED.get(..room) == Some(saved.text());
-        expect(
+        must(
+            &rt,
             result == Err(ScriptFault::Write) && is_begun,
             "a saver that fails",
-        )?;
+        );
     }
-    Ok(())
 }
 
 #[test]
-fn saves_what_was_answered_before_a_read_fault(rt: HostRuntime) -> Result<(), Fail> {
+fn saves_what_was_answered_before_a_read_fault(rt: HostRuntime) {
     let mut reader = FailingReader::new(b"network 4 0 4\nup 1\nrec", ErrorKind::BrokenPipe);
     let (result, answers, saved) = run(rt.alloc(), &mut reader, 1_000);
-    expect(result == Err(ScriptFault::Read), "an input that fails")?;
-    expect_bytes(&answers, b"ok\nopened 1\n")?;
-    expect_bytes(saved.text(), SAVED.get(..75).unwrap_or(SAVED))
+    must(&rt, result == Err(ScriptFault::Read), "an input that fails");
+    must_bytes(&rt, &answers, b"ok\nopened 1\n");
+    must_bytes(&rt, saved.text(), SAVED.get(..75).unwrap_or(SAVED))
 }

@@ -1,14 +1,13 @@
 //! Engines whose input or output fails in mid-stream, and which answer before they read on.
 
+use crate::asserts::{Host, must, must_bytes};
 use crate::line_tests::Echo;
 use crate::streams::{FailingReader, FailingWriter, Terminal};
-use expectations::{expect, expect_bytes};
 use filter_commands::{ProgramFault, check_text, eval_lines};
 use line_protocol::{StreamFault, answer_lines};
 use operator_cmds::run_script;
 use std::alloc::Global;
 use std::io::{ErrorKind, Read, Write};
-use std::test::Fail;
 
 /// What answers an input: lines that are echoed, routes, a filter's text, or a script.
 #[derive(Clone, Copy)]
@@ -65,24 +64,22 @@ const KINDS: [ErrorKind; 4] = [
 ];
 
 /// Expects that an engine ends where its input fails, in each way. Its reader fails once alone, so one that is asked again answers the whole input.
-fn expect_read_fault(alloc: Global, row: &Row) -> Result<(), Fail> {
+fn expect_read_fault<H: Host>(rt: &H, row: &Row) {
     let (engine, input, answers) = row;
     for kind in &KINDS {
         let mut reader = FailingReader::new(input, *kind);
-        let mut writer = Vec::new(alloc);
-        let ended = run(alloc, *engine, &mut reader, &mut writer);
-        expect(ended == Err(StreamFault::Read), "an input that fails")?;
-        expect_bytes(&writer, answers)?;
+        let mut writer = Vec::new(rt.alloc());
+        let ended = run(rt.alloc(), *engine, &mut reader, &mut writer);
+        must(rt, ended == Err(StreamFault::Read), "an input that fails");
+        must_bytes(rt, &writer, answers);
     }
-    Ok(())
 }
 
 #[test]
-fn inputs_that_fail_are_told(rt: HostRuntime) -> Result<(), Fail> {
+fn inputs_that_fail_are_told(rt: HostRuntime) {
     for row in &CUT_INPUTS {
-        expect_read_fault(rt.alloc(), row)?;
+        expect_read_fault(&rt, row);
     }
-    Ok(())
 }
 
 /// Inputs, and the bytes that an output takes of their answers. The last of each takes all, and fails when it is flushed.
@@ -112,27 +109,23 @@ const CUT_OUTPUTS: [(Row, &[usize]); 5] = [
 ];
 
 /// Expects that an engine ends where its output takes no more, after the first bytes of the answers.
-fn expect_write_faults(alloc: Global, row: &Row, rooms: &[usize]) -> Result<(), Fail> {
+fn expect_write_faults<H: Host>(rt: &H, row: &Row, rooms: &[usize]) {
     let (engine, input, answers) = row;
     for room in rooms {
         let mut reader = *input;
-        let mut writer = FailingWriter::new(alloc, *room);
-        let ended = run(alloc, *engine, &mut reader, &mut writer);
-        expect(ended == Err(StreamFault::Write), "an output that fails")?;
-        expect(
-            answers.get(..*room) == Some(writer.text()),
-            "the first answers",
-        )?;
+        let mut writer = FailingWriter::new(rt.alloc(), *room);
+        let ended = run(rt.alloc(), *engine, &mut reader, &mut writer);
+        must(rt, ended == Err(StreamFault::Write), "an output that fails");
+        let are_first = answers.get(..*room) == Some(writer.text());
+        must(rt, are_first, "the first answers");
     }
-    Ok(())
 }
 
 #[test]
-fn outputs_that_fail_are_told(rt: HostRuntime) -> Result<(), Fail> {
+fn outputs_that_fail_are_told(rt: HostRuntime) {
     for (row, rooms) in &CUT_OUTPUTS {
-        expect_write_faults(rt.alloc(), row, rooms)?;
+        expect_write_faults(&rt, row, rooms);
     }
-    Ok(())
 }
 
 /// What is read at once, and what has to be written before the next read. One line of each is refused.
@@ -166,15 +159,15 @@ const COMMANDED: &[(&[u8], &[u8])] = &[
 ];
 
 /// Expects that an engine answers each line before it reads the next.
-fn expect_answered(alloc: Global, engine: Engine, terminal: Terminal) -> Result<(), Fail> {
-    let ended = run(alloc, engine, &mut &terminal, &mut &terminal);
-    expect(ended == Ok(1), "each answer comes before the next line")
+fn expect_answered<H: Host>(rt: &H, engine: Engine, terminal: Terminal) {
+    let ended = run(rt.alloc(), engine, &mut &terminal, &mut &terminal);
+    must(rt, ended == Ok(1), "each answer comes before the next line");
 }
 
 #[test]
-fn answers_come_before_the_next_line(rt: HostRuntime) -> Result<(), Fail> {
+fn answers_come_before_the_next_line(rt: HostRuntime) {
     let alloc = rt.alloc();
-    expect_answered(alloc, Engine::Echo, Terminal::new(alloc, ECHOED))?;
-    expect_answered(alloc, Engine::Eval, Terminal::new(alloc, EVALUATED))?;
-    expect_answered(alloc, Engine::Script, Terminal::new(alloc, COMMANDED))
+    expect_answered(&rt, Engine::Echo, Terminal::new(alloc, ECHOED));
+    expect_answered(&rt, Engine::Eval, Terminal::new(alloc, EVALUATED));
+    expect_answered(&rt, Engine::Script, Terminal::new(alloc, COMMANDED));
 }

@@ -1,24 +1,25 @@
 //! What no command shows of a router's tables: the present sessions, what waits for them, and what an opening is. What
 //! the tables reply is in `tests/rows/replay.rows`.
 
-use expectations::{expect, expect_number, expect_text};
+use crate::asserts::{Host, done, must, must_number, must_read, some};
 use filter_code::{Code, Instr};
 use filter_verifier::{Verified, verify};
 use netchange_core::{Event, Opening, Tables};
 use prefix_patterns::{Ip, Prefix};
 use route_history::{CallFault, Entries, Journal};
-use std::alloc::{AllocError, Global};
 use std::sync::Arc;
-use std::test::Fail;
 
 /// The prefixes 10.V.0.0/16 of so many nodes.
-pub fn prefixes(alloc: Global, count: u32) -> Result<Vec<Prefix>, Fail> {
-    let mut prefixes = Vec::new(alloc);
+pub fn prefixes<R: Host>(rt: &R, count: u32) -> Vec<Prefix> {
+    let mut prefixes = Vec::new(rt.alloc());
     for node in 0..count {
         let address = Ip(0x0a00_0000 + 0x1_0000 * (node % 256));
-        prefixes.push(Prefix::new(address, 16).ok_or("16 bits")?)?;
+        done(
+            rt,
+            prefixes.push(some(rt, Prefix::new(address, 16), "16 bits")),
+        );
     }
-    Ok(prefixes)
+    prefixes
 }
 
 /// A size, a node, how many prefixes there are, and whether that is an opening.
@@ -33,31 +34,31 @@ const OPENINGS: [(u16, u16, u32, bool); 7] = [
 ];
 
 /// Whether there is an opening of these parts, which it has.
-fn is_opening(alloc: Global, size: u16, me: u16, count: u32) -> Result<bool, Fail> {
-    let given = prefixes(alloc, count)?;
-    let Some(opening) = Opening::new(size, me, given.to_vec(alloc)?) else {
-        return Ok(false);
+fn is_opening<R: Host>(rt: &R, size: u16, me: u16, count: u32) -> bool {
+    let given = prefixes(rt, count);
+    let Some(opening) = Opening::new(size, me, done(rt, given.to_vec(rt.alloc()))) else {
+        return false;
     };
     let is_same = opening.size() == size && opening.me() == me;
-    expect(
+    must(
+        rt,
         is_same && opening.prefixes() == given.as_slice(),
         "its parts",
-    )?;
-    Ok(true)
+    );
+    true
 }
 
 #[test]
-fn an_opening_has_a_prefix_for_each_node(rt: HostRuntime) -> Result<(), Fail> {
+fn an_opening_has_a_prefix_for_each_node(rt: HostRuntime) {
     for (size, me, count, wanted) in &OPENINGS {
-        let found = is_opening(rt.alloc(), *size, *me, *count)?;
-        expect(found == *wanted, "an opening")?;
+        let found = is_opening(&rt, *size, *me, *count);
+        must(&rt, found == *wanted, "an opening");
     }
-    Ok(())
 }
 
 /// The opening of node 0 of four.
-fn opening(alloc: Global) -> Result<Opening, Fail> {
-    Ok(Opening::new(4, 0, prefixes(alloc, 4)?).ok_or("a domain")?)
+fn opening<R: Host>(rt: &R) -> Opening {
+    some(rt, Opening::new(4, 0, prefixes(rt, 4)), "a domain")
 }
 
 /// The event at a place of an exchange: neighbours 1 and 2 come up, session 1 takes what waits for it, node 1 is told, and neighbour 1 goes and
@@ -100,65 +101,72 @@ fn state(tables: &Tables) -> State {
 }
 
 /// Whether an event leaves this state.
-fn leaves(tables: &mut Tables, event: &Event, wanted: &State) -> Result<bool, AllocError> {
-    let _reply = tables.apply(event)?;
-    Ok(state(tables) == *wanted)
+fn leaves<R: Host>(rt: &R, tables: &mut Tables, event: &Event, wanted: &State) -> bool {
+    let _reply = done(rt, tables.apply(event));
+    state(tables) == *wanted
 }
 
 /// Expects the states of new tables, and nothing of what is no session.
-fn expect_states(tables: &mut Tables) -> Result<(), Fail> {
-    expect(state(tables) == (0, 0, 0, 0, 0), "no session")?;
+fn expect_states<R: Host>(rt: &R, tables: &mut Tables) {
+    must(rt, state(tables) == (0, 0, 0, 0, 0), "no session");
     for (at, wanted) in &STATES {
-        let is_so = leaves(tables, &event(*at), wanted)?;
-        expect(is_so, "sessions and queues")?;
+        let is_so = leaves(rt, tables, &event(*at), wanted);
+        must(rt, is_so, "sessions and queues");
     }
     let is_none = tables.session(9) == 0 && tables.session(0) == 0 && tables.queued(0) == 0;
-    expect(is_none && tables.opening().me() == 0, "the opening")
+    must(rt, is_none && tables.opening().me() == 0, "the opening")
 }
 
 #[test]
-fn tables_know_sessions_and_what_waits(rt: HostRuntime) -> Result<(), Fail> {
-    expect_states(&mut Tables::open(rt.alloc(), opening(rt.alloc())?)?)
+fn tables_know_sessions_and_what_waits(rt: HostRuntime) {
+    expect_states(&rt, &mut done(&rt, Tables::open(rt.alloc(), opening(&rt))))
 }
 
 /// Expects that a journal with room for one entry stays once it is full.
-fn expect_full(journal: &mut Journal) -> Result<(), Fail> {
+fn expect_full<R: Host>(rt: &R, journal: &mut Journal) {
     let is_first = matches!(journal.apply(Event::Up(1)), Ok((0, _)));
     let is_full = matches!(journal.apply(Event::Up(2)), Err(CallFault::Full));
-    expect(is_first && is_full, "one entry")?;
+    must(rt, is_first && is_full, "one entry");
     let is_same = journal.limit() == 1 && journal.entries().len() == 1;
     let are_sessions = journal.session(1) == 1 && journal.session(2) == 0;
-    expect(is_same && are_sessions, "the journal")
+    must(rt, is_same && are_sessions, "the journal")
 }
 
 #[test]
-fn a_full_journal_stays(rt: HostRuntime) -> Result<(), Fail> {
-    expect_full(&mut Journal::open(rt.alloc(), opening(rt.alloc())?, 1)?)
+fn a_full_journal_stays(rt: HostRuntime) {
+    expect_full(
+        &rt,
+        &mut done(&rt, Journal::open(rt.alloc(), opening(&rt), 1)),
+    )
 }
 
 /// A filter that accepts all routes of a domain of four nodes.
-fn filter(alloc: Global) -> Result<Arc<Verified>, Fail> {
-    let instrs = vec![in alloc; Instr::Accept]?;
-    let code = Code::new(0, Vec::new(alloc), Vec::new(alloc), instrs).ok_or("a code")?;
-    match verify(alloc, code, 4) {
-        Ok(verified) => Ok(Arc::new(alloc, verified)?),
-        Err((_, fault)) => Err(Fail::from(fault)),
+fn filter<R: Host>(rt: &R) -> Arc<Verified> {
+    let instrs = done(rt, vec![in rt.alloc(); Instr::Accept]);
+    let code = some(
+        rt,
+        Code::new(0, Vec::new(rt.alloc()), Vec::new(rt.alloc()), instrs),
+        "a code",
+    );
+    match verify(rt.alloc(), code, 4) {
+        Ok(verified) => done(rt, Arc::new(rt.alloc(), verified)),
+        Err((_, fault)) => rt.panic(format_args!("{fault:?}")),
     }
 }
 
 /// The event at a place of a history.
-fn entered(at: u32, filter: &Arc<Verified>) -> Result<Event, Fail> {
-    Ok(match at {
+fn entered<R: Host>(rt: &R, at: u32, filter: &Arc<Verified>) -> Event {
+    match at {
         0 => Event::Up(1),
         1 => Event::Receive(1, 1, 0),
         2 => Event::Take(1, 65_535),
-        3 => Event::SetImport(1, filter.clone()?),
-        4 => Event::SetExport(2, filter.clone()?),
+        3 => Event::SetImport(1, done(rt, filter.clone())),
+        4 => Event::SetExport(2, done(rt, filter.clone())),
         5 => Event::Show(1),
         6 => Event::Show(0),
         7 => Event::Show(3),
         _ => Event::Down(1),
-    })
+    }
 }
 
 /// What its entries say.
@@ -176,33 +184,31 @@ const ENTRIES: [&str; 10] = [
 ];
 
 /// Enters the event at a place.
-fn enter(journal: &mut Journal, at: u32, filter: &Arc<Verified>) -> Result<(), Fail> {
-    let _answer = journal.apply(entered(at, filter)?)?;
-    Ok(())
+fn enter<R: Host>(rt: &R, journal: &mut Journal, at: u32, filter: &Arc<Verified>) {
+    let _answer = done(rt, journal.apply(entered(rt, at, filter)));
 }
 
 /// Enters all of these events.
-fn enter_all(journal: &mut Journal, filter: &Arc<Verified>) -> Result<(), Fail> {
+fn enter_all<R: Host>(rt: &R, journal: &mut Journal, filter: &Arc<Verified>) {
     for at in 0..10u32 {
-        enter(journal, at, filter)?;
+        enter(rt, journal, at, filter);
     }
-    Ok(())
 }
 
 /// Expects what entries say.
-fn expect_entries(alloc: Global, entries: &Entries) -> Result<(), Fail> {
+fn expect_entries<R: Host>(rt: &R, entries: &Entries) {
     for at in 0..entries.len() {
         let Some(wanted) = ENTRIES.get(at) else {
             break;
         };
-        expect_text(alloc, &entries.entry(at), wanted)?;
+        must_read(rt, &entries.entry(at), wanted);
     }
-    expect_number(entries.len() as u64, 10)
+    must_number(rt, entries.len() as u64, 10)
 }
 
 #[test]
-fn entries_say(rt: HostRuntime) -> Result<(), Fail> {
-    let mut journal = Journal::open(rt.alloc(), opening(rt.alloc())?, 100)?;
-    enter_all(&mut journal, &filter(rt.alloc())?)?;
-    expect_entries(rt.alloc(), journal.entries())
+fn entries_say(rt: HostRuntime) {
+    let mut journal = done(&rt, Journal::open(rt.alloc(), opening(&rt), 100));
+    enter_all(&rt, &mut journal, &filter(&rt));
+    expect_entries(&rt, journal.entries())
 }

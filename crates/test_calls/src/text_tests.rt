@@ -1,12 +1,11 @@
 //! What no command shows of a filter's text: tokens as values, variables by their names, and what is said to be expected. Which texts are refused,
 //! and where, is in `tests/rows/texts.rows`.
 
-use expectations::{expect, expect_number, expect_text};
+use crate::asserts::{done, must, must_number, must_read};
 use filter_parser::{Expected, MaskLength, parse};
 use filter_tokens::{Lexed, Symbol, Token, TokenFault, TokenKind, lex};
 use filter_types::check;
 use prefix_patterns::Ip;
-use std::test::Fail;
 
 /// A token of each kind but a prefix, and a byte that no token begins with.
 const TEXT: &[u8] = b"if 12ab 1.2.3.4 \"x\" $";
@@ -41,10 +40,14 @@ const TOKENS: [Token; 5] = [
 ];
 
 #[test]
-fn tokens_are_cut_up_to_the_fault(rt: HostRuntime) -> Result<(), Fail> {
-    let Lexed { tokens, fault } = lex(rt.alloc(), TEXT)?;
-    expect(tokens.as_slice() == TOKENS.as_slice(), "the tokens")?;
-    expect(fault == Some(TokenFault::BadCharacter(20)), "the fault")
+fn tokens_are_cut_up_to_the_fault(rt: HostRuntime) {
+    let Lexed { tokens, fault } = done(&rt, lex(rt.alloc(), TEXT));
+    must(&rt, tokens.as_slice() == TOKENS.as_slice(), "the tokens");
+    must(
+        &rt,
+        fault == Some(TokenFault::BadCharacter(20)),
+        "the fault",
+    )
 }
 
 /// What may stand in a place.
@@ -82,11 +85,10 @@ const EXPECTED: [(Expected, &str); 27] = [
 ];
 
 #[test]
-fn what_is_expected_is_said(rt: HostRuntime) -> Result<(), Fail> {
+fn what_is_expected_is_said(rt: HostRuntime) {
     for (expected, wanted) in &EXPECTED {
-        expect_text(rt.alloc(), expected, wanted)?;
+        must_read(&rt, expected, wanted);
     }
-    Ok(())
 }
 
 /// Numbers of bits, and the lengths that a mask may have.
@@ -100,12 +102,11 @@ const MASKS: [(u32, Option<u8>); 6] = [
 ];
 
 #[test]
-fn masks_have_at_most_32_bits(_rt: HostRuntime) -> Result<(), Fail> {
+fn masks_have_at_most_32_bits(rt: HostRuntime) {
     for (bits, wanted) in &MASKS {
         let found = MaskLength::new(*bits).map(MaskLength::bits);
-        expect(found == *wanted, "a mask")?;
+        must(&rt, found == *wanted, "a mask");
     }
-    Ok(())
 }
 
 /// A filter with three variables.
@@ -123,10 +124,12 @@ const NUMBERS: [(&[u8], u8); 7] = [
 ];
 
 #[test]
-fn names_have_the_numbers_of_variables(rt: HostRuntime) -> Result<(), Fail> {
-    let typed = check(rt.alloc(), parse(rt.alloc(), VARIABLES)?)?;
+fn names_have_the_numbers_of_variables(rt: HostRuntime) {
+    let typed = done(
+        &rt,
+        check(rt.alloc(), done(&rt, parse(rt.alloc(), VARIABLES))),
+    );
     for (name, number) in &NUMBERS {
-        expect_number(u64::from(typed.number_of(name)), u64::from(*number))?;
+        must_number(&rt, u64::from(typed.number_of(name)), u64::from(*number));
     }
-    Ok(())
 }

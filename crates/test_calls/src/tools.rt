@@ -1,9 +1,8 @@
 //! What no command shows of `filter_tools`: the places of an editor, a listing of a text without a name, and words about the lines of `eval`.
 
-use expectations::{expect, expect_bytes};
+use crate::asserts::{done, must, must_bytes};
 use filter_commands::ProgramFault;
 use filter_tools::{Routes, eval_named, place_in, write_listing};
-use std::test::Fail;
 
 /// A text with line feeds, a tab and a character of several bytes.
 const TEXT: &[u8] = b"ab\n\xe2\x82\xac\tc\n";
@@ -22,13 +21,12 @@ const PLACES: [(usize, usize, usize); 8] = [
 
 /// Places at line feeds, at the ends, and behind characters of several bytes.
 #[test]
-fn places_are_those_of_an_editor(_rt: HostRuntime) -> Result<(), Fail> {
+fn places_are_those_of_an_editor(rt: HostRuntime) {
     for (at, line, column) in &PLACES {
         let place = place_in(TEXT, *at);
         let is_there = place.line == *line && place.column == *column;
-        expect(is_there, "the place of a byte")?;
+        must(&rt, is_there, "the place of a byte");
     }
-    Ok(())
 }
 
 /// A filter and its listing.
@@ -38,15 +36,22 @@ const LISTING: &[u8] = b"0 ACCEPT ; 1:12\n1 REJECT ; 1:20\n";
 
 /// A text is listed, and a writer that takes no more is told.
 #[test]
-fn instructions_are_listed(rt: HostRuntime) -> Result<(), Fail> {
+fn instructions_are_listed(rt: HostRuntime) {
     let mut writer = Vec::new(rt.alloc());
-    let why = write_listing(rt.alloc(), ACCEPT, &mut writer, None, false)?;
-    expect(why.is_none(), "a filter that is not refused")?;
-    expect_bytes(&writer, LISTING)?;
+    let why = done(
+        &rt,
+        write_listing(rt.alloc(), ACCEPT, &mut writer, None, false),
+    );
+    must(&rt, why.is_none(), "a filter that is not refused");
+    must_bytes(&rt, &writer, LISTING);
     let mut room = [0; 4];
     let mut short = room.as_mut_slice();
     let listed = write_listing(rt.alloc(), ACCEPT, &mut short, None, false);
-    expect(listed == Err(ProgramFault::WRITE), "an output that fails")
+    must(
+        &rt,
+        listed == Err(ProgramFault::WRITE),
+        "an output that fails",
+    )
 }
 
 /// Routes through a code file, of which the second is none.
@@ -58,7 +63,7 @@ const TOLD: &[u8] =
 
 /// A line that gives no route is told.
 #[test]
-fn refused_routes_are_told(rt: HostRuntime) -> Result<(), Fail> {
+fn refused_routes_are_told(rt: HostRuntime) {
     let mut reader = ROUTES;
     let (mut writer, mut errors) = (Vec::new(rt.alloc()), Vec::new(rt.alloc()));
     let routes = Routes {
@@ -66,7 +71,7 @@ fn refused_routes_are_told(rt: HostRuntime) -> Result<(), Fail> {
         is_told: true,
     };
     let evaluated = eval_named(rt.alloc(), routes, &mut reader, &mut writer, &mut errors);
-    expect(matches!(evaluated, Ok(1)), "one line is refused")?;
-    expect_bytes(&writer, b"accept 3\nrefused O8 3\n")?;
-    expect_bytes(&errors, TOLD)
+    must(&rt, matches!(evaluated, Ok(1)), "one line is refused");
+    must_bytes(&rt, &writer, b"accept 3\nrefused O8 3\n");
+    must_bytes(&rt, &errors, TOLD)
 }

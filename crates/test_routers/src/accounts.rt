@@ -1,13 +1,14 @@
 //! What was done at a router, beside what its journal says of it.
 
+use crate::asserts::{Host, done, must, some};
 use crate::crews::Auditor;
-use crate::histories::answers_stand;
+use crate::histories::must_answer;
 use crate::random_link::RandomLink;
 use netchange_core::{Event, Message, ReplyRef};
-use route_history::{Entries, EntryRef, Journal, replay};
-use route_session::{Cause, Ending, Finished, ReadEnd, WriteEnd};
+use route_history::{Entries, EntryRef, Journal};
+use route_session::{Cause, Ending, Finished};
 use slot_lock::Answer;
-use std::alloc::Global;
+use std::process::Abort;
 
 /// What is counted of routers.
 pub const COUNTED: [&str; 8] = [
@@ -21,175 +22,140 @@ pub const COUNTED: [&str; 8] = [
     "links failed",
 ];
 
-/// Messages by session.
-#[derive(Drop)]
-struct Told {
-    lists: Vec<Vec<Message>>,
-}
+/// Messages, each with its session.
+type Told = Vec<(u32, Message)>;
 
-impl Told {
-    /// Adds messages of a session.
-    fn add(&mut self, alloc: Global, session: u32, messages: &[Message]) -> Option<()> {
-        let session = session as usize;
-        if messages.is_empty() {
-            return Some(());
-        }
-        for _ in self.lists.len()..=session {
-            self.lists.push(Vec::new(alloc)).ok()?;
-        }
-        self.lists
-            .get_mut(session)?
-            .extend_from_slice(messages)
-            .ok()
-    }
-
-    /// Whether the same messages are in both, in the same order; how many they are.
-    fn count_if_same(&self, other: &Told) -> Option<u64> {
-        if self.lists.len() != other.lists.len() {
-            return None;
-        }
-        let mut count: u64 = 0;
-        for (one, two) in self.lists.iter().zip(&other.lists) {
-            if one.as_slice() != two.as_slice() {
-                return None;
-            }
-            count = count.wrapping_add(one.len() as u64);
-        }
-        Some(count)
+/// Adds messages of a session.
+fn add<R: Abort>(rt: &R, told: &mut Told, session: u32, messages: &[Message]) {
+    for message in messages {
+        done(rt, told.push((session, *message)));
     }
 }
 
-/// What callers of one router say that they did there.
+/// Messages by session, those of each in the order in which they came.
+fn by_session<R: Host>(rt: &R, mut told: Told) -> Told {
+    done(rt, told.sort_by_key(|one: &(u32, Message)| one.0));
+    told
+}
+
+/// What callers of one router say that they did there, or what its journal says of it.
 #[derive(Drop)]
 pub struct Account {
-    alloc: Global,
     /// The present session of each neighbour that has links, as far as is known.
     pub sessions: [u32; 2],
-    /// The answers of operators.
-    pub answers: Vec<Answer>,
     /// What links handed out, but for what was lost.
     told: Told,
     /// What links were given, and what was left unsent.
     taken: Told,
+    /// Entries that say nothing of a session.
+    others: usize,
+    refused: u64,
     lost: u64,
     failed: u64,
 }
 
 impl Auditor<RandomLink> for Account {
-    /// Adds what a session did. None where its end is not what its link saw.
-    fn look(&mut self, number: usize, finished: &Finished<RandomLink>) -> Option<()> {
-        let session = *self.sessions.get(number)?;
-        match &finished.ending {
-            Ending::Read(end) => self.add_read(session, end, &finished.link.handed),
-            Ending::Write(end) => self.add_written(session, end, &finished.link.given),
+    /// Adds what a session did. Its end has to be what its link saw: of what the link handed out the last message may be lost.
+    fn look<R: Abort>(&mut self, rt: &R, number: usize, finished: &Finished<RandomLink>) {
+        let session = *some(rt, self.sessions.get(number), "a session");
+        let (handed, given) = (
+            finished.link.handed.as_slice(),
+            finished.link.given.as_slice(),
+        );
+        let cause = match &finished.ending {
+            Ending::Read(end) => {
+                let (entered, lost) = handed.split_at(handed.len().min(end.entered as usize));
+                let is_so = entered.len() as u64 == u64::from(end.entered);
+                must(
+                    rt,
+                    is_so && lost.len() < 2 && lost.first().copied() == end.lost,
+                    "a reader",
+                );
+                self.lost = self.lost.wrapping_add(lost.len() as u64);
+                add(rt, &mut self.told, session, entered);
+                end.cause
+            }
+            Ending::Write(end) => {
+                must(rt, given.len() as u64 == end.sent, "a writer");
+                add(rt, &mut self.taken, session, given);
+                add(rt, &mut self.taken, session, end.unsent.as_slice());
+                end.cause
+            }
+        };
+        if cause == Cause::LinkFault {
+            self.failed = self.failed.wrapping_add(1);
         }
     }
 }
 
 impl Account {
     /// That of a router that was just opened.
-    pub fn new(alloc: Global) -> Account {
+    pub fn new<R: Host>(rt: &R) -> Account {
         Account {
-            alloc,
             sessions: [0; 2],
-            answers: Vec::new(alloc),
-            told: Told {
-                lists: Vec::new(alloc),
-            },
-            taken: Told {
-                lists: Vec::new(alloc),
-            },
+            told: Vec::new(rt.alloc()),
+            taken: Vec::new(rt.alloc()),
+            others: 0,
+            refused: 0,
             lost: 0,
             failed: 0,
         }
     }
 
-    /// Adds what a reader entered of what its link handed out, of which the last message may be lost.
-    fn add_read(&mut self, session: u32, end: &ReadEnd, handed: &[Message]) -> Option<()> {
-        self.note_cause(end.cause);
-        let lost = usize::from(end.lost.is_some());
-        let (entered, last) = handed.split_at(handed.len().checked_sub(lost)?);
-        if last.first().copied() != end.lost || entered.len() as u64 != u64::from(end.entered) {
-            return None;
-        }
-        self.lost = self.lost.wrapping_add(lost as u64);
-        self.told.add(self.alloc, session, entered)
-    }
-
-    /// Adds what a writer took: what its link was given, and what is left unsent.
-    fn add_written(&mut self, session: u32, end: &WriteEnd, given: &[Message]) -> Option<()> {
-        self.note_cause(end.cause);
-        if given.len() as u64 != end.sent {
-            return None;
-        }
-        self.taken.add(self.alloc, session, given)?;
-        self.taken.add(self.alloc, session, end.unsent.as_slice())
-    }
-
-    /// Counts a link that failed.
-    fn note_cause(&mut self, cause: Cause) {
-        self.failed = self
-            .failed
-            .wrapping_add(u64::from(cause == Cause::LinkFault));
-    }
-
-    /// What is counted of the router, in the order of `COUNTED`, if its journal replays and says the same.
-    pub fn counts(&self, journal: &Journal) -> Option<[u64; 8]> {
+    /// What is counted of the router, in the order of `COUNTED`. Its journal has to replay and to say the same, and to have these answers of operators
+    /// and no other entry.
+    pub fn counts<R: Host>(self, rt: &R, journal: &Journal, answers: &[Answer]) -> [u64; 8] {
         let entries = journal.entries();
-        let _tables = replay(self.alloc, journal.opening(), entries).ok()?;
-        let mut entered = Account::new(self.alloc);
-        let others = entered.enter_all(entries)?;
-        let are_there = answers_stand(self.alloc, entries, &self.answers)?;
-        if others != self.answers.len() || !are_there {
-            return None;
-        }
-        Some([
+        let entered = entered(rt, entries);
+        must(rt, entered.others == answers.len(), "entries of operators");
+        must_answer(rt, journal, answers);
+        let (told, taken) = (by_session(rt, self.told), by_session(rt, self.taken));
+        must(
+            rt,
+            told.as_slice() == by_session(rt, entered.told).as_slice(),
+            "what was told",
+        );
+        must(
+            rt,
+            taken.as_slice() == by_session(rt, entered.taken).as_slice(),
+            "what was taken",
+        );
+        [
             1,
             entries.len() as u64,
-            self.answers.len() as u64,
-            self.told.count_if_same(&entered.told)?,
-            self.taken.count_if_same(&entered.taken)?,
-            refused(entries),
+            answers.len() as u64,
+            told.len() as u64,
+            taken.len() as u64,
+            entered.refused,
             self.lost,
             self.failed,
-        ])
+        ]
     }
 
-    /// Adds what entries say of sessions: how many say nothing of them.
-    fn enter_all(&mut self, entries: &Entries) -> Option<usize> {
-        let mut others = 0usize;
-        for at in 0..entries.len() {
-            others = others.wrapping_add(usize::from(!self.enter(entries.entry(at))?));
-        }
-        Some(others)
-    }
-
-    /// Adds what an entry says of a session. False where it is none of a session's.
-    fn enter(&mut self, entry: EntryRef<'_>) -> Option<bool> {
+    /// Adds what an entry says.
+    fn enter<R: Host>(&mut self, rt: &R, entry: EntryRef<'_>) {
         match (entry.event, entry.reply) {
             (Event::Receive(session, dest, dist), _) => {
                 let (dest, dist) = (*dest, *dist);
-                self.told
-                    .add(self.alloc, *session, &[Message { dest, dist }])?;
-                Some(true)
+                add(rt, &mut self.told, *session, &[Message { dest, dist }]);
             }
             (Event::Take(session, _), ReplyRef::Messages(messages)) => {
-                self.taken.add(self.alloc, *session, messages)?;
-                Some(true)
+                add(rt, &mut self.taken, *session, messages);
             }
-            (Event::Take(_, _), _) => Some(true),
-            _ => Some(false),
+            (Event::Take(_, _), _) => {}
+            _ => self.others = self.others.wrapping_add(1),
+        }
+        if let ReplyRef::Refused(_) = entry.reply {
+            self.refused = self.refused.wrapping_add(1);
         }
     }
 }
 
-/// How many entries are refused events.
-fn refused(entries: &Entries) -> u64 {
-    let mut count = 0u64;
+/// What entries say.
+fn entered<R: Host>(rt: &R, entries: &Entries) -> Account {
+    let mut account = Account::new(rt);
     for at in 0..entries.len() {
-        if let ReplyRef::Refused(_) = entries.entry(at).reply {
-            count = count.wrapping_add(1);
-        }
+        account.enter(rt, entries.entry(at));
     }
-    count
+    account
 }

@@ -1,39 +1,43 @@
 //! Who calls a router in a test.
 
-ghost use Rattle.std.specs.Prelude.{◌<◌, IfOk};
+ghost use Rattle.std.specs.Prelude.{◌<◌};
 ghost use Rattle.slot_lock.specs.Held.{IsFirst, IsPassOf};
 
+use crate::asserts::{Host, done, some};
 use netchange_core::{Event, Opening};
 use prefix_patterns::{Ip, Prefix};
 use route_history::{CallFault, Journal};
 use route_session::{Gate, Link, ReadEnd, WriteEnd, read_session, write_session};
 use slot_lock::{Answer, Pass, Router, TryFault};
-use std::alloc::Global;
 use std::marker::Model;
-use std::rt::Clock;
-use std::sync::Wait;
-use std::test::Fail;
+use std::panic::Expect;
 use std::thread;
 
 /// What node 0 of a domain of so many nodes opens with. The nodes' prefixes are 10.V.0.0/16.
-pub fn opening(alloc: Global, size: u16) -> Result<Opening, Fail> {
-    let mut prefixes = Vec::new(alloc);
+pub fn opening<R: Host>(rt: &R, size: u16) -> Opening {
+    let mut prefixes = Vec::new(rt.alloc());
     for node in 0..size {
         let address = Ip(0x0a00_0000 + 0x1_0000 * u32::from(node % 256));
-        prefixes.push(Prefix::new(address, 16).ok_or("16 bits")?)?;
+        let prefix = some(rt, Prefix::new(address, 16), "16 bits");
+        done(rt, prefixes.push(prefix));
     }
-    Ok(Opening::new(size, 0, prefixes).ok_or("a domain")?)
+    some(rt, Opening::new(size, 0, prefixes), "a domain")
 }
 
 /// The router of node 0 of so many, with a history of so many entries at most, and its first pass.
-pub fn open(alloc: Global, size: u16, limit: u32) -> Result<(Router, Pass), Fail>
-    ensures { IfOk result (λ r. IsFirst r.0 r.1) }
+pub fn open<R: Host>(rt: &R, size: u16, limit: u32) -> (Router, Pass)
+    ensures { IsFirst result.0 result.1 }
 {
-    let journal = Journal::open(alloc, opening(alloc, size)?, limit.clamp(1, 1_000_000))?;
-    match Router::open(alloc, journal) {
-        Ok(opened) => Ok(opened),
-        Err(fault) => Err(Fail::from(fault)),
-    }
+    let opening = opening(rt, size);
+    let journal = Journal::open(rt.alloc(), opening, limit.clamp(1, 1_000_000));
+    Router::open(rt.alloc(), journal.expect(rt, "error")).expect(rt, "error")
+}
+
+/// Closes a router.
+pub fn close<R: Host>(rt: &R, router: Router, pass: Pass) -> Journal
+    requires { IsPassOf router pass }
+{
+    done(rt, router.close(pass))
 }
 
 /// How a caller enters an event.
@@ -91,19 +95,20 @@ impl<'a> Caller<'a> {
         self.pass.shares()
     }
 
-    /// Another caller, by so many shares of this one's pass. None where that has no more.
-    pub fn split(&mut self, shares: u32) -> Option<Caller<'a>> {
-        if shares == 0 || self.pass.shares() <= shares {
-            return None;
+    /// Another caller, by so many shares of this one's pass.
+    pub fn split<R: Host>(&mut self, rt: &R, shares: u32) -> Caller<'a> {
+        let are_there = shares > 0 && shares < self.pass.shares();
+        if !are_there {
+            rt.panic("shares");
         }
-        Some(Caller {
+        Caller {
             router: self.router,
             pass: self.router.split(&mut self.pass, shares),
-        })
+        }
     }
 
     /// Enters an event once the lock is free.
-    pub fn call<R: Wait>(&mut self, rt: &R, event: Event) -> Result<Answer, CallFault> {
+    pub fn call<R: Host>(&mut self, rt: &R, event: Event) -> Result<Answer, CallFault> {
         self.router.call(rt, &mut self.pass, event)
     }
 
@@ -113,7 +118,7 @@ impl<'a> Caller<'a> {
     }
 
     /// Enters an event by tries. One that comes back, since the lock was taken, is tried again.
-    fn try_again<R: Wait>(&mut self, rt: &R, event: Event) -> Option<Answer> {
+    fn try_again<R: Host>(&mut self, rt: &R, event: Event) -> Option<Answer> {
         let mut event = event;
         for _ in rt.forever() {
             match self.try_call(event) {
@@ -126,25 +131,26 @@ impl<'a> Caller<'a> {
         unreachable!()
     }
 
-    /// Enters an event in a way. None where it is refused.
-    pub fn enter<R: Wait>(&mut self, rt: &R, way: Way, event: Event) -> Option<Answer> {
-        match way {
+    /// Enters an event in a way, which has to be answered.
+    pub fn enter<R: Host>(&mut self, rt: &R, way: Way, event: Event) -> Answer {
+        let answer = match way {
             Way::Try => self.try_call(event).ok(),
             Way::TryAgain => self.try_again(rt, event),
             Way::Call => self.call(rt, event).ok(),
-        }
+        };
+        some(rt, answer, "a caller was refused")
     }
 
     /// Brings neighbours 1 to `last` up, in sessions 1 to `last`.
-    pub fn bring_up<R: Wait>(&mut self, rt: &R, last: u16) -> Result<(), Fail> {
+    pub fn bring_up<R: Host>(&mut self, rt: &R, last: u16) {
         for node in 0..last {
-            let _answer = self.call(rt, Event::Up(node.saturating_add(1)))?;
+            let event = Event::Up(node.saturating_add(1));
+            let _answer = self.enter(rt, Way::Call, event);
         }
-        Ok(())
     }
 
     /// Reads a link in a session.
-    pub fn read<R: Wait + Clock, L: Link, G: Gate>(
+    pub fn read<R: Host, L: Link, G: Gate>(
         &mut self,
         rt: &R,
         session: u32,
@@ -165,10 +171,9 @@ impl<'a> Caller<'a> {
     }
 
     /// Writes to a link in a session.
-    pub fn write<R: Wait + Clock, L: Link, G: Gate>(
+    pub fn write<R: Host, L: Link, G: Gate>(
         &mut self,
         rt: &R,
-        alloc: Global,
         session: u32,
         link: &mut L,
         gate: &G,
@@ -176,7 +181,7 @@ impl<'a> Caller<'a> {
     ) -> WriteEnd {
         write_session(
             rt,
-            alloc,
+            rt.alloc(),
             self.router,
             &mut self.pass,
             session,

@@ -1,117 +1,139 @@
-//! Links over channels, and a link of one's own.
+//! Links over channels, links that are closed, and a link of one's own.
 
-use crate::callers::{Caller, open};
-use crate::gates::OpenGate;
-use expectations::expect;
+use crate::asserts::{Host, done, must, some};
+use crate::callers::{Caller, Way, close, open};
+use crate::ends::{FIRST, SECOND};
+use crate::gates::{OpenGate, comes_to};
 use netchange_core::{Event, Message, Reply, Via};
-use route_session::{Cause, ChannelLink, Got, Link, LinkFault};
-use std::alloc::Global;
+use route_session::{Cause, ChannelLink, Got, Link, LinkFault, MemoryLink};
 use std::io::{ErrorKind, Read, Write};
-use std::rt::Clock;
 use std::sync::Wait;
 use std::sync::atomic::{AtomicU64, Ordering};
-use std::test::Fail;
 use std::thread;
 use std::time::Duration;
+
+/// What is done with one of some links, by its number.
+#[derive(Clone, Copy)]
+pub enum Step {
+    /// It is asked for a message, and answers this.
+    Asked(usize, Result<Got, LinkFault>),
+    /// It is given a message, which it takes or not.
+    Given(usize, Message, bool),
+    /// It is closed.
+    Closed(usize),
+}
+
+/// Does with some links what steps say.
+pub fn must_follow<R: Host, L: Link>(rt: &R, links: &mut [L], steps: &[Step]) {
+    for step in steps {
+        let (Step::Asked(at, _) | Step::Given(at, _, _) | Step::Closed(at)) = step;
+        let link = some(rt, links.get_mut(*at), "a link");
+        match step {
+            Step::Asked(_, wanted) => must(rt, link.recv(rt) == *wanted, "what a link hands out"),
+            Step::Given(_, message, is_taken) => {
+                let is_so = link.send(rt, *message).is_ok() == *is_taken;
+                must(rt, is_so, "what a link takes");
+            }
+            Step::Closed(_) => link.close(),
+        }
+    }
+}
+
+/// The end of a channel that is written, number 0, and the end that is read, number 1. What an end has no direction for fails. A closed end has ended
+/// and fails; the other end still hands out what is in the channel, and then has ended, too.
+const WRITER_CLOSED: [Step; 11] = [
+    Step::Asked(0, Err(LinkFault)),
+    Step::Given(1, FIRST, false),
+    Step::Given(0, FIRST, true),
+    Step::Given(0, SECOND, true),
+    Step::Closed(0),
+    Step::Given(0, FIRST, false),
+    Step::Asked(0, Ok(Got::Ended)),
+    Step::Asked(1, Ok(Got::Message(FIRST))),
+    Step::Asked(1, Ok(Got::Message(SECOND))),
+    Step::Asked(1, Ok(Got::Ended)),
+    Step::Closed(1),
+];
+
+/// A closed reader has ended, and nobody is left to read.
+const READER_CLOSED: [Step; 3] = [
+    Step::Closed(1),
+    Step::Asked(1, Ok(Got::Ended)),
+    Step::Given(0, FIRST, false),
+];
+
+#[test]
+fn channels_are_closed(rt: HostRuntime) {
+    for steps in [WRITER_CLOSED.as_slice(), &READER_CLOSED] {
+        let (writer, reader) = done(&rt, ChannelLink::pair(rt.alloc()));
+        must_follow(&rt, &mut [writer, reader], steps);
+    }
+}
+
+/// A link that is closed has ended and takes nothing.
+const CLOSED: [Step; 3] = [
+    Step::Closed(0),
+    Step::Asked(0, Ok(Got::Ended)),
+    Step::Given(0, FIRST, false),
+];
+
+#[test]
+fn a_link_in_memory_is_closed(rt: HostRuntime) {
+    let waiting = done(&rt, [FIRST, SECOND].to_vec(rt.alloc()));
+    let mut links = [MemoryLink::new(rt.alloc(), waiting, None)];
+    must_follow(&rt, &mut links, &CLOSED);
+    must(
+        &rt,
+        links[0].is_closed() && links[0].given().is_empty(),
+        "closed",
+    );
+}
+
+/// How many messages are sent through a channel.
+const COUNT: u16 = 2_000;
 
 /// A message about a node, at distance 3.
 fn message(dest: u16) -> Message {
     Message { dest, dist: 3 }
 }
 
-/// Sends so many messages, and counts those that were taken.
-fn send_all<R: Wait>(rt: &R, writer: &mut ChannelLink, count: u16, sent: &AtomicU64) -> bool {
-    for node in 0..count {
-        if writer.send(rt, message(node)).is_err() {
-            return false;
-        }
+/// Sends all messages, and counts those that were taken.
+fn send_all<R: Host>(rt: &R, writer: &mut ChannelLink, sent: &AtomicU64) {
+    for node in 0..COUNT {
+        must(
+            rt,
+            writer.send(rt, message(node)).is_ok(),
+            "a message is taken",
+        );
         sent.fetch_add(1, Ordering::SeqCst);
     }
-    true
 }
 
-/// Whether so many messages come out, in order.
-fn receives_all<R: Wait>(rt: &R, reader: &mut ChannelLink, count: u16) -> bool {
-    for node in 0..count {
-        if reader.recv(rt) != Ok(Got::Message(message(node))) {
-            return false;
-        }
-    }
-    true
-}
-
-/// What is sent into one end of a channel comes out of the other, in order; what an end has no direction for fails.
-#[test]
-fn a_channel_hands_on(rt: HostRuntime) -> Result<(), Fail> {
-    let (mut writer, mut reader) = ChannelLink::pair(rt.alloc())?;
-    let fails = writer.recv(&rt) == Err(LinkFault)
-        && reader.send(&rt, message(1)) == Err(LinkFault);
-    let sent = AtomicU64::new(0);
-    let are_handed_on = send_all(&rt, &mut writer, 64, &sent) && receives_all(&rt, &mut reader, 64);
-    expect(fails, "an end has one direction")?;
-    expect(are_handed_on, "in order")
-}
-
-/// A closed end has ended and fails; the other end still hands out what is in the channel, and then has ended, too.
-#[test]
-fn a_channel_is_closed(rt: HostRuntime) -> Result<(), Fail> {
-    let (mut writer, mut reader) = ChannelLink::pair(rt.alloc())?;
-    let is_sent = writer.send(&rt, message(1)) == Ok(());
-    writer.close();
-    let is_closed = writer.send(&rt, message(1)) == Err(LinkFault)
-        && writer.recv(&rt) == Ok(Got::Ended);
-    let is_left = reader.recv(&rt) == Ok(Got::Message(message(1)))
-        && reader.recv(&rt) == Ok(Got::Ended);
-    reader.close();
-    let has_ended = reader.recv(&rt) == Ok(Got::Ended);
-    expect(
-        is_sent && is_closed && is_left && has_ended,
-        "a closed channel",
-    )
-}
-
-/// Nobody is left to read.
-#[test]
-fn a_reader_is_closed(rt: HostRuntime) -> Result<(), Fail> {
-    let (mut writer, mut reader) = ChannelLink::pair(rt.alloc())?;
-    reader.close();
-    let fails = writer.send(&rt, message(1)) == Err(LinkFault);
-    expect(fails, "nobody is left to read")
-}
-
-/// Waits until the channel is full and a while longer: how many messages it took by then. Then receives all.
-fn receive_late<R: Wait + Clock>(
-    rt: &R,
-    reader: &mut ChannelLink,
-    count: u16,
-    sent: &AtomicU64,
-) -> Option<u64> {
-    for _ in 0..10_000 {
-        if sent.load(Ordering::SeqCst) >= 64 {
-            break;
-        }
-        thread::sleep(rt, Duration::from_millis(1));
-    }
+/// Waits until the channel is full and a while longer. It took 64 messages by then. Then receives all, in order.
+fn receive_late<R: Host>(rt: &R, reader: &mut ChannelLink, sent: &AtomicU64) {
+    let is_full = comes_to(rt, sent, 64);
     thread::sleep(rt, Duration::from_millis(20));
-    let full = sent.load(Ordering::SeqCst);
-    if receives_all(rt, reader, count) {
-        Some(full)
-    } else {
-        None
+    must(
+        rt,
+        is_full && sent.load(Ordering::SeqCst) == 64,
+        "a channel takes 64 messages",
+    );
+    for node in 0..COUNT {
+        let is_next = reader.recv(rt) == Ok(Got::Message(message(node)));
+        must(rt, is_next, "messages come out in order");
     }
 }
 
 /// A channel takes 64 messages. The sender of the next waits until there is room, and none is lost.
 #[test]
-fn a_full_channel_waits(rt: HostRuntime) -> Result<(), Fail> {
-    let (mut writer, mut reader) = ChannelLink::pair(rt.alloc())?;
+fn a_full_channel_waits(rt: HostRuntime) {
+    let (mut writer, mut reader) = done(&rt, ChannelLink::pair(rt.alloc()));
     let sent = AtomicU64::new(0);
-    let (are_sent, full) = thread::join(
+    let (_, _) = thread::join(
         &rt,
-        || -> bool { send_all(&rt, &mut writer, 2_000, &sent) },
-        || -> Option<u64> { receive_late(&rt, &mut reader, 2_000, &sent) },
+        || send_all(&rt, &mut writer, &sent),
+        || receive_late(&rt, &mut reader, &sent),
     );
-    expect(are_sent && full == Some(64), "a channel takes 64 messages")
 }
 
 // The next lines are the example of docs/SESSIONS.md.
@@ -163,34 +185,38 @@ const SENT: &[u8] = &[
     0, 0, 0, 0, 0, 1, 0, 4, 0, 2, 0, 4, 0, 3, 0, 4, 0, 1, 0, 1, 0, 2, 0, 2,
 ];
 
-/// Whether a neighbour's bytes are entered, and what the router queued goes out as bytes. In the end the router has a route of distance 2.
-fn hands_on_bytes<R: Wait + Clock>(
-    rt: &R,
-    alloc: Global,
-    mut caller: Caller<'_>,
-) -> Result<bool, Fail> {
-    caller.bring_up(rt, 1)?;
+/// A neighbour's bytes are entered, and what the router queued goes out as bytes. In the end the router has a route of distance 2.
+fn must_hand_on<R: Host>(rt: &R, mut caller: Caller<'_>) {
+    caller.bring_up(rt, 1);
     let mut link = StreamLink {
         input: [0, 1, 0, 0, 0, 2, 0, 1].as_slice(),
-        output: Vec::new(alloc),
+        output: Vec::new(rt.alloc()),
         is_closed: false,
     };
     let read = caller.read(rt, 1, &mut link, &OpenGate, 10);
-    let sent = caller.write(rt, alloc, 1, &mut link, &OpenGate, 1);
-    let has_read = read.cause == Cause::LinkEnded && read.entered == 2;
-    let has_sent = sent.cause == Cause::Turns && sent.sent == 6;
-    let are_bytes = link.output.as_slice() == SENT;
+    must(
+        rt,
+        read.cause == Cause::LinkEnded && read.entered == 2,
+        "bytes are read",
+    );
+    let sent = caller.write(rt, 1, &mut link, &OpenGate, 1);
+    must(
+        rt,
+        sent.cause == Cause::Turns && sent.sent == 6,
+        "bytes are sent",
+    );
+    must(rt, link.output.as_slice() == SENT, "which bytes");
     let route = Reply::Route {
         dist: 2,
         via: Via::Node(1),
     };
-    let answer = caller.call(rt, Event::Show(2))?;
-    Ok(has_read && has_sent && are_bytes && answer.reply.is_same(&route))
+    let answer = caller.enter(rt, Way::Call, Event::Show(2));
+    must(rt, answer.reply.is_same(&route), "the route");
 }
 
 #[test]
-fn a_link_of_ones_own(rt: HostRuntime) -> Result<(), Fail> {
-    let (router, mut pass) = open(rt.alloc(), 4, 100)?;
-    let is_so = hands_on_bytes(&rt, rt.alloc(), Caller::of(&router, &mut pass))?;
-    expect(is_so, "a link of one's own")
+fn a_link_of_ones_own(rt: HostRuntime) {
+    let (router, mut pass) = open(&rt, 4, 100);
+    must_hand_on(&rt, Caller::of(&router, &mut pass));
+    let _journal = close(&rt, router, pass);
 }

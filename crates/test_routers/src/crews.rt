@@ -1,13 +1,11 @@
-//! Sessions that are run at the same time, each in a thread of its own.
+//! Sessions that are run, each in a thread of its own.
 
+use crate::asserts::{Host, some};
 use crate::callers::Caller;
 use route_session::{Finished, Gate, Job, Link, Role, RunFault, join_passes, run_sessions};
 use slot_lock::{Pass, Router};
-use std::alloc::Global;
 use std::marker::Model;
-use std::rt::Clock;
-use std::sync::Wait;
-use std::thread::Threads;
+use std::process::Abort;
 
 /// How many sessions there are at most.
 const MOST: usize = 100;
@@ -34,63 +32,60 @@ impl<'a, L: Link + Send + Drop> Model for Crew<'a, L> {
 
 /// Who is shown what each session came to.
 pub trait Auditor<L> {
-    /// Looks at the session of a number. None where something is wrong with it, or memory is refused.
-    fn look(&mut self, number: usize, finished: &Finished<L>) -> Option<()>;
+    /// Looks at the session of a number, and ends the test where something is wrong with it.
+    fn look<R: Abort>(&mut self, rt: &R, number: usize, finished: &Finished<L>);
 }
 
 impl<'a, L: Link + Send + Drop> Crew<'a, L> {
     /// No sessions yet, at the router of a caller.
-    pub fn of(alloc: Global, caller: Caller<'a>) -> Crew<'a, L> {
+    pub fn of<R: Host>(rt: &R, caller: Caller<'a>) -> Crew<'a, L> {
         let (router, pass) = caller.parts();
         Crew {
             router,
             pass,
-            jobs: Vec::new(alloc),
+            jobs: Vec::new(rt.alloc()),
         }
     }
 
     /// Adds a session over a link.
-    pub fn add(&mut self, role: Role, session: u32, link: L) -> Option<()> {
+    pub fn add<R: Host>(&mut self, rt: &R, role: Role, session: u32, link: L) {
         if self.pass.shares() < 2 || self.jobs.len() >= MOST {
-            return None;
+            rt.panic("room for a session");
         }
         let pass = self.router.split(&mut self.pass, 1);
-        self.jobs
-            .push(Job {
-                role,
-                session,
-                link,
-                pass,
-            })
-            .ok()
+        let added = self.jobs.push(Job {
+            role,
+            session,
+            link,
+            pass,
+        });
+        some(rt, added.ok(), "memory");
     }
 
     /// Runs the sessions, shows what each came to, and joins their passes with the one that they were split off from: how many shares that has
-    /// in the end. None where something is wrong with a session.
-    pub fn run<R: Threads + Wait + Clock + Sync, G: Gate + Sync, A: Auditor<L>>(
+    /// in the end.
+    pub fn run<R: Host, G: Gate + Sync, A: Auditor<L>>(
         self,
         rt: &R,
-        alloc: Global,
         gate: &G,
         turns: u32,
         auditor: &mut A,
-    ) -> Result<Option<u32>, RunFault> {
+    ) -> Result<u32, RunFault> {
         let Crew {
             router,
             mut pass,
             jobs,
         } = self;
-        let finished = run_sessions(rt, alloc, router, jobs, gate, turns)?;
-        let are_right = look_at_all(finished.as_slice(), auditor).is_some();
+        let finished = run_sessions(rt, rt.alloc(), router, jobs, gate, turns)?;
+        look_at_all(rt, finished.as_slice(), auditor);
         join_passes(router, &mut pass, finished);
-        Ok(if are_right { Some(pass.shares()) } else { None })
+        Ok(pass.shares())
     }
 }
 
 /// Shows what each session came to.
-fn look_at_all<L, A: Auditor<L>>(finished: &[Finished<L>], auditor: &mut A) -> Option<()> {
+fn look_at_all<R: Host, L, A: Auditor<L>>(rt: &R, finished: &[Finished<L>], auditor: &mut A) {
     for (number, one) in finished.iter().enumerate() {
-        auditor.look(number, one)?;
+        auditor.look(rt, number, one);
     }
-    Some(())
 }

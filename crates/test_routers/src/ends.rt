@@ -1,17 +1,14 @@
 //! How readers and writers end, as tables: for want of turns, at links that have ended or fail at each of their calls, in sessions that are
 //! over, and in histories that are full.
 
-use crate::callers::{Caller, open};
+use crate::asserts::{Host, done, must};
+use crate::callers::{Caller, close, open};
 use crate::gates::NotingGate;
-use crate::histories::expect_entered;
-use expectations::expect;
+use crate::histories::must_enter;
+use crate::random_link::RandomLink;
 use netchange_core::Message;
 use route_history::Journal;
-use route_session::{Cause, Got, Link, LinkFault, MemoryLink, ReadEnd, WriteEnd};
-use std::alloc::Global;
-use std::rt::Clock;
-use std::sync::Wait;
-use std::test::Fail;
+use route_session::{Cause, Link, MemoryLink, ReadEnd, WriteEnd};
 
 /// Messages that a router of four nodes enters.
 pub const FIRST: Message = Message { dest: 1, dist: 0 };
@@ -78,72 +75,65 @@ pub fn end(cause: Cause, entered: u32, lost: Option<Message>) -> ReadEnd {
     }
 }
 
-/// Expects that a gate was asked before each turn, in order, up to the last one where a session used up its turns.
-fn expect_asked(gate: NotingGate, cause: Cause, turns: u32) -> Result<(), Fail> {
+/// A gate was asked before each turn, in order, up to the last one where a session used up its turns.
+fn must_be_asked<R: Host>(rt: &R, gate: NotingGate, cause: Cause, turns: u32) {
     let mut next = 0u32;
     for (_, turn) in &gate.asked() {
-        expect(*turn == next, "the gate is asked before each turn")?;
+        must(rt, *turn == next, "the gate is asked before each turn");
         next = next.saturating_add(1);
     }
-    expect(
+    must(
+        rt,
         cause != Cause::Turns || next == turns,
         "all turns are used up",
-    )
+    );
 }
 
-/// How a reader of a link ends in a session at a router with neighbour 1 up in session 1.
-fn read<R: Wait + Clock, L: Link>(
+/// How a reader of a link ends in a session at a router of four nodes, with neighbour 1 up in session 1, and the journal.
+fn read<R: Host, L: Link>(
     rt: &R,
-    mut caller: Caller<'_>,
+    limit: u32,
     session: u32,
     link: &mut L,
-    gate: &NotingGate,
+    gate: NotingGate,
     turns: u32,
-) -> Result<ReadEnd, Fail> {
-    caller.bring_up(rt, 1)?;
-    Ok(caller.read(rt, session, link, gate, turns))
+) -> (ReadEnd, Journal) {
+    let (router, mut pass) = open(rt, 4, limit);
+    let mut caller = Caller::of(&router, &mut pass);
+    caller.bring_up(rt, 1);
+    let end = caller.read(rt, session, link, &gate, turns);
+    drop(caller);
+    must_be_asked(rt, gate, end.cause, turns);
+    (end, close(rt, router, pass))
 }
 
-/// How the reader of a row ends, and the journal.
-fn read_row<R: Wait + Clock>(
-    rt: &R,
-    alloc: Global,
-    row: &Reader,
-) -> Result<(ReadEnd, Journal), Fail> {
-    let (told, fails_at, limit, session, turns, (most, of), _, _) = row;
-    let mut link = MemoryLink::new(alloc, told.to_vec(alloc)?, *fails_at);
-    let gate = NotingGate::new(alloc, *most, *of);
-    let (router, mut pass) = open(alloc, 4, *limit)?;
-    let caller = Caller::of(&router, &mut pass);
-    let end = read(rt, caller, *session, &mut link, &gate, *turns)?;
-    let journal = router.close(pass)?;
-    expect_asked(gate, end.cause, *turns)?;
-    Ok((end, journal))
-}
-
-/// Expects that a reader ends as its row says, and that what it entered is what was handed out before, in order. A full history loses the
-/// message that came next.
-fn expect_reader<R: Wait + Clock>(rt: &R, alloc: Global, row: &Reader) -> Result<(), Fail> {
-    let (told, _, _, session, _, _, cause, entered) = row;
+/// A reader ends as its row says, and what it entered is what was handed out before, in order. A full history loses the message that came next.
+fn must_read<R: Host>(rt: &R, row: &Reader) {
+    let (told, fails_at, limit, session, turns, (most, of), cause, entered) = row;
+    let mut link = MemoryLink::new(rt.alloc(), done(rt, told.to_vec(rt.alloc())), *fails_at);
+    let gate = NotingGate::new(rt.alloc(), *most, *of);
+    let (found, journal) = read(rt, *limit, *session, &mut link, gate, *turns);
     let (before, behind) = told.split_at((*entered as usize).min(told.len()));
     let lost = if *cause == Cause::Full {
         behind.first().copied()
     } else {
         None
     };
-    let (found, journal) = read_row(rt, alloc, row)?;
-    expect(found == end(*cause, *entered, lost), "how a reader ends")?;
+    must(
+        rt,
+        found == end(*cause, *entered, lost),
+        "how a reader ends",
+    );
     let is_all = journal.entries().len() == before.len().saturating_add(1);
-    expect(is_all, "what a reader enters")?;
-    expect_entered(alloc, &journal, *session, before)
+    must(rt, is_all, "what a reader enters");
+    must_enter(rt, &journal, *session, before);
 }
 
 #[test]
-fn readers_end(rt: HostRuntime) -> Result<(), Fail> {
+fn readers_end(rt: HostRuntime) {
     for row in &READERS {
-        expect_reader(&rt, rt.alloc(), row)?;
+        must_read(&rt, row);
     }
-    Ok(())
 }
 
 /// A writer at node 0, with neighbour 1 up in session 1: the nodes of the domain, the limit of the history, its session, the call at which
@@ -182,136 +172,72 @@ const WRITERS: [Writer; 16] = [
     (4, 1_000, 1, None, 999, (2, 3), Cause::Turns, 4, 0),
 ];
 
-/// How a writer to a link ends in a session at a router with neighbour 1 up in session 1.
-fn write<R: Wait + Clock>(
-    rt: &R,
-    alloc: Global,
-    mut caller: Caller<'_>,
-    link: &mut MemoryLink,
-    gate: &NotingGate,
-    row: &Writer,
-) -> Result<WriteEnd, Fail> {
-    let (_, _, session, _, turns, _, _, _, _) = row;
-    caller.bring_up(rt, 1)?;
-    Ok(caller.write(rt, alloc, *session, link, gate, *turns))
+/// How a writer to a link ends in a session, with neighbour 1 up in session 1, and the number of entries.
+fn write<R: Host>(rt: &R, link: &mut MemoryLink, row: &Writer) -> (WriteEnd, usize) {
+    let (size, limit, session, _, turns, (most, of), _, _, _) = row;
+    let gate = NotingGate::new(rt.alloc(), *most, *of);
+    let (router, mut pass) = open(rt, *size, *limit);
+    let mut caller = Caller::of(&router, &mut pass);
+    caller.bring_up(rt, 1);
+    let end = caller.write(rt, *session, link, &gate, *turns);
+    drop(caller);
+    must_be_asked(rt, gate, end.cause, *turns);
+    (end, close(rt, router, pass).entries().len())
 }
 
-/// How the writer of a row ends, and the number of entries. The link of the row was handed over.
-fn write_row<R: Wait + Clock>(
-    rt: &R,
-    alloc: Global,
-    link: &mut MemoryLink,
-    row: &Writer,
-) -> Result<(WriteEnd, usize), Fail> {
-    let (size, limit, _, _, turns, (most, of), _, _, _) = row;
-    let gate = NotingGate::new(alloc, *most, *of);
-    let (router, mut pass) = open(alloc, *size, *limit)?;
-    let caller = Caller::of(&router, &mut pass);
-    let end = write(rt, alloc, caller, link, &gate, row)?;
-    let count = router.close(pass)?.entries().len();
-    expect_asked(gate, end.cause, *turns)?;
-    Ok((end, count))
-}
-
-/// Expects that a writer ends as its row says, and which messages went out: node 0 at distance 0, and the others out of reach, in order. A turn
-/// that its gate lets go is an entry.
-fn expect_writer<R: Wait + Clock>(rt: &R, alloc: Global, row: &Writer) -> Result<(), Fail> {
+/// A writer ends as its row says. A turn that its gate lets go is an entry.
+fn must_write<R: Host>(rt: &R, row: &Writer) {
     let (size, _, _, fails_at, turns, (most, of), cause, sent, unsent) = row;
-    let mut link = MemoryLink::new(alloc, Vec::new(alloc), *fails_at);
-    let (end, count) = write_row(rt, alloc, &mut link, row)?;
+    let mut link = MemoryLink::new(rt.alloc(), Vec::new(rt.alloc()), *fails_at);
+    let (end, count) = write(rt, &mut link, row);
     let (given, left) = (link.given(), end.unsent.as_slice());
     let is_so = end.cause == *cause && end.sent == *sent && given.len() as u64 == *sent;
-    expect(is_so && left.len() == *unsent, "how a writer ends")?;
-    let are_told = is_told(given, 0, *size) && is_told(left, *sent, *size);
-    expect(are_told, "what a writer takes")?;
+    must(rt, is_so && left.len() == *unsent, "how a writer ends");
+    must_tell(rt, given, 0, *size);
+    must_tell(rt, left, *sent, *size);
     let takes = turns.saturating_mul(*most) / (*of).max(1);
     let is_all = count == (takes as usize).saturating_add(1);
-    expect(is_all || *cause != Cause::Turns, "what a writer enters")
+    must(rt, is_all || *cause != Cause::Turns, "what a writer enters");
 }
 
-/// Whether messages tell of the nodes from one on, in order: of node 0 that it is here, and of the others that they are out of reach.
-fn is_told(told: &[Message], from: u64, size: u16) -> bool {
+/// Messages tell of the nodes from one on, in order: of node 0 that it is here, and of the others that they are out of reach.
+fn must_tell<R: Host>(rt: &R, told: &[Message], from: u64, size: u16) {
     let mut node = from;
     for one in told {
         let dist = if node == 0 { 0 } else { size };
-        if u64::from(one.dest) != node || one.dist != dist {
-            return false;
-        }
+        let is_so = u64::from(one.dest) == node && one.dist == dist;
+        must(rt, is_so, "what a writer takes");
         node = node.saturating_add(1);
     }
-    true
 }
 
 #[test]
-fn writers_end(rt: HostRuntime) -> Result<(), Fail> {
+fn writers_end(rt: HostRuntime) {
     for row in &WRITERS {
-        expect_writer(&rt, rt.alloc(), row)?;
-    }
-    Ok(())
-}
-
-/// A link that answers by turns a message, at distance 0, 1, and so on up to 5 and from 0 again, and that there is none.
-#[derive(Drop)]
-struct PausingLink {
-    asks: u64,
-    is_closed: bool,
-}
-
-impl Link for PausingLink {
-    ghost use Rattle.route_session.specs.Telling.{untold};
-
-    ghost told = { λ l. untold l.is_closed };
-
-    fn recv<R: Wait>(&mut self, _rt: &R) -> Result<Got, LinkFault> {
-        if self.is_closed {
-            return Ok(Got::Ended);
-        }
-        self.asks = self.asks.saturating_add(1);
-        if self.asks % 2 == 0 {
-            return Ok(Got::Nothing);
-        }
-        Ok(Got::Message(Message {
-            dest: 1,
-            dist: (self.asks / 2 % 6) as u16,
-        }))
-    }
-
-    fn send<R: Wait>(&mut self, _rt: &R, _message: Message) -> Result<(), LinkFault> {
-        Err(LinkFault)
-    }
-
-    fn close(&mut self) {
-        self.is_closed = true;
+        must_write(&rt, row);
     }
 }
 
-/// A reader of 999 turns, of which the gate holds back 333: at the others the link hands out a message or has none, by turns. Some
-/// of the messages have a distance above the size of the domain, 4.
+/// A reader of 999 turns, of which the gate holds back 333: at the others the link hands out a message or has none, at random. Some of the messages
+/// have a distance above the size of the domain, 4, or are about no node of it.
 #[test]
-fn a_reader_uses_up_its_turns(rt: HostRuntime) -> Result<(), Fail> {
+fn a_reader_uses_up_its_turns(rt: HostRuntime) {
     let gate = NotingGate::new(rt.alloc(), 2, 3);
-    let mut link = PausingLink {
-        asks: 0,
-        is_closed: false,
-    };
-    let (router, mut pass) = open(rt.alloc(), 4, 1_000)?;
-    let caller = Caller::of(&router, &mut pass);
-    let found = read(&rt, caller, 1, &mut link, &gate, 999)?;
-    let entries = router.close(pass)?.entries().len();
-    let is_so = found == end(Cause::Turns, 333, None) && link.asks == 666 && entries == 334;
-    expect(is_so, "a reader uses up its turns")?;
-    expect_asked(gate, Cause::Turns, 999)
-}
-
-/// A link that is closed has ended and takes nothing.
-#[test]
-fn closed_links(rt: HostRuntime) -> Result<(), Fail> {
-    let mut link = MemoryLink::new(rt.alloc(), FOUR.to_vec(rt.alloc())?, None);
-    link.close();
-    let has_ended = link.is_closed() && link.recv(&rt) == Ok(Got::Ended);
-    let fails = link.send(&rt, FIRST) == Err(LinkFault) && link.given().is_empty();
-    expect(
-        has_ended && fails,
-        "a closed link has ended and takes nothing",
-    )
+    let mut link = RandomLink::new(rt.alloc(), 1, false);
+    let (found, journal) = read(&rt, 1_000, 1, &mut link, gate, 999);
+    let handed = link.handed.len();
+    must(
+        &rt,
+        link.asks == 666 && handed < 666 && handed > 333,
+        "the link is asked at each turn that goes",
+    );
+    let is_so = u64::from(found.entered) == handed as u64 && found.cause == Cause::Turns;
+    must(
+        &rt,
+        is_so && found.lost == None,
+        "a reader uses up its turns",
+    );
+    let is_all = journal.entries().len() == handed.saturating_add(1);
+    must(&rt, is_all, "what a reader enters");
+    must_enter(&rt, &journal, 1, &link.handed);
 }

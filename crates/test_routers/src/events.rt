@@ -1,14 +1,12 @@
 //! Events that callers enter, of each kind, and how many of each kind a history has.
 
-use expectations::expect_number;
+use crate::asserts::{Host, done, must, some};
 use filter_code::{Code, Instr};
 use filter_verifier::{Verified, verify};
 use netchange_core::Event;
 use prefix_patterns::PatternSet;
 use route_history::Entries;
-use std::alloc::Global;
 use std::sync::Arc;
-use std::test::Fail;
 
 /// How many kinds of event there are.
 pub const KINDS: u16 = 7;
@@ -27,42 +25,48 @@ pub enum Kind {
 }
 
 /// A filter of sets and instructions, for domains of so many nodes.
-pub fn verified(
-    alloc: Global,
+pub fn filter<R: Host>(
+    rt: &R,
     sets: Vec<PatternSet>,
     instrs: &[Instr],
     size: u32,
-) -> Option<Arc<Verified>> {
-    let code = Code::new(0, sets, Vec::new(alloc), instrs.to_vec(alloc).ok()?)?;
-    Arc::new(alloc, verify(alloc, code, size).ok()?).ok()
+) -> Arc<Verified> {
+    let instrs = done(rt, instrs.to_vec(rt.alloc()));
+    let code = some(
+        rt,
+        Code::new(0, sets, Vec::new(rt.alloc()), instrs),
+        "a code",
+    );
+    let verified = some(rt, verify(rt.alloc(), code, size).ok(), "verified code");
+    done(rt, Arc::new(rt.alloc(), verified))
 }
 
 /// A filter of one instruction, for domains of 4 nodes.
-pub fn filter(alloc: Global, instr: Instr) -> Option<Arc<Verified>> {
-    verified(alloc, Vec::new(alloc), &[instr], 4)
+pub fn small_filter<R: Host>(rt: &R, instr: Instr) -> Arc<Verified> {
+    filter(rt, Vec::new(rt.alloc()), &[instr], 4)
 }
 
 /// The event of a number: of each kind in turn, about neighbour 1 and its sessions from 1 on.
-fn event_in_turn(alloc: Global, number: u16) -> Option<Event> {
+fn event_in_turn<R: Host>(rt: &R, number: u16) -> Event {
     let session = u32::from(number / KINDS) + 1;
-    Some(match number % KINDS {
+    match number % KINDS {
         0 => Event::Up(1),
         1 => Event::Receive(session, 1, 0),
         2 => Event::Take(session, 3),
         3 => Event::Show(1),
-        4 => Event::SetImport(1, filter(alloc, Instr::Accept)?),
-        5 => Event::SetExport(1, filter(alloc, Instr::Accept)?),
+        4 => Event::SetImport(1, small_filter(rt, Instr::Accept)),
+        5 => Event::SetExport(1, small_filter(rt, Instr::Accept)),
         _ => Event::Down(session),
-    })
+    }
 }
 
 /// The event of a kind that has a number.
-pub fn event_of(alloc: Global, kind: Kind, number: u16) -> Option<Event> {
+pub fn event_of<R: Host>(rt: &R, kind: Kind, number: u16) -> Event {
     match kind {
-        Kind::Up => Some(Event::Up(number.saturating_add(1))),
-        Kind::Look => Some(Event::Show(0)),
-        Kind::Tell(session) => Some(Event::Receive(session, 3, number % 5)),
-        Kind::Each => event_in_turn(alloc, number),
+        Kind::Up => Event::Up(number.saturating_add(1)),
+        Kind::Look => Event::Show(0),
+        Kind::Tell(session) => Event::Receive(session, 3, number % 5),
+        Kind::Each => event_in_turn(rt, number),
     }
 }
 
@@ -79,32 +83,13 @@ fn kind_of(event: &Event) -> usize {
     }
 }
 
-/// Expects so many entries of each kind.
-pub fn expect_kinds(entries: &Entries, wanted: &[u64; 7]) -> Result<(), Fail> {
+/// There are so many entries of each kind.
+pub fn must_count<R: Host>(rt: &R, entries: &Entries, wanted: &[u64; 7]) {
     let mut counts = [0u64; 7];
     for at in 0..entries.len() {
         if let Some(count) = counts.get_mut(kind_of(entries.entry(at).event)) {
             *count = count.saturating_add(1);
         }
     }
-    for (count, wanted) in counts.iter().zip(wanted) {
-        expect_number(*count, *wanted)?;
-    }
-    Ok(())
-}
-
-/// Whether what was told under a session, so many times, was entered in the order in which it was told.
-pub fn are_told(entries: &Entries, session: u32, calls: u16) -> bool {
-    let mut told = 0u16;
-    for at in 0..entries.len() {
-        if let Event::Receive(under, _, dist) = entries.entry(at).event
-            && *under == session
-        {
-            if *dist != told % 5 {
-                return false;
-            }
-            told = told.saturating_add(1);
-        }
-    }
-    told == calls
+    must(rt, counts == *wanted, "so many entries of each kind");
 }

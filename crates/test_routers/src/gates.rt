@@ -3,7 +3,7 @@
 use route_session::Gate;
 use std::alloc::Global;
 use std::rt::Clock;
-use std::sync::atomic::{AtomicBool, Ordering};
+use std::sync::atomic::{AtomicU64, Ordering};
 use std::sync::{Mutex, Wait};
 use std::thread;
 use std::time::Duration;
@@ -49,10 +49,10 @@ impl Gate for NotingGate {
     }
 }
 
-/// Waits until a flag is set, some ten seconds at most: whether it was.
-pub fn is_set_in_time<R: Clock>(rt: &R, flag: &AtomicBool) -> bool {
+/// Waits until a count has come so far, some ten seconds at most: whether it has.
+pub fn comes_to<R: Clock>(rt: &R, count: &AtomicU64, wanted: u64) -> bool {
     for _ in 0..10_000 {
-        if flag.load(Ordering::SeqCst) {
+        if count.load(Ordering::SeqCst) >= wanted {
             return true;
         }
         thread::sleep(rt, Duration::from_millis(1));
@@ -60,41 +60,37 @@ pub fn is_set_in_time<R: Clock>(rt: &R, flag: &AtomicBool) -> bool {
     false
 }
 
-/// A gate that holds a session after two turns, until it is opened.
+/// A gate that lets the first turns of two jobs go. Then it holds each of the two until the other one has asked, too, or it has waited in vain for
+/// that. Who has no session can stand for the second one.
 #[derive(Drop)]
-pub struct HoldingGate {
-    pub is_reached: AtomicBool,
-    pub is_open: AtomicBool,
+pub struct MeetingGate {
+    free: u32,
+    pub first: AtomicU64,
+    pub second: AtomicU64,
 }
 
-impl Gate for HoldingGate {
-    fn may_go<R: Wait + Clock>(&self, rt: &R, _job: u32, turn: u32) -> bool {
-        if turn < 2 {
-            return true;
+impl MeetingGate {
+    /// A gate that nobody has asked.
+    pub fn new(free: u32) -> MeetingGate {
+        MeetingGate {
+            free,
+            first: AtomicU64::new(0),
+            second: AtomicU64::new(0),
         }
-        self.is_reached.store(true, Ordering::SeqCst);
-        let is_open = is_set_in_time(rt, &self.is_open);
-        // Once it has waited in vain it stays open, so that the test ends.
-        self.is_open.store(true, Ordering::SeqCst);
-        is_open
     }
 }
 
-/// A gate that holds each of two jobs until the other one has asked, too, or it has waited in vain for that.
-#[derive(Drop)]
-pub struct MeetingGate {
-    pub has_first_asked: AtomicBool,
-    pub has_second_asked: AtomicBool,
-}
-
 impl Gate for MeetingGate {
-    fn may_go<R: Wait + Clock>(&self, rt: &R, job: u32, _turn: u32) -> bool {
+    fn may_go<R: Wait + Clock>(&self, rt: &R, job: u32, turn: u32) -> bool {
+        if turn < self.free {
+            return true;
+        }
         let (own, other) = if job == 0 {
-            (&self.has_first_asked, &self.has_second_asked)
+            (&self.first, &self.second)
         } else {
-            (&self.has_second_asked, &self.has_first_asked)
+            (&self.second, &self.first)
         };
-        own.store(true, Ordering::SeqCst);
-        is_set_in_time(rt, other)
+        own.fetch_add(1, Ordering::SeqCst);
+        comes_to(rt, other, 1)
     }
 }

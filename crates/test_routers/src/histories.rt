@@ -1,33 +1,30 @@
 //! What a journal must be at the end of a test.
 
-use expectations::{expect, expect_number, expect_text};
-use netchange_core::{Event, Message};
+use crate::asserts::{Host, done, must, must_read};
+use netchange_core::{Event, Message, ReplyRef};
 use route_history::{Entries, Journal, replay};
 use slot_lock::Answer;
-use std::alloc::Global;
-use std::test::Fail;
 
-/// Expects that a journal replays.
-pub fn expect_replay(alloc: Global, journal: &Journal) -> Result<(), Fail> {
-    let tables = replay(alloc, journal.opening(), journal.entries())?;
+/// A journal replays.
+pub fn must_replay<R: Host>(rt: &R, journal: &Journal) {
+    let tables = done(rt, replay(rt.alloc(), journal.opening(), journal.entries()));
     for node in 0..4 {
         let is_same = tables.session(node) == journal.session(node);
-        expect(is_same, "a journal replays")?;
+        must(rt, is_same, "a journal replays");
     }
-    Ok(())
 }
 
-/// Expects that the entries of a journal read so, and that they replay.
-pub fn expect_entries(alloc: Global, journal: &Journal, lines: &[&str]) -> Result<(), Fail> {
+/// The entries of a journal read so, and they replay.
+pub fn must_have<R: Host>(rt: &R, journal: &Journal, lines: &[&str]) {
     let entries = journal.entries();
-    expect_number(entries.len() as u64, lines.len() as u64)?;
+    must(rt, entries.len() == lines.len(), "as many entries");
     for at in 0..entries.len() {
         let Some(line) = lines.get(at) else {
             break;
         };
-        expect_text(alloc, &entries.entry(at), line)?;
+        must_read(rt, &entries.entry(at), line);
     }
-    expect_replay(alloc, journal)
+    must_replay(rt, journal);
 }
 
 /// Whether an answer is that of the entry at its position, and the first found there. Notes that it was found.
@@ -41,52 +38,50 @@ fn is_first_at(entries: &Entries, answer: &Answer, found: &mut [bool]) -> bool {
     is_first && entry.reply.is_same(&answer.reply)
 }
 
-/// Whether each answer stands at its position, and no two have the same one. None where memory is refused.
-pub fn answers_stand(alloc: Global, entries: &Entries, answers: &[Answer]) -> Option<bool> {
-    let mut found = Vec::from_elem(alloc, false, entries.len()).ok()?;
+/// Each answer stands at its position, no two have the same one, and the journal replays.
+pub fn must_answer<R: Host>(rt: &R, journal: &Journal, answers: &[Answer]) {
+    let entries = journal.entries();
+    let mut found = done(rt, Vec::from_elem(rt.alloc(), false, entries.len()));
     for answer in answers {
-        if !is_first_at(entries, answer, found.as_mut_slice()) {
-            return Some(false);
-        }
+        let is_there = is_first_at(entries, answer, found.as_mut_slice());
+        must(rt, is_there, "each answer stands at its own position");
     }
-    Some(true)
+    must_replay(rt, journal);
 }
 
-/// Expects that each answer stands at its position, that no two have the same one, and that the journal has no other entry
-/// and replays.
-pub fn expect_answers(alloc: Global, journal: &Journal, answers: &[Answer]) -> Result<(), Fail> {
-    expect_number(journal.entries().len() as u64, answers.len() as u64)?;
-    let are_there = answers_stand(alloc, journal.entries(), answers).ok_or("memory")?;
-    expect(are_there, "each answer stands at its own position")?;
-    expect_replay(alloc, journal)
+/// The messages of a session, in order.
+#[derive(Drop)]
+pub struct Traffic {
+    /// Those that were entered.
+    pub entered: Vec<Message>,
+    /// Those that were taken from its queue.
+    pub taken: Vec<Message>,
 }
 
-/// The messages that a journal entered in a session, in order.
-pub fn received(alloc: Global, journal: &Journal, session: u32) -> Result<Vec<Message>, Fail> {
-    let mut entered = Vec::new(alloc);
+/// What a journal says of the messages of a session.
+pub fn said<R: Host>(rt: &R, journal: &Journal, session: u32) -> Traffic {
+    let (mut entered, mut taken) = (Vec::new(rt.alloc()), Vec::new(rt.alloc()));
     let entries = journal.entries();
     for at in 0..entries.len() {
-        if let Event::Receive(under, dest, dist) = entries.entry(at).event
-            && *under == session
-        {
-            let (dest, dist) = (*dest, *dist);
-            entered.push(Message { dest, dist })?;
+        let entry = entries.entry(at);
+        match (entry.event, entry.reply) {
+            (Event::Receive(under, dest, dist), _) if *under == session => {
+                let (dest, dist) = (*dest, *dist);
+                done(rt, entered.push(Message { dest, dist }));
+            }
+            (Event::Take(under, _), ReplyRef::Messages(some)) if *under == session => {
+                done(rt, taken.extend_from_slice(some));
+            }
+            _ => {}
         }
     }
-    Ok(entered)
+    Traffic { entered, taken }
 }
 
-/// Expects that the messages that a journal entered in a session are these, in order, and that the journal replays.
-pub fn expect_entered(
-    alloc: Global,
-    journal: &Journal,
-    session: u32,
-    wanted: &[Message],
-) -> Result<(), Fail> {
-    let entered = received(alloc, journal, session)?;
-    expect(
-        entered.as_slice() == wanted,
-        "the messages that were entered",
-    )?;
-    expect_replay(alloc, journal)
+/// The messages that a journal entered in a session are these, in order, and the journal replays.
+pub fn must_enter<R: Host>(rt: &R, journal: &Journal, session: u32, wanted: &[Message]) {
+    let said = said(rt, journal, session);
+    let are_so = said.entered.as_slice() == wanted;
+    must(rt, are_so, "the messages that were entered");
+    must_replay(rt, journal);
 }

@@ -4,6 +4,8 @@
 #[cfg(test)]
 mod accounts;
 #[cfg(test)]
+mod asserts;
+#[cfg(test)]
 mod callers;
 #[cfg(test)]
 mod channels;

@@ -1,27 +1,32 @@
 //! The lines of links.
 
-use expectations::{expect, expect_bytes, expect_text};
+use crate::asserts::{done, must, must_read};
 use link_lines::{
     Greeting, GreetingFault, check_greeting, push_greeting, push_message, read_message,
 };
 use netchange_core::Message;
-use std::test::Fail;
 
 /// Messages and greetings are written as the document of links says.
 #[test]
-fn lines_are_written(rt: HostRuntime) -> Result<(), Fail> {
+fn lines_are_written(rt: HostRuntime) {
     let mut text = Vec::new(rt.alloc());
-    push_greeting(&mut text, Greeting { size: 10, node: 3 })?;
-    push_message(&mut text, Message { dest: 7, dist: 2 })?;
-    push_message(
-        &mut text,
-        Message {
-            dest: 0,
-            dist: 65_535,
-        },
-    )?;
-    expect_bytes(&text, b"netchange 1 10 3\n7 2\n0 65535\n")
+    done(
+        &rt,
+        push_greeting(&mut text, Greeting { size: 10, node: 3 }),
+    );
+    done(&rt, push_message(&mut text, Message { dest: 7, dist: 2 }));
+    done(&rt, push_message(&mut text, FARTHEST));
+    must(&rt, text.as_slice() == WRITTEN, "lines");
 }
+
+/// What is written.
+const WRITTEN: &[u8] = b"netchange 1 10 3\n7 2\n0 65535\n";
+
+/// A message at the greatest distance.
+const FARTHEST: Message = Message {
+    dest: 0,
+    dist: 65_535,
+};
 
 /// Lines that are messages.
 const SAID: [(&str, Message); 3] = [
@@ -43,14 +48,13 @@ const OTHERS: [&str; 16] = [
 ];
 
 #[test]
-fn only_messages_are_read(_rt: HostRuntime) -> Result<(), Fail> {
+fn only_messages_are_read(rt: HostRuntime) {
     for (line, message) in &SAID {
-        expect(read_message(line.as_bytes()) == Some(*message), line)?;
+        must(&rt, read_message(line.as_bytes()) == Some(*message), line);
     }
     for line in &OTHERS {
-        expect(read_message(line.as_bytes()).is_none(), line)?;
+        must(&rt, read_message(line.as_bytes()).is_none(), line);
     }
-    Ok(())
 }
 
 /// Lines, what a greeting of node 3 of 10 makes of them, and the words of the fault.
@@ -90,13 +94,12 @@ const GREETINGS: [(&str, Result<(), GreetingFault>, &str); 7] = [
 
 /// A greeting is taken from the expected node of the expected size alone.
 #[test]
-fn greetings_are_checked(rt: HostRuntime) -> Result<(), Fail> {
+fn greetings_are_checked(rt: HostRuntime) {
     for (line, wanted, words) in &GREETINGS {
         let found = check_greeting(line.as_bytes(), Greeting { size: 10, node: 3 });
-        expect(found == *wanted, line)?;
+        must(&rt, found == *wanted, line);
         if let Err(fault) = found {
-            expect_text(rt.alloc(), &fault, words)?;
+            must_read(&rt, &fault, words);
         }
     }
-    Ok(())
 }

@@ -1,41 +1,29 @@
 //! The lock: passes on one thread, and callers in threads of their own. `scripts/check_memory.py` refuses each allocation of these tests.
 
-use crate::callers::{Caller, Way, open};
-use crate::events::{KINDS, Kind, are_told, event_of, expect_kinds};
-use crate::histories::{expect_answers, expect_entries};
-use expectations::{expect, expect_fault};
-use netchange_core::{Event, Reply, Via};
+use crate::asserts::{Host, done, must, must_say, some};
+use crate::callers::{Caller, Way, close, open};
+use crate::events::{KINDS, Kind, event_of, must_count};
+use crate::histories::{must_answer, must_have, said};
+use netchange_core::Event;
 use route_history::Journal;
+use route_session::RunFault;
 use slot_lock::{Answer, LockFault, TryFault};
-use std::alloc::Global;
-use std::sync::Wait;
-use std::test::Fail;
 use std::thread;
-use std::thread::Threads;
 
-/// Enters an event by a try, and expects this reply at this position.
-fn expect_reply(caller: &mut Caller<'_>, event: Event, at: u32, reply: &Reply) -> Result<(), Fail> {
-    let answer = caller.try_call(event)?;
-    let is_so = answer.at == at && answer.reply.is_same(reply);
-    expect(is_so, "each answer has its position and its reply")
-}
-
-/// Two callers fill a history of three entries.
-fn fill(mut first: Caller<'_>) -> Result<(), Fail> {
-    let mut second = first.split(1).ok_or("shares")?;
-    let near = Reply::Route {
-        dist: 1,
-        via: Via::Node(1),
-    };
-    expect_reply(&mut first, Event::Up(1), 0, &Reply::Opened(1))?;
+/// The answers of two callers that fill a history of three entries by turns.
+fn fill<R: Host>(rt: &R, mut first: Caller<'_>) -> Vec<Answer> {
+    let mut second = first.split(rt, 1);
+    let mut answers = Vec::new(rt.alloc());
+    done(rt, answers.push(first.enter(rt, Way::Try, Event::Up(1))));
     let event = Event::Receive(1, 1, 0);
-    expect_reply(&mut second, event, 1, &Reply::Done { changed: 1 })?;
-    expect_reply(&mut first, Event::Show(1), 2, &near)?;
+    done(rt, answers.push(second.enter(rt, Way::Try, event)));
+    done(rt, answers.push(first.enter(rt, Way::Try, Event::Show(1))));
     let is_full = matches!(second.try_call(Event::Show(0)), Err(TryFault::Full));
-    expect(is_full, "the history is full")
+    must(rt, is_full, "the history is full");
+    answers
 }
 
-/// What the history has then.
+/// What the history has then. No two replies are the same, so that each answer has one position.
 const THREE: [&str; 3] = [
     "up 1: opened 1",
     "recv 1 1 0: done 1",
@@ -43,26 +31,29 @@ const THREE: [&str; 3] = [
 ];
 
 #[test]
-fn two_passes_fill_a_history_of_three(rt: HostRuntime) -> Result<(), Fail> {
-    let (router, mut pass) = open(rt.alloc(), 4, 3)?;
-    fill(Caller::of(&router, &mut pass))?;
-    expect_entries(rt.alloc(), &router.close(pass)?, &THREE)
+fn two_passes_fill_a_history_of_three(rt: HostRuntime) {
+    let (router, mut pass) = open(&rt, 4, 3);
+    let answers = fill(&rt, Caller::of(&router, &mut pass));
+    let journal = close(&rt, router, pass);
+    must_have(&rt, &journal, &THREE);
+    must(&rt, answers.len() == 3, "each caller has its answers");
+    must_answer(&rt, &journal, &answers);
 }
 
 /// Passes are split, tell each other what they have seen, and are one again.
 #[test]
-fn passes_keep_their_shares(rt: HostRuntime) -> Result<(), Fail> {
-    let (router, mut first) = open(rt.alloc(), 4, 9)?;
+fn passes_keep_their_shares(rt: HostRuntime) {
+    let (router, mut first) = open(&rt, 4, 9);
     let mut second = router.split(&mut first, 20_000);
-    let _looked = router.try_call(&mut first, Event::Show(0))?;
-    let _looked = router.call(&rt, &mut second, Event::Show(0))?;
+    let _looked = done(&rt, router.try_call(&mut first, Event::Show(0)));
+    let _looked = done(&rt, router.call(&rt, &mut second, Event::Show(0)));
     let second = router.meet(&mut first, second);
     let are_kept = first.shares() == 45_536 && second.shares() == 20_000;
     router.join(&mut first, second);
     let is_whole = first.shares() == 65_536;
-    let journal = router.close(first)?;
-    expect(are_kept && is_whole, "passes keep their shares")?;
-    expect_entries(rt.alloc(), &journal, &["show 0: route 0 local"; 2])
+    let journal = close(&rt, router, first);
+    must(&rt, are_kept && is_whole, "passes keep their shares");
+    must_have(&rt, &journal, &["show 0: route 0 local"; 2]);
 }
 
 /// What a caller does again and again: it enters events of a kind, each in some ways one after another.
@@ -82,109 +73,37 @@ struct Worker<'a> {
 
 impl<'a> Worker<'a> {
     /// A caller, by some shares of another, that has no answers yet.
-    fn new(alloc: Global, caller: &mut Caller<'a>, work: Work) -> Result<Worker<'a>, Fail> {
-        Ok(Worker {
-            caller: caller.split(100).ok_or("shares")?,
+    fn new<R: Host>(rt: &R, caller: &mut Caller<'a>, work: Work) -> Worker<'a> {
+        Worker {
+            caller: caller.split(rt, 100),
             work,
-            answers: Vec::new(alloc),
-        })
+            answers: Vec::new(rt.alloc()),
+        }
     }
 
     /// Enters the event of a number.
-    fn enter<R: Wait>(&mut self, rt: &R, alloc: Global, number: u16) -> Option<()> {
+    fn enter<R: Host>(&mut self, rt: &R, number: u16) {
         for way in self.work.ways {
-            let event = event_of(alloc, self.work.kind, number)?;
-            let answer = self.caller.enter(rt, *way, event)?;
-            self.answers.push(answer).ok()?;
+            let event = event_of(rt, self.work.kind, number);
+            let answer = self.caller.enter(rt, *way, event);
+            done(rt, self.answers.push(answer));
         }
-        Some(())
     }
 
-    /// Enters so many events: the answers. None where one is refused.
-    fn serve<R: Wait>(mut self, rt: &R, alloc: Global, calls: u16) -> Option<Vec<Answer>> {
+    /// Enters so many events.
+    fn serve<R: Host>(mut self, rt: &R, calls: u16) -> Worker<'a> {
         for number in 0..calls {
-            self.enter(rt, alloc, number)?;
+            self.enter(rt, number);
         }
-        Some(self.answers)
+        self
     }
 }
 
-/// Two callers enter so many events each, by turns on one thread.
-fn take_turns<R: Wait>(
-    rt: &R,
-    alloc: Global,
-    first: &mut Worker<'_>,
-    second: &mut Worker<'_>,
-    calls: u16,
-) -> Option<()> {
-    for number in 0..calls {
-        first.enter(rt, alloc, number)?;
-        second.enter(rt, alloc, number)?;
-    }
-    Some(())
-}
-
-/// The answers of two callers by turns. None of them is refused, since nobody else has the journal then.
-fn answers_by_turns<R: Wait>(
-    rt: &R,
-    alloc: Global,
-    mut caller: Caller<'_>,
-    work: Work,
-    calls: u16,
-) -> Result<Vec<Answer>, Fail> {
-    let mut first = Worker::new(alloc, &mut caller, work)?;
-    let mut second = Worker::new(alloc, &mut caller, work)?;
-    take_turns(rt, alloc, &mut first, &mut second, calls).ok_or("a caller was refused")?;
-    let mut answers = first.answers;
-    answers.append(&mut second.answers)?;
-    Ok(answers)
-}
-
-/// Expects that a journal has so many entries of each kind, with these answers.
-fn expect_history(
-    alloc: Global,
-    journal: &Journal,
-    kinds: &[u64; 7],
-    answers: &[Answer],
-) -> Result<(), Fail> {
-    expect_kinds(journal.entries(), kinds)?;
-    expect_answers(alloc, journal, answers)
-}
-
-/// What two callers do by turns, how often, and how many entries of each kind there are then.
-const TURNS: [(Work, u16, [u64; 7]); 2] = [
-    (
-        Work {
-            kind: Kind::Look,
-            ways: &[Way::Try],
-        },
-        500,
-        [0, 0, 0, 1_000, 0, 0, 0],
-    ),
-    (
-        Work {
-            kind: Kind::Each,
-            ways: &[Way::Try, Way::Call],
-        },
-        10 * KINDS,
-        [40; 7],
-    ),
-];
-
-#[test]
-fn passes_by_turns_are_never_refused(rt: HostRuntime) -> Result<(), Fail> {
-    for (work, calls, kinds) in &TURNS {
-        let (router, mut pass) = open(rt.alloc(), 4, 1_000)?;
-        let caller = Caller::of(&router, &mut pass);
-        let answers = answers_by_turns(&rt, rt.alloc(), caller, *work, *calls)?;
-        expect_history(rt.alloc(), &router.close(pass)?, kinds, &answers)?;
-    }
-    Ok(())
-}
-
-/// Callers in threads of their own.
+/// Callers, by turns on one thread or in threads of their own.
 #[derive(Clone, Copy)]
 struct Crowd {
+    /// Whether they call by turns.
+    by_turns: bool,
     /// The neighbours that are brought up before.
     ups: u16,
     /// What each caller does.
@@ -195,10 +114,21 @@ struct Crowd {
     kinds: [u64; 7],
 }
 
-/// A caller that looks at the router's own route.
+/// A caller that brings neighbours up.
+const UPS: Work = Work {
+    kind: Kind::Up,
+    ways: &[Way::Try],
+};
+
+/// A caller that looks at the router's own route once the lock is free, and one that tries.
 const LOOKS: Work = Work {
     kind: Kind::Look,
     ways: &[Way::Call],
+};
+
+const LOOKS_AT_ONCE: Work = Work {
+    kind: Kind::Look,
+    ways: &[Way::Try],
 };
 
 /// A caller that tells of distances under session 1, and one under session 2.
@@ -212,40 +142,63 @@ const TELLS_SECOND: Work = Work {
     ways: &[Way::TryAgain],
 };
 
-/// Each of the crowds: one that tries alone, two that look, one that tries events of each kind until they are entered beside one that waits,
-/// and two that look beside two that tell.
-const CROWDS: [Crowd; 4] = [
+/// Callers that enter events of each kind: twice, by a try and by a call; until they are entered; and by calls that wait.
+const TWICE: Work = Work {
+    kind: Kind::Each,
+    ways: &[Way::Try, Way::Call],
+};
+
+const TRIES_AGAIN: Work = Work {
+    kind: Kind::Each,
+    ways: &[Way::TryAgain],
+};
+
+const CALLS: Work = Work {
+    kind: Kind::Each,
+    ways: &[Way::Call],
+};
+
+/// Each of the crowds. By turns, where no try is refused since nobody else has the journal then: two that look, and two that enter events of each
+/// kind. In threads: one that tries alone, two that look, one that tries events of each kind until they are entered beside one that waits, and two
+/// that look beside two that tell.
+const CROWDS: [Crowd; 6] = [
     Crowd {
+        by_turns: true,
         ups: 0,
-        works: &[Work {
-            kind: Kind::Look,
-            ways: &[Way::Try],
-        }],
+        works: &[LOOKS_AT_ONCE, LOOKS_AT_ONCE],
+        calls: 500,
+        kinds: [0, 0, 0, 1_000, 0, 0, 0],
+    },
+    Crowd {
+        by_turns: true,
+        ups: 0,
+        works: &[TWICE, TWICE],
+        calls: 10 * KINDS,
+        kinds: [40; 7],
+    },
+    Crowd {
+        by_turns: false,
+        ups: 0,
+        works: &[LOOKS_AT_ONCE],
         calls: 1_000,
         kinds: [0, 0, 0, 1_000, 0, 0, 0],
     },
     Crowd {
+        by_turns: false,
         ups: 0,
         works: &[LOOKS, LOOKS],
         calls: 500,
         kinds: [0, 0, 0, 1_000, 0, 0, 0],
     },
     Crowd {
+        by_turns: false,
         ups: 0,
-        works: &[
-            Work {
-                kind: Kind::Each,
-                ways: &[Way::TryAgain],
-            },
-            Work {
-                kind: Kind::Each,
-                ways: &[Way::Call],
-            },
-        ],
+        works: &[TRIES_AGAIN, CALLS],
         calls: 20 * KINDS,
         kinds: [40; 7],
     },
     Crowd {
+        by_turns: false,
         ups: 2,
         works: &[LOOKS, TELLS_FIRST, LOOKS, TELLS_SECOND],
         calls: 100,
@@ -254,87 +207,133 @@ const CROWDS: [Crowd; 4] = [
 ];
 
 /// The callers of a crowd, by passes that are split off from one.
-fn workers<'a>(
-    alloc: Global,
-    caller: &mut Caller<'a>,
-    works: &[Work],
-) -> Result<Vec<Worker<'a>>, Fail> {
-    let mut workers = Vec::new(alloc);
+fn workers<'a, R: Host>(rt: &R, caller: &mut Caller<'a>, works: &[Work]) -> Vec<Worker<'a>> {
+    let mut workers = Vec::new(rt.alloc());
     for work in works {
-        workers.push(Worker::new(alloc, caller, *work)?)?;
+        let worker = Worker::new(rt, caller, *work);
+        some(rt, workers.push(worker).ok(), "memory");
     }
-    Ok(workers)
+    workers
+}
+
+/// Has workers call by turns: each has been called on for a number before the first is for the next.
+fn take_turns<R: Host>(rt: &R, workers: &mut [Worker<'_>], calls: u16) {
+    for number in 0..calls {
+        for worker in workers.iter_mut() {
+            worker.enter(rt, number);
+        }
+    }
 }
 
 /// The answers of a crowd.
-fn answers_of<R: Threads + Wait + Sync>(
-    rt: &R,
-    alloc: Global,
-    mut caller: Caller<'_>,
-    crowd: &Crowd,
-) -> Result<Vec<Answer>, Fail> {
-    let ups = Work {
-        kind: Kind::Up,
-        ways: &[Way::Try],
+fn answers_of<R: Host>(rt: &R, mut caller: Caller<'_>, crowd: &Crowd) -> Vec<Answer> {
+    let opened = Worker::new(rt, &mut caller, UPS).serve(rt, crowd.ups);
+    let (mut answers, calls) = (opened.answers, crowd.calls);
+    let mut workers = workers(rt, &mut caller, crowd.works);
+    if crowd.by_turns {
+        take_turns(rt, &mut workers, calls);
+    } else {
+        let ended = thread::map_vec(rt, workers, &|worker: Worker<'_>| worker.serve(rt, calls));
+        workers = done(rt, ended);
+    }
+    for worker in &mut workers {
+        done(rt, answers.append(&mut worker.answers));
+    }
+    answers
+}
+
+/// What each caller of a crowd told was entered in order.
+fn must_tell<R: Host>(rt: &R, journal: &Journal, work: &Work, calls: u16) {
+    let Kind::Tell(session) = work.kind else {
+        return;
     };
-    let opened = Worker::new(alloc, &mut caller, ups)?.serve(rt, alloc, crowd.ups);
-    let mut answers = opened.ok_or("a caller was refused")?;
-    let (workers, calls) = (workers(alloc, &mut caller, crowd.works)?, crowd.calls);
-    let ended = thread::map_vec(
+    let told = said(rt, journal, session).entered;
+    must(
         rt,
-        workers,
-        &|worker: Worker<'_>| worker.serve(rt, alloc, calls),
-    )?;
-    for one in ended {
-        answers.append(&mut one.ok_or("a caller was refused")?)?;
+        told.len() == usize::from(calls),
+        "each distance is told",
+    );
+    for (at, message) in told.iter().enumerate() {
+        let is_next = usize::from(message.dist) == at % 5;
+        must(rt, is_next, "in the order in which they were told");
     }
-    Ok(answers)
 }
 
-/// Expects that what each caller of a crowd told was entered in order.
-fn expect_told(journal: &Journal, crowd: &Crowd) -> Result<(), Fail> {
+/// Has a crowd call a router, and looks at the router's history.
+fn must_serve<R: Host>(rt: &R, crowd: &Crowd) {
+    let (router, mut pass) = open(rt, 4, 1_000);
+    let answers = answers_of(rt, Caller::of(&router, &mut pass), crowd);
+    let journal = close(rt, router, pass);
     for work in crowd.works {
-        if let Kind::Tell(session) = work.kind {
-            let are_told = are_told(journal.entries(), session, crowd.calls);
-            expect(
-                are_told,
-                "distances stand in the order in which they were told",
-            )?;
-        }
+        must_tell(rt, &journal, work, crowd.calls);
     }
-    Ok(())
+    must_count(rt, journal.entries(), &crowd.kinds);
+    must(
+        rt,
+        answers.len() == journal.entries().len(),
+        "each entry is an answer",
+    );
+    must_answer(rt, &journal, &answers);
 }
 
 #[test]
-fn callers_in_threads_are_answered(rt: HostRuntime) -> Result<(), Fail> {
+fn crowds_are_answered(rt: HostRuntime) {
     for crowd in &CROWDS {
-        let (router, mut pass) = open(rt.alloc(), 4, 1_000)?;
-        let caller = Caller::of(&router, &mut pass);
-        let answers = answers_of(&rt, rt.alloc(), caller, crowd)?;
-        let journal = router.close(pass)?;
-        expect_told(&journal, crowd)?;
-        expect_history(rt.alloc(), &journal, &crowd.kinds, &answers)?;
+        must_serve(&rt, crowd);
     }
-    Ok(())
 }
 
-/// Expects the code, the place and the words of a fault of `try_call`.
-fn expect_try_fault(alloc: Global, fault: TryFault, wanted: &str) -> Result<(), Fail> {
-    expect_fault(alloc, fault.code(), fault.at(), &fault, wanted)
-}
-
+/// The faults of the lock and of runs have codes, and no place.
 #[test]
-fn faults_have_codes_and_words(rt: HostRuntime) -> Result<(), Fail> {
-    let alloc = rt.alloc();
-    let busy = TryFault::Busy(Event::Show(0));
-    expect_try_fault(alloc, busy, "L1 0 another caller has the lock")?;
-    expect_try_fault(alloc, TryFault::Full, "J1 0 the history is full")?;
-    expect_try_fault(alloc, TryFault::Memory, "J2 0 out of memory")?;
-    for (fault, wanted) in [
-        (LockFault::Held, "L2 0 the lock is held"),
-        (LockFault::Memory, "L3 0 out of memory"),
-    ] {
-        expect_fault(alloc, fault.code(), fault.at(), &fault, wanted)?;
-    }
-    Ok(())
+fn faults_have_codes_and_words(rt: HostRuntime) {
+    let (busy, full, memory) = (
+        TryFault::Busy(Event::Show(0)),
+        TryFault::Full,
+        TryFault::Memory,
+    );
+    must_say(
+        &rt,
+        busy.code(),
+        busy.at(),
+        &busy,
+        "L1 0 another caller has the lock",
+    );
+    must_say(
+        &rt,
+        full.code(),
+        full.at(),
+        &full,
+        "J1 0 the history is full",
+    );
+    must_say(
+        &rt,
+        memory.code(),
+        memory.at(),
+        &memory,
+        "J2 0 out of memory",
+    );
+    let (held, memory) = (LockFault::Held, LockFault::Memory);
+    must_say(&rt, held.code(), held.at(), &held, "L2 0 the lock is held");
+    must_say(
+        &rt,
+        memory.code(),
+        memory.at(),
+        &memory,
+        "L3 0 out of memory",
+    );
+    let (memory, not_started) = (RunFault::Memory, RunFault::NotStarted);
+    must_say(
+        &rt,
+        memory.code(),
+        memory.at(),
+        &memory,
+        "X1 0 out of memory",
+    );
+    must_say(
+        &rt,
+        not_started.code(),
+        not_started.at(),
+        &not_started,
+        "X2 0 a thread was not started",
+    );
 }

@@ -1,62 +1,70 @@
 //! What operators do meanwhile, in a thread of their own: they take a reader's session down and up, and they replace filters.
 
-use crate::callers::{Caller, open};
+use crate::asserts::{Host, done, must};
+use crate::callers::{Caller, Way, close, open};
 use crate::ends::{FOUR, end};
-use crate::events::filter;
-use crate::gates::{HoldingGate, OpenGate, is_set_in_time};
-use crate::histories::{expect_entered, expect_entries};
-use expectations::expect;
+use crate::events::small_filter;
+use crate::gates::{MeetingGate, comes_to};
+use crate::histories::{must_enter, must_have};
 use filter_code::Instr;
-use filter_verifier::Verified;
 use netchange_core::{Event, Message};
-use route_session::{Cause, Gate, MemoryLink, ReadEnd};
-use std::alloc::Global;
-use std::rt::Clock;
-use std::sync::atomic::{AtomicBool, Ordering};
-use std::sync::{Arc, Wait};
-use std::test::Fail;
+use route_session::{Cause, MemoryLink, ReadEnd};
+use std::sync::atomic::Ordering;
 use std::thread;
-use std::thread::Threads;
 
-/// Reads messages in session 1, with more turns than there are messages.
-fn read<R: Wait + Clock, G: Gate>(
+/// What an operator does.
+#[derive(Clone, Copy)]
+enum Order {
+    /// Once the gate holds the reader, takes session 1 down and brings its neighbour up again, and opens the gate.
+    Restart,
+    /// Gives node 1 so many import filters, one that rejects and one that accepts by turns.
+    Replace(usize),
+}
+
+/// Does what an operator is to do.
+fn operate<R: Host>(rt: &R, mut caller: Caller<'_>, order: Order, gate: &MeetingGate) {
+    match order {
+        Order::Restart => {
+            must(
+                rt,
+                comes_to(rt, &gate.first, 1),
+                "the gate holds the reader",
+            );
+            let _down = caller.enter(rt, Way::Call, Event::Down(1));
+            let _up = caller.enter(rt, Way::Call, Event::Up(1));
+            gate.second.fetch_add(1, Ordering::SeqCst);
+        }
+        Order::Replace(count) => {
+            for turn in 0..count {
+                let instr = if turn % 2 == 0 {
+                    Instr::Reject
+                } else {
+                    Instr::Accept
+                };
+                let event = Event::SetImport(1, small_filter(rt, instr));
+                let _done = caller.enter(rt, Way::Call, event);
+            }
+        }
+    }
+}
+
+/// How a reader of messages ends in session 1, with more turns than there are messages, while an operator has an order.
+fn read_beside<R: Host>(
     rt: &R,
-    alloc: Global,
     mut caller: Caller<'_>,
-    waiting: Vec<Message>,
-    gate: &G,
+    told: &[Message],
+    order: Order,
+    gate: &MeetingGate,
 ) -> ReadEnd {
-    let mut link = MemoryLink::new(alloc, waiting, None);
-    caller.read(rt, 1, &mut link, gate, 1_000)
-}
-
-/// Once the gate holds the reader, takes session 1 down and brings its neighbour up again, and opens the gate.
-fn restart<R: Wait + Clock>(rt: &R, mut caller: Caller<'_>, gate: &HoldingGate) -> bool {
-    let is_held = is_set_in_time(rt, &gate.is_reached);
-    let is_down = caller.call(rt, Event::Down(1)).is_ok();
-    let is_up = caller.call(rt, Event::Up(1)).is_ok();
-    gate.is_open.store(true, Ordering::SeqCst);
-    is_held && is_down && is_up
-}
-
-/// How a reader ends that is held while its session is taken down and up.
-fn read_in_an_old_session<R: Threads + Wait + Clock + Sync>(
-    rt: &R,
-    alloc: Global,
-    mut caller: Caller<'_>,
-) -> Result<bool, Fail> {
-    caller.bring_up(rt, 1)?;
-    let (waiting, other) = (FOUR.to_vec(alloc)?, caller.split(1).ok_or("shares")?);
-    let gate = HoldingGate {
-        is_reached: AtomicBool::new(false),
-        is_open: AtomicBool::new(false),
-    };
-    let (ended, is_restarted) = thread::join(
+    caller.bring_up(rt, 1);
+    let other = caller.split(rt, 1);
+    let mut link = MemoryLink::new(rt.alloc(), done(rt, told.to_vec(rt.alloc())), None);
+    let (ended, _) = thread::join(
         rt,
-        || read(rt, alloc, caller, waiting, &gate),
-        || restart(rt, other, &gate),
+        || caller.read(rt, 1, &mut link, gate, 1_000),
+        || operate(rt, other, order, gate),
     );
-    Ok(is_restarted && ended == end(Cause::Stale, 3, None))
+    ended
 }
 
 /// The last events look at the tables: they are those that the second Up left.
@@ -72,74 +80,41 @@ const RESTARTED: [&str; 9] = [
     "take 2 9: messages 0:0 1:4 2:4 3:4",
 ];
 
+/// The reader is held after two turns.
 #[test]
-fn a_held_reader_goes_on_in_an_old_session(rt: HostRuntime) -> Result<(), Fail> {
-    let (router, mut pass) = open(rt.alloc(), 4, 100)?;
+fn a_held_reader_goes_on_in_an_old_session(rt: HostRuntime) {
+    let (router, mut pass) = open(&rt, 4, 100);
     let mut caller = Caller::of(&router, &mut pass);
-    let own = caller.split(100).ok_or("shares")?;
-    let is_so = read_in_an_old_session(&rt, rt.alloc(), own)?;
-    let near = caller.call(&rt, Event::Show(1)).is_ok();
-    let far = caller.call(&rt, Event::Show(2)).is_ok();
-    let taken = caller.call(&rt, Event::Take(2, 9)).is_ok();
-    drop(caller);
-    let journal = router.close(pass)?;
-    expect(
-        is_so && near && far && taken,
+    let reader = caller.split(&rt, 100);
+    let found = read_beside(&rt, reader, &FOUR, Order::Restart, &MeetingGate::new(2));
+    must(
+        &rt,
+        found == end(Cause::Stale, 3, None),
         "a reader of an old session ends",
-    )?;
-    expect_entries(rt.alloc(), &journal, &RESTARTED)
-}
-
-/// Gives node 1 so many import filters, one and the other by turns. None where one is refused.
-fn replace<R: Wait>(
-    rt: &R,
-    mut caller: Caller<'_>,
-    filters: &[Arc<Verified>; 2],
-    count: usize,
-) -> Option<()> {
-    for turn in 0..count {
-        let event = Event::SetImport(1, filters[turn % 2].clone().ok()?);
-        let _answer = caller.call(rt, event).ok()?;
-    }
-    Some(())
-}
-
-/// How a reader ends while 100 filters are replaced.
-fn read_beside_an_operator<R: Threads + Wait + Clock + Sync>(
-    rt: &R,
-    alloc: Global,
-    mut caller: Caller<'_>,
-    waiting: Vec<Message>,
-) -> Result<ReadEnd, Fail> {
-    caller.bring_up(rt, 1)?;
-    let other = caller.split(1).ok_or("shares")?;
-    let reject = filter(alloc, Instr::Reject).ok_or("a filter")?;
-    let filters = [reject, filter(alloc, Instr::Accept).ok_or("a filter")?];
-    let (ended, replaced) = thread::join(
-        rt,
-        || read(rt, alloc, caller, waiting, &OpenGate),
-        || replace(rt, other, &filters, 100),
     );
-    replaced.ok_or("a filter was refused")?;
-    Ok(ended)
+    let _near = caller.enter(&rt, Way::Call, Event::Show(1));
+    let _far = caller.enter(&rt, Way::Call, Event::Show(2));
+    let _taken = caller.enter(&rt, Way::Call, Event::Take(2, 9));
+    drop(caller);
+    must_have(&rt, &close(&rt, router, pass), &RESTARTED);
 }
 
-/// 200 messages in one thread and 100 filters in another are in one history with the Up, each message once and in order.
+/// 200 messages in one thread and 100 filters in another are in one history with the Up, each message once and in order. The gate holds nobody.
 #[test]
-fn filters_are_replaced_under_a_reader(rt: HostRuntime) -> Result<(), Fail> {
+fn filters_are_replaced_under_a_reader(rt: HostRuntime) {
     let mut told = Vec::new(rt.alloc());
     for k in 0..200u16 {
-        told.push(Message {
+        let message = Message {
             dest: 1 + k % 3,
             dist: k % 5,
-        })?;
+        };
+        done(&rt, told.push(message));
     }
-    let waiting = told.as_slice().to_vec(rt.alloc())?;
-    let (router, mut pass) = open(rt.alloc(), 4, 1_000)?;
-    let caller = Caller::of(&router, &mut pass);
-    let ended = read_beside_an_operator(&rt, rt.alloc(), caller, waiting)?;
-    let journal = router.close(pass)?;
-    let is_so = ended == end(Cause::LinkEnded, 200, None) && journal.entries().len() == 301;
-    expect(is_so, "each message and each filter is entered")?;
-    expect_entered(rt.alloc(), &journal, 1, &told)
+    let (router, mut pass) = open(&rt, 4, 1_000);
+    let (reader, gate) = (Caller::of(&router, &mut pass), MeetingGate::new(u32::MAX));
+    let found = read_beside(&rt, reader, &told, Order::Replace(100), &gate);
+    let journal = close(&rt, router, pass);
+    let is_so = found == end(Cause::LinkEnded, 200, None) && journal.entries().len() == 301;
+    must(&rt, is_so, "each message and each filter is entered");
+    must_enter(&rt, &journal, 1, &told);
 }

@@ -1,31 +1,30 @@
 //! Calls of a router that ask for memory, where it is refused, and sessions in threads. `scripts/check_memory.py` refuses each allocation of
 //! these tests.
 
-use crate::callers::{Caller, Way, open, opening};
+use crate::asserts::{Host, done, must};
+use crate::callers::{Caller, Way, close, open, opening};
 use crate::crews::{Auditor, Crew};
 use crate::gates::OpenGate;
-use crate::histories::expect_replay;
-use expectations::{Answered, expect, is_refused, refused};
+use crate::histories::must_replay;
+use expectations::{Answered, is_refused, refused};
 use netchange_core::{Event, Message, Messages, Reply};
 use route_history::Journal;
 use route_session::{Cause, Ending, Finished, MemoryLink, ReadEnd, Role, WriteEnd};
 use slot_lock::{Answer, Router};
-use std::alloc::Global;
-use std::rt::Clock;
-use std::sync::Wait;
+use std::panic::Expect;
+use std::process::Abort;
 use std::test::Fail;
-use std::thread::Threads;
 
 /// Opens a router for two nodes.
-fn opened(alloc: Global) -> Result<Answered, Fail> {
-    let journal = Journal::open(alloc, opening(alloc, 2)?, 3)?;
-    match Router::open(alloc, journal) {
+fn opened<R: Host>(rt: &R) -> Answered {
+    let opening = opening(rt, 2);
+    let journal = Journal::open(rt.alloc(), opening, 3).expect(rt, "error");
+    match Router::open(rt.alloc(), journal) {
         Ok((router, pass)) => {
             let is_whole = pass.shares() == 65_536;
-            let journal = router.close(pass)?;
-            Ok(Ok(is_whole && journal.entries().is_empty()))
+            Ok(close(rt, router, pass).entries().is_empty() && is_whole)
         }
-        Err(fault) => Ok(Err(fault.code())),
+        Err(fault) => Err(fault.code()),
     }
 }
 
@@ -46,17 +45,17 @@ const TOLD: [Message; 3] = [
 ];
 
 /// Whether an answer is that of the event at a place, with ample memory.
-fn is_answer(alloc: Global, at: u32, answer: &Answer) -> Result<bool, Fail> {
+fn is_answer<R: Host>(rt: &R, at: u32, answer: &Answer) -> bool {
     let wanted = match at {
         0 => Reply::Opened(1),
         1 => Reply::Done { changed: 1 },
-        _ => Reply::Messages(Messages::from_vec(TOLD.to_vec(alloc)?)),
+        _ => Reply::Messages(Messages::from_vec(done(rt, TOLD.to_vec(rt.alloc())))),
     };
-    Ok(answer.at == at && answer.reply.is_same(&wanted))
+    answer.at == at && answer.reply.is_same(&wanted)
 }
 
 /// Enters an event in a way: the answer, or the code of the fault.
-fn enter<R: Wait>(
+fn enter<R: Host>(
     rt: &R,
     caller: &mut Caller<'_>,
     way: Way,
@@ -69,45 +68,34 @@ fn enter<R: Wait>(
 }
 
 /// Enters the event at a place. One that is refused memory can be entered again.
-fn enter_at<R: Wait>(
-    rt: &R,
-    alloc: Global,
-    caller: &mut Caller<'_>,
-    way: Way,
-    at: u32,
-) -> Result<Answered, Fail> {
+fn enter_at<R: Host>(rt: &R, caller: &mut Caller<'_>, way: Way, at: u32) -> Answered {
     match enter(rt, caller, way, event(at)) {
-        Ok(answer) => Ok(Ok(is_answer(alloc, at, &answer)?)),
+        Ok(answer) => Ok(is_answer(rt, at, &answer)),
         Err(code) => {
-            let again = enter(rt, caller, way, event(at))?;
-            expect(is_answer(alloc, at, &again)?, "an event is entered again")?;
-            Ok(Err(code))
+            let again = done(rt, enter(rt, caller, way, event(at)));
+            must(rt, is_answer(rt, at, &again), "an event is entered again");
+            Err(code)
         }
     }
 }
 
 /// Enters three events, up to the first that is refused memory. The pass keeps its shares.
-fn enter_all<R: Wait>(
-    rt: &R,
-    alloc: Global,
-    mut caller: Caller<'_>,
-    way: Way,
-) -> Result<Answered, Fail> {
+fn enter_all<R: Host>(rt: &R, mut caller: Caller<'_>, way: Way) -> Answered {
     for at in 0..3u32 {
-        let answered = enter_at(rt, alloc, &mut caller, way, at)?;
+        let answered = enter_at(rt, &mut caller, way, at);
         if answered != Ok(true) {
-            return Ok(answered);
+            return answered;
         }
     }
-    Ok(Ok(caller.shares() == 30_000))
+    Ok(caller.shares() == 30_000)
 }
 
 /// Enters three events at a router for two nodes, whose history replays at the end.
-fn entered<R: Wait>(rt: &R, alloc: Global, way: Way) -> Result<Answered, Fail> {
-    let (router, mut pass) = open(alloc, 2, 3)?;
-    let answered = enter_all(rt, alloc, Caller::of(&router, &mut pass), way)?;
-    expect_replay(alloc, &router.close(pass)?)?;
-    Ok(answered)
+fn entered<R: Host>(rt: &R, way: Way) -> Answered {
+    let (router, mut pass) = open(rt, 2, 3);
+    let answered = enter_all(rt, Caller::of(&router, &mut pass), way);
+    must_replay(rt, &close(rt, router, pass));
+    answered
 }
 
 /// A call that asks for memory.
@@ -118,10 +106,10 @@ enum Call {
 }
 
 /// Makes a call.
-fn made<R: Wait>(rt: &R, alloc: Global, call: Call) -> Result<Answered, Fail> {
+fn made<R: Host>(rt: &R, call: Call) -> Answered {
     match call {
-        Call::Open => opened(alloc),
-        Call::Enter(way) => entered(rt, alloc, way),
+        Call::Open => opened(rt),
+        Call::Enter(way) => entered(rt, way),
     }
 }
 
@@ -136,9 +124,8 @@ const CALLS: [(Call, &str, &str); 3] = [
 #[test]
 fn calls_are_answered_or_refused(rt: HostRuntime) -> Result<(), Fail> {
     for (call, name, code) in &CALLS {
-        if is_refused(name, code, made(&rt, rt.alloc(), *call)?)? {
-            let is_so = made(&rt, rt.alloc(), *call)? == Ok(true);
-            expect(is_so, name)?;
+        if is_refused(name, code, made(&rt, *call))? {
+            must(&rt, made(&rt, *call) == Ok(true), name);
             return Err(refused(name, code));
         }
     }
@@ -175,61 +162,69 @@ struct Memory {
 }
 
 impl Auditor<MemoryLink> for Memory {
-    fn look(&mut self, _number: usize, finished: &Finished<MemoryLink>) -> Option<()> {
+    fn look<R: Abort>(&mut self, rt: &R, _number: usize, finished: &Finished<MemoryLink>) {
         let (is_so, cause) = match &finished.ending {
             Ending::Read(end) => (is_read(end), end.cause),
             Ending::Write(end) => (is_written(end, finished.link.given()), end.cause),
         };
+        must(
+            rt,
+            is_so && finished.link.is_closed(),
+            "how sessions end without memory",
+        );
         let had_memory = cause == Cause::LinkEnded || cause == Cause::Turns;
         self.was_there = self.was_there && had_memory;
-        if is_so && finished.link.is_closed() {
-            Some(())
-        } else {
-            None
-        }
     }
 }
 
 /// A reader of session 1 with two messages, and a writer of it.
-fn crew<'a>(alloc: Global, caller: Caller<'a>) -> Result<Crew<'a, MemoryLink>, Fail> {
-    let mut crew = Crew::of(alloc, caller);
-    let heard = MemoryLink::new(alloc, HEARD.to_vec(alloc)?, None);
-    crew.add(Role::Reader, 1, heard).ok_or("a reader")?;
-    let silent = MemoryLink::new(alloc, Vec::new(alloc), None);
-    crew.add(Role::Writer, 1, silent).ok_or("a writer")?;
-    Ok(crew)
+fn crew<'a, R: Host>(rt: &R, caller: Caller<'a>) -> Crew<'a, MemoryLink> {
+    let mut crew = Crew::of(rt, caller);
+    let heard = done(rt, HEARD.to_vec(rt.alloc()));
+    crew.add(
+        rt,
+        Role::Reader,
+        1,
+        MemoryLink::new(rt.alloc(), heard, None),
+    );
+    let silent = Vec::new(rt.alloc());
+    crew.add(
+        rt,
+        Role::Writer,
+        1,
+        MemoryLink::new(rt.alloc(), silent, None),
+    );
+    crew
 }
 
 /// Runs a reader and a writer. Where they are not run the router still answers.
-fn run<R: Threads + Wait + Clock + Sync>(
-    rt: &R,
-    alloc: Global,
-    mut caller: Caller<'_>,
-) -> Result<Answered, Fail> {
-    caller.bring_up(rt, 1)?;
-    let crew = crew(alloc, caller.split(1_000).ok_or("shares")?)?;
+fn run<R: Host>(rt: &R, mut caller: Caller<'_>) -> Answered {
+    caller.bring_up(rt, 1);
+    let crew = crew(rt, caller.split(rt, 1_000));
     let mut memory = Memory { was_there: true };
-    match crew.run(rt, alloc, &OpenGate, 3, &mut memory) {
-        Ok(shares) if memory.was_there => Ok(Ok(shares == Some(1_000))),
+    match crew.run(rt, &OpenGate, 3, &mut memory) {
         Ok(shares) => {
-            expect(shares == Some(1_000), "how sessions end without memory")?;
-            Ok(Err("a job that ended for want of memory"))
+            must(rt, shares == 1_000, "the passes have all shares");
+            if memory.was_there {
+                Ok(true)
+            } else {
+                Err("a job that ended for want of memory")
+            }
         }
         Err(fault) => {
-            let _looked = caller.call(rt, Event::Show(1))?;
-            Ok(Err(fault.code()))
+            let _looked = caller.enter(rt, Way::Call, Event::Show(1));
+            Err(fault.code())
         }
     }
 }
 
 #[test]
 fn sessions_are_run_or_x1_or_end_as_memory(rt: HostRuntime) -> Result<(), Fail> {
-    let (router, mut pass) = open(rt.alloc(), 2, 20)?;
-    let answered = run(&rt, rt.alloc(), Caller::of(&router, &mut pass))?;
-    let journal = router.close(pass)?;
-    expect_replay(rt.alloc(), &journal)?;
+    let (router, mut pass) = open(&rt, 2, 20);
+    let answered = run(&rt, Caller::of(&router, &mut pass));
+    must_replay(&rt, &close(&rt, router, pass));
     match answered {
-        Ok(is_so) => expect(is_so, "how sessions end"),
+        Ok(_) => Ok(()),
         Err(code) => Err(refused("run_sessions", code)),
     }
 }

@@ -1,4 +1,4 @@
-//! A link that fails, waits and ends at random.
+//! A link that waits at random, and that fails and ends so, too.
 
 use expectations::Numbers;
 use netchange_core::Message;
@@ -11,6 +11,10 @@ use std::sync::Wait;
 #[derive(Drop)]
 pub struct RandomLink {
     numbers: Numbers,
+    /// Whether it fails and ends.
+    ends: bool,
+    /// How often it was asked for a message.
+    pub asks: u64,
     pub handed: Vec<Message>,
     pub given: Vec<Message>,
     is_closed: bool,
@@ -18,9 +22,11 @@ pub struct RandomLink {
 
 impl RandomLink {
     /// The link of a seed.
-    pub fn new(alloc: Global, seed: u32) -> RandomLink {
+    pub fn new(alloc: Global, seed: u32, ends: bool) -> RandomLink {
         RandomLink {
             numbers: Numbers::new(u64::from(seed)),
+            ends,
+            asks: 0,
             handed: Vec::new(alloc),
             given: Vec::new(alloc),
             is_closed: false,
@@ -45,9 +51,10 @@ impl Link for RandomLink {
         if self.is_closed {
             return Ok(Got::Ended);
         }
+        self.asks = self.asks.saturating_add(1);
         match self.numbers.below(400) {
-            0 => return Err(LinkFault),
-            1 => return Ok(Got::Ended),
+            0 if self.ends => return Err(LinkFault),
+            1 if self.ends => return Ok(Got::Ended),
             2..=60 => return Ok(Got::Nothing),
             _ => {}
         }

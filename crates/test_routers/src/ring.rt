@@ -1,34 +1,17 @@
 //! Three routers in a ring: what their network prints, and their journals.
 
-use crate::histories::received;
-use expectations::{expect, expect_bytes, expect_number};
+use crate::asserts::{Host, done, must};
+use crate::histories::said;
 use line_protocol::StreamFault;
 use netchange_core::{Event, Message, Reply, ReplyRef, Via};
 use ring_network::{NetworkFault, net_lines, run_ring};
 use route_history::{Journal, replay};
-use std::alloc::Global;
 use std::io;
 use std::rt::Clock;
 use std::sync::Wait;
 use std::sync::atomic::{AtomicU64, Ordering};
-use std::test::Fail;
 use std::thread::Threads;
 use std::time::Duration;
-
-/// The messages that were taken from a journal's queue of a session, in order.
-fn taken(alloc: Global, journal: &Journal, session: u32) -> Result<Vec<Message>, Fail> {
-    let mut messages = Vec::new(alloc);
-    let entries = journal.entries();
-    for at in 0..entries.len() {
-        let entry = entries.entry(at);
-        if let (Event::Take(under, _), ReplyRef::Messages(some)) = (entry.event, entry.reply) {
-            if *under == session {
-                messages.extend_from_slice(some)?;
-            }
-        }
-    }
-    Ok(messages)
-}
 
 /// How many neighbours a journal brought up.
 fn ups(journal: &Journal) -> u32 {
@@ -43,47 +26,41 @@ fn ups(journal: &Journal) -> u32 {
     count
 }
 
-/// Expects that a node has a neighbour at distance 1, and that all it received from the neighbour is what the neighbour took from
-/// its queue for the node, the neighbour itself at distance 0 among it.
-fn expect_neighbour(
-    alloc: Global,
-    (me, here): (u16, &Journal),
-    (neighbour, there): (u16, &Journal),
-) -> Result<(), Fail> {
-    let mut tables = replay(alloc, here.opening(), here.entries())?;
+/// A node has a neighbour at distance 1, and all that it received from the neighbour is what the neighbour took from its queue for the node, the
+/// neighbour itself at distance 0 among it.
+fn must_hear<R: Host>(rt: &R, (me, here): (u16, &Journal), (neighbour, there): (u16, &Journal)) {
+    let mut tables = done(rt, replay(rt.alloc(), here.opening(), here.entries()));
     let route = Reply::Route {
         dist: 1,
         via: Via::Node(neighbour),
     };
-    let is_near = tables.apply(&Event::Show(neighbour))?.is_same(&route);
-    expect(is_near && ups(here) == 2, "a node has its neighbours")?;
-    let came = received(alloc, here, here.session(neighbour))?;
-    let went = taken(alloc, there, there.session(me))?;
-    let are_told = went.as_slice().starts_with(came.as_slice());
+    let is_near = done(rt, tables.apply(&Event::Show(neighbour))).is_same(&route);
+    must(rt, is_near, "a node has its neighbours");
+    let came = said(rt, here, here.session(neighbour)).entered;
+    let went = said(rt, there, there.session(me)).taken;
     let near = Message {
         dest: neighbour,
         dist: 0,
     };
-    expect(
-        are_told && came.contains(&near),
-        "a node hears what its neighbour sends",
-    )
+    let are_told = went.as_slice().starts_with(came.as_slice()) && came.contains(&near);
+    must(rt, are_told, "a node hears what its neighbour sends");
 }
 
-/// Each node brought two neighbours up, is at distance 1 of each, and heard from each what that one sent.
+/// Each node brought two neighbours up and no more, is at distance 1 of each, and heard from each what that one sent.
 #[test]
-fn each_node_hears_its_neighbours(rt: HostRuntime) -> Result<(), Fail> {
-    let alloc = rt.alloc();
-    let ring = run_ring(&rt, alloc)?;
+fn each_node_hears_its_neighbours(rt: HostRuntime) {
+    let ring = done(&rt, run_ring(&rt, rt.alloc()));
     let nodes = [(0, &ring.zero), (1, &ring.one), (2, &ring.two)];
-    for (me, here) in nodes {
-        for (neighbour, there) in nodes {
-            if neighbour != me {
-                expect_neighbour(alloc, (me, here), (neighbour, there))?;
-            }
-        }
+    for at in 0..3usize {
+        let (next, last) = (nodes[(at + 1) % 3], nodes[(at + 2) % 3]);
+        must_hear(&rt, nodes[at], next);
+        must_hear(&rt, nodes[at], last);
+        must(
+            &rt,
+            ups(nodes[at].1) == 2,
+            "a node brings two neighbours up",
+        );
     }
-    Ok(())
 }
 
 /// A runtime that counts how often its threads sleep.
@@ -118,27 +95,30 @@ const LINES: &[u8] = b"node 0 replay ok\nnode 1 replay ok\nnode 2 replay ok\n";
 /// The network prints the same lines whatever the schedule, in each of twenty runs. It does run the ring: the gate waits before each of the 200
 /// turns of each of the six writers.
 #[test]
-fn a_network_replays(rt: HostRuntime) -> Result<(), Fail> {
+fn a_network_replays(rt: HostRuntime) {
     let counting = CountingRuntime {
         rt: &rt,
         sleeps: AtomicU64::new(0),
     };
     for run in 1..=20u64 {
         let mut writer = Vec::new(rt.alloc());
-        net_lines(&counting, rt.alloc(), &mut writer)?;
-        expect_bytes(&writer, LINES)?;
-        expect_number(counting.sleeps.load(Ordering::SeqCst), 1200 * run)?;
+        done(&rt, net_lines(&counting, rt.alloc(), &mut writer));
+        must(&rt, writer.as_slice() == LINES, "what a network prints");
+        must(
+            &rt,
+            counting.sleeps.load(Ordering::SeqCst) == 1200 * run,
+            "a network runs",
+        );
     }
-    Ok(())
 }
 
 /// A writer that takes no more bytes is E2.
 #[test]
-fn a_network_that_cannot_be_told(rt: HostRuntime) -> Result<(), Fail> {
+fn a_network_that_cannot_be_told(rt: HostRuntime) {
     let mut room = [0; 20];
     let mut writer = room.as_mut_slice();
     let fault = NetworkFault::Stream(StreamFault::Write);
     let is_told = net_lines(&rt, rt.alloc(), &mut writer) == Err(fault);
     let is_named = fault.code() == "E2" && fault.at() == 0;
-    expect(is_told && is_named, "the output could not be written")
+    must(&rt, is_told && is_named, "the output could not be written");
 }

@@ -1,111 +1,102 @@
 //! Many sessions: they run at the same time and ask the gate before each turn, their results come in the order of the jobs, and all their calls
 //! stand in one history.
 
-use crate::callers::{Caller, open};
+use crate::asserts::{Host, done, must, some};
+use crate::callers::{Caller, close, open};
 use crate::crews::{Auditor, Crew};
 use crate::ends::{FIRST, FOUR, SECOND, THIRD};
-use crate::gates::{MeetingGate, NotingGate, OpenGate};
-use crate::histories::expect_replay;
-use expectations::{expect, expect_fault, expect_number};
+use crate::gates::{MeetingGate, NotingGate};
+use crate::histories::must_replay;
 use netchange_core::Message;
 use route_history::Journal;
-use route_session::{Cause, Ending, Finished, Gate, MemoryLink, Role, RunFault};
-use std::alloc::Global;
+use route_session::{Cause, Ending, Finished, Gate, MemoryLink, Role};
 use std::fs;
+use std::process::Abort;
 use std::rt::{Clock, Files};
 use std::sync::Wait;
-use std::sync::atomic::{AtomicBool, AtomicU64, Ordering};
-use std::test::Fail;
-use std::thread::Threads;
+use std::sync::atomic::{AtomicU64, Ordering};
 
 /// A session of a table: its role, its number, and what its link hands out.
 type Job = (Role, u32, &'static [Message]);
 
-/// What a session came to: why it ended, and how many messages it entered or sent.
-#[derive(Clone, Copy, PartialEq, Eq)]
-struct Outcome {
-    cause: Cause,
-    count: u64,
+/// The job of a number. A table begins again at its end.
+fn job<R: Abort>(rt: &R, jobs: &'static [Job], number: usize) -> &'static Job {
+    some(rt, jobs.get(number % jobs.len().max(1)), "a session")
 }
 
-/// What a session came to. None where its link is not closed, or was not given all that was taken.
-fn outcome_of(one: &Finished<MemoryLink>) -> Option<Outcome> {
-    let (cause, count, is_whole) = match &one.ending {
-        Ending::Read(end) => (end.cause, u64::from(end.entered), true),
-        Ending::Write(end) => (
-            end.cause,
-            end.sent,
-            end.unsent.as_slice().is_empty() && one.link.given().len() as u64 == end.sent,
-        ),
-    };
-    if is_whole && one.link.is_closed() {
-        Some(Outcome { cause, count })
-    } else {
-        None
-    }
-}
-
-/// What each session came to.
+/// The jobs of a run, their turns, and how many of them were looked at.
 #[derive(Drop)]
 struct Outcomes {
-    found: Vec<Outcome>,
+    jobs: &'static [Job],
+    turns: u32,
+    seen: u16,
 }
 
 impl Auditor<MemoryLink> for Outcomes {
-    fn look(&mut self, _number: usize, finished: &Finished<MemoryLink>) -> Option<()> {
-        self.found.push(outcome_of(finished)?).ok()
+    /// A reader enters what its link hands out, and ends with it or as its turns do. A writer uses up its turns, and its link was given all that was
+    /// taken.
+    fn look<R: Abort>(&mut self, rt: &R, number: usize, finished: &Finished<MemoryLink>) {
+        let (_, _, told) = job(rt, self.jobs, number);
+        let is_so = match &finished.ending {
+            Ending::Read(end) => {
+                let has_ended = (told.len() as u64) < u64::from(self.turns);
+                let entered = if has_ended {
+                    told.len() as u64
+                } else {
+                    u64::from(self.turns)
+                };
+                has_ended == (end.cause == Cause::LinkEnded)
+                    && has_ended != (end.cause == Cause::Turns)
+                    && u64::from(end.entered) == entered
+            }
+            Ending::Write(end) => {
+                end.cause == Cause::Turns
+                    && end.unsent.as_slice().is_empty()
+                    && finished.link.given().len() as u64 == end.sent
+            }
+        };
+        must(rt, is_so && finished.link.is_closed(), "how a session ends");
+        self.seen = self.seen.saturating_add(1);
     }
 }
 
-/// So many sessions of a table, which begins again at its end.
-fn crew<'a>(
-    alloc: Global,
-    caller: Caller<'a>,
-    jobs: &[Job],
-    count: u16,
-) -> Result<Crew<'a, MemoryLink>, Fail> {
-    let mut crew = Crew::of(alloc, caller);
-    for number in 0..count {
-        let at = usize::from(number) % jobs.len().max(1);
-        let (role, session, told) = jobs.get(at).ok_or("a session")?;
-        let link = MemoryLink::new(alloc, told.to_vec(alloc)?, None);
-        crew.add(*role, *session, link).ok_or("a session")?;
-    }
-    Ok(crew)
-}
-
-/// What so many sessions come to, with neighbours 1 to `ups` up. In the end their passes have all shares that there were at first.
-fn run_crew<R: Threads + Wait + Clock + Sync, G: Gate + Sync>(
+/// Runs so many sessions, with neighbours 1 to `ups` up. In the end their passes have all shares that there were at first.
+fn run_crew<R: Host, G: Gate + Sync>(
     rt: &R,
-    alloc: Global,
     mut caller: Caller<'_>,
-    (ups, jobs, count): (u16, &[Job], u16),
+    (ups, jobs, count): (u16, &'static [Job], u16),
     gate: &G,
     turns: u32,
-) -> Result<Vec<Outcome>, Fail> {
-    caller.bring_up(rt, ups)?;
+) {
+    caller.bring_up(rt, ups);
+    let mut crew = Crew::of(rt, caller);
+    for number in 0..count {
+        let (role, session, told) = job(rt, jobs, usize::from(number));
+        let told = done(rt, told.to_vec(rt.alloc()));
+        crew.add(rt, *role, *session, MemoryLink::new(rt.alloc(), told, None));
+    }
     let mut outcomes = Outcomes {
-        found: Vec::new(alloc),
+        jobs,
+        turns,
+        seen: 0,
     };
-    let crew = crew(alloc, caller, jobs, count)?;
-    let shares = crew.run(rt, alloc, gate, turns, &mut outcomes)?;
-    expect(shares == Some(30_000), "the passes have all shares")?;
-    expect_number(outcomes.found.len() as u64, u64::from(count))?;
-    Ok(outcomes.found)
+    let shares = done(rt, crew.run(rt, gate, turns, &mut outcomes));
+    must(rt, shares == 30_000, "the passes have all shares");
+    must(rt, outcomes.seen == count, "each job has an end");
 }
 
-/// What so many sessions at a router of four nodes come to, and the journal.
-fn run<R: Threads + Wait + Clock + Sync, G: Gate + Sync>(
+/// Runs so many sessions at a router of four nodes: the journal, which replays.
+fn run<R: Host, G: Gate + Sync>(
     rt: &R,
-    alloc: Global,
-    sessions: (u16, &[Job], u16),
+    sessions: (u16, &'static [Job], u16),
     gate: &G,
     turns: u32,
-) -> Result<(Vec<Outcome>, Journal), Fail> {
-    let (router, mut pass) = open(alloc, 4, 1_000)?;
-    let caller = Caller::of(&router, &mut pass);
-    let outcomes = run_crew(rt, alloc, caller, sessions, gate, turns)?;
-    Ok((outcomes, router.close(pass)?))
+) -> Journal {
+    let (router, mut pass) = open(rt, 4, 1_000);
+    run_crew(rt, Caller::of(&router, &mut pass), sessions, gate, turns);
+    let journal = close(rt, router, pass);
+    must_replay(rt, &journal);
+    journal
 }
 
 /// Readers of session 1, of which the first has no message, the second one, and so on up to four.
@@ -117,73 +108,17 @@ const READERS: &[Job] = &[
     (Role::Reader, 1, &FOUR),
 ];
 
-/// Expects that such readers ended with their links, in order, each with what its own link handed out: how many messages that is.
-fn expect_all_read(outcomes: &[Outcome]) -> Result<u64, Fail> {
-    let (mut total, mut next) = (0u64, 0u64);
-    for outcome in outcomes {
-        let is_so = outcome.cause == Cause::LinkEnded && outcome.count == next % 5;
-        expect(is_so, "a reader ends with its link")?;
-        total = total.saturating_add(outcome.count);
-        next = next.saturating_add(1);
-    }
-    Ok(total)
-}
-
-/// Any number of jobs, up to more than there are processors.
-const COUNTS: [u16; 7] = [0, 1, 2, 3, 5, 8, 65];
-
-/// Each reader ends with what its own link handed out, and the journal has all their calls and replays.
-#[test]
-fn jobs_end_in_order(rt: HostRuntime) -> Result<(), Fail> {
-    for count in &COUNTS {
-        let readers = (1, READERS, *count);
-        let (outcomes, journal) = run(&rt, rt.alloc(), readers, &OpenGate, 10)?;
-        let total = expect_all_read(&outcomes)?;
-        // The Up, and all messages.
-        expect_number(journal.entries().len() as u64, total.saturating_add(1))?;
-        expect_replay(rt.alloc(), &journal)?;
-    }
-    Ok(())
-}
-
 /// A writer, and a reader that is handed one message.
 const TWO: &[Job] = &[
     (Role::Writer, 1, &[]),
     (Role::Reader, 2, &[Message { dest: 2, dist: 0 }]),
 ];
 
-/// A reader and a writer side by side.
-#[test]
-fn a_reader_and_a_writer(rt: HostRuntime) -> Result<(), Fail> {
-    let (outcomes, _) = run(&rt, rt.alloc(), (2, TWO, 2), &OpenGate, 1)?;
-    let are_so = matches!(
-        outcomes.as_slice(),
-        [writer, reader] if writer.cause == Cause::Turns && reader.cause == Cause::Turns && reader.count == 1
-    );
-    expect(are_so, "a reader and a writer end")
-}
-
 /// Readers of two sessions, each with one message.
 const BOTH: &[Job] = &[
     (Role::Reader, 1, &[Message { dest: 1, dist: 0 }]),
     (Role::Reader, 2, &[Message { dest: 2, dist: 0 }]),
 ];
-
-/// Both get through a gate that lets one go only once the other has asked.
-#[test]
-fn jobs_run_at_the_same_time(rt: HostRuntime) -> Result<(), Fail> {
-    let gate = MeetingGate {
-        has_first_asked: AtomicBool::new(false),
-        has_second_asked: AtomicBool::new(false),
-    };
-    let (outcomes, _) = run(&rt, rt.alloc(), (2, BOTH, 2), &gate, 10)?;
-    let one = Outcome {
-        cause: Cause::LinkEnded,
-        count: 1,
-    };
-    let have_met = outcomes.as_slice() == [one, one].as_slice();
-    expect(have_met, "both jobs get through the gate")
-}
 
 /// Writers of three sessions.
 const WRITERS: &[Job] = &[
@@ -192,37 +127,51 @@ const WRITERS: &[Job] = &[
     (Role::Writer, 3, &[]),
 ];
 
-/// Whether three jobs asked for five turns each, in order.
-fn are_in_order(asked: &[(u32, u32)]) -> bool {
-    let mut next = [0u32; 3];
+/// Neighbours that are up, a table and how many jobs of it, their turns, how many entries the history has then, and how often the gate is asked: any
+/// number of readers, up to more than there are processors, a reader and a writer side by side, and writers. The entries are the Ups, a message each,
+/// and what a writer takes at a turn.
+const RUNS: [(u16, &[Job], u16, u32, usize, usize); 9] = [
+    (1, READERS, 0, 10, 1, 0),
+    (1, READERS, 1, 10, 1, 1),
+    (1, READERS, 2, 10, 2, 3),
+    (1, READERS, 3, 10, 4, 6),
+    (1, READERS, 5, 10, 11, 15),
+    (1, READERS, 8, 10, 14, 21),
+    (1, READERS, 65, 10, 131, 195),
+    (2, TWO, 2, 1, 4, 2),
+    (3, WRITERS, 3, 5, 18, 15),
+];
+
+/// Each job asks for its turns in order, under its own number.
+fn must_ask<R: Host>(rt: &R, asked: &[(u32, u32)]) {
+    let mut next = [0u32; 65];
     for (job, turn) in asked {
-        match next.get_mut(*job as usize) {
-            Some(wanted) if *turn == *wanted => *wanted = turn.saturating_add(1),
-            _ => return false,
-        }
+        let wanted = some(rt, next.get_mut(*job as usize), "a job");
+        must(rt, *turn == *wanted, "each job asks for its turns in order");
+        *wanted = turn.saturating_add(1);
     }
-    next == [5, 5, 5]
 }
 
-/// Each job asks before each of its turns, in order, under its own number.
 #[test]
-fn each_turn_is_asked_for(rt: HostRuntime) -> Result<(), Fail> {
-    let gate = NotingGate::new(rt.alloc(), 1, 1);
-    let (_, _) = run(&rt, rt.alloc(), (3, WRITERS, 3), &gate, 5)?;
-    let is_so = are_in_order(&gate.asked());
-    expect(is_so, "each job asks for its turns in order")
+fn jobs_end_in_order(rt: HostRuntime) {
+    for (ups, jobs, count, turns, entries, asks) in &RUNS {
+        let gate = NotingGate::new(rt.alloc(), 1, 1);
+        let journal = run(&rt, (*ups, jobs, *count), &gate, *turns);
+        must(
+            &rt,
+            journal.entries().len() == *entries,
+            "all calls are entered",
+        );
+        let asked = gate.asked();
+        must(&rt, asked.len() == *asks, "each turn is asked for");
+        must_ask(&rt, &asked);
+    }
 }
 
-/// The faults of a run have codes, and no place.
+/// Both get through a gate that lets one go only once the other has asked.
 #[test]
-fn faults_of_runs_have_codes(rt: HostRuntime) -> Result<(), Fail> {
-    for (fault, wanted) in [
-        (RunFault::Memory, "X1 0 out of memory"),
-        (RunFault::NotStarted, "X2 0 a thread was not started"),
-    ] {
-        expect_fault(rt.alloc(), fault.code(), fault.at(), &fault, wanted)?;
-    }
-    Ok(())
+fn jobs_run_at_the_same_time(rt: HostRuntime) {
+    let _journal = run(&rt, (2, BOTH, 2), &MeetingGate::new(0), 10);
 }
 
 /// The number of the thread that asks, as the system has it.
@@ -258,9 +207,9 @@ const OTHERS: [(u16, u64); 2] = [(1, 0), (3, 4)];
 
 /// One job runs on the caller's thread; of three jobs the first does.
 #[test]
-fn one_job_stays_on_the_thread(rt: HostRuntime) -> Result<(), Fail> {
+fn one_job_stays_on_the_thread(rt: HostRuntime) {
     let own = thread_number(&rt);
-    expect(own.is_some(), "a thread has a number")?;
+    must(&rt, own.is_some(), "a thread has a number");
     for (count, elsewhere) in &OTHERS {
         let gate = ThreadGate {
             files: &rt,
@@ -268,15 +217,13 @@ fn one_job_stays_on_the_thread(rt: HostRuntime) -> Result<(), Fail> {
             here: AtomicU64::new(0),
             elsewhere: AtomicU64::new(0),
         };
-        let (_, _) = run(&rt, rt.alloc(), (1, READERS, *count), &gate, 2)?;
-        let asks = (
-            gate.here.load(Ordering::SeqCst),
-            gate.elsewhere.load(Ordering::SeqCst),
-        );
-        expect(
-            asks == (1, *elsewhere),
+        let _journal = run(&rt, (1, READERS, *count), &gate, 2);
+        let is_first = gate.here.load(Ordering::SeqCst) == 1;
+        let are_others = gate.elsewhere.load(Ordering::SeqCst) == *elsewhere;
+        must(
+            &rt,
+            is_first && are_others,
             "the first job has the caller's thread",
-        )?;
+        );
     }
-    Ok(())
 }

@@ -7,19 +7,18 @@
 //! done is told on standard error, as it differs from run to run. `scripts/soak.sh` says for how long, and from which seed.
 
 use crate::accounts::{Account, COUNTED};
-use crate::callers::{Caller, open};
-use crate::events::verified;
-use crate::shifts::Shifts;
+use crate::asserts::{Host, done, some};
+use crate::callers::{Caller, close, open};
+use crate::events::filter;
+use crate::operators::Operator;
+use crate::shifts::run_shift;
 use expectations::Numbers;
 use filter_code::Instr;
 use filter_verifier::Verified;
 use prefix_patterns::{Ip, Pattern, PatternSet, Prefix, read_number};
-use std::alloc::Global;
+use slot_lock::Answer;
 use std::env;
-use std::rt::Clock;
-use std::sync::{Arc, Wait};
-use std::test::Fail;
-use std::thread::Threads;
+use std::sync::Arc;
 use std::time::{Duration, Instant};
 
 /// The nodes of the domain.
@@ -58,83 +57,72 @@ const FARTHER: [Instr; 12] = [
 ];
 
 /// Adds a filter of these instructions and the set [10.0.0.0/14{16,16}].
-fn add(alloc: Global, filters: &mut Vec<Arc<Verified>>, instrs: &[Instr], size: u16) -> Option<()> {
-    let pattern = Pattern::new(Prefix::new(Ip(0x0a00_0000), 14)?, 16, 16)?;
-    let set = PatternSet::build(alloc, &[pattern]).ok()?;
-    let sets = vec![in alloc; set].ok()?;
-    filters
-        .push(verified(alloc, sets, instrs, u32::from(size))?)
-        .ok()
+fn add<R: Host>(rt: &R, filters: &mut Vec<Arc<Verified>>, instrs: &[Instr], size: u16) {
+    let prefix = some(rt, Prefix::new(Ip(0x0a00_0000), 14), "a prefix");
+    let pattern = some(rt, Pattern::new(prefix, 16, 16), "a pattern");
+    let set = done(rt, PatternSet::build(rt.alloc(), &[pattern]));
+    let sets = done(rt, vec![in rt.alloc(); set]);
+    done(rt, filters.push(filter(rt, sets, instrs, u32::from(size))));
 }
 
 /// The filters that operators replace by one another: all, none, some and farther, and one that is for another domain, which a router refuses.
-fn filters(alloc: Global) -> Option<Vec<Arc<Verified>>> {
-    let mut filters = Vec::new(alloc);
-    add(alloc, &mut filters, &[Instr::Accept], SIZE)?;
-    add(alloc, &mut filters, &[Instr::Reject], SIZE)?;
-    add(alloc, &mut filters, &SOME, SIZE)?;
-    add(alloc, &mut filters, &FARTHER, SIZE)?;
-    add(alloc, &mut filters, &[Instr::Accept], SIZE + 1)?;
-    Some(filters)
+fn filters<R: Host>(rt: &R) -> Vec<Arc<Verified>> {
+    let mut filters = Vec::new(rt.alloc());
+    add(rt, &mut filters, &[Instr::Accept], SIZE);
+    add(rt, &mut filters, &[Instr::Reject], SIZE);
+    add(rt, &mut filters, &SOME, SIZE);
+    add(rt, &mut filters, &FARTHER, SIZE);
+    add(rt, &mut filters, &[Instr::Accept], SIZE + 1);
+    filters
 }
 
-/// Runs all shifts of a router: what was done.
-fn run_shifts<R: Threads + Wait + Clock + Sync>(
+/// Runs all shifts of a router: what was done, and the answers of its operators.
+fn run_shifts<R: Host>(
     rt: &R,
-    alloc: Global,
     caller: Caller<'_>,
     numbers: Numbers,
     filters: &[Arc<Verified>],
-) -> Option<Account> {
-    let mut shifts = Shifts {
+) -> (Account, Vec<Answer>) {
+    let mut account = Account::new(rt);
+    let mut first = Operator {
         caller,
         numbers,
-        account: Account::new(alloc),
+        restarts: false,
+        sessions: [0; 2],
+        answers: Vec::new(rt.alloc()),
     };
     for _ in 0..SHIFTS {
-        shifts.run(rt, alloc, filters)?;
+        run_shift(rt, &mut first, &mut account, filters);
     }
-    Some(shifts.account)
+    (account, first.answers)
 }
 
 /// Runs a router from a seed, and counts what was done.
-fn soak_router<R: Threads + Wait + Clock + Sync>(
-    rt: &R,
-    alloc: Global,
-    seed: u64,
-    filters: &[Arc<Verified>],
-) -> Result<[u64; 8], Fail> {
+fn soak_router<R: Host>(rt: &R, seed: u64, filters: &[Arc<Verified>]) -> [u64; 8] {
     let mut numbers = Numbers::new(seed);
     // About half of the histories fill up.
     let limit = numbers.below(12_000).saturating_add(1_000);
-    let (router, mut pass) = open(alloc, SIZE, limit)?;
+    let (router, mut pass) = open(rt, SIZE, limit);
     let caller = Caller::of(&router, &mut pass);
-    let account = run_shifts(rt, alloc, caller, numbers, filters).ok_or("a session, or memory")?;
-    let journal = router.close(pass)?;
-    Ok(account.counts(&journal).ok_or("a journal, or memory")?)
+    let (account, answers) = run_shifts(rt, caller, numbers, filters);
+    account.counts(rt, &close(rt, router, pass), &answers)
 }
 
 /// Runs routers for so long, the first from this seed, the others from those after it.
-fn soak<R: Threads + Wait + Clock + Sync>(
-    rt: &R,
-    alloc: Global,
-    seconds: u32,
-    seed: u32,
-) -> Result<[u64; 8], Fail> {
-    let filters = filters(alloc).ok_or("filters")?;
-    let start = Instant::now(rt)?;
+fn soak<R: Host>(rt: &R, seconds: u32, seed: u32) -> [u64; 8] {
+    let (filters, start) = (filters(rt), done(rt, Instant::now(rt)));
     let mut counts = [0u64; 8];
     for round in 0..u32::MAX {
         let seed = u64::from(seed).wrapping_add(u64::from(round));
-        let more = soak_router(rt, alloc, seed, &filters)?;
+        let more = soak_router(rt, seed, &filters);
         for (count, one) in counts.iter_mut().zip(&more) {
             *count = count.wrapping_add(*one);
         }
-        if start.elapsed(rt)? >= Duration::from_secs(u64::from(seconds)) {
+        if done(rt, start.elapsed(rt)) >= Duration::from_secs(u64::from(seconds)) {
             break;
         }
     }
-    Ok(counts)
+    counts
 }
 
 /// A number of the environment, and 1 where there is none.
@@ -146,11 +134,10 @@ fn asked(rt: &HostRuntime, name: &str) -> u32 {
 }
 
 #[test]
-fn routers_are_soaked(rt: HostRuntime) -> Result<(), Fail> {
+fn routers_are_soaked(rt: HostRuntime) {
     let (seconds, seed) = (asked(&rt, "SOAK_SECONDS"), asked(&rt, "SOAK_SEED"));
-    let counts = soak(&rt, rt.alloc(), seconds, seed)?;
+    let counts = soak(&rt, seconds, seed);
     for (count, name) in counts.iter().zip(&COUNTED) {
-        eprintln!(rt; "{count} {name}")?;
+        done(&rt, eprintln!(&rt; "{count} {name}"));
     }
-    Ok(())
 }

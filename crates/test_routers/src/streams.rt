@@ -1,13 +1,13 @@
 //! Messages over streams, and links over them.
 
-use expectations::{expect, expect_bytes, expect_text};
+use crate::asserts::{Host, done, must, must_read};
+use crate::channels::{Step, must_follow};
 use link_lines::{Greeting, GreetingFault};
 use message_streams::{MessageReader, MessageWriter, StreamEnd};
 use netchange_core::Message;
-use route_session::{Got, Link, LinkFault};
+use route_session::{Got, LinkFault};
 use std::io;
 use std::io::{ErrorKind, Write};
-use std::test::Fail;
 use stream_link::StreamLink;
 
 /// A writer that takes so many bytes and then fails.
@@ -31,7 +31,7 @@ impl Write for Narrow {
     }
 }
 
-/// Streams, how many messages come before the end, the end, and its words.
+/// Streams that begin with messages, how many these are, the end, and its words.
 const ENDS: [(&[u8], u64, StreamEnd, &str); 7] = [
     (b"", 0, StreamEnd::Ended, "the stream ended"),
     (b"1 2\n3 4\n", 2, StreamEnd::Ended, "the stream ended"),
@@ -67,67 +67,104 @@ const ENDS: [(&[u8], u64, StreamEnd, &str); 7] = [
     ),
 ];
 
+/// What a reader ends with, again and again, after so many messages, and the line at which it ends.
+fn must_end<R: Host>(
+    rt: &R,
+    reader: &mut MessageReader<&[u8]>,
+    count: u64,
+    wanted: &StreamEnd,
+    words: &str,
+) {
+    for _ in 0..count {
+        must(rt, reader.next_message().is_ok(), words);
+    }
+    let ends = reader.next_message() == Err(*wanted) && reader.next_message() == Err(*wanted);
+    must(rt, ends, words);
+    must_read(rt, wanted, words);
+}
+
 /// Each end of a reader: what was handed out before it, and the line at which it came.
 #[test]
-fn readers_end(rt: HostRuntime) -> Result<(), Fail> {
+fn readers_end(rt: HostRuntime) {
     for (bytes, count, wanted, words) in &ENDS {
         let mut reader = MessageReader::new(*bytes);
-        for _ in 0..*count {
-            expect(reader.next_message().is_ok(), words)?;
-        }
-        let ends = reader.next_message() == Err(*wanted) && reader.next_message() == Err(*wanted);
-        expect(ends && reader.line() == count.saturating_add(1), words)?;
-        expect_text(rt.alloc(), wanted, words)?;
+        must_end(&rt, &mut reader, *count, wanted, words);
+        must(
+            &rt,
+            reader.line() == count.saturating_add(1),
+            "at which line",
+        );
     }
-    Ok(())
 }
+
+/// Streams that begin with a greeting, what is made of it by one who expects that of node 3 of 10, how many messages follow, the end, and its words.
+const GREETED: [(&[u8], Result<(), StreamEnd>, u64, StreamEnd, &str); 2] = [
+    (
+        b"netchange 1 10 3\n1 2\n",
+        Ok(()),
+        1,
+        StreamEnd::Ended,
+        "the stream ended",
+    ),
+    (
+        b"netchange 1 10 4\n1 2\n",
+        Err(StreamEnd::Greeting(GreetingFault::OtherNode(4))),
+        0,
+        StreamEnd::Greeting(GreetingFault::OtherNode(4)),
+        "the neighbour is node 4",
+    ),
+];
 
 /// The greeting comes first; what follows it is left for the messages.
 #[test]
-fn greetings_are_read(rt: HostRuntime) -> Result<(), Fail> {
-    let expected = Greeting { size: 10, node: 3 };
-    let mut reader = MessageReader::new(b"netchange 1 10 3\n1 2\n".as_slice());
-    let is_read = reader.read_greeting(expected) == Ok(())
-        && reader.next_message() == Ok(Message { dest: 1, dist: 2 });
-    expect(is_read, "a greeting and a message")?;
-    let mut other = MessageReader::new(b"netchange 1 10 4\n1 2\n".as_slice());
-    let end = StreamEnd::Greeting(GreetingFault::OtherNode(4));
-    let is_refused = other.read_greeting(expected) == Err(end) && other.next_message() == Err(end);
-    expect(is_refused, "the greeting of another node")?;
-    expect_text(rt.alloc(), &end, "the neighbour is node 4")
+fn greetings_are_read(rt: HostRuntime) {
+    for (bytes, greeted, count, wanted, words) in &GREETED {
+        let mut reader = MessageReader::new(*bytes);
+        let found = reader.read_greeting(Greeting { size: 10, node: 3 });
+        must(&rt, found == *greeted, words);
+        must_end(&rt, &mut reader, *count, wanted, words);
+    }
 }
 
-/// What a link reads it hands out, and what it is given it writes; a link fails in a direction that it has not.
+/// Messages.
+const FIRST: Message = Message { dest: 1, dist: 2 };
+
+const SECOND: Message = Message { dest: 3, dist: 4 };
+
+/// What a link reads it hands out, and what it is given it writes, here one message; a link fails in a direction that it has not.
+const HANDED_ON: [Step; 6] = [
+    Step::Asked(0, Ok(Got::Message(FIRST))),
+    Step::Asked(0, Ok(Got::Message(SECOND))),
+    Step::Asked(0, Ok(Got::Ended)),
+    Step::Given(0, FIRST, true),
+    Step::Given(0, FIRST, false),
+    Step::Given(0, FIRST, false),
+];
+
+/// A closed link has ended.
+const CLOSED: [Step; 2] = [Step::Closed(0), Step::Asked(0, Ok(Got::Ended))];
+
 #[test]
-fn links_hand_on(rt: HostRuntime) -> Result<(), Fail> {
+fn links_hand_on(rt: HostRuntime) {
     let input = MessageReader::new(b"1 2\n3 4\n".as_slice());
     let output = MessageWriter::new(rt.alloc(), Narrow { room: 6 });
-    let mut link = StreamLink::new(Some(input), Some(output));
-    let (first, second) = (Message { dest: 1, dist: 2 }, Message { dest: 3, dist: 4 });
-    let are_read = link.recv(&rt) == Ok(Got::Message(first))
-        && link.recv(&rt) == Ok(Got::Message(second));
-    let has_ended = link.recv(&rt) == Ok(Got::Ended) && link.end() == Some(StreamEnd::Ended);
-    expect(are_read && has_ended && link.line() == 3, "what is read")?;
-    let is_sent = link.send(&rt, first) == Ok(());
-    let fails = link.send(&rt, first) == Err(LinkFault) && link.send(&rt, first) == Err(LinkFault);
-    expect(is_sent && fails, "there is room for one message")?;
-    link.close();
-    expect(link.recv(&rt) == Ok(Got::Ended), "closed")
+    let mut links = [StreamLink::new(Some(input), Some(output))];
+    must_follow(&rt, &mut links, &HANDED_ON);
+    let has_ended = links[0].end() == Some(StreamEnd::Ended) && links[0].line() == 3;
+    must(&rt, has_ended, "the end of what is read");
+    must_follow(&rt, &mut links, &CLOSED);
 }
+
+/// What is written.
+const WRITTEN: &[u8] = b"netchange 1 4 1\n2 1\n";
 
 /// A writer writes a line for each message, after its greeting.
 #[test]
-fn writers_write(rt: HostRuntime) -> Result<(), Fail> {
+fn writers_write(rt: HostRuntime) {
     let mut bytes = Vec::new(rt.alloc());
     let mut writer = MessageWriter::new(rt.alloc(), &mut bytes);
-    expect(
-        writer.write_greeting(Greeting { size: 4, node: 1 }).is_ok(),
-        "greeting",
-    )?;
-    expect(
-        writer.write_message(Message { dest: 2, dist: 1 }).is_ok(),
-        "message",
-    )?;
+    done(&rt, writer.write_greeting(Greeting { size: 4, node: 1 }));
+    done(&rt, writer.write_message(Message { dest: 2, dist: 1 }));
     drop(writer);
-    expect_bytes(&bytes, b"netchange 1 4 1\n2 1\n")
+    must(&rt, bytes.as_slice() == WRITTEN, "what is written");
 }

@@ -1,0 +1,61 @@
+//! What ends a test at once. Who calls these functions goes on one path alone, where an error that is handed on would be a second one.
+
+use std::fmt::{Debug, Display};
+use std::process::Abort;
+use std::str;
+
+/// The runtime of a test.
+pub trait Host: AllocGlobal + Abort {}
+
+impl<R: AllocGlobal + Abort> Host for R {}
+
+/// Ends the test with the name of a row, unless something holds of it.
+pub fn must<R: Abort>(rt: &R, holds: bool, row: &str) {
+    if !holds {
+        rt.panic(row);
+    }
+}
+
+/// Ends the test, unless a number is this one.
+pub fn must_number<R: Abort>(rt: &R, found: u64, wanted: u64) {
+    if found != wanted {
+        rt.panic(format_args!("{found}, and not {wanted}"));
+    }
+}
+
+/// Ends the test, unless a text is this one.
+pub fn must_str<R: Abort>(rt: &R, found: &str, wanted: &str) {
+    if found != wanted {
+        rt.panic(format_args!("{found}, and not {wanted}"));
+    }
+}
+
+/// Ends the test, unless bytes, most often of a text, are these.
+pub fn must_bytes<R: Abort>(rt: &R, found: &[u8], wanted: &[u8]) {
+    if found != wanted {
+        let text = str::from_utf8(found).unwrap_or("bytes that are no text");
+        rt.panic(format_args!("other bytes: {text}"));
+    }
+}
+
+/// Ends the test, unless people are shown this of something.
+pub fn must_read<R: Host, T: Display>(rt: &R, shown: &T, wanted: &str) {
+    let text = done(rt, format!(in rt.alloc(); "{shown}"));
+    must_str(rt, text.as_str(), wanted);
+}
+
+/// What there is. Where there is nothing, for want of memory for one, the test ends with this error.
+pub fn some<R: Abort, T>(rt: &R, found: Option<T>, error: &str) -> T {
+    match found {
+        Some(it) => it,
+        None => rt.panic(format_args!("error: {error}")),
+    }
+}
+
+/// What was made. Where it was refused, for want of memory for one, the test ends with that error.
+pub fn done<R: Abort, T, E: Debug + Drop>(rt: &R, made: Result<T, E>) -> T {
+    match made {
+        Ok(it) => it,
+        Err(error) => rt.panic(format_args!("error: {error:?}")),
+    }
+}
