@@ -1,5 +1,15 @@
-use Rattle.std.proofs.Common.{rules}
+use Rattle.std.proofs.Common.{refl}
 use Rattle.ncroute.proofs.linting.lint_text.Goals as goal
+use Rattle.ncroute.proofs.linting.lint_text.Goals.{in-Ok, in-Err}
 
-pub returns-clause-cut : goal.returns-clause-cut
-returns-clause-cut g c = rw (← c.console.view_is) (search rules)
+pub returns : goal.returns
+returns g c = elim c.match-lint_named.branch [
+  | in-Ok w ↦ rw (w.result-is, ← c.console.view_is) (record {
+    finished = record { linted = w.in-Ok.linted; named = w.in-Ok.ensures.finished; judged = w.is_said.ensures; reads = refl };
+    cut = tt;
+  })
+  | in-Err w ↦ rw (w.result-is, ← c.console.view_is) (record {
+    finished = tt;
+    cut = record { named = w.in-Err.ensures.broken_off; reads = refl };
+  })
+]
