@@ -1,6 +1,8 @@
 -- How the filters that a script is started with are read, one after another.
-use Rattle.std.proofs.Common.{◌≡◌, ◌⊎◌, ℕ, ◌+◌, ◌++◌, List, [], ◌∷◌, Option, Some, Result, Ok, Err, IfErr, refl, inl, add-one}
-use Rattle.std.specs.Prelude.{OnOk, slice_get}
+use Rattle.std.proofs.Common.{◌≡◌, ◌⊎◌, ℕ, ◌+◌, ◌<◌, ◌++◌, List, [], ◌∷◌, length, get_or, Option}
+use Rattle.std.proofs.Common.{Result, Ok, Err, IfErr, refl, inl, add-one}
+use Rattle.std.proofs.lemmas.Option.{slice_get_read}
+use Rattle.std.specs.Prelude.{OnOk}
 use Rattle.std.specs.declared.io.Error.{Error}
 use Rattle.script_runs.specs.declared.naming.NamedFilter.{NamedFilter}
 use Rattle.command_line.specs.declared.requests.Source.{Source}
@@ -15,20 +17,20 @@ module _ (opens : List ℕ → Result (Option (List ℕ)) Error → Type 0) (fil
   none_read known = (refl, refl)
 
   pub one_more_read : (n : ℕ) (file : NamedFile) (filter : NamedFilter) (earlier later : List NamedFilter) (known mid left : Option (List ℕ))
-      → slice_get files n ≡ Some file → ReadsFirst opens files n earlier known mid → ReadsFilter opens file filter mid left
+      → n < length files → file ≡ get_or files n file → ReadsFirst opens files n earlier known mid → ReadsFilter opens file filter mid left
       → later ≡ earlier ++ filter ∷ [] → ReadsFirst opens files (n + 1) later known left
   unfolding ReadsFirst
-  one_more_read n file filter earlier later known mid left is first read more =
-      rw add-one (file, filter, earlier, mid, is, first, read, more)
+  one_more_read n file filter earlier later known mid left inside is first read more =
+      rw add-one (file, filter, earlier, mid, slice_get_read files _ n file refl inside is, first, read, more)
 
   -- a filter is not read behind others
   pub not_read : (n : ℕ) (file : NamedFile) (source : Source) (why : Unread) (earlier : List NamedFilter) (known mid left : Option (List ℕ))
-      → slice_get files n ≡ Some file → source ≡ file.source → ReadsFirst opens files n earlier known mid
+      → n < length files → file ≡ get_or files n file → source ≡ file.source → ReadsFirst opens files n earlier known mid
       → LeavesFilter opens file why mid left → StopsAtFilter opens files source why known left
-  not_read n file source why earlier known mid left is same first leaves = record {
+  not_read n file source why earlier known mid left inside is same first leaves = record {
     n = n;
     file = file;
-    is_file = is;
+    is_file = slice_get_read files _ n file refl inside is;
     is_source = same;
     earlier = earlier;
     mid = mid;

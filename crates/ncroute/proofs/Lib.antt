@@ -1,6 +1,5 @@
 pub mod Sources
 pub mod Tested
-pub mod Tried
 pub mod Untold
 mod FiltersRead
 mod JoinedRead

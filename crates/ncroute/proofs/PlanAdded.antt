@@ -1,6 +1,6 @@
 -- How options are added to a plan, one after another.
-use Rattle.std.proofs.Common.{◌≡◌, ℕ, ◌+◌, List, Some, refl, subst, add-one}
-use Rattle.std.specs.Prelude.{slice_get}
+use Rattle.std.proofs.Common.{◌≡◌, ℕ, ◌+◌, ◌<◌, List, length, get_or, refl, subst, add-one}
+use Rattle.std.proofs.lemmas.Option.{slice_get_read}
 use Rattle.router_options.specs.PlanView.{PlanView}
 use Rattle.router_options.specs.declared.fault.OptionFault.{OptionFault}
 use Rattle.ncroute.specs.Planning.{Adds, AddsFirst, Refuses, StopsAdding}
@@ -11,21 +11,21 @@ module _ {A : Type 0} (k : OptionKind) (text_of : A → List ℕ) (options : Lis
   unfolding AddsFirst
   none_added plan = refl
 
-  pub one_more_added : (n : ℕ) (option : A) (text : List ℕ) (plan mid after : PlanView) → slice_get options n ≡ Some option
-      → text ≡ text_of option → AddsFirst k text_of options n plan mid → Adds k mid text after
+  pub one_more_added : (n : ℕ) (option : A) (text : List ℕ) (plan mid after : PlanView) → n < length options
+      → option ≡ get_or options n option → text ≡ text_of option → AddsFirst k text_of options n plan mid → Adds k mid text after
       → AddsFirst k text_of options (n + 1) plan after
   unfolding AddsFirst
-  one_more_added n option text plan mid after is said first adds =
-      rw add-one (option, mid, is, first, subst (λ (t : List ℕ). Adds k mid t after) said adds)
+  one_more_added n option text plan mid after inside is said first adds =
+      rw add-one (option, mid, slice_get_read options _ n option refl inside is, first, subst (λ (t : List ℕ). Adds k mid t after) said adds)
 
   -- an option is refused behind others
-  pub not_added : (n : ℕ) (option : A) (text : List ℕ) (why : OptionFault) (plan mid : PlanView) → slice_get options n ≡ Some option
-      → text ≡ text_of option → AddsFirst k text_of options n plan mid → Refuses k mid text why
+  pub not_added : (n : ℕ) (option : A) (text : List ℕ) (why : OptionFault) (plan mid : PlanView) → n < length options
+      → option ≡ get_or options n option → text ≡ text_of option → AddsFirst k text_of options n plan mid → Refuses k mid text why
       → StopsAdding k text_of options plan why
-  not_added n option text why plan mid is said first refused = record {
+  not_added n option text why plan mid inside is said first refused = record {
     n = n;
     option = option;
-    is_option = is;
+    is_option = slice_get_read options _ n option refl inside is;
     mid = mid;
     first = first;
     refused = subst (λ (t : List ℕ). Refuses k mid t why) said refused;

@@ -1,6 +1,6 @@
 -- How the tests of files are run, one file after another.
-use Rattle.std.proofs.Common.{◌≡◌, ℕ, ◌+◌, List, Option, Some, None, Result, refl, subst, add-one}
-use Rattle.std.specs.Prelude.{slice_get}
+use Rattle.std.proofs.Common.{◌≡◌, ℕ, ◌+◌, ◌<◌, List, length, get_or, Option, Some, None, Result, refl, subst, add-one}
+use Rattle.std.proofs.lemmas.Option.{slice_get_read}
 use Rattle.std.specs.declared.io.Error.{Error}
 use Rattle.command_line.specs.declared.requests.Source.{Source}
 use Rattle.command_line.specs.declared.test_words.Testing.{Testing}
@@ -15,20 +15,27 @@ module _ (opens : List ℕ → Result (Option (List ℕ)) Error → Type 0) (how
   none_tested before = (refl, refl)
 
   pub one_more_tested : (n : ℕ) (source : Source) (before mid after : Streams) (earlier now : Tally) (found : Option Tally)
-      → slice_get sources n ≡ Some source → RunsFirst opens how sources n before mid earlier → found ≡ Some now
+      → n < length sources → source ≡ get_or sources n source → RunsFirst opens how sources n before mid earlier → found ≡ Some now
       → RunsTests opens how source earlier mid after found → RunsFirst opens how sources (n + 1) before after now
   unfolding RunsFirst
-  one_more_tested n source before mid after earlier now found is first some tested =
-      rw add-one (source, mid, earlier, is, first, subst (RunsTests opens how source earlier mid after) some tested)
+  one_more_tested n source before mid after earlier now found inside is first some tested =
+      rw add-one (
+        source,
+        mid,
+        earlier,
+        slice_get_read sources _ n source refl inside is,
+        first,
+        subst (RunsTests opens how source earlier mid after) some tested,
+      )
 
   -- a source is refused or not read behind others
-  pub bails : (n : ℕ) (source : Source) (before mid after : Streams) (tally : Tally) (found : Option Tally) → slice_get sources n ≡ Some source
-      → RunsFirst opens how sources n before mid tally → found ≡ None → RunsTests opens how source tally mid after found
+  pub bails : (n : ℕ) (source : Source) (before mid after : Streams) (tally : Tally) (found : Option Tally) → n < length sources
+      → source ≡ get_or sources n source → RunsFirst opens how sources n before mid tally → found ≡ None → RunsTests opens how source tally mid after found
       → BailsOut opens how sources before after
-  bails n source before mid after tally found is first none refused = record {
+  bails n source before mid after tally found inside is first none refused = record {
     n = n;
     source = source;
-    is_source = is;
+    is_source = slice_get_read sources _ n source refl inside is;
     mid = mid;
     tally = tally;
     first = first;
@@ -37,7 +44,14 @@ module _ (opens : List ℕ → Result (Option (List ℕ)) Error → Type 0) (how
 
   -- a fault ends the tests of a source behind others
   pub some_stopped : (fault : StreamFault) (n : ℕ) (source : Source) (before mid after : Streams) (tally : Tally)
-      → slice_get sources n ≡ Some source → RunsFirst opens how sources n before mid tally → StopsTests opens fault how source tally mid after
-      → StopsSome opens fault how sources before after
-  some_stopped fault n source before mid after tally is first stopped =
-      record { n = n; source = source; is_source = is; mid = mid; tally = tally; first = first; stopped = stopped }
+      → n < length sources → source ≡ get_or sources n source → RunsFirst opens how sources n before mid tally
+      → StopsTests opens fault how source tally mid after → StopsSome opens fault how sources before after
+  some_stopped fault n source before mid after tally inside is first stopped = record {
+    n = n;
+    source = source;
+    is_source = slice_get_read sources _ n source refl inside is;
+    mid = mid;
+    tally = tally;
+    first = first;
+    stopped = stopped;
+  }

@@ -57,11 +57,6 @@ CutsReport true fault how name text held holds told tells =
     ChecksNamedOff fault how.size how.is_code how.is_explained name text held holds told tells
 CutsReport false fault how name text held holds told tells = IsCutOff fault how.size how.is_code text held holds × (tells ≡ told)
 
--- A fault cut a report on a text before it was made whole, or what is told of it.
-unfoldable pub CutsMaking : StreamFault → Checking → List ℕ → List ℕ → Option (List ℕ) → Option (List ℕ) → Type 0
-CutsMaking fault how name text told tells =
-    (made : Option (List ℕ)) × CutsReport how.is_told fault how name text (Some []) made told tells
-
 -- The report on a text was made and told, and these lines of it were written, and it is said whether it refuses the text.
 pub record ChecksLines (how : Checking) (name text : List ℕ) (before after : Streams) (is_refused : Bool) : Type 0 where
   pub why : Option Diagnosis
@@ -79,8 +74,13 @@ pub record CutsMarked (fault : StreamFault) (how : Checking) (name text : List �
   pub written : IsCut fault before.holds after.holds (written_of how name report why)
   pub reads : after.reads ≡ before.reads
 
--- Or it cut the report, or what is told of it, and nothing was written.
-unfoldable pub CutsLines : StreamFault → Checking → List ℕ → List ℕ → Streams → Streams → Type 0
+-- It cut the report before that was made whole, or what is told of it, and nothing was written.
+pub record CutsMaking (fault : StreamFault) (how : Checking) (name text : List ℕ) (before after : Streams) : Type 0 where
+  pub made : Option (List ℕ)
+  pub reported : CutsReport how.is_told fault how name text (Some []) made before.tells after.tells
+  pub holds : after.holds ≡ before.holds
+  pub reads : after.reads ≡ before.reads
+
+abbrev pub CutsLines : StreamFault → Checking → List ℕ → List ℕ → Streams → Streams → Type 0
 CutsLines fault how name text before after =
-    (CutsMaking fault how name text before.tells after.tells × (after.holds ≡ before.holds) × (after.reads ≡ before.reads))
-    ⊎ CutsMarked fault how name text before after
+    CutsMaking fault how name text before after ⊎ CutsMarked fault how name text before after

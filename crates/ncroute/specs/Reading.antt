@@ -23,20 +23,24 @@ abbrev pub name_of : Source → List ℕ
 name_of Input = codes "<stdin>"
 name_of (File name) = string_bytes name
 
+-- a line that tells something of what has a name: the name as it is shown, what is said, and a code
+abbrev pub told_line : List ℕ → List ℕ → List ℕ → List ℕ
+told_line name words code = shown name ++ codes ": " ++ words ++ code
+
 -- the line that tells that a source was not read, with its name as it is shown and the words of the reason
 abbrev pub unread_line : Source → List ℕ → List ℕ
-unread_line source words = shown (name_of source) ++ codes ": " ++ words ++ codes " (E1)" ++ 10 ∷ []
+unread_line source words = told_line (name_of source) words (codes " (E1)" ++ 10 ∷ [])
 
 -- the line that tells that the text of a filter is longer than its limit
 unfoldable pub long_words : List ℕ
-long_words = codes ": longer than 1048576 bytes (E4)" ++ 10 ∷ []
+long_words = codes "longer than 1048576 bytes"
 
 abbrev pub long_line : Source → List ℕ
-long_line source = shown (name_of source) ++ long_words
+long_line source = told_line (name_of source) long_words (codes " (E4)" ++ 10 ∷ [])
 
 -- the line that tells that a file was not made, with its name as it is shown and the words of the reason
 abbrev pub unmade_line : List ℕ → List ℕ → List ℕ
-unmade_line name words = shown name ++ codes ": " ++ words ++ codes " (E2)" ++ 10 ∷ []
+unmade_line name words = told_line name words (codes " (E2)" ++ 10 ∷ [])
 
 -- A text is all that standard input had, or goes one byte beyond a limit. `known` is what it had, `left` what it has now.
 abbrev pub ReadsInput : ℕ → List ℕ → Option (List ℕ) → Option (List ℕ) → Type 0

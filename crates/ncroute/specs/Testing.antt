@@ -48,31 +48,18 @@ abbrev pub status_of_tests : Option Tally → ℕ
 status_of_tests None = 3
 status_of_tests (Some tally) = if tally.has_failed then 1 else 0
 
--- The tests of a file were run by the filter of a text, or that is refused. `held` and `holds` are what the writer held before and holds now,
--- `told` and `tells` the same of standard error.
-unfoldable pub Tests : Testing → List ℕ → FileView → Named → Tally → Option (List ℕ) → Option (List ℕ) → Option (List ℕ) → Option (List ℕ)
-    → Tested → Type 0
-Tests how name file filter tally held holds told tells tested =
-    TestsNamed tally.count how.is_explained name file filter held holds told tells tested
-
--- A fault cut that.
-unfoldable pub CutsTests : StreamFault → Testing → List ℕ → FileView → Named → Tally → Option (List ℕ) → Option (List ℕ) → Option (List ℕ)
-    → Option (List ℕ) → Type 0
-CutsTests fault how name file filter tally held holds told tells =
-    TestsNamedOff fault tally.count how.is_explained name file filter held holds told tells
-
--- The same of the streams of the program. `found` is how many tests were run by then.
+-- The tests of a file were run by the filter of a text, or that is refused. `found` is how many tests were run by then.
 pub record RunsBy (how : Testing) (name : List ℕ) (file : FileView) (filter : Named) (tally : Tally) (before after : Streams)
     (found : Option Tally) : Type 0 where
   pub tested : Tested
-  pub tests : Tests how name file filter tally before.holds after.holds before.tells after.tells tested
+  pub tests : TestsNamed tally.count how.is_explained name file filter before.holds after.holds before.tells after.tells tested
   pub counted : found ≡ tally_after tally (length file.tests) tested
   pub reads : after.reads ≡ before.reads
 
 -- A fault ended it.
 pub record StopsCounted (fault : StreamFault) (how : Testing) (name : List ℕ) (file : FileView) (filter : Named) (tally : Tally)
     (before after : Streams) : Type 0 where
-  pub tests : CutsTests fault how name file filter tally before.holds after.holds before.tells after.tells
+  pub tests : TestsNamedOff fault tally.count how.is_explained name file filter before.holds after.holds before.tells after.tells
   pub reads : after.reads ≡ before.reads
 
 -- Or tests that a number of 64 bits cannot count are not run.

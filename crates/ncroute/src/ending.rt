@@ -29,7 +29,7 @@ pub fn status_of_found(found: bool) -> u8
 }
 
 /// The line that tells of a fault. It is one text, so that one write takes it whole.
-fn fault_line(fault: ProgramFault) -> &'static str
+pub fn fault_line(fault: ProgramFault) -> &'static str
     ensures { result.now ≡ fault_line fault }
 {
     match fault {

@@ -1,9 +1,9 @@
 //! The report on a source where each line begins with the source's name, or where only refusals are written.
-ghost use Rattle.std.specs.Prelude.{◌≡◌, ◌++◌, [], Some, IfErr, IfOk, OnOk};
+ghost use Rattle.std.specs.Prelude.{◌≡◌, ◌++◌, IfErr, IfOk, OnOk};
 ghost use Rattle.std.specs.Io.KnownBytes.{Appends};
 ghost use Rattle.filter_commands.specs.Evaluation.{IsCut};
 ghost use Rattle.filter_commands.specs.Faults.{stream_fault};
-ghost use Rattle.ncroute.specs.Marking.{ChecksLines, CutsLines, CutsMaking, CutsReport, ReportsOn, kept_lines, mark_behind, marked, name_mark, refusals_in, written_of};
+ghost use Rattle.ncroute.specs.Marking.{ChecksLines, CutsLines, CutsReport, ReportsOn, kept_lines, mark_behind, marked, name_mark, refusals_in, written_of};
 
 use crate::console::Console;
 use command_line::Checking;
@@ -145,38 +145,7 @@ pub fn report_on<W: Write, E: Write>(
     }
 }
 
-/// The report on a text, and what is told of its refusal.
-#[derive(Drop)]
-struct Report {
-    /// The report.
-    text: Vec<u8>,
-    /// What is told of the refusal, if there is one.
-    why: Option<Diagnosis>,
-}
-
-/// Makes the report on the text of a source, and tells why it is refused, as `report_on` does.
-#[tactic(auto, unfolding(crate::specs::Marking::CutsMaking))]
-fn make_report<E: Write>(
-    alloc: Global,
-    how: Checking,
-    name: &[u8],
-    text: &[u8],
-    errors: &mut E,
-) -> Result<Report, ProgramFault>
-    ensures finished { IfOk result (λ report. ReportsOn how.is_told how name.now text.now (Some []) (Some report.text.items)
-        (E.contents errors.old) (E.contents errors.new) report.why) }
-    ensures cut { IfErr result (λ fault. CutsMaking (stream_fault fault) how name.now text.now
-        (E.contents errors.old) (E.contents errors.new)) }
-{
-    let mut report = Vec::new(alloc);
-    match report_on(alloc, how, name, text, &mut report, errors) {
-        Ok(why) => Ok(Report { text: report, why }),
-        Err(fault) => Err(fault),
-    }
-}
-
 /// Makes the report on the text of a source, and writes the lines of it that are asked for. Returns whether the source is refused.
-#[tactic(auto, unfolding(crate::specs::Marking::CutsLines))]
 pub fn check_lines<R: Read, W: Write, E: Write>(
     alloc: Global,
     how: Checking,
@@ -187,16 +156,10 @@ pub fn check_lines<R: Read, W: Write, E: Write>(
     ensures finished { IfOk result (ChecksLines how name.now text.now console.old console.new) }
     ensures cut { IfErr result (λ fault. CutsLines (stream_fault fault) how name.now text.now console.old console.new) }
 {
-    match make_report(alloc, how, name, text, &mut console.errors) {
-        Ok(report) => match write_lines(
-            alloc,
-            how,
-            name,
-            report.text,
-            &report.why,
-            &mut console.writer,
-        ) {
-            Ok(()) => Ok(report.why.is_some()),
+    let mut report = Vec::new(alloc);
+    match report_on(alloc, how, name, text, &mut report, &mut console.errors) {
+        Ok(why) => match write_lines(alloc, how, name, report, &why, &mut console.writer) {
+            Ok(()) => Ok(why.is_some()),
             Err(fault) => Err(fault),
         },
         Err(fault) => Err(fault),

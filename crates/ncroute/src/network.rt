@@ -3,7 +3,8 @@ ghost use Rattle.std.specs.Prelude.{◌≡◌, IfOk, OnErr};
 ghost use Rattle.ncroute.specs.Networking.{FailsToReportNetwork, ServesNetwork, network_line};
 
 use crate::console::Console;
-use crate::ending::FAILED;
+use crate::ending::{FAILED, fault_line};
+use filter_commands::ProgramFault;
 use line_protocol::{StreamFault, write_text};
 use ring_network::{NetworkFault, net_lines};
 use route_history::CallFault;
@@ -15,15 +16,12 @@ use std::rt::Clock;
 use std::sync::Wait;
 use std::thread::Threads;
 
-/// The line that tells of a fault. It is one text, so that one write takes it whole.
+/// The line that tells of a fault.
 fn network_line(fault: NetworkFault) -> &'static str
     ensures { result.now ≡ network_line fault }
 {
     match fault {
-        NetworkFault::Stream(StreamFault::Read) => "ncroute: E1\n",
-        NetworkFault::Stream(StreamFault::Write) => "ncroute: E2\n",
-        NetworkFault::Stream(StreamFault::Memory) => "ncroute: E3\n",
-        NetworkFault::Stream(StreamFault::TooLong) => "ncroute: E4\n",
+        NetworkFault::Stream(fault) => fault_line(ProgramFault::Stream(fault)),
         NetworkFault::Call(CallFault::Full) => "ncroute: J1\n",
         NetworkFault::Call(CallFault::Memory) => "ncroute: J2\n",
         NetworkFault::Lock(LockFault::Held) => "ncroute: L2\n",

@@ -5,14 +5,14 @@ ghost use Rattle.filter_commands.specs.Faults.{stream_fault};
 ghost use Rattle.line_protocol.specs.Runs.{AppendsFront};
 ghost use Rattle.ncroute.specs.Routing as spec;
 
-use crate::ending::{FAILED, end_by_fault};
+use crate::ending::{FAILED, end_by_fault, fault_line};
 use crate::loading::load_filters;
 use crate::planning::plan_of;
 use crate::texts::{Folder, tell_unmade};
 use command_line::RouterWords;
 use filter_commands::ProgramFault;
 use history_saver::SaveFault;
-use line_protocol::{StreamFault, write_text};
+use line_protocol::write_text;
 use route_history::CallFault;
 use router_daemon::{DaemonFault, LinkFolder, Setting, run_router};
 use router_options::{OptionFault, RouterPlan};
@@ -54,15 +54,12 @@ fn tell_wrong<E: Write>(alloc: Global, errors: &mut E, fault: OptionFault)
     }
 }
 
-/// The line that tells of a fault of a router. It is one text, so that one write takes it whole.
+/// The line that tells of a fault of a router.
 fn router_line(fault: DaemonFault) -> &'static str
     ensures { result.now ≡ spec.router_line fault }
 {
     match fault {
-        DaemonFault::Stream(StreamFault::Read) => "ncroute: E1\n",
-        DaemonFault::Stream(StreamFault::Write) => "ncroute: E2\n",
-        DaemonFault::Stream(StreamFault::Memory) => "ncroute: E3\n",
-        DaemonFault::Stream(StreamFault::TooLong) => "ncroute: E4\n",
+        DaemonFault::Stream(fault) => fault_line(ProgramFault::Stream(fault)),
         DaemonFault::Call(CallFault::Full) => "ncroute: J1\n",
         DaemonFault::Call(CallFault::Memory) => "ncroute: J2\n",
         DaemonFault::Lock(LockFault::Held) => "ncroute: L2\n",
@@ -70,7 +67,7 @@ fn router_line(fault: DaemonFault) -> &'static str
         DaemonFault::Save(SaveFault::Write) => "ncroute: E2\n",
         DaemonFault::Save(SaveFault::Memory) => "ncroute: E3\n",
         DaemonFault::NotStarted => "ncroute: X2\n",
-        DaemonFault::Memory => "ncroute: E3\n",
+        DaemonFault::Memory => fault_line(ProgramFault::MEMORY),
     }
 }
 

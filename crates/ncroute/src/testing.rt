@@ -1,5 +1,5 @@
 //! How test files are run.
-ghost use Rattle.std.specs.Prelude.{◌≡◌, ◌+◌, ◌<◌, ◌^◌, IfErr, IfOk, OnOk, length};
+ghost use Rattle.std.specs.Prelude.{◌≡◌, ◌+◌, ◌<◌, ◌^◌, IfErr, IfOk, OnOk};
 ghost use Rattle.filter_checks.specs.Files.{file_view};
 ghost use Rattle.filter_commands.specs.Faults.{stream_fault};
 ghost use Rattle.filter_tools.specs.Naming.{named};
@@ -63,69 +63,8 @@ fn tell_fault<R: Read, W: Write, E: Write>(
     }
 }
 
-/// Runs the tests of a file by the filter of a text.
-#[tactic(auto, unfolding(crate::specs::Testing::Tests, crate::specs::Testing::CutsTests))]
-fn test<W: Write, E: Write>(
-    alloc: Global,
-    how: Testing,
-    name: &[u8],
-    file: &TestFile,
-    filter: &NamedText<'_>,
-    tally: Tally,
-    writer: &mut W,
-    errors: &mut E,
-) -> Result<Tested, ProgramFault>
-    requires { tally.count + length file.now.tests.items < 2 ^ 64 }
-    ensures finished { IfOk result (spec.Tests how name.now (file_view file.now) (named filter.now) tally
-        (W.contents writer.old) (W.contents writer.new) (E.contents errors.old) (E.contents errors.new)) }
-    ensures cut { IfErr result (λ fault. spec.CutsTests (stream_fault fault) how name.now (file_view file.now) (named filter.now) tally
-        (W.contents writer.old) (W.contents writer.new) (E.contents errors.old) (E.contents errors.new)) }
-{
-    let (before, limit, is_explained) = (tally.count, how.limit, how.is_explained);
-    test_named(
-        alloc,
-        before,
-        limit,
-        is_explained,
-        name,
-        file,
-        filter,
-        writer,
-        errors,
-    )
-}
-
-/// The same of the streams of the program. Returns how many were run by then, or nothing where the filter is refused.
-fn run_counted<R: Read, W: Write, E: Write>(
-    alloc: Global,
-    how: Testing,
-    name: &[u8],
-    file: &TestFile,
-    filter: &NamedText<'_>,
-    tally: Tally,
-    console: &mut Console<R, W, E>,
-) -> Result<Option<Tally>, ProgramFault>
-    requires { tally.count + length file.now.tests.items < 2 ^ 64 }
-    ensures finished { IfOk result (spec.RunsBy how name.now (file_view file.now) (named filter.now) tally console.old console.new) }
-    ensures stopped { IfErr result (λ fault. spec.StopsCounted (stream_fault fault) how name.now (file_view file.now) (named filter.now) tally
-        console.old console.new) }
-{
-    match test(
-        alloc,
-        how,
-        name,
-        file,
-        filter,
-        tally,
-        &mut console.writer,
-        &mut console.errors,
-    ) {
-        Ok(tested) => Ok(tally_after(tally, file.tests.len(), tested)),
-        Err(fault) => Err(fault),
-    }
-}
-
-/// Runs the tests of a file by the filter of a text, if they can be counted.
+/// Runs the tests of a file by the filter of a text, if they can be counted. Returns how many were run by then, or nothing where the
+/// filter is refused.
 #[tactic(auto, unfolding(crate::specs::Testing::StopsBy))]
 fn run_by<R: Read, W: Write, E: Write>(
     alloc: Global,
@@ -140,11 +79,22 @@ fn run_by<R: Read, W: Write, E: Write>(
     ensures stopped { IfErr result (λ fault. spec.StopsBy (stream_fault fault) how name.now (file_view file.now) (named filter.now) tally
         console.old console.new) }
 {
-    if file.tests.len() as u64 > u64::MAX - tally.count {
+    let count = file.tests.len();
+    if count as u64 > u64::MAX - tally.count {
         return Err(ProgramFault::Stream(StreamFault::TooLong));
     }
-    match run_counted(alloc, how, name, file, filter, tally, console) {
-        Ok(found) => Ok(found),
+    match test_named(
+        alloc,
+        tally.count,
+        how.limit,
+        how.is_explained,
+        name,
+        file,
+        filter,
+        &mut console.writer,
+        &mut console.errors,
+    ) {
+        Ok(tested) => Ok(tally_after(tally, count, tested)),
         Err(fault) => Err(fault),
     }
 }

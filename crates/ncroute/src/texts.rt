@@ -5,7 +5,7 @@ ghost use Rattle.std.specs.declared.io.Error.{Error as TheError};
 ghost use Rattle.filter_commands.specs.Evaluation.{IsCut};
 ghost use Rattle.filter_commands.specs.Faults.{stream_fault};
 ghost use Rattle.ncroute.specs.Reading.{IsCause, IsOfFile, IsRead, IsUnread, LeavesFile, LeavesInput, ReadsFile, ReadsInput, ReadsWhole};
-ghost use Rattle.ncroute.specs.Reading.{StopsTelling, TellsUnread, long_line, long_words, name_of, unmade_line, unread_line};
+ghost use Rattle.ncroute.specs.Reading.{StopsTelling, TellsUnread, long_line, long_words, name_of, told_line, unmade_line, unread_line};
 
 use command_line::Source;
 use filter_commands::ProgramFault;
@@ -191,27 +191,15 @@ fn reason_in(words: &str) -> &str {
     }
 }
 
-/// The line that tells that a file was not made, with the words of the reason.
-fn unmade_line(alloc: Global, name: &str, words: &str) -> Result<Vec<u8>, AllocError>
-    ensures { IfOk result (λ line. line.items ≡ unmade_line name.now words.now) }
+/// The line that tells something of what has a name: what is said, with its code behind it.
+fn told_line(alloc: Global, name: &[u8], words: &str, code: &[u8]) -> Result<Vec<u8>, AllocError>
+    ensures { IfOk result (λ line. line.items ≡ told_line name.now words.now code.now) }
 {
     let mut line = Vec::new(alloc);
-    push_shown(alloc, &mut line, name.as_bytes())?;
+    push_shown(alloc, &mut line, name)?;
     line.extend_from_slice(b": ")?;
     line.extend_from_slice(words.as_bytes())?;
-    line.extend_from_slice(b" (E2)\n")?;
-    Ok(line)
-}
-
-/// The line that tells that a source was not read, with the words of the reason.
-fn unread_line(alloc: Global, source: &Source, words: &str) -> Result<Vec<u8>, AllocError>
-    ensures { IfOk result (λ line. line.items ≡ unread_line source.now words.now) }
-{
-    let mut line = Vec::new(alloc);
-    push_shown(alloc, &mut line, name_of(source))?;
-    line.extend_from_slice(b": ")?;
-    line.extend_from_slice(words.as_bytes())?;
-    line.extend_from_slice(b" (E1)\n")?;
+    line.extend_from_slice(code)?;
     Ok(line)
 }
 
@@ -224,78 +212,37 @@ pub fn write_line<W: Write>(writer: &mut W, line: &[u8]) -> Result<(), ProgramFa
     Ok(())
 }
 
-/// What the line that tells that the text of a filter is longer than its limit says behind the name.
-#[tactic(auto, unfolding(crate::specs::Reading::long_words))]
-fn long_words() -> &'static [u8]
-    ensures { result.now ≡ long_words }
-{
-    b": longer than 1048576 bytes (E4)\n"
-}
-
-/// The line that tells that the text of a filter is longer than its limit.
-fn long_line(alloc: Global, source: &Source) -> Result<Vec<u8>, AllocError>
-    ensures { IfOk result (λ line. line.items ≡ long_line source.now) }
-{
-    let mut line = Vec::new(alloc);
-    push_shown(alloc, &mut line, name_of(source))?;
-    line.extend_from_slice(long_words())?;
-    Ok(line)
-}
-
-/// Tells that the text of a filter is longer than its limit.
-fn tell_long<E: Write>(alloc: Global, errors: &mut E, source: &Source) -> Result<(), ProgramFault>
-    ensures ok { OnOk result (Appends (E.contents errors.old) (E.contents errors.new) (long_line source.now)) }
-    ensures err { IfErr result (λ fault.
-        IsCut (stream_fault fault) (E.contents errors.old) (E.contents errors.new) (long_line source.now)) }
-{
-    let line = long_line(alloc, source)?;
-    write_line(errors, line.as_slice())
-}
-
-/// Tells that a file was not read, with the words of the reason.
-fn tell_words<E: Write>(
+/// Tells something of what has a name.
+fn tell_of<E: Write>(
     alloc: Global,
     errors: &mut E,
-    source: &Source,
+    name: &[u8],
     words: &str,
+    code: &[u8],
 ) -> Result<(), ProgramFault>
-    ensures ok { OnOk result (Appends (E.contents errors.old) (E.contents errors.new) (unread_line source.now words.now)) }
+    ensures ok { OnOk result (Appends (E.contents errors.old) (E.contents errors.new) (told_line name.now words.now code.now)) }
     ensures err { IfErr result (λ fault.
-        IsCut (stream_fault fault) (E.contents errors.old) (E.contents errors.new) (unread_line source.now words.now)) }
+        IsCut (stream_fault fault) (E.contents errors.old) (E.contents errors.new) (told_line name.now words.now code.now)) }
 {
-    let line = unread_line(alloc, source, words)?;
+    let line = told_line(alloc, name, words, code)?;
     write_line(errors, line.as_slice())
 }
 
-/// Tells that a file was not read, and the reason in the error.
+/// Tells the reason in an error, of what has a name.
 fn tell_reason<E: Write>(
     alloc: Global,
     errors: &mut E,
-    source: &Source,
+    name: &[u8],
     error: &Error,
+    code: &[u8],
 ) -> Result<(), ProgramFault>
     ensures ok { OnOk result ((words : List ℕ)
-        × Appends (E.contents errors.old) (E.contents errors.new) (unread_line source.now words)) }
+        × Appends (E.contents errors.old) (E.contents errors.new) (told_line name.now words code.now)) }
     ensures err { IfErr result (λ fault. (words : List ℕ)
-        × IsCut (stream_fault fault) (E.contents errors.old) (E.contents errors.new) (unread_line source.now words)) }
+        × IsCut (stream_fault fault) (E.contents errors.old) (E.contents errors.new) (told_line name.now words code.now)) }
 {
     let words = format!(in alloc; "{error}")?;
-    tell_words(alloc, errors, source, reason_in(words.as_str()))
-}
-
-/// Tells that a file was not made, with the words of the reason.
-fn tell_unmade_words<E: Write>(
-    alloc: Global,
-    errors: &mut E,
-    name: &str,
-    words: &str,
-) -> Result<(), ProgramFault>
-    ensures ok { OnOk result (Appends (E.contents errors.old) (E.contents errors.new) (unmade_line name.now words.now)) }
-    ensures err { IfErr result (λ fault.
-        IsCut (stream_fault fault) (E.contents errors.old) (E.contents errors.new) (unmade_line name.now words.now)) }
-{
-    let line = unmade_line(alloc, name, words)?;
-    write_line(errors, line.as_slice())
+    tell_of(alloc, errors, name, reason_in(words.as_str()), code)
 }
 
 /// Tells on `errors` that a file was not made, and the reason in the error.
@@ -310,8 +257,39 @@ pub fn tell_unmade<E: Write>(
     ensures err { IfErr result (λ fault. (words : List ℕ)
         × IsCut (stream_fault fault) (E.contents errors.old) (E.contents errors.new) (unmade_line name.now words)) }
 {
-    let words = format!(in alloc; "{error}")?;
-    tell_unmade_words(alloc, errors, name, reason_in(words.as_str()))
+    tell_reason(alloc, errors, name.as_bytes(), error, b" (E2)\n")
+}
+
+/// Tells that a source was not read, and the reason in the error.
+fn tell_broken<E: Write>(
+    alloc: Global,
+    errors: &mut E,
+    source: &Source,
+    error: &Error,
+) -> Result<(), ProgramFault>
+    ensures ok { OnOk result ((words : List ℕ)
+        × Appends (E.contents errors.old) (E.contents errors.new) (unread_line source.now words)) }
+    ensures err { IfErr result (λ fault. (words : List ℕ)
+        × IsCut (stream_fault fault) (E.contents errors.old) (E.contents errors.new) (unread_line source.now words)) }
+{
+    tell_reason(alloc, errors, name_of(source), error, b" (E1)\n")
+}
+
+/// What is said of the text of a filter that is longer than its limit.
+#[tactic(auto, unfolding(crate::specs::Reading::long_words))]
+fn long_words() -> &'static str
+    ensures { result.now ≡ long_words }
+{
+    "longer than 1048576 bytes"
+}
+
+/// Tells that the text of a filter is longer than its limit.
+fn tell_long<E: Write>(alloc: Global, errors: &mut E, source: &Source) -> Result<(), ProgramFault>
+    ensures ok { OnOk result (Appends (E.contents errors.old) (E.contents errors.new) (long_line source.now)) }
+    ensures err { IfErr result (λ fault.
+        IsCut (stream_fault fault) (E.contents errors.old) (E.contents errors.new) (long_line source.now)) }
+{
+    tell_of(alloc, errors, name_of(source), long_words(), b" (E4)\n")
 }
 
 /// Tells on `errors` that a source was not read. Standard input has no name to tell: its fault is handed on.
@@ -326,7 +304,7 @@ pub fn tell_unread<E: Write>(
         (E.contents errors.old) (E.contents errors.new)) }
 {
     match why {
-        Unread::Broken(reason) => tell_reason(alloc, errors, source, &reason),
+        Unread::Broken(reason) => tell_broken(alloc, errors, source, &reason),
         Unread::Input => Err(ProgramFault::Stream(StreamFault::Read)),
         Unread::Memory => Err(ProgramFault::MEMORY),
         Unread::TooLong => tell_long(alloc, errors, source),

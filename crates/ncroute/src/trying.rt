@@ -1,7 +1,6 @@
 //! How the routes of standard input are taken through the filter of a file.
-ghost use Rattle.std.specs.Prelude.{◌≡◌, IfErr, IfOk, IfSome};
+ghost use Rattle.std.specs.Prelude.{◌≡◌, IfErr, IfOk, IfSome, OnOk};
 ghost use Rattle.filter_commands.specs.Faults.{stream_fault};
-ghost use Rattle.filter_source.specs.declared.diagnosis.Diagnosis.{Diagnosis as TheDiagnosis};
 ghost use Rattle.filter_tools.specs.Telling.{Explains, IsCutExplanation};
 ghost use Rattle.filter_tools.specs.declared.filter.Filtered.TheVariants.{Refused};
 ghost use Rattle.ncroute.specs.Trying.{JudgesText, Reports, ReportsOff, ReportsText, StopsFilter, StopsJudging, StopsReport, StopsTrying};
@@ -12,35 +11,30 @@ use crate::ending::{FAILED, FAULT, status_of};
 use crate::texts::{Folder, name_of};
 use command_line::{RouteReport, Source, Trying};
 use filter_commands::ProgramFault;
-use filter_source::SOURCE_LIMIT;
+use filter_source::{Diagnosis, SOURCE_LIMIT};
 use filter_tools::{Filtered, Routes, filter_named, tell};
 use filter_traces::{cover_routes, explain_routes};
 use std::alloc::Global;
 use std::io::{Read, Write};
 
-/// Tells in words why a filter that was tried is refused, where `is_explained` says so. Returns the exit status.
+/// Tells in words why a filter that was tried is refused, where `is_explained` says so.
 fn tell_filter<E: Write>(
     alloc: Global,
     errors: &mut E,
     name: &[u8],
     text: &[u8],
     is_explained: bool,
-    filtered: Filtered,
-) -> Result<u8, ProgramFault>
-    ensures told { IfOk result (λ status. Explains name.now text.now (told_refusal is_explained filtered)
-        (E.contents errors.old) (E.contents errors.new) × (status ≡ status_of_filter filtered)) }
-    ensures cut { IfErr result (λ fault. (why : TheDiagnosis) × (filtered ≡ Refused why)
-        × IsCutExplanation (stream_fault fault) name.now text.now why (E.contents errors.old) (E.contents errors.new)) }
+    why: &Diagnosis,
+) -> Result<(), ProgramFault>
+    ensures told { OnOk result (Explains name.now text.now (told_refusal is_explained (Refused why.now))
+        (E.contents errors.old) (E.contents errors.new)) }
+    ensures cut { IfErr result (λ fault. IsCutExplanation (stream_fault fault) name.now text.now why.now
+        (E.contents errors.old) (E.contents errors.new)) }
 {
-    match filtered {
-        Filtered::Answered(0) => Ok(0),
-        Filtered::Answered(_) => Ok(FAILED),
-        Filtered::Refused(why) => {
-            if is_explained {
-                tell(alloc, errors, name, text, &why)?;
-            }
-            Ok(FAILED)
-        }
+    if is_explained {
+        tell(alloc, errors, name, text, why)
+    } else {
+        Ok(())
     }
 }
 
@@ -86,14 +80,18 @@ fn report_text<R: Read, W: Write, E: Write>(
         &mut console.reader,
         &mut console.writer,
     ) {
-        Ok(filtered) => tell_filter(
+        Ok(Filtered::Answered(refused)) => Ok(status_of(refused)),
+        Ok(Filtered::Refused(why)) => match tell_filter(
             alloc,
             &mut console.errors,
             name,
             text,
             how.is_explained,
-            filtered,
-        ),
+            &why,
+        ) {
+            Ok(()) => Ok(FAILED),
+            Err(fault) => Err(fault),
+        },
         Err(fault) => Err(fault),
     }
 }

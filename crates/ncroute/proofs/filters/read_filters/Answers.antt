@@ -1,6 +1,5 @@
 -- The filters so far were read, and the next one is read too, or it is not.
-use Rattle.std.proofs.Common.{List, length, refl, subst, sym}
-use Rattle.std.proofs.lemmas.Option.{slice_get_read}
+use Rattle.std.proofs.Common.{List, refl, subst, sym}
 use Rattle.script_runs.specs.declared.naming.NamedFilter.{NamedFilter}
 use Rattle.ncroute.specs.Filters.{ReadsFirst}
 use Rattle.ncroute.proofs.FiltersRead.{none_read, not_read, one_more_read}
@@ -15,15 +14,11 @@ loop-file-init g c =
 
 pub loop-file-preserved : goal.loop-file-preserved
 loop-file-preserved g c =
-    let is = slice_get_read c.args.named.now (length c.args.named.now) c.loop-file.file-index c.file-item.result refl c.loop-file-test.true
-    c.file-item.is in
     let (filter, reads, grown) = c.in-Ok.ensures.read in
     one_more_read (g.F.Folder.opens c.args.files.now) c.args.named.now c.loop-file.file-index c.file-item.result filter
-    c.loop-file.filters.items c.read_next.new.filters.items _ _ _ is c.loop-file.invariant reads grown
+    c.loop-file.filters.items c.read_next.new.filters.items _ _ _ c.loop-file-test.true c.file-item.is c.loop-file.invariant reads grown
 
 pub returns-in-Err-clause-unread : goal.returns-in-Err-clause-unread
 returns-in-Err-clause-unread g c =
-    let is = slice_get_read c.args.named.now (length c.args.named.now) c.loop-file.file-index c.file-item.result refl c.loop-file-test.true
-    c.file-item.is in
     not_read (g.F.Folder.opens c.args.files.now) c.args.named.now c.loop-file.file-index c.file-item.result c.file-item.result.source
-    c.in-Err.why c.loop-file.filters.items _ _ _ is refl c.loop-file.invariant c.in-Err.ensures.unread
+    c.in-Err.why c.loop-file.filters.items _ _ _ c.loop-file-test.true c.file-item.is refl c.loop-file.invariant c.in-Err.ensures.unread

@@ -1,6 +1,5 @@
 -- The sources so far were read, and the next one is read too, or it is not.
-use Rattle.std.proofs.Common.{ℕ, List, length, refl, subst, sym}
-use Rattle.std.proofs.lemmas.Option.{slice_get_read}
+use Rattle.std.proofs.Common.{ℕ, List, subst, sym}
 use Rattle.ncroute.specs.Joining.{JoinsFirst}
 use Rattle.ncroute.proofs.JoinedRead.{none_joined, not_joined, one_more_joined}
 use Rattle.ncroute.proofs.joined.read_texts.Goals as goal
@@ -14,14 +13,11 @@ loop-source-init g c =
 
 pub loop-source-preserved : goal.loop-source-preserved
 loop-source-preserved g c =
-    let is = slice_get_read c.args.sources.now (length c.args.sources.now) c.loop-source.source-index c.source-item.result refl
-    c.loop-source-test.true c.source-item.is in
     one_more_joined (g.F.Folder.opens c.args.files.now) c.args.sources.now c.loop-source.source-index c.source-item.result
-    c.loop-source.joined.text.items c.read_next.new.joined.text.items _ _ _ is c.loop-source.invariant c.in-Ok.ensures.read
+    c.loop-source.joined.text.items c.read_next.new.joined.text.items _ _ _ c.loop-source-test.true c.source-item.is
+    c.loop-source.invariant c.in-Ok.ensures.read
 
 pub returns-in-Err-clause-unread : goal.returns-in-Err-clause-unread
 returns-in-Err-clause-unread g c =
-    let is = slice_get_read c.args.sources.now (length c.args.sources.now) c.loop-source.source-index c.source-item.result refl
-    c.loop-source-test.true c.source-item.is in
     not_joined (g.F.Folder.opens c.args.files.now) c.args.sources.now c.loop-source.source-index c.source-item.result
-    c.in-Err.why c.loop-source.joined.text.items _ _ _ is c.loop-source.invariant c.in-Err.ensures.unread
+    c.in-Err.why c.loop-source.joined.text.items _ _ _ c.loop-source-test.true c.source-item.is c.loop-source.invariant c.in-Err.ensures.unread

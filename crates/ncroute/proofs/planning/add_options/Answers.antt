@@ -1,6 +1,4 @@
 -- The options so far were added, and the next one is added too, or it is refused.
-use Rattle.std.proofs.Common.{length, refl}
-use Rattle.std.proofs.lemmas.Option.{slice_get_read}
 use Rattle.ncroute.specs.Planning.{text_of}
 use Rattle.ncroute.proofs.PlanAdded.{none_added, not_added, one_more_added}
 use Rattle.ncroute.proofs.planning.add_options.Goals as goal
@@ -10,14 +8,10 @@ loop-text-init c = none_added c.args.kind text_of c.args.texts.now c.args.plan.n
 
 pub loop-text-preserved : goal.loop-text-preserved
 loop-text-preserved c =
-    let is = slice_get_read c.args.texts.now (length c.args.texts.now) c.loop-text.text-index c.text-item.result refl c.loop-text-test.true
-    c.text-item.is in
     one_more_added c.args.kind text_of c.args.texts.now c.loop-text.text-index c.text-item.result c.as_str.result.now c.args.plan.now
-    c.loop-text.plan c.add.new.plan is c.as_str.ensures.value c.loop-text.invariant c.in-Ok.ensures.added
+    c.loop-text.plan c.add.new.plan c.loop-text-test.true c.text-item.is c.as_str.ensures.value c.loop-text.invariant c.in-Ok.ensures.added
 
 pub returns-in-Err-clause-refused : goal.returns-in-Err-clause-refused
 returns-in-Err-clause-refused c =
-    let is = slice_get_read c.args.texts.now (length c.args.texts.now) c.loop-text.text-index c.text-item.result refl c.loop-text-test.true
-    c.text-item.is in
     not_added c.args.kind text_of c.args.texts.now c.loop-text.text-index c.text-item.result c.as_str.result.now c.in-Err.why c.args.plan.now
-    c.loop-text.plan is c.as_str.ensures.value c.loop-text.invariant c.in-Err.ensures.refused
+    c.loop-text.plan c.loop-text-test.true c.text-item.is c.as_str.ensures.value c.loop-text.invariant c.in-Err.ensures.refused

@@ -1,5 +1,3 @@
-use Rattle.std.proofs.Common.{length, refl}
-use Rattle.std.proofs.lemmas.Option.{slice_get_read}
 use Rattle.filter_source.proofs.Refused.{of_error}
 use Rattle.filter_commands.specs.Faults.{stream_fault}
 use Rattle.ncroute.proofs.Tested.{bails, none_tested, one_more_tested, some_stopped}
@@ -10,23 +8,17 @@ loop-source-init g c = none_tested _ c.args.how c.args.sources.now _
 
 pub returns-in_err-after-clause-stopped : goal.returns-in_err-after-clause-stopped
 returns-in_err-after-clause-stopped g c =
-    let is = slice_get_read c.args.sources.now (length c.args.sources.now) c.loop-source.source-index c.source-item.result refl
-    c.loop-source-test.true c.source-item.is in
     let fault = c.in_err-after.field-0.0 in
     of_error c.from_residual.result _ fault c.from_residual.ensures.1
     (some_stopped _ c.args.how c.args.sources.now (stream_fault fault) c.loop-source.source-index c.source-item.result _ _ _
-    c.loop-source.tally is c.loop-source.invariant c.in_err-after.ensures.stopped)
+    c.loop-source.tally c.loop-source-test.true c.source-item.is c.loop-source.invariant c.in_err-after.ensures.stopped)
 
 pub returns-in-None-clause-finished : goal.returns-in-None-clause-finished
 returns-in-None-clause-finished g c =
-    let is = slice_get_read c.args.sources.now (length c.args.sources.now) c.loop-source.source-index c.source-item.result refl
-    c.loop-source-test.true c.source-item.is in
-    bails _ c.args.how c.args.sources.now c.loop-source.source-index c.source-item.result _ _ _ c.loop-source.tally c.in_ok-after.field-0 is
-    c.loop-source.invariant c.in-None.is c.in_ok-after.ensures.finished
+    bails _ c.args.how c.args.sources.now c.loop-source.source-index c.source-item.result _ _ _ c.loop-source.tally c.in_ok-after.field-0
+    c.loop-source-test.true c.source-item.is c.loop-source.invariant c.in-None.is c.in_ok-after.ensures.finished
 
 pub loop-source-preserved : goal.loop-source-preserved
 loop-source-preserved g c =
-    let is = slice_get_read c.args.sources.now (length c.args.sources.now) c.loop-source.source-index c.source-item.result refl
-    c.loop-source-test.true c.source-item.is in
     one_more_tested _ c.args.how c.args.sources.now c.loop-source.source-index c.source-item.result _ _ _ c.loop-source.tally c.in-Some.after
-    c.in_ok-after.field-0 is c.loop-source.invariant c.in-Some.is c.in_ok-after.ensures.finished
+    c.in_ok-after.field-0 c.loop-source-test.true c.source-item.is c.loop-source.invariant c.in-Some.is c.in_ok-after.ensures.finished

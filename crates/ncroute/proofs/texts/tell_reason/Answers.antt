@@ -6,4 +6,4 @@ use Rattle.ncroute.proofs.texts.tell_reason.Goals as goal
 
 pub returns-in_err-words-clause-err : goal.returns-in_err-words-clause-err
 returns-in_err-words-clause-err g c =
-    of_error c.from_residual.result _ (Stream Memory) c.from_residual.ensures.1 (nothing_told c.args.source.now _)
+    of_error c.from_residual.result _ (Stream Memory) c.from_residual.ensures.1 (nothing_told c.args.name.now c.args.code.now _)

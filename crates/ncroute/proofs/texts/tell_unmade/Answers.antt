@@ -1,9 +1,0 @@
-use Rattle.filter_commands.specs.declared.fault.ProgramFault.TheVariants.{Stream}
-use Rattle.filter_source.proofs.Refused.{of_error}
-use Rattle.line_protocol.specs.declared.faults.StreamFault.TheVariants.{Memory}
-use Rattle.ncroute.proofs.Untold.{nothing_told_of}
-use Rattle.ncroute.proofs.texts.tell_unmade.Goals as goal
-
-pub returns-in_err-words-clause-err : goal.returns-in_err-words-clause-err
-returns-in_err-words-clause-err g c =
-    of_error c.from_residual.result _ (Stream Memory) c.from_residual.ensures.1 (nothing_told_of c.args.name.now _)
