@@ -1,15 +1,13 @@
 //! A filter's text: read, judged and compiled, with memory and without.
 
 use crate::asserts::{Host, done};
-use crate::line_tests::make_sink;
 use expectations::Answered;
 use filter_code::{Code, Instr};
 use filter_compiler::{compile, compile_mapped};
-use filter_parser::{Filter, parse};
+use filter_parser::{Command, Expr, Filter, Kind, Membership, Op, Target, parse};
 use filter_types::{Typed, check};
 use prefix_patterns::{Ip, Pattern, Prefix};
 use std::alloc::Global;
-use std::fmt::Write;
 
 /// Has what trees and code are built from: a declaration, an assignment, a sum, a suffix, parentheses, `!`, comparisons, a set, a
 /// block, and an `if` in an `if`.
@@ -18,13 +16,6 @@ const TEXT: &str =
 
 /// Has labels of a `case`, which are judged together.
 const CASE: &str = "filter c { case rip_metric { 1, 3..5: accept; else: reject; } }";
-
-/// The variable and the commands of the text `TEXT`, as the tree is shown. Numbers in front are places in the text.
-const TREE: &str = "[Decl { at: 15, kind: Int, name: [97] }] \
-    [Assign(18, Name([97]), Chain(Number(22, 1), [(24, Add, Suffixed(Attribute(26, Net), [Len]))])), \
-    If(35, Not(38, Group(39, Chain(Name(40, [97]), [(42, Greater, Number(44, 9))]))), \
-    If(52, Member(In, Attribute(55, Net), Set { at: 61, members: Patterns([OrLonger(62, Prefix { address: 167772160, len: 8 })]) }), \
-    Block(80, [Accept(82, false)]), Some(Reject(97, false))), None)]";
 
 /// Where the instructions of that text come from.
 const PLACES: [usize; 20] = [
@@ -55,12 +46,32 @@ const INSTRS: [Instr; 20] = [
     Instr::Reject,
 ];
 
-/// Whether a filter is that of the text `TEXT`.
+/// Whether a filter is that of the text `TEXT`: its names, and the shape and the places of its commands. Its code says the rest.
 fn is_tree(filter: &Filter) -> bool {
-    let mut shown = make_sink(1000, 1000);
-    let is_shown = write!(shown, "{:?} {:?}", filter.decls(), filter.body()).is_ok();
-    let is_named = filter.name() == b"f".as_slice() && filter.tokens().len() == 38;
-    is_shown && shown.text() == TREE.as_bytes() && is_named
+    let [declared] = filter.decls() else {
+        return false;
+    };
+    let [
+        Command::Assign(18, Target::Name(assigned), Expr::Binary(sum)),
+        Command::If(35, Expr::Not(38, condition), inner, None),
+    ] = filter.body()
+    else {
+        return false;
+    };
+    let is_sum = matches!(
+        **sum,
+        (Expr::Number(22, 1), 24, Op::Add, Expr::Suffixed(_, _))
+    );
+    let is_condition = matches!(**condition, Expr::Group(39, _));
+    let is_inner = matches!(
+        **inner,
+        Command::If(52, Expr::Member(Membership::In, _, _), _, Some(_))
+    );
+    let is_declared = declared.at == 15
+        && declared.kind == Kind::Int
+        && declared.name == b"a".as_slice();
+    let is_named = filter.name() == b"f".as_slice() && assigned.as_slice() == b"a".as_slice();
+    is_sum && is_condition && is_inner && is_declared && is_named && filter.tokens().len() == 38
 }
 
 /// Whether a code is that of the text `TEXT`.
