@@ -69,7 +69,7 @@ fn is_tree(filter: &Filter) -> bool {
     );
     let is_declared = declared.at == 15
         && declared.kind == Kind::Int
-        && declared.name == b"a".as_slice();
+        && declared.name.as_slice() == b"a".as_slice();
     let is_named = filter.name() == b"f".as_slice() && assigned.as_slice() == b"a".as_slice();
     is_sum && is_condition && is_inner && is_declared && is_named && filter.tokens().len() == 38
 }

@@ -49,7 +49,7 @@ fn instructions_are_listed(rt: HostRuntime) {
     let listed = write_listing(rt.alloc(), ACCEPT, &mut short, None, false);
     must(
         &rt,
-        listed == Err(ProgramFault::WRITE),
+        matches!(listed, Err(ProgramFault::WRITE)),
         "an output that fails",
     )
 }
