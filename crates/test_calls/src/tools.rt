@@ -1,7 +1,6 @@
 //! What no command shows of `filter_tools`: the places of an editor, a listing of a text without a name, and words about the lines of `eval`.
 
 use crate::asserts::{done, must, must_bytes};
-use filter_commands::ProgramFault;
 use filter_tools::{Routes, eval_named, place_in, write_listing};
 
 /// A text with line feeds, a tab and a character of several bytes.
@@ -49,7 +48,7 @@ fn instructions_are_listed(rt: HostRuntime) {
     let listed = write_listing(rt.alloc(), ACCEPT, &mut short, None, false);
     must(
         &rt,
-        matches!(listed, Err(ProgramFault::WRITE)),
+        matches!(listed, Err(fault) if fault.code() == "E2"),
         "an output that fails",
     )
 }
