@@ -1,3 +1,4 @@
 pub mod Filters
+pub mod Readings
 pub mod Sources
 pub mod Telling

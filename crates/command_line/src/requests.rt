@@ -1,5 +1,7 @@
 //! What the program is asked to do, and the words that ask for it. Those of `diff`, `lint` and `test` stand apart.
 ghost use Rattle.std.specs.Prelude.{◌≡◌, [], ◌∷◌, IfOk, map};
+ghost use Rattle.std.specs.List.{list_any};
+ghost use Rattle.command_line.specs.Readings as spec;
 ghost use Rattle.command_line.specs.Sources.{AreNamed, AreSources, IsNamed};
 
 use crate::diff_words::{Comparing, USUAL_LIMIT};
@@ -25,7 +27,9 @@ pub enum Source {
 
 impl Source {
     /// Whether it is standard input.
-    pub fn is_input(&self) -> bool {
+    pub fn is_input(&self) -> bool
+        ensures { result ≡ spec.is_input self.now }
+    {
         matches!(self, Source::Input)
     }
 }
@@ -250,7 +254,9 @@ pub fn sources_in(alloc: Global, names: &[&str]) -> Result<Vec<Source>, AllocErr
 }
 
 /// Whether one of these sources is a file.
-pub fn has_files(sources: &[Source]) -> bool {
+pub fn has_files(sources: &[Source]) -> bool
+    ensures { result ≡ list_any spec.is_file sources.now }
+{
     sources.iter().any(|source| !source.is_input())
 }
 

@@ -1,4 +1,7 @@
 //! Which of the standard streams are terminals.
+ghost use Rattle.std.specs.Prelude.{◌≡◌, ◌-◌, ◌^◌, ◌&&◌, min, nat_lt};
+ghost use Rattle.command_line.specs.Readings as spec;
+
 use crate::filter_words::NamedFile;
 use crate::requests::{Request, Source};
 use crate::words::Words;
@@ -13,12 +16,16 @@ pub struct Terminals {
 }
 
 /// How many of these sources are standard input.
-fn inputs_among(sources: &[Source]) -> usize {
+fn inputs_among(sources: &[Source]) -> usize
+    ensures { result ≡ spec.inputs_among sources.now }
+{
     sources.iter().filter(|source| source.is_input()).count()
 }
 
 /// How many of these filters are on standard input.
-fn filters_among(filters: &[NamedFile]) -> usize {
+fn filters_among(filters: &[NamedFile]) -> usize
+    ensures { result ≡ spec.filters_among filters.now }
+{
     filters
         .iter()
         .filter(|named| named.source.is_input())
@@ -26,7 +33,9 @@ fn filters_among(filters: &[NamedFile]) -> usize {
 }
 
 /// How often what is asked for reads standard input to its end. A router reads what is left of it, if anything is.
-fn count_readings(words: &Words) -> usize {
+fn count_readings(words: &Words) -> usize
+    ensures { result ≡ min (spec.readings words.now) (2 ^ 64 - 1) }
+{
     match words {
         Words::Router(words) => filters_among(words.filters.as_slice()).max(1),
         Words::Asked(
@@ -55,12 +64,16 @@ fn count_readings(words: &Words) -> usize {
 }
 
 /// Whether what is asked for reads standard input more than once, and would find nothing there the second time.
-pub fn reads_input_again(words: &Words) -> bool {
+pub fn reads_input_again(words: &Words) -> bool
+    ensures { result ≡ nat_lt 1 (spec.readings words.now) }
+{
     count_readings(words) > 1
 }
 
 /// Whether people are waited for: standard input is read, and they type it.
-pub fn waits_for_people(words: &Words, terminals: Terminals) -> bool {
+pub fn waits_for_people(words: &Words, terminals: Terminals) -> bool
+    ensures { result ≡ terminals.input && nat_lt 0 (spec.readings words.now) }
+{
     terminals.input && count_readings(words) > 0
 }
 

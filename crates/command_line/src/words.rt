@@ -1,4 +1,7 @@
 //! The words of the command line.
+ghost use Rattle.std.specs.Prelude.{◌≡◌, ◌≤◌, IfOk};
+ghost use Rattle.command_line.specs.Readings.{readings};
+
 use crate::arguments::Readable;
 use crate::classes::page_of;
 use crate::commands::program;
@@ -41,7 +44,9 @@ pub enum Words {
 pub fn read<R: Env + AllocGlobal + Print + Eprint>(
     rt: &R,
     terminals: Terminals,
-) -> Result<Words, StreamFault> {
+) -> Result<Words, StreamFault>
+    ensures once { IfOk result (λ asked. readings asked ≤ 1) }
+{
     let alloc = rt.alloc();
     // All words are text here, so that want of memory alone keeps them from being read.
     let words = env::args(&(Readable { env: rt }, alloc)).map_err(|_| StreamFault::Memory)?;
@@ -55,7 +60,9 @@ pub fn request_of<R: Print + Eprint, S: AsStr>(
     alloc: Global,
     words: &[S],
     terminals: Terminals,
-) -> Result<Words, StreamFault> {
+) -> Result<Words, StreamFault>
+    ensures once { IfOk result (λ asked. readings asked ≤ 1) }
+{
     let program = program(alloc).map_err(|_| StreamFault::Memory)?;
     match program.try_get_matches_from(words) {
         Ok(matches) => match words_in(rt, alloc, &matches, terminals) {
@@ -67,7 +74,9 @@ pub fn request_of<R: Print + Eprint, S: AsStr>(
 }
 
 /// These words, unless they ask for standard input more than once.
-fn reading_once<R: Eprint>(rt: &R, words: Words) -> Words {
+fn reading_once<R: Eprint>(rt: &R, words: Words) -> Words
+    ensures { readings result ≤ 1 }
+{
     if !reads_input_again(&words) {
         return words;
     }
@@ -194,7 +203,9 @@ fn show_wrong_filter<R: Eprint>(rt: &R, wrong: WrongFilter<'_>) -> Words {
 
 /// Shows what the parser of words answered in place of matches: help on standard output, or what is wrong with the words on
 /// standard error. Wrong words have their status also where standard error takes no text.
-fn show<R: Print + Eprint>(rt: &R, error: &Error) -> Result<Words, StreamFault> {
+fn show<R: Print + Eprint>(rt: &R, error: &Error) -> Result<Words, StreamFault>
+    ensures { IfOk result (λ shown. readings shown ≡ 0) }
+{
     if error.kind() == ErrorKind::OutOfMemory {
         return Err(StreamFault::Memory);
     }
