@@ -152,7 +152,7 @@ fn expect_verified<R: Host>(rt: &R, verified: &Verified) {
 fn verified_code_is_what_was_handed_in(rt: HostRuntime) {
     match verify(rt.alloc(), code_of(&rt, &RAISED), 8) {
         Ok(verified) => expect_verified(&rt, &verified),
-        Err((_, fault)) => rt.panic(format_args!("{fault:?}")),
+        Err((_, fault)) => rt.panic(format_args!("error: {fault:?}")),
     }
 }
 

@@ -19,7 +19,7 @@ fn both<R: Host>(rt: &R, code: Code, route: &Route) -> (Ran, Outcome) {
             let ran = run(&verified, &route.net(), metric);
             (ran, run_checked(verified.code(), route))
         }
-        Err((_, fault)) => rt.panic(format_args!("{fault:?}")),
+        Err((_, fault)) => rt.panic(format_args!("error: {fault:?}")),
     }
 }
 

@@ -141,7 +141,7 @@ pub fn verified<R: Host>(rt: &R) -> Answered {
             must(rt, is_two_ways(&code), "the same code");
             match verify(rt.alloc(), code, 8) {
                 Ok(verified) => must(rt, is_verified(&verified), "verified again"),
-                Err((_, again)) => rt.panic(format_args!("{again:?}")),
+                Err((_, again)) => rt.panic(format_args!("error: {again:?}")),
             }
             Err(fault.code())
         }

@@ -130,7 +130,7 @@ fn rejecting<R: Host>(rt: &R) -> Arc<Verified> {
     );
     match verify(rt.alloc(), code, 3) {
         Ok(verified) => done(rt, Arc::new(rt.alloc(), verified)),
-        Err((_, fault)) => rt.panic(format_args!("{fault:?}")),
+        Err((_, fault)) => rt.panic(format_args!("error: {fault:?}")),
     }
 }
 

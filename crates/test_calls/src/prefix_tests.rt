@@ -171,7 +171,7 @@ fn is_set_of<R: Host>(rt: &R, pattern: &Pattern, count: usize) -> bool {
     match PatternSet::build(rt.alloc(), &patterns) {
         Ok(set) => set.patterns() == patterns.as_slice() && set.matches(&pattern.prefix()),
         Err(SetFault::TooManyPatterns) => false,
-        Err(fault) => rt.panic(format_args!("{fault:?}")),
+        Err(fault) => rt.panic(format_args!("error: {fault:?}")),
     }
 }
 

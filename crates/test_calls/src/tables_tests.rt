@@ -150,7 +150,7 @@ fn filter<R: Host>(rt: &R) -> Arc<Verified> {
     );
     match verify(rt.alloc(), code, 4) {
         Ok(verified) => done(rt, Arc::new(rt.alloc(), verified)),
-        Err((_, fault)) => rt.panic(format_args!("{fault:?}")),
+        Err((_, fault)) => rt.panic(format_args!("error: {fault:?}")),
     }
 }
 
