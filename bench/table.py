@@ -24,7 +24,7 @@ EVAL = (
     ("200,000 routes through a test for a set of 1,024 patterns", "set_of_1024"),
     ("200,000 routes through a `case` of 64 parts", "case_of_64"),
     ("100,000 routes through 1,000 instructions of arithmetic and branches", "straight_filter"),
-    ("the same, all routes of networks of 64 nodes", "straight_filter 100000 1 64"),
+    ("the same, all routes of a domain of 64 nodes", "straight_filter 100000 1 64"),
 )
 CHECK = (
     ("61 KB of tests for sets of 100 patterns each", "text_of_sets"),
