@@ -312,24 +312,17 @@ pub(crate) fn carry_out(
     Ok(())
 }
 
-/// Runs a code on a route, and answers how the run ends and after how many steps. The step that ends the run counts.
-/// It allocates nothing.
+/// Runs a code on a route step by step from its first instruction, and answers how the run ends and after how many steps.
 ///
-/// It is inlined, since a call of it would take longer than a run of code that only accepts.
-#[inline(always)]
-pub fn run_counted(code: &Code, route: &Route) -> Counted
+/// It is a function of its own, so that the loop over steps stands once in a program, and not in each caller of
+/// `run_counted`.
+#[inline(never)]
+fn run_steps(code: &Code, route: &Route) -> Counted
     ensures outcome { result.outcome ≡ outcome_of code.now route.now }
     ensures steps { EndsAfter code.now route.now result.steps result.outcome }
     ensures accepted { (d : ℕ) → result.outcome ≡ Outcome.Accept d → (route.now.metric ≤ d) × (d ≤ route.now.size) }
 {
     let instrs = code.instrs();
-    // Code that begins with ACCEPT, as a filter that accepts everything does, needs no stack.
-    if let Some(Instr::Accept) = instrs.first() {
-        return Counted {
-            outcome: Outcome::Accept(route.metric()),
-            steps: 1,
-        };
-    }
     let mut stack = [Tagged::int(0); STACK_LIMIT];
     let mut depth = 0;
     let mut locals = Locals::new(code.locals());
@@ -361,6 +354,26 @@ pub fn run_counted(code: &Code, route: &Route) -> Counted
         outcome: Outcome::Fault(FaultKind::OutsideCode, pc),
         steps: steps + 1,
     }
+}
+
+/// Runs a code on a route, and answers how the run ends and after how many steps. The step that ends the run counts.
+/// It allocates nothing.
+///
+/// It is inlined, since a call of it would take longer than a run of code that only accepts.
+#[inline(always)]
+pub fn run_counted(code: &Code, route: &Route) -> Counted
+    ensures outcome { result.outcome ≡ outcome_of code.now route.now }
+    ensures steps { EndsAfter code.now route.now result.steps result.outcome }
+    ensures accepted { (d : ℕ) → result.outcome ≡ Outcome.Accept d → (route.now.metric ≤ d) × (d ≤ route.now.size) }
+{
+    // Code that begins with ACCEPT, as a filter that accepts everything does, needs no stack.
+    if let Some(Instr::Accept) = code.instrs().first() {
+        return Counted {
+            outcome: Outcome::Accept(route.metric()),
+            steps: 1,
+        };
+    }
+    run_steps(code, route)
 }
 
 /// Runs a code on a route, and answers how the run ends. It allocates nothing.

@@ -54,6 +54,7 @@ impl Running {
     }
 
     /// Takes one step, and answers how it ends the run, if it does. What the run holds after its end is unspecified.
+    #[inline(never)]
     pub fn step(&mut self, code: &Code, route: &Route) -> Option<Outcome>
         ensures { MatchOption result (step code.now route.now self.old ≡ Going self.new)
             (λ end. step code.now route.now self.old ≡ Ended end) }

@@ -1,7 +1,7 @@
 use Rattle.std.proofs.Common.{◌≡◌, ◌≤◌, ◌-◌, length}
 use Rattle.filter_code.specs.Steps.{config_of, operands_in}
 use Rattle.filter_code.proofs.Runs.{ReachesIn}
-use Rattle.filter_code.proofs.machine.run_counted.Given as goal
+use Rattle.filter_code.proofs.machine.run_steps.Given as goal
 
 -- the run comes in so many steps to the configuration that the variables are
 abbrev pub invariant-loop-instr : goal.invariant-loop-instr
