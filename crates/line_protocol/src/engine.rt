@@ -16,6 +16,7 @@ use crate::streams::{read_some, write_text};
 use memchr::memchr;
 use std::alloc::{AllocError, Global};
 use std::io::{Read, Write};
+use std::simd::prelude::*;
 
 /// The least room that a read is given.
 pub(crate) const BLOCK: usize = 65_536;
@@ -61,8 +62,30 @@ fn is_skipped(line: &[u8]) -> bool
     }
 }
 
-/// The place of the first line feed from `from` on, or the length where none is left.
-fn find_line_feed(bytes: &[u8], from: usize) -> usize
+/// The number of bytes that are looked at together for the end of a short line.
+const NEAR: usize = 32;
+
+/// How many of the next `NEAR` bytes stand before the first line feed among them: all where none is.
+#[inline(always)]
+fn count_before_feed(bytes: &[u8], from: usize) -> usize
+    requires { from + NEAR ≤ length bytes.now }
+    ensures within { result ≤ NEAR }
+    ensures none { NoneEnds bytes.now from (from + result) }
+    ensures found { result < NEAR → slice_index bytes.now (from + result) ≡ 10 }
+{
+    let feeds = u8x32::from_slice(&bytes[from..])
+        .simd_eq(u8x32::splat(b'\n'))
+        .to_bitmask();
+    if feeds == 0 {
+        NEAR
+    } else {
+        feeds.trailing_zeros() as usize
+    }
+}
+
+/// What `find_line_feed` returns, by a search that is meant for long lines.
+#[inline(never)]
+fn find_far_line_feed(bytes: &[u8], from: usize) -> usize
     requires { from ≤ length bytes.now }
     ensures low { from ≤ result }
     ensures within { result ≤ length bytes.now }
@@ -72,6 +95,26 @@ fn find_line_feed(bytes: &[u8], from: usize) -> usize
     match memchr(b'\n', &bytes[from..]) {
         Some(place) => from + place,
         None => bytes.len(),
+    }
+}
+
+/// The place of the first line feed from `from` on, or the length where none is left.
+#[inline(always)]
+fn find_line_feed(bytes: &[u8], from: usize) -> usize
+    requires { from ≤ length bytes.now }
+    ensures low { from ≤ result }
+    ensures within { result ≤ length bytes.now }
+    ensures none { NoneEnds bytes.now from result }
+    ensures found { result < length bytes.now → slice_index bytes.now result ≡ 10 }
+{
+    if bytes.len() - from < NEAR {
+        return find_far_line_feed(bytes, from);
+    }
+    let before = count_before_feed(bytes, from);
+    if before < NEAR {
+        from + before
+    } else {
+        find_far_line_feed(bytes, from + NEAR)
     }
 }
 

@@ -1,6 +1,6 @@
 use Rattle.std.proofs.Common.{◌+◌, length, arith}
 use Rattle.line_protocol.proofs.FeedLemmas.{length_behind, none_behind}
-use Rattle.line_protocol.proofs.engine.find_line_feed.Goals as goal
+use Rattle.line_protocol.proofs.engine.find_far_line_feed.Goals as goal
 
 pub returns-in-Some-clause-none : goal.returns-in-Some-clause-none
 returns-in-Some-clause-none c =
