@@ -12,7 +12,7 @@ use command_line::{Engine, Source};
 use domain_cmds::{run_domain, run_watched_domain};
 use filter_commands::ProgramFault;
 use line_protocol::{INPUT_LIMIT, StreamFault};
-use operator_cmds::{run_script, run_watched_script};
+use router_script::{run_script, run_watched_script};
 use std::alloc::Global;
 use std::io::{Read, Write};
 

@@ -17,5 +17,5 @@ pub mod Script
 pub mod Entries
 pub mod Running
 pub mod Alike
--- What contracts see of a script.
+-- What contracts see of the filters that have names.
 pub mod State

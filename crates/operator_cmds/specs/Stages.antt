@@ -4,19 +4,12 @@ use Rattle.netchange_core.specs.Calls.{session_of}
 use Rattle.netchange_core.specs.OpeningView.{OpeningView}
 use Rattle.route_history.specs.History.{world_of}
 use Rattle.route_history.specs.JournalView.{JournalView}
-use Rattle.operator_cmds.specs.declared.stage.Stage.{Stage}
-use Rattle.operator_cmds.specs.declared.stage.Stage.TheVariants as stage
 
 -- before `network`; with a domain that is set up, and the limit of the history; with a router's journal
 pub data StageView : Type 0 where
   Empty : StageView
   Setting : OpeningView → ℕ → StageView
   Open : JournalView → StageView
-
-abbrev pub stage_of : Stage → StageView
-stage_of stage.Empty = Empty
-stage_of (stage.Setting setup) = Setting setup.opening setup.limit
-stage_of (stage.Open journal) = Open journal
 
 -- a journal without entries
 abbrev pub new_journal : OpeningView → ℕ → JournalView

@@ -1,4 +1,4 @@
--- What contracts see of a script between two lines.
+-- What contracts see of the filters that have names.
 use Rattle.std.specs.Prelude.{ℕ, List, Option, Vec}
 use Rattle.std.specs.BTreeMap.{BTreeMap, get_by}
 use Rattle.std.specs.Cmp.Lexicographic.{slice_cmp}
@@ -7,13 +7,7 @@ use Rattle.std.specs.Ordering.{nat_cmp}
 use Rattle.std.specs.declared.sync.Arc.{Arc}
 use Rattle.std.proofs.Common.{Global}
 use Rattle.filter_verifier.specs.VerifiedView.{VerifiedView}
-use Rattle.operator_cmds.specs.Script.{ScriptView}
-use Rattle.operator_cmds.specs.Stages.{stage_of}
-use Rattle.operator_cmds.specs.declared.script.Script.{Script}
 
 -- the filter of a name
 abbrev pub filter_at : BTreeMap (Vec ℕ Global) (Arc VerifiedView Global) → List ℕ → Option VerifiedView
 filter_at filters name = option_map (λ f. f.value) (get_by (λ key. slice_cmp nat_cmp name key.items) filters)
-
-abbrev pub script_of : Script → ScriptView
-script_of script = record { stage = stage_of script.stage; filters = filter_at script.filters }

@@ -53,7 +53,7 @@ impl CommandFault {
 
 /// Why the state of the script refuses a command.
 #[derive(Clone, Copy, PartialEq, Eq)]
-pub(crate) enum StateFault {
+pub enum StateFault {
     /// O4: no domain is set up.
     NoNetwork,
     /// O5: the domain or the journal is there already.
@@ -66,7 +66,7 @@ impl StateFault {
     ghost use Rattle.operator_cmds.specs.Faults.{state_code};
 
     /// The code that names the fault.
-    pub(crate) fn code(self) -> &'static str
+    pub fn code(self) -> &'static str
         ensures { result.now ≡ state_code self }
     {
         match self {

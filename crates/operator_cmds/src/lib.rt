@@ -1,7 +1,8 @@
-//! The operator's script: its commands, and the answers to them.
+//! The operator's commands: how they are read, and what is answered to them.
 #![tactic(auto)]
 
 mod command;
+mod domain;
 mod event;
 mod fault;
 mod filter;
@@ -11,24 +12,22 @@ mod name;
 mod plain;
 mod read;
 mod reply;
-mod script;
-mod stage;
 mod verb;
 mod watch;
 mod words;
 
 pub use command::{Command, Look, Network};
-pub use event::Direction;
-pub use fault::CommandFault;
+pub use domain::default_prefixes;
+pub use event::{Direction, enter};
+pub use fault::{CommandFault, StateFault};
 pub use filter::{NamedFilters, Source, give_name, name_source, verify_text};
 pub use laws::{one_line_one_entry, two_runs_are_answered_alike};
 pub use look::{answer_history, answer_look};
 pub use name::is_name;
+pub use plain::{PlainCommand, read_plain};
 pub use read::{read_code, read_command, read_load, read_node, read_node_prefix, read_small};
 pub use reply::{answer_reply, confirm, push_via, refuse};
-pub use script::{Script, ScriptFault, run_script};
-pub use stage::default_prefixes;
-pub use watch::{Nobody, RefusedLine, Watch, run_watched_script};
+pub use watch::{Nobody, RefusedLine, Watch};
 pub use words::{cut_word, one_word, text_in, three_words, two_words};
 
 /// A number of a command, the limit of a history excepted, is at most this.

@@ -1,5 +1,5 @@
 -- What contracts see of a script that was started with filters.
-use Rattle.operator_cmds.specs.State.{script_of}
+use Rattle.router_script.specs.State.{script_of}
 use Rattle.script_runs.specs.Naming.{PreparedView}
 use Rattle.script_runs.specs.declared.naming.Prepared.{Prepared}
 

@@ -3,7 +3,7 @@ ghost use Rattle.std.specs.Prelude.{◌≡◌, IfOk, OnErr, OnOk};
 ghost use Rattle.std.specs.Io.{StartsWith};
 ghost use Rattle.operator_cmds.specs.Replies.{Answers};
 ghost use Rattle.operator_cmds.specs.Script.{Names};
-ghost use Rattle.operator_cmds.specs.State.{script_of};
+ghost use Rattle.router_script.specs.State.{script_of};
 ghost use Rattle.script_runs.specs.Naming as spec;
 ghost use Rattle.script_runs.specs.News as news;
 ghost use Rattle.script_runs.specs.State.{prepared_of};
@@ -11,7 +11,8 @@ ghost use Rattle.script_runs.specs.State.{prepared_of};
 use filter_source::{Diagnosis, Failure};
 use filter_verifier::Verified;
 use line_protocol::{Reply, Service};
-use operator_cmds::{Script, verify_text};
+use operator_cmds::verify_text;
+use router_script::Script;
 use std::alloc::{AllocError, Global};
 use std::sync::Arc;
 

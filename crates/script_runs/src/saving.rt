@@ -2,7 +2,7 @@
 ghost use Rattle.std.specs.Prelude.{◌≡◌, ◌++◌, IfErr, IfOk, IfSome, OnErr, OnOk};
 ghost use Rattle.std.specs.Io.{StartsWith};
 ghost use Rattle.std.specs.Io.KnownBytes.{Appends};
-ghost use Rattle.operator_cmds.specs.State.{script_of};
+ghost use Rattle.router_script.specs.State.{script_of};
 ghost use Rattle.script_runs.specs.News as spec;
 ghost use Rattle.script_runs.specs.Running.{IsSaved, IsSavedInPart};
 ghost use Rattle.script_runs.specs.State.{prepared_of};
@@ -11,8 +11,9 @@ ghost use Rattle.script_runs.specs.Stopping as stopping;
 use crate::naming::{NamedFilter, Prepared, Unfit};
 use history_file::{write_entry, write_opening};
 use line_protocol::{Reply, Service, StreamFault, answer_lines, write_text};
-use operator_cmds::{Script, ScriptFault, Watch};
+use operator_cmds::Watch;
 use route_history::{Journal, LARGEST_LIMIT};
+use router_script::{Script, ScriptFault};
 use std::alloc::{AllocError, Global};
 use std::io::{Read, Write};
 

@@ -3,7 +3,7 @@
 use crate::line_tests::{Echo, make_pieces, make_sink};
 use expectations::Answered;
 use line_protocol::answer_lines;
-use operator_cmds::run_script;
+use router_script::run_script;
 use std::alloc::Global;
 
 /// Whether a text is some of the first lines of another.

@@ -2,7 +2,8 @@
 
 use crate::asserts::{must, must_bytes};
 use crate::streams::{FailingReader, FailingWriter};
-use operator_cmds::{Nobody, ScriptFault};
+use operator_cmds::Nobody;
+use router_script::ScriptFault;
 use script_runs::run_saved_script;
 use std::alloc::Global;
 use std::io::{ErrorKind, Read};

@@ -5,7 +5,7 @@ use crate::line_tests::Echo;
 use crate::streams::{FailingReader, FailingWriter, Terminal};
 use filter_commands::{ProgramFault, check_text, eval_lines};
 use line_protocol::{StreamFault, answer_lines};
-use operator_cmds::run_script;
+use router_script::run_script;
 use std::alloc::Global;
 use std::io::{ErrorKind, Read, Write};
 

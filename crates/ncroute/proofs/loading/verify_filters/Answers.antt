@@ -1,4 +1,4 @@
-use Rattle.operator_cmds.specs.State.{script_of}
+use Rattle.router_script.specs.State.{script_of}
 use Rattle.ncroute.proofs.Loaded.{loaded, unfit}
 use Rattle.ncroute.proofs.loading.verify_filters.Goals as goal
 

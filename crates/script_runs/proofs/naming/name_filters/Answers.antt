@@ -1,5 +1,5 @@
 -- Each filter that is verified gets its name; the first that is refused is told.
-use Rattle.operator_cmds.specs.State.{script_of}
+use Rattle.router_script.specs.State.{script_of}
 use Rattle.script_runs.proofs.Named.{gets_name, next_named, stopped_at}
 use Rattle.script_runs.proofs.naming.name_filters.Goals as goal
 

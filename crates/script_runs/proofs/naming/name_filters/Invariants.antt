@@ -1,5 +1,5 @@
 use Rattle.std.proofs.Common.{take}
-use Rattle.operator_cmds.specs.State.{script_of}
+use Rattle.router_script.specs.State.{script_of}
 use Rattle.script_runs.specs.Naming.{GetNames}
 use Rattle.script_runs.proofs.naming.name_filters.Given as goal
 

@@ -1,6 +1,6 @@
 -- The line that sets the domain up is answered by what becomes of the filters.
 use Rattle.std.proofs.Common.{◌≡◌, arith, length, sym, ◌∙◌}
-use Rattle.operator_cmds.specs.State.{script_of}
+use Rattle.router_script.specs.State.{script_of}
 use Rattle.script_runs.specs.State.{prepared_of}
 use Rattle.script_runs.proofs.Named.{prepared}
 use Rattle.script_runs.proofs.naming.Prepared.answer.Goals as goal

@@ -1,6 +1,6 @@
 -- A domain whose numbers fit is an opening.
 use Rattle.operator_cmds.proofs.Openings.{is_opening, is_there}
-use Rattle.operator_cmds.proofs.stage.Setup.new.Goals as goal
+use Rattle.router_script.proofs.stage.Setup.new.Goals as goal
 
 pub unwrap-opening-requires : goal.unwrap-opening-requires
 unwrap-opening-requires c =

@@ -2,20 +2,17 @@
 ghost use Rattle.std.specs.Prelude.{◌≡◌, IfErr, IfOk, IfSome};
 ghost use Rattle.operator_cmds.specs.Running.{IsBrokenOff, IsCarriedOut};
 
-use crate::command::{Command, Look, Network};
-use crate::event::{Direction, enter};
-use crate::fault::{CommandFault, StateFault};
-use crate::filter::{NamedFilters, Source, give_name, name_source};
-use crate::look::{answer_history, answer_look};
-use crate::plain::{PlainCommand, read_plain};
-use crate::read::read_command;
-use crate::reply::{confirm, refuse};
 use crate::stage::{Setup, Stage};
-use crate::watch::{Nobody, RefusedLine, run_watched_script};
+use crate::watch::run_watched_script;
 use filter_source::Diagnosis;
 use filter_verifier::Verified;
 use line_protocol::{Reply, Service, StreamFault};
 use netchange_core::Event;
+use operator_cmds::{
+    Command, CommandFault, Direction, Look, NamedFilters, Network, Nobody, PlainCommand,
+    RefusedLine, Source, StateFault, answer_history, answer_look, confirm, enter, give_name,
+    name_source, read_command, read_plain, refuse,
+};
 use prefix_patterns::Prefix;
 use route_history::Journal;
 use std::alloc::{AllocError, Global};
@@ -40,7 +37,7 @@ pub struct Script {
 impl Service for Script {
     ghost use Rattle.std.specs.Prelude.{⊤};
     ghost use Rattle.operator_cmds.specs.Script.{AnswersLine};
-    ghost use Rattle.operator_cmds.specs.State.{script_of};
+    ghost use Rattle.router_script.specs.State.{script_of};
 
     ghost answers = { λ before number line answer after. AnswersLine (script_of before) number line answer (script_of after) };
 
@@ -70,8 +67,9 @@ impl Script {
     ghost use Rattle.operator_cmds.specs.PlainLines.{plain_view};
     ghost use Rattle.operator_cmds.specs.Replies.{Answers, answered};
     ghost use Rattle.operator_cmds.specs.Script as spec;
-    ghost use Rattle.operator_cmds.specs.Stages.{stage_of, session_in, size_in};
-    ghost use Rattle.operator_cmds.specs.State.{filter_at, script_of};
+    ghost use Rattle.operator_cmds.specs.Stages.{session_in, size_in};
+    ghost use Rattle.operator_cmds.specs.State.{filter_at};
+    ghost use Rattle.router_script.specs.State.{script_of, stage_of};
 
     /// A script at its first line.
     pub fn new(alloc: Global) -> Script

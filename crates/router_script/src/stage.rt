@@ -1,20 +1,13 @@
 //! How far a script has come: whether a domain is set up, and whether its router runs.
-ghost use Rattle.std.specs.Prelude.{◌≡◌, ◌<◌, ◌≤◌, ◌+◌, ◌*◌, ◌^◌, IfOk, OnOk, length, slice_set};
-ghost use Rattle.prefix_patterns.specs.Bits.{prefix_bits};
+ghost use Rattle.std.specs.Prelude.{◌≡◌, ◌<◌, ◌≤◌, IfOk, OnOk, length, slice_set};
 ghost use Rattle.operator_cmds.specs.Domain as spec;
 ghost use Rattle.operator_cmds.specs.Limits.{largest_limit};
 
-use crate::command::Network;
 use netchange_core::Opening;
-use prefix_patterns::{Ip, Prefix};
+use operator_cmds::{Network, default_prefixes};
+use prefix_patterns::Prefix;
 use route_history::{Journal, LARGEST_LIMIT};
 use std::alloc::{AllocError, Global};
-
-/// The address from which the default prefixes are counted, 10.0.0.0.
-const FIRST_ADDRESS: u32 = 0x0a00_0000;
-
-/// The bits of a default prefix.
-const PREFIX_LENGTH: u8 = 16;
 
 /// A domain that is set up, while no event has opened the journal.
 #[derive(Drop)]
@@ -35,31 +28,6 @@ pub enum Stage {
     Setting(Setup),
     /// The router runs.
     Open(Journal),
-}
-
-/// The prefix of a node that no command set: 10.V.0.0/16 for node V.
-fn default_prefix(node: u16) -> Prefix
-    requires { node < 256 }
-    ensures { result ≡ spec.default_prefix node }
-{
-    Prefix::new(
-        Ip(FIRST_ADDRESS + (u32::from(node) << PREFIX_LENGTH)),
-        PREFIX_LENGTH,
-    )
-    .unwrap()
-}
-
-/// The prefixes of the nodes of a domain that no command set.
-#[tactic(auto, unfolding(crate::specs::Domain::default_prefixes))]
-pub fn default_prefixes(alloc: Global, size: u16) -> Result<Vec<Prefix>, AllocError>
-    requires { size ≤ 256 }
-    ensures { IfOk result (λ all. all.items ≡ spec.default_prefixes size) }
-{
-    let mut all = Vec::with_capacity(alloc, usize::from(size))?;
-    for node in 0..size {
-        all.push(default_prefix(node))?;
-    }
-    Ok(all)
 }
 
 impl Setup {
@@ -103,7 +71,8 @@ impl Setup {
 }
 
 impl Stage {
-    ghost use Rattle.operator_cmds.specs.Stages.{opened_stage, stage_of, session_in, size_in};
+    ghost use Rattle.operator_cmds.specs.Stages.{opened_stage, session_in, size_in};
+    ghost use Rattle.router_script.specs.State.{stage_of};
 
     /// The number of nodes of the domain, if one is set up.
     pub fn size(&self) -> Option<u16>

@@ -1,10 +1,10 @@
 -- The answer to a source, for domains of the script's size, is the script's.
 use Rattle.std.proofs.Common.{refl, sym, ◌∙◌}
 use Rattle.operator_cmds.specs.Script.{ScriptView, gives, lacks}
-use Rattle.operator_cmds.specs.Stages.{stage_of}
-use Rattle.operator_cmds.specs.State.{filter_at, script_of}
+use Rattle.operator_cmds.specs.State.{filter_at}
 use Rattle.operator_cmds.proofs.Sourced.{sourced}
-use Rattle.operator_cmds.proofs.script.Script.load.Goals as goal
+use Rattle.router_script.specs.State.{script_of, stage_of}
+use Rattle.router_script.proofs.script.Script.load.Goals as goal
 
 pub returns-in-Some-clause-ok : goal.returns-in-Some-clause-ok
 returns-in-Some-clause-ok c =

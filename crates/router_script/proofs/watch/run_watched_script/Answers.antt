@@ -1,11 +1,11 @@
 -- Each end follows from how the lines were answered.
 use Rattle.std.proofs.lemmas.Result.{IfErr-weaker, IfOk-weaker}
 use Rattle.operator_cmds.specs.Script.{AnswersLine, fresh}
-use Rattle.operator_cmds.specs.State.{script_of}
+use Rattle.router_script.specs.State.{script_of}
 use Rattle.operator_cmds.proofs.Ending.{goes_on}
 use Rattle.operator_cmds.proofs.Unended.{broken_off, carried_out}
 use Rattle.line_protocol.proofs.Viewed.{finishes, if_known, stops}
-use Rattle.operator_cmds.proofs.watch.run_watched_script.Goals as goal
+use Rattle.router_script.proofs.watch.run_watched_script.Goals as goal
 
 pub returns-clause-finished : goal.returns-clause-finished
 returns-clause-finished g c =

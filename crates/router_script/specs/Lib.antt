@@ -1,0 +1,2 @@
+-- What contracts see of a script.
+pub mod State

@@ -1,0 +1,9 @@
+//! The script of a router: it carries out an operator's commands, line after line.
+#![tactic(auto)]
+
+mod script;
+mod stage;
+mod watch;
+
+pub use script::{Script, ScriptFault, run_script};
+pub use watch::run_watched_script;
