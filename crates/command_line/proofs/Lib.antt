@@ -1,2 +1,4 @@
 pub mod Filtered
+pub mod Giving
+pub mod Meeting
 pub mod Naming

@@ -1,8 +1,16 @@
 -- How the sources of names follow one another.
-use Rattle.std.proofs.Common.{◌≡◌, ℕ, ◌+◌, ◌<◌, length, List, [], ◌∷◌, ◌++◌, map, take, get_or}
-use Rattle.std.proofs.lemmas.List.{map_more}
+use Rattle.std.proofs.Common.{◌≡◌, ◌∙◌, ◌<◌, ◌≤◌, ◌+◌, ℕ, zero, suc, Bool, true, false, refl, sym, ap, subst, arith, length, List, [], ◌∷◌, ◌++◌, map, take, get_or, nat_lt, add-one, lt-ltb}
+use Rattle.std.specs.Prelude.{Some, not, slice_get, unwrap_or}
+use Rattle.std.proofs.Math.Seq.{take-length}
+use Rattle.std.proofs.lemmas.List.{map-append, map_more}
+use Rattle.std.proofs.lemmas.Option.{slice_get-get_or}
+use Rattle.command_line.specs.Filters.{NameFirst, file_in}
+use Rattle.command_line.specs.Readings.{is_file, is_input}
+use Rattle.command_line.specs.Reads.{dash, filter_sources, or_input}
 use Rattle.command_line.specs.Sources.{AreNamed, IsNamed}
+use Rattle.command_line.specs.declared.filter_words.NamedFile.{NamedFile}
 use Rattle.command_line.specs.declared.requests.Source.{Source}
+use Rattle.command_line.specs.declared.requests.Source.TheVariants.{Input, File}
 
 -- one more name, with its source
 pub one_more : (names : List (List ℕ)) (sources : List Source) (name : List ℕ) (source : Source)
@@ -18,3 +26,42 @@ pub next_named : {X : Type 0} (f : X → List ℕ) (names : List X) (i : ℕ) (n
     → later ≡ sources ++ source ∷ [] → AreNamed (map f (take (i + 1) names)) later
 next_named f names i name sources later source within first one is =
     rw (map_more f names i name within, is) (one_more (map f (take i names)) sources (f (get_or names i name)) source first one)
+
+-- names and then others
+pub named_append : (names more : List (List ℕ)) (sources others : List Source) → AreNamed names sources → AreNamed more others
+    → AreNamed (names ++ more) (sources ++ others)
+named_append [] more [] others first then = then
+named_append (n ∷ ns) more (s ∷ ss) others first then = (first.0, named_append ns more ss others first.1 then)
+named_append [] more (s ∷ ss) others first then = absurd first
+named_append (n ∷ ns) more [] others first then = absurd first
+
+-- the files of the filters that words name
+filters_first : (words : List (List ℕ)) (n : ℕ) (filters : List NamedFile) → n ≤ length words → NameFirst words n filters
+    → AreNamed (map file_in (take n words)) (filter_sources filters)
+unfolding NameFirst
+filters_first words zero filters within none = rw none tt
+filters_first words (suc n) filters within (word, earlier, named, is, first, names, apart, grown) =
+    let below : n < length words = omega arith in
+    let same : word ≡ get_or words n word = let e = slice_get-get_or words n word below in cc in
+    let before = filters_first words n earlier (omega arith) first in
+    let source : IsNamed (file_in (get_or words n word)) named.source = subst (λ (w : List ℕ). IsNamed (file_in w) named.source) same names.source in
+    let after : filter_sources filters ≡ filter_sources earlier ++ named.source ∷ [] =
+    ap filter_sources grown ∙ map-append (λ (f : NamedFile). f.source) earlier (named ∷ []) in
+    let all = next_named file_in words n word (filter_sources earlier) (filter_sources filters) named.source below before source after in
+    rw add-one at all
+
+pub filters_named : (words : List (List ℕ)) (filters : List NamedFile) → NameFirst words (length words) filters
+    → AreNamed (map file_in words) (filter_sources filters)
+filters_named words filters are = subst (λ (l : List (List ℕ)). AreNamed (map file_in l) (filter_sources filters)) (take-length words)
+    (filters_first words (length words) filters (omega arith) are)
+
+-- one name at most
+pub few_named : (names : List (List ℕ)) → nat_lt 1 (length names) ≡ false → or_input names ≡ unwrap_or (slice_get names 0) dash ∷ []
+few_named [] few = refl
+few_named (n ∷ []) few = refl
+few_named (n ∷ m ∷ ms) few = let many = lt-ltb 1 (length (n ∷ m ∷ ms)) (omega arith) in absurd (cc)
+
+-- a source is standard input or a file
+pub not_input : (source : Source) → not (is_input source) ≡ is_file source
+not_input Input = refl
+not_input (File name) = refl

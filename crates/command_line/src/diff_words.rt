@@ -1,6 +1,11 @@
 //! The words of `diff`.
-use crate::requests::{Request, USUAL_SIZE, source_of};
-use crate::telling::{Telling, is_explained};
+ghost use Rattle.std.specs.Prelude.{◌≡◌, IfOk};
+ghost use Rattle.command_line.specs.Given.{given_in};
+ghost use Rattle.command_line.specs.Meaning.{AskFor, comparing_of};
+ghost use Rattle.command_line.specs.declared.command_names.CommandName.TheVariants as command;
+
+use crate::given::{count_given, number_given};
+use crate::requests::{Request, USUAL_SIZE, one_source, tells_in};
 use crate::terminals::Terminals;
 use clap::ArgMatches;
 use std::alloc::{AllocError, Global};
@@ -20,11 +25,13 @@ pub struct Comparing {
 pub(crate) const USUAL_LIMIT: u64 = 1_000_000;
 
 /// How the words of `diff` have two filters compared, of which one is in a file.
-fn comparing_in(matches: &ArgMatches<'_>, terminals: Terminals) -> Comparing {
+fn comparing_in(matches: &ArgMatches<'_>, terminals: Terminals) -> Comparing
+    ensures { result ≡ comparing_of (given_in matches.now) terminals }
+{
     Comparing {
-        size: matches.get_one::<u32>("size").unwrap_or(USUAL_SIZE),
-        limit: matches.get_one::<u64>("limit").unwrap_or(USUAL_LIMIT),
-        is_explained: is_explained(Telling::read(matches), terminals.errors, true),
+        size: number_given(matches, "size").unwrap_or(USUAL_SIZE),
+        limit: count_given(matches, "limit").unwrap_or(USUAL_LIMIT),
+        is_explained: tells_in(matches, terminals, true),
     }
 }
 
@@ -33,10 +40,12 @@ pub fn diff_in(
     alloc: Global,
     matches: &ArgMatches<'_>,
     terminals: Terminals,
-) -> Result<Request, AllocError> {
+) -> Result<Request, AllocError>
+    ensures { IfOk result (AskFor command.Diff (given_in matches.now) terminals) }
+{
     Ok(Request::Diff {
         how: comparing_in(matches, terminals),
-        old: source_of(alloc, matches.get_str("old").unwrap_or("-"))?,
-        new: source_of(alloc, matches.get_str("new").unwrap_or("-"))?,
+        old: one_source(alloc, matches, "old")?,
+        new: one_source(alloc, matches, "new")?,
     })
 }

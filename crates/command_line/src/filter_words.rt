@@ -1,8 +1,12 @@
 //! The filters that the words `--filter NAME=FILE` name.
-ghost use Rattle.std.specs.Prelude.{◌≡◌, false, true, IfErr, IfOk, MatchOption, length, map, string_bytes};
+ghost use Rattle.std.specs.Prelude.{◌≡◌, false, true, IfErr, IfOk, MatchOption, codes, length, map, string_bytes};
 ghost use Rattle.command_line.specs.Filters as spec;
+ghost use Rattle.command_line.specs.Given.{given_in, words_of};
+ghost use Rattle.command_line.specs.Meaning.{AreFilters};
 
+use crate::given::words_given;
 use crate::requests::{Source, source_of};
+use clap::ArgMatches;
 use operator_cmds::is_name;
 use std::alloc::{AllocError, Global};
 
@@ -71,4 +75,15 @@ pub fn filters_in<'a>(
         }
     }
     Ok(Ok(filters))
+}
+
+/// The filters that the words of a command name, in order, or the first word of `--filter` that is wrong.
+pub fn filters_given<'a>(
+    alloc: Global,
+    matches: &ArgMatches<'a>,
+) -> Result<Result<Vec<NamedFile>, WrongFilter<'a>>, AllocError>
+    ensures filters { IfOk result (λ read. IfOk read (λ filters. AreFilters (given_in matches.now) filters.items)) }
+    ensures wrong { IfOk result (λ read. IfErr read (spec.HasWrong (words_of (codes "filter") (given_in matches.now)))) }
+{
+    filters_in(alloc, words_given(matches, "filter"))
 }

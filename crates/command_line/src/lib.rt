@@ -3,17 +3,21 @@
 
 mod arguments;
 mod classes;
+mod command_names;
 mod commands;
 mod diff_words;
 mod filter_words;
+mod given;
 mod help;
 mod lint_words;
 mod options;
 mod requests;
 mod router_words;
+mod run_words;
 mod telling;
 mod terminals;
 mod test_words;
+mod trying_words;
 mod words;
 
 pub use diff_words::Comparing;

@@ -1,11 +1,16 @@
-//! What the program is asked to do, and the words that ask for it. Those of `diff`, `lint` and `test` stand apart.
-ghost use Rattle.std.specs.Prelude.{◌≡◌, [], ◌∷◌, IfOk, map};
+//! What the program is asked to do, and the words that ask for it. Those of `diff`, `filter`, `lint`, `router`, `run` and `test` stand apart.
+ghost use Rattle.std.specs.Prelude.{◌≡◌, ◌||◌, [], ◌∷◌, IfOk, Some, None, codes, if◌then◌else◌, is_some, map, option_map, string_bytes};
 ghost use Rattle.std.specs.List.{list_any};
+ghost use Rattle.command_line.specs.Given.{given_in, is_set, number_of, word_of, words_of};
+ghost use Rattle.command_line.specs.Meaning.{AskFor, IsChecking, tells, usual_limit};
 ghost use Rattle.command_line.specs.Readings as spec;
+ghost use Rattle.command_line.specs.Reads.{file, one_name, or_input};
 ghost use Rattle.command_line.specs.Sources.{AreNamed, AreSources, IsNamed};
+ghost use Rattle.command_line.specs.declared.command_names.CommandName.TheVariants as command;
 
 use crate::diff_words::{Comparing, USUAL_LIMIT};
-use crate::filter_words::{NamedFile, WrongFilter, filters_in};
+use crate::filter_words::NamedFile;
+use crate::given::{is_given, number_given, word_given, words_given};
 use crate::lint_words::Linting;
 use crate::telling::{Telling, is_explained};
 use crate::terminals::Terminals;
@@ -260,38 +265,83 @@ pub fn has_files(sources: &[Source]) -> bool
     sources.iter().any(|source| !source.is_input())
 }
 
+/// The sources that the words of a command name, which takes any number of them.
+pub fn files_in(alloc: Global, matches: &ArgMatches<'_>) -> Result<Vec<Source>, AllocError>
+    ensures { IfOk result (λ sources. AreNamed (or_input (words_of file (given_in matches.now))) sources.items) }
+{
+    sources_in(alloc, words_given(matches, "file"))
+}
+
+/// The source that an argument names, which takes one: standard input where it is not given.
+pub fn one_source(
+    alloc: Global,
+    matches: &ArgMatches<'_>,
+    argument: &str,
+) -> Result<Source, AllocError>
+    ensures { IfOk result (IsNamed (one_name argument.now (given_in matches.now))) }
+{
+    source_of(alloc, word_given(matches, argument).unwrap_or("-"))
+}
+
+/// Whether a refusal is told in words, where sources are files that were named or not.
+pub fn tells_in(matches: &ArgMatches<'_>, terminals: Terminals, has_files: bool) -> bool
+    ensures { result ≡ tells (given_in matches.now) terminals has_files }
+{
+    is_explained(Telling::read(matches), terminals.errors, has_files)
+}
+
+/// The source that the words of a command name, which takes one, and whether its refusal is told in words.
+pub fn told_source(
+    alloc: Global,
+    matches: &ArgMatches<'_>,
+    terminals: Terminals,
+) -> Result<(Source, bool), AllocError>
+    ensures source { IfOk result (λ told. IsNamed (one_name file (given_in matches.now)) told.0) }
+    ensures tells { IfOk result (λ told. told.1 ≡ tells (given_in matches.now) terminals (spec.is_file told.0)) }
+{
+    let source = one_source(alloc, matches, "file")?;
+    let is_file = !source.is_input();
+    Ok((source, tells_in(matches, terminals, is_file)))
+}
+
 /// How many classes of routes are tried for the warnings of `check`, where they are asked for.
-fn warning_limit_in(matches: &ArgMatches<'_>) -> Option<u64> {
-    if matches.get_flag("warn") {
+fn warning_limit_in(matches: &ArgMatches<'_>) -> Option<u64>
+    ensures { result ≡ (if is_set (codes "warn") (given_in matches.now) then Some usual_limit else None) }
+{
+    if is_given(matches, "warn") {
         Some(USUAL_LIMIT)
     } else {
         None
     }
 }
 
-/// The sources that the words of `check` name, and how they are checked.
-pub fn checked_in(
-    alloc: Global,
+/// How the words of `check` have sources checked, of which some are files or none is.
+fn checking_in(
     matches: &ArgMatches<'_>,
     size: u32,
     terminals: Terminals,
-) -> Result<(Checking, Vec<Source>), AllocError> {
-    let sources = sources_in(alloc, matches.get_strs("file").unwrap_or(&[]))?;
-    let has_files = has_files(sources.as_slice());
-    let how = Checking {
+    has_files: bool,
+) -> Checking
+    ensures size { result.size ≡ size }
+    ensures sets { IsChecking (given_in matches.now) terminals has_files result }
+{
+    telling_if_asked(Checking {
         size,
-        is_code: matches.get_flag("code"),
+        is_code: is_given(matches, "code"),
         is_told: has_files,
-        is_explained: is_explained(Telling::read(matches), terminals.errors, has_files),
-        has_names: matches.get_flag("names"),
-        is_quiet: matches.get_flag("quiet"),
+        is_explained: tells_in(matches, terminals, has_files),
+        has_names: is_given(matches, "names"),
+        is_quiet: is_given(matches, "quiet"),
         warning_limit: warning_limit_in(matches),
-    };
-    Ok((telling_if_asked(how), sources))
+    })
 }
 
 /// Where only the report on standard input is asked for, as by a program, its refusal is not told on standard error as well.
-fn telling_if_asked(how: Checking) -> Checking {
+fn telling_if_asked(how: Checking) -> Checking
+    ensures { result ≡ record how {
+      is_told = how.is_told || (how.is_explained || (how.has_names || (how.is_quiet || is_some how.warning_limit)));
+    } }
+{
     let asks_for_more = how.is_explained
         || how.has_names
         || how.is_quiet
@@ -302,46 +352,36 @@ fn telling_if_asked(how: Checking) -> Checking {
     }
 }
 
-/// What is to be written of routes.
-fn report_in(matches: &ArgMatches<'_>) -> RouteReport {
-    if matches.get_flag("why") {
-        RouteReport::Reasons
-    } else if matches.get_flag("coverage") {
-        RouteReport::Coverage
-    } else {
-        RouteReport::Verdicts
-    }
-}
-
-/// What the words of `filter` ask for. None where they name no file.
-pub fn filter_in(
+/// What the words of `check` ask for, with the size that they say.
+pub fn check_in(
     alloc: Global,
     matches: &ArgMatches<'_>,
+    size: u32,
     terminals: Terminals,
-) -> Result<Option<Request>, AllocError> {
-    let (Some(size), Some(file)) = (matches.get_one::<u32>("size"), matches.get_str("file")) else {
-        return Ok(None);
-    };
-    if file == "-" {
-        return Ok(None);
-    }
-    let telling = Telling::read(matches);
-    let how = Trying {
-        size,
-        report: report_in(matches),
-        is_explained: is_explained(telling, terminals.errors, true),
-        tells_routes: is_explained(telling, terminals.errors, false),
-    };
-    Ok(Some(Request::Filter {
-        how,
-        source: source_of(alloc, file)?,
-    }))
+) -> Result<Request, AllocError>
+    requires { number_of 32 (codes "size") (given_in matches.now) ≡ Some size }
+    ensures { IfOk result (AskFor command.Check (given_in matches.now) terminals) }
+{
+    let sources = files_in(alloc, matches)?;
+    let how = checking_in(matches, size, terminals, has_files(sources.as_slice()));
+    Ok(Request::Check { how, sources })
 }
 
 /// What the words of `eval` ask for.
-pub fn eval_in(matches: &ArgMatches<'_>, terminals: Terminals) -> Request {
+pub fn eval_in(matches: &ArgMatches<'_>, terminals: Terminals) -> Request
+    ensures { AskFor command.Eval (given_in matches.now) terminals result }
+{
     Request::Eval {
-        is_told: is_explained(Telling::read(matches), terminals.errors, false),
+        is_told: tells_in(matches, terminals, false),
+    }
+}
+
+/// What the words of `rewrite` ask for.
+pub fn rewrite_in(matches: &ArgMatches<'_>, terminals: Terminals) -> Request
+    ensures { AskFor command.Rewrite (given_in matches.now) terminals result }
+{
+    Request::Rewrite {
+        is_old: is_given(matches, "old"),
     }
 }
 
@@ -350,16 +390,13 @@ pub fn text_in(
     alloc: Global,
     matches: &ArgMatches<'_>,
     name: &str,
-) -> Result<Option<String>, AllocError> {
-    match matches.get_str(name) {
+) -> Result<Option<String>, AllocError>
+    ensures { IfOk result (λ text. option_map (λ copy. string_bytes copy) text ≡ word_of name.now (given_in matches.now)) }
+{
+    match word_given(matches, name) {
         Some(text) => Ok(Some(String::from_str(alloc, text)?)),
         None => Ok(None),
     }
-}
-
-/// The source that the words of a command name, which takes one.
-fn source_in(alloc: Global, matches: &ArgMatches<'_>) -> Result<Source, AllocError> {
-    source_of(alloc, matches.get_str("file").unwrap_or("-"))
 }
 
 /// What the words of `list` ask for.
@@ -367,86 +404,61 @@ pub fn list_in(
     alloc: Global,
     matches: &ArgMatches<'_>,
     terminals: Terminals,
-) -> Result<Request, AllocError> {
-    let source = source_in(alloc, matches)?;
-    let is_file = !source.is_input();
+) -> Result<Request, AllocError>
+    ensures { IfOk result (AskFor command.List (given_in matches.now) terminals) }
+{
+    let (source, is_explained) = told_source(alloc, matches, terminals)?;
     Ok(Request::List {
-        size: matches.get_one::<u32>("size"),
-        is_code: matches.get_flag("code"),
+        size: number_given(matches, "size"),
+        is_code: is_given(matches, "code"),
         source,
-        is_explained: is_explained(Telling::read(matches), terminals.errors, is_file),
+        is_explained,
     })
 }
 
 /// What the words of `import` ask for.
-pub fn import_in(alloc: Global, matches: &ArgMatches<'_>) -> Result<Request, AllocError> {
+pub fn import_in(
+    alloc: Global,
+    matches: &ArgMatches<'_>,
+    terminals: Terminals,
+) -> Result<Request, AllocError>
+    ensures { IfOk result (AskFor command.Import (given_in matches.now) terminals) }
+{
     let how = Importing {
-        size: matches.get_one::<u32>("size").unwrap_or(USUAL_SIZE),
+        size: number_given(matches, "size").unwrap_or(USUAL_SIZE),
         folder: text_in(alloc, matches, "out")?,
     };
     Ok(Request::Import {
         how,
-        source: source_in(alloc, matches)?,
+        source: one_source(alloc, matches, "file")?,
     })
 }
 
 /// What the words of `replay` ask for.
-pub fn replay_in(alloc: Global, matches: &ArgMatches<'_>) -> Result<Request, AllocError> {
-    Ok(Request::Replay {
-        source: source_in(alloc, matches)?,
-    })
-}
-
-/// What the words of `run` or of `domain` ask for.
-pub fn script_in(
+pub fn replay_in(
     alloc: Global,
-    engine: Engine,
     matches: &ArgMatches<'_>,
     terminals: Terminals,
-) -> Result<Request, AllocError> {
-    let source = source_in(alloc, matches)?;
-    let is_file = !source.is_input();
-    Ok(Request::Script {
-        engine,
-        source,
-        is_explained: is_explained(Telling::read(matches), terminals.errors, is_file),
+) -> Result<Request, AllocError>
+    ensures { IfOk result (AskFor command.Replay (given_in matches.now) terminals) }
+{
+    Ok(Request::Replay {
+        source: one_source(alloc, matches, "file")?,
     })
 }
 
-/// Whether the words of `run` ask for more than answers.
-pub fn asks_for_more(matches: &ArgMatches<'_>) -> bool {
-    matches.get_str("save").is_some()
-        || matches.get_flag("stop")
-        || matches.get_strs("filter").is_some()
-}
-
-/// Whether the words of `run` name several sources.
-pub fn names_several(matches: &ArgMatches<'_>) -> bool {
-    matches.get_strs("file").unwrap_or(&[]).len() > 1
-}
-
-/// What the words of `run` ask for, where they ask for more than the answers to one source; or what is wrong with the filters that they
-/// name.
-pub fn run_in<'a>(
+/// What the words of `domain` ask for.
+pub fn domain_in(
     alloc: Global,
-    matches: &ArgMatches<'a>,
+    matches: &ArgMatches<'_>,
     terminals: Terminals,
-) -> Result<Result<Request, WrongFilter<'a>>, AllocError> {
-    let filters = match filters_in(alloc, matches.get_strs("filter").unwrap_or(&[]))? {
-        Ok(filters) => filters,
-        Err(wrong) => return Ok(Err(wrong)),
-    };
-    let sources = sources_in(alloc, matches.get_strs("file").unwrap_or(&[]))?;
-    let has_files = has_files(sources.as_slice());
-    let how = Running {
-        is_explained: is_explained(Telling::read(matches), terminals.errors, has_files),
-        stops: matches.get_flag("stop"),
-        save: text_in(alloc, matches, "save")?,
-        filters,
-    };
-    if names_several(matches) {
-        return Ok(Ok(Request::RunJoined { how, sources }));
-    }
-    let source = source_in(alloc, matches)?;
-    Ok(Ok(Request::Run { how, source }))
+) -> Result<Request, AllocError>
+    ensures { IfOk result (AskFor command.Domain (given_in matches.now) terminals) }
+{
+    let (source, is_explained) = told_source(alloc, matches, terminals)?;
+    Ok(Request::Script {
+        engine: Engine::Domain,
+        source,
+        is_explained,
+    })
 }

@@ -1,7 +1,11 @@
 //! The words of `router`.
-ghost use Rattle.std.specs.Prelude.{◌≡◌, IfOk, map, string_bytes};
+ghost use Rattle.std.specs.Prelude.{◌≡◌, IfErr, IfOk, codes, map, string_bytes};
+ghost use Rattle.command_line.specs.Filters.{HasWrong};
+ghost use Rattle.command_line.specs.Given.{given_in, words_of};
+ghost use Rattle.command_line.specs.Meaning.{AreFilters, AskForRouter, IsRouting};
 
-use crate::filter_words::{NamedFile, WrongFilter, filters_in};
+use crate::filter_words::{NamedFile, WrongFilter, filters_given};
+use crate::given::{is_given, number_given, words_given};
 use crate::requests::text_in;
 use clap::ArgMatches;
 use std::alloc::{AllocError, Global};
@@ -45,35 +49,47 @@ fn copies_of(alloc: Global, texts: &[&str]) -> Result<Vec<String>, AllocError>
 }
 
 /// The values of an option, in order.
-fn values_of(
+fn values_of(alloc: Global, matches: &ArgMatches<'_>, name: &str) -> Result<Vec<String>, AllocError>
+    ensures { IfOk result (λ values. map (λ copy. string_bytes copy) values.items ≡ words_of name.now (given_in matches.now)) }
+{
+    copies_of(alloc, words_given(matches, name))
+}
+
+/// What the words of `router` say, which name these filters.
+fn routing_in(
     alloc: Global,
     matches: &ArgMatches<'_>,
-    name: &str,
-) -> Result<Vec<String>, AllocError> {
-    copies_of(alloc, matches.get_strs(name).unwrap_or(&[]))
+    filters: Vec<NamedFile>,
+) -> Result<RouterWords, AllocError>
+    requires { AreFilters (given_in matches.now) filters.items }
+    ensures sets { IfOk result (IsRouting (given_in matches.now)) }
+{
+    Ok(RouterWords {
+        // The parser accepts no words without these two numbers.
+        size: number_given(matches, "size").unwrap_or(0),
+        node: number_given(matches, "node").unwrap_or(0),
+        limit: number_given(matches, "limit"),
+        retry: number_given(matches, "retry"),
+        save: text_in(alloc, matches, "save")?,
+        stays: is_given(matches, "stay"),
+        prefixes: values_of(alloc, matches, "prefix")?,
+        filters,
+        imports: values_of(alloc, matches, "import")?,
+        exports: values_of(alloc, matches, "export")?,
+        links: values_of(alloc, matches, "link")?,
+    })
 }
 
 /// What the words of `router` say; or what is wrong with the filters that they name.
 pub fn router_in<'a>(
     alloc: Global,
     matches: &ArgMatches<'a>,
-) -> Result<Result<RouterWords, WrongFilter<'a>>, AllocError> {
-    let filters = match filters_in(alloc, matches.get_strs("filter").unwrap_or(&[]))? {
-        Ok(filters) => filters,
-        Err(wrong) => return Ok(Err(wrong)),
-    };
-    Ok(Ok(RouterWords {
-        // The parser accepts no words without these two numbers.
-        size: matches.get_one::<u32>("size").unwrap_or(0),
-        node: matches.get_one::<u32>("node").unwrap_or(0),
-        limit: matches.get_one::<u32>("limit"),
-        retry: matches.get_one::<u32>("retry"),
-        save: text_in(alloc, matches, "save")?,
-        stays: matches.get_flag("stay"),
-        prefixes: values_of(alloc, matches, "prefix")?,
-        filters,
-        imports: values_of(alloc, matches, "import")?,
-        exports: values_of(alloc, matches, "export")?,
-        links: values_of(alloc, matches, "link")?,
-    }))
+) -> Result<Result<RouterWords, WrongFilter<'a>>, AllocError>
+    ensures asks { IfOk result (λ read. IfOk read (AskForRouter (given_in matches.now))) }
+    ensures wrong { IfOk result (λ read. IfErr read (HasWrong (words_of (codes "filter") (given_in matches.now)))) }
+{
+    match filters_given(alloc, matches)? {
+        Ok(filters) => Ok(Ok(routing_in(alloc, matches, filters)?)),
+        Err(wrong) => Ok(Err(wrong)),
+    }
 }

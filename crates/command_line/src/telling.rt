@@ -1,7 +1,10 @@
 //! Whether a refusal is told in words.
 ghost use Rattle.std.specs.Prelude.{◌≡◌};
+ghost use Rattle.command_line.specs.Given.{given_in};
+ghost use Rattle.command_line.specs.Meaning.{telling_of};
 ghost use Rattle.command_line.specs.Telling.{is_explained};
 
+use crate::given::word_given;
 use clap::ArgMatches;
 
 /// What the option `--explain` says.
@@ -17,8 +20,10 @@ pub enum Telling {
 
 impl Telling {
     /// What the words of a command say.
-    pub fn read(matches: &ArgMatches<'_>) -> Telling {
-        match matches.get_str("explain") {
+    pub fn read(matches: &ArgMatches<'_>) -> Telling
+        ensures { result ≡ telling_of (given_in matches.now) }
+    {
+        match word_given(matches, "explain") {
             Some("always") => Telling::Always,
             Some("never") => Telling::Never,
             _ => Telling::Auto,

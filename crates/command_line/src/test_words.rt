@@ -1,7 +1,12 @@
 //! The words of `test`.
+ghost use Rattle.std.specs.Prelude.{IfOk};
+ghost use Rattle.command_line.specs.Given.{given_in};
+ghost use Rattle.command_line.specs.Meaning.{AskFor};
+ghost use Rattle.command_line.specs.declared.command_names.CommandName.TheVariants as command;
+
 use crate::diff_words::USUAL_LIMIT;
-use crate::requests::{Request, has_files, sources_in};
-use crate::telling::{Telling, is_explained};
+use crate::given::count_given;
+use crate::requests::{Request, files_in, has_files, tells_in};
 use crate::terminals::Terminals;
 use clap::ArgMatches;
 use std::alloc::{AllocError, Global};
@@ -20,12 +25,14 @@ pub fn test_in(
     alloc: Global,
     matches: &ArgMatches<'_>,
     terminals: Terminals,
-) -> Result<Request, AllocError> {
-    let sources = sources_in(alloc, matches.get_strs("file").unwrap_or(&[]))?;
+) -> Result<Request, AllocError>
+    ensures { IfOk result (AskFor command.Test (given_in matches.now) terminals) }
+{
+    let sources = files_in(alloc, matches)?;
     let has_files = has_files(sources.as_slice());
     let how = Testing {
-        limit: matches.get_one::<u64>("limit").unwrap_or(USUAL_LIMIT),
-        is_explained: is_explained(Telling::read(matches), terminals.errors, has_files),
+        limit: count_given(matches, "limit").unwrap_or(USUAL_LIMIT),
+        is_explained: tells_in(matches, terminals, has_files),
     };
     Ok(Request::Test { how, sources })
 }

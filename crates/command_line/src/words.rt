@@ -1,20 +1,27 @@
 //! The words of the command line.
 ghost use Rattle.std.specs.Prelude.{◌≡◌, ◌≤◌, IfOk};
+ghost use Rattle.clap.specs.Words.{subcommand_rows_of};
+ghost use Rattle.command_line.specs.Given.{given_in};
+ghost use Rattle.command_line.specs.Meaning.{ComesTo, IsMeant, IsShown, MetComesTo, once};
 ghost use Rattle.command_line.specs.Readings.{readings};
+ghost use Rattle.command_line.specs.declared.command_names.CommandName.TheVariants as command;
 
 use crate::arguments::Readable;
 use crate::classes::page_of;
+use crate::command_names::{CommandName, command_named};
 use crate::commands::program;
 use crate::diff_words::diff_in;
 use crate::filter_words::WrongFilter;
+use crate::given::{number_given, word_given};
 use crate::lint_words::lint_in;
 use crate::requests::{
-    Engine, Request, asks_for_more, checked_in, eval_in, filter_in, import_in, list_in,
-    names_several, replay_in, run_in, script_in,
+    Request, check_in, domain_in, eval_in, import_in, list_in, replay_in, rewrite_in,
 };
 use crate::router_words::{RouterWords, router_in};
+use crate::run_words::run_in;
 use crate::terminals::{Terminals, reads_input_again};
 use crate::test_words::test_in;
+use crate::trying_words::{asks_twice, filter_in};
 use clap::error::ErrorKind;
 use clap::{ArgMatches, Error};
 use line_protocol::StreamFault;
@@ -46,6 +53,7 @@ pub fn read<R: Env + AllocGlobal + Print + Eprint>(
     terminals: Terminals,
 ) -> Result<Words, StreamFault>
     ensures once { IfOk result (λ asked. readings asked ≤ 1) }
+    ensures meant { IfOk result (IsMeant terminals) }
 {
     let alloc = rt.alloc();
     // All words are text here, so that want of memory alone keeps them from being read.
@@ -62,6 +70,7 @@ pub fn request_of<R: Print + Eprint, S: AsStr>(
     terminals: Terminals,
 ) -> Result<Words, StreamFault>
     ensures once { IfOk result (λ asked. readings asked ≤ 1) }
+    ensures meant { IfOk result (IsMeant terminals) }
 {
     let program = program(alloc).map_err(|_| StreamFault::Memory)?;
     match program.try_get_matches_from(words) {
@@ -75,7 +84,8 @@ pub fn request_of<R: Print + Eprint, S: AsStr>(
 
 /// These words, unless they ask for standard input more than once.
 fn reading_once<R: Eprint>(rt: &R, words: Words) -> Words
-    ensures { readings result ≤ 1 }
+    ensures once { readings result ≤ 1 }
+    ensures kept { result ≡ once words }
 {
     if !reads_input_again(&words) {
         return words;
@@ -86,54 +96,74 @@ fn reading_once<R: Eprint>(rt: &R, words: Words) -> Words
     Words::Shown(WRONG_WORDS)
 }
 
-/// What the words ask for, where the parser of words accepted them.
+/// What the words come to, where the parser of words accepted them.
 fn words_in<R: Eprint>(
     rt: &R,
     alloc: Global,
     matches: &ArgMatches<'_>,
     terminals: Terminals,
-) -> Result<Words, AllocError> {
-    // The parser accepts no words without a command.
+) -> Result<Words, AllocError>
+    ensures { IfOk result (MetComesTo (subcommand_rows_of matches.now) terminals) }
+{
+    // The parser accepts no words without a command, and no other command.
     let Some((name, words)) = matches.subcommand() else {
         return Ok(Words::Shown(WRONG_WORDS));
     };
-    match name {
-        "check" => check_in(alloc, words, terminals),
-        "diff" => asked(diff_in(alloc, words, terminals)),
-        "domain" => asked(script_in(alloc, Engine::Domain, words, terminals)),
-        "explain" => explained_in(rt, alloc, words.get_str("code").unwrap_or("")),
-        "filter" => filter_words(rt, alloc, words, terminals),
-        "import" => asked(import_in(alloc, words)),
-        "lint" => asked(lint_in(alloc, words, terminals)),
-        "list" => asked(list_in(alloc, words, terminals)),
-        "net" => Ok(Words::Network),
-        "replay" => asked(replay_in(alloc, words)),
-        "rewrite" => Ok(Words::Asked(Request::Rewrite {
-            is_old: words.get_flag("old"),
-        })),
-        "router" => router_words(rt, alloc, words),
-        "run" => run_words(rt, alloc, words, terminals),
-        "test" => asked(test_in(alloc, words, terminals)),
-        _ => Ok(Words::Asked(eval_in(words, terminals))),
+    match command_named(name) {
+        Some(command) => command_words(rt, alloc, command, words, terminals),
+        None => Ok(Words::Shown(WRONG_WORDS)),
+    }
+}
+
+/// What the words of a command come to.
+fn command_words<R: Eprint>(
+    rt: &R,
+    alloc: Global,
+    command: CommandName,
+    words: &ArgMatches<'_>,
+    terminals: Terminals,
+) -> Result<Words, AllocError>
+    ensures { IfOk result (ComesTo command (given_in words.now) terminals) }
+{
+    match command {
+        CommandName::Check => check_words(alloc, words, terminals),
+        CommandName::Diff => asked(diff_in(alloc, words, terminals)),
+        CommandName::Domain => asked(domain_in(alloc, words, terminals)),
+        CommandName::Eval => Ok(Words::Asked(eval_in(words, terminals))),
+        CommandName::Explain => explained_in(rt, alloc, words, terminals),
+        CommandName::Filter => filter_words(rt, alloc, words, terminals),
+        CommandName::Import => asked(import_in(alloc, words, terminals)),
+        CommandName::Lint => asked(lint_in(alloc, words, terminals)),
+        CommandName::List => asked(list_in(alloc, words, terminals)),
+        CommandName::Net => Ok(Words::Network),
+        CommandName::Replay => asked(replay_in(alloc, words, terminals)),
+        CommandName::Rewrite => Ok(Words::Asked(rewrite_in(words, terminals))),
+        CommandName::Router => router_words(rt, alloc, words, terminals),
+        CommandName::Run => run_words(rt, alloc, words, terminals),
+        CommandName::Test => asked(test_in(alloc, words, terminals)),
     }
 }
 
 /// The words that ask for this.
-fn asked(request: Result<Request, AllocError>) -> Result<Words, AllocError> {
+fn asked(request: Result<Request, AllocError>) -> Result<Words, AllocError>
+    ensures { IfOk result (λ words. (made : _) × (request ≡ Ok made) × (words ≡ Words.Asked made)) }
+{
     match request {
         Ok(request) => Ok(Words::Asked(request)),
         Err(error) => Err(error),
     }
 }
 
-/// What the words of `filter` ask for. Standard input has the routes, so the filter is in a file.
+/// What the words of `filter` come to. Standard input has the routes, so the filter is in a file.
 fn filter_words<R: Eprint>(
     rt: &R,
     alloc: Global,
     filter: &ArgMatches<'_>,
     terminals: Terminals,
-) -> Result<Words, AllocError> {
-    if filter.get_flag("why") && filter.get_flag("coverage") {
+) -> Result<Words, AllocError>
+    ensures { IfOk result (ComesTo command.Filter (given_in filter.now) terminals) }
+{
+    if asks_twice(filter) {
         let _ = eprintln!(rt; "error: --why and --coverage cannot be given together");
         return Ok(Words::Shown(WRONG_WORDS));
     }
@@ -146,50 +176,55 @@ fn filter_words<R: Eprint>(
     Ok(Words::Shown(WRONG_WORDS))
 }
 
-/// What the words of `router` ask for.
+/// What the words of `router` come to.
 fn router_words<R: Eprint>(
     rt: &R,
     alloc: Global,
     router: &ArgMatches<'_>,
-) -> Result<Words, AllocError> {
+    terminals: Terminals,
+) -> Result<Words, AllocError>
+    ensures { IfOk result (ComesTo command.Router (given_in router.now) terminals) }
+{
     match router_in(alloc, router)? {
         Ok(words) => Ok(Words::Router(words)),
         Err(wrong) => Ok(show_wrong_filter(rt, wrong)),
     }
 }
 
-/// What the words of `check` ask for.
-fn check_in(
+/// What the words of `check` come to.
+fn check_words(
     alloc: Global,
     check: &ArgMatches<'_>,
     terminals: Terminals,
-) -> Result<Words, AllocError> {
+) -> Result<Words, AllocError>
+    ensures { IfOk result (ComesTo command.Check (given_in check.now) terminals) }
+{
     // The parser accepts no words without a size.
-    let Some(size) = check.get_one::<u32>("size") else {
+    let Some(size) = number_given(check, "size") else {
         return Ok(Words::Shown(WRONG_WORDS));
     };
-    let (how, sources) = checked_in(alloc, check, size, terminals)?;
-    Ok(Words::Asked(Request::Check { how, sources }))
+    Ok(Words::Asked(check_in(alloc, check, size, terminals)?))
 }
 
-/// What the words of `run` ask for.
+/// What the words of `run` come to.
 fn run_words<R: Eprint>(
     rt: &R,
     alloc: Global,
     run: &ArgMatches<'_>,
     terminals: Terminals,
-) -> Result<Words, AllocError> {
-    if asks_for_more(run) || names_several(run) {
-        return match run_in(alloc, run, terminals)? {
-            Ok(request) => Ok(Words::Asked(request)),
-            Err(wrong) => Ok(show_wrong_filter(rt, wrong)),
-        };
+) -> Result<Words, AllocError>
+    ensures { IfOk result (ComesTo command.Run (given_in run.now) terminals) }
+{
+    match run_in(alloc, run, terminals)? {
+        Ok(request) => Ok(Words::Asked(request)),
+        Err(wrong) => Ok(show_wrong_filter(rt, wrong)),
     }
-    asked(script_in(alloc, Engine::Router, run, terminals))
 }
 
 /// Says what is wrong with a word that was to name a filter.
-fn show_wrong_filter<R: Eprint>(rt: &R, wrong: WrongFilter<'_>) -> Words {
+fn show_wrong_filter<R: Eprint>(rt: &R, wrong: WrongFilter<'_>) -> Words
+    ensures { result ≡ Words.Shown 2 }
+{
     let _ = match wrong {
         WrongFilter::Word(word) => eprintln!(rt;
             "error: '--filter {word}' is not '--filter NAME=FILE', where NAME is letters, digits and _, does not begin with a digit, and has at most 64 bytes"
@@ -204,7 +239,8 @@ fn show_wrong_filter<R: Eprint>(rt: &R, wrong: WrongFilter<'_>) -> Words {
 /// Shows what the parser of words answered in place of matches: help on standard output, or what is wrong with the words on
 /// standard error. Wrong words have their status also where standard error takes no text.
 fn show<R: Print + Eprint>(rt: &R, error: &Error) -> Result<Words, StreamFault>
-    ensures { IfOk result (λ shown. readings shown ≡ 0) }
+    ensures once { IfOk result (λ shown. readings shown ≡ 0) }
+    ensures shown { IfOk result IsShown }
 {
     if error.kind() == ErrorKind::OutOfMemory {
         return Err(StreamFault::Memory);
@@ -218,7 +254,15 @@ fn show<R: Print + Eprint>(rt: &R, error: &Error) -> Result<Words, StreamFault>
 }
 
 /// What `explain` asks for: the page of a code, the codes of a class, or the classes.
-fn explained_in<R: Eprint>(rt: &R, alloc: Global, code: &str) -> Result<Words, AllocError> {
+fn explained_in<R: Eprint>(
+    rt: &R,
+    alloc: Global,
+    explain: &ArgMatches<'_>,
+    terminals: Terminals,
+) -> Result<Words, AllocError>
+    ensures { IfOk result (ComesTo command.Explain (given_in explain.now) terminals) }
+{
+    let code = word_given(explain, "code").unwrap_or("");
     if let Some(page) = page_of(alloc, code)? {
         return Ok(Words::Asked(Request::Explain { page }));
     }

@@ -1,0 +1,222 @@
+-- What the words behind each command ask for: which of them sets what. (This project's own choice.)
+use Rattle.std.specs.Prelude.{◌≡◌, ◌⊎◌, ◌&&◌, ◌||◌, ℕ, Bool, true, false, List, [], ◌∷◌, MatchOption, Option, Some, None, codes, if◌then◌else◌, is_some, length, map, nat_lt, not, option_map, string_bytes, unwrap_or, ⊤}
+use Rattle.std.specs.List.{list_any}
+use Rattle.std.specs.Option.{option_map_or}
+use Rattle.std.specs.Str.{bytes_eq}
+use Rattle.clap.specs.Words.{Row, subcommand_rows_of}
+use Rattle.clap.specs.declared.parser.matches.ArgMatches.{ArgMatches}
+use Rattle.command_line.specs.CommandNames.{command_of}
+use Rattle.command_line.specs.Filters.{HasWrong, NameFirst}
+use Rattle.command_line.specs.Given.{is_set, number_of, word_of, words_of}
+use Rattle.command_line.specs.Readings.{is_file, readings}
+use Rattle.command_line.specs.Reads.{dash, file, filter_sources, names_read, sources_of}
+use Rattle.command_line.specs.Sources.{AreNamed}
+use Rattle.command_line.specs.Telling.{is_explained}
+use Rattle.command_line.specs.declared.command_names.CommandName.{CommandName}
+use Rattle.command_line.specs.declared.command_names.CommandName.TheVariants as command
+use Rattle.command_line.specs.declared.diff_words.Comparing.{Comparing}
+use Rattle.command_line.specs.declared.filter_words.NamedFile.{NamedFile}
+use Rattle.command_line.specs.declared.filter_words.WrongFilter.{WrongFilter}
+use Rattle.command_line.specs.declared.lint_words.Linting.{Linting}
+use Rattle.command_line.specs.declared.requests.Checking.{Checking}
+use Rattle.command_line.specs.declared.requests.Engine.TheVariants as engine
+use Rattle.command_line.specs.declared.requests.Importing.{Importing}
+use Rattle.command_line.specs.declared.requests.Request.{Request}
+use Rattle.command_line.specs.declared.requests.Request.TheVariants as request
+use Rattle.command_line.specs.declared.requests.RouteReport.{RouteReport}
+use Rattle.command_line.specs.declared.requests.RouteReport.TheVariants.{Verdicts, Reasons, Coverage}
+use Rattle.command_line.specs.declared.requests.Running.{Running}
+use Rattle.command_line.specs.declared.requests.Source.{Source}
+use Rattle.command_line.specs.declared.requests.Trying.{Trying}
+use Rattle.command_line.specs.declared.router_words.RouterWords.{RouterWords}
+use Rattle.command_line.specs.declared.telling.Telling.{Telling}
+use Rattle.command_line.specs.declared.telling.Telling.TheVariants.{Auto, Always, Never}
+use Rattle.command_line.specs.declared.terminals.Terminals.{Terminals}
+use Rattle.command_line.specs.declared.test_words.Testing.{Testing}
+use Rattle.command_line.specs.declared.words.Words.{Words}
+use Rattle.command_line.specs.declared.words.Words.TheVariants.{Asked, Network, Router, Shown}
+
+-- the numbers that are meant where none is said: the nodes of a domain of RIP, and the classes of routes that are tried
+abbrev pub usual_size : ℕ
+usual_size = 16
+
+abbrev pub usual_limit : ℕ
+usual_limit = 1000000
+
+-- what the value of `--explain` says
+abbrev pub telling_named : List ℕ → Telling
+telling_named word = if bytes_eq word (codes "always") then Always else if bytes_eq word (codes "never") then Never else Auto
+
+abbrev pub telling_of : List Row → Telling
+telling_of given = option_map_or telling_named (word_of (codes "explain") given) Auto
+
+-- a refusal is told in words, where sources are files that were named or not
+abbrev pub tells : List Row → Terminals → Bool → Bool
+tells given terminals has_files = is_explained (telling_of given) terminals.errors has_files
+
+-- how `check` checks sources, of which some are files or none is: all that is asked for beside the report has refusals told
+pub record IsChecking (given : List Row) (terminals : Terminals) (has_files : Bool) (how : Checking) : Type 0 where
+  pub is_code : how.is_code ≡ is_set (codes "code") given
+  pub has_names : how.has_names ≡ is_set (codes "names") given
+  pub is_quiet : how.is_quiet ≡ is_set (codes "quiet") given
+  pub warning_limit : how.warning_limit ≡ (if is_set (codes "warn") given then Some usual_limit else None)
+  pub is_explained : how.is_explained ≡ tells given terminals has_files
+  pub is_told : how.is_told ≡ (has_files
+      || (how.is_explained || (how.has_names || (how.is_quiet || is_some how.warning_limit))))
+
+-- how `diff` compares filters, of which one is in a file
+abbrev pub comparing_of : List Row → Terminals → Comparing
+comparing_of given terminals = record {
+  size = unwrap_or (number_of 32 (codes "size") given) usual_size;
+  limit = unwrap_or (number_of 64 (codes "limit") given) usual_limit;
+  is_explained = tells given terminals true;
+}
+
+-- how `lint` looks through filters
+abbrev pub linting_of : List Row → Terminals → List Source → Linting
+linting_of given terminals sources = record {
+  size = unwrap_or (number_of 32 (codes "size") given) usual_size;
+  limit = unwrap_or (number_of 64 (codes "limit") given) usual_limit;
+  is_explained = tells given terminals (list_any is_file sources);
+}
+
+-- how `test` runs test files
+abbrev pub testing_of : List Row → Terminals → List Source → Testing
+testing_of given terminals sources = record {
+  limit = unwrap_or (number_of 64 (codes "limit") given) usual_limit;
+  is_explained = tells given terminals (list_any is_file sources);
+}
+
+-- what `filter` writes of routes
+abbrev pub report_of : List Row → RouteReport
+report_of given = if is_set (codes "why") given then Reasons else if is_set (codes "coverage") given then Coverage else Verdicts
+
+-- `--why` and `--coverage` do not go together
+abbrev pub asks_twice : List Row → Bool
+asks_twice given = is_set (codes "why") given && is_set (codes "coverage") given
+
+-- how `filter` tries a filter, which is in a file since standard input has the routes
+pub record IsTrying (given : List Row) (terminals : Terminals) (how : Trying) : Type 0 where
+  pub size : number_of 32 (codes "size") given ≡ Some how.size
+  pub report : how.report ≡ report_of given
+  pub is_explained : how.is_explained ≡ tells given terminals true
+  pub tells_routes : how.tells_routes ≡ tells given terminals false
+
+-- the words of `filter` name a file
+abbrev pub names_file : List Row → Bool
+names_file given = option_map_or (λ name. not (bytes_eq name dash)) (word_of file given) false
+
+-- how `import` imports filters
+pub record IsImporting (given : List Row) (how : Importing) : Type 0 where
+  pub size : how.size ≡ unwrap_or (number_of 32 (codes "size") given) usual_size
+  pub folder : option_map (λ copy. string_bytes copy) how.folder ≡ word_of (codes "out") given
+
+-- the filters of `--filter`, in order
+abbrev pub AreFilters : List Row → List NamedFile → Type 0
+AreFilters given filters =
+    let words = words_of (codes "filter") given in NameFirst words (length words) filters
+
+-- a word of `--filter` is wrong
+abbrev pub HasWrongFilter : List Row → Type 0
+HasWrongFilter given = (wrong : WrongFilter) × HasWrong (words_of (codes "filter") given) wrong
+
+-- `run` is asked for more than the answers to its script
+abbrev pub asks_for_more : List Row → Bool
+asks_for_more given = is_some (word_of (codes "save") given)
+    || (is_set (codes "stop") given || nat_lt 0 (length (words_of (codes "filter") given)))
+
+-- the script of `run` is several files
+abbrev pub names_several : List Row → Bool
+names_several given = nat_lt 1 (length (words_of file given))
+
+-- how `run` carries a script out, of which some is in files or none is
+pub record IsRunning (given : List Row) (terminals : Terminals) (has_files : Bool) (how : Running) : Type 0 where
+  pub is_explained : how.is_explained ≡ tells given terminals has_files
+  pub stops : how.stops ≡ is_set (codes "stop") given
+  pub save : option_map (λ copy. string_bytes copy) how.save ≡ word_of (codes "save") given
+  pub filters : AreFilters given how.filters.items
+
+-- what the words of `router` say; the parser of words accepts none without the two numbers
+pub record IsRouting (given : List Row) (words : RouterWords) : Type 0 where
+  pub size : words.size ≡ unwrap_or (number_of 32 (codes "size") given) 0
+  pub node : words.node ≡ unwrap_or (number_of 32 (codes "node") given) 0
+  pub limit : words.limit ≡ number_of 32 (codes "limit") given
+  pub retry : words.retry ≡ number_of 32 (codes "retry") given
+  pub save : option_map (λ copy. string_bytes copy) words.save ≡ word_of (codes "save") given
+  pub stays : words.stays ≡ is_set (codes "stay") given
+  pub prefixes : map (λ copy. string_bytes copy) words.prefixes.items ≡ words_of (codes "prefix") given
+  pub filters : AreFilters given words.filters.items
+  pub imports : map (λ copy. string_bytes copy) words.imports.items ≡ words_of (codes "import") given
+  pub exports : map (λ copy. string_bytes copy) words.exports.items ≡ words_of (codes "export") given
+  pub links : map (λ copy. string_bytes copy) words.links.items ≡ words_of (codes "link") given
+
+-- what the words behind a command set in a request
+abbrev pub Sets : CommandName → List Row → Terminals → Request → Type 0
+Sets command.Check given terminals (request.Check how sources) =
+    (number_of 32 (codes "size") given ≡ Some how.size) × IsChecking given terminals (list_any is_file sources.items) how
+Sets command.Diff given terminals (request.Diff how old new) = how ≡ comparing_of given terminals
+Sets command.Domain given terminals (request.Script engine.Domain source is_told) = is_told ≡ tells given terminals (is_file source)
+Sets command.Eval given terminals (request.Eval is_told) = is_told ≡ tells given terminals false
+Sets command.Explain given terminals (request.Explain page) = ⊤
+Sets command.Filter given terminals (request.Filter how source) =
+    IsTrying given terminals how × (names_file given ≡ true) × (asks_twice given ≡ false)
+Sets command.Import given terminals (request.Import how source) = IsImporting given how
+Sets command.Lint given terminals (request.Lint how sources) = how ≡ linting_of given terminals sources.items
+Sets command.List given terminals (request.List size is_code source is_told) = (size ≡ number_of 32 (codes "size") given)
+    × (is_code ≡ is_set (codes "code") given) × (is_told ≡ tells given terminals (is_file source))
+Sets command.Replay given terminals (request.Replay source) = ⊤
+Sets command.Rewrite given terminals (request.Rewrite is_old) = is_old ≡ is_set (codes "old") given
+Sets command.Run given terminals (request.Run how source) =
+    IsRunning given terminals (is_file source) how × (asks_for_more given ≡ true) × (names_several given ≡ false)
+Sets command.Run given terminals (request.RunJoined how sources) =
+    IsRunning given terminals (list_any is_file sources.items) how × (names_several given ≡ true)
+Sets command.Run given terminals (request.Script engine.Router source is_told) =
+    (is_told ≡ tells given terminals (is_file source)) × (asks_for_more given ≡ false) × (names_several given ≡ false)
+Sets command.Test given terminals (request.Test how sources) = how ≡ testing_of given terminals sources.items
+Sets _ given terminals _ = ⊥
+
+-- The words behind a command ask for this: it reads what they name, in order, and they set the rest.
+pub record AskFor (named : CommandName) (given : List Row) (terminals : Terminals) (asked : Request) : Type 0 where
+  pub reads : AreNamed (names_read named given) (sources_of asked)
+  pub sets : Sets named given terminals asked
+
+-- The words of `router` tell this.
+pub record AskForRouter (given : List Row) (words : RouterWords) : Type 0 where
+  pub reads : AreNamed (names_read command.Router given) (filter_sources words.filters.items)
+  pub sets : IsRouting given words
+
+-- the words behind a command are refused, though the parser of words accepts them
+abbrev pub AreRefused : CommandName → List Row → Type 0
+AreRefused command.Check given = number_of 32 (codes "size") given ≡ None
+AreRefused command.Explain given = ⊤
+AreRefused command.Filter given =
+    (asks_twice given ≡ true) ⊎ ((number_of 32 (codes "size") given ≡ None) ⊎ (names_file given ≡ false))
+AreRefused command.Router given = HasWrongFilter given
+AreRefused command.Run given = HasWrongFilter given
+AreRefused _ given = ⊥
+
+-- what the words of a command come to
+abbrev pub ComesTo : CommandName → List Row → Terminals → Words → Type 0
+ComesTo named given terminals (Asked asked) = AskFor named given terminals asked
+ComesTo named given terminals Network = named ≡ command.Net
+ComesTo named given terminals (Router words) = (named ≡ command.Router) × AskForRouter given words
+ComesTo named given terminals (Shown status) = AreRefused named given × (status ≡ 2)
+
+-- What the parser of words met, a command's name and the words behind it, comes to this. It meets no other name, and always one.
+abbrev pub MetComesTo : Option (List ℕ × List Row) → Terminals → Words → Type 0
+MetComesTo None terminals words = words ≡ Shown 2
+MetComesTo (Some met) terminals words =
+    MatchOption (command_of met.0) (words ≡ Shown 2) (λ named. ComesTo named met.1 terminals words)
+
+-- words that ask for standard input more than once are refused
+abbrev pub once : Words → Words
+once words = if nat_lt 1 (readings words) then Shown 2 else words
+
+-- what the parser of words shows in place of matches: help, or what is wrong with the words
+abbrev pub IsShown : Words → Type 0
+IsShown words = (words ≡ Shown 0) ⊎ (words ≡ Shown 2)
+
+-- what the words of a command line come to, as the parser of words found it
+abbrev pub IsMeant : Terminals → Words → Type 0
+IsMeant terminals words = IsShown words
+    ⊎ ((matches : ArgMatches) × (meant : Words) × MetComesTo (subcommand_rows_of matches) terminals meant × (words ≡ once meant))
